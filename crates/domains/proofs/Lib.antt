@@ -1,0 +1,11 @@
+pub mod Wrapping
+pub mod Spans
+pub mod Lengths
+pub mod PairLists
+pub mod Areas
+pub mod Floors
+pub mod Indices
+pub mod PartsOfSpans
+pub mod Meetings
+pub mod Grids
+pub mod Covers

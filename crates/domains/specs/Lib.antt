@@ -1,0 +1,7 @@
+pub mod Arithmetic
+pub mod Span
+pub mod Pairs
+pub mod Area
+pub mod Index
+pub mod Sides
+pub mod Tiles
