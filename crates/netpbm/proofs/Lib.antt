@@ -1,0 +1,15 @@
+pub mod ColourLaws
+pub mod Decimals
+pub mod HeaderLaws
+pub mod Loops
+pub mod NumberLaws
+pub mod Numbers
+pub mod PictureLaws
+pub mod PlainLaws
+pub mod Planes
+pub mod Rasters
+pub mod RawLaws
+pub mod RawReads
+pub mod ReadLaws
+pub mod TextLaws
+pub mod Written

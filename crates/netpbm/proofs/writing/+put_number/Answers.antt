@@ -1,0 +1,23 @@
+-- The last digit behind the others.
+use Rattle.std.proofs.Common.{◌+◌, ◌%◌, ◌∙◌, take, arith, rules}
+use Rattle.netpbm.proofs.Decimals.{length_one_digit, length_more_digits, one_digit}
+use Rattle.netpbm.proofs.writing.+put_number.Goals as goal
+
+pub put_byte-requires : goal.put_byte-requires
+put_byte-requires t c = omega (arith, length_one_digit c.args.number c.if-number-lt10.true)
+
+pub returns-then-number-lt10-clause-end : goal.returns-then-number-lt10-clause-end
+returns-then-number-lt10-clause-end t c = omega (arith, length_one_digit c.args.number c.if-number-lt10.true)
+
+pub returns-then-number-lt10-clause-written : goal.returns-then-number-lt10-clause-written
+returns-then-number-lt10-clause-written t c =
+    c.put_byte.ensures.written ∙ one_digit c.args.number (48 + c.args.number % 10) (take c.args.start c.args.out.now) c.if-number-lt10.true (search rules)
+
+pub put_number-at-requires : goal.put_number-at-requires
+put_number-at-requires t c = (omega arith, omega (arith, length_more_digits c.args.number c.if-number-lt10.false (search rules)))
+
+pub put_byte-requires-2 : goal.put_byte-requires-2
+put_byte-requires-2 t c = omega (arith, length_more_digits c.args.number c.if-number-lt10.false (search rules))
+
+pub returns-clause-end : goal.returns-clause-end
+returns-clause-end t c = omega (arith, length_more_digits c.args.number c.if-number-lt10.false (search rules))

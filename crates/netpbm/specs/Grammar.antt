@@ -1,0 +1,65 @@
+-- Which bytes spell which picture.
+use Rattle.std.specs.Prelude.{◌≡◌, ℕ, ◌<◌, Bool, false, true, not, ◌&&◌, ◌==◌, if◌then◌else◌, List, [], ◌∷◌, ◌++◌, length}
+use Rattle.std.specs.Char.{is_ascii_digit}
+use Rattle.std.specs.List.{list_all}
+use Rattle.std.specs.Str.Parse.{IsNumeral, digits_value}
+use Rattle.netpbm.specs.declared.header.Coding.{Coding}
+use Rattle.netpbm.specs.declared.header.Coding.TheVariants.{Plain, Raw}
+use Rattle.netpbm.specs.Colours.{interleaved}
+use Rattle.netpbm.specs.Image.{Image, IsImage}
+use Rattle.netpbm.specs.Raw.{raw_raster}
+use Rattle.netpbm.specs.Text.{is_white, may_stand, is_open_behind}
+
+-- the first two bytes: `P2`, `P3`, `P5` or `P6`
+abbrev pub magic : Coding → ℕ → List ℕ
+magic Plain colours = 80 ∷ (if colours == 1 then 50 else 51) ∷ []
+magic Raw colours = 80 ∷ (if colours == 1 then 53 else 54) ∷ []
+
+-- one digit or more, and the number that they write
+pub record IsNumber (digits : List ℕ) (n : ℕ) : Type 0 where
+  pub numeral : IsNumeral 10 digits
+  pub value : n ≡ digits_value 10 digits
+
+-- white space and comments in any mix, from outside a comment or from inside one; each comment ends
+abbrev pub is_filler : Bool → List ℕ → Bool
+is_filler in_comment [] = not in_comment
+is_filler in_comment (byte ∷ bytes) = may_stand in_comment byte && is_filler (is_open_behind in_comment byte) bytes
+
+-- one byte of it or more
+pub record IsGap (bytes : List ℕ) : Type 0 where
+  pub some : 0 < length bytes
+  pub filler : is_filler false bytes ≡ true
+
+-- numbers, each behind a gap
+abbrev pub IsFields : List ℕ → List ℕ → Type 0
+IsFields [] bytes = bytes ≡ []
+IsFields (n ∷ ns) bytes = (gap digits rest : List ℕ) × (bytes ≡ gap ++ (digits ++ rest)) × IsGap gap × IsNumber digits n × IsFields ns rest
+
+-- no digit stands first
+abbrev pub NoDigit : List ℕ → Type 0
+NoDigit [] = Unit {0}
+NoDigit (byte ∷ bytes) = is_ascii_digit byte ≡ false
+
+abbrev pub IsWhite : List ℕ → Type 0
+IsWhite bytes = list_all is_white bytes ≡ true
+
+-- numbers, each behind white space or none; no digit stands directly behind one, so white space parts two of them
+abbrev pub IsSamples : List ℕ → List ℕ → Type 0
+IsSamples [] bytes = bytes ≡ []
+IsSamples (n ∷ ns) bytes = (white digits rest : List ℕ) × (bytes ≡ white ++ (digits ++ rest)) × IsWhite white × IsNumber digits n × NoDigit rest × IsSamples ns rest
+
+-- behind a plain raster white space may stand, and nothing behind a raw one
+abbrev pub IsRaster : Coding → ℕ → List ℕ → List ℕ → Type 0
+IsRaster Plain max samples bytes = (front white : List ℕ) × (bytes ≡ front ++ white) × IsSamples samples front × IsWhite white
+IsRaster Raw max samples bytes = bytes ≡ raw_raster max samples
+
+pub record IsPicture (bytes : List ℕ) (p : Image) : Type 0 where
+  pub coding : Coding
+  pub fields : List ℕ
+  pub white : ℕ
+  pub raster : List ℕ
+  pub whole : bytes ≡ magic coding (length p.planes) ++ (fields ++ white ∷ raster)
+  pub fields_are : IsFields (p.cols ∷ p.rows ∷ p.max ∷ []) fields
+  pub white_is : is_white white ≡ true
+  pub raster_is : IsRaster coding p.max (interleaved p.planes) raster
+  pub image : IsImage p

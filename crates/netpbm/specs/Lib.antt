@@ -1,0 +1,14 @@
+pub mod Colours
+pub mod FaultTable
+pub mod Faults
+pub mod Gives
+pub mod Grammar
+pub mod Image
+pub mod Pixels
+pub mod Planes
+pub mod Raw
+pub mod Reading
+pub mod Spelling
+pub mod Streams
+pub mod Text
+pub mod Wholes

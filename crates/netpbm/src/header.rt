@@ -1,0 +1,160 @@
+//! What stands in front of the raster.
+ghost use Rattle.std.specs.Prelude.{◌≡◌, ◌≤◌, ◌⊎◌, length, IfOk};
+ghost use Rattle.netpbm.specs.Image.{InRange};
+ghost use Rattle.netpbm.specs.Reading.{header_stop, magic_read, number_read, size_read, max_read, white_read, header_read};
+
+use crate::fault::PicFault;
+use crate::picture::LONGEST_SIDE;
+use crate::text::{digits_at, gap_end, is_white};
+
+/// How the samples of a raster are written.
+#[derive(Clone, Copy, Debug, PartialEq, Eq)]
+pub enum Coding {
+    /// In digits.
+    Plain,
+    /// In one byte or two.
+    Raw,
+}
+
+/// What a header says, and where the raster begins.
+#[derive(Clone, Copy, Debug)]
+pub struct Header {
+    pub coding: Coding,
+    /// The number of planes, 1 or 3.
+    pub colours: usize,
+    pub cols: u32,
+    pub rows: u32,
+    pub max: u16,
+    /// The number of bytes in front of the raster.
+    pub end: usize,
+}
+
+/// Reads the header of a picture.
+#[tactic(auto, unfolding(crate::specs::Reading::header_read))]
+pub fn read_header(bytes: &[u8]) -> Result<Header, PicFault>
+    ensures read { result ≡ header_read bytes.now }
+    ensures within { IfOk result (λ h. h.end ≤ length bytes.now) }
+    ensures colours { IfOk result (λ h. (h.colours ≡ 1) ⊎ (h.colours ≡ 3)) }
+    ensures cols { IfOk result (λ h. InRange 4096 h.cols) }
+    ensures rows { IfOk result (λ h. InRange 4096 h.rows) }
+    ensures max { IfOk result (λ h. InRange 65535 h.max) }
+{
+    let (coding, colours) = magic(bytes)?;
+    let (cols, end) = size_at(bytes, 2)?;
+    let (rows, end) = size_at(bytes, end)?;
+    let (max, end) = max_at(bytes, end)?;
+    let end = white_at(bytes, end)?;
+    Ok(Header {
+        coding,
+        colours,
+        cols,
+        rows,
+        max,
+        end,
+    })
+}
+
+// The coding and the number of planes that the first two bytes name.
+#[tactic(auto, unfolding(crate::specs::Reading::magic_read))]
+fn magic(bytes: &[u8]) -> Result<(Coding, usize), PicFault>
+    ensures read { result ≡ magic_read bytes.now }
+    ensures long { IfOk result (λ _. 2 ≤ length bytes.now) }
+    ensures colours { IfOk result (λ m. (m.1 ≡ 1) ⊎ (m.1 ≡ 3)) }
+{
+    if bytes.is_empty() {
+        return Err(PicFault::HeaderCut(0));
+    }
+    if bytes[0] != b'P' {
+        return Err(PicFault::OtherFormat(0));
+    }
+    if bytes.len() < 2 {
+        return Err(PicFault::HeaderCut(1));
+    }
+    match bytes[1] {
+        b'2' => Ok((Coding::Plain, 1)),
+        b'3' => Ok((Coding::Plain, 3)),
+        b'5' => Ok((Coding::Raw, 1)),
+        b'6' => Ok((Coding::Raw, 3)),
+        _ => Err(PicFault::OtherFormat(1)),
+    }
+}
+
+// A number of the header: its value, which stops at 65536, and where its digits begin and end.
+#[derive(Clone, Copy)]
+struct Number {
+    value: u32,
+    start: usize,
+    end: usize,
+}
+
+// The gap at a place, and the number behind it.
+#[tactic(auto, unfolding(crate::specs::Reading::number_read))]
+fn number_at(bytes: &[u8], at: usize) -> Result<Number, PicFault>
+    requires { at ≤ length bytes.now }
+    ensures read { result ≡ number_read bytes.now at }
+    ensures within { IfOk result (λ n. n.end ≤ length bytes.now) }
+{
+    let start = gap_end(bytes, at);
+    let (value, end) = digits_at(bytes, start);
+    if start > at && end > start {
+        return Ok(Number { value, start, end });
+    }
+    Err(stop_at(bytes, start))
+}
+
+// The fault of a header that cannot go on at this place.
+fn stop_at(bytes: &[u8], at: usize) -> PicFault
+    ensures { result ≡ header_stop bytes.now at }
+{
+    if at < bytes.len() {
+        PicFault::BadNumber(at)
+    } else {
+        PicFault::HeaderCut(at)
+    }
+}
+
+// A gap and a side behind it, and where its digits end.
+#[tactic(auto, unfolding(crate::specs::Reading::size_read))]
+fn size_at(bytes: &[u8], at: usize) -> Result<(u32, usize), PicFault>
+    requires { at ≤ length bytes.now }
+    ensures read { result ≡ size_read bytes.now at }
+    ensures within { IfOk result (λ n. n.1 ≤ length bytes.now) }
+    ensures range { IfOk result (λ n. InRange 4096 n.0) }
+{
+    let number = number_at(bytes, at)?;
+    if number.value < 1 || number.value > LONGEST_SIDE {
+        return Err(PicFault::BadSize(number.start));
+    }
+    Ok((number.value, number.end))
+}
+
+// A gap and a greatest sample behind it, and where its digits end.
+#[tactic(auto, unfolding(crate::specs::Reading::max_read))]
+fn max_at(bytes: &[u8], at: usize) -> Result<(u16, usize), PicFault>
+    requires { at ≤ length bytes.now }
+    ensures read { result ≡ max_read bytes.now at }
+    ensures within { IfOk result (λ n. n.1 ≤ length bytes.now) }
+    ensures range { IfOk result (λ n. InRange 65535 n.0) }
+{
+    let number = number_at(bytes, at)?;
+    if number.value < 1 || number.value > 65535 {
+        return Err(PicFault::BadMax(number.start));
+    }
+    Ok((number.value as u16, number.end))
+}
+
+// The place behind the one white byte that stands behind the greatest sample.
+#[tactic(auto, unfolding(crate::specs::Reading::white_read))]
+fn white_at(bytes: &[u8], at: usize) -> Result<usize, PicFault>
+    requires { at ≤ length bytes.now }
+    ensures read { result ≡ white_read bytes.now at }
+    ensures within { IfOk result (λ end. end ≤ length bytes.now) }
+{
+    if at < bytes.len() && is_white(bytes[at]) {
+        return Ok(at + 1);
+    }
+    if at < bytes.len() && bytes[at] == b'#' {
+        return Err(PicFault::CommentBehindDigit(at));
+    }
+    Err(stop_at(bytes, at))
+}

@@ -1,0 +1,140 @@
+//! From a picture to its one written form.
+ghost use Rattle.std.specs.Prelude.{◌≡◌, ◌≤◌, ◌<◌, ◌+◌, ◌-◌, ◌*◌, ◌++◌, ◌∷◌, [], take, length, decimal, IfOk, OnOk, OnErr};
+ghost use Rattle.std.specs.Io.KnownBytes.{Appends};
+ghost use Rattle.netpbm.specs.Raw.{raw_raster};
+ghost use Rattle.netpbm.specs.Spelling.{header as header_of, spelling};
+ghost use Rattle.netpbm.specs.Streams.{AppendsPart, CountsFailure};
+ghost use Rattle.netpbm.specs.Pixels.{pixels};
+
+use crate::colours::weave;
+use crate::picture::Picture;
+use crate::raw_raster::{put_samples, sample_width};
+use crate::stream::Sink;
+use crate::whole::{WriteFailed, write_whole};
+use std::alloc::{AllocError, Global};
+
+// How many bytes a header has at most.
+const LONGEST_HEADER: usize = 32;
+
+// How many pixels are written at a time.
+const PIXELS: usize = 16384;
+
+/// The written form of a picture: raw, with no leading zeros, and with no more than one white byte
+/// between two parts.
+pub fn raw(alloc: Global, picture: &Picture) -> Result<Vec<u8>, AllocError>
+    ensures { IfOk result (λ bytes. bytes.items ≡ spelling picture.now) }
+{
+    let mut header = [0u8; LONGEST_HEADER];
+    let header_len = put_header(&mut header, picture);
+    let mut bytes = Vec::with_capacity(alloc, header_len + raster_len(picture))?;
+    bytes.extend_from_slice(&header[..header_len])?;
+    let mut piece = [0u8; 6 * PIXELS];
+    let area = picture.area();
+    let mut done = 0;
+    while done < area {
+        let end = area.min(done + PIXELS);
+        let len = put_pixels(&mut piece, picture, done, end);
+        bytes.extend_from_slice(&piece[..len])?;
+        done = end;
+    }
+    Ok(bytes)
+}
+
+/// Writes the written form of a picture. It takes no memory.
+pub fn write_raw<W: Sink>(picture: &Picture, writer: &mut W) -> Result<(), WriteFailed>
+    ensures ok { OnOk result (Appends (W.contents writer.old) (W.contents writer.new) (spelling picture.now)) }
+    ensures part { OnErr result (AppendsPart (W.contents writer.old) (W.contents writer.new) (spelling picture.now)) }
+    ensures failed { CountsFailure result (W.failures writer.old) (W.failures writer.new) }
+{
+    let mut header = [0u8; LONGEST_HEADER];
+    let header_len = put_header(&mut header, picture);
+    write_whole(writer, &header[..header_len])?;
+    let mut piece = [0u8; 6 * PIXELS];
+    let area = picture.area();
+    let mut done = 0;
+    while done < area {
+        let end = area.min(done + PIXELS);
+        let len = put_pixels(&mut piece, picture, done, end);
+        write_whole(writer, &piece[..len])?;
+        done = end;
+    }
+    Ok(())
+}
+
+// The number of bytes of the written raster.
+fn raster_len(picture: &Picture) -> usize
+    ensures { result ≤ 100663296 }
+{
+    picture.planes().len() * (picture.area() * sample_width(picture.max()))
+}
+
+// Puts the bytes of these pixels into the front of `out`, and says how many they are.
+fn put_pixels(out: &mut [u8], picture: &Picture, start: usize, end: usize) -> usize
+    requires order { start ≤ end }
+    requires within { end ≤ picture.now.rows * picture.now.cols }
+    requires few { end - start ≤ 16384 }
+    requires room { 98304 ≤ length out.old }
+    ensures end { result ≤ 98304 }
+    ensures written { take result out.new ≡ raw_raster picture.now.max (pixels start end picture.now.planes) }
+{
+    let planes = picture.planes();
+    if planes.len() == 1 {
+        return put_samples(out, &planes[0][start..end], picture.max());
+    }
+    let mut woven = [0u16; 3 * PIXELS];
+    weave(
+        &mut woven,
+        &planes[0][start..end],
+        &planes[1][start..end],
+        &planes[2][start..end],
+    );
+    put_samples(out, &woven[..3 * (end - start)], picture.max())
+}
+
+// Puts the header into the front of `out`, and says how many bytes it has.
+#[tactic(auto, using(crate::proofs::Decimals::short_decimal))]
+fn put_header(out: &mut [u8], picture: &Picture) -> usize
+    requires { 32 ≤ length out.old }
+    ensures end { result ≤ 32 }
+    ensures written { take result out.new ≡ header_of picture.now }
+{
+    let magic = if picture.planes().len() == 1 {
+        b'5'
+    } else {
+        b'6'
+    };
+    let at = put_byte(out, 0, b'P');
+    let at = put_byte(out, at, magic);
+    let at = put_byte(out, at, b'\n');
+    let at = put_number(out, at, picture.cols());
+    let at = put_byte(out, at, b' ');
+    let at = put_number(out, at, picture.rows());
+    let at = put_byte(out, at, b'\n');
+    let at = put_number(out, at, u32::from(picture.max()));
+    put_byte(out, at, b'\n')
+}
+
+// Puts a byte at a place of `out`, and says where the next one goes.
+fn put_byte(out: &mut [u8], at: usize, byte: u8) -> usize
+    requires { at < length out.old }
+    ensures end { result ≡ at + 1 }
+    ensures written { take result out.new ≡ take at out.old ++ byte ∷ [] }
+{
+    out[at] = byte;
+    at + 1
+}
+
+// Puts the digits of a number at a place of `out`, and says where they end.
+#[tactic(auto, using(crate::proofs::Decimals::more_digits))]
+fn put_number(out: &mut [u8], start: usize, number: u32) -> usize
+    requires { start + length (decimal number) ≤ length out.old }
+    ensures end { result ≡ start + length (decimal number) }
+    ensures written { take result out.new ≡ take start out.old ++ decimal number }
+{
+    let last = b'0' + (number % 10) as u8;
+    if number < 10 {
+        return put_byte(out, start, last);
+    }
+    let at = put_number(out, start, number / 10);
+    put_byte(out, at, last)
+}
