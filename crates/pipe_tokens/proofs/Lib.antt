@@ -1,0 +1,17 @@
+pub mod Names
+pub mod Digits
+pub mod Runs
+pub mod Symbols
+pub mod Characters
+pub mod PieceKinds
+pub mod Pieces
+pub mod Steps
+pub mod Again
+pub mod Respelled
+pub mod Shortest
+pub mod Spelt
+pub mod Longest
+pub mod Cuts
+pub mod Rising
+pub mod Only
+pub mod Fewer

@@ -1,0 +1,19 @@
+//! The tokens of a program's text. `lex` cuts a text into its longest tokens, each with the offset where it starts, and
+//! `spell` writes tokens in the fewest bytes. What was spelled is cut into the same tokens again, and no text that is
+//! cut into these tokens is shorter.
+#![tactic(auto)]
+
+mod character;
+pub mod lexer;
+pub mod name;
+mod piece;
+pub mod spelling;
+pub mod token;
+
+pub use lexer::{Lexed, lex};
+pub use name::Name;
+pub use spelling::spell;
+pub use token::{Mark, Token, Word};
+
+#[cfg(test)]
+mod tests;
