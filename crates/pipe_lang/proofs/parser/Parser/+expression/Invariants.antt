@@ -1,0 +1,35 @@
+use Rattle.std.proofs.Common.{◌≤◌, length, ◌+◌, ◌*◌}
+use Rattle.pipe_lang.proofs.parser.Parser.+expression.Given as goal
+
+abbrev pub decreases-expression : goal.decreases-expression
+decreases-expression l = 5 * l.levels + 4
+
+abbrev pub decreases-product : goal.decreases-product
+decreases-product l = 5 * l.levels + 3
+
+abbrev pub decreases-unary : goal.decreases-unary
+decreases-unary l = 5 * l.levels + 2
+
+abbrev pub decreases-opened : goal.decreases-opened
+decreases-opened l = 5 * l.levels + 6
+
+abbrev pub decreases-pair : goal.decreases-pair
+decreases-pair l = 5 * l.levels + 5
+
+abbrev pub decreases-clamp : goal.decreases-clamp
+decreases-clamp l = 5 * l.levels + 5
+
+abbrev pub decreases-select : goal.decreases-select
+decreases-select l = 5 * l.levels + 5
+
+abbrev pub invariant-expression-loop-self : goal.invariant-expression-loop-self
+invariant-expression-loop-self l = length l.self.rest.now ≤ length l.fn.self.rest.now
+
+abbrev pub decreases-expression-loop-self : goal.decreases-expression-loop-self
+decreases-expression-loop-self l = length l.self.rest.now
+
+abbrev pub invariant-product-loop-self : goal.invariant-product-loop-self
+invariant-product-loop-self l = length l.self.rest.now ≤ length l.fn.self.rest.now
+
+abbrev pub decreases-product-loop-self : goal.decreases-product-loop-self
+decreases-product-loop-self l = length l.self.rest.now

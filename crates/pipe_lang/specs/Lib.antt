@@ -1,0 +1,3 @@
+pub mod Lookahead
+pub mod Limits
+pub mod Tokens

@@ -1,0 +1,85 @@
+#![tactic(auto)]
+//! Affine sums of parameters, spans of them, and the variables that run over spans.
+
+ghost use Rattle.std.specs.Prelude.{◌≡◌, ◌<◌, ◌≤◌, length, OnOk};
+
+use crate::fault::ParseError;
+use crate::limits::Role;
+use crate::lookahead::{is_number, sign_of};
+use crate::parser::Parser;
+use crate::tree::{Affine, AffineSpan, Term, Variable};
+use pipe_tokens::{Mark, Name, Word};
+
+impl Parser<'_> {
+    // A minus, if there is one.
+    pub fn minus(&mut self) -> Result<bool, ParseError>
+        ensures shorter { length self.new.rest.now ≤ length self.old.rest.now }
+    {
+        if self.is_mark(Mark::Minus) {
+            self.mark(Mark::Minus, Role::Plain)?;
+            return Ok(true);
+        }
+        Ok(false)
+    }
+
+    // A number and the name that it is multiplied by, if there is one; 1 and a name, where no number stands.
+    fn scaled_name(&mut self) -> Result<(u32, Option<Name>), ParseError>
+        ensures shorter { length self.new.rest.now ≤ length self.old.rest.now }
+    {
+        if !is_number(self.ahead()) {
+            return Ok((1, Some(self.name(Role::Plain)?)));
+        }
+        let factor = self.int(Role::Plain)?;
+        if !self.is_mark(Mark::Star) {
+            return Ok((factor, None));
+        }
+        self.mark(Mark::Star, Role::Plain)?;
+        Ok((factor, Some(self.name(Role::Plain)?)))
+    }
+
+    // Puts one more term behind the others.
+    fn term(&mut self, terms: &mut Vec<Term>, negative: bool) -> Result<(), ParseError>
+        ensures shorter { length self.new.rest.now ≤ length self.old.rest.now }
+    {
+        let (factor, name) = self.scaled_name()?;
+        terms.push(Term {
+            negative,
+            factor,
+            name,
+        })?;
+        Ok(())
+    }
+
+    pub fn affine(&mut self) -> Result<Affine, ParseError>
+        ensures shorter { length self.new.rest.now ≤ length self.old.rest.now }
+    {
+        let mut terms = Vec::new(self.alloc);
+        let negative = self.minus()?;
+        self.term(&mut terms, negative)?;
+        while sign_of(self.ahead()).is_some() {
+            let negative = self.sign(Role::Plain)?;
+            self.term(&mut terms, negative)?;
+        }
+        Ok(Affine { terms })
+    }
+
+    pub fn span(&mut self) -> Result<AffineSpan, ParseError>
+        ensures shorter { length self.new.rest.now ≤ length self.old.rest.now }
+    {
+        self.mark(Mark::OpenSquare, Role::Plain)?;
+        let first = self.affine()?;
+        self.mark(Mark::DotDot, Role::Plain)?;
+        let last = self.affine()?;
+        self.mark(Mark::CloseSquare, Role::Plain)?;
+        Ok(AffineSpan { first, last })
+    }
+
+    pub fn variable(&mut self) -> Result<Variable, ParseError>
+        ensures shorter { length self.new.rest.now ≤ length self.old.rest.now }
+    {
+        let name = self.name(Role::Plain)?;
+        self.word(Word::In, Role::Plain)?;
+        let span = self.span()?;
+        Ok(Variable { name, span })
+    }
+}

@@ -1,0 +1,181 @@
+#![tactic(auto)]
+//! Expressions, within so many levels that may still be opened.
+
+ghost use Rattle.std.specs.Prelude.{◌≡◌, ◌<◌, ◌≤◌, length, suc, IfOk};
+
+use crate::fault::{Kind, ParseError};
+use crate::limits::Role;
+use crate::lookahead::{Factor, Opening, Start, factor_of, sign_of, start_of};
+use crate::parser::Parser;
+use crate::tree::{BinaryOp, Expr};
+use pipe_tokens::{Mark, Word};
+
+impl Parser<'_> {
+    // The levels that are left behind the token ahead, which opens one.
+    fn open_level(&self, levels: u32) -> Result<u32, ParseError>
+        ensures ok { IfOk result (λ rest. levels ≡ suc rest) }
+    {
+        if levels == 0 {
+            return Err(self.halt(Kind::TooDeep));
+        }
+        Ok(levels - 1)
+    }
+
+    #[cycle(expression)]
+    pub fn expression(&mut self, levels: u32) -> Result<Expr, ParseError>
+        ensures shorter { length self.new.rest.now ≤ length self.old.rest.now }
+    {
+        let mut left = self.product(levels)?;
+        while sign_of(self.ahead()).is_some() {
+            let negative = self.sign(Role::Node)?;
+            let right = self.product(levels)?;
+            let op = if negative {
+                BinaryOp::Sub
+            } else {
+                BinaryOp::Add
+            };
+            left = Expr::Binary(
+                op,
+                Box::new(self.alloc, left)?,
+                Box::new(self.alloc, right)?,
+            );
+        }
+        Ok(left)
+    }
+
+    #[cycle(expression)]
+    fn product(&mut self, levels: u32) -> Result<Expr, ParseError>
+        ensures shorter { length self.new.rest.now ≤ length self.old.rest.now }
+    {
+        let mut left = self.unary(levels)?;
+        while factor_of(self.ahead()).is_some() {
+            match self.factor()? {
+                Factor::Times => {
+                    let right = self.unary(levels)?;
+                    left = Expr::Binary(
+                        BinaryOp::Mul,
+                        Box::new(self.alloc, left)?,
+                        Box::new(self.alloc, right)?,
+                    );
+                }
+                Factor::Literal(op) => {
+                    let number = self.int(Role::Plain)?;
+                    left = Expr::Literal(op, Box::new(self.alloc, left)?, number);
+                }
+            }
+        }
+        Ok(left)
+    }
+
+    #[cycle(expression)]
+    fn unary(&mut self, levels: u32) -> Result<Expr, ParseError>
+        ensures shorter { length self.new.rest.now ≤ length self.old.rest.now }
+    {
+        match start_of(self.ahead()) {
+            Start::Number => Ok(Expr::Number(self.int(Role::Node)?)),
+            Start::Name => self.named(),
+            Start::Stencil => self.stencil(),
+            Start::Opening(opening) => {
+                let levels = self.open_level(levels)?;
+                self.opened(opening, levels)
+            }
+            Start::Nothing => Err(self.refuse()),
+        }
+    }
+
+    // What opens a level, with so many left behind it.
+    #[cycle(expression)]
+    fn opened(&mut self, opening: Opening, levels: u32) -> Result<Expr, ParseError>
+        ensures shorter { length self.new.rest.now ≤ length self.old.rest.now }
+    {
+        match opening {
+            Opening::Minus => {
+                self.mark(Mark::Minus, Role::Node)?;
+                let operand = self.unary(levels)?;
+                Ok(Expr::Neg(Box::new(self.alloc, operand)?))
+            }
+            Opening::Group => {
+                self.mark(Mark::OpenRound, Role::Plain)?;
+                let inner = self.expression(levels)?;
+                self.mark(Mark::CloseRound, Role::Plain)?;
+                Ok(inner)
+            }
+            Opening::Abs => {
+                self.word(Word::Abs, Role::Node)?;
+                self.mark(Mark::OpenRound, Role::Plain)?;
+                let operand = self.expression(levels)?;
+                self.mark(Mark::CloseRound, Role::Plain)?;
+                Ok(Expr::Abs(Box::new(self.alloc, operand)?))
+            }
+            Opening::Clamp => self.clamp(levels),
+            Opening::Select => self.select(levels),
+            Opening::Pair(op) => self.pair(op, levels),
+        }
+    }
+
+    // `min` or `max` of two.
+    #[cycle(expression)]
+    fn pair(&mut self, op: BinaryOp, levels: u32) -> Result<Expr, ParseError>
+        ensures shorter { length self.new.rest.now ≤ length self.old.rest.now }
+    {
+        let word = if let BinaryOp::Min = op {
+            Word::Min
+        } else {
+            Word::Max
+        };
+        self.word(word, Role::Node)?;
+        self.mark(Mark::OpenRound, Role::Plain)?;
+        let left = self.expression(levels)?;
+        self.mark(Mark::Comma, Role::Plain)?;
+        let right = self.expression(levels)?;
+        self.mark(Mark::CloseRound, Role::Plain)?;
+        Ok(Expr::Binary(
+            op,
+            Box::new(self.alloc, left)?,
+            Box::new(self.alloc, right)?,
+        ))
+    }
+
+    #[cycle(expression)]
+    fn clamp(&mut self, levels: u32) -> Result<Expr, ParseError>
+        ensures shorter { length self.new.rest.now ≤ length self.old.rest.now }
+    {
+        self.word(Word::Clamp, Role::Node)?;
+        self.mark(Mark::OpenRound, Role::Plain)?;
+        let value = self.expression(levels)?;
+        self.mark(Mark::Comma, Role::Plain)?;
+        let least = self.expression(levels)?;
+        self.mark(Mark::Comma, Role::Plain)?;
+        let greatest = self.expression(levels)?;
+        self.mark(Mark::CloseRound, Role::Plain)?;
+        Ok(Expr::Clamp(
+            Box::new(self.alloc, value)?,
+            Box::new(self.alloc, least)?,
+            Box::new(self.alloc, greatest)?,
+        ))
+    }
+
+    #[cycle(expression)]
+    fn select(&mut self, levels: u32) -> Result<Expr, ParseError>
+        ensures shorter { length self.new.rest.now ≤ length self.old.rest.now }
+    {
+        self.word(Word::Select, Role::Node)?;
+        self.mark(Mark::OpenRound, Role::Plain)?;
+        let left = self.expression(levels)?;
+        let relation = self.relation()?;
+        let right = self.expression(levels)?;
+        self.mark(Mark::Comma, Role::Plain)?;
+        let then = self.expression(levels)?;
+        self.mark(Mark::Comma, Role::Plain)?;
+        let otherwise = self.expression(levels)?;
+        self.mark(Mark::CloseRound, Role::Plain)?;
+        let (left, right) = (Box::new(self.alloc, left)?, Box::new(self.alloc, right)?);
+        Ok(Expr::Select(
+            left,
+            relation,
+            right,
+            Box::new(self.alloc, then)?,
+            Box::new(self.alloc, otherwise)?,
+        ))
+    }
+}

@@ -1,0 +1,167 @@
+#![tactic(auto)]
+//! Reads at an index, and stencils with a kernel.
+
+ghost use Rattle.std.specs.Prelude.{◌≡◌, ◌<◌, ◌≤◌, length, OnOk};
+ghost use Rattle.pipe_lang.specs.declared.parser.TheConstants.{MAX_NUMBER};
+
+use crate::fault::ParseError;
+use crate::limits::Role;
+use crate::lookahead::{is_number, sign_of};
+use crate::parser::{MAX_NUMBER, Parser};
+use crate::tree::{Expr, Index, Kernel, Row};
+use pipe_tokens::{Mark, Name, Word};
+
+// A number with its sign.
+fn signed(negative: bool, number: u32) -> i32
+    requires { number ≤ MAX_NUMBER }
+{
+    if negative {
+        -(number as i32)
+    } else {
+        number as i32
+    }
+}
+
+impl Parser<'_> {
+    // `MUL * NAME`, or a name alone.
+    fn scaled(&mut self) -> Result<(u32, Name), ParseError>
+        ensures shorter { length self.new.rest.now ≤ length self.old.rest.now }
+    {
+        if !is_number(self.ahead()) {
+            return Ok((1, self.name(Role::Plain)?));
+        }
+        let mul = self.int(Role::Plain)?;
+        self.mark(Mark::Star, Role::Plain)?;
+        Ok((mul, self.name(Role::Plain)?))
+    }
+
+    // A number that is added or subtracted, if there is one.
+    fn addend(&mut self) -> Result<i32, ParseError>
+        ensures shorter { length self.new.rest.now ≤ length self.old.rest.now }
+    {
+        if sign_of(self.ahead()).is_none() {
+            return Ok(0);
+        }
+        let negative = self.sign(Role::Plain)?;
+        let number = self.int(Role::Plain)?;
+        Ok(signed(negative, number))
+    }
+
+    fn divisor(&mut self) -> Result<u32, ParseError>
+        ensures shorter { length self.new.rest.now ≤ length self.old.rest.now }
+    {
+        self.mark(Mark::Slash, Role::Plain)?;
+        self.int(Role::Plain)
+    }
+
+    fn index(&mut self) -> Result<Index, ParseError>
+        ensures shorter { length self.new.rest.now ≤ length self.old.rest.now }
+    {
+        if self.is_mark(Mark::OpenRound) {
+            return self.grouped_index();
+        }
+        let (mul, name) = self.scaled()?;
+        if self.is_mark(Mark::Slash) {
+            let div = self.divisor()?;
+            return Ok(Index {
+                mul,
+                name,
+                add: 0,
+                div,
+            });
+        }
+        let add = self.addend()?;
+        Ok(Index {
+            mul,
+            name,
+            add,
+            div: 1,
+        })
+    }
+
+    fn grouped_index(&mut self) -> Result<Index, ParseError>
+        ensures shorter { length self.new.rest.now ≤ length self.old.rest.now }
+    {
+        self.mark(Mark::OpenRound, Role::Plain)?;
+        let (mul, name) = self.scaled()?;
+        let add = self.addend()?;
+        self.mark(Mark::CloseRound, Role::Plain)?;
+        let div = self.divisor()?;
+        Ok(Index {
+            mul,
+            name,
+            add,
+            div,
+        })
+    }
+
+    // A name, or a read of what it names.
+    pub fn named(&mut self) -> Result<Expr, ParseError>
+        ensures shorter { length self.new.rest.now ≤ length self.old.rest.now }
+    {
+        let name = self.name(Role::Node)?;
+        if !self.is_mark(Mark::OpenRound) {
+            return Ok(Expr::Name(name));
+        }
+        self.mark(Mark::OpenRound, Role::Plain)?;
+        let row = self.index()?;
+        self.mark(Mark::Comma, Role::Plain)?;
+        let column = self.index()?;
+        self.mark(Mark::CloseRound, Role::Plain)?;
+        Ok(Expr::Read(name, row, column))
+    }
+
+    pub fn stencil(&mut self) -> Result<Expr, ParseError>
+        ensures shorter { length self.new.rest.now ≤ length self.old.rest.now }
+    {
+        self.word(Word::Stencil, Role::Node)?;
+        self.mark(Mark::OpenRound, Role::Plain)?;
+        let name = self.name(Role::Plain)?;
+        self.mark(Mark::Comma, Role::Plain)?;
+        let divisor = self.int(Role::Plain)?;
+        self.mark(Mark::Comma, Role::Plain)?;
+        let kernel = self.kernel()?;
+        self.mark(Mark::CloseRound, Role::Plain)?;
+        Ok(Expr::Stencil(name, divisor, kernel))
+    }
+
+    fn kernel(&mut self) -> Result<Kernel, ParseError>
+        ensures shorter { length self.new.rest.now ≤ length self.old.rest.now }
+    {
+        self.mark(Mark::OpenSquare, Role::Plain)?;
+        let first = self.row()?;
+        let mut rows = Vec::new(self.alloc);
+        rows.push(first)?;
+        while self.is_mark(Mark::Comma) {
+            self.mark(Mark::Comma, Role::Plain)?;
+            let row = self.row()?;
+            rows.push(row)?;
+        }
+        self.mark(Mark::CloseSquare, Role::Plain)?;
+        Ok(Kernel { rows })
+    }
+
+    fn row(&mut self) -> Result<Row, ParseError>
+        ensures shorter { length self.new.rest.now ≤ length self.old.rest.now }
+    {
+        self.mark(Mark::OpenSquare, Role::Plain)?;
+        let first = self.entry()?;
+        let mut entries = Vec::new(self.alloc);
+        entries.push(first)?;
+        while self.is_mark(Mark::Comma) {
+            self.mark(Mark::Comma, Role::Plain)?;
+            let entry = self.entry()?;
+            entries.push(entry)?;
+        }
+        self.mark(Mark::CloseSquare, Role::Plain)?;
+        Ok(Row { entries })
+    }
+
+    fn entry(&mut self) -> Result<i32, ParseError>
+        ensures shorter { length self.new.rest.now ≤ length self.old.rest.now }
+    {
+        let negative = self.minus()?;
+        let number = self.int(Role::Plain)?;
+        Ok(signed(negative, number))
+    }
+}

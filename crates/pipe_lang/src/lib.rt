@@ -1,0 +1,23 @@
+//! The language of image pipelines: a program's text as a tree.
+#![tactic(auto)]
+
+mod affines;
+mod expressions;
+mod fault;
+mod indices;
+mod items;
+mod limits;
+mod lookahead;
+mod parser;
+mod text;
+mod tree;
+
+pub use fault::ParseFault;
+pub use text::parse;
+pub use tree::{
+    Accum, Affine, AffineSpan, BinaryOp, Case, Cases, Condition, Expr, Fold, Func, Image, Index,
+    Item, Kernel, LiteralOp, Names, Output, Param, Relation, Row, Term, Test, Tree, Variable,
+};
+
+#[cfg(test)]
+mod tests;

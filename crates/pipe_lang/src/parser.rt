@@ -1,0 +1,204 @@
+#![tactic(auto)]
+//! Where a parser is, and how it passes one token. Each rule of the grammar is a method of `Parser` that reads it from
+//! left to right with one token ahead.
+
+ghost use Rattle.std.specs.Prelude.{◌≡◌, ◌<◌, ◌≤◌, length, IfOk, OnOk};
+ghost use Rattle.pipe_lang.specs.Tokens.{head, tail};
+ghost use Rattle.pipe_lang.specs.Lookahead.{is_mark_at, is_word_at, name_at};
+
+use crate::fault::{Halt, Kind, ParseError};
+use crate::limits::{Counts, Role};
+use crate::lookahead::{Factor, factor_of, fold_of, is_mark, is_word, relation_of, sign_of};
+use crate::tree::{Fold, Relation};
+use pipe_tokens::{Mark, Name, Token, Word};
+use std::alloc::Global;
+
+/// The greatest number of a text.
+pub const MAX_NUMBER: u32 = 2147483647;
+
+#[derive(Drop)]
+pub(crate) struct Parser<'a> {
+    pub alloc: Global,
+    pub rest: &'a [Token],
+    pub counts: Counts,
+}
+
+impl<'a> Parser<'a> {
+    pub fn new(alloc: Global, tokens: &'a [Token]) -> Self
+        ensures { result.rest.now ≡ tokens.now }
+    {
+        Parser {
+            alloc,
+            rest: tokens,
+            counts: Counts {
+                nodes: 0,
+                stages: 0,
+                params: 0,
+                cases: 0,
+            },
+        }
+    }
+}
+
+impl Parser<'_> {
+    pub fn ahead(&self) -> Option<Token>
+        ensures { result ≡ head self.now.rest.now }
+    {
+        self.rest.first().copied()
+    }
+
+    fn name_ahead(&self) -> Option<Name>
+        ensures { result ≡ name_at (head self.now.rest.now) }
+    {
+        match self.rest {
+            [Token::Name(name), ..] => Some(*name),
+            _ => None,
+        }
+    }
+
+    pub fn is_mark(&self, mark: Mark) -> bool
+        ensures { result ≡ is_mark_at mark (head self.now.rest.now) }
+    {
+        is_mark(self.ahead(), mark)
+    }
+
+    pub fn is_word(&self, word: Word) -> bool
+        ensures { result ≡ is_word_at word (head self.now.rest.now) }
+    {
+        is_word(self.ahead(), word)
+    }
+
+    pub fn halt(&self, kind: Kind) -> ParseError {
+        ParseError::Fault(Halt {
+            kind,
+            left: self.rest.len(),
+        })
+    }
+
+    // The fault of a token that has no place here.
+    pub fn refuse(&self) -> ParseError {
+        match self.rest {
+            [Token::NotAscii, ..] => self.halt(Kind::NotAscii),
+            [Token::Bad, ..] => self.halt(Kind::BadToken),
+            _ => self.halt(Kind::Unexpected),
+        }
+    }
+
+    // Passes the token ahead, which counts as the role.
+    pub fn begin(&mut self, role: Role) -> Result<(), ParseError>
+        ensures shorter { length self.new.rest.now ≤ length self.old.rest.now }
+        ensures passes { OnOk result (self.new.rest.now ≡ tail self.old.rest.now) }
+    {
+        let Some(counts) = self.counts.with(role) else {
+            return Err(self.halt(Kind::TooMany));
+        };
+        self.counts = counts;
+        if let [_, rest @ ..] = self.rest {
+            self.rest = rest;
+        }
+        Ok(())
+    }
+
+    #[tactic(auto, using(crate::proofs::Passing::mark_passes))]
+    pub fn mark(&mut self, mark: Mark, role: Role) -> Result<(), ParseError>
+        ensures shorter { length self.new.rest.now ≤ length self.old.rest.now }
+        ensures passes { OnOk result (length self.new.rest.now < length self.old.rest.now) }
+    {
+        if self.is_mark(mark) {
+            self.begin(role)
+        } else {
+            Err(self.refuse())
+        }
+    }
+
+    #[tactic(auto, using(crate::proofs::Passing::word_passes))]
+    pub fn word(&mut self, word: Word, role: Role) -> Result<(), ParseError>
+        ensures shorter { length self.new.rest.now ≤ length self.old.rest.now }
+        ensures passes { OnOk result (length self.new.rest.now < length self.old.rest.now) }
+    {
+        if self.is_word(word) {
+            self.begin(role)
+        } else {
+            Err(self.refuse())
+        }
+    }
+
+    pub fn name(&mut self, role: Role) -> Result<Name, ParseError>
+        ensures shorter { length self.new.rest.now ≤ length self.old.rest.now }
+    {
+        match self.name_ahead() {
+            Some(name) => {
+                self.begin(role)?;
+                Ok(name)
+            }
+            None => Err(self.refuse()),
+        }
+    }
+
+    pub fn int(&mut self, role: Role) -> Result<u32, ParseError>
+        ensures shorter { length self.new.rest.now ≤ length self.old.rest.now }
+        ensures fits { IfOk result (λ n. n ≤ MAX_NUMBER) }
+    {
+        match self.ahead() {
+            Some(Token::Int(value)) if value <= MAX_NUMBER => {
+                self.begin(role)?;
+                Ok(value)
+            }
+            Some(Token::Int(_) | Token::TooBig) => Err(self.halt(Kind::NumberTooBig)),
+            _ => Err(self.refuse()),
+        }
+    }
+
+    // Whether the sign is a minus.
+    #[tactic(auto, using(crate::proofs::Passing::sign_passes))]
+    pub fn sign(&mut self, role: Role) -> Result<bool, ParseError>
+        ensures shorter { length self.new.rest.now ≤ length self.old.rest.now }
+        ensures passes { OnOk result (length self.new.rest.now < length self.old.rest.now) }
+    {
+        match sign_of(self.ahead()) {
+            Some(negative) => {
+                self.begin(role)?;
+                Ok(negative)
+            }
+            None => Err(self.refuse()),
+        }
+    }
+
+    #[tactic(auto, using(crate::proofs::Passing::factor_passes))]
+    pub fn factor(&mut self) -> Result<Factor, ParseError>
+        ensures shorter { length self.new.rest.now ≤ length self.old.rest.now }
+        ensures passes { OnOk result (length self.new.rest.now < length self.old.rest.now) }
+    {
+        match factor_of(self.ahead()) {
+            Some(factor) => {
+                self.begin(Role::Node)?;
+                Ok(factor)
+            }
+            None => Err(self.refuse()),
+        }
+    }
+
+    pub fn relation(&mut self) -> Result<Relation, ParseError>
+        ensures shorter { length self.new.rest.now ≤ length self.old.rest.now }
+    {
+        match relation_of(self.ahead()) {
+            Some(relation) => {
+                self.begin(Role::Plain)?;
+                Ok(relation)
+            }
+            None => Err(self.refuse()),
+        }
+    }
+
+    pub fn fold(&mut self) -> Result<Fold, ParseError>
+        ensures shorter { length self.new.rest.now ≤ length self.old.rest.now }
+    {
+        match fold_of(self.ahead()) {
+            Some(fold) => {
+                self.begin(Role::Plain)?;
+                Ok(fold)
+            }
+            None => Err(self.refuse()),
+        }
+    }
+}
