@@ -1,0 +1,40 @@
+//! A compiler for image pipelines: it reads a program and a picture, and writes the program's result.
+#![tactic(auto)]
+
+mod bind;
+mod bounds;
+mod command;
+mod faults;
+mod names;
+mod params;
+mod sections;
+mod stream;
+#[cfg(test)]
+mod tests;
+mod values;
+
+use command::run_command;
+use netpbm::Metered;
+use std::io::ErrorKind;
+use std::process::ExitCode;
+
+fn main(rt: HostRuntime) -> ExitCode {
+    let alloc = rt.alloc();
+    let words = match std::env::args(&rt) {
+        Ok(args) => match args.skip(1).collect::<Vec<String>>(alloc) {
+            Ok(words) => words,
+            Err(_) => return out_of_memory(&rt),
+        },
+        Err(error) if error.kind() == ErrorKind::OutOfMemory => return out_of_memory(&rt),
+        // Words that are no text are refused like no words.
+        Err(_) => Vec::new(alloc),
+    };
+    let mut reader = Metered::new(rt.stdin());
+    let mut writer = Metered::new(rt.stdout());
+    ExitCode::from(run_command(&rt, words.as_slice(), &mut reader, &mut writer))
+}
+
+fn out_of_memory(rt: &impl Print) -> ExitCode {
+    let _ = println!(rt; "memory");
+    ExitCode::from(5)
+}
