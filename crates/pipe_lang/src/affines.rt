@@ -2,6 +2,8 @@
 //! Affine sums of parameters, spans of them, and the variables that run over spans.
 
 ghost use Rattle.std.specs.Prelude.{◌≡◌, ◌<◌, ◌≤◌, length, OnOk};
+ghost use Rattle.pipe_lang.specs.Reading as reading;
+ghost use Rattle.pipe_lang.specs.Reading.{at, Reads};
 
 use crate::fault::ParseError;
 use crate::limits::Role;
@@ -13,6 +15,7 @@ use pipe_tokens::{Mark, Name, Word};
 impl Parser<'_> {
     // A minus, if there is one.
     pub fn minus(&mut self) -> Result<bool, ParseError>
+        ensures exact { Reads (λ b. (b, at self.new)) result (reading.minus (at self.old)) }
         ensures shorter { length self.new.rest.now ≤ length self.old.rest.now }
     {
         if self.is_mark(Mark::Minus) {
@@ -23,7 +26,9 @@ impl Parser<'_> {
     }
 
     // A number and the name that it is multiplied by, if there is one; 1 and a name, where no number stands.
+    #[tactic(auto, unfolding(crate::specs::Reading::scaled_name))]
     fn scaled_name(&mut self) -> Result<(u32, Option<Name>), ParseError>
+        ensures exact { Reads (λ f. (f, at self.new)) result (reading.scaled_name (at self.old)) }
         ensures shorter { length self.new.rest.now ≤ length self.old.rest.now }
     {
         if !is_number(self.ahead()) {
@@ -39,6 +44,8 @@ impl Parser<'_> {
 
     // Puts one more term behind the others.
     fn term(&mut self, terms: &mut Vec<Term>, negative: bool) -> Result<(), ParseError>
+        ensures exact { Reads (λ _. (terms.new.items, at self.new)) result
+            (reading.term negative terms.old.items (at self.old)) }
         ensures shorter { length self.new.rest.now ≤ length self.old.rest.now }
     {
         let (factor, name) = self.scaled_name()?;
@@ -50,7 +57,9 @@ impl Parser<'_> {
         Ok(())
     }
 
+    #[tactic(auto, using(crate::proofs::Unrolled::affine_unroll), unfolding(crate::specs::Reading::affine))]
     pub fn affine(&mut self) -> Result<Affine, ParseError>
+        ensures exact { Reads (λ a. (a, at self.new)) result (reading.affine (at self.old)) }
         ensures shorter { length self.new.rest.now ≤ length self.old.rest.now }
     {
         let mut terms = Vec::new(self.alloc);
@@ -63,7 +72,9 @@ impl Parser<'_> {
         Ok(Affine { terms })
     }
 
+    #[tactic(auto, unfolding(crate::specs::Reading::span))]
     pub fn span(&mut self) -> Result<AffineSpan, ParseError>
+        ensures exact { Reads (λ s. (s, at self.new)) result (reading.span (at self.old)) }
         ensures shorter { length self.new.rest.now ≤ length self.old.rest.now }
     {
         self.mark(Mark::OpenSquare, Role::Plain)?;
@@ -74,7 +85,9 @@ impl Parser<'_> {
         Ok(AffineSpan { first, last })
     }
 
+    #[tactic(auto, unfolding(crate::specs::Reading::a_variable))]
     pub fn variable(&mut self) -> Result<Variable, ParseError>
+        ensures exact { Reads (λ v. (v, at self.new)) result (reading.a_variable (at self.old)) }
         ensures shorter { length self.new.rest.now ≤ length self.old.rest.now }
     {
         let name = self.name(Role::Plain)?;

@@ -1,7 +1,10 @@
 #![tactic(auto)]
 //! Expressions, within so many levels that may still be opened.
 
-ghost use Rattle.std.specs.Prelude.{◌≡◌, ◌<◌, ◌≤◌, length, suc, IfOk};
+ghost use Rattle.std.specs.Prelude.{◌≡◌, ◌<◌, ◌≤◌, length, suc, IfOk, IfErr};
+ghost use Rattle.pipe_lang.specs.Tree.{view};
+ghost use Rattle.pipe_lang.specs.Reading as reading;
+ghost use Rattle.pipe_lang.specs.Reading.{at, Reads, halt_of, unary_at, product_at, expression_at};
 
 use crate::fault::{Kind, ParseError};
 use crate::limits::Role;
@@ -10,10 +13,21 @@ use crate::parser::Parser;
 use crate::tree::{BinaryOp, Expr};
 use pipe_tokens::{Mark, Word};
 
+// The word of `min`, and of `max` else.
+fn word_of(op: BinaryOp) -> Word
+    ensures { result ≡ reading.word_of op }
+{
+    match op {
+        BinaryOp::Min => Word::Min,
+        _ => Word::Max,
+    }
+}
+
 impl Parser<'_> {
     // The levels that are left behind the token ahead, which opens one.
     fn open_level(&self, levels: u32) -> Result<u32, ParseError>
         ensures ok { IfOk result (λ rest. levels ≡ suc rest) }
+        ensures err { IfErr result (λ e. (levels ≡ 0) × (e ≡ ParseError.Fault (halt_of Kind.TooDeep self.now.rest.now))) }
     {
         if levels == 0 {
             return Err(self.halt(Kind::TooDeep));
@@ -22,7 +36,9 @@ impl Parser<'_> {
     }
 
     #[cycle(expression)]
+    #[tactic(auto, using(crate::proofs::ExpressionLaws::expression_unroll), unfolding(crate::specs::Reading::expression_at))]
     pub fn expression(&mut self, levels: u32) -> Result<Expr, ParseError>
+        ensures exact { Reads (λ e. (view e, at self.new)) result (expression_at levels (at self.old)) }
         ensures shorter { length self.new.rest.now ≤ length self.old.rest.now }
     {
         let mut left = self.product(levels)?;
@@ -44,7 +60,9 @@ impl Parser<'_> {
     }
 
     #[cycle(expression)]
+    #[tactic(auto, using(crate::proofs::ExpressionLaws::product_at_unroll), unfolding(crate::specs::Reading::product_at))]
     fn product(&mut self, levels: u32) -> Result<Expr, ParseError>
+        ensures exact { Reads (λ e. (view e, at self.new)) result (product_at levels (at self.old)) }
         ensures shorter { length self.new.rest.now ≤ length self.old.rest.now }
     {
         let mut left = self.unary(levels)?;
@@ -68,7 +86,9 @@ impl Parser<'_> {
     }
 
     #[cycle(expression)]
+    #[tactic(auto, unfolding(crate::specs::Reading::unary_at, crate::specs::Reading::product_at, crate::specs::Reading::expression_at))]
     fn unary(&mut self, levels: u32) -> Result<Expr, ParseError>
+        ensures exact { Reads (λ e. (view e, at self.new)) result (unary_at levels (at self.old)) }
         ensures shorter { length self.new.rest.now ≤ length self.old.rest.now }
     {
         match start_of(self.ahead()) {
@@ -86,6 +106,8 @@ impl Parser<'_> {
     // What opens a level, with so many left behind it.
     #[cycle(expression)]
     fn opened(&mut self, opening: Opening, levels: u32) -> Result<Expr, ParseError>
+        ensures exact { Reads (λ e. (view e, at self.new)) result
+            (reading.opened (unary_at levels) (expression_at levels) opening (at self.old)) }
         ensures shorter { length self.new.rest.now ≤ length self.old.rest.now }
     {
         match opening {
@@ -116,14 +138,11 @@ impl Parser<'_> {
     // `min` or `max` of two.
     #[cycle(expression)]
     fn pair(&mut self, op: BinaryOp, levels: u32) -> Result<Expr, ParseError>
+        ensures exact { Reads (λ e. (view e, at self.new)) result
+            (reading.pair op (expression_at levels) (at self.old)) }
         ensures shorter { length self.new.rest.now ≤ length self.old.rest.now }
     {
-        let word = if let BinaryOp::Min = op {
-            Word::Min
-        } else {
-            Word::Max
-        };
-        self.word(word, Role::Node)?;
+        self.word(word_of(op), Role::Node)?;
         self.mark(Mark::OpenRound, Role::Plain)?;
         let left = self.expression(levels)?;
         self.mark(Mark::Comma, Role::Plain)?;
@@ -138,6 +157,8 @@ impl Parser<'_> {
 
     #[cycle(expression)]
     fn clamp(&mut self, levels: u32) -> Result<Expr, ParseError>
+        ensures exact { Reads (λ e. (view e, at self.new)) result
+            (reading.clamped (expression_at levels) (at self.old)) }
         ensures shorter { length self.new.rest.now ≤ length self.old.rest.now }
     {
         self.word(Word::Clamp, Role::Node)?;
@@ -157,6 +178,8 @@ impl Parser<'_> {
 
     #[cycle(expression)]
     fn select(&mut self, levels: u32) -> Result<Expr, ParseError>
+        ensures exact { Reads (λ e. (view e, at self.new)) result
+            (reading.selected (expression_at levels) (at self.old)) }
         ensures shorter { length self.new.rest.now ≤ length self.old.rest.now }
     {
         self.word(Word::Select, Role::Node)?;

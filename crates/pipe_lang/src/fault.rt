@@ -3,6 +3,8 @@
 
 ghost use Rattle.std.specs.Prelude.{◌≡◌, ◌≤◌, Option, Some, None, IfSome};
 ghost use Rattle.pipe_lang.specs.declared.fault.ParseError.TheVariants.{Memory};
+ghost use Rattle.pipe_lang.specs.declared.fault.ParseFault.TheVariants as faults;
+ghost use Rattle.pipe_lang.specs.FaultLine.{number_of, name_of, offset_of};
 
 use std::alloc::{AllocError, AllocFailed};
 use thiserror::Error;
@@ -19,7 +21,7 @@ pub enum ParseFault {
     /// 3: a token with which the tokens before it begin no program, or the end of a text that is none.
     #[error("byte {0} is unexpected")]
     Unexpected(usize),
-    /// 4: a number above 2147483647.
+    /// 4: a number above 2147483647, where a number may stand.
     #[error("the number at byte {0} is too big")]
     NumberTooBig(usize),
     /// 5: the token that opens a level too many.
@@ -38,7 +40,9 @@ pub enum ParseFault {
 
 impl ParseFault {
     /// The fault's number.
-    pub fn number(&self) -> u8 {
+    pub fn number(&self) -> u8
+        ensures { result ≡ number_of self.now }
+    {
         match self {
             ParseFault::NotAscii(_) => 1,
             ParseFault::BadToken(_) => 2,
@@ -52,7 +56,9 @@ impl ParseFault {
     }
 
     /// The fault's name.
-    pub fn name(&self) -> &'static str {
+    pub fn name(&self) -> &'static str
+        ensures { result.now ≡ name_of self.now }
+    {
         match self {
             ParseFault::NotAscii(_) => "NotAscii",
             ParseFault::BadToken(_) => "BadToken",
@@ -66,7 +72,9 @@ impl ParseFault {
     }
 
     /// Where the fault stands. Memory has no place.
-    pub fn offset(&self) -> Option<usize> {
+    pub fn offset(&self) -> Option<usize>
+        ensures { result ≡ offset_of self.now }
+    {
         match self {
             ParseFault::NotAscii(offset)
             | ParseFault::BadToken(offset)
@@ -77,6 +85,14 @@ impl ParseFault {
             | ParseFault::TooMany(offset) => Some(*offset),
             ParseFault::Memory => None,
         }
+    }
+}
+
+impl From<AllocError> for ParseFault {
+    ghost from_gives = { λ _ e. e ≡ faults.Memory };
+
+    fn from(_e: AllocError) -> ParseFault {
+        ParseFault::Memory
     }
 }
 

@@ -2,6 +2,10 @@
 //! Reads at an index, and stencils with a kernel.
 
 ghost use Rattle.std.specs.Prelude.{◌≡◌, ◌<◌, ◌≤◌, length, OnOk};
+ghost use Rattle.pipe_lang.specs.Grammar as grammar;
+ghost use Rattle.pipe_lang.specs.Tree.{view};
+ghost use Rattle.pipe_lang.specs.Reading as reading;
+ghost use Rattle.pipe_lang.specs.Reading.{at, Reads};
 ghost use Rattle.pipe_lang.specs.declared.parser.TheConstants.{MAX_NUMBER};
 
 use crate::fault::ParseError;
@@ -14,6 +18,7 @@ use pipe_tokens::{Mark, Name, Word};
 // A number with its sign.
 fn signed(negative: bool, number: u32) -> i32
     requires { number ≤ MAX_NUMBER }
+    ensures { result ≡ grammar.signed negative number }
 {
     if negative {
         -(number as i32)
@@ -24,7 +29,9 @@ fn signed(negative: bool, number: u32) -> i32
 
 impl Parser<'_> {
     // `MUL * NAME`, or a name alone.
+    #[tactic(auto, unfolding(crate::specs::Reading::scaled))]
     fn scaled(&mut self) -> Result<(u32, Name), ParseError>
+        ensures exact { Reads (λ f. (f, at self.new)) result (reading.scaled (at self.old)) }
         ensures shorter { length self.new.rest.now ≤ length self.old.rest.now }
     {
         if !is_number(self.ahead()) {
@@ -36,7 +43,9 @@ impl Parser<'_> {
     }
 
     // A number that is added or subtracted, if there is one.
+    #[tactic(auto, unfolding(crate::specs::Reading::addend))]
     fn addend(&mut self) -> Result<i32, ParseError>
+        ensures exact { Reads (λ k. (k, at self.new)) result (reading.addend (at self.old)) }
         ensures shorter { length self.new.rest.now ≤ length self.old.rest.now }
     {
         if sign_of(self.ahead()).is_none() {
@@ -47,14 +56,18 @@ impl Parser<'_> {
         Ok(signed(negative, number))
     }
 
+    #[tactic(auto, unfolding(crate::specs::Reading::divisor))]
     fn divisor(&mut self) -> Result<u32, ParseError>
+        ensures exact { Reads (λ d. (d, at self.new)) result (reading.divisor (at self.old)) }
         ensures shorter { length self.new.rest.now ≤ length self.old.rest.now }
     {
         self.mark(Mark::Slash, Role::Plain)?;
         self.int(Role::Plain)
     }
 
+    #[tactic(auto, unfolding(crate::specs::Reading::index))]
     fn index(&mut self) -> Result<Index, ParseError>
+        ensures exact { Reads (λ i. (i, at self.new)) result (reading.index (at self.old)) }
         ensures shorter { length self.new.rest.now ≤ length self.old.rest.now }
     {
         if self.is_mark(Mark::OpenRound) {
@@ -79,7 +92,9 @@ impl Parser<'_> {
         })
     }
 
+    #[tactic(auto, unfolding(crate::specs::Reading::grouped_index))]
     fn grouped_index(&mut self) -> Result<Index, ParseError>
+        ensures exact { Reads (λ i. (i, at self.new)) result (reading.grouped_index (at self.old)) }
         ensures shorter { length self.new.rest.now ≤ length self.old.rest.now }
     {
         self.mark(Mark::OpenRound, Role::Plain)?;
@@ -96,7 +111,9 @@ impl Parser<'_> {
     }
 
     // A name, or a read of what it names.
+    #[tactic(auto, unfolding(crate::specs::Reading::named))]
     pub fn named(&mut self) -> Result<Expr, ParseError>
+        ensures exact { Reads (λ e. (view e, at self.new)) result (reading.named (at self.old)) }
         ensures shorter { length self.new.rest.now ≤ length self.old.rest.now }
     {
         let name = self.name(Role::Node)?;
@@ -111,7 +128,9 @@ impl Parser<'_> {
         Ok(Expr::Read(name, row, column))
     }
 
+    #[tactic(auto, unfolding(crate::specs::Reading::a_stencil))]
     pub fn stencil(&mut self) -> Result<Expr, ParseError>
+        ensures exact { Reads (λ e. (view e, at self.new)) result (reading.a_stencil (at self.old)) }
         ensures shorter { length self.new.rest.now ≤ length self.old.rest.now }
     {
         self.word(Word::Stencil, Role::Node)?;
@@ -125,7 +144,9 @@ impl Parser<'_> {
         Ok(Expr::Stencil(name, divisor, kernel))
     }
 
+    #[tactic(auto, using(crate::proofs::Unrolled::kernel_unroll), unfolding(crate::specs::Reading::kernel))]
     fn kernel(&mut self) -> Result<Kernel, ParseError>
+        ensures exact { Reads (λ k. (k, at self.new)) result (reading.kernel (at self.old)) }
         ensures shorter { length self.new.rest.now ≤ length self.old.rest.now }
     {
         self.mark(Mark::OpenSquare, Role::Plain)?;
@@ -141,7 +162,9 @@ impl Parser<'_> {
         Ok(Kernel { rows })
     }
 
+    #[tactic(auto, using(crate::proofs::Unrolled::row_unroll), unfolding(crate::specs::Reading::row))]
     fn row(&mut self) -> Result<Row, ParseError>
+        ensures exact { Reads (λ r. (r, at self.new)) result (reading.row (at self.old)) }
         ensures shorter { length self.new.rest.now ≤ length self.old.rest.now }
     {
         self.mark(Mark::OpenSquare, Role::Plain)?;
@@ -157,7 +180,9 @@ impl Parser<'_> {
         Ok(Row { entries })
     }
 
+    #[tactic(auto, unfolding(crate::specs::Reading::entry))]
     fn entry(&mut self) -> Result<i32, ParseError>
+        ensures exact { Reads (λ k. (k, at self.new)) result (reading.entry (at self.old)) }
         ensures shorter { length self.new.rest.now ≤ length self.old.rest.now }
     {
         let negative = self.minus()?;

@@ -2,6 +2,13 @@
 //! Items, and the programs that are made of them.
 
 ghost use Rattle.std.specs.Prelude.{◌≡◌, ◌<◌, ◌≤◌, length, OnOk};
+ghost use Rattle.std.specs.List.{list_any};
+ghost use Rattle.std.specs.Option.{option_map};
+ghost use Rattle.pipe_lang.specs.Grammar.{is_output};
+ghost use Rattle.pipe_lang.specs.Limits.{most_levels};
+ghost use Rattle.pipe_lang.specs.Tree.{view, cases_of, branches, function_of, accumulator_of, declaration, declarations};
+ghost use Rattle.pipe_lang.specs.Reading as reading;
+ghost use Rattle.pipe_lang.specs.Reading.{at, Reads, program_of};
 
 use crate::fault::ParseError;
 use crate::limits::{MAX_LEVELS, Role};
@@ -14,7 +21,9 @@ use pipe_tokens::{Mark, Token, Word};
 use std::alloc::Global;
 
 impl Parser<'_> {
+    #[tactic(auto, unfolding(crate::specs::Reading::a_param))]
     fn param(&mut self) -> Result<Param, ParseError>
+        ensures exact { Reads (λ p. (p, at self.new)) result (reading.a_param (at self.old)) }
         ensures shorter { length self.new.rest.now ≤ length self.old.rest.now }
         ensures passes { OnOk result (length self.new.rest.now < length self.old.rest.now) }
     {
@@ -25,7 +34,9 @@ impl Parser<'_> {
     }
 
     // One name, or three.
+    #[tactic(auto, unfolding(crate::specs::Reading::names))]
     fn names(&mut self, role: Role) -> Result<Names, ParseError>
+        ensures exact { Reads (λ ns. (ns, at self.new)) result (reading.names role (at self.old)) }
         ensures shorter { length self.new.rest.now ≤ length self.old.rest.now }
     {
         let first = self.name(role)?;
@@ -39,7 +50,9 @@ impl Parser<'_> {
         Ok(Names::Three(first, second, third))
     }
 
+    #[tactic(auto, unfolding(crate::specs::Reading::an_image))]
     fn image(&mut self) -> Result<Image, ParseError>
+        ensures exact { Reads (λ i. (i, at self.new)) result (reading.an_image (at self.old)) }
         ensures shorter { length self.new.rest.now ≤ length self.old.rest.now }
     {
         self.word(Word::Image, Role::Plain)?;
@@ -58,7 +71,9 @@ impl Parser<'_> {
     }
 
     // The variables of rows and columns.
+    #[tactic(auto, unfolding(crate::specs::Reading::variables))]
     fn variables(&mut self) -> Result<(Variable, Variable), ParseError>
+        ensures exact { Reads (λ vs. (vs, at self.new)) result (reading.variables (at self.old)) }
         ensures shorter { length self.new.rest.now ≤ length self.old.rest.now }
     {
         self.mark(Mark::OpenRound, Role::Plain)?;
@@ -69,7 +84,9 @@ impl Parser<'_> {
         Ok((row, column))
     }
 
+    #[tactic(auto, unfolding(crate::specs::Reading::a_test))]
     fn test(&mut self) -> Result<Test, ParseError>
+        ensures exact { Reads (λ t. (t, at self.new)) result (reading.a_test (at self.old)) }
         ensures shorter { length self.new.rest.now ≤ length self.old.rest.now }
     {
         let name = self.name(Role::Plain)?;
@@ -84,7 +101,9 @@ impl Parser<'_> {
         Ok(Test::Remainder(name, modulus, remainder))
     }
 
+    #[tactic(auto, using(crate::proofs::ItemUnrolled::condition_unroll), unfolding(crate::specs::Reading::condition))]
     fn condition(&mut self) -> Result<Condition, ParseError>
+        ensures exact { Reads (λ c. (c, at self.new)) result (reading.condition (at self.old)) }
         ensures shorter { length self.new.rest.now ≤ length self.old.rest.now }
     {
         let first = self.test()?;
@@ -99,7 +118,10 @@ impl Parser<'_> {
     }
 
     // `: VALUE;`
+    #[tactic(auto, unfolding(crate::specs::Reading::value))]
     fn value(&mut self) -> Result<Expr, ParseError>
+        ensures exact { Reads (λ e. (view e, at self.new)) result
+            (reading.value most_levels (at self.old)) }
         ensures shorter { length self.new.rest.now ≤ length self.old.rest.now }
     {
         self.mark(Mark::Colon, Role::Plain)?;
@@ -108,7 +130,10 @@ impl Parser<'_> {
         Ok(value)
     }
 
+    #[tactic(auto, using(crate::proofs::ItemUnrolled::next_case), unfolding(crate::specs::Reading::cases_at))]
     fn cases(&mut self) -> Result<Cases, ParseError>
+        ensures exact { Reads (λ cs. (branches (cases_of cs), at self.new)) result
+            (reading.cases_at most_levels (at self.old)) }
         ensures shorter { length self.new.rest.now ≤ length self.old.rest.now }
     {
         let mut cases = Vec::new(self.alloc);
@@ -121,7 +146,10 @@ impl Parser<'_> {
         Ok(Cases { cases })
     }
 
+    #[tactic(auto, unfolding(crate::specs::Reading::otherwise))]
     fn otherwise(&mut self) -> Result<Option<Expr>, ParseError>
+        ensures exact { Reads (λ e. (option_map view e, at self.new)) result
+            (reading.otherwise most_levels (at self.old)) }
         ensures shorter { length self.new.rest.now ≤ length self.old.rest.now }
     {
         if !self.is_word(Word::Else) {
@@ -131,7 +159,10 @@ impl Parser<'_> {
         Ok(Some(self.value()?))
     }
 
+    #[tactic(auto, unfolding(crate::specs::Reading::a_function))]
     fn func(&mut self) -> Result<Func, ParseError>
+        ensures exact { Reads (λ f. (function_of f, at self.new)) result
+            (reading.a_function most_levels (at self.old)) }
         ensures shorter { length self.new.rest.now ≤ length self.old.rest.now }
         ensures passes { OnOk result (length self.new.rest.now < length self.old.rest.now) }
     {
@@ -151,7 +182,10 @@ impl Parser<'_> {
         })
     }
 
+    #[tactic(auto, unfolding(crate::specs::Reading::an_accumulator))]
     fn accum(&mut self) -> Result<Accum, ParseError>
+        ensures exact { Reads (λ a. (accumulator_of a, at self.new)) result
+            (reading.an_accumulator most_levels (at self.old)) }
         ensures shorter { length self.new.rest.now ≤ length self.old.rest.now }
         ensures passes { OnOk result (length self.new.rest.now < length self.old.rest.now) }
     {
@@ -176,7 +210,9 @@ impl Parser<'_> {
         })
     }
 
+    #[tactic(auto, unfolding(crate::specs::Reading::an_output))]
     fn output(&mut self) -> Result<Output, ParseError>
+        ensures exact { Reads (λ o. (o, at self.new)) result (reading.an_output (at self.old)) }
         ensures shorter { length self.new.rest.now ≤ length self.old.rest.now }
         ensures passes { OnOk result (length self.new.rest.now < length self.old.rest.now) }
     {
@@ -189,7 +225,10 @@ impl Parser<'_> {
     }
 
     // The item ahead, which is no image.
+    #[tactic(auto, unfolding(crate::specs::Reading::item))]
     fn item(&mut self) -> Result<Item, ParseError>
+        ensures exact { Reads (λ i. (declaration i, at self.new)) result
+            (reading.item most_levels (at self.old)) }
         ensures shorter { length self.new.rest.now ≤ length self.old.rest.now }
         ensures passes { OnOk result (length self.new.rest.now < length self.old.rest.now) }
     {
@@ -203,7 +242,10 @@ impl Parser<'_> {
     }
 
     // Puts the items up to an image, a second output or the end behind those that were read.
+    #[tactic(auto, using(crate::proofs::ItemUnrolled::next_item), unfolding(crate::specs::Reading::others))]
     fn others(&mut self, items: &mut Vec<Item>) -> Result<(), ParseError>
+        ensures exact { Reads (λ _. (declarations items.new.items, at self.new)) result
+            (reading.others most_levels (declarations items.old.items) (at self.old)) }
         ensures shorter { length self.new.rest.now ≤ length self.old.rest.now }
     {
         while goes_on(self.ahead(), items) {
@@ -214,7 +256,10 @@ impl Parser<'_> {
     }
 
     // Exactly one image stands among the others.
+    #[tactic(auto, unfolding(crate::specs::Reading::program_at))]
     fn program(&mut self) -> Result<Vec<Item>, ParseError>
+        ensures exact { Reads (λ items. (declarations items.items, at self.new)) result
+            (reading.whole most_levels (at self.old)) }
         ensures shorter { length self.new.rest.now ≤ length self.old.rest.now }
     {
         let mut items = Vec::new(self.alloc);
@@ -229,16 +274,27 @@ impl Parser<'_> {
     }
 }
 
+fn has_output(items: &[Item]) -> bool
+    ensures { result ≡ list_any (λ item. is_output (declaration item)) items.now }
+{
+    items.iter().any(|item| matches!(item, Item::Output(_)))
+}
+
 // Whether the token begins one more item that is no image.
-fn goes_on(token: Option<Token>, items: &[Item]) -> bool {
+#[tactic(auto, using(crate::proofs::ItemUnrolled::any_declaration))]
+fn goes_on(token: Option<Token>, items: &[Item]) -> bool
+    ensures { result ≡ reading.goes_on (declarations items.now) token }
+{
     match item_of(token) {
         ItemStart::Param | ItemStart::Func | ItemStart::Accum => true,
-        ItemStart::Output => !items.iter().any(|item| matches!(item, Item::Output(_))),
+        ItemStart::Output => !has_output(items),
         ItemStart::Nothing => false,
     }
 }
 
 /// The items of all of the tokens.
-pub(crate) fn program(alloc: Global, tokens: &[Token]) -> Result<Vec<Item>, ParseError> {
+pub(crate) fn program(alloc: Global, tokens: &[Token]) -> Result<Vec<Item>, ParseError>
+    ensures { Reads (λ items. declarations items.items) result (program_of tokens.now) }
+{
     Parser::new(alloc, tokens).program()
 }

@@ -2,7 +2,8 @@
 //! What the token ahead begins.
 
 ghost use Rattle.std.specs.Prelude.{◌≡◌};
-ghost use Rattle.pipe_lang.specs.Lookahead.{sign_at, factor_at, relation_at, fold_at, start_at, is_number_at, is_mark_at, is_word_at, item_at};
+ghost use Rattle.pipe_lang.specs.Operators.{sign_at, factor_at, relation_at, fold_at};
+ghost use Rattle.pipe_lang.specs.Lookahead.{start_at, is_number_at, is_mark_at, is_word_at, item_at};
 
 use crate::tree::{BinaryOp, Fold, LiteralOp, Relation};
 use pipe_tokens::{Mark, Token, Word};

@@ -3,8 +3,12 @@
 //! left to right with one token ahead.
 
 ghost use Rattle.std.specs.Prelude.{◌≡◌, ◌<◌, ◌≤◌, length, IfOk, OnOk};
+ghost use Rattle.pipe_lang.specs.Limits.{none_yet};
+ghost use Rattle.pipe_lang.specs.Reading as reading;
+ghost use Rattle.pipe_lang.specs.Reading.{at, Reads, halt_of, kind_at};
 ghost use Rattle.pipe_lang.specs.Tokens.{head, tail};
-ghost use Rattle.pipe_lang.specs.Lookahead.{is_mark_at, is_word_at, name_at};
+ghost use Rattle.pipe_lang.specs.Operators.{name_at};
+ghost use Rattle.pipe_lang.specs.Lookahead.{is_mark_at, is_word_at};
 
 use crate::fault::{Halt, Kind, ParseError};
 use crate::limits::{Counts, Role};
@@ -25,7 +29,7 @@ pub(crate) struct Parser<'a> {
 
 impl<'a> Parser<'a> {
     pub fn new(alloc: Global, tokens: &'a [Token]) -> Self
-        ensures { result.rest.now ≡ tokens.now }
+        ensures { at result ≡ record { counts = none_yet; rest = tokens.now } }
     {
         Parser {
             alloc,
@@ -68,7 +72,9 @@ impl Parser<'_> {
         is_word(self.ahead(), word)
     }
 
-    pub fn halt(&self, kind: Kind) -> ParseError {
+    pub fn halt(&self, kind: Kind) -> ParseError
+        ensures { result ≡ ParseError.Fault (halt_of kind self.now.rest.now) }
+    {
         ParseError::Fault(Halt {
             kind,
             left: self.rest.len(),
@@ -76,7 +82,9 @@ impl Parser<'_> {
     }
 
     // The fault of a token that has no place here.
-    pub fn refuse(&self) -> ParseError {
+    pub fn refuse(&self) -> ParseError
+        ensures { result ≡ ParseError.Fault (halt_of (kind_at (head self.now.rest.now)) self.now.rest.now) }
+    {
         match self.rest {
             [Token::NotAscii, ..] => self.halt(Kind::NotAscii),
             [Token::Bad, ..] => self.halt(Kind::BadToken),
@@ -86,6 +94,7 @@ impl Parser<'_> {
 
     // Passes the token ahead, which counts as the role.
     pub fn begin(&mut self, role: Role) -> Result<(), ParseError>
+        ensures exact { Reads (λ _. (tt, at self.new)) result (reading.begin role (at self.old)) }
         ensures shorter { length self.new.rest.now ≤ length self.old.rest.now }
         ensures passes { OnOk result (self.new.rest.now ≡ tail self.old.rest.now) }
     {
@@ -101,6 +110,7 @@ impl Parser<'_> {
 
     #[tactic(auto, using(crate::proofs::Passing::mark_passes))]
     pub fn mark(&mut self, mark: Mark, role: Role) -> Result<(), ParseError>
+        ensures exact { Reads (λ _. (tt, at self.new)) result (reading.mark mark role (at self.old)) }
         ensures shorter { length self.new.rest.now ≤ length self.old.rest.now }
         ensures passes { OnOk result (length self.new.rest.now < length self.old.rest.now) }
     {
@@ -113,6 +123,7 @@ impl Parser<'_> {
 
     #[tactic(auto, using(crate::proofs::Passing::word_passes))]
     pub fn word(&mut self, word: Word, role: Role) -> Result<(), ParseError>
+        ensures exact { Reads (λ _. (tt, at self.new)) result (reading.word word role (at self.old)) }
         ensures shorter { length self.new.rest.now ≤ length self.old.rest.now }
         ensures passes { OnOk result (length self.new.rest.now < length self.old.rest.now) }
     {
@@ -124,6 +135,7 @@ impl Parser<'_> {
     }
 
     pub fn name(&mut self, role: Role) -> Result<Name, ParseError>
+        ensures exact { Reads (λ x. (x, at self.new)) result (reading.name role (at self.old)) }
         ensures shorter { length self.new.rest.now ≤ length self.old.rest.now }
     {
         match self.name_ahead() {
@@ -136,6 +148,7 @@ impl Parser<'_> {
     }
 
     pub fn int(&mut self, role: Role) -> Result<u32, ParseError>
+        ensures exact { Reads (λ n. (n, at self.new)) result (reading.int role (at self.old)) }
         ensures shorter { length self.new.rest.now ≤ length self.old.rest.now }
         ensures fits { IfOk result (λ n. n ≤ MAX_NUMBER) }
     {
@@ -152,6 +165,7 @@ impl Parser<'_> {
     // Whether the sign is a minus.
     #[tactic(auto, using(crate::proofs::Passing::sign_passes))]
     pub fn sign(&mut self, role: Role) -> Result<bool, ParseError>
+        ensures exact { Reads (λ b. (b, at self.new)) result (reading.sign role (at self.old)) }
         ensures shorter { length self.new.rest.now ≤ length self.old.rest.now }
         ensures passes { OnOk result (length self.new.rest.now < length self.old.rest.now) }
     {
@@ -166,6 +180,7 @@ impl Parser<'_> {
 
     #[tactic(auto, using(crate::proofs::Passing::factor_passes))]
     pub fn factor(&mut self) -> Result<Factor, ParseError>
+        ensures exact { Reads (λ f. (f, at self.new)) result (reading.factor (at self.old)) }
         ensures shorter { length self.new.rest.now ≤ length self.old.rest.now }
         ensures passes { OnOk result (length self.new.rest.now < length self.old.rest.now) }
     {
@@ -179,6 +194,7 @@ impl Parser<'_> {
     }
 
     pub fn relation(&mut self) -> Result<Relation, ParseError>
+        ensures exact { Reads (λ r. (r, at self.new)) result (reading.relation (at self.old)) }
         ensures shorter { length self.new.rest.now ≤ length self.old.rest.now }
     {
         match relation_of(self.ahead()) {
@@ -191,6 +207,7 @@ impl Parser<'_> {
     }
 
     pub fn fold(&mut self) -> Result<Fold, ParseError>
+        ensures exact { Reads (λ f. (f, at self.new)) result (reading.fold (at self.old)) }
         ensures shorter { length self.new.rest.now ≤ length self.old.rest.now }
     {
         match fold_of(self.ahead()) {

@@ -86,6 +86,15 @@ fn faults_by_offset(rt: HostRuntime) {
     // Two names are none, and three are.
     assert_eq!(rt; fault_of(&rt, "image r,g(1,1);"), (3, Some(9)));
     assert_eq!(rt; fault_of(&rt, "image r,g,b(1,1);"), (0, None));
+    // Cases, then one `else` at most.
+    assert_eq!(rt;
+        fault_of(&rt, "func f(x in[0..0],y in[0..0]){else:1;else:1;}"),
+        (3, Some(37))
+    );
+    assert_eq!(rt;
+        fault_of(&rt, "func f(x in[0..0],y in[0..0]){else:1;case x==1:1;}"),
+        (3, Some(37))
+    );
     // One image, one output at most.
     assert_eq!(rt;
         fault_of(&rt, "image I(1,1);param R;image J(1,1);"),
@@ -142,6 +151,8 @@ fn limits_of_a_text(rt: HostRuntime) -> Result<(), Fail> {
     let signs = repeated(rt.alloc(), "-", 64)?;
     let deep = format!(in rt.alloc(); "{signs}1")?;
     assert_eq!(rt; fault_in(&rt, deep.as_str())?, (0, None));
+    let sign = format!(in rt.alloc(); "{signs}-1")?;
+    assert_eq!(rt; fault_in(&rt, sign.as_str())?, (5, Some(64)));
     let deeper = format!(in rt.alloc(); "{signs}(1)")?;
     assert_eq!(rt; fault_in(&rt, deeper.as_str())?, (5, Some(64)));
     let words = repeated(rt.alloc(), "abs(", 64)?;
@@ -154,6 +165,10 @@ fn limits_of_a_text(rt: HostRuntime) -> Result<(), Fail> {
     assert_eq!(rt; fault_in(&rt, more.as_str())?, (7, Some(4096)));
     let full = format!(in rt.alloc(); "-1{ones}/1")?;
     assert_eq!(rt; fault_in(&rt, full.as_str())?, (7, Some(4096)));
+    // The last sign is level 65 and node 4097.
+    let sums = repeated(rt.alloc(), "1+", 2016)?;
+    let both = format!(in rt.alloc(); "{sums}{signs}-1")?;
+    assert_eq!(rt; fault_in(&rt, both.as_str())?, (5, Some(4096)));
     let too_big = format!(in rt.alloc(); "1{ones}+99999999999")?;
     assert_eq!(rt; fault_in(&rt, too_big.as_str())?, (4, Some(4096)));
     Ok(())

@@ -1,7 +1,11 @@
 #![tactic(auto)]
 //! A text to its tree.
 
-ghost use Rattle.std.specs.Prelude.{◌≡◌, ◌<◌, length};
+ghost use Rattle.std.specs.Prelude.{◌≡◌, ◌-◌, ◌<◌, length, List, slice_get, unwrap_or, IfOk, IfErr, MatchResult};
+ghost use Rattle.pipe_lang.specs.Limits.{most_bytes};
+ghost use Rattle.pipe_lang.specs.Tree.{Declaration, content};
+ghost use Rattle.pipe_lang.specs.Faults.{IsText, IsFault};
+ghost use Rattle.pipe_lang.specs.FaultOf.{fault_of};
 
 use crate::fault::{Kind, ParseError, ParseFault};
 use crate::items::program;
@@ -12,28 +16,45 @@ use std::alloc::Global;
 
 /// The tree of a program's text.
 ///
-/// TooLong comes before any other fault. Of the others the one with the least offset is answered, and at one offset
-/// the one with the lower number.
+/// TooLong comes before any other fault. Of the others a text has one at most, and none if it has a tree. Memory may
+/// run out for any text that is not too long: no clause says that it lasts.
 pub fn parse(alloc: Global, text: &[u8]) -> Result<Tree, ParseFault>
     // This comes first, and does not look at the text.
-    ensures long { MAX_BYTES < length text.now → result ≡ Err (ParseFault.TooLong MAX_BYTES) }
+    ensures long { most_bytes < length text.now → result ≡ Err (ParseFault.TooLong most_bytes) }
+
+    // What is read is a text of the grammar, within the limits.
+    ensures found { IfOk result (λ tree. IsText text.now (content tree)) }
+    // A text is read as its tree, unless memory runs out.
+    ensures only { (tree : List Declaration) → IsText text.now tree
+        → MatchResult result (λ t. content t ≡ tree) (λ e. e ≡ ParseFault.Memory) }
+    // Where and why there is none.
+    ensures fault { IfErr result (IsFault text.now) }
 {
     if text.len() > MAX_BYTES {
         return Err(ParseFault::TooLong(MAX_BYTES));
     }
-    let lexed = lex(alloc, text).map_err(|_| ParseFault::Memory)?;
+    let lexed = lex(alloc, text)?;
     match program(alloc, &lexed.tokens) {
         Ok(items) => Ok(Tree { items }),
         Err(ParseError::Memory) => Err(ParseFault::Memory),
         Err(ParseError::Fault(halt)) => {
-            let passed = lexed.tokens.len().saturating_sub(halt.left);
-            let offset = lexed.starts.get(passed).copied().unwrap_or(text.len());
+            let offset = offset_of(&lexed.starts, halt.left, text.len());
             Err(fault_at(halt.kind, offset))
         }
     }
 }
 
-fn fault_at(kind: Kind, offset: usize) -> ParseFault {
+// Where a token starts behind which so many are left, itself counted; the end, where none is.
+fn offset_of(starts: &[usize], left: usize, end: usize) -> usize
+    ensures { result ≡ unwrap_or (slice_get starts.now (length starts.now - left)) end }
+{
+    let passed = starts.len().saturating_sub(left);
+    starts.get(passed).copied().unwrap_or(end)
+}
+
+fn fault_at(kind: Kind, offset: usize) -> ParseFault
+    ensures { result ≡ fault_of kind offset }
+{
     match kind {
         Kind::NotAscii => ParseFault::NotAscii(offset),
         Kind::BadToken => ParseFault::BadToken(offset),

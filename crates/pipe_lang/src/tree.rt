@@ -2,6 +2,7 @@
 //! What a program's text says: its items in order, with expressions as nodes.
 
 ghost use Rattle.std.specs.Prelude.{◌≡◌};
+ghost use Rattle.pipe_lang.specs.Tree.{items_of, cases_of};
 
 use pipe_tokens::Name;
 use std::marker::Model;
@@ -15,7 +16,7 @@ pub struct Tree {
 impl Tree {
     /// The items in the order of the text.
     pub fn items(&self) -> &[Item]
-        ensures { result.now ≡ self.now.items.items }
+        ensures { result.now ≡ items_of self.now }
     {
         &self.items
     }
@@ -149,7 +150,7 @@ pub struct Cases {
 impl Cases {
     /// The cases in the order of the text, at most 16.
     pub fn list(&self) -> &[Case]
-        ensures { result.now ≡ self.now.cases.items }
+        ensures { result.now ≡ cases_of self.now }
     {
         &self.cases
     }

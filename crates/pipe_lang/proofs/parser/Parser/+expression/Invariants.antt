@@ -1,4 +1,6 @@
-use Rattle.std.proofs.Common.{◌≤◌, length, ◌+◌, ◌*◌}
+use Rattle.std.proofs.Common.{◌≡◌, ◌≤◌, length, ◌+◌, ◌*◌}
+use Rattle.pipe_lang.specs.Tree.{view}
+use Rattle.pipe_lang.specs.Reading.{at, while, is_sign_at, is_factor_at, sum_more, product_more, unary_at, product_at, expression_at}
 use Rattle.pipe_lang.proofs.parser.Parser.+expression.Given as goal
 
 abbrev pub decreases-expression : goal.decreases-expression
@@ -23,13 +25,19 @@ abbrev pub decreases-select : goal.decreases-select
 decreases-select l = 5 * l.levels + 5
 
 abbrev pub invariant-expression-loop-self : goal.invariant-expression-loop-self
-invariant-expression-loop-self l = length l.self.rest.now ≤ length l.fn.self.rest.now
+invariant-expression-loop-self l = record {
+  reading : expression_at l.levels (at l.fn.self) ≡ while is_sign_at (sum_more (product_at l.levels)) (view l.left) (at l.self);
+  shorter : length l.self.rest.now ≤ length l.fn.self.rest.now;
+}
 
 abbrev pub decreases-expression-loop-self : goal.decreases-expression-loop-self
 decreases-expression-loop-self l = length l.self.rest.now
 
 abbrev pub invariant-product-loop-self : goal.invariant-product-loop-self
-invariant-product-loop-self l = length l.self.rest.now ≤ length l.fn.self.rest.now
+invariant-product-loop-self l = record {
+  reading : product_at l.levels (at l.fn.self) ≡ while is_factor_at (product_more (unary_at l.levels)) (view l.left) (at l.self);
+  shorter : length l.self.rest.now ≤ length l.fn.self.rest.now;
+}
 
 abbrev pub decreases-product-loop-self : goal.decreases-product-loop-self
 decreases-product-loop-self l = length l.self.rest.now

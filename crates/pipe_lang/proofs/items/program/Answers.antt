@@ -1,0 +1,14 @@
+-- The program that is read, without where the parser is.
+use Rattle.std.proofs.Common.{subst}
+use Rattle.pipe_lang.specs.Limits.{most_levels}
+use Rattle.pipe_lang.specs.Tree.{declarations}
+use Rattle.pipe_lang.specs.Reading.{At, at, Reads, whole, program_of}
+use Rattle.pipe_lang.proofs.ItemUnrolled.{reads_value}
+use Rattle.pipe_lang.proofs.Theorems.{start}
+use Rattle.pipe_lang.proofs.items.program.Goals as goal
+
+pub returns : goal.returns
+unfolding program_of
+returns c =
+    reads_value c.program.result (whole most_levels (start c.args.tokens.now)) (at c.program.new.self)
+    (subst (λ (s : At). Reads (λ items. (declarations items.items, at c.program.new.self)) c.program.result (whole most_levels s)) c.new.ensures c.program.ensures.exact)

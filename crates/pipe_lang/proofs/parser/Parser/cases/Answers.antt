@@ -1,0 +1,18 @@
+-- One more case is read behind the others.
+use Rattle.std.proofs.Common.{rules, ◌≡◌, ◌++◌, ◌∷◌, [], sym, ◌∙◌}
+use Rattle.std.proofs.lemmas.List.{map_push}
+use Rattle.pipe_lang.specs.Limits.{most_levels}
+use Rattle.pipe_lang.specs.Tree.{view, branches}
+use Rattle.pipe_lang.specs.Reading.{at, cases_at}
+use Rattle.pipe_lang.proofs.ItemUnrolled.{case_step}
+use Rattle.pipe_lang.proofs.parser.Parser.cases.Goals as goal
+
+pub loop-self-preserved : goal.loop-self-preserved
+loop-self-preserved c = record {
+  reading =
+      let e : branches c.push.new.self.items ≡ branches c.loop-self.cases.items ++ record { condition = c.in_ok-condition.condition; value = view c.in_ok-value.value } ∷ [] =
+      rw c.in_ok-push.ensures.items (map_push _ c.loop-self.cases.items _) in
+      rw e (case_step (cases_at most_levels (at c.args.self.now)) (branches c.loop-self.cases.items) (at c.loop-self.self) (at c.word.new.self) (at c.condition.new.self) (at c.value.new.self)
+      c.in_ok-condition.condition (view c.in_ok-value.value) (sym c.is_word.ensures ∙ c.loop-self-test.true) c.in_ok-word.ensures.exact c.in_ok-condition.ensures.exact c.in_ok-value.ensures.exact c.loop-self.invariant.reading);
+  shorter = search rules;
+}
