@@ -1,0 +1,159 @@
+#![tactic(auto)]
+//! Expressions, with parentheses only where the grammar needs them.
+
+ghost use Rattle.std.specs.Prelude.{◌≡◌, ◌++◌, OnOk};
+ghost use Rattle.pipe_lang.specs.Tree.{view, binary};
+ghost use Rattle.pipe_print.specs.Canonical.{mark as mark_tokens, ◌⌢◌, grouped_if, literal_mark, relation_mark, pair_tokens, expression_tokens};
+
+use crate::place::Place;
+use crate::printer::Printer;
+use pipe_lang::{BinaryOp, Expr, LiteralOp, Relation};
+use pipe_tokens::{Mark, Word};
+use std::alloc::AllocError;
+
+// Whether the expression has parentheses there.
+fn is_grouped(e: &Expr, place: Place) -> bool
+    ensures { expression_tokens (view e.now) place ≡ grouped_if result (expression_tokens (view e.now) Place.Sum) }
+{
+    match e {
+        Expr::Binary(op, ..) => match op {
+            BinaryOp::Add | BinaryOp::Sub => place.groups_sums(),
+            BinaryOp::Mul => place.groups_products(),
+            BinaryOp::Min | BinaryOp::Max => false,
+        },
+        Expr::Literal(..) => place.groups_products(),
+        Expr::Number(_)
+        | Expr::Name(_)
+        | Expr::Read(..)
+        | Expr::Neg(_)
+        | Expr::Abs(_)
+        | Expr::Clamp(..)
+        | Expr::Select(..)
+        | Expr::Stencil(..) => false,
+    }
+}
+
+fn mark_of_literal(op: LiteralOp) -> Mark
+    ensures { result ≡ literal_mark op }
+{
+    match op {
+        LiteralOp::Div => Mark::Slash,
+        LiteralOp::Rem => Mark::Percent,
+        LiteralOp::Shl => Mark::ShiftLeft,
+        LiteralOp::Shr => Mark::ShiftRight,
+    }
+}
+
+fn mark_of_relation(relation: Relation) -> Mark
+    ensures { result ≡ relation_mark relation }
+{
+    match relation {
+        Relation::AtMost => Mark::AtMost,
+        Relation::AtLeast => Mark::AtLeast,
+        Relation::Equals => Mark::Equals,
+    }
+}
+
+impl Printer {
+    pub fn relation(&mut self, relation: Relation) -> Result<(), AllocError>
+        ensures { OnOk result (self.new ≡ self.old ++ mark_tokens (relation_mark relation)) }
+    {
+        self.mark(mark_of_relation(relation))
+    }
+
+    /// The expression, in parentheses where the place needs them.
+    #[cycle(expression)]
+    pub fn expression(&mut self, e: &Expr, place: Place) -> Result<(), AllocError>
+        ensures { OnOk result (self.new ≡ self.old ++ expression_tokens (view e.now) place) }
+    {
+        if is_grouped(e, place) {
+            self.mark(Mark::OpenRound)?;
+            self.bare(e)?;
+            self.mark(Mark::CloseRound)
+        } else {
+            self.bare(e)
+        }
+    }
+
+    // A mark, and an expression behind it.
+    #[cycle(expression)]
+    fn behind(&mut self, mark: Mark, e: &Expr, place: Place) -> Result<(), AllocError>
+        ensures { OnOk result (self.new ≡ self.old ++ (mark_tokens mark ⌢ expression_tokens (view e.now) place)) }
+    {
+        self.mark(mark)?;
+        self.expression(e, place)
+    }
+
+    // The expression without parentheses around it.
+    #[cycle(expression)]
+    fn bare(&mut self, e: &Expr) -> Result<(), AllocError>
+        ensures { OnOk result (self.new ≡ self.old ++ expression_tokens (view e.now) Place.Sum) }
+    {
+        match e {
+            Expr::Number(value) => self.int(*value),
+            Expr::Name(name) => self.name(name),
+            Expr::Read(name, row, column) => self.read(name, row, column),
+            Expr::Stencil(name, divisor, kernel) => self.stencil(name, *divisor, kernel),
+            Expr::Neg(a) => self.behind(Mark::Minus, a, Place::Unary),
+            Expr::Binary(op, a, b) => self.binary(*op, a, b),
+            Expr::Literal(op, a, number) => {
+                self.expression(a, Place::Product)?;
+                self.mark(mark_of_literal(*op))?;
+                self.int(*number)
+            }
+            Expr::Abs(a) => {
+                self.word(Word::Abs)?;
+                self.behind(Mark::OpenRound, a, Place::Sum)?;
+                self.mark(Mark::CloseRound)
+            }
+            Expr::Clamp(a, least, greatest) => {
+                self.word(Word::Clamp)?;
+                self.behind(Mark::OpenRound, a, Place::Sum)?;
+                self.behind(Mark::Comma, least, Place::Sum)?;
+                self.behind(Mark::Comma, greatest, Place::Sum)?;
+                self.mark(Mark::CloseRound)
+            }
+            Expr::Select(a, relation, b, then, otherwise) => {
+                self.word(Word::Select)?;
+                self.behind(Mark::OpenRound, a, Place::Sum)?;
+                self.behind(mark_of_relation(*relation), b, Place::Sum)?;
+                self.behind(Mark::Comma, then, Place::Sum)?;
+                self.behind(Mark::Comma, otherwise, Place::Sum)?;
+                self.mark(Mark::CloseRound)
+            }
+        }
+    }
+
+    #[cycle(expression)]
+    fn binary(&mut self, op: BinaryOp, a: &Expr, b: &Expr) -> Result<(), AllocError>
+        ensures { OnOk result (self.new ≡ self.old ++ expression_tokens (binary op (view a.now) (view b.now)) Place.Sum) }
+    {
+        match op {
+            BinaryOp::Add => {
+                self.expression(a, Place::Sum)?;
+                self.behind(Mark::Plus, b, Place::Product)
+            }
+            BinaryOp::Sub => {
+                self.expression(a, Place::Sum)?;
+                self.behind(Mark::Minus, b, Place::Product)
+            }
+            BinaryOp::Mul => {
+                self.expression(a, Place::Product)?;
+                self.behind(Mark::Star, b, Place::Unary)
+            }
+            BinaryOp::Min => self.pair(Word::Min, a, b),
+            BinaryOp::Max => self.pair(Word::Max, a, b),
+        }
+    }
+
+    // `min` or `max` of two.
+    #[cycle(expression)]
+    fn pair(&mut self, word: Word, a: &Expr, b: &Expr) -> Result<(), AllocError>
+        ensures { OnOk result (self.new ≡ self.old ++ pair_tokens word (expression_tokens (view a.now) Place.Sum) (expression_tokens (view b.now) Place.Sum)) }
+    {
+        self.word(word)?;
+        self.behind(Mark::OpenRound, a, Place::Sum)?;
+        self.behind(Mark::Comma, b, Place::Sum)?;
+        self.mark(Mark::CloseRound)
+    }
+}

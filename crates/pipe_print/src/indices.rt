@@ -1,0 +1,133 @@
+#![tactic(auto)]
+//! Reads at an index, and stencils with a kernel.
+
+ghost use Rattle.std.specs.Prelude.{◌≡◌, ◌++◌, OnOk};
+ghost use Rattle.pipe_print.specs.Canonical.{◌⌢◌, separated, scaled_tokens, addend_tokens, divisor_tokens, index_tokens, read_tokens, stencil_tokens, kernel_tokens, row_tokens, entry_tokens};
+ghost use Rattle.pipe_print.specs.Canonical.{mark as mark_tokens};
+
+use crate::printer::Printer;
+use pipe_lang::{Index, Kernel, Row};
+use pipe_tokens::{Mark, Name, Word};
+use std::alloc::AllocError;
+
+impl Printer {
+    // A number that is added or subtracted; nothing for 0.
+    fn addend(&mut self, add: i32) -> Result<(), AllocError>
+        ensures { OnOk result (self.new ≡ self.old ++ addend_tokens add) }
+    {
+        if add == 0 {
+            return Ok(());
+        }
+        self.sign(add < 0)?;
+        self.int(add.unsigned_abs())
+    }
+
+    // A number that divides; nothing for 1.
+    fn divisor(&mut self, div: u32) -> Result<(), AllocError>
+        ensures { OnOk result (self.new ≡ self.old ++ divisor_tokens div) }
+    {
+        if div == 1 {
+            return Ok(());
+        }
+        self.mark(Mark::Slash)?;
+        self.int(div)
+    }
+
+    // What is divided.
+    fn shifted(&mut self, index: &Index) -> Result<(), AllocError>
+        ensures { OnOk result (self.new ≡ self.old ++ (scaled_tokens index.now.mul index.now.name ⌢ addend_tokens index.now.add)) }
+    {
+        self.scaled(index.mul, &index.name)?;
+        self.addend(index.add)
+    }
+
+    fn index(&mut self, index: &Index) -> Result<(), AllocError>
+        ensures { OnOk result (self.new ≡ self.old ++ index_tokens index.now) }
+    {
+        if index.add == 0 || index.div == 1 {
+            self.shifted(index)?;
+        } else {
+            self.mark(Mark::OpenRound)?;
+            self.shifted(index)?;
+            self.mark(Mark::CloseRound)?;
+        }
+        self.divisor(index.div)
+    }
+
+    pub fn read(&mut self, name: &Name, row: &Index, column: &Index) -> Result<(), AllocError>
+        ensures { OnOk result (self.new ≡ self.old ++ read_tokens name.now row.now column.now) }
+    {
+        self.name(name)?;
+        self.mark(Mark::OpenRound)?;
+        self.index(row)?;
+        self.mark(Mark::Comma)?;
+        self.index(column)?;
+        self.mark(Mark::CloseRound)
+    }
+
+    pub fn stencil(&mut self, name: &Name, divisor: u32, kernel: &Kernel) -> Result<(), AllocError>
+        ensures { OnOk result (self.new ≡ self.old ++ stencil_tokens name.now divisor kernel.now) }
+    {
+        self.word(Word::Stencil)?;
+        self.mark(Mark::OpenRound)?;
+        self.name(name)?;
+        self.mark(Mark::Comma)?;
+        self.int(divisor)?;
+        self.mark(Mark::Comma)?;
+        self.kernel(kernel)?;
+        self.mark(Mark::CloseRound)
+    }
+
+    fn kernel(&mut self, kernel: &Kernel) -> Result<(), AllocError>
+        ensures { OnOk result (self.new ≡ self.old ++ kernel_tokens kernel.now) }
+    {
+        self.mark(Mark::OpenSquare)?;
+        self.rows(kernel.rows())?;
+        self.mark(Mark::CloseSquare)
+    }
+
+    fn rows(&mut self, rows: &[Row]) -> Result<(), AllocError>
+        ensures { OnOk result (self.new ≡ self.old ++ separated (mark_tokens Mark.Comma) row_tokens rows.now) }
+    {
+        let [first, others @ ..] = rows else {
+            return Ok(());
+        };
+        self.row(first)?;
+        for row in others {
+            self.mark(Mark::Comma)?;
+            self.row(row)?;
+        }
+        Ok(())
+    }
+
+    fn row(&mut self, row: &Row) -> Result<(), AllocError>
+        ensures { OnOk result (self.new ≡ self.old ++ row_tokens row.now) }
+    {
+        self.mark(Mark::OpenSquare)?;
+        self.entries(row.entries())?;
+        self.mark(Mark::CloseSquare)
+    }
+
+    fn entries(&mut self, entries: &[i32]) -> Result<(), AllocError>
+        ensures { OnOk result (self.new ≡ self.old ++ separated (mark_tokens Mark.Comma) entry_tokens entries.now) }
+    {
+        let [first, others @ ..] = entries else {
+            return Ok(());
+        };
+        self.entry(*first)?;
+        for entry in others {
+            self.mark(Mark::Comma)?;
+            self.entry(*entry)?;
+        }
+        Ok(())
+    }
+
+    fn entry(&mut self, entry: i32) -> Result<(), AllocError>
+        ensures { OnOk result (self.new ≡ self.old ++ entry_tokens entry) }
+    {
+        if entry < 0 {
+            self.mark(Mark::Minus)?;
+        }
+        self.int(entry.unsigned_abs())
+    }
+}

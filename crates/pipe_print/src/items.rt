@@ -1,0 +1,197 @@
+#![tactic(auto)]
+//! Items.
+
+ghost use Rattle.std.specs.Prelude.{◌≡◌, ◌++◌, OnOk};
+ghost use Rattle.std.specs.List.{flat_map};
+ghost use Rattle.std.specs.Option.{option_map};
+ghost use Rattle.pipe_lang.specs.Tree.{view, branches, function_of, accumulator_of, declaration};
+ghost use Rattle.pipe_print.specs.Canonical.{fold_word, param_tokens, names_tokens, image_tokens, variables_tokens, test_tokens, condition_tokens, value_tokens, case_tokens, otherwise_tokens, function_tokens, update_tokens, accumulator_tokens, output_tokens, item_tokens};
+
+use crate::place::Place;
+use crate::printer::Printer;
+use pipe_lang::{
+    Accum, Case, Condition, Expr, Fold, Func, Image, Item, Names, Output, Param, Test, Variable,
+};
+use pipe_tokens::{Mark, Word};
+use std::alloc::AllocError;
+
+fn word_of_fold(fold: Fold) -> Word
+    ensures { result ≡ fold_word fold }
+{
+    match fold {
+        Fold::Sum => Word::Sum,
+        Fold::Min => Word::Min,
+        Fold::Max => Word::Max,
+    }
+}
+
+impl Printer {
+    fn param(&mut self, param: &Param) -> Result<(), AllocError>
+        ensures { OnOk result (self.new ≡ self.old ++ param_tokens param.now) }
+    {
+        self.word(Word::Param)?;
+        self.name(&param.name)?;
+        self.mark(Mark::Semicolon)
+    }
+
+    // One name, or three.
+    fn names(&mut self, names: &Names) -> Result<(), AllocError>
+        ensures { OnOk result (self.new ≡ self.old ++ names_tokens names.now) }
+    {
+        match names {
+            Names::One(name) => self.name(name),
+            Names::Three(first, second, third) => {
+                self.name(first)?;
+                self.mark(Mark::Comma)?;
+                self.name(second)?;
+                self.mark(Mark::Comma)?;
+                self.name(third)
+            }
+        }
+    }
+
+    fn image(&mut self, image: &Image) -> Result<(), AllocError>
+        ensures { OnOk result (self.new ≡ self.old ++ image_tokens image.now) }
+    {
+        self.word(Word::Image)?;
+        self.names(&image.names)?;
+        self.mark(Mark::OpenRound)?;
+        self.affine(&image.rows)?;
+        self.mark(Mark::Comma)?;
+        self.affine(&image.columns)?;
+        self.mark(Mark::CloseRound)?;
+        self.mark(Mark::Semicolon)
+    }
+
+    // The variables of rows and columns.
+    fn variables(&mut self, row: &Variable, column: &Variable) -> Result<(), AllocError>
+        ensures { OnOk result (self.new ≡ self.old ++ variables_tokens row.now column.now) }
+    {
+        self.mark(Mark::OpenRound)?;
+        self.variable(row)?;
+        self.mark(Mark::Comma)?;
+        self.variable(column)?;
+        self.mark(Mark::CloseRound)
+    }
+
+    fn test(&mut self, test: &Test) -> Result<(), AllocError>
+        ensures { OnOk result (self.new ≡ self.old ++ test_tokens test.now) }
+    {
+        match test {
+            Test::Compare(name, relation, bound) => {
+                self.name(name)?;
+                self.relation(*relation)?;
+                self.affine(bound)
+            }
+            Test::Remainder(name, modulus, remainder) => {
+                self.name(name)?;
+                self.mark(Mark::Percent)?;
+                self.int(*modulus)?;
+                self.mark(Mark::Equals)?;
+                self.int(*remainder)
+            }
+        }
+    }
+
+    fn condition(&mut self, condition: &Condition) -> Result<(), AllocError>
+        ensures { OnOk result (self.new ≡ self.old ++ condition_tokens condition.now) }
+    {
+        let [first, others @ ..] = condition.tests() else {
+            return Ok(());
+        };
+        self.test(first)?;
+        for test in others {
+            self.word(Word::And)?;
+            self.test(test)?;
+        }
+        Ok(())
+    }
+
+    // `: VALUE;`
+    fn value(&mut self, value: &Expr) -> Result<(), AllocError>
+        ensures { OnOk result (self.new ≡ self.old ++ value_tokens (view value.now)) }
+    {
+        self.mark(Mark::Colon)?;
+        self.expression(value, Place::Sum)?;
+        self.mark(Mark::Semicolon)
+    }
+
+    fn cases(&mut self, cases: &[Case]) -> Result<(), AllocError>
+        ensures { OnOk result (self.new ≡ self.old ++ flat_map case_tokens (branches cases.now)) }
+    {
+        for case in cases {
+            self.word(Word::Case)?;
+            self.condition(&case.condition)?;
+            self.value(&case.value)?;
+        }
+        Ok(())
+    }
+
+    fn otherwise(&mut self, otherwise: &Option<Expr>) -> Result<(), AllocError>
+        ensures { OnOk result (self.new ≡ self.old ++ otherwise_tokens (option_map view otherwise.now)) }
+    {
+        match otherwise {
+            Some(value) => {
+                self.word(Word::Else)?;
+                self.value(value)
+            }
+            None => Ok(()),
+        }
+    }
+
+    fn func(&mut self, func: &Func) -> Result<(), AllocError>
+        ensures { OnOk result (self.new ≡ self.old ++ function_tokens (function_of func.now)) }
+    {
+        self.word(Word::Func)?;
+        self.name(&func.name)?;
+        self.variables(&func.row, &func.column)?;
+        self.mark(Mark::OpenCurly)?;
+        self.cases(func.cases.list())?;
+        self.otherwise(&func.otherwise)?;
+        self.mark(Mark::CloseCurly)
+    }
+
+    // What a point gives to its bin, and which bin that is.
+    fn update(&mut self, accum: &Accum) -> Result<(), AllocError>
+        ensures { OnOk result (self.new ≡ self.old ++ update_tokens (accumulator_of accum.now)) }
+    {
+        self.word(word_of_fold(accum.fold))?;
+        self.expression(&accum.value, Place::Sum)?;
+        self.word(Word::At)?;
+        self.expression(&accum.bin, Place::Sum)?;
+        self.mark(Mark::Semicolon)
+    }
+
+    fn accum(&mut self, accum: &Accum) -> Result<(), AllocError>
+        ensures { OnOk result (self.new ≡ self.old ++ accumulator_tokens (accumulator_of accum.now)) }
+    {
+        self.word(Word::Accum)?;
+        self.name(&accum.name)?;
+        self.span(&accum.bins)?;
+        self.word(Word::Over)?;
+        self.variables(&accum.row, &accum.column)?;
+        self.update(accum)
+    }
+
+    fn output(&mut self, output: &Output) -> Result<(), AllocError>
+        ensures { OnOk result (self.new ≡ self.old ++ output_tokens output.now) }
+    {
+        self.word(Word::Output)?;
+        self.names(&output.names)?;
+        self.word(Word::Max)?;
+        self.int(output.max)?;
+        self.mark(Mark::Semicolon)
+    }
+
+    pub fn item(&mut self, item: &Item) -> Result<(), AllocError>
+        ensures { OnOk result (self.new ≡ self.old ++ item_tokens (declaration item.now)) }
+    {
+        match item {
+            Item::Param(param) => self.param(param),
+            Item::Image(image) => self.image(image),
+            Item::Func(func) => self.func(func),
+            Item::Accum(accum) => self.accum(accum),
+            Item::Output(output) => self.output(output),
+        }
+    }
+}

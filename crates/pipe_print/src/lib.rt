@@ -1,0 +1,17 @@
+//! Texts of programs in their canonical form: of all texts of a tree this one has no token too many, no blank that
+//! could be left out and no parenthesis that the grammar does not need.
+#![tactic(auto)]
+
+mod affines;
+mod expressions;
+mod indices;
+mod items;
+pub mod laws;
+mod place;
+mod printer;
+mod text;
+
+pub use text::print;
+
+#[cfg(test)]
+mod tests;
