@@ -1,0 +1,9 @@
+pub mod Unknown
+pub mod Ranking
+pub mod Distances
+pub mod Circles
+pub mod Places
+pub mod Cutting
+pub mod Faulting
+pub mod Settled
+pub mod Stages

@@ -1,0 +1,7 @@
+use Rattle.std.proofs.Common.{◌≡◌, drop}
+use Rattle.pipe_lang.specs.Tree.{branches}
+use Rattle.pipe_checks.specs.Uses.{branches_verdict}
+use Rattle.pipe_checks.proofs.uses.judge_cases.Given as goal
+
+abbrev pub invariant-loop-case : goal.invariant-loop-case
+invariant-loop-case l = branches_verdict l.names l.own (branches (drop l.case-index l.cases)) ≡ branches_verdict l.names l.own (branches l.cases)

@@ -1,0 +1,143 @@
+-- What `check` finds in a program.
+use Rattle.std.specs.Prelude.{ℕ, ◌<◌, ◌≡◌, ◌⊎◌, Bool, true, false, IsTrue, Option, Some, None, is_some, Result, Ok, Err, List, [], ◌∷◌, take, slice_get}
+use Rattle.std.specs.List.{list_any}
+use Rattle.pipe_lang.specs.declared.tree.Tree.{Tree}
+use Rattle.pipe_lang.specs.Tree.{Declaration, param, image, function, accumulator, output, content}
+use Rattle.pipe_checks.specs.declared.declared.Declared.{Declared}
+use Rattle.pipe_checks.specs.declared.fault.Misuse.{Misuse}
+use Rattle.pipe_checks.specs.declared.fault.Misuse.TheVariants as misuse
+use Rattle.pipe_checks.specs.declared.fault.CheckFault.{CheckFault}
+use Rattle.pipe_checks.specs.declared.fault.CheckFault.TheVariants.{Unknown, Twice, Kind, BadKernel, BadLiteral, NoResult, Cycle, Memory}
+use Rattle.pipe_checks.specs.declared.checked.Checked.{Checked}
+use Rattle.pipe_checks.specs.declared.checked.Found.{Found}
+use Rattle.pipe_checks.specs.Links.{Links}
+use Rattle.pipe_checks.specs.Graph.{IsRanking, IsShortestCycle}
+use Rattle.pipe_checks.specs.Names.{declared_names, params_of, stages_of, number_of}
+use Rattle.pipe_checks.specs.Sites.{graph_of}
+use Rattle.pipe_checks.specs.Twice.{own_of, varies_again}
+use Rattle.pipe_checks.specs.Uses.{Verdict, item_verdict}
+
+-- ---- names that stand for two things
+
+-- item n declares a name that was declared before
+pub record DeclaresAgain (names : List Declared) (n : ℕ) : Type 0 where
+  pub place : ℕ
+  pub again : Declared
+  pub there : slice_get names place ≡ Some again
+  pub item : again.item ≡ n
+  pub before : IsTrue (is_some (number_of (take place names) again.name))
+
+abbrev pub IsTwice : List Declared → ℕ → Declaration → Type 0
+IsTwice names n d = DeclaresAgain names n ⊎ IsTrue (varies_again names (own_of d))
+
+abbrev pub NoneTwice : List Declared → List Declaration → Type 0
+NoneTwice names ds = (k : ℕ) (d : Declaration) → slice_get ds k ≡ Some d → ¬ (IsTwice names k d)
+
+-- item n is the first with a name that stands for two things
+pub record IsFirstTwice (names : List Declared) (ds : List Declaration) (n : ℕ) : Type 0 where
+  pub item : Declaration
+  pub there : slice_get ds n ≡ Some item
+  pub twice : IsTwice names n item
+  pub first : (k : ℕ) (d : Declaration) → k < n → slice_get ds k ≡ Some d → ¬ (IsTwice names k d)
+
+-- ---- places that do not hold what they want
+
+abbrev pub verdict_of : List Declared → Declaration → Verdict
+verdict_of names d = item_verdict names (own_of d) d
+
+abbrev pub AllGood : List Declared → List Declaration → Type 0
+AllGood names ds = (k : ℕ) (d : Declaration) → slice_get ds k ≡ Some d → verdict_of names d ≡ Ok tt
+
+-- item n is the first with a wrong place, and this is wrong at its first
+pub record IsFirstWrong (names : List Declared) (ds : List Declaration) (wrong : Misuse) (n : ℕ) : Type 0 where
+  pub item : Declaration
+  pub there : slice_get ds n ≡ Some item
+  pub is : verdict_of names item ≡ Err wrong
+  pub first : (k : ℕ) (d : Declaration) → k < n → slice_get ds k ≡ Some d → verdict_of names d ≡ Ok tt
+
+abbrev pub fault_of : Misuse → ℕ → CheckFault
+fault_of misuse.Unknown n = Unknown n
+fault_of misuse.Kind n = Kind n
+fault_of misuse.BadKernel n = BadKernel n
+fault_of misuse.BadLiteral n = BadLiteral n
+
+-- all places are good, or this is the fault of the first that is not
+abbrev pub IsJudged : List Declared → List Declaration → Result (Unit {0}) CheckFault → Type 0
+IsJudged names ds (Ok u) = AllGood names ds
+IsJudged names ds (Err f) = (wrong : Misuse) × (n : ℕ) × (f ≡ fault_of wrong n) × IsFirstWrong names ds wrong n
+
+-- ---- the whole
+
+abbrev pub is_result : Declaration → Bool
+is_result (param p) = false
+is_result (image i) = false
+is_result (function f) = false
+is_result (accumulator a) = true
+is_result (output o) = true
+
+-- each name stands for what its place wants
+pub record IsNamed (ds : List Declaration) : Type 0 where
+  pub once : NoneTwice (declared_names ds) ds
+  pub good : AllGood (declared_names ds) ds
+
+-- the first fault of a program, but for memory
+abbrev pub IsFault : List Declaration → CheckFault → Type 0
+IsFault ds (Twice n) = IsFirstTwice (declared_names ds) ds n
+IsFault ds (Unknown n) = NoneTwice (declared_names ds) ds × IsFirstWrong (declared_names ds) ds misuse.Unknown n
+IsFault ds (Kind n) = NoneTwice (declared_names ds) ds × IsFirstWrong (declared_names ds) ds misuse.Kind n
+IsFault ds (BadKernel n) = NoneTwice (declared_names ds) ds × IsFirstWrong (declared_names ds) ds misuse.BadKernel n
+IsFault ds (BadLiteral n) = NoneTwice (declared_names ds) ds × IsFirstWrong (declared_names ds) ds misuse.BadLiteral n
+IsFault ds NoResult = IsNamed ds × (list_any is_result ds ≡ false)
+IsFault ds (Cycle c) = IsNamed ds × (list_any is_result ds ≡ true) × IsShortestCycle (graph_of ds) c
+IsFault ds Memory = Unit {0}
+
+-- stages that read each other in a circle, or memory
+abbrev pub IsCircular : List Links → CheckFault → Type 0
+IsCircular g (Cycle c) = IsShortestCycle g c
+IsCircular g Memory = Unit {0}
+IsCircular g (Twice n) = ⊥
+IsCircular g (Unknown n) = ⊥
+IsCircular g (Kind n) = ⊥
+IsCircular g (BadKernel n) = ⊥
+IsCircular g (BadLiteral n) = ⊥
+IsCircular g NoResult = ⊥
+
+-- what a stage of the graph reads
+abbrev pub reads_at : Option Links → Option (List ℕ)
+reads_at None = None
+reads_at (Some l) = Some l.reads
+
+-- what is found of a program without a fault
+pub record IsFound (ds : List Declaration) (f : Found) : Type 0 where
+  pub named : IsNamed ds
+  pub result : list_any is_result ds ≡ true
+  pub stages : f.stages.items ≡ stages_of ds
+  pub params : f.params.items ≡ params_of ds
+  pub reads : f.graph.items ≡ graph_of ds
+  pub ranks : IsRanking (graph_of ds) f.ranks.items
+
+-- what `check` keeps of a program
+abbrev pub tree_in : Checked → Tree
+tree_in c = c.tree
+
+abbrev pub stages_in : Checked → List Declared
+stages_in c = c.stages.items
+
+abbrev pub params_in : Checked → List Declared
+params_in c = c.params.items
+
+abbrev pub graph_in : Checked → List Links
+graph_in c = c.graph.items
+
+abbrev pub ranks_in : Checked → List ℕ
+ranks_in c = c.ranks.items
+
+-- the names, ranks and reads of a program that means something
+pub record IsCheckedOf (tree : Tree) (c : Checked) : Type 0 where
+  pub same : tree_in c ≡ tree
+  pub named : IsNamed (content tree)
+  pub result : list_any is_result (content tree) ≡ true
+  pub stages : stages_in c ≡ stages_of (content tree)
+  pub params : params_in c ≡ params_of (content tree)
+  pub reads : graph_in c ≡ graph_of (content tree)
+  pub ranks : IsRanking (graph_of (content tree)) (ranks_in c)

@@ -1,0 +1,50 @@
+-- The numbers and the printed names of the faults.
+use Rattle.std.specs.Prelude.{ℕ, List, codes}
+use Rattle.pipe_checks.specs.declared.fault.CheckFault.{CheckFault}
+use Rattle.pipe_checks.specs.declared.fault.CheckFault.TheVariants as check
+use Rattle.pipe_checks.specs.declared.fault.ParamFault.{ParamFault}
+use Rattle.pipe_checks.specs.declared.fault.ParamFault.TheVariants.{NoSuchParam, SetTwice}
+use Rattle.pipe_checks.specs.declared.fault.BoundFault.{BoundFault}
+use Rattle.pipe_checks.specs.declared.fault.BoundFault.TheVariants as bound
+
+abbrev pub check_number : CheckFault → ℕ
+check_number (check.Unknown item) = 1
+check_number (check.Twice item) = 2
+check_number (check.Kind item) = 3
+check_number (check.BadKernel item) = 4
+check_number (check.BadLiteral item) = 5
+check_number check.NoResult = 6
+check_number (check.Cycle stages) = 7
+check_number check.Memory = 8
+
+abbrev pub check_name : CheckFault → List ℕ
+check_name (check.Unknown item) = codes "Unknown"
+check_name (check.Twice item) = codes "Twice"
+check_name (check.Kind item) = codes "Kind"
+check_name (check.BadKernel item) = codes "BadKernel"
+check_name (check.BadLiteral item) = codes "BadLiteral"
+check_name check.NoResult = codes "NoResult"
+check_name (check.Cycle stages) = codes "Cycle"
+check_name check.Memory = codes "Memory"
+
+abbrev pub param_number : ParamFault → ℕ
+param_number NoSuchParam = 1
+param_number SetTwice = 2
+
+abbrev pub param_name : ParamFault → List ℕ
+param_name NoSuchParam = codes "NoSuchParam"
+param_name SetTwice = codes "SetTwice"
+
+abbrev pub bound_number : BoundFault → ℕ
+bound_number (bound.ParamUnset param) = 1
+bound_number (bound.EmptyDomain stage) = 2
+bound_number (bound.DomainTooWide stage) = 3
+bound_number (bound.OutOfBounds stage case read axis least greatest) = 4
+bound_number bound.Memory = 5
+
+abbrev pub bound_name : BoundFault → List ℕ
+bound_name (bound.ParamUnset param) = codes "ParamUnset"
+bound_name (bound.EmptyDomain stage) = codes "EmptyDomain"
+bound_name (bound.DomainTooWide stage) = codes "DomainTooWide"
+bound_name (bound.OutOfBounds stage case read axis least greatest) = codes "OutOfBounds"
+bound_name bound.Memory = codes "Memory"

@@ -1,0 +1,13 @@
+pub mod FaultTable
+pub mod Links
+pub mod Graph
+pub mod Names
+pub mod Sites
+pub mod Uses
+pub mod Twice
+pub mod Settings
+pub mod Unset
+pub mod Boxes
+pub mod Domains
+pub mod Checking
+pub mod Within

@@ -1,0 +1,56 @@
+-- The names that a program declares.
+use Rattle.std.specs.Prelude.{ℕ, ◌+◌, Bool, true, false, not, Option, Some, None, List, [], ◌∷◌, ◌++◌, filter, position, slice_get}
+use Rattle.std.specs.Str.{bytes_eq}
+use Rattle.pipe_lang.specs.declared.tree.Names.{Names}
+use Rattle.pipe_lang.specs.declared.tree.Names.TheVariants.{One, Three}
+use Rattle.pipe_lang.specs.Tree.{Declaration, param, image, function, accumulator, output}
+use Rattle.pipe_checks.specs.declared.declared.NameKind.{NameKind}
+use Rattle.pipe_checks.specs.declared.declared.NameKind.TheVariants.{Param, Plane, Func, Accum}
+use Rattle.pipe_checks.specs.declared.declared.Declared.{Declared}
+
+-- the planes that item n declares
+abbrev pub names_of : ℕ → Names → List Declared
+names_of n (One x) = record { name = x; kind = Plane; item = n } ∷ []
+names_of n (Three x y z) =
+    record { name = x; kind = Plane; item = n } ∷ record { name = y; kind = Plane; item = n } ∷ record { name = z; kind = Plane; item = n } ∷ []
+
+-- the names that item n declares
+abbrev pub item_names : ℕ → Declaration → List Declared
+item_names n (param p) = record { name = p.name; kind = Param; item = n } ∷ []
+item_names n (image i) = names_of n i.names
+item_names n (function f) = record { name = f.name; kind = Func; item = n } ∷ []
+item_names n (accumulator a) = record { name = a.name; kind = Accum; item = n } ∷ []
+item_names n (output o) = []
+
+-- the names that items declare, of which the first has the number n
+abbrev pub names_from : ℕ → List Declaration → List Declared
+names_from n [] = []
+names_from n (d ∷ ds) = item_names n d ++ names_from (n + 1) ds
+
+abbrev pub declared_names : List Declaration → List Declared
+declared_names ds = names_from 0 ds
+
+abbrev pub is_param : NameKind → Bool
+is_param Param = true
+is_param Plane = false
+is_param Func = false
+is_param Accum = false
+
+-- the parameters of a program, and its stages: a stage's number is its place here
+abbrev pub params_of : List Declaration → List Declared
+params_of ds = filter (λ d. is_param d.kind) (declared_names ds)
+
+abbrev pub stages_of : List Declaration → List Declared
+stages_of ds = filter (λ d. not (is_param d.kind)) (declared_names ds)
+
+-- the number of the first of the names that is this one
+abbrev pub number_of : List Declared → List ℕ → Option ℕ
+number_of names x = position (λ d. bytes_eq d.name x) names
+
+-- the first of the names that is this one
+abbrev pub place_of : List Declared → Option ℕ → Option Declared
+place_of names None = None
+place_of names (Some n) = slice_get names n
+
+abbrev pub declared_at : List Declared → List ℕ → Option Declared
+declared_at names x = place_of names (number_of names x)

@@ -1,0 +1,80 @@
+-- The reads and stencils of expressions, and what each stage reads.
+use Rattle.std.specs.Prelude.{ℕ, ℤ, Bool, true, false, Option, Some, None, List, [], ◌∷◌, ◌++◌, map, length, slice_get, flat_map}
+use Rattle.pipe_lang.specs.declared.tree.Index.{Index}
+use Rattle.pipe_lang.specs.Tree.{Node, number, variable, read, neg, binary, literal, abs, clamp, select, stencil, Branch, Declaration, param, image, function, accumulator, output}
+use Rattle.pipe_checks.specs.declared.declared.NameKind.{NameKind}
+use Rattle.pipe_checks.specs.declared.declared.NameKind.TheVariants.{Param, Plane, Func, Accum}
+use Rattle.pipe_checks.specs.declared.declared.Declared.{Declared}
+use Rattle.pipe_checks.specs.declared.site.Site.{Site}
+use Rattle.pipe_checks.specs.declared.site.Site.TheVariants.{Read, Stencil}
+use Rattle.pipe_checks.specs.Links.{Links}
+use Rattle.pipe_checks.specs.Names.{number_of, stages_of}
+
+-- a read of the stage of this number, if there is one
+abbrev pub read_at : Option ℕ → Index → Index → List Site
+read_at None i j = []
+read_at (Some g) i j = Read g i j ∷ []
+
+-- how long the first row of a kernel is
+abbrev pub width_of : List (List ℤ) → ℕ
+width_of [] = 0
+width_of (row ∷ rows) = length row
+
+-- a stencil of the stage of this number, if there is one
+abbrev pub stencil_at : Option ℕ → List (List ℤ) → List Site
+stencil_at None k = []
+stencil_at (Some g) k = Stencil g (length k) (width_of k) ∷ []
+
+-- the reads and stencils of an expression of stages, in the order of the text
+abbrev pub sites_of : List Declared → Node → List Site
+sites_of names (number n) = []
+sites_of names (variable x) = []
+sites_of names (read x i j) = read_at (number_of names x) i j
+sites_of names (neg a) = sites_of names a
+sites_of names (binary op a b) = sites_of names a ++ sites_of names b
+sites_of names (literal op a n) = sites_of names a
+sites_of names (abs a) = sites_of names a
+sites_of names (clamp a b c) = sites_of names a ++ sites_of names b ++ sites_of names c
+sites_of names (select a r b c d) = sites_of names a ++ sites_of names b ++ sites_of names c ++ sites_of names d
+sites_of names (stencil x d k) = stencil_at (number_of names x) k
+
+abbrev pub branch_sites : List Declared → List Branch → List Site
+branch_sites names [] = []
+branch_sites names (b ∷ bs) = sites_of names b.value ++ branch_sites names bs
+
+abbrev pub otherwise_sites : List Declared → Option Node → List Site
+otherwise_sites names None = []
+otherwise_sites names (Some a) = sites_of names a
+
+-- those of all expressions of an item
+abbrev pub item_sites : List Declared → Declaration → List Site
+item_sites names (param p) = []
+item_sites names (image i) = []
+item_sites names (function f) = branch_sites names f.cases ++ otherwise_sites names f.otherwise
+item_sites names (accumulator a) = sites_of names a.value ++ sites_of names a.bin
+item_sites names (output o) = []
+
+abbrev pub stage_read : Site → ℕ
+stage_read (Read g i j) = g
+stage_read (Stencil g rows columns) = g
+
+abbrev pub is_plane : NameKind → Bool
+is_plane Param = false
+is_plane Plane = true
+is_plane Func = false
+is_plane Accum = false
+
+abbrev pub reads_of : List Declared → Option Declaration → List ℕ
+reads_of names None = []
+reads_of names (Some d) = map stage_read (item_sites names d)
+
+-- what a stage reads
+abbrev pub links_of : List Declaration → List Declared → Declared → Links
+links_of ds names s = record { is_plane = is_plane s.kind; reads = reads_of names (slice_get ds s.item) }
+
+abbrev pub links_from : List Declaration → List Declared → List Declared → List Links
+links_from ds names stages = map (links_of ds names) stages
+
+-- what each stage of a program reads
+abbrev pub graph_of : List Declaration → List Links
+graph_of ds = links_from ds (stages_of ds) (stages_of ds)

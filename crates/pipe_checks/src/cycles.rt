@@ -1,0 +1,200 @@
+#![tactic(auto)]
+//! The shortest circle of reads.
+
+ghost use Rattle.std.specs.Prelude.{◌≡◌, ℕ, suc, ◌<◌, ◌≤◌, ◌+◌, ◌↔◌, Option, Some, None, if◌then◌else◌, ◌==◌, IsTrue, IfSome, IfNone, IfOk, OnSome, length, slice_get, Contains, Any};
+ghost use Rattle.pipe_checks.specs.Graph.{links_at, Way, IsAcyclic, IsShortestFrom, IsShortestCycle, SomeAt, LeadsOn, AreDistances, IsStepAt, IsStepFrom, IsWayBack};
+
+use crate::graph::{Links, known};
+use std::alloc::{AllocError, Global};
+
+// Whether a stage is known to be at this distance.
+fn is_at(far: &[Option<usize>], stage: usize, steps: usize) -> bool
+    ensures { IsTrue result ↔ (slice_get far.now stage ≡ Some (Some steps)) }
+{
+    match known(far, stage) {
+        Some(Some(distance)) => distance == steps,
+        Some(None) | None => false,
+    }
+}
+
+// Whether a stage reads one at this distance.
+fn reads_one_at(links: &Links, far: &[Option<usize>], steps: usize) -> bool
+    ensures { IsTrue result ↔ SomeAt far.now links.now.reads steps }
+{
+    for stage in links.reads() {
+        if is_at(far, *stage, steps) {
+            return true;
+        }
+    }
+    false
+}
+
+// Whether a stage whose distance is not known reads one at this distance.
+fn reaches_more(graph: &[Links], far: &[Option<usize>], steps: usize) -> bool
+    requires { length far.now ≡ length graph.now }
+    ensures { IsTrue result ↔ LeadsOn graph.now far.now steps }
+{
+    for (stage, links) in graph.iter().enumerate() {
+        if far[stage].is_none() && reads_one_at(links, far, steps) {
+            return true;
+        }
+    }
+    false
+}
+
+// The distance of a stage, where the distances up to `steps` are known.
+fn next_distance(
+    graph: &[Links],
+    far: &[Option<usize>],
+    steps: usize,
+    stage: usize,
+) -> Option<usize>
+    requires each { length far.now ≡ length graph.now }
+    requires fits { steps < usize.MAX }
+    requires within { stage < length graph.now }
+    ensures { IsStepAt graph.now far.now steps stage result }
+{
+    match far[stage] {
+        Some(distance) => Some(distance),
+        None => reads_one_at(&graph[stage], far, steps).then_some(steps + 1),
+    }
+}
+
+// The distances, with those that are one more than `steps`.
+fn one_more(
+    alloc: Global,
+    graph: &[Links],
+    far: &[Option<usize>],
+    steps: usize,
+) -> Result<Vec<Option<usize>>, AllocError>
+    requires each { length far.now ≡ length graph.now }
+    requires fits { steps < usize.MAX }
+    ensures { IfOk result (λ v. IsStepFrom graph.now far.now steps v.items) }
+{
+    let mut next = Vec::new(alloc);
+    for stage in 0..graph.len() {
+        next.push(next_distance(graph, far, steps, stage))?;
+    }
+    Ok(next)
+}
+
+// The goal alone, at distance 0.
+fn only(alloc: Global, count: usize, goal: usize) -> Result<Vec<Option<usize>>, AllocError>
+    ensures each { IfOk result (λ v. length v.items ≡ count) }
+    ensures only { IfOk result (λ v. (t : ℕ) → t < count → slice_get v.items t ≡ Some (if t == goal then Some 0 else None)) }
+{
+    let mut far = Vec::new(alloc);
+    for stage in 0..count {
+        far.push(if stage == goal { Some(0) } else { None })?;
+    }
+    Ok(far)
+}
+
+// How many reads lead from each stage to `goal`, where any do.
+fn distances(alloc: Global, graph: &[Links], goal: usize) -> Result<Vec<Option<usize>>, AllocError>
+    requires { goal < length graph.now }
+    ensures { IfOk result (λ v. AreDistances graph.now goal v.items) }
+{
+    let mut far = only(alloc, graph.len(), goal)?;
+    let mut steps = 0;
+    while reaches_more(graph, &far, steps) {
+        far = one_more(alloc, graph, &far, steps)?;
+        steps += 1;
+    }
+    Ok(far)
+}
+
+// The least distance of what a stage reads.
+fn nearest(links: &Links, far: &[Option<usize>]) -> Option<usize>
+    ensures some { IfSome result (SomeAt far.now links.now.reads) }
+    ensures least { IfSome result (λ d. (k : ℕ) → SomeAt far.now links.now.reads k → d ≤ k) }
+    ensures none { IfNone result ((k : ℕ) → ¬ (SomeAt far.now links.now.reads k)) }
+{
+    let mut least: Option<usize> = None;
+    for stage in links.reads() {
+        if let Some(Some(distance)) = known(far, *stage) {
+            least = match least {
+                Some(least) => Some(least.min(distance)),
+                None => Some(distance),
+            };
+        }
+    }
+    least
+}
+
+// The least of the stages read that have this distance.
+fn least_at(links: &Links, far: &[Option<usize>], steps: usize) -> usize
+    requires { SomeAt far.now links.now.reads steps }
+    ensures read { Contains links.now.reads result }
+    ensures at { slice_get far.now result ≡ Some (Some steps) }
+    ensures least { (u : ℕ) → Contains links.now.reads u → slice_get far.now u ≡ Some (Some steps) → result ≤ u }
+{
+    let mut least: Option<usize> = None;
+    for stage in links.reads() {
+        if is_at(far, *stage, steps) {
+            least = match least {
+                Some(least) => Some(least.min(*stage)),
+                None => Some(*stage),
+            };
+        }
+    }
+    match least {
+        Some(least) => least,
+        None => unreachable!(),
+    }
+}
+
+// A shortest way from `start` back to it, where the nearest stage that it reads is at the distance `left`.
+fn way_back(
+    alloc: Global,
+    graph: &[Links],
+    far: &[Option<usize>],
+    start: usize,
+    left: usize,
+) -> Result<Vec<usize>, AllocError>
+    requires distances { AreDistances graph.now start far.now }
+    requires first { SomeAt far.now (links_at graph.now start).reads left }
+    requires within { start < length graph.now }
+    ensures { IfOk result (λ v. IsWayBack graph.now start left v.items) }
+{
+    let mut way = Vec::new(alloc);
+    way.push(start)?;
+    let mut at = start;
+    let mut steps = left + 1;
+    while steps > 0 {
+        steps -= 1;
+        at = least_at(&graph[at], far, steps);
+        way.push(at)?;
+    }
+    Ok(way)
+}
+
+// The shortest circle from `start`, if there is one.
+fn cycle_from(
+    alloc: Global,
+    graph: &[Links],
+    start: usize,
+) -> Result<Option<Vec<usize>>, AllocError>
+    requires { start < length graph.now }
+    ensures some { IfOk result (λ o. IfSome o (λ v. IsShortestFrom graph.now start v.items)) }
+    ensures none { IfOk result (λ o. IfNone o ((k : ℕ) → Way graph.now (suc k) start start → ⊥)) }
+{
+    let far = distances(alloc, graph, start)?;
+    match nearest(&graph[start], &far) {
+        Some(left) => Ok(Some(way_back(alloc, graph, &far, start, left)?)),
+        None => Ok(None),
+    }
+}
+
+/// The shortest circle of reads from the least stage that lies on one.
+pub(crate) fn shortest_cycle(alloc: Global, graph: &[Links]) -> Result<Vec<usize>, AllocError>
+    requires { ¬ (IsAcyclic graph.now) }
+    ensures { IfOk result (λ v. IsShortestCycle graph.now v.items) }
+{
+    for start in 0..graph.len() {
+        if let Some(cycle) = cycle_from(alloc, graph, start)? {
+            return Ok(cycle);
+        }
+    }
+    unreachable!()
+}

@@ -1,0 +1,243 @@
+#![tactic(auto)]
+//! Why a program, or a value of one of its parameters, is refused.
+
+ghost use Rattle.std.specs.Prelude.{◌≡◌};
+
+use std::alloc::{AllocError, AllocFailed};
+use std::marker::Model;
+use thiserror::Error;
+
+/// Stages, by their numbers, of which each reads the next. The last is the first again. Contracts see their list.
+#[derive(Debug, Drop)]
+pub struct Cycle {
+    pub(crate) stages: Vec<usize>,
+}
+
+impl Model for Cycle {
+    ghost use Rattle.std.specs.Prelude.{List, ℕ};
+
+    ghost Value = { List ℕ };
+
+    ghost view = { λ c. c.stages.items };
+}
+
+impl Cycle {
+    /// The numbers of the stages.
+    pub fn stages(&self) -> &[usize]
+        ensures { result.now ≡ self.now }
+    {
+        &self.stages
+    }
+}
+
+/// Why a program means nothing. Items are numbered from 0.
+#[derive(Debug, Drop, Error)]
+pub enum CheckFault {
+    /// 1: a name that is neither declared nor a variable of its item.
+    #[error("item {0} has an unknown name")]
+    Unknown(usize),
+    /// 2: a name that is declared a second time, or a variable that equals its fellow or a declared name.
+    #[error("item {0} has a name that stands for two things")]
+    Twice(usize),
+    /// 3: a name of another kind than its place wants.
+    #[error("item {0} has a name of another kind than its place wants")]
+    Kind(usize),
+    /// 4: a kernel with rows of unequal length, an even side or a side over 15.
+    #[error("item {0} has a kernel that is no rectangle of odd sides up to 15")]
+    BadKernel(usize),
+    /// 5: a number that is out of its range.
+    #[error("item {0} has a number that is out of range")]
+    BadLiteral(usize),
+    /// 6: neither an output nor an accumulator.
+    #[error("there is no result")]
+    NoResult,
+    /// 7: stages that read each other in a circle.
+    #[error("stages read each other in a circle")]
+    Cycle(Cycle),
+    /// 8: no memory was left.
+    #[error("out of memory")]
+    Memory,
+}
+
+impl CheckFault {
+    ghost use Rattle.pipe_checks.specs.FaultTable.{check_number, check_name};
+
+    /// The fault's number, from 1 to 8.
+    pub fn number(&self) -> u8
+        ensures { result ≡ check_number self.now }
+    {
+        match self {
+            CheckFault::Unknown(_) => 1,
+            CheckFault::Twice(_) => 2,
+            CheckFault::Kind(_) => 3,
+            CheckFault::BadKernel(_) => 4,
+            CheckFault::BadLiteral(_) => 5,
+            CheckFault::NoResult => 6,
+            CheckFault::Cycle(_) => 7,
+            CheckFault::Memory => 8,
+        }
+    }
+
+    /// The fault's name, as it is printed.
+    pub fn name(&self) -> &'static str
+        ensures { result.now ≡ check_name self.now }
+    {
+        match self {
+            CheckFault::Unknown(_) => "Unknown",
+            CheckFault::Twice(_) => "Twice",
+            CheckFault::Kind(_) => "Kind",
+            CheckFault::BadKernel(_) => "BadKernel",
+            CheckFault::BadLiteral(_) => "BadLiteral",
+            CheckFault::NoResult => "NoResult",
+            CheckFault::Cycle(_) => "Cycle",
+            CheckFault::Memory => "Memory",
+        }
+    }
+}
+
+impl From<AllocError> for CheckFault {
+    ghost use Rattle.std.specs.Prelude.{◌≡◌};
+    ghost use Rattle.pipe_checks.specs.declared.fault.CheckFault.TheVariants.{Memory};
+
+    ghost from_gives = { λ _ e. e ≡ Memory };
+
+    fn from(_e: AllocError) -> CheckFault {
+        CheckFault::Memory
+    }
+}
+
+/// What is wrong at one place of an item.
+#[derive(Clone, Copy, Debug, PartialEq, Eq)]
+pub enum Misuse {
+    /// A name that stands for nothing there.
+    Unknown,
+    /// A name of another kind than the place wants.
+    Kind,
+    /// A kernel that is no rectangle of odd sides up to 15.
+    BadKernel,
+    /// A number that is out of its range.
+    BadLiteral,
+}
+
+/// Why a parameter was not set.
+#[derive(Clone, Copy, Debug, PartialEq, Eq, Error)]
+pub enum ParamFault {
+    /// 1: no parameter has this name.
+    #[error("no parameter has this name")]
+    NoSuchParam,
+    /// 2: the parameter has a value.
+    #[error("the parameter has a value")]
+    SetTwice,
+}
+
+impl ParamFault {
+    ghost use Rattle.pipe_checks.specs.FaultTable.{param_number, param_name};
+
+    /// The fault's number, 1 or 2.
+    pub fn number(self) -> u8
+        ensures { result ≡ param_number self }
+    {
+        match self {
+            ParamFault::NoSuchParam => 1,
+            ParamFault::SetTwice => 2,
+        }
+    }
+
+    /// The fault's name, as it is printed.
+    pub fn name(self) -> &'static str
+        ensures { result.now ≡ param_name self }
+    {
+        match self {
+            ParamFault::NoSuchParam => "NoSuchParam",
+            ParamFault::SetTwice => "SetTwice",
+        }
+    }
+}
+
+/// One of the two directions of an area.
+#[derive(Clone, Copy, Debug, PartialEq, Eq)]
+pub enum Axis {
+    Rows,
+    Columns,
+}
+
+/// Why a program means nothing at the values of its parameters. Parameters and stages are given by their numbers.
+#[derive(Clone, Copy, Debug, PartialEq, Eq, Error)]
+pub enum BoundFault {
+    /// 1: a parameter without a value.
+    #[error("parameter {0} has no value")]
+    ParamUnset(usize),
+    /// 2: an interval whose last number is below its first.
+    #[error("stage {0} has an empty domain")]
+    EmptyDomain(usize),
+    /// 3: an interval that reaches too far.
+    #[error("stage {0} has a domain that is too wide")]
+    DomainTooWide(usize),
+    /// 4: a read that leaves the domain of what it reads, and the least and the greatest index that it takes.
+    #[error("read {read} in case {case} of stage {stage} leaves what it reads")]
+    OutOfBounds {
+        stage: usize,
+        /// Cases are numbered from 0, and `else` has the next number.
+        case: usize,
+        /// Reads and stencils of a case are numbered from 0 in the order of the text.
+        read: usize,
+        axis: Axis,
+        least: i32,
+        greatest: i32,
+    },
+    /// 5: no memory was left.
+    #[error("out of memory")]
+    Memory,
+}
+
+impl BoundFault {
+    ghost use Rattle.pipe_checks.specs.FaultTable.{bound_number, bound_name};
+
+    /// The fault's number, from 1 to 5.
+    pub fn number(self) -> u8
+        ensures { result ≡ bound_number self }
+    {
+        match self {
+            BoundFault::ParamUnset(_) => 1,
+            BoundFault::EmptyDomain(_) => 2,
+            BoundFault::DomainTooWide(_) => 3,
+            BoundFault::OutOfBounds { .. } => 4,
+            BoundFault::Memory => 5,
+        }
+    }
+
+    /// The fault's name, as it is printed.
+    pub fn name(self) -> &'static str
+        ensures { result.now ≡ bound_name self }
+    {
+        match self {
+            BoundFault::ParamUnset(_) => "ParamUnset",
+            BoundFault::EmptyDomain(_) => "EmptyDomain",
+            BoundFault::DomainTooWide(_) => "DomainTooWide",
+            BoundFault::OutOfBounds { .. } => "OutOfBounds",
+            BoundFault::Memory => "Memory",
+        }
+    }
+}
+
+impl From<AllocError> for BoundFault {
+    ghost use Rattle.std.specs.Prelude.{◌≡◌};
+    ghost use Rattle.pipe_checks.specs.declared.fault.BoundFault.TheVariants.{Memory};
+
+    ghost from_gives = { λ _ e. e ≡ Memory };
+
+    fn from(_e: AllocError) -> BoundFault {
+        BoundFault::Memory
+    }
+}
+
+impl<T: Drop> From<AllocFailed<T>> for BoundFault {
+    ghost use Rattle.std.specs.Prelude.{◌≡◌};
+    ghost use Rattle.pipe_checks.specs.declared.fault.BoundFault.TheVariants.{Memory};
+
+    ghost from_gives = { λ _ e. e ≡ Memory };
+
+    fn from(_e: AllocFailed<T>) -> BoundFault {
+        BoundFault::Memory
+    }
+}

@@ -1,0 +1,144 @@
+#![tactic(auto)]
+//! Which stages each stage reads.
+
+ghost use Rattle.std.specs.Prelude.{◌≡◌, ◌++◌, OnOk, IfOk, map, slice_get};
+ghost use Rattle.std.specs.Option.{option_map};
+ghost use Rattle.pipe_lang.specs.Tree.{view, branches, declaration, declarations};
+ghost use Rattle.pipe_checks.specs.Sites.{branch_sites, otherwise_sites, item_sites, stage_read, is_plane, links_of, links_from};
+
+use crate::declared::{Declared, NameKind};
+use crate::site::{Site, add_sites, stage_read};
+use pipe_lang::{Case, Expr, Item};
+use std::alloc::{AllocError, Global};
+use std::marker::Model;
+
+/// The numbers of the stages that a stage reads, in the order of the text. Contracts see their list, and whether the
+/// stage is a plane of the picture.
+#[derive(Debug, Drop)]
+pub(crate) struct Links {
+    is_plane: bool,
+    reads: Vec<usize>,
+}
+
+impl Model for Links {
+    ghost use Rattle.pipe_checks.specs.Links.{Links as Seen};
+
+    ghost Value = { Seen };
+
+    ghost view = { λ l. record { is_plane = l.is_plane; reads = l.reads.items } };
+}
+
+impl Links {
+    pub(crate) fn is_plane(&self) -> bool
+        ensures { result ≡ self.now.is_plane }
+    {
+        self.is_plane
+    }
+
+    /// The numbers of the stages that are read.
+    pub(crate) fn reads(&self) -> &[usize]
+        ensures { result.now ≡ self.now.reads }
+    {
+        &self.reads
+    }
+}
+
+/// What is known of a stage, where the list has one of this number.
+pub(crate) fn known(list: &[Option<usize>], stage: usize) -> Option<Option<usize>>
+    ensures { result ≡ slice_get list.now stage }
+{
+    list.get(stage).copied()
+}
+
+fn add_cases(found: &mut Vec<Site>, stages: &[Declared], cases: &[Case]) -> Result<(), AllocError>
+    ensures { OnOk result (found.new.items ≡ found.old.items ++ branch_sites stages.now (branches cases.now)) }
+{
+    for case in cases {
+        add_sites(found, stages, &case.value)?;
+    }
+    Ok(())
+}
+
+fn add_otherwise(
+    found: &mut Vec<Site>,
+    stages: &[Declared],
+    otherwise: &Option<Expr>,
+) -> Result<(), AllocError>
+    ensures { OnOk result (found.new.items ≡ found.old.items ++ otherwise_sites stages.now (option_map view otherwise.now)) }
+{
+    match otherwise {
+        Some(value) => add_sites(found, stages, value),
+        None => Ok(()),
+    }
+}
+
+/// The reads and stencils of all expressions of an item.
+pub(crate) fn item_sites(
+    alloc: Global,
+    stages: &[Declared],
+    item: &Item,
+) -> Result<Vec<Site>, AllocError>
+    ensures { IfOk result (λ v. v.items ≡ item_sites stages.now (declaration item.now)) }
+{
+    let mut found = Vec::new(alloc);
+    match item {
+        Item::Func(func) => {
+            add_cases(&mut found, stages, func.cases.list())?;
+            add_otherwise(&mut found, stages, &func.otherwise)?;
+        }
+        Item::Accum(accum) => {
+            add_sites(&mut found, stages, &accum.value)?;
+            add_sites(&mut found, stages, &accum.bin)?;
+        }
+        Item::Param(_) | Item::Image(_) | Item::Output(_) => {}
+    }
+    Ok(found)
+}
+
+fn stages_read(alloc: Global, sites: &[Site]) -> Result<Vec<usize>, AllocError>
+    ensures { IfOk result (λ v. v.items ≡ map stage_read sites.now) }
+{
+    sites.iter().map(|site| stage_read(site)).collect(alloc)
+}
+
+fn is_plane(kind: NameKind) -> bool
+    ensures { result ≡ is_plane kind }
+{
+    match kind {
+        NameKind::Plane => true,
+        NameKind::Param | NameKind::Func | NameKind::Accum => false,
+    }
+}
+
+fn links_of(
+    alloc: Global,
+    items: &[Item],
+    stages: &[Declared],
+    stage: &Declared,
+) -> Result<Links, AllocError>
+    ensures { IfOk result (λ l. l ≡ links_of (declarations items.now) stages.now stage.now) }
+{
+    let reads = match items.get(stage.item) {
+        Some(item) => stages_read(alloc, &item_sites(alloc, stages, item)?)?,
+        None => Vec::new(alloc),
+    };
+    Ok(Links {
+        is_plane: is_plane(stage.kind),
+        reads,
+    })
+}
+
+/// What each stage reads.
+pub(crate) fn graph(
+    alloc: Global,
+    items: &[Item],
+    stages: &[Declared],
+) -> Result<Vec<Links>, AllocError>
+    ensures { IfOk result (λ v. v.items ≡ links_from (declarations items.now) stages.now stages.now) }
+{
+    let mut graph = Vec::new(alloc);
+    for stage in stages {
+        graph.push(links_of(alloc, items, stages, stage)?)?;
+    }
+    Ok(graph)
+}

@@ -1,0 +1,82 @@
+#![tactic(auto)]
+//! The ranks of the stages: a stage has its rank once all that it reads have theirs.
+
+ghost use Rattle.std.specs.Prelude.{◌≡◌, ℕ, ◌<◌, ◌≤◌, ◌+◌, List, Option, Some, None, IfSome, IfNone, IfOk, OnSome, length, slice_get, replicate, map};
+ghost use Rattle.pipe_checks.specs.Graph.{rank_over, known_rank, links_at, unknowns, SomeUnranked, IsBounded, IsRanking, IsAcyclic};
+
+use crate::graph::{Links, known};
+use std::alloc::{AllocError, Global};
+
+// The rank of a stage whose reads all have theirs.
+fn rank_above(ranks: &[Option<usize>], links: &Links) -> Option<usize>
+    requires { (t r : ℕ) → slice_get ranks.now t ≡ Some (Some r) → r < usize.MAX }
+    ensures rank { IfSome result (λ r. r ≡ rank_over (known_rank ranks.now) links.now) }
+    ensures ranked { OnSome result (¬ (SomeUnranked ranks.now links.now.reads)) }
+    ensures unranked { IfNone result (SomeUnranked ranks.now links.now.reads) }
+{
+    let mut greatest = 0;
+    for stage in links.reads() {
+        match known(ranks, *stage) {
+            Some(Some(rank)) => greatest = greatest.max(rank),
+            Some(None) => return None,
+            None => {}
+        }
+    }
+    Some(if links.is_plane() { 0 } else { greatest + 1 })
+}
+
+// A stage without a rank that can have one, and its rank.
+fn ready(graph: &[Links], ranks: &[Option<usize>]) -> Option<(usize, usize)>
+    requires each { length ranks.now ≡ length graph.now }
+    requires bounded { IsBounded ranks.now (length graph.now) }
+    ensures unknown { IfSome result (λ f. slice_get ranks.now f.0 ≡ Some None) }
+    ensures within { IfSome result (λ f. f.0 < length ranks.now) }
+    ensures rank { IfSome result (λ f. f.1 ≡ rank_over (known_rank ranks.now) (links_at graph.now f.0)) }
+    ensures ranked { IfSome result (λ f. ¬ (SomeUnranked ranks.now (links_at graph.now f.0).reads)) }
+    ensures stuck { IfNone result ((s : ℕ) → slice_get ranks.now s ≡ Some None → SomeUnranked ranks.now (links_at graph.now s).reads) }
+{
+    for (stage, links) in graph.iter().enumerate() {
+        if ranks[stage].is_none() {
+            if let Some(rank) = rank_above(ranks, links) {
+                return Some((stage, rank));
+            }
+        }
+    }
+    None
+}
+
+fn nothing(alloc: Global, count: usize) -> Result<Vec<Option<usize>>, AllocError>
+    ensures { IfOk result (λ v. v.items ≡ replicate count None) }
+{
+    let mut all = Vec::new(alloc);
+    for _ in 0..count {
+        all.push(None)?;
+    }
+    Ok(all)
+}
+
+fn all_of(alloc: Global, ranks: &[Option<usize>]) -> Result<Option<Vec<usize>>, AllocError>
+    ensures all { IfOk result (λ o. IfSome o (λ v. map Some v.items ≡ ranks.now)) }
+    ensures none { IfOk result (λ o. IfNone o ((s : ℕ) × (slice_get ranks.now s ≡ Some None))) }
+{
+    let mut all = Vec::new(alloc);
+    for rank in ranks {
+        match rank {
+            Some(rank) => all.push(*rank)?,
+            None => return Ok(None),
+        }
+    }
+    Ok(Some(all))
+}
+
+/// The rank of each stage. There is none where stages read each other in a circle.
+pub(crate) fn ranks(alloc: Global, graph: &[Links]) -> Result<Option<Vec<usize>>, AllocError>
+    ensures some { IfOk result (λ o. IfSome o (λ v. IsRanking graph.now v.items)) }
+    ensures none { IfOk result (λ o. IfNone o (¬ (IsAcyclic graph.now))) }
+{
+    let mut ranks = nothing(alloc, graph.len())?;
+    while let Some((stage, rank)) = ready(graph, &ranks) {
+        ranks[stage] = Some(rank);
+    }
+    all_of(alloc, &ranks)
+}

@@ -1,0 +1,383 @@
+#![tactic(auto)]
+//! Whether each place of an item holds what it wants, in the order of the text.
+
+ghost use Rattle.std.specs.Prelude.{◌≡◌, ◌==◌, length};
+ghost use Rattle.std.specs.List.{list_all};
+ghost use Rattle.std.specs.Option.{option_map};
+ghost use Rattle.pipe_lang.specs.Tree.{view, branch, branches, function_of, accumulator_of, declaration};
+ghost use Rattle.pipe_checks.specs.Uses.{is_it, allows, standing_of, standing_at, range_verdict, add_verdict, is_side, kernel_verdict, literal_verdict, name_verdict, factor_verdict, affine_verdict, span_verdict, index_verdict, read_verdict, stencil_verdict, expr_verdict, test_verdict, tests_verdict, branch_verdict, branches_verdict, otherwise_verdict, function_verdict, accumulator_verdict, outputs_verdict, item_verdict};
+
+use crate::declared::{Declared, NameKind, declared_at, is_same};
+use crate::fault::Misuse;
+use crate::site::width_of;
+use pipe_lang::{
+    Accum, Affine, AffineSpan, Case, Expr, Func, Index, Item, Kernel, LiteralOp, Names, Output,
+    Row, Test,
+};
+use pipe_tokens::Name;
+
+/// The greatest factor and the greatest divisor of an index.
+pub const MAX_SCALE: u32 = 16;
+
+/// The greatest number that an index adds or takes away.
+pub const MAX_ADD: i32 = 4096;
+
+/// The greatest side of a kernel.
+pub const MAX_SIDE: usize = 15;
+
+/// The greatest of an output's greatest samples.
+pub const MAX_SAMPLE: u32 = 65535;
+
+/// What a name stands for in an item.
+#[derive(Clone, Copy, Debug, PartialEq, Eq)]
+pub(crate) enum Standing {
+    Param,
+    Plane,
+    Func,
+    Accum,
+    Row,
+    Column,
+}
+
+/// What a place wants.
+#[derive(Clone, Copy, Debug, PartialEq, Eq)]
+pub(crate) enum Wanted {
+    /// A parameter.
+    Param,
+    /// What may be read: a plane or a function.
+    Readable,
+    /// A function.
+    Func,
+    /// A number: a variable or a parameter.
+    Number,
+    /// The variable of the rows.
+    Row,
+    /// The variable of the columns.
+    Column,
+    /// A variable.
+    Variable,
+}
+
+impl Wanted {
+    fn allows(self, standing: Standing) -> bool
+        ensures { result ≡ allows self standing }
+    {
+        match self {
+            Wanted::Param => matches!(standing, Standing::Param),
+            Wanted::Readable => matches!(standing, Standing::Plane | Standing::Func),
+            Wanted::Func => matches!(standing, Standing::Func),
+            Wanted::Number => matches!(
+                standing,
+                Standing::Row | Standing::Column | Standing::Param
+            ),
+            Wanted::Row => matches!(standing, Standing::Row),
+            Wanted::Column => matches!(standing, Standing::Column),
+            Wanted::Variable => matches!(standing, Standing::Row | Standing::Column),
+        }
+    }
+}
+
+/// The variables of an item, if it has them.
+#[derive(Clone, Copy, Debug)]
+pub(crate) struct Own {
+    pub row: Option<Name>,
+    pub column: Option<Name>,
+}
+
+fn is_it(variable: &Option<Name>, name: &Name) -> bool
+    ensures { result ≡ is_it variable.now name.now }
+{
+    match variable {
+        Some(own) => is_same(own, name),
+        None => false,
+    }
+}
+
+fn standing_of(kind: NameKind) -> Standing
+    ensures { result ≡ standing_of kind }
+{
+    match kind {
+        NameKind::Param => Standing::Param,
+        NameKind::Plane => Standing::Plane,
+        NameKind::Func => Standing::Func,
+        NameKind::Accum => Standing::Accum,
+    }
+}
+
+fn judge_range(number: u32, least: u32, most: u32) -> Result<(), Misuse>
+    ensures { result ≡ range_verdict number least most }
+{
+    if least <= number && number <= most {
+        Ok(())
+    } else {
+        Err(Misuse::BadLiteral)
+    }
+}
+
+fn judge_add(number: i32) -> Result<(), Misuse>
+    ensures { result ≡ add_verdict number }
+{
+    if -MAX_ADD <= number && number <= MAX_ADD {
+        Ok(())
+    } else {
+        Err(Misuse::BadLiteral)
+    }
+}
+
+/// Whether a kernel may have a side of this length.
+pub(crate) fn is_side(length: usize) -> bool
+    ensures { result ≡ is_side length }
+{
+    length % 2 == 1 && length <= MAX_SIDE
+}
+
+fn are_long(rows: &[Row], width: usize) -> bool
+    ensures { result ≡ list_all (λ row. length row == width) rows.now }
+{
+    rows.iter().all(|row| row.entries().len() == width)
+}
+
+fn judge_kernel(kernel: &Kernel) -> Result<(), Misuse>
+    ensures { result ≡ kernel_verdict kernel.now }
+{
+    let rows = kernel.rows();
+    let width = width_of(rows);
+    if is_side(rows.len()) && is_side(width) && are_long(rows, width) {
+        Ok(())
+    } else {
+        Err(Misuse::BadKernel)
+    }
+}
+
+fn judge_literal(op: LiteralOp, number: u32) -> Result<(), Misuse>
+    ensures { result ≡ literal_verdict op number }
+{
+    match op {
+        LiteralOp::Div | LiteralOp::Rem => judge_range(number, 1, u32::MAX),
+        LiteralOp::Shl | LiteralOp::Shr => judge_range(number, 0, 31),
+    }
+}
+
+fn standing_at(names: &[Declared], own: &Own, name: &Name) -> Option<Standing>
+    ensures { result ≡ standing_at names.now own.now name.now }
+{
+    if is_it(&own.row, name) {
+        return Some(Standing::Row);
+    }
+    if is_it(&own.column, name) {
+        return Some(Standing::Column);
+    }
+    match declared_at(names, name) {
+        Some(declared) => Some(standing_of(declared.kind)),
+        None => None,
+    }
+}
+
+fn judge_name(names: &[Declared], own: &Own, name: &Name, wanted: Wanted) -> Result<(), Misuse>
+    ensures { result ≡ name_verdict names.now own.now name.now wanted }
+{
+    match standing_at(names, own, name) {
+        Some(standing) => {
+            if wanted.allows(standing) {
+                Ok(())
+            } else {
+                Err(Misuse::Kind)
+            }
+        }
+        None => Err(Misuse::Unknown),
+    }
+}
+
+fn judge_factor(names: &[Declared], own: &Own, name: &Option<Name>) -> Result<(), Misuse>
+    ensures { result ≡ factor_verdict names.now own.now name.now }
+{
+    match name {
+        Some(name) => judge_name(names, own, name, Wanted::Param),
+        None => Ok(()),
+    }
+}
+
+fn judge_affine(names: &[Declared], own: &Own, affine: &Affine) -> Result<(), Misuse>
+    ensures { result ≡ affine_verdict names.now own.now affine.now }
+{
+    for term in affine.terms() {
+        judge_factor(names, own, &term.name)?;
+    }
+    Ok(())
+}
+
+fn judge_span(names: &[Declared], own: &Own, span: &AffineSpan) -> Result<(), Misuse>
+    ensures { result ≡ span_verdict names.now own.now span.now }
+{
+    judge_affine(names, own, &span.first)?;
+    judge_affine(names, own, &span.last)
+}
+
+fn judge_index(names: &[Declared], own: &Own, index: &Index, wanted: Wanted) -> Result<(), Misuse>
+    ensures { result ≡ index_verdict names.now own.now index.now wanted }
+{
+    judge_range(index.mul, 1, MAX_SCALE)?;
+    judge_name(names, own, &index.name, wanted)?;
+    judge_add(index.add)?;
+    judge_range(index.div, 1, MAX_SCALE)
+}
+
+fn judge_read(
+    names: &[Declared],
+    own: &Own,
+    name: &Name,
+    row: &Index,
+    column: &Index,
+) -> Result<(), Misuse>
+    ensures { result ≡ read_verdict names.now own.now name.now row.now column.now }
+{
+    judge_name(names, own, name, Wanted::Readable)?;
+    judge_index(names, own, row, Wanted::Row)?;
+    judge_index(names, own, column, Wanted::Column)
+}
+
+fn judge_stencil(
+    names: &[Declared],
+    own: &Own,
+    name: &Name,
+    divisor: u32,
+    kernel: &Kernel,
+) -> Result<(), Misuse>
+    ensures { result ≡ stencil_verdict names.now own.now name.now divisor kernel.now }
+{
+    judge_name(names, own, name, Wanted::Readable)?;
+    judge_range(divisor, 1, u32::MAX)?;
+    judge_kernel(kernel)
+}
+
+fn judge_expr(names: &[Declared], own: &Own, expr: &Expr) -> Result<(), Misuse>
+    ensures { result ≡ expr_verdict names.now own.now (view expr.now) }
+{
+    match expr {
+        Expr::Number(_) => Ok(()),
+        Expr::Name(name) => judge_name(names, own, name, Wanted::Number),
+        Expr::Read(name, row, column) => judge_read(names, own, name, row, column),
+        Expr::Neg(operand) | Expr::Abs(operand) => judge_expr(names, own, operand),
+        Expr::Binary(_, left, right) => {
+            judge_expr(names, own, left)?;
+            judge_expr(names, own, right)
+        }
+        Expr::Literal(op, operand, number) => {
+            judge_expr(names, own, operand)?;
+            judge_literal(*op, *number)
+        }
+        Expr::Clamp(value, least, greatest) => {
+            judge_expr(names, own, value)?;
+            judge_expr(names, own, least)?;
+            judge_expr(names, own, greatest)
+        }
+        Expr::Select(left, _, right, then, otherwise) => {
+            judge_expr(names, own, left)?;
+            judge_expr(names, own, right)?;
+            judge_expr(names, own, then)?;
+            judge_expr(names, own, otherwise)
+        }
+        Expr::Stencil(name, divisor, kernel) => judge_stencil(names, own, name, *divisor, kernel),
+    }
+}
+
+fn judge_test(names: &[Declared], own: &Own, test: &Test) -> Result<(), Misuse>
+    ensures { result ≡ test_verdict names.now own.now test.now }
+{
+    match test {
+        Test::Compare(name, _, bound) => {
+            judge_name(names, own, name, Wanted::Variable)?;
+            judge_affine(names, own, bound)
+        }
+        Test::Remainder(name, modulus, remainder) => {
+            judge_name(names, own, name, Wanted::Variable)?;
+            judge_range(*modulus, 1, u32::MAX)?;
+            judge_range(*remainder, 0, modulus.saturating_sub(1))
+        }
+    }
+}
+
+fn judge_tests(names: &[Declared], own: &Own, tests: &[Test]) -> Result<(), Misuse>
+    ensures { result ≡ tests_verdict names.now own.now tests.now }
+{
+    for test in tests {
+        judge_test(names, own, test)?;
+    }
+    Ok(())
+}
+
+fn judge_case(names: &[Declared], own: &Own, case: &Case) -> Result<(), Misuse>
+    ensures { result ≡ branch_verdict names.now own.now (branch case.now) }
+{
+    judge_tests(names, own, case.condition.tests())?;
+    judge_expr(names, own, &case.value)
+}
+
+fn judge_cases(names: &[Declared], own: &Own, cases: &[Case]) -> Result<(), Misuse>
+    ensures { result ≡ branches_verdict names.now own.now (branches cases.now) }
+{
+    for case in cases {
+        judge_case(names, own, case)?;
+    }
+    Ok(())
+}
+
+fn judge_otherwise(names: &[Declared], own: &Own, otherwise: &Option<Expr>) -> Result<(), Misuse>
+    ensures { result ≡ otherwise_verdict names.now own.now (option_map view otherwise.now) }
+{
+    match otherwise {
+        Some(value) => judge_expr(names, own, value),
+        None => Ok(()),
+    }
+}
+
+fn judge_func(names: &[Declared], own: &Own, func: &Func) -> Result<(), Misuse>
+    ensures { result ≡ function_verdict names.now own.now (function_of func.now) }
+{
+    judge_span(names, own, &func.row.span)?;
+    judge_span(names, own, &func.column.span)?;
+    judge_cases(names, own, func.cases.list())?;
+    judge_otherwise(names, own, &func.otherwise)
+}
+
+fn judge_accum(names: &[Declared], own: &Own, accum: &Accum) -> Result<(), Misuse>
+    ensures { result ≡ accumulator_verdict names.now own.now (accumulator_of accum.now) }
+{
+    judge_span(names, own, &accum.bins)?;
+    judge_span(names, own, &accum.row.span)?;
+    judge_span(names, own, &accum.column.span)?;
+    judge_expr(names, own, &accum.value)?;
+    judge_expr(names, own, &accum.bin)
+}
+
+fn judge_outputs(names: &[Declared], own: &Own, outputs: &Names) -> Result<(), Misuse>
+    ensures { result ≡ outputs_verdict names.now own.now outputs.now }
+{
+    match outputs {
+        Names::One(name) => judge_name(names, own, name, Wanted::Func),
+        Names::Three(red, green, blue) => {
+            judge_name(names, own, red, Wanted::Func)?;
+            judge_name(names, own, green, Wanted::Func)?;
+            judge_name(names, own, blue, Wanted::Func)
+        }
+    }
+}
+
+/// The first place of the item that does not hold what it wants, as a fault.
+pub(crate) fn judge_item(names: &[Declared], own: &Own, item: &Item) -> Result<(), Misuse>
+    ensures { result ≡ item_verdict names.now own.now (declaration item.now) }
+{
+    match item {
+        Item::Param(_) => Ok(()),
+        Item::Image(image) => {
+            judge_affine(names, own, &image.rows)?;
+            judge_affine(names, own, &image.columns)
+        }
+        Item::Func(func) => judge_func(names, own, func),
+        Item::Accum(accum) => judge_accum(names, own, accum),
+        Item::Output(output) => {
+            judge_outputs(names, own, &output.names)?;
+            judge_range(output.max, 1, MAX_SAMPLE)
+        }
+    }
+}
