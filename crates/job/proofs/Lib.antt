@@ -1,0 +1,9 @@
+pub mod Agreeing
+pub mod Choosing
+pub mod Steps
+pub mod Unrolling
+pub mod BoxLaws
+pub mod Solving
+pub mod TotalLaws
+pub mod Fitting
+pub mod Example

@@ -1,0 +1,13 @@
+use Rattle.job.proofs.Agreeing.{formula_value-agrees}
+use Rattle.job.proofs.Solving.{body_value-agrees_there}
+use Rattle.job.proofs.TotalLaws.{body_totals-agrees}
+use Rattle.job.proofs.laws.what_is_read_decides.Goals as goal
+
+pub returns-clause-formula : goal.returns-clause-formula
+returns-clause-formula c = λ e h f r c same. formula_value-agrees e h r c f same
+
+pub returns-clause-stage : goal.returns-clause-stage
+returns-clause-stage c = body_value-agrees_there
+
+pub returns-clause-totals : goal.returns-clause-totals
+returns-clause-totals c = λ e h area body is same. body_totals-agrees e h area is body same

@@ -1,0 +1,62 @@
+-- Boxes: the points of a domain at which the tests of bounds hold. Tests of remainders leave all points in a box.
+use Rattle.std.specs.Prelude.{ℤ, ◌≤ℤ◌, ◌≡◌, ◌↔◌, int_le, ◌&&◌, if◌then◌else◌, Option, Some, None, List, [], ◌∷◌, All}
+use Rattle.std.specs.Int.{int_min, int_max}
+use Rattle.domains.specs.Span.{Ends}
+use Rattle.domains.specs.Area.{HoldsPoint}
+use Rattle.domains.specs.declared.area.Area.{Area}
+use Rattle.pipe_lang.specs.declared.tree.Relation.{Relation}
+use Rattle.pipe_lang.specs.declared.tree.Relation.TheVariants.{AtMost, AtLeast, Equals}
+use Rattle.job.specs.Formula.{Axis, row, column, Test, compare, remainder}
+use Rattle.job.specs.Pipeline.{Body, plane, function, accumulator}
+use Rattle.job.specs.Values.{along}
+
+abbrev pub Relates : Relation → ℤ → ℤ → Type 0
+Relates AtMost a b = a ≤ℤ b
+Relates AtLeast a b = b ≤ℤ a
+Relates Equals a b = a ≡ b
+
+abbrev pub BoundHolds : Test → ℤ → ℤ → Type 0
+BoundHolds (compare x relation bound) r c = Relates relation (along x r c) bound
+BoundHolds (remainder x modulus rest) r c = Unit {0}
+
+abbrev pub BoundsHold : List Test → ℤ → ℤ → Type 0
+BoundsHold [] r c = Unit {0}
+BoundsHold (t ∷ ts) r c = BoundHolds t r c × BoundsHold ts r c
+
+-- the points of an area for which P holds, if there are any
+abbrev pub IsCut : (ℤ → ℤ → Type 0) → Area → Option Area → Type 0
+IsCut P a None = (r c : ℤ) → ¬ (HoldsPoint a r c × P r c)
+IsCut P a (Some box) = (r c : ℤ) → HoldsPoint box r c ↔ (HoldsPoint a r c × P r c)
+
+-- ---- the box, by its ends
+
+abbrev pub cut_ends : Relation → ℤ → Ends → Ends
+cut_ends AtMost bound s = record { lo = s.lo; hi = int_min s.hi bound }
+cut_ends AtLeast bound s = record { lo = int_max s.lo bound; hi = s.hi }
+cut_ends Equals bound s = record { lo = int_max s.lo bound; hi = int_min s.hi bound }
+
+abbrev pub cut_along : Axis → Relation → ℤ → Area → Area
+cut_along row relation bound a = record { rows = cut_ends relation bound a.rows; cols = a.cols }
+cut_along column relation bound a = record { rows = a.rows; cols = cut_ends relation bound a.cols }
+
+abbrev pub cut_by : Test → Area → Area
+cut_by (compare x relation bound) a = cut_along x relation bound a
+cut_by (remainder x modulus rest) a = a
+
+abbrev pub cut_by_all : List Test → Area → Area
+cut_by_all [] a = a
+cut_by_all (t ∷ ts) a = cut_by_all ts (cut_by t a)
+
+-- the area, if it has a point
+abbrev pub if_some : Area → Option Area
+if_some a = if int_le a.rows.lo a.rows.hi && int_le a.cols.lo a.cols.hi then Some a else None
+
+-- the box of tests in a domain
+abbrev pub box_of : Area → List Test → Option Area
+box_of domain tests = if_some (cut_by_all tests domain)
+
+-- the box of each piece of a stage is that of its tests
+abbrev pub AreBoxed : Area → Body → Type 0
+AreBoxed domain (plane n) = Unit {0}
+AreBoxed domain (function pieces otherwise) = All (λ p. p.box ≡ box_of domain p.tests) pieces
+AreBoxed domain (accumulator fold bins value bin) = Unit {0}

@@ -1,0 +1,11 @@
+pub mod Formula
+pub mod Pipeline
+pub mod Values
+pub mod Reads
+pub mod Boxes
+pub mod Totals
+pub mod Answers
+pub mod WellFormed
+pub mod Worked
+pub mod Binding
+pub mod Texts

@@ -1,0 +1,128 @@
+-- The value of a stage at a point.
+use Rattle.std.specs.Prelude.{ℕ, zero, suc, ◌+◌, ◌*◌, ◌/◌, ◌^◌, ℤ, pos, neg_ℤ, ◌+ℤ◌, ◌-ℤ◌, ◌*ℤ◌, int_le, unsigned_abs, Bool, true, ◌&&◌, if◌then◌else◌, Option, Some, None, List, [], ◌∷◌, length, slice_get, slice_index, slice_index_or}
+use Rattle.std.specs.Int.{int_min, int_max}
+use Rattle.std.specs.Ordering.{int_eq}
+use Rattle.std.specs.Option.{option_map_or}
+use Rattle.domains.specs.Arithmetic.{wrapped, floor_div, floor_rem, clamped}
+use Rattle.domains.specs.Index.{index_at}
+use Rattle.netpbm.specs.Image.{Image}
+use Rattle.pipe_lang.specs.declared.tree.BinaryOp.{BinaryOp}
+use Rattle.pipe_lang.specs.declared.tree.BinaryOp.TheVariants.{Add, Sub, Mul, Min, Max}
+use Rattle.pipe_lang.specs.declared.tree.LiteralOp.{LiteralOp}
+use Rattle.pipe_lang.specs.declared.tree.LiteralOp.TheVariants.{Div, Rem, Shl, Shr}
+use Rattle.pipe_lang.specs.declared.tree.Relation.{Relation}
+use Rattle.pipe_lang.specs.declared.tree.Relation.TheVariants.{AtMost, AtLeast, Equals}
+use Rattle.job.specs.Formula.{Axis, row, column, Formula, number, coordinate, read, neg, binary, literal, abs, clamp, select, stencil, Test, compare, remainder}
+use Rattle.job.specs.Pipeline.{Piece, Body, plane, function, accumulator, Stage, Pipeline, rank_of}
+
+-- a number for each stage, row and column
+abbrev pub Valuation : Type 0
+Valuation = ℕ → ℤ → ℤ → ℤ
+
+-- ---- numbers of 32 bits
+
+abbrev pub binary_value : BinaryOp → ℤ → ℤ → ℤ
+binary_value Add a b = wrapped (a +ℤ b)
+binary_value Sub a b = wrapped (a -ℤ b)
+binary_value Mul a b = wrapped (a *ℤ b)
+binary_value Min a b = int_min a b
+binary_value Max a b = int_max a b
+
+-- a shift to the left is a product with a power of two, and one to the right a quotient
+abbrev pub literal_value : LiteralOp → ℤ → ℕ → ℤ
+literal_value Div a n = floor_div a (pos n)
+literal_value Rem a n = floor_rem a (pos n)
+literal_value Shl a n = wrapped (a *ℤ pos (2 ^ n))
+literal_value Shr a n = floor_div a (pos (2 ^ n))
+
+abbrev pub is_related : Relation → ℤ → ℤ → Bool
+is_related AtMost a b = int_le a b
+is_related AtLeast a b = int_le b a
+is_related Equals a b = int_eq a b
+
+abbrev pub along : Axis → ℤ → ℤ → ℤ
+along row r c = r
+along column r c = c
+
+-- ---- stencils
+
+-- f 0 + f 1 + .. + f (n - 1), exactly
+abbrev pub sum_below : ℕ → (ℕ → ℤ) → ℤ
+sum_below zero f = pos 0
+sum_below (suc n) f = sum_below n f +ℤ f n
+
+-- row a of a kernel
+abbrev pub factors : List (List ℤ) → ℕ → List ℤ
+factors kernel a = slice_index_or kernel a []
+
+-- the place that a kernel about v reads with its factor number a of n: its middle factor is over v itself
+abbrev pub under : ℤ → ℕ → ℕ → ℤ
+under v n a = v +ℤ pos a -ℤ pos (n / 2)
+
+abbrev pub kernel_row : List (List ℤ) → ℤ → ℕ → ℤ
+kernel_row kernel r a = under r (length kernel) a
+
+abbrev pub kernel_column : List (List ℤ) → ℤ → ℕ → ℤ
+kernel_column kernel c b = under c (length (factors kernel 0)) b
+
+-- the factors times the values under them, added up exactly
+abbrev pub weighted_sum : List (List ℤ) → (ℤ → ℤ → ℤ) → ℤ → ℤ → ℤ
+weighted_sum kernel f r c =
+    sum_below (length kernel) (λ a. sum_below (length (factors kernel a)) (λ b.
+    slice_index_or (factors kernel a) b (pos 0) *ℤ f (kernel_row kernel r a) (kernel_column kernel c b)))
+
+-- ---- formulas
+
+-- the value of a formula at the point of row r and column c, where env gives the values of the stages
+abbrev pub formula_value : Valuation → Formula → ℤ → ℤ → ℤ
+formula_value env (number n) r c = n
+formula_value env (coordinate x) r c = along x r c
+formula_value env (read g i j) r c = env g (index_at i r) (index_at j c)
+formula_value env (neg a) r c = wrapped (neg_ℤ (formula_value env a r c))
+formula_value env (binary op a b) r c = binary_value op (formula_value env a r c) (formula_value env b r c)
+formula_value env (literal op a n) r c = literal_value op (formula_value env a r c) n
+formula_value env (abs a) r c = wrapped (pos (unsigned_abs (formula_value env a r c)))
+formula_value env (clamp a low high) r c = clamped (formula_value env a r c) (formula_value env low r c) (formula_value env high r c)
+formula_value env (select a relation b first second) r c =
+    if is_related relation (formula_value env a r c) (formula_value env b r c)
+    then formula_value env first r c
+    else formula_value env second r c
+formula_value env (stencil g divisor kernel) r c = floor_div (wrapped (weighted_sum kernel (env g) r c)) (pos divisor)
+
+-- ---- stages
+
+abbrev pub is_passed : Test → ℤ → ℤ → Bool
+is_passed (compare x relation bound) r c = is_related relation (along x r c) bound
+is_passed (remainder x modulus rest) r c = int_eq (floor_rem (along x r c) (pos modulus)) (pos rest)
+
+abbrev pub all_passed : List Test → ℤ → ℤ → Bool
+all_passed [] r c = true
+all_passed (t ∷ ts) r c = is_passed t r c && all_passed ts r c
+
+-- the formula of the first piece whose tests hold at the point, else the other formula, if there is one
+abbrev pub chosen : List Piece → Option Formula → ℤ → ℤ → Option Formula
+chosen [] otherwise r c = otherwise
+chosen (p ∷ ps) otherwise r c = if all_passed p.tests r c then Some p.formula else chosen ps otherwise r c
+
+-- a sample of a plane, whose samples stand row by row
+abbrev pub sample_at : Image → ℕ → ℤ → ℤ → ℤ
+sample_at picture n r c = pos (slice_index (slice_index_or picture.planes n []) (unsigned_abs r * picture.cols + unsigned_abs c))
+
+-- what a stage is at a point of its domain, where env gives the values of the stages that it reads
+abbrev pub body_value : Image → Valuation → Body → ℤ → ℤ → ℤ
+body_value picture env (plane n) r c = sample_at picture n r c
+body_value picture env (function pieces otherwise) r c = option_map_or (λ f. formula_value env f r c) (chosen pieces otherwise r c) (pos 0)
+body_value picture env (accumulator fold bins value bin) r c = pos 0
+
+abbrev pub stage_value : Pipeline → Valuation → Option Stage → ℤ → ℤ → ℤ
+stage_value job env None r c = pos 0
+stage_value job env (Some s) r c = body_value job.picture env s.body r c
+
+-- the values of stages that are so many reads away from the picture
+abbrev pub value_within : Pipeline → ℕ → Valuation
+value_within job zero g r c = pos 0
+value_within job (suc n) g r c = stage_value job (value_within job n) (slice_get job.stages g) r c
+
+-- the value of stage g at a point of its domain: reads lead to lower ranks, so as many steps as its rank are enough
+abbrev pub value : Pipeline → Valuation
+value job g r c = value_within job (suc (rank_of job.stages g)) g r c
