@@ -1,9 +1,10 @@
 -- What a command has read and written where it ends.
-use Rattle.std.specs.Prelude.{◌≡◌, ℕ, List, length, Option, Result, Ok, Err}
+use Rattle.std.specs.Prelude.{◌≡◌, ℕ, List, Option, Result, Ok, Err, IfSome}
 use Rattle.std.specs.Io.KnownBytes.{Appends}
 use Rattle.netpbm.specs.Image.{Image, IsImage}
 use Rattle.netpbm.specs.Spelling.{spelling}
 use Rattle.netpbm.specs.Streams.{AppendsPart, one_more}
+use Rattle.tilefarm.specs.Input.{Given, IsShapedResult}
 use Rattle.tilefarm.specs.declared.faults.StreamFault.{StreamFault}
 use Rattle.tilefarm.specs.declared.faults.StreamFault.TheVariants.{Read, TooLong, NoSeparator, Program, Picture, Check, Param, Bind, Memory, Write}
 
@@ -13,15 +14,20 @@ IsOfInput Read = ⊥
 IsOfInput Write = ⊥
 IsOfInput _ = Unit {0}
 
--- the writer took the raw spelling of a picture of one plane
-abbrev pub AppendsPlane : Option (List ℕ) → Option (List ℕ) → Type 0
-AppendsPlane old new = (picture : Image) × IsImage picture × (length picture.planes ≡ 1) × Appends old new (spelling picture)
+-- the picture has the shape of the input's result, where the input is known
+abbrev pub IsResultOfKnown : Option (List ℕ) → List Given → Image → Type 0
+IsResultOfKnown known given picture = IsImage picture × IfSome known (λ input. IsShapedResult input given picture)
 
--- what was written: all of the raw spelling of one plane; where the writer failed a part of it; else nothing
-abbrev pub WritesPlane : {X : Type 0} → Result X StreamFault → Option (List ℕ) → Option (List ℕ) → Type 0
-WritesPlane (Ok _) old new = AppendsPlane old new
-WritesPlane (Err Write) old new = (picture : Image) × IsImage picture × (length picture.planes ≡ 1) × AppendsPart old new (spelling picture)
-WritesPlane (Err _) old new = new ≡ old
+-- the writer took the raw spelling of such a picture
+abbrev pub AppendsResult : Option (List ℕ) → List Given → Option (List ℕ) → Option (List ℕ) → Type 0
+AppendsResult known given old new = (picture : Image) × IsResultOfKnown known given picture × Appends old new (spelling picture)
+
+-- what was written: all of the raw spelling of a picture of the result's shape; where the writer failed a part of it;
+-- else nothing
+abbrev pub WritesResult : {X : Type 0} → Option (List ℕ) → List Given → Result X StreamFault → Option (List ℕ) → Option (List ℕ) → Type 0
+WritesResult known given (Ok _) old new = AppendsResult known given old new
+WritesResult known given (Err Write) old new = (picture : Image) × IsResultOfKnown known given picture × AppendsPart old new (spelling picture)
+WritesResult known given (Err _) old new = new ≡ old
 
 -- one call of the reader failed at `Read`, and none at any other answer
 abbrev pub CountsRead : {X : Type 0} → Result X StreamFault → ℕ → ℕ → Type 0

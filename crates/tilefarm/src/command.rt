@@ -1,7 +1,8 @@
 //! The command line.
 
-ghost use Rattle.std.specs.Prelude.{◌≡◌, ◌≤◌};
-ghost use Rattle.tilefarm.specs.Faults.{AppendsPlane, status_of};
+ghost use Rattle.std.specs.Prelude.{◌≡◌, ◌≤◌, ◌⊎◌, List};
+ghost use Rattle.tilefarm.specs.Faults.{AppendsResult, status_of};
+ghost use Rattle.tilefarm.specs.Input.{Given};
 
 use crate::faults::StreamFault;
 use crate::stream::{Options, eval_stream};
@@ -52,8 +53,9 @@ pub fn run_command<H: AllocGlobal, R: Source, W: Sink>(
     reader: &mut R,
     writer: &mut W,
 ) -> u8
-    ensures done { result ≡ 0 → AppendsPlane (W.contents writer.old) (W.contents writer.new) }
+    ensures done { result ≡ 0 → (given : List Given) × AppendsResult (R.remaining reader.old) given (W.contents writer.old) (W.contents writer.new) }
     ensures known { result ≤ 5 }
+    ensures read { (R.failures reader.new ≡ R.failures reader.old) ⊎ (result ≡ 4) }
 {
     match parameters_of(rt.alloc(), words) {
         Ok(parameters) => match eval_stream(rt, &Options, parameters.as_slice(), reader, writer) {

@@ -1,5 +1,9 @@
 //! What the names of a program stand for.
 
+ghost use Rattle.std.specs.Prelude.{◌≡◌, All, IfOk, IfSome, IfNone, slice_get};
+ghost use Rattle.pipe_lang.specs.Tree.{items_of};
+ghost use Rattle.tilefarm.specs.Evaluation.{HasResult, IsFunctionAt, IsResult, IsTarget};
+
 use crate::faults::CheckFault;
 use pipe_lang::{
     Affine, AffineSpan, BinaryOp, Expr, Func, Image, Index, Item, Names, Output, Tree,
@@ -11,8 +15,6 @@ use std::alloc::{AllocError, Global};
 #[derive(Drop)]
 pub struct Checked {
     pub tree: Tree,
-    /// The parameters in the order of the text.
-    pub params: Vec<Name>,
     /// The plane and the functions in the order of the text.
     pub stages: Vec<Stage>,
     /// The number of the function that is the result.
@@ -30,24 +32,16 @@ pub struct Stage {
 
 impl Checked {
     /// The item that declares a stage.
-    pub fn item(&self, stage: &Stage) -> Option<&Item> {
+    pub fn item(&self, stage: &Stage) -> Option<&Item>
+        ensures some { IfSome result (λ item. slice_get (items_of self.now.tree) stage.now.item ≡ Some item.now) }
+    {
         self.tree.items().get(stage.item)
-    }
-
-    /// The item that declares the stage of this number.
-    pub fn declaration(&self, number: usize) -> Option<&Item> {
-        self.item(self.stages.as_slice().get(number)?)
     }
 
     /// The number of the stage of this name.
     pub fn stage_of(&self, name: &Name) -> Option<usize> {
-        number_of(&self.stages, name)
-    }
-
-    /// The number of the parameter of this name.
-    pub fn param_of(&self, name: &[u8]) -> Option<usize> {
-        for (number, param) in self.params.iter().enumerate() {
-            if param.as_bytes() == name {
+        for (number, stage) in self.stages.iter().enumerate() {
+            if stage.name == *name {
                 return Some(number);
             }
         }
@@ -78,6 +72,23 @@ enum Misuse {
     Unknown,
     Kind,
     BadLiteral,
+}
+
+impl Misuse {
+    fn in_item(self, item: usize) -> CheckFault {
+        match self {
+            Misuse::Unknown => CheckFault::Unknown(item),
+            Misuse::Kind => CheckFault::Kind(item),
+            Misuse::BadLiteral => CheckFault::BadLiteral(item),
+        }
+    }
+}
+
+/// The function that the output names, and its greatest sample.
+#[derive(Drop)]
+struct Target {
+    name: Name,
+    max: u16,
 }
 
 /// The names that the items declare, in the order of the text.
@@ -273,7 +284,9 @@ impl Scope {
     }
 
     /// An output is one function, and its greatest sample is 1 to 65535.
-    fn judge_output(&self, output: &Output) -> Result<u16, Misuse> {
+    fn judge_output(&self, output: &Output) -> Result<Target, Misuse>
+        ensures { IfOk result (IsTarget output.now) }
+    {
         let Names::One(name) = &output.names else {
             return Err(Misuse::Kind);
         };
@@ -285,19 +298,36 @@ impl Scope {
             None => return Err(Misuse::Unknown),
         }
         match u16::try_from(output.max) {
-            Ok(max) if max > 0 => Ok(max),
+            Ok(max) if max > 0 => Ok(Target { name: *name, max }),
             _ => Err(Misuse::BadLiteral),
         }
     }
 
-    /// Judges the uses of names in an item, and gives the greatest sample where it is the output.
-    fn judge_item(&self, declaration: &Item, own: &Own) -> Result<Option<u16>, Misuse> {
+    /// Judges the uses of names in an item.
+    fn judge_item(&self, declaration: &Item, own: &Own) -> Result<(), Misuse> {
         match declaration {
-            Item::Param(_) => {}
-            Item::Image(image) => self.judge_image(image, own)?,
-            Item::Func(func) => self.judge_func(func, own)?,
-            Item::Accum(_) => return Err(Misuse::Kind),
-            Item::Output(output) => return Ok(Some(self.judge_output(output)?)),
+            Item::Param(_) => Ok(()),
+            Item::Image(image) => self.judge_image(image, own),
+            Item::Func(func) => self.judge_func(func, own),
+            Item::Accum(_) => Err(Misuse::Kind),
+            Item::Output(output) => {
+                self.judge_output(output)?;
+                Ok(())
+            }
+        }
+    }
+
+    /// What the output names, or none where there is no output.
+    fn target(&self, items: &[Item]) -> Result<Option<Target>, CheckFault>
+        ensures { IfOk result (λ target. IfSome target (IsResult items.now)) }
+    {
+        for (item, declaration) in items.iter().enumerate() {
+            if let Item::Output(output) = declaration {
+                return match self.judge_output(output) {
+                    Ok(target) => Ok(Some(target)),
+                    Err(misuse) => Err(misuse.in_item(item)),
+                };
+            }
         }
         Ok(None)
     }
@@ -341,22 +371,26 @@ fn declare_planes(
 
 /// Gives each name its meaning, or the first fault: of the items, the first with a name that stands for two things;
 /// else item by item the first misuse; else a missing output.
-pub fn check(alloc: Global, tree: Tree) -> Result<Checked, CheckFault> {
+pub fn check(alloc: Global, tree: Tree) -> Result<Checked, CheckFault>
+    ensures same { IfOk result (λ checked. checked.tree ≡ tree) }
+    ensures output { IfOk result HasResult }
+{
     let scope = Scope::of(alloc, tree.items())?;
     find_repeated(&scope, tree.items())?;
-    let max = judge_items(&scope, tree.items())?;
-    let params = params_of(alloc, tree.items())?;
+    judge_items(&scope, tree.items())?;
+    let Some(target) = scope.target(tree.items())? else {
+        return Err(CheckFault::NoResult);
+    };
     let stages = stages_of(alloc, tree.items())?;
-    match (output_of(tree.items(), &stages), max) {
-        (Some(output), Some(max)) => Ok(Checked {
-            tree,
-            params,
-            stages,
-            output,
-            max,
-        }),
-        _ => Err(CheckFault::NoResult),
-    }
+    let Some(output) = number_of(&stages, tree.items(), &target.name) else {
+        return Err(CheckFault::NoResult);
+    };
+    Ok(Checked {
+        tree,
+        stages,
+        output,
+        max: target.max,
+    })
 }
 
 fn find_repeated(scope: &Scope, items: &[Item]) -> Result<(), CheckFault> {
@@ -368,29 +402,13 @@ fn find_repeated(scope: &Scope, items: &[Item]) -> Result<(), CheckFault> {
     Ok(())
 }
 
-/// The greatest sample of the output, if there is one.
-fn judge_items(scope: &Scope, items: &[Item]) -> Result<Option<u16>, CheckFault> {
-    let mut max = None;
+fn judge_items(scope: &Scope, items: &[Item]) -> Result<(), CheckFault> {
     for (item, declaration) in items.iter().enumerate() {
-        match scope.judge_item(declaration, &Own::of(item, declaration)) {
-            Ok(None) => {}
-            Ok(Some(found)) => max = Some(found),
-            Err(Misuse::Unknown) => return Err(CheckFault::Unknown(item)),
-            Err(Misuse::Kind) => return Err(CheckFault::Kind(item)),
-            Err(Misuse::BadLiteral) => return Err(CheckFault::BadLiteral(item)),
+        if let Err(misuse) = scope.judge_item(declaration, &Own::of(item, declaration)) {
+            return Err(misuse.in_item(item));
         }
     }
-    Ok(max)
-}
-
-fn params_of(alloc: Global, items: &[Item]) -> Result<Vec<Name>, AllocError> {
-    let mut params = Vec::new(alloc);
-    for item in items {
-        if let Item::Param(param) = item {
-            params.push(param.name)?;
-        }
-    }
-    Ok(params)
+    Ok(())
 }
 
 fn stages_of(alloc: Global, items: &[Item]) -> Result<Vec<Stage>, AllocError> {
@@ -412,22 +430,15 @@ fn stages_of(alloc: Global, items: &[Item]) -> Result<Vec<Stage>, AllocError> {
     Ok(stages)
 }
 
-/// The number of the stage that the output names.
-fn output_of(items: &[Item], stages: &[Stage]) -> Option<usize> {
-    for item in items {
-        if let Item::Output(output) = item {
-            if let Names::One(name) = &output.names {
-                return number_of(stages, name);
-            }
-        }
-    }
-    None
-}
-
-fn number_of(stages: &[Stage], name: &Name) -> Option<usize> {
+/// The number of the stage that is the function of this name.
+fn number_of(stages: &[Stage], items: &[Item], name: &Name) -> Option<usize>
+    ensures { IfSome result (IsFunctionAt stages.now items.now name.now) }
+{
     for (number, stage) in stages.iter().enumerate() {
-        if stage.name == *name {
-            return Some(number);
+        if let Some(Item::Func(func)) = items.get(stage.item) {
+            if func.name.as_bytes() == name.as_bytes() {
+                return Some(number);
+            }
         }
     }
     None

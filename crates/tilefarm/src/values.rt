@@ -1,12 +1,14 @@
 //! The values of a job's functions, a row at a time.
 
-ghost use Rattle.std.specs.Prelude.{◌≡◌, IfOk, length};
+ghost use Rattle.std.specs.Prelude.{◌≡◌, IfOk, IfErr, length};
 ghost use Rattle.netpbm.specs.Image.{IsImage};
-ghost use Rattle.tilefarm.specs.Evaluation.{IsShapedBy, IsShapedAsOutput};
+ghost use Rattle.tilefarm.specs.Evaluation.{IsShapedAsOutput};
+ghost use Rattle.tilefarm.specs.Faults.{IsOfInput};
+ghost use Rattle.tilefarm.specs.Shape.{HasSides};
 
 use crate::bind::Job;
-use crate::bounds::{Domain, Interval, parameter_value};
-use crate::faults::BindFault;
+use crate::faults::{BindFault, CheckFault, StreamFault};
+use domains::{Area, Span};
 use netpbm::Picture;
 use pipe_lang::{BinaryOp, Expr, Func, Item};
 use pipe_tokens::Name;
@@ -15,15 +17,15 @@ use std::alloc::{AllocError, Global};
 /// The values of a stage on its domain, rows from the first to the last and in a row columns from the first to the last.
 #[derive(Drop)]
 struct Plane {
-    domain: Domain,
+    domain: Area,
     samples: Vec<i32>,
 }
 
 impl Plane {
     /// The values of one row, if the row lies in the domain.
     fn row(&self, row: i32) -> Option<&[i32]> {
-        let width = self.domain.columns.len();
-        let above = usize::try_from(row.checked_sub(self.domain.rows.first)?).ok()?;
+        let width = self.domain.cols.len() as usize;
+        let above = usize::try_from(row.checked_sub(self.domain.rows.lo())?).ok()?;
         let start = above.checked_mul(width)?;
         self.samples
             .as_slice()
@@ -31,30 +33,31 @@ impl Plane {
     }
 
     /// The values at the given columns of one row, if all of them lie in the domain.
-    fn line(&self, row: i32, columns: Interval) -> Option<&[i32]> {
-        let left = usize::try_from(columns.first.checked_sub(self.domain.columns.first)?).ok()?;
-        self.row(row)?.get(left..left.checked_add(columns.len())?)
+    fn line(&self, row: i32, columns: &Span) -> Option<&[i32]> {
+        let left = usize::try_from(columns.lo().checked_sub(self.domain.cols.lo())?).ok()?;
+        self.row(row)?
+            .get(left..left.checked_add(columns.len() as usize)?)
     }
 }
 
-/// A function that is evaluated, and the stages before it.
+/// A function that is evaluated, the number of the item that declares it, and the stages that are known.
 #[derive(Drop)]
 struct Evaluation<'a> {
     job: &'a Job,
-    picture: &'a Plane,
     planes: &'a [Plane],
     func: &'a Func,
-    columns: Interval,
+    item: usize,
+    columns: Span,
 }
 
 impl Evaluation<'_> {
     /// The values of an expression at all columns of one row.
-    fn row(&self, alloc: Global, expr: &Expr, row: i32) -> Result<Vec<i32>, AllocError> {
+    fn row(&self, alloc: Global, expr: &Expr, row: i32) -> Result<Vec<i32>, CheckFault> {
         match expr {
-            Expr::Number(number) => self.constant(
-                alloc,
-                i32::try_from(*number).unwrap_or(i32::MAX),
-            ),
+            Expr::Number(number) => match i32::try_from(*number) {
+                Ok(number) => Ok(self.constant(alloc, number)?),
+                Err(_) => Err(CheckFault::BadLiteral(self.item)),
+            },
             Expr::Name(name) => self.named(alloc, name, row),
             Expr::Read(name, _, _) => self.read(alloc, name, row),
             Expr::Neg(operand) => {
@@ -70,46 +73,43 @@ impl Evaluation<'_> {
                 combine(*op, values.as_mut_slice(), others.as_slice());
                 Ok(values)
             }
-            _ => self.constant(alloc, 0),
+            _ => Err(CheckFault::Kind(self.item)),
         }
     }
 
     fn constant(&self, alloc: Global, value: i32) -> Result<Vec<i32>, AllocError> {
-        vec![in alloc; value; self.columns.len()]
+        vec![in alloc; value; self.columns.len() as usize]
     }
 
     /// A variable of the function, or a parameter.
-    fn named(&self, alloc: Global, name: &Name, row: i32) -> Result<Vec<i32>, AllocError> {
+    fn named(&self, alloc: Global, name: &Name, row: i32) -> Result<Vec<i32>, CheckFault> {
         if *name == self.func.row.name {
-            return self.constant(alloc, row);
+            return Ok(self.constant(alloc, row)?);
         }
         if *name != self.func.column.name {
-            let value = parameter_value(&self.job.checked, &self.job.values, name);
-            return self.constant(alloc, value);
+            return match self.job.params.get(name) {
+                Some(value) => Ok(self.constant(alloc, value)?),
+                None => Err(CheckFault::Unknown(self.item)),
+            };
         }
-        let mut values = self.constant(alloc, self.columns.first)?;
-        let mut column = self.columns.first;
-        for value in values.iter_mut() {
+        let mut values = self.constant(alloc, 0)?;
+        for (value, column) in values.iter_mut().zip(self.columns.lo()..=self.columns.hi()) {
             *value = column;
-            column = column.wrapping_add(1);
         }
         Ok(values)
     }
 
     /// The values of the plane, or of a function before this one, at the same points.
-    fn read(&self, alloc: Global, name: &Name, row: i32) -> Result<Vec<i32>, AllocError> {
+    fn read(&self, alloc: Global, name: &Name, row: i32) -> Result<Vec<i32>, CheckFault> {
         match self.line(name, row) {
-            Some(line) => Vec::from_slice(alloc, line),
-            None => self.constant(alloc, 0),
+            Some(line) => Ok(Vec::from_slice(alloc, line)?),
+            None => Err(CheckFault::Kind(self.item)),
         }
     }
 
     fn line(&self, name: &Name, row: i32) -> Option<&[i32]> {
         let number = self.job.checked.stage_of(name)?;
-        match self.job.checked.declaration(number)? {
-            Item::Image(_) => self.picture.line(row, self.columns),
-            _ => self.planes.get(number)?.line(row, self.columns),
-        }
+        self.planes.get(number)?.line(row, &self.columns)
     }
 }
 
@@ -126,31 +126,47 @@ fn combine(op: BinaryOp, values: &mut [i32], others: &[i32]) {
 }
 
 /// The result of a job: the output function's values, each cut to 0 and the greatest sample.
-pub fn evaluate(alloc: Global, job: &Job) -> Result<Picture, BindFault>
+pub fn evaluate(alloc: Global, job: &Job) -> Result<Picture, StreamFault>
     ensures shape { IfOk result (IsShapedAsOutput job.now) }
-    ensures grey { IfOk result (λ picture. length picture.planes ≡ 1) }
     ensures image { IfOk result IsImage }
+    ensures err { IfErr result IsOfInput }
 {
     let planes = planes_of(alloc, job)?;
     match (
         planes.as_slice().get(job.checked.output),
         job.domains.as_slice().get(job.checked.output),
     ) {
-        (Some(plane), Some(domain)) => cut_picture(alloc, &plane.samples, domain, job.checked.max),
-        _ => Err(BindFault::OutputShapes),
+        (Some(plane), Some(domain)) => Ok(cut_picture(
+            alloc,
+            &plane.samples,
+            domain,
+            job.checked.max,
+        )?),
+        _ => Err(StreamFault::Bind(BindFault::OutputShapes)),
     }
 }
 
-/// The values of all functions, in the order of the text. The plane has an empty place among them: it is read from the
-/// picture, wherever it is declared.
-fn planes_of(alloc: Global, job: &Job) -> Result<Vec<Plane>, AllocError> {
-    let picture = picture_plane(alloc, &job.picture)?;
-    let mut planes: Vec<Plane> = Vec::new(alloc);
+/// The values of all stages, in the order of the text. Functions read the plane, wherever it is declared, and functions
+/// before them.
+fn planes_of(alloc: Global, job: &Job) -> Result<Vec<Plane>, CheckFault> {
+    let mut planes = given_planes(alloc, job)?;
+    for (number, stage) in job.checked.stages.iter().enumerate() {
+        if let Some(Item::Func(func)) = job.checked.item(stage) {
+            let samples = function_values(alloc, job, &planes, func, stage.item, number)?;
+            if let Some(plane) = planes.get_mut(number) {
+                plane.samples = samples;
+            }
+        }
+    }
+    Ok(planes)
+}
+
+/// The plane with the picture's samples, and the functions without any.
+fn given_planes(alloc: Global, job: &Job) -> Result<Vec<Plane>, AllocError> {
+    let mut planes = Vec::new(alloc);
     for (stage, domain) in job.checked.stages.iter().zip(&job.domains) {
         let samples = match job.checked.item(stage) {
-            Some(Item::Func(func)) => {
-                function_values(alloc, job, &picture, &planes, func, domain)?
-            }
+            Some(Item::Image(_)) => picture_values(alloc, &job.picture)?,
             _ => Vec::new(alloc),
         };
         planes.push(Plane {
@@ -159,23 +175,6 @@ fn planes_of(alloc: Global, job: &Job) -> Result<Vec<Plane>, AllocError> {
         })?;
     }
     Ok(planes)
-}
-
-/// The first plane of the picture, whose rows and columns count from 0.
-fn picture_plane(alloc: Global, picture: &Picture) -> Result<Plane, AllocError> {
-    let samples = picture_values(alloc, picture)?;
-    let domain = Domain {
-        rows: indices_of(picture.rows()),
-        columns: indices_of(picture.cols()),
-    };
-    Ok(Plane { domain, samples })
-}
-
-fn indices_of(side: u32) -> Interval {
-    Interval {
-        first: 0,
-        last: i32::try_from(side).unwrap_or(i32::MAX).saturating_sub(1),
-    }
 }
 
 fn picture_values(alloc: Global, picture: &Picture) -> Result<Vec<i32>, AllocError> {
@@ -192,21 +191,23 @@ fn picture_values(alloc: Global, picture: &Picture) -> Result<Vec<i32>, AllocErr
 fn function_values(
     alloc: Global,
     job: &Job,
-    picture: &Plane,
     planes: &[Plane],
     func: &Func,
-    domain: &Domain,
-) -> Result<Vec<i32>, AllocError> {
+    item: usize,
+    number: usize,
+) -> Result<Vec<i32>, CheckFault> {
+    let Some(Plane { domain, .. }) = planes.get(number) else {
+        return Err(CheckFault::Kind(item));
+    };
     let evaluation = Evaluation {
         job,
-        picture,
         planes,
         func,
-        columns: domain.columns,
+        item,
+        columns: domain.cols,
     };
     let mut samples = Vec::new(alloc);
-    samples.reserve(domain.rows.len().saturating_mul(domain.columns.len()))?;
-    for row in domain.rows.first..=domain.rows.last {
+    for row in domain.rows.lo()..=domain.rows.hi() {
         let line = match &func.otherwise {
             Some(value) => evaluation.row(alloc, value, row)?,
             None => evaluation.constant(alloc, 0)?,
@@ -216,13 +217,9 @@ fn function_values(
     Ok(samples)
 }
 
-fn cut_picture(
-    alloc: Global,
-    values: &[i32],
-    domain: &Domain,
-    max: u16,
-) -> Result<Picture, BindFault>
-    ensures { IfOk result (IsShapedBy domain.now max) }
+fn cut_picture(alloc: Global, values: &[i32], domain: &Area, max: u16) -> Result<Picture, BindFault>
+    ensures sides { IfOk result (HasSides domain.now.rows domain.now.cols) }
+    ensures greatest { IfOk result (λ picture. picture.max ≡ max) }
 {
     let mut samples = Vec::with_capacity(alloc, values.len())?;
     for value in values {
@@ -230,9 +227,7 @@ fn cut_picture(
     }
     let mut planes = Vec::with_capacity(alloc, 1)?;
     planes.push(samples)?;
-    let rows = u32::try_from(domain.rows.len()).unwrap_or(0);
-    let cols = u32::try_from(domain.columns.len()).unwrap_or(0);
-    match Picture::of(rows, cols, max, planes) {
+    match Picture::of(domain.rows.len(), domain.cols.len(), max, planes) {
         Ok(picture) => Ok(picture),
         Err(_) => Err(BindFault::OutputShapes),
     }

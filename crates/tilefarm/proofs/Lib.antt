@@ -1,0 +1,5 @@
+pub mod Domains
+pub mod Givens
+pub mod Parameters
+pub mod Shapes
+pub mod Sums
