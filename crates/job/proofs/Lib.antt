@@ -5,5 +5,6 @@ pub mod Unrolling
 pub mod BoxLaws
 pub mod Solving
 pub mod TotalLaws
+pub mod Joining
 pub mod Fitting
 pub mod Example

@@ -190,7 +190,8 @@ item_images (tree.function f) = []
 item_images (tree.accumulator a) = []
 item_images (tree.output o) = []
 
--- the job is what the items say at the parameters that are given, a picture and the sides of tiles
+-- The job is what the items say at the parameters that are given, a picture and the sides of tiles. This means something
+-- for items that `check` accepts, and where all their parameters then have values.
 pub record IsJobOf (items : List Declaration) (given : List Setting) (picture : Picture) (sides : Sides) (job : Pipeline) : Type 0 where
   pub image : Image
   pub declared : flat_map item_images items ≡ image ∷ []

@@ -1,6 +1,7 @@
 -- What an accumulator gathers in its bins.
-use Rattle.std.specs.Prelude.{ℕ, ℤ, pos, negsuc, ◌+ℤ◌, Option, Some, None, List, [], map, filter, fold, slice_get}
+use Rattle.std.specs.Prelude.{ℕ, ℤ, pos, negsuc, ◌+ℤ◌, List, [], map, filter, fold, slice_get}
 use Rattle.std.specs.Int.{int_min, int_max}
+use Rattle.std.specs.Option.{option_map_or}
 use Rattle.std.specs.Ordering.{int_eq}
 use Rattle.domains.specs.Arithmetic.{wrapped_long}
 use Rattle.domains.specs.Span.{numbers_of}
@@ -9,7 +10,7 @@ use Rattle.domains.specs.declared.area.Area.{Area}
 use Rattle.pipe_lang.specs.declared.tree.Fold.{Fold}
 use Rattle.pipe_lang.specs.declared.tree.Fold.TheVariants.{Sum, Min, Max}
 use Rattle.job.specs.Formula.{Formula}
-use Rattle.job.specs.Pipeline.{Body, plane, function, accumulator, Stage, Pipeline}
+use Rattle.job.specs.Pipeline.{Body, plane, function, accumulator, Pipeline}
 use Rattle.job.specs.Values.{Valuation, formula_value, value}
 
 -- what a bin starts from, which it stays at where no point has this bin
@@ -24,6 +25,12 @@ total_of Sum vs = wrapped_long (fold ◌+ℤ◌ (start_of Sum) vs)
 total_of Min vs = fold int_min (start_of Min) vs
 total_of Max vs = fold int_max (start_of Max) vs
 
+-- the total of two lists, one behind the other, by the totals of each
+abbrev pub joined : Fold → ℤ → ℤ → ℤ
+joined Sum a b = wrapped_long (a +ℤ b)
+joined Min a b = int_min a b
+joined Max a b = int_max a b
+
 -- the values at the points of an area whose bin is b, where env gives the values of the stages
 abbrev pub values_in_bin : Valuation → Formula → Formula → Area → ℤ → List ℤ
 values_in_bin env value bin area b =
@@ -31,24 +38,16 @@ values_in_bin env value bin area b =
 
 -- the total of each bin, rising, over the points of an area; a point whose bin lies outside is in none
 abbrev pub body_totals : Valuation → Area → Body → List ℤ
-body_totals env area (accumulator fold bins value bin) = map (λ b. total_of fold (values_in_bin env value bin area b)) (numbers_of bins)
+body_totals env area (accumulator way bins value bin) = map (λ b. total_of way (values_in_bin env value bin area b)) (numbers_of bins)
 body_totals env area (plane n) = []
 body_totals env area (function pieces otherwise) = []
 
 -- ---- the totals of a job
 
-abbrev pub stage_totals : Valuation → Option Stage → List ℤ
-stage_totals env None = []
-stage_totals env (Some s) = body_totals env s.domain s.body
-
--- the totals of accumulator g over all that it reduces
-abbrev pub totals : Pipeline → ℕ → List ℤ
-totals job g = stage_totals (value job) (slice_get job.stages g)
-
-abbrev pub area_totals : Valuation → Area → Option Stage → List ℤ
-area_totals env area None = []
-area_totals env area (Some s) = body_totals env area s.body
-
--- and its totals over a part of that area
+-- the totals of accumulator g over a part of the area that it reduces
 abbrev pub totals_over : Pipeline → Area → ℕ → List ℤ
-totals_over job area g = area_totals (value job) area (slice_get job.stages g)
+totals_over job area g = option_map_or (λ s. body_totals (value job) area s.body) (slice_get job.stages g) []
+
+-- and over all of it
+abbrev pub totals : Pipeline → ℕ → List ℤ
+totals job g = option_map_or (λ s. body_totals (value job) s.domain s.body) (slice_get job.stages g) []

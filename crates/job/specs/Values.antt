@@ -118,7 +118,7 @@ abbrev pub stage_value : Pipeline → Valuation → Option Stage → ℤ → ℤ
 stage_value job env None r c = pos 0
 stage_value job env (Some s) r c = body_value job.picture env s.body r c
 
--- the values of stages that are so many reads away from the picture
+-- the values of the stages whose ranks are below this number; of the others it says nothing
 abbrev pub value_within : Pipeline → ℕ → Valuation
 value_within job zero g r c = pos 0
 value_within job (suc n) g r c = stage_value job (value_within job n) (slice_get job.stages g) r c

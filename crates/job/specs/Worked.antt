@@ -148,8 +148,8 @@ counting =
 
 -- image I(1,1);
 -- accum m [0..2] over (x in [0..0], y in [0..0]) min I(x, y) at I(x, y);
-abbrev pub missing : Pipeline
-missing =
+abbrev pub outside : Pipeline
+outside =
     record {
       stages =
           plane_stage 73 0 (area (pos 0) (pos 0))

@@ -1,16 +1,17 @@
 //! What the definitions amount to, proved once for the crates above. A law is a function that does nothing: its clauses are the law.
 
-ghost use Rattle.std.specs.Prelude.{◌≡◌, ◌<◌, ℕ, ℤ, List, slice_get, All, FitsSigned};
+ghost use Rattle.std.specs.Prelude.{◌≡◌, ◌<◌, ◌++◌, ℕ, ℤ, List, slice_get, All, FitsSigned};
 ghost use Rattle.std.specs.Int.{w32};
 ghost use Rattle.domains.specs.Area.{HoldsPoint, IsArea};
 ghost use Rattle.domains.specs.declared.area.Area.{Area};
 ghost use Rattle.netpbm.specs.Image.{Image};
+ghost use Rattle.pipe_lang.specs.declared.tree.Fold.{Fold};
 ghost use Rattle.job.specs.Formula.{Formula, Test};
 ghost use Rattle.job.specs.Pipeline.{Body, Stage, Pipeline, rank_of};
 ghost use Rattle.job.specs.Values.{Valuation, formula_value, body_value, stage_value, value_within, value};
-ghost use Rattle.job.specs.Reads.{EachRead, BodyReads, SameAt, stage_read, reads_of, IsRanked};
+ghost use Rattle.job.specs.Reads.{EachRead, BodyReads, SameAt, AgreeOver, stage_read, reads_of, IsRanked};
 ghost use Rattle.job.specs.Boxes.{BoundsHold, IsCut, AreBoxed, box_of};
-ghost use Rattle.job.specs.Totals.{body_totals};
+ghost use Rattle.job.specs.Totals.{body_totals, total_of, joined};
 ghost use Rattle.job.specs.WellFormed.{IsReadable, IsJob, Solves};
 
 /// Reads lead to lower ranks. So a value is what its stage makes of the values that it reads, and steps beyond the rank change nothing.
@@ -31,12 +32,19 @@ pub fn values_fit()
     ensures { (job : Pipeline) (g : ℕ) (r c : ℤ) → IsJob job → IsReadable job.stages g r c → FitsSigned w32 (value job g r c) }
 {}
 
-/// Two valuations that have one value for all that is read give one value: for a formula at a point, for a stage at a point of its domain,
+/// Two valuations that have one value for all that is read give one value: for a formula at a point or over a
+/// region, for a stage at a point of its domain,
 /// and for the totals of an accumulator over an area.
 pub fn what_is_read_decides()
     ensures formula { (e h : Valuation) (f : Formula) (r c : ℤ) → EachRead (SameAt e h) f r c → formula_value e f r c ≡ formula_value h f r c }
+    ensures region { (e h : Valuation) (region : Area) (f : Formula) → AgreeOver e h region f → (r c : ℤ) → HoldsPoint region r c → formula_value e f r c ≡ formula_value h f r c }
     ensures stage { (picture : Image) (e h : Valuation) (domain : Area) (body : Body) (r c : ℤ) → AreBoxed domain body → HoldsPoint domain r c → BodyReads (SameAt e h) body r c → body_value picture e body r c ≡ body_value picture h body r c }
     ensures totals { (e h : Valuation) (area : Area) (body : Body) → IsArea area → ((r c : ℤ) → HoldsPoint area r c → BodyReads (SameAt e h) body r c) → body_totals e area body ≡ body_totals h area body }
+{}
+
+/// The total of two lists of values, one behind the other, is that of their totals.
+pub fn totals_join()
+    ensures { (way : Fold) (vs ws : List ℤ) → total_of way (vs ++ ws) ≡ joined way (total_of way vs) (total_of way ws) }
 {}
 
 /// The box of tests has the points of the domain at which the tests of bounds hold, and is an area if there are any.

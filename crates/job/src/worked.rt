@@ -6,7 +6,7 @@ ghost use Rattle.job.specs.Values.{value};
 ghost use Rattle.job.specs.Totals.{totals, totals_over};
 ghost use Rattle.job.specs.Answers.{image, samples, wanted};
 ghost use Rattle.job.specs.WellFormed.{IsJob};
-ghost use Rattle.job.specs.Worked.{area, tile, blur, halving, edges, turned, counting, missing};
+ghost use Rattle.job.specs.Worked.{area, tile, blur, halving, edges, turned, counting, outside};
 
 /// A stencil in the one case whose tests hold at the middle; elsewhere no case holds, and there is no `else`.
 pub fn blurs_the_middle()
@@ -43,5 +43,5 @@ pub fn histogram_by_tiles()
 
 /// A point whose bin lies outside changes nothing, and a bin without a point keeps its start.
 pub fn empty_bins_keep_start()
-    ensures { totals missing 1 ≡ pos 9223372036854775807 ∷ pos 9223372036854775807 ∷ pos 9223372036854775807 ∷ [] }
+    ensures { totals outside 1 ≡ pos 9223372036854775807 ∷ pos 9223372036854775807 ∷ pos 9223372036854775807 ∷ [] }
 {}

@@ -26,6 +26,3 @@ pub use fault::{Axis, BoundFault, CheckFault, Cycle, ParamFault};
 pub use params::{Params, Setting};
 pub use site::{Site, sites};
 pub use within::bounds;
-
-#[cfg(test)]
-mod tests;

@@ -22,6 +22,3 @@ pub use tree::{
     Item, Kernel, LiteralOp, Names, Output, Param, Relation, Row, Term, Test, Tree, Variable,
 };
 pub use uniqueness::{faults_are_determined, texts_have_one_tree};
-
-#[cfg(test)]
-mod tests;

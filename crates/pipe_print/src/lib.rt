@@ -12,6 +12,3 @@ mod printer;
 mod text;
 
 pub use text::print;
-
-#[cfg(test)]
-mod tests;

@@ -11,3 +11,6 @@ returns-clause-stage c = body_value-agrees_there
 
 pub returns-clause-totals : goal.returns-clause-totals
 returns-clause-totals c = λ e h area body is same. body_totals-agrees e h area is body same
+
+pub returns-clause-region : goal.returns-clause-region
+returns-clause-region c = λ e h region f same r c inside. formula_value-agrees e h r c f (same r c inside)

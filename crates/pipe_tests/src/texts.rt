@@ -1,6 +1,7 @@
 #![tactic(auto)]
+//! Which texts are read, and where the others have their faults.
 
-use super::*;
+use pipe_lang::{Item, parse};
 use std::alloc::{AllocError, Global};
 use std::test::*;
 

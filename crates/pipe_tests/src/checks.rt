@@ -1,7 +1,7 @@
 #![tactic(auto)]
-//! What no clause says.
+//! What is wrong with the names, the ranks and the bounds of programs.
 
-use crate::{Checked, Params, bounds, check};
+use pipe_checks::{Checked, Params, bounds, check};
 use pipe_lang::parse;
 use std::alloc::Global;
 use std::test::Fail;

@@ -1,7 +1,8 @@
 #![tactic(auto)]
+//! What trees are printed as.
 
-use super::*;
 use pipe_lang::parse;
+use pipe_print::print;
 use std::str;
 use std::test::*;
 
