@@ -11,7 +11,8 @@ use Rattle.pipe_lang.specs.declared.tree.Relation.{Relation}
 use Rattle.pipe_lang.specs.declared.tree.Relation.TheVariants.{AtMost, AtLeast, Equals}
 use Rattle.job.specs.Formula.{row, column, Test, compare, remainder}
 use Rattle.job.specs.Values.{along, is_related, is_passed, all_passed}
-use Rattle.job.specs.Boxes.{Relates, BoundHolds, BoundsHold, IsCut, cut_ends, cut_by, cut_by_all, if_some, box_of}
+use Rattle.pipe_checks.specs.Boxes.{IsCutArea}
+use Rattle.job.specs.Boxes.{Relates, BoundHolds, BoundsHold, cut_ends, cut_by, cut_by_all, if_some, box_of}
 
 Holds-cut_ends : (relation : Relation) (bound : ℤ) (s : Ends) (v : ℤ) → Holds (cut_ends relation bound s) v ↔ (Holds s v × Relates relation v bound)
 Holds-cut_ends AtMost bound s v = (
@@ -61,14 +62,14 @@ has_point a r c h =
     let top = h.0.0 in let bottom = h.0.1 in let left = h.1.0 in let right = h.1.1 in
     and_from (int_le a.rows.lo a.rows.hi) (int_le a.cols.lo a.cols.hi) (to_le a.rows.lo a.rows.hi (omega (arith, ints))) (to_le a.cols.lo a.cols.hi (omega (arith, ints)))
 
-if_some_is : (P : ℤ → ℤ → Type 0) (domain a : Area) → ((r c : ℤ) → HoldsPoint a r c ↔ (HoldsPoint domain r c × P r c)) → IsCut P domain (if_some a)
+if_some_is : (P : ℤ → ℤ → Type 0) (domain a : Area) → ((r c : ℤ) → HoldsPoint a r c ↔ (HoldsPoint domain r c × P r c)) → IsCutArea P domain (if_some a)
 if_some_is P domain a same = by (int_le a.rows.lo a.rows.hi && int_le a.cols.lo a.cols.hi) refl
   where
-    by : (t : Bool) → (int_le a.rows.lo a.rows.hi && int_le a.cols.lo a.cols.hi) ≡ t → IsCut P domain (if t then Some a else None)
+    by : (t : Bool) → (int_le a.rows.lo a.rows.hi && int_le a.cols.lo a.cols.hi) ≡ t → IsCutArea P domain (if t then Some a else None)
     by true e = same
     by false e = λ r c h. let some : (int_le a.rows.lo a.rows.hi && int_le a.cols.lo a.cols.hi) ≡ true = has_point a r c ((same r c).1 h) in absurd (cc)
 
-pub box_is_cut : (domain : Area) (ts : List Test) → IsCut (BoundsHold ts) domain (box_of domain ts)
+pub box_is_cut : (domain : Area) (ts : List Test) → IsCutArea (BoundsHold ts) domain (box_of domain ts)
 box_is_cut domain ts = if_some_is (BoundsHold ts) domain (cut_by_all ts domain) (HoldsPoint-cut_by_all ts domain)
 
 -- ---- a box is an area
@@ -83,7 +84,7 @@ box_ordered a box = by (int_le a.rows.lo a.rows.hi && int_le a.cols.lo a.cols.hi
         subst (λ (b : Area). (b.rows.lo ≤ℤ b.rows.hi) × (b.cols.lo ≤ℤ b.cols.hi)) same (le_from a.rows.lo a.rows.hi both.0, le_from a.cols.lo a.cols.hi both.1)
     by false e is = absurd (cc)
 
-within : (P : ℤ → ℤ → Type 0) (domain box : Area) (o : Option Area) → IsCut P domain o → o ≡ Some box → (r c : ℤ) → HoldsPoint box r c → HoldsPoint domain r c
+within : (P : ℤ → ℤ → Type 0) (domain box : Area) (o : Option Area) → IsCutArea P domain o → o ≡ Some box → (r c : ℤ) → HoldsPoint box r c → HoldsPoint domain r c
 within P domain box None cut is r c h = absurd (cc)
 within P domain box (Some a) cut is r c h = ((cut r c).0 (let same : box ≡ a = cc in subst (λ (b : Area). HoldsPoint b r c) same h)).0
 
@@ -115,7 +116,7 @@ passed_bounds : (ts : List Test) (r c : ℤ) → all_passed ts r c ≡ true → 
 passed_bounds [] r c e = tt
 passed_bounds (t ∷ ts) r c e = let both = and_parts (is_passed t r c) (all_passed ts r c) e in (passed_bound t r c both.0, passed_bounds ts r c both.1)
 
-there_in : (P : ℤ → ℤ → Type 0) (domain : Area) (o : Option Area) (r c : ℤ) → IsCut P domain o → HoldsPoint domain r c → P r c → (box : Area) × (o ≡ Some box) × HoldsPoint box r c
+there_in : (P : ℤ → ℤ → Type 0) (domain : Area) (o : Option Area) (r c : ℤ) → IsCutArea P domain o → HoldsPoint domain r c → P r c → (box : Area) × (o ≡ Some box) × HoldsPoint box r c
 there_in P domain None r c cut h p = absurd (cut r c (h, p))
 there_in P domain (Some box) r c cut h p = (box, refl, (cut r c).1 (h, p))
 

@@ -1,11 +1,12 @@
 -- Boxes: the points of a domain at which the tests of bounds hold. Tests of remainders leave all points in a box.
-use Rattle.std.specs.Prelude.{ℤ, ◌≤ℤ◌, ◌≡◌, ◌↔◌, int_le, ◌&&◌, if◌then◌else◌, Option, Some, None, List, [], ◌∷◌, All}
+use Rattle.std.specs.Prelude.{ℤ, ◌≤ℤ◌, ◌≡◌, int_le, ◌&&◌, if◌then◌else◌, Option, Some, None, List, [], ◌∷◌, All}
 use Rattle.std.specs.Int.{int_min, int_max}
 use Rattle.domains.specs.Span.{Ends}
 use Rattle.domains.specs.Area.{HoldsPoint}
 use Rattle.domains.specs.declared.area.Area.{Area}
 use Rattle.pipe_lang.specs.declared.tree.Relation.{Relation}
 use Rattle.pipe_lang.specs.declared.tree.Relation.TheVariants.{AtMost, AtLeast, Equals}
+use Rattle.pipe_checks.specs.Boxes.{IsCutArea}
 use Rattle.job.specs.Formula.{Axis, row, column, Test, compare, remainder}
 use Rattle.job.specs.Pipeline.{Body, plane, function, accumulator}
 use Rattle.job.specs.Values.{along}
@@ -22,11 +23,6 @@ BoundHolds (remainder x modulus rest) r c = Unit {0}
 abbrev pub BoundsHold : List Test → ℤ → ℤ → Type 0
 BoundsHold [] r c = Unit {0}
 BoundsHold (t ∷ ts) r c = BoundHolds t r c × BoundsHold ts r c
-
--- the points of an area for which P holds, if there are any
-abbrev pub IsCut : (ℤ → ℤ → Type 0) → Area → Option Area → Type 0
-IsCut P a None = (r c : ℤ) → ¬ (HoldsPoint a r c × P r c)
-IsCut P a (Some box) = (r c : ℤ) → HoldsPoint box r c ↔ (HoldsPoint a r c × P r c)
 
 -- ---- the box, by its ends
 

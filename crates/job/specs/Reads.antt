@@ -1,10 +1,11 @@
 -- What formulas and stages read, and the ranks of stages.
-use Rattle.std.specs.Prelude.{ℕ, ◌+◌, ◌<◌, max, ℤ, ◌≡◌, Option, Some, None, List, [], ◌∷◌, ◌++◌, map, length, slice_get, All}
+use Rattle.std.specs.Prelude.{ℕ, ◌+◌, ◌<◌, ℤ, ◌≡◌, Option, Some, None, List, [], ◌∷◌, ◌++◌, map, length, slice_get, All}
 use Rattle.std.specs.List.{flat_map}
 use Rattle.std.specs.Option.{ForSome}
 use Rattle.domains.specs.Index.{Scale, index_at}
 use Rattle.domains.specs.Area.{HoldsPoint}
 use Rattle.domains.specs.declared.area.Area.{Area}
+use Rattle.pipe_checks.specs.Graph.{greatest}
 use Rattle.job.specs.Formula.{Formula, number, coordinate, read, neg, binary, literal, abs, clamp, select, stencil}
 use Rattle.job.specs.Pipeline.{Piece, Body, plane, function, accumulator, Stage, rank_of}
 use Rattle.job.specs.Values.{Valuation, factors, kernel_row, kernel_column}
@@ -75,11 +76,6 @@ formulas_of (accumulator fold bins value bin) = value ∷ bin ∷ []
 
 abbrev pub reads_of : Body → List Read
 reads_of body = flat_map reads_in (formulas_of body)
-
--- the greatest of the numbers; 0 where there are none
-abbrev pub greatest : List ℕ → ℕ
-greatest [] = 0
-greatest (n ∷ ns) = max n (greatest ns)
 
 -- the rank of a stage by the ranks of those that it reads: 0 of a plane, else 1 more than the greatest, or 1
 abbrev pub rank_by : List Stage → Body → ℕ

@@ -16,7 +16,7 @@ use Rattle.job.specs.Pipeline.{Piece, plane, function, accumulator, Stage, Pipel
 abbrev pub ends : ℤ → ℤ → Ends
 ends lo hi = record { lo = lo; hi = hi }
 
--- rows 0 to bottom, columns 0 to right
+-- from the point (0, 0) to the point (bottom, right)
 abbrev pub area : ℤ → ℤ → Area
 area bottom right = record { rows = ends (pos 0) bottom; cols = ends (pos 0) right }
 

@@ -10,7 +10,8 @@ ghost use Rattle.job.specs.Formula.{Formula, Test};
 ghost use Rattle.job.specs.Pipeline.{Body, Stage, Pipeline, rank_of};
 ghost use Rattle.job.specs.Values.{Valuation, formula_value, body_value, stage_value, value_within, value};
 ghost use Rattle.job.specs.Reads.{EachRead, BodyReads, SameAt, AgreeOver, stage_read, reads_of, IsRanked};
-ghost use Rattle.job.specs.Boxes.{BoundsHold, IsCut, AreBoxed, box_of};
+ghost use Rattle.pipe_checks.specs.Boxes.{IsCutArea};
+ghost use Rattle.job.specs.Boxes.{BoundsHold, AreBoxed, box_of};
 ghost use Rattle.job.specs.Totals.{body_totals, total_of, joined};
 ghost use Rattle.job.specs.WellFormed.{IsReadable, IsJob, Solves};
 
@@ -49,6 +50,6 @@ pub fn totals_join()
 
 /// The box of tests has the points of the domain at which the tests of bounds hold, and is an area if there are any.
 pub fn boxes_are_cut_by_bounds()
-    ensures cut { (domain : Area) (tests : List Test) → IsCut (BoundsHold tests) domain (box_of domain tests) }
+    ensures cut { (domain : Area) (tests : List Test) → IsCutArea (BoundsHold tests) domain (box_of domain tests) }
     ensures area { (domain box : Area) (tests : List Test) → IsArea domain → box_of domain tests ≡ Some box → IsArea box }
 {}

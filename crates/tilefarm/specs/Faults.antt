@@ -1,5 +1,5 @@
 -- What a command has read and written where it ends.
-use Rattle.std.specs.Prelude.{◌≡◌, ℕ, List, Option, Result, Ok, Err, IfSome}
+use Rattle.std.specs.Prelude.{◌≡◌, ℕ, List, length, Option, Result, Ok, Err, IfSome}
 use Rattle.std.specs.Io.KnownBytes.{Appends}
 use Rattle.netpbm.specs.Image.{Image, IsImage}
 use Rattle.netpbm.specs.Spelling.{spelling}
@@ -14,9 +14,9 @@ IsOfInput Read = ⊥
 IsOfInput Write = ⊥
 IsOfInput _ = Unit {0}
 
--- the picture has the shape of the input's result, where the input is known
+-- the picture has one plane, and where the input is known the shape of its result
 abbrev pub IsResultOfKnown : Option (List ℕ) → List Given → Image → Type 0
-IsResultOfKnown known given picture = IsImage picture × IfSome known (λ input. IsShapedResult input given picture)
+IsResultOfKnown known given picture = IsImage picture × (length picture.planes ≡ 1) × IfSome known (λ input. IsShapedResult input given picture)
 
 -- the writer took the raw spelling of such a picture
 abbrev pub AppendsResult : Option (List ℕ) → List Given → Option (List ℕ) → Option (List ℕ) → Type 0

@@ -1,6 +1,6 @@
 //! From the bytes of the input to the bytes of the result.
 
-ghost use Rattle.std.specs.Prelude.{◌≡◌, All, IfOk, IfErr, IfSome};
+ghost use Rattle.std.specs.Prelude.{◌≡◌, All, IfOk, IfErr, IfSome, length};
 ghost use Rattle.netpbm.specs.Image.{IsImage};
 ghost use Rattle.tilefarm.specs.Faults.{WritesResult, CountsRead, CountsWritten, IsOfInput};
 ghost use Rattle.tilefarm.specs.Input.{IsGiven, IsShapedResult};
@@ -66,6 +66,7 @@ fn read_input<R: Source>(alloc: Global, reader: &mut R) -> Result<Vec<u8>, Strea
 /// The result of the program and the picture that the input spells.
 fn result_of(alloc: Global, given: &[(String, i32)], input: &[u8]) -> Result<Picture, StreamFault>
     ensures shape { IfOk result (IsShapedResult input.now given.now) }
+    ensures grey { IfOk result (λ picture. length picture.planes ≡ 1) }
     ensures image { IfOk result IsImage }
     ensures err { IfErr result IsOfInput }
 {

@@ -128,6 +128,7 @@ fn combine(op: BinaryOp, values: &mut [i32], others: &[i32]) {
 /// The result of a job: the output function's values, each cut to 0 and the greatest sample.
 pub fn evaluate(alloc: Global, job: &Job) -> Result<Picture, StreamFault>
     ensures shape { IfOk result (IsShapedAsOutput job.now) }
+    ensures grey { IfOk result (λ picture. length picture.planes ≡ 1) }
     ensures image { IfOk result IsImage }
     ensures err { IfErr result IsOfInput }
 {
@@ -220,6 +221,7 @@ fn function_values(
 fn cut_picture(alloc: Global, values: &[i32], domain: &Area, max: u16) -> Result<Picture, BindFault>
     ensures sides { IfOk result (HasSides domain.now.rows domain.now.cols) }
     ensures greatest { IfOk result (λ picture. picture.max ≡ max) }
+    ensures grey { IfOk result (λ picture. length picture.planes ≡ 1) }
 {
     let mut samples = Vec::with_capacity(alloc, values.len())?;
     for value in values {
