@@ -13,6 +13,3 @@ pub use area::Area;
 pub use grid::{Grid, MOST_SIDE, TileSides};
 pub use index::Index;
 pub use span::{LIMIT, Span};
-
-#[cfg(test)]
-mod tests;

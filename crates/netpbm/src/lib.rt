@@ -21,6 +21,3 @@ pub use reading::read;
 pub use stream::{Metered, Sink, Source};
 pub use whole::{SourceFault, WriteFailed, read_whole, write_whole};
 pub use writing::{raw, write_raw};
-
-#[cfg(test)]
-mod tests;

@@ -14,6 +14,3 @@ pub use lexer::{Lexed, lex};
 pub use name::Name;
 pub use spelling::spell;
 pub use token::{Mark, Token, Word};
-
-#[cfg(test)]
-mod tests;
