@@ -1,14 +1,15 @@
 -- The distances of the stages from a goal, level by level.
-use Rattle.std.proofs.Common.{ℕ, zero, suc, ◌+◌, ◌-◌, ◌<◌, ◌≤◌, ◌≡◌, ◌≢◌, ◌⊎◌, inl, inr, Bool, true, false, cond, eqb, List, [], ◌∷◌, Option, Some, None, is_none, length, get_or, slice_get, sym, ◌∙◌, ap, refl, subst, arith}
+use Rattle.std.proofs.Common.{ℕ, zero, suc, ◌+◌, ◌<◌, ◌≤◌, ◌≡◌, ◌≢◌, ◌⊎◌, inl, inr, true, false, cond, eqb, List, [], ◌∷◌, Option, Some, None, is_none, length, get_or, slice_get, sym, ◌∙◌, ap, refl, subst, arith}
 use Rattle.std.proofs.lemmas.Bool.{cases_lt, eq-eqb}
 use Rattle.std.proofs.lemmas.Bool.Decides.{eqb_tells}
-use Rattle.std.proofs.lemmas.Option.{slice_get_within, slice_get-get_or, get_or_from_slice_get, same_Some, none-some}
+use Rattle.std.proofs.lemmas.Option.{slice_get_within, slice_get-get_or, same_Some, none-some}
 use Rattle.std.proofs.lemmas.List.{get_or_past}
 use Rattle.std.proofs.lemmas.List.Sums.{sum_by-cons}
 use Rattle.std.specs.Prelude.{Contains}
 use Rattle.pipe_checks.specs.Links.{Links}
 use Rattle.pipe_checks.proofs.Unknown.{unknowns-le}
-use Rattle.pipe_checks.specs.Graph.{links_at, Reads, Way, unknowns, SomeAt, LeadsOn, IsStepAt, IsStepFrom, AreDistances}
+use Rattle.pipe_checks.specs.Graph.{links_at, Reads, Way}
+use Rattle.pipe_checks.specs.Search.{unknowns, SomeAt, LeadsOn, IsStepAt, IsStepFrom, AreDistances}
 
 -- the distances up to k are known, and no others
 pub record KnownUpTo (g : List Links) (goal k : ℕ) (far : List (Option ℕ)) : Type 0 where

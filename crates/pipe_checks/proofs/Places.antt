@@ -1,5 +1,5 @@
 -- Places in lists.
-use Rattle.std.proofs.Common.{ℕ, ◌+◌, ◌<◌, ◌≤◌, ◌≡◌, ◌⊎◌, inl, inr, Bool, List, ◌∷◌, Option, Some, Ok, Err, ◌||◌, refl, length, drop, get_or, slice_get, position, sym, ◌∙◌, ap, subst, arith, nat_lt}
+use Rattle.std.proofs.Common.{ℕ, ◌+◌, ◌<◌, ◌≤◌, ◌≡◌, ◌⊎◌, inl, inr, Bool, List, ◌∷◌, Some, Ok, Err, ◌||◌, refl, length, drop, get_or, slice_get, position, sym, ◌∙◌, ap, subst, arith, nat_lt}
 use Rattle.std.specs.List.{position_or_len, list_any}
 use Rattle.std.specs.Option.{option_map}
 use Rattle.std.proofs.lemmas.Bool.{cases_lt}

@@ -1,5 +1,5 @@
 -- Ranks are found for all stages exactly where no stage leads back to itself.
-use Rattle.std.proofs.Common.{ℕ, zero, suc, ◌+◌, ◌-◌, ◌<◌, ◌≤◌, max, ◌≡◌, ◌≢◌, ◌⊎◌, inl, inr, Bool, true, false, cond, eqb, List, [], ◌∷◌, ◌++◌, Option, Some, None, unwrap_or, map, length, drop, set, get_or, slice_get, slice_index, replicate, ◌||◌, sym, ◌∙◌, ap, refl, subst, arith}
+use Rattle.std.proofs.Common.{ℕ, zero, suc, ◌+◌, ◌-◌, ◌<◌, ◌≤◌, max, ◌≡◌, ◌≢◌, ◌⊎◌, inl, inr, Bool, true, false, cond, eqb, List, [], ◌∷◌, Option, Some, None, unwrap_or, map, length, drop, set, get_or, slice_get, slice_index, replicate, ◌||◌, sym, ◌∙◌, ap, refl, subst, arith}
 use Rattle.std.specs.List.{IsDistinct, AllByRecursion, list_any}
 use Rattle.std.proofs.lemmas.Bool.{cases_eq, cases_lt}
 use Rattle.std.proofs.lemmas.Bool.Decides.{eqb_tells}
@@ -8,7 +8,9 @@ use Rattle.std.proofs.lemmas.List.{get_or-set_other, get_or_past, get_or_read, g
 use Rattle.std.proofs.lemmas.Map.Keys.{IsDistinct-cons}
 use Rattle.std.proofs.lemmas.Map.Steps.{length-le_from_distinct_below}
 use Rattle.pipe_checks.specs.Links.{Links}
-use Rattle.pipe_checks.specs.Graph.{links_at, Reads, greatest, rank_over, IsRanking, Way, IsAcyclic, unknowns, known_rank, IsBounded, SomeUnranked, AreRanked}
+use Rattle.pipe_checks.specs.Graph.{links_at, Reads, greatest, IsRanking, Way, IsAcyclic}
+use Rattle.pipe_checks.specs.Search.{rank_over, unknowns, known_rank, IsBounded, SomeUnranked, AreRanked}
+use Rattle.pipe_checks.proofs.Numbering.{ranking-from_recurrence}
 use Rattle.pipe_checks.proofs.Unknown.{slice_get-set_same, slice_get-set_other, unknowns-set, unknowns-le}
 
 -- ---- the greatest
@@ -161,7 +163,7 @@ ranked_start g n e = record {
 -- ---- all stages have their ranks
 
 pub ranking_of : (g : List Links) (ranks : List (Option ℕ)) (v : List ℕ) → AreRanked g ranks → map Some v ≡ ranks → IsRanking g v
-ranking_of g ranks v h e = record { each = each; rank = rank }
+ranking_of g ranks v h e = ranking-from_recurrence g v (record { each = each; rank = rank })
   where
     each : length v ≡ length g
     each = sym (length-map v Some) ∙ ap length e ∙ h.each

@@ -1,10 +1,9 @@
 -- Lists of which some elements are not known yet.
-use Rattle.std.proofs.Common.{ℕ, zero, ◌++◌, Result, Ok, Err, IfOk, IfNone, subst, suc, ◌+◌, ◌<◌, ◌≤◌, ◌≡◌, ◌≢◌, List, [], ◌∷◌, Option, Some, None, length, set, get_or, slice_get, sym, ◌∙◌, ap, refl, arith, is_none, is_some, cond, Bool, true, false}
+use Rattle.std.proofs.Common.{ℕ, zero, ◌++◌, Result, Ok, Err, IfOk, IfNone, subst, suc, ◌+◌, ◌<◌, ◌≤◌, ◌≡◌, ◌≢◌, List, [], ◌∷◌, Option, Some, None, length, set, get_or, slice_get, sym, ◌∙◌, ap, refl, arith, is_none, is_some, cond, true, false}
 use Rattle.std.proofs.lemmas.Bool.{false≢true}
 use Rattle.std.proofs.lemmas.Option.{slice_get_within, slice_get-get_or, get_or_from_slice_get, same_Some, none-some}
-use Rattle.std.proofs.lemmas.List.{get_or-set_other, get_or-set_same, length-set}
 use Rattle.std.proofs.lemmas.List.Sums.{sum_by-set, count_by-le-length}
-use Rattle.pipe_checks.specs.Graph.{unknowns}
+use Rattle.pipe_checks.specs.Search.{unknowns}
 
 pub slice_get-set_same : {X : Type 0} (xs : List X) (i : ℕ) (y : X) → i < length xs → slice_get (set xs i y) i ≡ Some y
 slice_get-set_same [] i y h = absurd (omega arith)

@@ -1,5 +1,5 @@
 -- The box of a case: the points of a domain at which the tests of bounds hold.
-use Rattle.std.specs.Prelude.{ℕ, ℤ, pos, negsuc, ◌≤ℤ◌, ◌≡◌, ◌↔◌, Option, Some, None, if◌then◌else◌, List, [], ◌∷◌}
+use Rattle.std.specs.Prelude.{ℕ, ℤ, ◌≤ℤ◌, ◌↔◌, Option, Some, None, if◌then◌else◌, List, [], ◌∷◌}
 use Rattle.std.specs.Str.{bytes_eq}
 use Rattle.domains.specs.Span.{Ends, Holds}
 use Rattle.domains.specs.Area.{HoldsPoint}

@@ -1,5 +1,5 @@
 -- What `check` finds in a program.
-use Rattle.std.specs.Prelude.{ℕ, ◌<◌, ◌≡◌, ◌⊎◌, Bool, true, false, IsTrue, Option, Some, None, is_some, Result, Ok, Err, List, [], ◌∷◌, take, slice_get}
+use Rattle.std.specs.Prelude.{ℕ, ◌<◌, ◌≡◌, ◌⊎◌, Bool, true, false, IsTrue, Option, Some, None, is_some, Ok, Err, List, take, slice_get}
 use Rattle.std.specs.List.{list_any}
 use Rattle.pipe_lang.specs.declared.tree.Tree.{Tree}
 use Rattle.pipe_lang.specs.Tree.{Declaration, param, image, function, accumulator, output, content}
@@ -9,7 +9,6 @@ use Rattle.pipe_checks.specs.declared.fault.Misuse.TheVariants as misuse
 use Rattle.pipe_checks.specs.declared.fault.CheckFault.{CheckFault}
 use Rattle.pipe_checks.specs.declared.fault.CheckFault.TheVariants.{Unknown, Twice, Kind, BadKernel, BadLiteral, NoResult, Cycle, Memory}
 use Rattle.pipe_checks.specs.declared.checked.Checked.{Checked}
-use Rattle.pipe_checks.specs.declared.checked.Found.{Found}
 use Rattle.pipe_checks.specs.Links.{Links}
 use Rattle.pipe_checks.specs.Graph.{IsRanking, IsShortestCycle}
 use Rattle.pipe_checks.specs.Names.{declared_names, params_of, stages_of, number_of}
@@ -55,17 +54,6 @@ pub record IsFirstWrong (names : List Declared) (ds : List Declaration) (wrong :
   pub is : verdict_of names item ≡ Err wrong
   pub first : (k : ℕ) (d : Declaration) → k < n → slice_get ds k ≡ Some d → verdict_of names d ≡ Ok tt
 
-abbrev pub fault_of : Misuse → ℕ → CheckFault
-fault_of misuse.Unknown n = Unknown n
-fault_of misuse.Kind n = Kind n
-fault_of misuse.BadKernel n = BadKernel n
-fault_of misuse.BadLiteral n = BadLiteral n
-
--- all places are good, or this is the fault of the first that is not
-abbrev pub IsJudged : List Declared → List Declaration → Result (Unit {0}) CheckFault → Type 0
-IsJudged names ds (Ok u) = AllGood names ds
-IsJudged names ds (Err f) = (wrong : Misuse) × (n : ℕ) × (f ≡ fault_of wrong n) × IsFirstWrong names ds wrong n
-
 -- ---- the whole
 
 abbrev pub is_result : Declaration → Bool
@@ -91,46 +79,26 @@ IsFault ds NoResult = IsNamed ds × (list_any is_result ds ≡ false)
 IsFault ds (Cycle c) = IsNamed ds × (list_any is_result ds ≡ true) × IsShortestCycle (graph_of ds) c
 IsFault ds Memory = Unit {0}
 
--- stages that read each other in a circle, or memory
-abbrev pub IsCircular : List Links → CheckFault → Type 0
-IsCircular g (Cycle c) = IsShortestCycle g c
-IsCircular g Memory = Unit {0}
-IsCircular g (Twice n) = ⊥
-IsCircular g (Unknown n) = ⊥
-IsCircular g (Kind n) = ⊥
-IsCircular g (BadKernel n) = ⊥
-IsCircular g (BadLiteral n) = ⊥
-IsCircular g NoResult = ⊥
-
 -- what a stage of the graph reads
 abbrev pub reads_at : Option Links → Option (List ℕ)
 reads_at None = None
 reads_at (Some l) = Some l.reads
-
--- what is found of a program without a fault
-pub record IsFound (ds : List Declaration) (f : Found) : Type 0 where
-  pub named : IsNamed ds
-  pub result : list_any is_result ds ≡ true
-  pub stages : f.stages.items ≡ stages_of ds
-  pub params : f.params.items ≡ params_of ds
-  pub reads : f.graph.items ≡ graph_of ds
-  pub ranks : IsRanking (graph_of ds) f.ranks.items
 
 -- what `check` keeps of a program
 abbrev pub tree_in : Checked → Tree
 tree_in c = c.tree
 
 abbrev pub stages_in : Checked → List Declared
-stages_in c = c.stages.items
+stages_in c = c.stages
 
 abbrev pub params_in : Checked → List Declared
-params_in c = c.params.items
+params_in c = c.params
 
 abbrev pub graph_in : Checked → List Links
-graph_in c = c.graph.items
+graph_in c = c.graph
 
 abbrev pub ranks_in : Checked → List ℕ
-ranks_in c = c.ranks.items
+ranks_in c = c.ranks
 
 -- the names, ranks and reads of a program that means something
 pub record IsCheckedOf (tree : Tree) (c : Checked) : Type 0 where

@@ -1,5 +1,6 @@
 pub mod FaultTable
 pub mod Links
+pub mod CheckedProgram
 pub mod Graph
 pub mod Names
 pub mod Sites
@@ -10,4 +11,7 @@ pub mod Unset
 pub mod Boxes
 pub mod Domains
 pub mod Checking
+pub mod Search
 pub mod Within
+pub mod InBounds
+pub mod Taken

@@ -1,5 +1,5 @@
 -- Names that stand for two things.
-use Rattle.std.specs.Prelude.{ℕ, ◌+◌, Bool, false, ◌||◌, ◌&&◌, ◌==◌, Option, Some, None, is_some, List, [], ◌∷◌, ◌++◌}
+use Rattle.std.specs.Prelude.{ℕ, Bool, false, ◌||◌, Option, Some, None, is_some, List}
 use Rattle.std.specs.Str.{bytes_eq}
 use Rattle.pipe_lang.specs.Tree.{Declaration, param, image, function, accumulator, output}
 use Rattle.pipe_checks.specs.declared.declared.Declared.{Declared}

@@ -1,6 +1,6 @@
 -- What the places of an item want, in the order of the text. A verdict is Ok, or what is wrong at the first place that does
 -- not hold what it wants.
-use Rattle.std.specs.Prelude.{ℕ, ◌-◌, ◌%◌, ℤ, pos, negsuc, int_le, Bool, true, false, ◌&&◌, ◌==◌, nat_le, if◌then◌else◌, Option, Some, None, Result, Ok, Err, List, [], ◌∷◌, length}
+use Rattle.std.specs.Prelude.{ℕ, ◌%◌, ℤ, pos, negsuc, int_le, Bool, true, false, ◌&&◌, ◌==◌, nat_le, nat_lt, if◌then◌else◌, Option, Some, None, Result, Ok, Err, List, [], ◌∷◌, length}
 use Rattle.std.specs.List.{list_all}
 use Rattle.std.specs.Str.{bytes_eq}
 use Rattle.pipe_lang.specs.declared.tree.Term.{Term}
@@ -80,16 +80,23 @@ name_verdict names own x w = kind_verdict w (standing_at names own x)
 
 -- ---- numbers
 
+-- the greatest number of a text
+abbrev pub greatest_number : ℕ
+greatest_number = 2147483647
+
 abbrev pub range_verdict : ℕ → ℕ → ℕ → Verdict
 range_verdict n least most = if nat_le least n && nat_le n most then Ok tt else Err BadLiteral
+
+abbrev pub below_verdict : ℕ → ℕ → Verdict
+below_verdict n bound = if nat_lt n bound then Ok tt else Err BadLiteral
 
 -- what an index adds
 abbrev pub add_verdict : ℤ → Verdict
 add_verdict n = if int_le (negsuc 4095) n && int_le n (pos 4096) then Ok tt else Err BadLiteral
 
 abbrev pub literal_verdict : LiteralOp → ℕ → Verdict
-literal_verdict Div n = range_verdict n 1 4294967295
-literal_verdict Rem n = range_verdict n 1 4294967295
+literal_verdict Div n = range_verdict n 1 greatest_number
+literal_verdict Rem n = range_verdict n 1 greatest_number
 literal_verdict Shl n = range_verdict n 0 31
 literal_verdict Shr n = range_verdict n 0 31
 
@@ -124,10 +131,10 @@ read_verdict names own x i j =
 
 abbrev pub stencil_verdict : List Declared → Own → List ℕ → ℕ → List (List ℤ) → Verdict
 stencil_verdict names own x d k =
-    and_then (name_verdict names own x wanted.Readable) (and_then (range_verdict d 1 4294967295) (kernel_verdict k))
+    and_then (name_verdict names own x wanted.Readable) (and_then (range_verdict d 1 greatest_number) (kernel_verdict k))
 
 abbrev pub expr_verdict : List Declared → Own → Node → Verdict
-expr_verdict names own (number n) = Ok tt
+expr_verdict names own (number n) = range_verdict n 0 greatest_number
 expr_verdict names own (variable x) = name_verdict names own x wanted.Number
 expr_verdict names own (read x i j) = read_verdict names own x i j
 expr_verdict names own (neg a) = expr_verdict names own a
@@ -142,7 +149,7 @@ expr_verdict names own (stencil x d k) = stencil_verdict names own x d k
 abbrev pub test_verdict : List Declared → Own → Test → Verdict
 test_verdict names own (Compare x relation bound) = and_then (name_verdict names own x wanted.Variable) (affine_verdict names own bound)
 test_verdict names own (Remainder x m r) =
-    and_then (name_verdict names own x wanted.Variable) (and_then (range_verdict m 1 4294967295) (range_verdict r 0 (m - 1)))
+    and_then (name_verdict names own x wanted.Variable) (and_then (range_verdict m 1 greatest_number) (below_verdict r m))
 
 abbrev pub tests_verdict : List Declared → Own → List Test → Verdict
 tests_verdict names own [] = Ok tt

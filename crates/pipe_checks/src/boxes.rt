@@ -2,6 +2,7 @@
 //! The box of a case: the points of the domain that its tests of bounds leave.
 
 ghost use Rattle.std.specs.Prelude.{◌≡◌, ◌≤ℤ◌, IfSome};
+ghost use Rattle.domains.specs.Span.{IsSubspan};
 ghost use Rattle.pipe_checks.specs.Boxes.{IsCut, Meets, IsCutArea, BoundHolds, BoundsHold};
 ghost use Rattle.pipe_checks.specs.Settings.{affine_value};
 
@@ -47,7 +48,8 @@ fn cut_span(span: &Span, relation: Relation, bound: i128) -> Option<Span>
 }
 
 fn cut(params: &Params, row: &Name, area: &Area, test: &Test) -> Option<Area>
-    ensures { IsCutArea (BoundHolds params.now row.now test.now) area.now result }
+    ensures points { IsCutArea (BoundHolds params.now row.now test.now) area.now result }
+    ensures within { IfSome result (λ m. IsSubspan m.rows area.now.rows × IsSubspan m.cols area.now.cols) }
 {
     match test {
         Test::Compare(name, relation, bound) => {
@@ -70,10 +72,11 @@ fn cut(params: &Params, row: &Name, area: &Area, test: &Test) -> Option<Area>
     }
 }
 
-/// The points of a domain at which all tests of bounds hold, of a case whose variable of the rows is `row`. Tests of a
-/// remainder leave all points.
+/// The points of a domain at which all tests of bounds hold, of a case whose variable of the rows is `row`; any other name is
+/// the variable of the columns. Tests of a remainder leave all points.
 pub fn case_box(params: &Params, row: &Name, domain: &Area, tests: &[Test]) -> Option<Area>
-    ensures { IsCutArea (BoundsHold params.now row.now tests.now) domain.now result }
+    ensures points { IsCutArea (BoundsHold params.now row.now tests.now) domain.now result }
+    ensures within { IfSome result (λ m. IsSubspan m.rows domain.now.rows × IsSubspan m.cols domain.now.cols) }
 {
     let mut left = *domain;
     for test in tests {

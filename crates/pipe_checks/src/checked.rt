@@ -1,12 +1,14 @@
 #![tactic(auto)]
 //! Programs whose names stand for what their places want.
 
-ghost use Rattle.std.specs.Prelude.{◌≡◌, true, false, Some, None, Ok, Err, IsTrue, IfOk, IfErr, IfSome, IfNone, OnOk, slice_get};
+ghost use Rattle.std.specs.Prelude.{◌≡◌, true, false, Some, None, Ok, Err, OnOk, IfOk, IfErr, slice_get};
 ghost use Rattle.std.specs.List.{list_any};
 ghost use Rattle.std.specs.Option.{option_copied};
 ghost use Rattle.pipe_lang.specs.Tree.{content, declaration, declarations};
-ghost use Rattle.pipe_checks.specs.Graph.{IsRanking, IsShortestCycle};
-ghost use Rattle.pipe_checks.specs.Checking.{AllGood, IsFault, IsCheckedOf, IsCircular, IsJudged, IsFound, tree_in, stages_in, params_in, graph_in, ranks_in, is_result, verdict_of, fault_of, reads_at};
+ghost use Rattle.pipe_checks.specs.Names.{declared_names};
+ghost use Rattle.pipe_checks.specs.Graph.{IsRanking};
+ghost use Rattle.pipe_checks.specs.Checking.{IsNamed, IsFault, IsCheckedOf, tree_in, stages_in, params_in, graph_in, ranks_in, is_result, verdict_of, reads_at};
+ghost use Rattle.pipe_checks.specs.Search.{IsCyclic, IsJudged, IsFound, fault_of};
 
 use crate::cycles::shortest_cycle;
 use crate::declared::{Declared, declared_names, params_of, stages_of};
@@ -17,8 +19,9 @@ use crate::twice::{first_twice, own_of};
 use crate::uses::judge_item;
 use pipe_lang::{Item, Tree};
 use std::alloc::Global;
+use std::marker::Model;
 
-/// A program whose names all stand for what their places want, and whose stages do not read each other in a circle. Only
+/// A program whose names all stand for what their places want, and whose stages do not read each other in a cycle. Only
 /// `check` makes one.
 #[derive(Debug, Drop)]
 pub struct Checked {
@@ -29,10 +32,27 @@ pub struct Checked {
     ranks: Vec<usize>,
 }
 
+impl Model for Checked {
+    ghost use Rattle.std.specs.Coded.{codes};
+    ghost use Rattle.pipe_lang.specs.contracts.tree.Expr as expr;
+    ghost use Rattle.pipe_checks.specs.CheckedProgram.{CheckedProgram};
+
+    ghost Value = { CheckedProgram };
+
+    ghost coded = { Prim.hlevel (codes, expr.the_row.coded) };
+
+    ghost use Rattle.pipe_checks.specs.Checking.{IsCheckedOf};
+
+    ghost view = { λ c. record { tree = c.tree; stages = c.stages.items; params = c.params.items; graph = c.graph.items; ranks = c.ranks.items } };
+
+    ghost invariant = { λ c. IsCheckedOf c.tree (record { tree = c.tree; stages = c.stages.items; params = c.params.items; graph = c.graph.items; ranks = c.ranks.items }) };
+}
+
 impl Checked {
     /// The program.
     pub fn tree(&self) -> &Tree
-        ensures { result.now ≡ tree_in self.now }
+        ensures program { result.now ≡ tree_in self.now }
+        ensures checked { IsCheckedOf (tree_in self.now) self.now }
     {
         &self.tree
     }
@@ -58,7 +78,8 @@ impl Checked {
         self.ranks.as_slice().get(stage).copied()
     }
 
-    /// The numbers of the stages that a stage reads, in the order of the text.
+    /// The numbers of the stages that a stage reads, in the order of the text, each as often as it is read; none where there
+    /// is no such stage.
     pub fn reads(&self, stage: usize) -> Option<&[usize]>
         ensures { option_copied result ≡ reads_at (slice_get (graph_in self.now) stage) }
     {
@@ -97,6 +118,19 @@ fn judge_all(declared: &[Declared], items: &[Item]) -> Result<(), CheckFault>
     Ok(())
 }
 
+// Whether each name stands for one thing, and then whether each place holds what it wants.
+#[tactic(auto, using(crate::proofs::Faulting::twice_fault, crate::proofs::Faulting::judged_named, crate::proofs::Faulting::judged_fault))]
+fn judge_names(names: &[Declared], items: &[Item]) -> Result<(), CheckFault>
+    requires { names.now ≡ declared_names (declarations items.now) }
+    ensures ok { OnOk result (IsNamed (declarations items.now)) }
+    ensures err { IfErr result (IsFault (declarations items.now)) }
+{
+    match first_twice(names, items) {
+        Some(item) => Err(CheckFault::Twice(item)),
+        None => judge_all(names, items),
+    }
+}
+
 fn is_result(item: &Item) -> bool
     ensures { result ≡ is_result (declaration item.now) }
 {
@@ -119,7 +153,7 @@ fn has_result(items: &[Item]) -> bool
 
 fn ranks_of(alloc: Global, graph: &[Links]) -> Result<Vec<usize>, CheckFault>
     ensures ok { IfOk result (λ v. IsRanking graph.now v.items) }
-    ensures err { IfErr result (IsCircular graph.now) }
+    ensures err { IfErr result (IsCyclic graph.now) }
 {
     match ranks(alloc, graph)? {
         Some(ranks) => Ok(ranks),
@@ -143,10 +177,7 @@ fn findings(alloc: Global, items: &[Item]) -> Result<Found, CheckFault>
     ensures err { IfErr result (IsFault (declarations items.now)) }
 {
     let names = declared_names(alloc, items)?;
-    if let Some(item) = first_twice(&names, items) {
-        return Err(CheckFault::Twice(item));
-    }
-    judge_all(&names, items)?;
+    judge_names(&names, items)?;
     if !has_result(items) {
         return Err(CheckFault::NoResult);
     }
@@ -163,7 +194,7 @@ fn findings(alloc: Global, items: &[Item]) -> Result<Found, CheckFault>
 }
 
 /// The program, or its first fault: the first item with a name that stands for two things; else item by item, in the order
-/// of the text, the first place that does not hold what it wants; else a missing result; else a circle of reads.
+/// of the text, the first place that does not hold what it wants; else a missing result; else a cycle of reads.
 pub fn check(alloc: Global, tree: Tree) -> Result<Checked, (Tree, CheckFault)>
     ensures ok { IfOk result (IsCheckedOf tree) }
     ensures back { IfErr result (λ e. e.0 ≡ tree) }

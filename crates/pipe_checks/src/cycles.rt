@@ -1,8 +1,9 @@
 #![tactic(auto)]
-//! The shortest circle of reads.
+//! The shortest cycle of reads.
 
-ghost use Rattle.std.specs.Prelude.{◌≡◌, ℕ, suc, ◌<◌, ◌≤◌, ◌+◌, ◌↔◌, Option, Some, None, if◌then◌else◌, ◌==◌, IsTrue, IfSome, IfNone, IfOk, OnSome, length, slice_get, Contains, Any};
-ghost use Rattle.pipe_checks.specs.Graph.{links_at, Way, IsAcyclic, IsShortestFrom, IsShortestCycle, SomeAt, LeadsOn, AreDistances, IsStepAt, IsStepFrom, IsWayBack};
+ghost use Rattle.std.specs.Prelude.{◌≡◌, ℕ, suc, ◌<◌, ◌≤◌, ◌+◌, ◌↔◌, Option, Some, None, if◌then◌else◌, ◌==◌, IsTrue, IfSome, IfNone, IfOk, length, slice_get, Contains};
+ghost use Rattle.pipe_checks.specs.Graph.{links_at, Way, IsAcyclic, IsShortestFrom, IsShortestCycle};
+ghost use Rattle.pipe_checks.specs.Search.{SomeAt, LeadsOn, AreDistances, IsStepAt, IsStepFrom, IsWayBack};
 
 use crate::graph::{Links, known};
 use std::alloc::{AllocError, Global};
@@ -144,7 +145,7 @@ fn least_at(links: &Links, far: &[Option<usize>], steps: usize) -> usize
     }
 }
 
-// A shortest way from `start` back to it, where the nearest stage that it reads is at the distance `left`.
+// The first of the shortest ways from `start` back to it, where the nearest stage that it reads is at the distance `left`.
 fn way_back(
     alloc: Global,
     graph: &[Links],
@@ -155,7 +156,7 @@ fn way_back(
     requires distances { AreDistances graph.now start far.now }
     requires first { SomeAt far.now (links_at graph.now start).reads left }
     requires within { start < length graph.now }
-    ensures { IfOk result (λ v. IsWayBack graph.now start left v.items) }
+    ensures { IfOk result (λ v. IsWayBack graph.now start far.now left v.items) }
 {
     let mut way = Vec::new(alloc);
     way.push(start)?;
@@ -169,7 +170,7 @@ fn way_back(
     Ok(way)
 }
 
-// The shortest circle from `start`, if there is one.
+// The first of the shortest cycles from `start`, if there is one.
 fn cycle_from(
     alloc: Global,
     graph: &[Links],
@@ -186,7 +187,7 @@ fn cycle_from(
     }
 }
 
-/// The shortest circle of reads from the least stage that lies on one.
+/// The first of the shortest cycles of reads from the least stage that lies on one.
 pub(crate) fn shortest_cycle(alloc: Global, graph: &[Links]) -> Result<Vec<usize>, AllocError>
     requires { ¬ (IsAcyclic graph.now) }
     ensures { IfOk result (λ v. IsShortestCycle graph.now v.items) }

@@ -4,7 +4,7 @@
 ghost use Rattle.std.specs.Prelude.{◌≡◌, ◌++◌, ◌∷◌, [], ◌==◌, OnOk, IfOk, filter, not};
 ghost use Rattle.std.specs.Str.{bytes_eq};
 ghost use Rattle.pipe_lang.specs.Tree.{declaration, declarations};
-ghost use Rattle.pipe_checks.specs.Names.{number_of, names_of, item_names, names_from, is_param, declared_at};
+ghost use Rattle.pipe_checks.specs.Names.{number_of, names_of, item_names, names_from, is_param, stages_of, declared_at};
 
 use pipe_lang::{Item, Names};
 use pipe_tokens::Name;
@@ -134,4 +134,13 @@ pub(crate) fn declared_at(names: &[Declared], name: &Name) -> Option<Declared>
         Some(number) => names.get(number).copied(),
         None => None,
     }
+}
+
+/// The stages that the items declare, in the order of the text. A stage's number is its place here, also in a fault of a
+/// program that `check` refuses.
+pub fn declared_stages(alloc: Global, items: &[Item]) -> Result<Vec<Declared>, AllocError>
+    ensures { IfOk result (λ v. v.items ≡ stages_of (declarations items.now)) }
+{
+    let names = declared_names(alloc, items)?;
+    stages_of(alloc, &names)
 }

@@ -30,29 +30,39 @@ impl Cycle {
     }
 }
 
-/// Why a program means nothing. Items are numbered from 0.
+/// Why a program means nothing. Items are numbered from 0. A name that stands for two things is told first, at the first
+/// such item. Else the items are judged in turn, each in the order of its text, and the first place that does not hold what
+/// it wants is told at its item; then a missing result, and then a cycle.
 #[derive(Debug, Drop, Error)]
 pub enum CheckFault {
     /// 1: a name that is neither declared nor a variable of its item.
     #[error("item {0} has an unknown name")]
     Unknown(usize),
-    /// 2: a name that is declared a second time, or a variable that equals its fellow or a declared name.
+    /// 2: a name that was declared before, told at the item that declares it again; or a variable that equals its fellow
+    /// or a name that is declared anywhere, told at the item of the variable.
     #[error("item {0} has a name that stands for two things")]
     Twice(usize),
-    /// 3: a name of another kind than its place wants.
+    /// 3: a name of another kind than its place wants. Extents, intervals and the bounds of tests want parameters; what is
+    /// read or stenciled is a plane or a function; the first index of a read wants the first variable of the item and the
+    /// second the second; a test wants a variable, any other name of an expression a variable or a parameter; and outputs
+    /// are functions.
     #[error("item {0} has a name of another kind than its place wants")]
     Kind(usize),
     /// 4: a kernel with rows of unequal length, an even side or a side over 15.
     #[error("item {0} has a kernel that is no rectangle of odd sides up to 15")]
     BadKernel(usize),
-    /// 5: a number that is out of its range.
+    /// 5: a number that is out of its range. The factor and the divisor of an index are 1 to 16, and what it adds is -4096
+    /// to 4096. The number behind `/` or `%`, the divisor of a stencil and the modulus of a test are at least 1, and the
+    /// remainder of a test is less than its modulus. A shift is 0 to 31, and the greatest sample of an output 1 to 65535.
+    /// No number of an expression or a test is above 2147483647; a text that is parsed has none that is.
     #[error("item {0} has a number that is out of range")]
     BadLiteral(usize),
     /// 6: neither an output nor an accumulator.
     #[error("there is no result")]
     NoResult,
-    /// 7: stages that read each other in a circle.
-    #[error("stages read each other in a circle")]
+    /// 7: stages that read each other in a cycle: a shortest one from the least stage that lies on any, and of several the
+    /// first by the numbers of the stages.
+    #[error("stages read each other in a cycle")]
     Cycle(Cycle),
     /// 8: no memory was left.
     #[error("out of memory")]
@@ -125,7 +135,7 @@ pub enum ParamFault {
     /// 1: no parameter has this name.
     #[error("no parameter has this name")]
     NoSuchParam,
-    /// 2: the parameter has a value.
+    /// 2: the parameter has a value, which it keeps.
     #[error("the parameter has a value")]
     SetTwice,
 }
@@ -167,10 +177,10 @@ pub enum BoundFault {
     /// 1: a parameter without a value.
     #[error("parameter {0} has no value")]
     ParamUnset(usize),
-    /// 2: an interval whose last number is below its first.
+    /// 2: an interval whose last number is below its first, or a plane with a side less than 1.
     #[error("stage {0} has an empty domain")]
     EmptyDomain(usize),
-    /// 3: an interval that reaches too far.
+    /// 3: an interval that leaves -16384 to 16384, more than 4096 bins, or a plane with a side over 4096.
     #[error("stage {0} has a domain that is too wide")]
     DomainTooWide(usize),
     /// 4: a read that leaves the domain of what it reads, and the least and the greatest index that it takes.

@@ -44,6 +44,13 @@ impl Params {
         Params::unset(alloc, checked.params())
     }
 
+    /// These parameters with these values, in this order. Whose they are is the caller's care.
+    pub fn of_settings(settings: Vec<Setting>) -> Self
+        ensures { result ≡ settings.items }
+    {
+        Params { settings }
+    }
+
     fn unset(alloc: Global, params: &[Declared]) -> Result<Self, AllocError>
         ensures { IfOk result (λ p. p ≡ map unset params.now) }
     {
@@ -64,7 +71,7 @@ impl Params {
         &self.settings
     }
 
-    /// The value of the parameter of this number.
+    /// The value of the parameter of this number; none where it has none, or where there is no such parameter.
     pub fn get(&self, index: usize) -> Option<i32>
         ensures { result ≡ value_at (slice_get self.now index) }
     {

@@ -1,8 +1,9 @@
 #![tactic(auto)]
 //! The ranks of the stages: a stage has its rank once all that it reads have theirs.
 
-ghost use Rattle.std.specs.Prelude.{◌≡◌, ℕ, ◌<◌, ◌≤◌, ◌+◌, List, Option, Some, None, IfSome, IfNone, IfOk, OnSome, length, slice_get, replicate, map};
-ghost use Rattle.pipe_checks.specs.Graph.{rank_over, known_rank, links_at, unknowns, SomeUnranked, IsBounded, IsRanking, IsAcyclic};
+ghost use Rattle.std.specs.Prelude.{◌≡◌, ℕ, ◌<◌, ◌+◌, Option, Some, None, IfSome, IfNone, IfOk, OnSome, length, slice_get, replicate, map};
+ghost use Rattle.pipe_checks.specs.Graph.{links_at, IsRanking, IsAcyclic};
+ghost use Rattle.pipe_checks.specs.Search.{rank_over, known_rank, SomeUnranked, IsBounded};
 
 use crate::graph::{Links, known};
 use std::alloc::{AllocError, Global};
@@ -69,7 +70,7 @@ fn all_of(alloc: Global, ranks: &[Option<usize>]) -> Result<Option<Vec<usize>>, 
     Ok(Some(all))
 }
 
-/// The rank of each stage. There is none where stages read each other in a circle.
+/// The rank of each stage. There is none where stages read each other in a cycle.
 pub(crate) fn ranks(alloc: Global, graph: &[Links]) -> Result<Option<Vec<usize>>, AllocError>
     ensures some { IfOk result (λ o. IfSome o (λ v. IsRanking graph.now v.items)) }
     ensures none { IfOk result (λ o. IfNone o (¬ (IsAcyclic graph.now))) }

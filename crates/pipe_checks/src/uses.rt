@@ -5,7 +5,7 @@ ghost use Rattle.std.specs.Prelude.{◌≡◌, ◌==◌, length};
 ghost use Rattle.std.specs.List.{list_all};
 ghost use Rattle.std.specs.Option.{option_map};
 ghost use Rattle.pipe_lang.specs.Tree.{view, branch, branches, function_of, accumulator_of, declaration};
-ghost use Rattle.pipe_checks.specs.Uses.{is_it, allows, standing_of, standing_at, range_verdict, add_verdict, is_side, kernel_verdict, literal_verdict, name_verdict, factor_verdict, affine_verdict, span_verdict, index_verdict, read_verdict, stencil_verdict, expr_verdict, test_verdict, tests_verdict, branch_verdict, branches_verdict, otherwise_verdict, function_verdict, accumulator_verdict, outputs_verdict, item_verdict};
+ghost use Rattle.pipe_checks.specs.Uses.{is_it, allows, standing_of, standing_at, range_verdict, below_verdict, add_verdict, is_side, kernel_verdict, literal_verdict, name_verdict, factor_verdict, affine_verdict, span_verdict, index_verdict, read_verdict, stencil_verdict, expr_verdict, test_verdict, tests_verdict, branch_verdict, branches_verdict, otherwise_verdict, function_verdict, accumulator_verdict, outputs_verdict, item_verdict};
 
 use crate::declared::{Declared, NameKind, declared_at, is_same};
 use crate::fault::Misuse;
@@ -16,11 +16,17 @@ use pipe_lang::{
 };
 use pipe_tokens::Name;
 
+/// The greatest number of a text.
+pub const MAX_NUMBER: u32 = 2_147_483_647;
+
 /// The greatest factor and the greatest divisor of an index.
 pub const MAX_SCALE: u32 = 16;
 
 /// The greatest number that an index adds or takes away.
 pub const MAX_ADD: i32 = 4096;
+
+/// The greatest number that a value is shifted by.
+pub const MAX_SHIFT: u32 = 31;
 
 /// The greatest side of a kernel.
 pub const MAX_SIDE: usize = 15;
@@ -114,6 +120,16 @@ fn judge_range(number: u32, least: u32, most: u32) -> Result<(), Misuse>
     }
 }
 
+fn judge_below(number: u32, bound: u32) -> Result<(), Misuse>
+    ensures { result ≡ below_verdict number bound }
+{
+    if number < bound {
+        Ok(())
+    } else {
+        Err(Misuse::BadLiteral)
+    }
+}
+
 fn judge_add(number: i32) -> Result<(), Misuse>
     ensures { result ≡ add_verdict number }
 {
@@ -153,8 +169,8 @@ fn judge_literal(op: LiteralOp, number: u32) -> Result<(), Misuse>
     ensures { result ≡ literal_verdict op number }
 {
     match op {
-        LiteralOp::Div | LiteralOp::Rem => judge_range(number, 1, u32::MAX),
-        LiteralOp::Shl | LiteralOp::Shr => judge_range(number, 0, 31),
+        LiteralOp::Div | LiteralOp::Rem => judge_range(number, 1, MAX_NUMBER),
+        LiteralOp::Shl | LiteralOp::Shr => judge_range(number, 0, MAX_SHIFT),
     }
 }
 
@@ -246,7 +262,7 @@ fn judge_stencil(
     ensures { result ≡ stencil_verdict names.now own.now name.now divisor kernel.now }
 {
     judge_name(names, own, name, Wanted::Readable)?;
-    judge_range(divisor, 1, u32::MAX)?;
+    judge_range(divisor, 1, MAX_NUMBER)?;
     judge_kernel(kernel)
 }
 
@@ -254,7 +270,7 @@ fn judge_expr(names: &[Declared], own: &Own, expr: &Expr) -> Result<(), Misuse>
     ensures { result ≡ expr_verdict names.now own.now (view expr.now) }
 {
     match expr {
-        Expr::Number(_) => Ok(()),
+        Expr::Number(number) => judge_range(*number, 0, MAX_NUMBER),
         Expr::Name(name) => judge_name(names, own, name, Wanted::Number),
         Expr::Read(name, row, column) => judge_read(names, own, name, row, column),
         Expr::Neg(operand) | Expr::Abs(operand) => judge_expr(names, own, operand),
@@ -291,8 +307,8 @@ fn judge_test(names: &[Declared], own: &Own, test: &Test) -> Result<(), Misuse>
         }
         Test::Remainder(name, modulus, remainder) => {
             judge_name(names, own, name, Wanted::Variable)?;
-            judge_range(*modulus, 1, u32::MAX)?;
-            judge_range(*remainder, 0, modulus.saturating_sub(1))
+            judge_range(*modulus, 1, MAX_NUMBER)?;
+            judge_below(*remainder, *modulus)
         }
     }
 }

@@ -1,5 +1,5 @@
 use Rattle.std.proofs.Common.{◌≡◌, ◌+◌, ◌+ℤ◌, drop, ap, arith}
-use Rattle.std.proofs.lemmas.Int.{ints, to_z-of_z}
+use Rattle.std.proofs.lemmas.Int.{ints}
 use Rattle.pipe_checks.specs.Settings.{affine_value, term_value}
 use Rattle.pipe_checks.proofs.Cutting.{next_of}
 use Rattle.pipe_checks.proofs.affine.affine_value.Goals as goal

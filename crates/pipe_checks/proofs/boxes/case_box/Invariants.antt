@@ -1,7 +1,10 @@
-use Rattle.std.proofs.Common.{ℤ, ◌↔◌, drop}
-use Rattle.domains.specs.Area.{HoldsPoint}
-use Rattle.pipe_checks.specs.Boxes.{BoundsHold}
+use Rattle.std.proofs.Common.{drop}
+use Rattle.domains.specs.Span.{IsSubspan}
+use Rattle.pipe_checks.proofs.Cutting.{IsLeft}
 use Rattle.pipe_checks.proofs.boxes.case_box.Given as goal
 
 abbrev pub invariant-loop-test : goal.invariant-loop-test
-invariant-loop-test l = (r c : ℤ) → (HoldsPoint l.left r c × BoundsHold l.params l.row (drop l.test-index l.tests) r c) ↔ (HoldsPoint l.domain r c × BoundsHold l.params l.row l.tests r c)
+invariant-loop-test l = record {
+  points : IsLeft l.params l.row l.domain l.tests l.left (drop l.test-index l.tests);
+  within : IsSubspan l.left.rows l.domain.rows × IsSubspan l.left.cols l.domain.cols;
+}

@@ -1,4 +1,4 @@
-use Rattle.std.proofs.Common.{ℕ, ◌<◌, ◌≤◌, ◌≡◌, Some, None, IfSome, IfNone, get_or, slice_get, take}
+use Rattle.std.proofs.Common.{ℕ, ◌<◌, ◌≤◌, ◌≡◌, Some, IfSome, IfNone, get_or, slice_get}
 use Rattle.std.specs.Prelude.{Contains}
 use Rattle.pipe_checks.proofs.cycles.least_at.Given as goal
 

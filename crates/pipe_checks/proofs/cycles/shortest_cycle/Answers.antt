@@ -1,8 +1,8 @@
-use Rattle.std.proofs.Common.{ℕ, suc, ◌≤◌, List, Option, Some, None, IfSome, IfNone, arith, subst}
+use Rattle.std.proofs.Common.{ℕ, suc, Option, IfSome, IfNone, arith, subst}
 use Rattle.std.specs.Global.{Vec}
 use borrow.Author.Count.{below_more}
 use Rattle.pipe_checks.specs.Graph.{Way, IsShortestFrom}
-use Rattle.pipe_checks.proofs.Circles.{shortest_of_all, acyclic_of}
+use Rattle.pipe_checks.proofs.Closing.{shortest_of_all, acyclic_of}
 use Rattle.pipe_checks.proofs.cycles.shortest_cycle.Goals as goal
 
 pub returns-in-Some : goal.returns-in-Some

@@ -1,7 +1,8 @@
-use Rattle.std.proofs.Common.{ℕ, ◌+◌, ◌<◌, ◌≡◌, List, Option, Some, None, IfSome, IfNone, map, length, slice_get, arith, sym, ◌∙◌, subst, rules}
+use Rattle.std.proofs.Common.{ℕ, ◌≡◌, Option, Some, None, slice_get, sym, ◌∙◌, subst, rules}
 use Rattle.std.proofs.lemmas.Option.{IfSome_then}
 use Rattle.std.specs.Global.{Vec}
-use Rattle.pipe_checks.specs.Graph.{links_at, known_rank, rank_over, unknowns, IsAcyclic, SomeUnranked, AreRanked}
+use Rattle.pipe_checks.specs.Graph.{links_at, IsAcyclic}
+use Rattle.pipe_checks.specs.Search.{known_rank, rank_over, SomeUnranked, AreRanked}
 use Rattle.pipe_checks.proofs.Ranking.{ranked_more, ranked_fewer, ranked_start, ranking_of, stuck_is_cyclic}
 use Rattle.pipe_checks.proofs.Unknown.{ok_then, none_then}
 use Rattle.pipe_checks.proofs.ranks.ranks.Goals as goal

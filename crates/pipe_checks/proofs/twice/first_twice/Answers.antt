@@ -1,6 +1,6 @@
-use Rattle.std.proofs.Common.{◌≡◌, ◌⊎◌, inl, inr, sym, ◌∙◌, ap}
+use Rattle.std.proofs.Common.{inl, inr, sym, ◌∙◌, ap}
 use Rattle.std.proofs.lemmas.Bool.{false≢true}
-use Rattle.pipe_lang.specs.Tree.{Declaration, declaration, declarations}
+use Rattle.pipe_lang.specs.Tree.{declaration, declarations}
 use Rattle.pipe_checks.specs.Twice.{varies_again}
 use Rattle.pipe_checks.specs.Checking.{IsTwice}
 use Rattle.pipe_checks.proofs.Places.{all_more, all_of_them, declaration_at, declarations_end, first_twice_is}

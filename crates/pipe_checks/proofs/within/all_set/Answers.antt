@@ -1,4 +1,4 @@
-use Rattle.std.proofs.Common.{ℤ, ◌≡◌, Some, ap, length, subst, sym, arith, ◌≤◌}
+use Rattle.std.proofs.Common.{ℤ, ◌≡◌, Some, length, subst, ◌≤◌}
 use Rattle.pipe_checks.specs.declared.params.Setting.{Setting}
 use Rattle.pipe_checks.proofs.Places.{all_more, all_of_them}
 use Rattle.pipe_checks.proofs.Stages.{some_of, here_is}

@@ -1,4 +1,4 @@
-use Rattle.std.proofs.Common.{ℤ, ◌≡◌, Some, w32, to_z, of_z, slice_set, refl, sym, ◌∙◌, ap, subst}
+use Rattle.std.proofs.Common.{ℤ, ◌≡◌, Some, w32, to_z, of_z, slice_set, refl, sym, ◌∙◌, ap}
 use Rattle.std.proofs.lemmas.Int.{to_z-of_z}
 use Rattle.std.proofs.lemmas.Option.{same_Some}
 use Rattle.pipe_checks.specs.declared.params.Setting.{Setting}

@@ -1,0 +1,279 @@
+-- What is known of an item whose places hold what they want.
+use Rattle.std.proofs.Common.{ℕ, arith, ◌<◌, ◌≤◌, ◌%◌, ◌≡◌, ℤ, pos, negsuc, ◌≤ℤ◌, Bool, true, false, List, [], ◌∷◌, length, Option, Some, None, Ok, Err, refl}
+use Rattle.std.specs.Prelude.{All, if◌then◌else◌, ◌&&◌, ◌==◌, nat_le, nat_lt, int_le}
+use Rattle.std.specs.List.{list_all}
+use Rattle.std.specs.Option.{ForSome}
+use Rattle.std.proofs.lemmas.Bool.{false≢true, and_parts}
+use Rattle.std.proofs.lemmas.Bool.Decides.{nat_tests}
+use Rattle.std.proofs.lemmas.Int.{ints}
+use Rattle.std.proofs.lemmas.List.Elements.{All-nil, All-cons, All-weaker}
+use Rattle.std.proofs.lemmas.List.Sums.{AllPass-from_list_all}
+use Rattle.pipe_lang.specs.declared.tree.LiteralOp.{LiteralOp}
+use Rattle.pipe_lang.specs.declared.tree.LiteralOp.TheVariants.{Div, Rem, Shl, Shr}
+use Rattle.pipe_lang.specs.declared.tree.Names.{Names}
+use Rattle.pipe_lang.specs.declared.tree.Names.TheVariants.{One, Three}
+use Rattle.pipe_lang.specs.declared.tree.Index.{Index}
+use Rattle.pipe_lang.specs.declared.tree.Test.{Test}
+use Rattle.pipe_lang.specs.declared.tree.Test.TheVariants.{Compare, Remainder}
+use Rattle.pipe_lang.specs.Tree as tree
+use Rattle.pipe_lang.specs.Tree.{Node, Branch, Declaration}
+use Rattle.pipe_checks.specs.declared.declared.Declared.{Declared}
+use Rattle.pipe_checks.specs.declared.declared.NameKind.{NameKind}
+use Rattle.pipe_checks.specs.declared.declared.NameKind.TheVariants.{Param, Plane, Func, Accum}
+use Rattle.pipe_checks.specs.declared.fault.Misuse.{Misuse}
+use Rattle.pipe_checks.specs.declared.fault.Misuse.TheVariants.{Kind, BadKernel, BadLiteral}
+use Rattle.pipe_checks.specs.declared.uses.Own.{Own}
+use Rattle.pipe_checks.specs.declared.uses.Standing.TheVariants as standing
+use Rattle.pipe_checks.specs.declared.uses.Wanted.{Wanted}
+use Rattle.pipe_checks.specs.declared.uses.Wanted.TheVariants as wanted
+use Rattle.pipe_checks.specs.Names.{declared_at}
+use Rattle.pipe_checks.specs.Sites.{width_of}
+use Rattle.pipe_checks.specs.Twice.{own_of}
+use Rattle.pipe_checks.specs.Checking.{verdict_of}
+use Rattle.pipe_checks.specs.Uses.{Verdict, and_then, is_it, standing_of, declared_standing, allows, kind_verdict, name_verdict, greatest_number, range_verdict, below_verdict, add_verdict, literal_verdict, is_side, kernel_verdict, span_verdict, index_verdict, expr_verdict, test_verdict, tests_verdict, branch_verdict, branches_verdict, otherwise_verdict, outputs_verdict}
+
+-- ---- what is known
+
+abbrev pub IsReadableKind : NameKind → Type 0
+IsReadableKind Param = ⊥
+IsReadableKind Plane = Unit {0}
+IsReadableKind Func = Unit {0}
+IsReadableKind Accum = ⊥
+
+abbrev pub IsFuncKind : NameKind → Type 0
+IsFuncKind Param = ⊥
+IsFuncKind Plane = ⊥
+IsFuncKind Func = Unit {0}
+IsFuncKind Accum = ⊥
+
+-- the name is declared, for something of this kind
+pub record IsNameOf (IsKind : NameKind → Type 0) (names : List Declared) (x : List ℕ) : Type 0 where
+  pub declared : Declared
+  pub found : declared_at names x ≡ Some declared
+  pub kind : IsKind declared.kind
+
+abbrev pub IsWithin : ℕ → ℕ → ℕ → Type 0
+IsWithin least most n = (least ≤ n) × (n ≤ most)
+
+pub record IsSoundIndex (i : Index) : Type 0 where
+  pub mul : IsWithin 1 16 i.mul
+  pub add : (negsuc 4095 ≤ℤ i.add) × (i.add ≤ℤ pos 4096)
+  pub div : IsWithin 1 16 i.div
+
+pub record IsSoundKernel (k : List (List ℤ)) : Type 0 where
+  pub height : (length k % 2 ≡ 1) × (length k ≤ 15)
+  pub width : (width_of k % 2 ≡ 1) × (width_of k ≤ 15)
+  pub one_width : All (λ row. length row ≡ width_of k) k
+
+abbrev pub IsSoundLiteral : LiteralOp → ℕ → Type 0
+IsSoundLiteral Div n = IsWithin 1 greatest_number n
+IsSoundLiteral Rem n = IsWithin 1 greatest_number n
+IsSoundLiteral Shl n = n ≤ 31
+IsSoundLiteral Shr n = n ≤ 31
+
+abbrev pub IsSound : List Declared → Node → Type 0
+IsSound names (tree.number n) = n ≤ greatest_number
+IsSound names (tree.variable x) = Unit {0}
+IsSound names (tree.read x i j) = IsNameOf IsReadableKind names x × IsSoundIndex i × IsSoundIndex j
+IsSound names (tree.neg a) = IsSound names a
+IsSound names (tree.binary op a b) = IsSound names a × IsSound names b
+IsSound names (tree.literal op a n) = IsSound names a × IsSoundLiteral op n
+IsSound names (tree.abs a) = IsSound names a
+IsSound names (tree.clamp a b c) = IsSound names a × IsSound names b × IsSound names c
+IsSound names (tree.select a r b c d) = IsSound names a × IsSound names b × IsSound names c × IsSound names d
+IsSound names (tree.stencil x d k) = IsNameOf IsReadableKind names x × IsWithin 1 greatest_number d × IsSoundKernel k
+
+abbrev pub IsSoundTest : Test → Type 0
+IsSoundTest (Compare x relation bound) = Unit {0}
+IsSoundTest (Remainder x m r) = IsWithin 1 greatest_number m × (r < m)
+
+pub record IsSoundBranch (names : List Declared) (b : Branch) : Type 0 where
+  pub tests : All IsSoundTest b.condition
+  pub value : IsSound names b.value
+
+abbrev pub AreFuncs : List Declared → Names → Type 0
+AreFuncs names (One x) = IsNameOf IsFuncKind names x
+AreFuncs names (Three x y z) = IsNameOf IsFuncKind names x × IsNameOf IsFuncKind names y × IsNameOf IsFuncKind names z
+
+abbrev pub IsSoundItem : List Declared → Declaration → Type 0
+IsSoundItem names (tree.param p) = Unit {0}
+IsSoundItem names (tree.image i) = Unit {0}
+IsSoundItem names (tree.function f) = All (IsSoundBranch names) f.cases × ForSome f.otherwise (IsSound names)
+IsSoundItem names (tree.accumulator a) = IsSound names a.value × IsSound names a.bin
+IsSoundItem names (tree.output o) = AreFuncs names o.names × IsWithin 1 65535 o.max
+
+-- ---- verdicts
+
+and_then_ok : (v w : Verdict) → and_then v w ≡ Ok tt → (v ≡ Ok tt) × (w ≡ Ok tt)
+and_then_ok (Ok u) w h = (refl, h)
+and_then_ok (Err e) w h = absurd (cc)
+
+if_ok : (b : Bool) (e : Misuse) → ◌≡◌ {A = Verdict} (if b then Ok tt else Err e) (Ok tt) → b ≡ true
+if_ok true e h = refl
+if_ok false e h = absurd (cc)
+
+at_most : (a b : ℕ) → nat_le a b ≡ true → a ≤ b
+at_most a b h = grind (arith, nat_tests)
+
+is_below : (a b : ℕ) → nat_lt a b ≡ true → a < b
+is_below a b h = grind (arith, nat_tests)
+
+at_most_int : (a b : ℤ) → int_le a b ≡ true → a ≤ℤ b
+at_most_int a b h = omega (arith, ints)
+
+same_number : (a b : ℕ) → (a == b) ≡ true → a ≡ b
+same_number a b h = grind (arith, nat_tests)
+
+range_ok : (n least most : ℕ) → range_verdict n least most ≡ Ok tt → IsWithin least most n
+range_ok n least most h =
+    let both = and_parts (nat_le least n) (nat_le n most) (if_ok _ BadLiteral h) in
+    (at_most least n both.0, at_most n most both.1)
+
+add_ok : (k : ℤ) → add_verdict k ≡ Ok tt → (negsuc 4095 ≤ℤ k) × (k ≤ℤ pos 4096)
+add_ok k h =
+    let both = and_parts (int_le (negsuc 4095) k) (int_le k (pos 4096)) (if_ok _ BadLiteral h) in
+    (at_most_int (negsuc 4095) k both.0, at_most_int k (pos 4096) both.1)
+
+literal_ok : (op : LiteralOp) (n : ℕ) → literal_verdict op n ≡ Ok tt → IsSoundLiteral op n
+literal_ok Div n h = range_ok n 1 greatest_number h
+literal_ok Rem n h = range_ok n 1 greatest_number h
+literal_ok Shl n h = (range_ok n 0 31 h).1
+literal_ok Shr n h = (range_ok n 0 31 h).1
+
+side_ok : (n : ℕ) → is_side n ≡ true → (n % 2 ≡ 1) × (n ≤ 15)
+side_ok n h = let both = and_parts (n % 2 == 1) (nat_le n 15) h in (same_number (n % 2) 1 both.0, at_most n 15 both.1)
+
+kernel_ok : (k : List (List ℤ)) → kernel_verdict k ≡ Ok tt → IsSoundKernel k
+kernel_ok k h =
+    let parts = and_parts (is_side (length k)) (is_side (width_of k) && list_all (λ row. length row == width_of k) k) (if_ok _ BadKernel h) in
+    let rest = and_parts (is_side (width_of k)) (list_all (λ row. length row == width_of k) k) parts.1 in
+    record {
+      height = side_ok (length k) parts.0;
+      width = side_ok (width_of k) rest.0;
+      one_width = All-weaker (λ row. (length row == width_of k) ≡ true) (λ row. length row ≡ width_of k) (λ row same. same_number (length row) (width_of k) same) k (AllPass-from_list_all (λ row. length row == width_of k) k rest.1);
+    }
+
+-- ---- names
+
+-- what a place allows that takes no variable
+by_kind : (w : Wanted) (IsKind : NameKind → Type 0) → ((k : NameKind) → allows w (standing_of k) ≡ true → IsKind k) → allows w standing.Row ≡ false → allows w standing.Column ≡ false → (names : List Declared) (own : Own) (x : List ℕ) → name_verdict names own x w ≡ Ok tt → IsNameOf IsKind names x
+by_kind w IsKind kinds no_row no_column names own x = by (is_it own.row x) (is_it own.column x) (declared_at names x) refl
+  where
+    declared_by : (d : Declared) → declared_at names x ≡ Some d → kind_verdict w (Some (standing_of d.kind)) ≡ Ok tt → IsNameOf IsKind names x
+    declared_by d found h = record { declared = d; found = found; kind = kinds d.kind (if_ok (allows w (standing_of d.kind)) Kind h) }
+
+    by : (b c : Bool) (o : Option Declared) → declared_at names x ≡ o → kind_verdict w (if b then Some standing.Row else (if c then Some standing.Column else declared_standing o)) ≡ Ok tt → IsNameOf IsKind names x
+    by true c o found h = let ok = if_ok (allows w standing.Row) Kind h in absurd (cc)
+    by false true o found h = let ok = if_ok (allows w standing.Column) Kind h in absurd (cc)
+    by false false None found h = absurd (cc)
+    by false false (Some d) found h = declared_by d found h
+
+readable_kind : (k : NameKind) → allows wanted.Readable (standing_of k) ≡ true → IsReadableKind k
+readable_kind Param h = absurd (false≢true h)
+readable_kind Plane h = tt
+readable_kind Func h = tt
+readable_kind Accum h = absurd (false≢true h)
+
+func_kind : (k : NameKind) → allows wanted.Func (standing_of k) ≡ true → IsFuncKind k
+func_kind Param h = absurd (false≢true h)
+func_kind Plane h = absurd (false≢true h)
+func_kind Func h = tt
+func_kind Accum h = absurd (false≢true h)
+
+module _ (names : List Declared) (own : Own) where
+  readable_name : (x : List ℕ) → name_verdict names own x wanted.Readable ≡ Ok tt → IsNameOf IsReadableKind names x
+  readable_name = by_kind wanted.Readable IsReadableKind readable_kind refl refl names own
+
+  func_name : (x : List ℕ) → name_verdict names own x wanted.Func ≡ Ok tt → IsNameOf IsFuncKind names x
+  func_name = by_kind wanted.Func IsFuncKind func_kind refl refl names own
+
+  index_ok : (i : Index) (w : Wanted) → index_verdict names own i w ≡ Ok tt → IsSoundIndex i
+  index_ok i w h =
+      let first = and_then_ok (range_verdict i.mul 1 16) (and_then (name_verdict names own i.name w) (and_then (add_verdict i.add) (range_verdict i.div 1 16))) h in
+      let second = and_then_ok (name_verdict names own i.name w) (and_then (add_verdict i.add) (range_verdict i.div 1 16)) first.1 in
+      let third = and_then_ok (add_verdict i.add) (range_verdict i.div 1 16) second.1 in
+      record { mul = range_ok i.mul 1 16 first.0; add = add_ok i.add third.0; div = range_ok i.div 1 16 third.1 }
+
+  -- ---- expressions
+
+  sound : (a : Node) → expr_verdict names own a ≡ Ok tt → IsSound names a
+  sound (tree.number n) h = (range_ok n 0 greatest_number h).1
+  sound (tree.variable x) h = tt
+  sound (tree.read x i j) h =
+      let first = and_then_ok (name_verdict names own x wanted.Readable) (and_then (index_verdict names own i wanted.Row) (index_verdict names own j wanted.Column)) h in
+      let second = and_then_ok (index_verdict names own i wanted.Row) (index_verdict names own j wanted.Column) first.1 in
+      (readable_name x first.0, index_ok i wanted.Row second.0, index_ok j wanted.Column second.1)
+  sound (tree.neg a) h = sound a h
+  sound (tree.binary op a b) h = let both = and_then_ok (expr_verdict names own a) (expr_verdict names own b) h in (sound a both.0, sound b both.1)
+  sound (tree.literal op a n) h = let both = and_then_ok (expr_verdict names own a) (literal_verdict op n) h in (sound a both.0, literal_ok op n both.1)
+  sound (tree.abs a) h = sound a h
+  sound (tree.clamp a b c) h =
+      let first = and_then_ok (expr_verdict names own a) (and_then (expr_verdict names own b) (expr_verdict names own c)) h in
+      let second = and_then_ok (expr_verdict names own b) (expr_verdict names own c) first.1 in
+      (sound a first.0, sound b second.0, sound c second.1)
+  sound (tree.select a r b c d) h =
+      let first = and_then_ok (expr_verdict names own a) (and_then (expr_verdict names own b) (and_then (expr_verdict names own c) (expr_verdict names own d))) h in
+      let second = and_then_ok (expr_verdict names own b) (and_then (expr_verdict names own c) (expr_verdict names own d)) first.1 in
+      let third = and_then_ok (expr_verdict names own c) (expr_verdict names own d) second.1 in
+      (sound a first.0, sound b second.0, sound c third.0, sound d third.1)
+  sound (tree.stencil x d k) h =
+      let first = and_then_ok (name_verdict names own x wanted.Readable) (and_then (range_verdict d 1 greatest_number) (kernel_verdict k)) h in
+      let second = and_then_ok (range_verdict d 1 greatest_number) (kernel_verdict k) first.1 in
+      (readable_name x first.0, range_ok d 1 greatest_number second.0, kernel_ok k second.1)
+
+  sound_test : (t : Test) → test_verdict names own t ≡ Ok tt → IsSoundTest t
+  sound_test (Compare x relation bound) h = tt
+  sound_test (Remainder x m r) h =
+      let first = and_then_ok (name_verdict names own x wanted.Variable) (and_then (range_verdict m 1 greatest_number) (below_verdict r m)) h in
+      let second = and_then_ok (range_verdict m 1 greatest_number) (below_verdict r m) first.1 in
+      (range_ok m 1 greatest_number second.0, is_below r m (if_ok (nat_lt r m) BadLiteral second.1))
+
+  sound_tests : (ts : List Test) → tests_verdict names own ts ≡ Ok tt → All IsSoundTest ts
+  sound_tests [] h = All-nil IsSoundTest
+  sound_tests (t ∷ ts) h =
+      let both = and_then_ok (test_verdict names own t) (tests_verdict names own ts) h in
+      All-cons IsSoundTest t ts (sound_test t both.0) (sound_tests ts both.1)
+
+  sound_branches : (bs : List Branch) → branches_verdict names own bs ≡ Ok tt → All (IsSoundBranch names) bs
+  sound_branches [] h = All-nil (IsSoundBranch names)
+  sound_branches (b ∷ bs) h =
+      let both = and_then_ok (branch_verdict names own b) (branches_verdict names own bs) h in
+      let parts = and_then_ok (tests_verdict names own b.condition) (expr_verdict names own b.value) both.0 in
+      All-cons (IsSoundBranch names) b bs (record { tests = sound_tests b.condition parts.0; value = sound b.value parts.1 }) (sound_branches bs both.1)
+
+  sound_otherwise : (o : Option Node) → otherwise_verdict names own o ≡ Ok tt → ForSome o (IsSound names)
+  sound_otherwise None h = λ a is. absurd (cc)
+  sound_otherwise (Some a) h = λ b is. subst_sound a b (cc) (sound a h)
+    where
+      subst_sound : (a b : Node) → a ≡ b → IsSound names a → IsSound names b
+      subst_sound a b e s = rw (← e) s
+
+  outputs_ok : (ns : Names) → outputs_verdict names own ns ≡ Ok tt → AreFuncs names ns
+  outputs_ok (One x) h = func_name x h
+  outputs_ok (Three x y z) h =
+      let first = and_then_ok (name_verdict names own x wanted.Func) (and_then (name_verdict names own y wanted.Func) (name_verdict names own z wanted.Func)) h in
+      let second = and_then_ok (name_verdict names own y wanted.Func) (name_verdict names own z wanted.Func) first.1 in
+      (func_name x first.0, func_name y second.0, func_name z second.1)
+
+-- ---- items
+
+pub sound_item : (names : List Declared) (d : Declaration) → verdict_of names d ≡ Ok tt → IsSoundItem names d
+sound_item names (tree.param p) h = tt
+sound_item names (tree.image i) h = tt
+sound_item names (tree.function f) h =
+    let own = own_of (tree.function f) in
+    let first = and_then_ok (span_verdict names own f.row.span) (and_then (span_verdict names own f.column.span) (and_then (branches_verdict names own f.cases) (otherwise_verdict names own f.otherwise))) h in
+    let second = and_then_ok (span_verdict names own f.column.span) (and_then (branches_verdict names own f.cases) (otherwise_verdict names own f.otherwise)) first.1 in
+    let third = and_then_ok (branches_verdict names own f.cases) (otherwise_verdict names own f.otherwise) second.1 in
+    (sound_branches names own f.cases third.0, sound_otherwise names own f.otherwise third.1)
+sound_item names (tree.accumulator a) h =
+    let own = own_of (tree.accumulator a) in
+    let first = and_then_ok (span_verdict names own a.bins) (and_then (span_verdict names own a.row.span) (and_then (span_verdict names own a.column.span) (and_then (expr_verdict names own a.value) (expr_verdict names own a.bin)))) h in
+    let second = and_then_ok (span_verdict names own a.row.span) (and_then (span_verdict names own a.column.span) (and_then (expr_verdict names own a.value) (expr_verdict names own a.bin))) first.1 in
+    let third = and_then_ok (span_verdict names own a.column.span) (and_then (expr_verdict names own a.value) (expr_verdict names own a.bin)) second.1 in
+    let last = and_then_ok (expr_verdict names own a.value) (expr_verdict names own a.bin) third.1 in
+    (sound names own a.value last.0, sound names own a.bin last.1)
+sound_item names (tree.output o) h =
+    let own = own_of (tree.output o) in
+    let both = and_then_ok (outputs_verdict names own o.names) (range_verdict o.max 1 65535) h in
+    (outputs_ok names own o.names both.0, range_ok o.max 1 65535 both.1)

@@ -1,0 +1,116 @@
+-- What the searches for ranks and for cycles know on their way: only contracts of private functions cite this.
+use Rattle.std.specs.Prelude.{ℕ, ◌+◌, ◌-◌, ◌<◌, ◌≤◌, ◌≡◌, ◌⊎◌, true, if◌then◌else◌, Option, Some, None, is_none, unwrap_or, count_by, Result, Ok, Err, List, map, length, slice_get, slice_index, slice_index_or, Any}
+use Rattle.pipe_lang.specs.Tree.{Declaration}
+use Rattle.std.specs.List.{list_any}
+use Rattle.pipe_checks.specs.declared.fault.CheckFault.{CheckFault}
+use Rattle.pipe_checks.specs.declared.fault.CheckFault.TheVariants.{Unknown, Twice, Kind, BadKernel, BadLiteral, NoResult, Cycle, Memory}
+use Rattle.pipe_checks.specs.declared.declared.Declared.{Declared}
+use Rattle.pipe_checks.specs.declared.checked.Found.{Found}
+use Rattle.pipe_checks.specs.declared.fault.Misuse.{Misuse}
+use Rattle.pipe_checks.specs.declared.fault.Misuse.TheVariants as misuse
+use Rattle.pipe_checks.specs.Links.{Links}
+use Rattle.pipe_checks.specs.Names.{params_of, stages_of}
+use Rattle.pipe_checks.specs.Sites.{graph_of}
+use Rattle.pipe_checks.specs.Graph.{links_at, Reads, greatest, Way, IsRanking, IsShortestCycle}
+use Rattle.pipe_checks.specs.Checking.{is_result, AllGood, IsFirstWrong, IsNamed}
+
+-- ---- ranks
+
+-- how many are not known
+abbrev pub unknowns : List (Option ℕ) → ℕ
+unknowns xs = count_by is_none xs
+
+-- the rank that is known of a stage, or else 0
+abbrev pub known_rank : List (Option ℕ) → ℕ → ℕ
+known_rank ranks t = unwrap_or (slice_index_or ranks t None) 0
+
+-- the rank of a stage by the ranks of those that it reads: 0 for a plane, else 1 more than the greatest, or 1
+abbrev pub rank_over : (ℕ → ℕ) → Links → ℕ
+rank_over rank l = if l.is_plane then 0 else greatest (map rank l.reads) + 1
+
+-- a rank and the number of those that are not known are together at most n
+abbrev pub IsBounded : List (Option ℕ) → ℕ → Type 0
+IsBounded ranks n = (t r : ℕ) → slice_get ranks t ≡ Some (Some r) → r + unknowns ranks ≤ n
+
+-- one of these stages has no rank yet
+abbrev pub SomeUnranked : List (Option ℕ) → List ℕ → Type 0
+SomeUnranked ranks reads = Any (λ t. slice_get ranks t ≡ Some None) reads
+
+-- each rank that is known is the stage's rank by those that it reads, and these are known too
+pub record AreRanked (g : List Links) (ranks : List (Option ℕ)) : Type 0 where
+  pub each : length ranks ≡ length g
+  pub bounded : IsBounded ranks (length g)
+  pub rank : (s r : ℕ) → slice_get ranks s ≡ Some (Some r) → r ≡ rank_over (known_rank ranks) (links_at g s)
+  pub ranked : (s r : ℕ) → slice_get ranks s ≡ Some (Some r) → ¬ (SomeUnranked ranks (links_at g s).reads)
+
+-- ---- cycles
+
+-- one of these stages is known to be at this distance
+abbrev pub SomeAt : List (Option ℕ) → List ℕ → ℕ → Type 0
+SomeAt far reads k = Any (λ t. slice_get far t ≡ Some (Some k)) reads
+
+-- a stage whose distance is not known reads one that is known to be at this distance
+abbrev pub LeadsOn : List Links → List (Option ℕ) → ℕ → Type 0
+LeadsOn g far k = (s : ℕ) × (slice_get far s ≡ Some None) × SomeAt far (links_at g s).reads k
+
+-- what becomes of a distance: it stays, or is found to be k + 1, or stays unknown
+abbrev pub IsStepAt : List Links → List (Option ℕ) → ℕ → ℕ → Option ℕ → Type 0
+IsStepAt g far k s d =
+    ((e : ℕ) × (slice_get far s ≡ Some (Some e)) × (d ≡ Some e))
+    ⊎ (((slice_get far s ≡ Some None) × SomeAt far (links_at g s).reads k × (d ≡ Some (k + 1)))
+    ⊎ ((slice_get far s ≡ Some None) × (SomeAt far (links_at g s).reads k → ⊥) × (d ≡ None)))
+
+-- the distances, with those that are one more than k
+pub record IsStepFrom (g : List Links) (far : List (Option ℕ)) (k : ℕ) (next : List (Option ℕ)) : Type 0 where
+  pub each : length next ≡ length far
+  pub step : (s : ℕ) (d : Option ℕ) → slice_get next s ≡ Some d → IsStepAt g far k s d
+
+-- all that leads to the goal is known, with the least number of reads
+pub record AreDistances (g : List Links) (goal : ℕ) (far : List (Option ℕ)) : Type 0 where
+  pub each : length far ≡ length g
+  pub way : (t d : ℕ) → slice_get far t ≡ Some (Some d) → Way g d t goal
+  pub low : (t d : ℕ) → slice_get far t ≡ Some (Some d) → d < length g
+  pub least : (t k : ℕ) → Way g k t goal → (d : ℕ) × (slice_get far t ≡ Some (Some d)) × (d ≤ k)
+
+-- a list of stages from the start back to it, of which each reads the next: the least of those at the distance left, then
+-- the least of those at one less, and so on
+pub record IsWayBack (g : List Links) (start : ℕ) (far : List (Option ℕ)) (left : ℕ) (c : List ℕ) : Type 0 where
+  pub long : length c ≡ left + 2
+  pub first : slice_index c 0 ≡ start
+  pub last : slice_index c (length c - 1) ≡ start
+  pub reads : (i : ℕ) → i + 1 < length c → Reads g (slice_index c i) (slice_index c (i + 1))
+  pub at : (i : ℕ) → i + 1 < length c → slice_get far (slice_index c (i + 1)) ≡ Some (Some (left - i))
+  pub least : (i u : ℕ) → i + 1 < length c → Reads g (slice_index c i) u → slice_get far u ≡ Some (Some (left - i)) → slice_index c (i + 1) ≤ u
+
+-- ---- a whole program
+
+abbrev pub fault_of : Misuse → ℕ → CheckFault
+fault_of misuse.Unknown n = Unknown n
+fault_of misuse.Kind n = Kind n
+fault_of misuse.BadKernel n = BadKernel n
+fault_of misuse.BadLiteral n = BadLiteral n
+
+-- all places are good, or this is the fault of the first that is not
+abbrev pub IsJudged : List Declared → List Declaration → Result (Unit {0}) CheckFault → Type 0
+IsJudged names ds (Ok u) = AllGood names ds
+IsJudged names ds (Err f) = (wrong : Misuse) × (n : ℕ) × (f ≡ fault_of wrong n) × IsFirstWrong names ds wrong n
+
+-- stages that read each other in a cycle, or memory
+abbrev pub IsCyclic : List Links → CheckFault → Type 0
+IsCyclic g (Cycle c) = IsShortestCycle g c
+IsCyclic g Memory = Unit {0}
+IsCyclic g (Twice n) = ⊥
+IsCyclic g (Unknown n) = ⊥
+IsCyclic g (Kind n) = ⊥
+IsCyclic g (BadKernel n) = ⊥
+IsCyclic g (BadLiteral n) = ⊥
+IsCyclic g NoResult = ⊥
+
+-- what is found of a program without a fault
+pub record IsFound (ds : List Declaration) (f : Found) : Type 0 where
+  pub named : IsNamed ds
+  pub result : list_any is_result ds ≡ true
+  pub stages : f.stages.items ≡ stages_of ds
+  pub params : f.params.items ≡ params_of ds
+  pub reads : f.graph.items ≡ graph_of ds
+  pub ranks : IsRanking (graph_of ds) f.ranks.items
