@@ -14,7 +14,6 @@ use Rattle.job.specs.Reads.{window, EachTaken, PieceReads}
 use Rattle.job.specs.Boxes.{box_of}
 use Rattle.job.specs.WellFormed.{IsReadable, IsNear, IsStage, IsOutput, IsOutputPlane, IsJob, IsFormula, IsTest, IsKernel}
 use Rattle.job.specs.Worked.{ends, area, ones, middle, plane_stage, blurred, blur}
-use Rattle.job.proofs.Fitting.{from_bounds}
 
 -- ---- literal lists
 
@@ -26,18 +25,11 @@ three_of_three P x y z p q r = All-cons P x (y ∷ z ∷ []) p (All-cons P y (z 
 
 -- ---- the kernel
 
-one_fits : FitsSigned w32 (pos 1)
-one_fits = from_bounds (pos 1) (omega (arith, ints)) (omega (arith, ints))
-
-row_fits : All (FitsSigned w32) (pos 1 ∷ pos 1 ∷ pos 1 ∷ [])
-row_fits = three_of_three (FitsSigned w32) (pos 1) (pos 1) (pos 1) one_fits one_fits one_fits
-
 kernel_is : IsKernel ones
 kernel_is = record {
   height = (refl, omega arith);
   width = (refl, omega arith);
   one_width = three_of_three (λ factors. length factors ≡ 3) _ _ _ refl refl refl;
-  entries = three_of_three (All (FitsSigned w32)) _ _ _ row_fits row_fits row_fits;
 }
 
 width_is : (a : ℕ) → a < 3 → length (factors ones a) ≡ 3
@@ -92,7 +84,7 @@ blur_is_a_stage = record {
   rank = refl;
   rows = three_numbers;
   cols = three_numbers;
-  body = (omega arith, one_of_one (λ p. All IsTest p.tests) middle (All-cons IsTest (compare row Equals (pos 1)) (compare column Equals (pos 1) ∷ []) tt (one_of_one IsTest (compare column Equals (pos 1)) tt)));
+  body = one_of_one (λ p. All IsTest p.tests) middle (All-cons IsTest (compare row Equals (pos 1)) (compare column Equals (pos 1) ∷ []) tt (one_of_one IsTest (compare column Equals (pos 1)) tt));
   boxes = one_of_one (λ p. p.box ≡ box_of (area (pos 2) (pos 2)) p.tests) middle refl;
   formulas = one_of_one IsFormula (stencil 0 9 ones) ((omega arith, omega arith), kernel_is);
   reads = λ r c inside. (one_of_one (λ p. PieceReads (IsReadable blur.stages) p r c) middle (middle_reads r c), (λ f is. absurd (cc)));
@@ -134,9 +126,7 @@ output_is = record {
 pub blur_is : IsJob blur
 blur_is = record {
   stages = each_stage;
-  few = omega arith;
   output = λ o is. let same : record { stages = 1 ∷ []; max = 255 } ≡ o = cc in subst (IsOutput blur) same output_is;
-  few_params = omega arith;
   params = All-nil (λ p. FitsSigned w32 p.value);
   picture = picture_is;
   sides = record { height_least = omega arith; height_most = omega arith; width_least = omega arith; width_most = omega arith };

@@ -7,4 +7,17 @@ pub mod Solving
 pub mod TotalLaws
 pub mod Joining
 pub mod Fitting
+pub mod TotalsFit
+pub mod NumberLaws
+pub mod JudgedFormulas
+pub mod StageLaws
+pub mod ReadLaws
+pub mod BoundLaws
+pub mod JobLaws
+pub mod OneJob
 pub mod Example
+pub mod Boxing
+pub mod Assembling
+pub mod Readying
+pub mod SmallLaws
+pub mod SmallSettings

@@ -97,7 +97,7 @@ one_solution job h env solves =
     ∙ body_value-agrees_there job.picture env (value job) x.stage.domain x.stage.body r c (h.stages g x.stage x.there).boxes x.within reads
     ∙ sym (value_solves job (ranked_is job h) g x.stage x.there x.valued r c x.within))
 
-near_fits : (s : Ends) (v : ℤ) → IsNear s → Holds s v → FitsSigned w32 v
+pub near_fits : (s : Ends) (v : ℤ) → IsNear s → Holds s v → FitsSigned w32 v
 near_fits s v is holds =
     let low = holds.0 in let high = holds.1 in let least = is.least in let most = is.most in
     from_bounds v (omega (arith, ints)) (omega (arith, ints))

@@ -35,7 +35,7 @@ module _ (f g : ℤ × ℤ → ℤ) (p q : ℤ × ℤ → Bool) where
       ap (λ (b : Bool). map f (cond b (t ∷ filter p ts) (filter p ts))) here.1
       ∙ kept_same (q t) t (filter p ts) (filter q ts) here.0 (filtered_same ts (All-tail (λ u. (f u ≡ g u) × (p u ≡ q u)) t ts same))
 
-points_inside : (a : Area) → IsArea a → All (λ t. HoldsPoint a t.0 t.1) (points_of a)
+pub points_inside : (a : Area) → IsArea a → All (λ t. HoldsPoint a t.0 t.1) (points_of a)
 points_inside a h =
     All-weaker (Contains (points_of a)) (λ t. HoldsPoint a t.0 t.1) (λ t there. (Contains-points_of a t.0 t.1 h).0 there) (points_of a) (All-contains_itself (points_of a))
 

@@ -1,5 +1,6 @@
 -- What a program is at the values of its parameters: names become numbers of stages, extents become numbers.
-use Rattle.std.specs.Prelude.{ℕ, ◌==◌, ℤ, pos, ◌-ℤ◌, ◌≡◌, Bool, false, not, ◌&&◌, if◌then◌else◌, Option, Some, None, unwrap_or, List, [], ◌∷◌, map, filter, slice_get, slice_index}
+use Rattle.std.specs.Prelude.{ℕ, ◌==◌, ℤ, pos, ◌-ℤ◌, ◌≡◌, Bool, false, not, ◌&&◌, if◌then◌else◌, Option, Some, None, unwrap_or, List, [], ◌∷◌, map, filter, slice_get, slice_index, FitsSigned}
+use Rattle.std.specs.Int.{w32}
 use Rattle.std.specs.List.{flat_map}
 use Rattle.std.specs.Option.{option_map, option_map_or}
 use Rattle.std.specs.Str.{bytes_eq}
@@ -22,7 +23,9 @@ use Rattle.pipe_lang.specs.Tree.{Node, Branch, Function, Accumulator, Declaratio
 use Rattle.pipe_checks.specs.declared.declared.Declared.{Declared}
 use Rattle.pipe_checks.specs.declared.params.Setting.{Setting}
 use Rattle.pipe_checks.specs.Settings.{affine_value, param_value}
-use Rattle.pipe_checks.specs.Names.{stages_of, number_of}
+use Rattle.pipe_checks.specs.Names.{params_of, stages_of, number_of}
+use Rattle.pipe_checks.specs.Checking.{IsNamed}
+use Rattle.pipe_checks.specs.Within.{AllSet}
 use Rattle.pipe_checks.specs.Graph.{IsRanking}
 use Rattle.pipe_checks.specs.Sites.{graph_of, is_plane}
 use Rattle.job.specs.Formula.{Axis, row, column, Formula, number, coordinate, read, neg, binary, literal, abs, clamp, select, stencil, Test, compare, remainder}
@@ -50,6 +53,10 @@ settled i picture x (Some v) = Some v
 -- the parameters, where those without a value are taken from the picture
 abbrev pub settings_for : Image → Picture → List Setting → List Setting
 settings_for i picture settings = map (λ s. record { name = s.name; value = settled i picture s.name s.value }) settings
+
+-- each value is a number of 32 bits
+abbrev pub AreSmall : List Setting → Type 0
+AreSmall settings = (k : ℕ) (s : Setting) (v : ℤ) → slice_get settings k ≡ Some s → s.value ≡ Some v → FitsSigned w32 v
 
 -- ---- what names stand for
 
@@ -190,11 +197,14 @@ item_images (tree.function f) = []
 item_images (tree.accumulator a) = []
 item_images (tree.output o) = []
 
--- The job is what the items say at the parameters that are given, a picture and the sides of tiles. This means something
--- for items that `check` accepts, and where all their parameters then have values.
+-- The job is what the items say, where each name stands for what its place wants: at the values that are given for the
+-- parameters, which are all of them in the order of the text, with those from the picture. All then have values.
 pub record IsJobOf (items : List Declaration) (given : List Setting) (picture : Picture) (sides : Sides) (job : Pipeline) : Type 0 where
+  pub named : IsNamed items
+  pub params : map (λ s. s.name) given ≡ map (λ d. d.name) (params_of items)
   pub image : Image
   pub declared : flat_map item_images items ≡ image ∷ []
+  pub set : AllSet (settings_for image picture given)
   pub ranks : List ℕ
   pub ranking : IsRanking (graph_of items) ranks
   pub is : job ≡ job_of (record { stages = stages_of items; ranks = ranks; settings = settings_for image picture given }) items picture sides

@@ -1,5 +1,5 @@
 -- A small program, written out, and the job that it is at a picture of two rows and two columns.
-use Rattle.std.specs.Prelude.{ℕ, pos, true, false, Some, None, List, [], ◌∷◌}
+use Rattle.std.specs.Prelude.{ℕ, ℤ, pos, true, false, Option, Some, None, List, [], ◌∷◌}
 use Rattle.netpbm.specs.Image.{Image, image}
 use Rattle.pipe_lang.specs.declared.tree.Term.{Term}
 use Rattle.pipe_lang.specs.declared.tree.Names.TheVariants.{One}
@@ -45,6 +45,21 @@ copying =
 -- no parameter is given
 abbrev pub unset : List Setting
 unset = record { name = 82 ∷ []; value = None } ∷ record { name = 67 ∷ []; value = None } ∷ []
+
+-- ---- sides that are parameters: image I(N, N); and image I(2*N, N);
+
+abbrev pub square : Planes
+square = record { names = One (73 ∷ []); rows = just 78 ∷ []; columns = just 78 ∷ [] }
+
+abbrev pub twice_as_high : Planes
+twice_as_high = record { names = One (73 ∷ []); rows = record { negative = false; factor = 2; name = Some (78 ∷ []) } ∷ []; columns = just 78 ∷ [] }
+
+abbrev pub one_by_two : Image
+one_by_two = image 1 2 255 ((7 ∷ 9 ∷ []) ∷ [])
+
+-- one parameter, with its value
+abbrev pub setting : ℕ → Option ℤ → List Setting
+setting name value = record { name = name ∷ []; value = value } ∷ []
 
 -- ---- the job
 

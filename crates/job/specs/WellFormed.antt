@@ -39,7 +39,6 @@ pub record IsKernel (kernel : List (List ℤ)) : Type 0 where
   pub height : IsKernelSide (length kernel)
   pub width : IsKernelSide (length (factors kernel 0))
   pub one_width : All (λ row. length row ≡ length (factors kernel 0)) kernel
-  pub entries : All (All (FitsSigned w32)) kernel
 
 abbrev pub IsFormula : Formula → Type 0
 IsFormula (number n) = FitsSigned w32 n
@@ -86,10 +85,10 @@ pub record IsNear (s : Ends) : Type 0 where
 abbrev pub picture_area : Image → Area
 picture_area p = record { rows = record { lo = pos 0; hi = pos p.rows -ℤ pos 1 }; cols = record { lo = pos 0; hi = pos p.cols -ℤ pos 1 } }
 
--- a plane is one of the picture and has its sides; there are at most 16 pieces, and at most 4,096 bins
+-- a plane is one of the picture and has its sides; there are at most 4,096 bins
 abbrev pub IsBody : Image → Area → Body → Type 0
 IsBody picture domain (plane n) = (n < length picture.planes) × (domain ≡ picture_area picture)
-IsBody picture domain (function pieces otherwise) = (length pieces ≤ 16) × All (λ p. All IsTest p.tests) pieces
+IsBody picture domain (function pieces otherwise) = All (λ p. All IsTest p.tests) pieces
 IsBody picture domain (accumulator fold bins value bin) = IsNear bins × (len_of bins ≤ 4096)
 
 pub record IsStage (job : Pipeline) (s : Stage) : Type 0 where
@@ -122,12 +121,23 @@ pub record IsOutput (job : Pipeline) (o : Output) : Type 0 where
 
 pub record IsJob (job : Pipeline) : Type 0 where
   pub stages : (g : ℕ) (s : Stage) → slice_get job.stages g ≡ Some s → IsStage job s
-  pub few : length job.stages ≤ 64
   pub output : ForSome job.output (IsOutput job)
-  pub few_params : length job.params ≤ 64
   pub params : All (λ p. FitsSigned w32 p.value) job.params
   pub picture : IsImage job.picture
   pub sides : IsSides job.sides
+
+-- ---- limits of a text
+
+abbrev pub piece_count : Body → ℕ
+piece_count (plane n) = 0
+piece_count (function pieces otherwise) = length pieces
+piece_count (accumulator fold bins value bin) = 0
+
+-- what holds besides of a job whose program was parsed
+pub record IsSmall (job : Pipeline) : Type 0 where
+  pub few_stages : length job.stages ≤ 64
+  pub few_params : length job.params ≤ 64
+  pub few_pieces : (g : ℕ) (s : Stage) → slice_get job.stages g ≡ Some s → piece_count s.body ≤ 16
 
 -- ---- valuations
 

@@ -1,8 +1,8 @@
 //! What the definitions amount to, proved once for the crates above. A law is a function that does nothing: its clauses are the law.
 
-ghost use Rattle.std.specs.Prelude.{◌≡◌, ◌<◌, ◌++◌, ℕ, ℤ, List, slice_get, All, FitsSigned};
-ghost use Rattle.std.specs.Int.{w32};
-ghost use Rattle.domains.specs.Area.{HoldsPoint, IsArea};
+ghost use Rattle.std.specs.Prelude.{◌≡◌, ◌<◌, ◌++◌, ℕ, ℤ, Some, List, slice_get, All, FitsSigned};
+ghost use Rattle.std.specs.Int.{w32, w64};
+ghost use Rattle.domains.specs.Area.{HoldsPoint, IsArea, IsSubarea};
 ghost use Rattle.domains.specs.declared.area.Area.{Area};
 ghost use Rattle.netpbm.specs.Image.{Image};
 ghost use Rattle.pipe_lang.specs.declared.tree.Fold.{Fold};
@@ -12,7 +12,7 @@ ghost use Rattle.job.specs.Values.{Valuation, formula_value, body_value, stage_v
 ghost use Rattle.job.specs.Reads.{EachRead, BodyReads, SameAt, AgreeOver, stage_read, reads_of, IsRanked};
 ghost use Rattle.pipe_checks.specs.Boxes.{IsCutArea};
 ghost use Rattle.job.specs.Boxes.{BoundsHold, AreBoxed, box_of};
-ghost use Rattle.job.specs.Totals.{body_totals, total_of, joined};
+ghost use Rattle.job.specs.Totals.{body_totals, total_of, joined, totals_over, totals};
 ghost use Rattle.job.specs.WellFormed.{IsReadable, IsJob, Solves};
 
 /// Reads lead to lower ranks. So a value is what its stage makes of the values that it reads, and steps beyond the rank change nothing.
@@ -31,6 +31,12 @@ pub fn values_are_the_one_solution()
 /// Each value of a job is a number of 32 bits.
 pub fn values_fit()
     ensures { (job : Pipeline) (g : ℕ) (r c : ℤ) → IsJob job → IsReadable job.stages g r c → FitsSigned w32 (value job g r c) }
+{}
+
+/// Each total of a job is a number of 64 bits, over all points and over a part of them.
+pub fn totals_fit()
+    ensures whole { (job : Pipeline) (g : ℕ) → IsJob job → All (FitsSigned w64) (totals job g) }
+    ensures part { (job : Pipeline) (g : ℕ) (s : Stage) (area : Area) → IsJob job → slice_get job.stages g ≡ Some s → IsArea area → IsSubarea area s.domain → All (FitsSigned w64) (totals_over job area g) }
 {}
 
 /// Two valuations that have one value for all that is read give one value: for a formula at a point or over a

@@ -2,6 +2,26 @@
 //! value of a stage at a point is.
 #![tactic(auto)]
 
+mod bind;
 pub mod bound;
+mod draft;
+mod fault;
+mod fits;
+mod formula;
+mod job;
 pub mod laws;
+mod outputs;
+mod reads;
+mod resolve;
+mod settings;
+mod stage;
+mod stages;
 pub mod worked;
+
+pub use draft::MOST_TILES;
+pub use fault::BindFault;
+pub use formula::{Axis, Factors, Formula, Kernel, Test};
+pub use job::{Job, StageKind};
+pub use outputs::{Output, Parameter};
+pub use reads::Read;
+pub use stage::{Accumulator, Body, Function, Piece, Stage};

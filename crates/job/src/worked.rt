@@ -1,12 +1,17 @@
 //! Small jobs whose answers were worked by hand, and are computed from the definitions.
 
-ghost use Rattle.std.specs.Prelude.{◌≡◌, pos, negsuc, [], ◌∷◌};
+ghost use Rattle.std.specs.Prelude.{◌≡◌, ℤ, pos, negsuc, Some, [], ◌∷◌};
 ghost use Rattle.netpbm.specs.Image.{image as picture};
-ghost use Rattle.job.specs.Values.{value};
+ghost use Rattle.pipe_lang.specs.declared.tree.LiteralOp.TheVariants.{Shl, Shr};
+ghost use Rattle.pipe_lang.specs.declared.tree.Relation.TheVariants.{AtMost, AtLeast, Equals};
+ghost use Rattle.job.specs.Formula.{number, neg, literal, clamp, select};
+ghost use Rattle.job.specs.Boxes.{box_of};
+ghost use Rattle.job.specs.Values.{Valuation, formula_value, value};
 ghost use Rattle.job.specs.Totals.{totals, totals_over};
 ghost use Rattle.job.specs.Answers.{image, samples, wanted};
 ghost use Rattle.job.specs.WellFormed.{IsJob};
-ghost use Rattle.job.specs.Worked.{area, tile, blur, halving, edges, turned, counting, outside};
+ghost use Rattle.job.specs.Worked.{ends, area, tile, blur, halving, edges, turned, counting, outside};
+ghost use Rattle.job.specs.Lopsided.{leaning, odd_columns, right_half, choosing, below_zero, greatest_samples};
 
 /// A stencil in the one case whose tests hold at the middle; elsewhere no case holds, and there is no `else`.
 pub fn blurs_the_middle()
@@ -44,4 +49,43 @@ pub fn histogram_by_tiles()
 /// A point whose bin lies outside changes nothing, and a bin without a point keeps its start.
 pub fn empty_bins_keep_start()
     ensures { totals outside 1 ≡ pos 9223372036854775807 ∷ pos 9223372036854775807 ∷ pos 9223372036854775807 ∷ [] }
+{}
+
+/// The first column of a kernel is over the point to the left.
+pub fn kernels_are_not_turned()
+    ensures { value leaning 1 (pos 0) (pos 1) ≡ pos 321 }
+{}
+
+/// The first case that holds counts, then the next, then the other formula. A shift goes before a sum.
+pub fn first_case_counts()
+    ensures { image choosing ≡ Some (picture 3 4 20 ((0 ∷ 1 ∷ 8 ∷ 1 ∷ 10 ∷ 1 ∷ 9 ∷ 1 ∷ 20 ∷ 20 ∷ 10 ∷ 10 ∷ []) ∷ [])) }
+{}
+
+/// Rows are cut by tests of the first variable, columns by those of the second, and nothing by a remainder.
+pub fn boxes_by_axis()
+    ensures rows { box_of (area (pos 2) (pos 3)) odd_columns ≡ Some (area (pos 1) (pos 3)) }
+    ensures columns { box_of (area (pos 2) (pos 3)) right_half ≡ Some (record { rows = ends (pos 0) (pos 2); cols = ends (pos 2) (pos 3) }) }
+{}
+
+/// A clamp is cut from below and then from above; a comparison has its left side on the left; shifts double and halve.
+pub fn operations_by_hand()
+    ensures clamp { (env : Valuation) (r c : ℤ) → formula_value env (clamp (number (pos 5)) (number (pos 7)) (number (pos 3))) r c ≡ pos 3 }
+    ensures at_most { (env : Valuation) (r c : ℤ) → formula_value env (select (number (pos 1)) AtMost (number (pos 2)) (number (pos 3)) (number (pos 4))) r c ≡ pos 3 }
+    ensures at_least { (env : Valuation) (r c : ℤ) → formula_value env (select (number (pos 1)) AtLeast (number (pos 2)) (number (pos 3)) (number (pos 4))) r c ≡ pos 4 }
+    ensures equals { (env : Valuation) (r c : ℤ) → formula_value env (select (number (pos 2)) Equals (number (pos 2)) (number (pos 3)) (number (pos 4))) r c ≡ pos 3 }
+    ensures doubles { (env : Valuation) (r c : ℤ) → formula_value env (literal Shl (number (pos 1)) 31) r c ≡ negsuc 2147483647 }
+    ensures halves { (env : Valuation) (r c : ℤ) → formula_value env (literal Shr (neg (number (pos 5))) 1) r c ≡ negsuc 2 }
+{}
+
+/// Points and indices may lie below 0, and an index is rounded down.
+pub fn indices_below_zero()
+    ensures first { value below_zero 2 (negsuc 0) (pos 0) ≡ negsuc 2 }
+    ensures middle { value below_zero 2 (pos 0) (pos 0) ≡ negsuc 1 }
+    ensures last { value below_zero 2 (pos 1) (pos 0) ≡ negsuc 1 }
+{}
+
+/// The greatest sample of each column, over all points and over those of the first tile.
+pub fn greatest_of_columns()
+    ensures whole { totals greatest_samples 1 ≡ pos 5 ∷ pos 8 ∷ pos 4 ∷ [] }
+    ensures tile { totals_over greatest_samples (area (pos 1) (pos 1)) 1 ≡ pos 5 ∷ pos 8 ∷ negsuc 9223372036854775807 ∷ [] }
 {}

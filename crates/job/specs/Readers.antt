@@ -1,0 +1,36 @@
+-- What is told of a stage.
+use Rattle.std.specs.Prelude.{ℕ, if◌then◌else◌, Option, Some, None, slice_get}
+use Rattle.domains.specs.Span.{Ends}
+use Rattle.domains.specs.declared.grid.Grid.{Grid}
+use Rattle.pipe_lang.specs.declared.tree.Fold.{Fold}
+use Rattle.job.specs.declared.job.StageKind.{StageKind}
+use Rattle.job.specs.declared.job.StageKind.TheVariants.{Plane, Function, Accumulator}
+use Rattle.job.specs.Pipeline.{Body, plane, function, accumulator, Stage, Pipeline}
+use Rattle.job.specs.Answers.{grid_of, has_tiles}
+
+abbrev pub body_kind : Body → StageKind
+body_kind (plane n) = Plane
+body_kind (function pieces otherwise) = Function
+body_kind (accumulator fold bins value bin) = Accumulator
+
+abbrev pub kind_of : Stage → StageKind
+kind_of s = body_kind s.body
+
+-- how an accumulator joins what bins
+abbrev pub fold_of : Body → Option Fold
+fold_of (plane n) = None
+fold_of (function pieces otherwise) = None
+fold_of (accumulator fold bins value bin) = Some fold
+
+abbrev pub bins_of : Body → Option Ends
+bins_of (plane n) = None
+bins_of (function pieces otherwise) = None
+bins_of (accumulator fold bins value bin) = Some bins
+
+-- functions and accumulators have tiles
+abbrev pub stage_grid : Pipeline → Option Stage → Option Grid
+stage_grid job None = None
+stage_grid job (Some s) = if has_tiles s.body then Some (grid_of job s) else None
+
+abbrev pub grid_at : Pipeline → ℕ → Option Grid
+grid_at job n = stage_grid job (slice_get job.stages n)

@@ -1,0 +1,125 @@
+#![tactic(auto)]
+//! Programs that are bound to pictures.
+
+ghost use Rattle.std.specs.Prelude.{◌≡◌, map, slice_get};
+ghost use Rattle.std.specs.Option.{option_map};
+ghost use Rattle.job.specs.Readers.{kind_of, grid_at};
+ghost use Rattle.job.specs.Views.{stage_view, output_view, parameter_view};
+ghost use Rattle.job.specs.Kept.{pipeline_in};
+
+use crate::draft::Draft;
+use crate::outputs::{Output, Parameter};
+use crate::stage::Stage;
+use domains::{Area, Grid, TileSides};
+use netpbm::Picture;
+use pipe_tokens::Name;
+
+/// A program at the values of its parameters, the picture that it works on, and the sides of its tiles. Only `bind` makes
+/// one.
+#[derive(Debug, Drop)]
+pub struct Job {
+    pub(crate) draft: Draft,
+}
+
+/// What a stage is.
+#[derive(Clone, Copy, Debug, PartialEq, Eq)]
+pub enum StageKind {
+    /// A plane of the picture.
+    Plane,
+    Function,
+    Accumulator,
+}
+
+impl Job {
+    /// The stages, in the order in which the text declares their names. A stage's number is its place here.
+    pub fn stages(&self) -> &[Stage]
+        ensures { map stage_view result.now ≡ (pipeline_in self.now).stages }
+    {
+        &self.draft.stages
+    }
+
+    /// The stage of this number.
+    pub fn stage(&self, number: usize) -> Option<&Stage>
+        ensures { option_map (λ s. stage_view s.now) result ≡ slice_get (pipeline_in self.now).stages number }
+    {
+        self.draft.stages.as_slice().get(number)
+    }
+
+    /// The output, if the program has one.
+    pub fn output(&self) -> &Option<Output>
+        ensures { option_map output_view result.now ≡ (pipeline_in self.now).output }
+    {
+        &self.draft.output
+    }
+
+    /// The parameters with their values, in the order of the text.
+    pub fn params(&self) -> &[Parameter]
+        ensures { map parameter_view result.now ≡ (pipeline_in self.now).params }
+    {
+        &self.draft.params
+    }
+
+    /// The picture.
+    pub fn picture(&self) -> &Picture
+        ensures { result.now ≡ (pipeline_in self.now).picture }
+    {
+        &self.draft.picture
+    }
+
+    /// The sides of the tiles.
+    pub fn sides(&self) -> TileSides
+        ensures { result ≡ (pipeline_in self.now).sides }
+    {
+        self.draft.sides
+    }
+
+    /// What the stage of this number is.
+    pub fn kind(&self, number: usize) -> Option<StageKind>
+        ensures { result ≡ option_map kind_of (slice_get (pipeline_in self.now).stages number) }
+    {
+        match self.stage(number) {
+            Some(stage) => Some(stage.kind()),
+            None => None,
+        }
+    }
+
+    /// The rank of the stage of this number.
+    pub fn rank(&self, number: usize) -> Option<usize>
+        ensures { result ≡ option_map (λ s. s.rank) (slice_get (pipeline_in self.now).stages number) }
+    {
+        match self.stage(number) {
+            Some(stage) => Some(stage.rank()),
+            None => None,
+        }
+    }
+
+    /// The domain of the stage of this number; of an accumulator the area that it reduces.
+    pub fn domain(&self, number: usize) -> Option<Area>
+        ensures { result ≡ option_map (λ s. s.domain) (slice_get (pipeline_in self.now).stages number) }
+    {
+        match self.stage(number) {
+            Some(stage) => Some(*stage.domain()),
+            None => None,
+        }
+    }
+
+    /// The name of the stage of this number.
+    pub fn name(&self, number: usize) -> Option<Name>
+        ensures { result ≡ option_map (λ s. s.name) (slice_get (pipeline_in self.now).stages number) }
+    {
+        match self.stage(number) {
+            Some(stage) => Some(*stage.name()),
+            None => None,
+        }
+    }
+
+    /// The tiles of the function or accumulator of this number.
+    pub fn grid(&self, number: usize) -> Option<Grid>
+        ensures { result ≡ grid_at (pipeline_in self.now) number }
+    {
+        match self.stage(number) {
+            Some(stage) => stage.grid(self.draft.sides),
+            None => None,
+        }
+    }
+}
