@@ -1,0 +1,46 @@
+-- Pieces of functions along a row of points.
+use Rattle.std.specs.Prelude.{ℕ, ◌-◌, ◌≤◌, ◌≡◌, ℤ, pos, Bool, true, false, ◌&&◌, Option, Some, None, List, [], ◌∷◌, All}
+use Rattle.std.specs.Option.{option_map_or}
+use Rattle.domains.specs.Area.{HoldsPoint}
+use Rattle.domains.specs.declared.area.Area.{Area}
+use Rattle.job.specs.Formula.{Formula, Test, compare, remainder}
+use Rattle.job.specs.Pipeline.{Piece}
+use Rattle.job.specs.Values.{Valuation, all_passed, formula_value, chosen}
+use Rattle.job.specs.Boxes.{BoundsHold}
+use Rattle.job.specs.Reads.{EachRead}
+use Rattle.job.specs.WellFormed.{IsFormula, IsTest}
+use Rattle.tile_eval.specs.Reading.{HasRoom}
+
+-- whether no test is one of remainders
+abbrev pub is_bound : Test → Bool
+is_bound (compare x relation bound) = true
+is_bound (remainder x modulus rest) = false
+
+abbrev pub only_bounds : List Test → Bool
+only_bounds [] = true
+only_bounds (t ∷ ts) = is_bound t && only_bounds ts
+
+-- the point lies in the box, if there is one
+abbrev pub InBox : Option Area → ℤ → ℤ → Type 0
+InBox None r c = ⊥
+InBox (Some box) r c = HoldsPoint box r c
+
+-- the value of the piece that is chosen at a point, else of the other formula, else 0
+abbrev pub function_value : Valuation → List Piece → Option Formula → ℤ → ℤ → ℤ
+function_value env pieces otherwise r c = option_map_or (λ f. formula_value env f r c) (chosen pieces otherwise r c) (pos 0)
+
+-- ---- what is needed to evaluate pieces
+
+-- at a point: where its tests hold it lies in the box, there the bounds hold, and all that the formula reads is there
+pub record IsReady (has : ℕ → ℤ → ℤ → Type 0) (p : Piece) (r c : ℤ) : Type 0 where
+  pub passed : all_passed p.tests r c ≡ true → InBox p.box r c
+  pub bounds : InBox p.box r c → BoundsHold p.tests r c
+  pub reads : InBox p.box r c → EachRead has p.formula r c
+
+-- the numbers of the text fit, and for rows of n points there is room for the operands, and for one row more where a piece
+-- is evaluated before its tests are judged
+pub record IsRoomy (n room : ℕ) (p : Piece) : Type 0 where
+  pub formula : IsFormula p.formula
+  pub tests : All IsTest p.tests
+  pub row : n ≤ room
+  pub operands : HasRoom p.formula n (room - n)

@@ -1,0 +1,117 @@
+#![tactic(auto)]
+//! Where rows of points begin.
+
+ghost use Rattle.std.specs.Prelude.{◌≡◌, ◌<◌, ◌≤◌, ◌≤ℤ◌, ◌+ℤ◌, ◌-ℤ◌, pos, negsuc, Some};
+ghost use Rattle.domains.specs.Index.{index_at};
+ghost use Rattle.job.specs.Values.{under};
+
+use domains::{Index, Span};
+
+/// The first point of a row of points.
+#[derive(Clone, Copy, Debug)]
+pub struct Start {
+    pub row: i32,
+    pub col: i32,
+    ghost row_least: { negsuc 16383 ≤ℤ row },
+    ghost row_most: { row ≤ℤ pos 16384 },
+    ghost col_least: { negsuc 16383 ≤ℤ col },
+    ghost col_most: { col ≤ℤ pos 16385 },
+}
+
+/// The number `k` behind `first`.
+#[inline]
+#[tactic(auto, using(std::proofs::lemmas::Int::ints))]
+pub(crate) fn along(first: i32, k: usize) -> i32
+    requires k { k ≤ 100000 }
+    requires least { negsuc 99999 ≤ℤ first }
+    requires most { first ≤ℤ pos 100000 }
+    ensures { result ≡ first +ℤ pos k }
+{
+    first + k as i32
+}
+
+impl Start {
+    /// The column of point number `k`.
+    pub(crate) fn column(&self, k: usize) -> i32
+        requires { (self.now.col +ℤ pos k) ≤ℤ pos 16385 }
+        ensures { result ≡ self.now.col +ℤ pos k }
+    {
+        along(self.col, k)
+    }
+
+    /// The start of the points from number `k` on.
+    pub(crate) fn behind(&self, k: usize) -> Start
+        requires { (self.now.col +ℤ pos k) ≤ℤ pos 16385 }
+        ensures row { result.row ≡ self.now.row }
+        ensures col { result.col ≡ self.now.col +ℤ pos k }
+    {
+        Start {
+            row: self.row,
+            col: along(self.col, k),
+        }
+    }
+
+    /// The row that an index takes.
+    pub(crate) fn row_at(&self, index: &Index) -> i32
+        ensures { result ≡ index_at index.now self.now.row }
+    {
+        index.at(self.row)
+    }
+
+    /// The first column that an index takes.
+    pub(crate) fn col_at(&self, index: &Index) -> i32
+        ensures { result ≡ index_at index.now self.now.col }
+    {
+        index.at(self.col)
+    }
+
+    /// The row that a kernel of so many rows reads with its row number `a`.
+    #[tactic(auto, using(std::proofs::lemmas::Int::ints))]
+    pub(crate) fn row_under(&self, rows: usize, a: usize) -> i32
+        requires rows { rows ≤ 100000 }
+        requires a { a ≤ 100000 }
+        ensures { result ≡ under self.now.row rows a }
+    {
+        self.row + a as i32 - (rows / 2) as i32
+    }
+
+    /// The first column that a kernel of so many columns reads.
+    #[tactic(auto, using(std::proofs::lemmas::Int::ints))]
+    pub(crate) fn col_under(&self, cols: usize) -> i32
+        requires { cols ≤ 100000 }
+        ensures { result ≡ under self.now.col cols 0 }
+    {
+        self.col - (cols / 2) as i32
+    }
+
+    /// The columns of `n` points.
+    pub(crate) fn span(&self, n: usize) -> Option<Span>
+        requires some { 0 < n }
+        requires most { (self.now.col +ℤ pos n) ≤ℤ pos 16385 }
+        ensures { result ≡ Some (record { lo = self.now.col; hi = self.now.col +ℤ pos n -ℤ pos 1 }) }
+    {
+        Span::new(self.col, self.column(n - 1))
+    }
+
+    /// How far a column lies behind the first.
+    #[tactic(auto, using(std::proofs::lemmas::Int::ints))]
+    pub(crate) fn gap(&self, col: i32) -> usize
+        requires least { self.now.col ≤ℤ col }
+        requires most { col ≤ℤ pos 1048576 }
+        ensures { self.now.col +ℤ pos result ≡ col }
+    {
+        (col - self.col) as usize
+    }
+
+    /// The start of the row that lies `rows` further down.
+    pub(crate) fn below(&self, rows: usize) -> Start
+        requires { (self.now.row +ℤ pos rows) ≤ℤ pos 16384 }
+        ensures row { result.row ≡ self.now.row +ℤ pos rows }
+        ensures col { result.col ≡ self.now.col }
+    {
+        Start {
+            row: along(self.row, rows),
+            col: self.col,
+        }
+    }
+}
