@@ -1,5 +1,6 @@
-pub mod Domains
-pub mod Givens
-pub mod Parameters
+pub mod Accepting
+pub mod Ascii
+pub mod Listed
 pub mod Shapes
-pub mod Sums
+pub mod Handing
+pub mod Known

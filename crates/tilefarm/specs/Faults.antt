@@ -1,53 +1,63 @@
--- What a command has read and written where it ends.
-use Rattle.std.specs.Prelude.{◌≡◌, ℕ, List, length, Option, Result, Ok, Err, IfSome}
-use Rattle.std.specs.Io.KnownBytes.{Appends}
-use Rattle.netpbm.specs.Image.{Image, IsImage}
-use Rattle.netpbm.specs.Spelling.{spelling}
-use Rattle.netpbm.specs.Streams.{AppendsPart, one_more}
-use Rattle.tilefarm.specs.Input.{Given, IsShapedResult}
+-- Which fault of an input is told: each only where none of those before it is.
+use Rattle.std.specs.Prelude.{◌≡◌, ◌≢◌, ◌⊎◌, ℕ, Option, Some, List, position, slice_get, filter_map}
+use Rattle.std.specs.Option.{option_map}
+use Rattle.netpbm.specs.Image.{Image}
+use Rattle.netpbm.specs.Faults.{IsFault as IsPictureFault}
+use Rattle.netpbm.specs.declared.fault.PicFault.TheVariants as pictures
+use Rattle.pipe_lang.specs.Faults.{IsFault as IsTextFault, IsText}
+use Rattle.pipe_lang.specs.Tree.{Declaration}
+use Rattle.pipe_lang.specs.declared.fault.ParseFault.TheVariants as texts
+use Rattle.pipe_checks.specs.Checking.{IsFault as IsProgramFault}
+use Rattle.pipe_checks.specs.Names.{stages_of}
+use Rattle.pipe_checks.specs.declared.declared.Declared.{Declared}
+use Rattle.pipe_checks.specs.declared.fault.CheckFault.{CheckFault}
+use Rattle.pipe_checks.specs.declared.fault.CheckFault.TheVariants as checks
+use Rattle.pipe_checks.specs.declared.fault.Cycle.{Cycle}
+use Rattle.pipe_checks.specs.declared.params.Setting.{Setting}
+use Rattle.tilefarm.specs.Input.{IsInput, IsParted, IsRunnable, MeansSomething, is_beyond}
+use Rattle.tilefarm.specs.Sections.{HasNoSeparator}
+use Rattle.tilefarm.specs.Settling.{Given, AreSettled, IsFirstRefused, unset_of}
 use Rattle.tilefarm.specs.declared.faults.StreamFault.{StreamFault}
 use Rattle.tilefarm.specs.declared.faults.StreamFault.TheVariants.{Read, TooLong, NoSeparator, Program, Picture, Check, Param, Bind, Memory, Write}
+use Rattle.tilefarm.specs.declared.lines.CheckLine.{CheckLine}
+use Rattle.tilefarm.specs.declared.lines.CheckLine.TheVariants as lines
 
--- the fault lies in the input and its program, and neither in the reader nor in the writer
-abbrev pub IsOfInput : StreamFault → Type 0
-IsOfInput Read = ⊥
-IsOfInput Write = ⊥
-IsOfInput _ = Unit {0}
+-- the name of the stage of this number
+abbrev pub name_at : List Declared → ℕ → Option (List ℕ)
+name_at stages n = option_map (λ (d : Declared). d.name) (slice_get stages n)
 
--- the picture has one plane, and where the input is known the shape of its result
-abbrev pub IsResultOfKnown : Option (List ℕ) → List Given → Image → Type 0
-IsResultOfKnown known given picture = IsImage picture × (length picture.planes ≡ 1) × IfSome known (λ input. IsShapedResult input given picture)
+-- the names of the stages of these numbers
+abbrev pub names_of : List Declared → List ℕ → List (List ℕ)
+names_of stages numbers = filter_map (name_at stages) numbers
 
--- the writer took the raw spelling of such a picture
-abbrev pub AppendsResult : Option (List ℕ) → List Given → Option (List ℕ) → Option (List ℕ) → Type 0
-AppendsResult known given old new = (picture : Image) × IsResultOfKnown known given picture × Appends old new (spelling picture)
+-- the first item that is not evaluated, in a program that means something
+pub record IsFirstBeyond (tree : List Declaration) (n : ℕ) : Type 0 where
+  pub means : MeansSomething tree
+  pub first : position is_beyond tree ≡ Some n
 
--- what was written: all of the raw spelling of a picture of the result's shape; where the writer failed a part of it;
--- else nothing
-abbrev pub WritesResult : {X : Type 0} → Option (List ℕ) → List Given → Result X StreamFault → Option (List ℕ) → Option (List ℕ) → Type 0
-WritesResult known given (Ok _) old new = AppendsResult known given old new
-WritesResult known given (Err Write) old new = (picture : Image) × IsResultOfKnown known given picture × AppendsPart old new (spelling picture)
-WritesResult known given (Err _) old new = new ≡ old
+-- the fault of a program, told by the names of its stages
+abbrev pub IsCheckLine : List Declaration → CheckLine → Type 0
+IsCheckLine tree (lines.Cycle names) = (cycle : List ℕ) × IsProgramFault tree (checks.Cycle cycle) × (names ≡ names_of (stages_of tree) cycle)
+IsCheckLine tree (lines.Fault (checks.Kind n)) = IsProgramFault tree (checks.Kind n) ⊎ IsFirstBeyond tree n
+IsCheckLine tree (lines.Fault (checks.Cycle cycle)) = ⊥
+IsCheckLine tree (lines.Fault checks.Memory) = ⊥
+IsCheckLine tree (lines.Fault fault) = IsProgramFault tree fault
 
--- one call of the reader failed at `Read`, and none at any other answer
-abbrev pub CountsRead : {X : Type 0} → Result X StreamFault → ℕ → ℕ → Type 0
-CountsRead (Err Read) old new = new ≡ one_more old
-CountsRead _ old new = new ≡ old
-
--- one call of the writer failed at `Write`, and none at any other answer
-abbrev pub CountsWritten : {X : Type 0} → Result X StreamFault → ℕ → ℕ → Type 0
-CountsWritten (Err Write) old new = new ≡ one_more old
-CountsWritten _ old new = new ≡ old
-
--- the status that a program ends with at a fault
-abbrev pub status_of : StreamFault → ℕ
-status_of (Param _) = 1
-status_of TooLong = 2
-status_of NoSeparator = 2
-status_of (Picture _) = 2
-status_of (Program _) = 3
-status_of (Check _) = 3
-status_of (Bind _) = 3
-status_of Read = 4
-status_of Write = 4
-status_of Memory = 5
+-- the first fault of an input and of the parameters that are given; memory may run out for any
+abbrev pub IsFaultOf : List ℕ → List Given → StreamFault → Type 0
+IsFaultOf input given NoSeparator = HasNoSeparator input
+IsFaultOf input given (Program fault) = (text spelling : List ℕ) × IsParted input text spelling × IsTextFault text fault × (fault ≢ texts.Memory)
+IsFaultOf input given (Picture fault) =
+    (text spelling : List ℕ) × (tree : List Declaration) × IsParted input text spelling × IsText text tree
+    × IsPictureFault spelling fault × (fault ≢ pictures.Memory)
+IsFaultOf input given (Check line) = (tree : List Declaration) × (source : Image) × IsInput input tree source × IsCheckLine tree line
+IsFaultOf input given (Param line) =
+    (tree : List Declaration) × (source : Image) × IsInput input tree source × IsRunnable tree × IsFirstRefused (unset_of tree) given line
+IsFaultOf input given (Bind line) =
+    (tree : List Declaration) × (source : Image) × (settings : List Setting) × IsInput input tree source × IsRunnable tree
+    × AreSettled (unset_of tree) given tree source settings
+IsFaultOf input given Memory = Unit {0}
+-- neither a reader nor a writer is known here
+IsFaultOf input given Read = ⊥
+IsFaultOf input given TooLong = ⊥
+IsFaultOf input given Write = ⊥

@@ -1,6 +1,8 @@
-pub mod Evaluation
+pub mod Binding
 pub mod Faults
 pub mod Input
+pub mod Outcomes
 pub mod Sections
+pub mod Settling
 pub mod Shape
-pub mod Values
+pub mod Told

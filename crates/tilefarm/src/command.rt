@@ -1,13 +1,14 @@
 //! The command line.
 
 ghost use Rattle.std.specs.Prelude.{◌≡◌, ◌≤◌, ◌⊎◌, List};
-ghost use Rattle.tilefarm.specs.Faults.{AppendsResult, status_of};
-ghost use Rattle.tilefarm.specs.Input.{Given};
+ghost use Rattle.tilefarm.specs.Outcomes.{AppendsResult, status_of};
+ghost use Rattle.tilefarm.specs.Settling.{Given};
 
 use crate::faults::StreamFault;
 use crate::stream::{Options, eval_stream};
 use clap::error::ErrorKind;
 use clap::{Arg, ArgAction, ArgMatches, Command, Error};
+use domains::TileSides;
 use netpbm::{Sink, Source, write_whole};
 use std::alloc::{AllocError, AllocFailed, Global};
 
@@ -17,7 +18,18 @@ const USAGE: &[u8] = b"usage: tilefarm COMMAND [OPTIONS] [NAME=VALUE]...\n";
 /// The line where memory ran out, which takes none.
 const MEMORY: &[u8] = b"memory\n";
 
+/// The sides of tiles where no option gives them.
+const SIDE: u32 = 64;
+
+/// How a command is to be run, and the parameters that are given, in order.
+#[derive(Drop)]
+struct Request {
+    options: Options,
+    parameters: Vec<(String, i32)>,
+}
+
 /// Why a command line is not run.
+#[derive(Drop)]
 enum Refusal {
     Usage,
     Memory,
@@ -57,8 +69,13 @@ pub fn run_command<H: AllocGlobal, R: Source, W: Sink>(
     ensures known { result ≤ 5 }
     ensures read { (R.failures reader.new ≡ R.failures reader.old) ⊎ (result ≡ 4) }
 {
-    match parameters_of(rt.alloc(), words) {
-        Ok(parameters) => match eval_stream(rt, &Options, parameters.as_slice(), reader, writer) {
+    match request_of(rt.alloc(), words) {
+        Ok(
+            Request {
+                options,
+                parameters,
+            },
+        ) => match eval_stream(rt, &options, parameters.as_slice(), reader, writer) {
             Ok(()) => 0,
             Err(fault) => report(rt.alloc(), &fault, writer),
         },
@@ -88,14 +105,19 @@ fn report<W: Sink>(alloc: Global, fault: &StreamFault, writer: &mut W) -> u8
     fault.status()
 }
 
-/// The parameters that the words of the command `eval` give, in order.
-fn parameters_of(alloc: Global, words: &[String]) -> Result<Vec<(String, i32)>, Refusal> {
+/// What the words of the command `eval` ask for.
+fn request_of(alloc: Global, words: &[String]) -> Result<Request, Refusal> {
     if words.iter().any(|word| word.as_str() == "--") {
         return Err(Refusal::Usage);
     }
     let matches = command(alloc)?.try_get_matches_from(words)?;
     match matches.subcommand() {
-        Some(("eval", given)) => given_parameters(alloc, given),
+        Some(("eval", given)) => Ok(Request {
+            options: Options {
+                sides: sides_of(given)?,
+            },
+            parameters: given_parameters(alloc, given)?,
+        }),
         _ => Err(Refusal::Usage),
     }
 }
@@ -106,6 +128,8 @@ fn command<'a>(alloc: Global) -> Result<Command<'a>, AllocError> {
         .num_args(0..);
     let eval = Command::new(alloc, "eval")
         .disable_help_flag(true)
+        .arg(side(alloc, "rows"))?
+        .arg(side(alloc, "cols"))?
         .arg(parameters)?;
     Command::new(alloc, "tilefarm")
         .no_binary_name(true)
@@ -113,6 +137,26 @@ fn command<'a>(alloc: Global) -> Result<Command<'a>, AllocError> {
         .disable_help_subcommand(true)
         .subcommand_required(true)
         .subcommand(eval)
+}
+
+/// An option that takes the side of a tile.
+fn side<'a>(alloc: Global, name: &'a str) -> Arg<'a> {
+    Arg::new(alloc, name).long(name).action(ArgAction::Set)
+}
+
+fn sides_of(given: &ArgMatches) -> Result<TileSides, Refusal> {
+    match (side_of(given, "rows"), side_of(given, "cols")) {
+        (Some(rows), Some(cols)) => TileSides::new(rows, cols).ok_or(Refusal::Usage),
+        _ => Err(Refusal::Usage),
+    }
+}
+
+fn side_of(given: &ArgMatches, name: &str) -> Option<u32> {
+    match given.get_str(name) {
+        Some(digits) if digits.starts_with('+') => None,
+        Some(digits) => digits.parse().ok(),
+        None => Some(SIDE),
+    }
 }
 
 fn given_parameters(alloc: Global, given: &ArgMatches) -> Result<Vec<(String, i32)>, Refusal> {

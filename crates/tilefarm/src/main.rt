@@ -1,16 +1,14 @@
 //! A compiler for image pipelines: it reads a program and a picture, and writes the program's result.
 #![tactic(auto)]
 
+mod accepted;
 mod bind;
-mod bounds;
 mod command;
 mod faults;
-mod names;
-mod params;
+mod lines;
 mod sections;
+mod settings;
 mod stream;
-#[cfg(test)]
-mod tests;
 mod values;
 
 use command::run_command;

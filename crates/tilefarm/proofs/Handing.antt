@@ -1,0 +1,73 @@
+-- Values that are given one after the other, and extents that give theirs.
+use Rattle.std.proofs.Common.{◌≡◌, ℕ, suc, ◌+◌, ◌<◌, ◌++◌, List, [], ◌∷◌, Option, Some, None, Result, Ok, Err, OnOk, length, get_or, take, map, slice_get, refl, sym, ap, ◌∙◌, subst, add-one}
+use Rattle.std.proofs.Math.Seq.{take-suc}
+use Rattle.std.specs.Prelude.{◌↔◌, string_bytes}
+use Rattle.std.proofs.lemmas.List.{map-append}
+use Rattle.netpbm.specs.Image.{Image}
+use Rattle.pipe_lang.specs.Tree.{Declaration, declaration, declarations}
+use Rattle.pipe_lang.specs.declared.tree.Item.{Item}
+use Rattle.pipe_checks.specs.declared.params.Setting.{Setting}
+use Rattle.pipe_checks.specs.declared.fault.ParamFault.{ParamFault}
+use Rattle.pipe_checks.specs.declared.fault.ParamFault.TheVariants.{NoSuchParam, SetTwice}
+use Rattle.pipe_checks.specs.Settings.{SetsOne, IsSet, place_in}
+use Rattle.tilefarm.specs.declared.faults.StreamFault.{StreamFault}
+use Rattle.tilefarm.specs.declared.faults.StreamFault.TheVariants as faults
+use Rattle.tilefarm.specs.Binding.{IsParamRefusal, TellsParam}
+use Rattle.tilefarm.specs.Settling.{Given, AreGiven, AllTakeSides, TakesSides, IsNotSettable}
+
+-- the front of a list with one more element
+pub one_more : {X : Type 0} (xs : List X) (i : ℕ) (x : X) → i < length xs → x ≡ get_or xs i x → take (i + 1) xs ≡ take i xs ++ x ∷ []
+one_more xs i x within is = ap (λ n. take n xs) (add-one i) ∙ take-suc xs i x within ∙ ap (λ y. take i xs ++ y ∷ []) (sym is)
+
+pub given_last : (old mid new : List Setting) (xs : List Given) (x : Given) → AreGiven old xs mid → SetsOne mid new (string_bytes x.0) x.1 → AreGiven old (xs ++ x ∷ []) new
+given_last old mid new [] x e set = (new, subst (λ ss. SetsOne ss new (string_bytes x.0) x.1) e set, refl)
+given_last old mid new ((name, value) ∷ xs) x (next, first, rest) set = (next, first, given_last next mid new xs x rest set)
+
+pub given_more : (old mid new : List Setting) (xs : List Given) (i : ℕ) (x : Given) → i < length xs → x ≡ get_or xs i x → AreGiven old (take i xs) mid
+    → SetsOne mid new (string_bytes x.0) x.1 → AreGiven old (take (i + 1) xs) new
+given_more old mid new xs i x within is so_far set = subst (λ ys. AreGiven old ys new) (sym (one_more xs i x within is)) (given_last old mid new (take i xs) x so_far set)
+
+pub sides_last : (source : Image) (old mid new : List Setting) (ds : List Declaration) (d : Declaration) → AllTakeSides ds source old mid → TakesSides d source mid new
+    → AllTakeSides (ds ++ d ∷ []) source old new
+sides_last source old mid new [] d e takes = (new, subst (λ ss. TakesSides d source ss new) e takes, refl)
+sides_last source old mid new (x ∷ ds) d (next, first, rest) takes = (next, first, sides_last source next mid new ds d rest takes)
+
+pub sides_more : (source : Image) (old mid new : List Setting) (items : List Item) (i : ℕ) (x : Item) → i < length items → x ≡ get_or items i x
+    → AllTakeSides (declarations (take i items)) source old mid → TakesSides (declaration x) source mid new → AllTakeSides (declarations (take (i + 1) items)) source old new
+sides_more source old mid new items i x within is so_far takes =
+    let grown : declarations (take (i + 1) items) ≡ declarations (take i items) ++ declaration x ∷ [] =
+    ap declarations (one_more items i x within is) ∙ map-append declaration (take i items) (x ∷ []) in
+    subst (λ ds. AllTakeSides ds source old new) (sym grown) (sides_last source old mid new (declarations (take i items)) (declaration x) so_far takes)
+
+-- ---- refusals
+
+pub set_of : {P : Type 0} (r : Result (Unit {0}) ParamFault) → OnOk r P → ((e : ParamFault) → r ≡ Err e → ⊥) → P
+set_of (Ok u) p never = p
+set_of (Err e) p never = absurd (never e refl)
+
+pub not_settable : (ss : List Setting) (name : List ℕ) (fault : ParamFault) (r : Result (Unit {0}) ParamFault) → r ≡ Err fault
+    → ((r ≡ Err NoSuchParam) ↔ (place_in ss name ≡ None)) → ((r ≡ Err SetTwice) ↔ IsSet ss name) → IsNotSettable ss name fault
+not_settable ss name NoSuchParam r e none twice = none.0 e
+not_settable ss name SetTwice r e none twice = twice.0 e
+
+pub told_refusal : (start ss : List Setting) (given : List Given) (n : ℕ) (pair : Given) (fault : ParamFault) (f : StreamFault) → slice_get given n ≡ Some pair
+    → AreGiven start (take n given) ss → IsNotSettable ss (string_bytes pair.0) fault → TellsParam fault (string_bytes pair.0) f → IsParamRefusal start given f
+told_refusal start ss given n pair fault (faults.Param line) there before why told =
+    record {
+      n = n;
+      pair = pair;
+      there = there;
+      settings = ss;
+      before = before;
+      why = subst (IsNotSettable ss (string_bytes pair.0)) (sym told.0) why;
+      name = told.1;
+    }
+told_refusal start ss given n pair fault faults.Memory there before why told = tt
+told_refusal start ss given n pair fault faults.Read there before why told = told
+told_refusal start ss given n pair fault faults.TooLong there before why told = told
+told_refusal start ss given n pair fault faults.NoSeparator there before why told = told
+told_refusal start ss given n pair fault (faults.Program x) there before why told = told
+told_refusal start ss given n pair fault (faults.Picture x) there before why told = told
+told_refusal start ss given n pair fault (faults.Check x) there before why told = told
+told_refusal start ss given n pair fault (faults.Bind x) there before why told = told
+told_refusal start ss given n pair fault faults.Write there before why told = told

@@ -1,0 +1,179 @@
+//! Faults of a program as they are told: by the names of its parameters and stages where the libraries have numbers.
+
+use pipe_checks::{Axis, BoundFault, CheckFault, ParamFault};
+use pipe_tokens::Name;
+use std::alloc::{AllocError, AllocFailed};
+use std::fmt;
+use std::marker::Model;
+
+/// The names of stages. Contracts see their list.
+#[derive(Debug, Drop)]
+pub struct StageNames {
+    pub(crate) names: Vec<Name>,
+}
+
+impl Model for StageNames {
+    ghost use Rattle.std.specs.Prelude.{List, ℕ};
+
+    ghost Value = { List (List ℕ) };
+
+    ghost view = { λ s. s.names.items };
+}
+
+impl fmt::Display for StageNames {
+    fn fmt<W: fmt::Write>(&self, f: &mut fmt::Formatter<W>) -> fmt::Result {
+        for name in &self.names {
+            write!(f, " {name}")?;
+        }
+        Ok(())
+    }
+}
+
+/// What is wrong with the names, the numbers and the cycles of a program.
+#[derive(Debug, Drop)]
+pub enum CheckLine {
+    /// A fault of an item, or a missing result.
+    Fault(CheckFault),
+    /// Stages of which each reads the next. The last is the first again.
+    Cycle(StageNames),
+}
+
+impl fmt::Display for CheckLine {
+    fn fmt<W: fmt::Write>(&self, f: &mut fmt::Formatter<W>) -> fmt::Result {
+        match self {
+            CheckLine::Cycle(names) => write!(f, "7 Cycle{names}"),
+            CheckLine::Fault(fault) => {
+                write!(f, "{} {}", fault.number(), fault.name())?;
+                match item_of(fault) {
+                    Some(item) => write!(f, " item {item}"),
+                    None => Ok(()),
+                }
+            }
+        }
+    }
+}
+
+/// The number of the item that a fault blames.
+fn item_of(fault: &CheckFault) -> Option<usize> {
+    match fault {
+        CheckFault::Unknown(item)
+        | CheckFault::Twice(item)
+        | CheckFault::Kind(item)
+        | CheckFault::BadKernel(item)
+        | CheckFault::BadLiteral(item) => Some(*item),
+        CheckFault::NoResult | CheckFault::Cycle(_) | CheckFault::Memory => None,
+    }
+}
+
+/// A parameter that was given in vain.
+#[derive(Debug, Drop)]
+pub struct ParamLine {
+    pub fault: ParamFault,
+    /// The name as it was given.
+    pub name: String,
+}
+
+impl fmt::Display for ParamLine {
+    fn fmt<W: fmt::Write>(&self, f: &mut fmt::Formatter<W>) -> fmt::Result {
+        write!(
+            f,
+            "{} {} {}",
+            self.fault.number(),
+            self.fault.name(),
+            self.name
+        )
+    }
+}
+
+/// Where a read leaves the domain that it reads; nothing at other faults.
+#[derive(Clone, Copy)]
+struct Reads(BoundFault);
+
+impl fmt::Display for Reads {
+    fn fmt<W: fmt::Write>(&self, f: &mut fmt::Formatter<W>) -> fmt::Result {
+        match self.0 {
+            BoundFault::OutOfBounds {
+                case,
+                read,
+                axis,
+                least,
+                greatest,
+                ..
+            } => {
+                let axis = axis_word(axis);
+                write!(
+                    f,
+                    " case {case} read {read} {axis} least {least} greatest {greatest}"
+                )
+            }
+            _ => Ok(()),
+        }
+    }
+}
+
+fn axis_word(axis: Axis) -> &'static str {
+    match axis {
+        Axis::Rows => "rows",
+        Axis::Columns => "columns",
+    }
+}
+
+/// Why a program and a picture make no job.
+#[derive(Debug, Drop)]
+pub enum BindLine {
+    /// The parameter or the stage of this name has a fault of the bounds.
+    Bounds(BoundFault, Name),
+    /// The program names one plane and the picture has three, or the other way round.
+    Planes,
+    /// The picture has other sides than the program declares.
+    ExtentMismatch,
+    /// The output has a side over 4096.
+    OutputShapes,
+    /// A function has more than 65,536 tiles.
+    TooManyTiles(Name),
+    /// Memory ran out.
+    Memory,
+}
+
+impl From<AllocError> for BindLine {
+    ghost use Rattle.std.specs.Prelude.{◌≡◌};
+    ghost use Rattle.tilefarm.specs.declared.lines.BindLine.TheVariants.{Memory};
+
+    ghost from_gives = { λ _ line. line ≡ Memory };
+
+    fn from(_error: AllocError) -> BindLine {
+        BindLine::Memory
+    }
+}
+
+impl<T: Drop> From<AllocFailed<T>> for BindLine {
+    ghost use Rattle.std.specs.Prelude.{◌≡◌};
+    ghost use Rattle.tilefarm.specs.declared.lines.BindLine.TheVariants.{Memory};
+
+    ghost from_gives = { λ _ line. line ≡ Memory };
+
+    fn from(_error: AllocFailed<T>) -> BindLine {
+        BindLine::Memory
+    }
+}
+
+impl fmt::Display for BindLine {
+    fn fmt<W: fmt::Write>(&self, f: &mut fmt::Formatter<W>) -> fmt::Result {
+        match self {
+            BindLine::Bounds(fault, name) => {
+                write!(
+                    f,
+                    "bounds: {} {} {name}{}",
+                    fault.number(),
+                    fault.name(),
+                    Reads(*fault)
+                )
+            }
+            BindLine::Planes => f.write_str("bind: 2 Planes"),
+            BindLine::ExtentMismatch => f.write_str("bind: 3 ExtentMismatch"),
+            BindLine::OutputShapes => f.write_str("bind: 4 OutputShapes"),
+            BindLine::TooManyTiles(name) => write!(f, "bind: 5 TooManyTiles {name}"),
+            BindLine::Memory => f.write_str("bind: 6 Memory"),
+        }
+    }
+}
