@@ -1,15 +1,13 @@
-.PHONY: demo test input
+.PHONY: demo test
 
-# Evaluates the example on its picture, without any proof, and shows the bytes that it writes.
+# Evaluates the edge detector on its picture, without any proof, and shows the program, the picture and the result.
 demo:
-	@cat examples/copy/input
-	@echo '== tilefarm eval writes:'
-	@cd crates/tilefarm && mkdir -p out && cp ../../examples/copy/input out/demo-input && \
-	  rt try -- eval < out/demo-input > out/demo-output; \
-	  od -A d -t x1z out/demo-output
-	@echo '(run without proofs, by rt try; the proved program is crates/tilefarm/out/tilefarm, which'
-	@echo ' "cd crates/tilefarm && rt run" makes, and the proofs are checked by "make test")'
+	@cat examples/sobel/sobel.pipe
+	@cd crates/tilefarm && mkdir -p out && rt try -- eval < ../../examples/sobel/input > out/demo.pgm
+	@examples/show examples/sobel/house.pgm crates/tilefarm/out/demo.pgm
+	@echo '(run without proofs, by rt try; "make test" checks the proofs and leaves the proved program in'
+	@echo ' crates/tilefarm/out/tilefarm)'
 
-# Every proof from nothing, every must-fail edit, every test and every stored run.
+# Every proof from nothing, every must-fail edit, every test, every stored run, and the conformance cases.
 test:
-	rt ci
+	@tests/gate
