@@ -34,3 +34,11 @@ stage_grid job (Some s) = if has_tiles s.body then Some (grid_of job s) else Non
 
 abbrev pub grid_at : Pipeline → ℕ → Option Grid
 grid_at job n = stage_grid job (slice_get job.stages n)
+
+abbrev pub stage_fold : Option Stage → Option Fold
+stage_fold None = None
+stage_fold (Some s) = fold_of s.body
+
+abbrev pub stage_bins : Option Stage → Option Ends
+stage_bins None = None
+stage_bins (Some s) = bins_of s.body

@@ -3,15 +3,16 @@
 
 ghost use Rattle.std.specs.Prelude.{◌≡◌, map, slice_get};
 ghost use Rattle.std.specs.Option.{option_map};
-ghost use Rattle.job.specs.Readers.{kind_of, grid_at};
+ghost use Rattle.job.specs.Readers.{kind_of, grid_at, stage_fold, stage_bins};
 ghost use Rattle.job.specs.Views.{stage_view, output_view, parameter_view};
 ghost use Rattle.job.specs.Kept.{pipeline_in};
 
 use crate::draft::Draft;
 use crate::outputs::{Output, Parameter};
 use crate::stage::Stage;
-use domains::{Area, Grid, TileSides};
+use domains::{Area, Grid, Span, TileSides};
 use netpbm::Picture;
+use pipe_lang::Fold;
 use pipe_tokens::Name;
 
 /// A program at the values of its parameters, the picture that it works on, and the sides of its tiles. Only `bind` makes
@@ -109,6 +110,26 @@ impl Job {
     {
         match self.stage(number) {
             Some(stage) => Some(*stage.name()),
+            None => None,
+        }
+    }
+
+    /// How the accumulator of this number joins the numbers of a bin.
+    pub fn op(&self, number: usize) -> Option<Fold>
+        ensures { result ≡ stage_fold (slice_get (pipeline_in self.now).stages number) }
+    {
+        match self.stage(number) {
+            Some(stage) => stage.op(),
+            None => None,
+        }
+    }
+
+    /// The bins of the accumulator of this number.
+    pub fn bins(&self, number: usize) -> Option<Span>
+        ensures { result ≡ stage_bins (slice_get (pipeline_in self.now).stages number) }
+    {
+        match self.stage(number) {
+            Some(stage) => stage.bins(),
             None => None,
         }
     }

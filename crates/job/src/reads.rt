@@ -2,11 +2,15 @@
 //! What formulas read, in the order of the text.
 
 ghost use Rattle.std.specs.Prelude.{◌≡◌, ◌++◌, OnOk, IfOk, map};
-ghost use Rattle.job.specs.Views.{formula_view};
-ghost use Rattle.job.specs.Reads.{reads_in};
+ghost use Rattle.std.specs.List.{flat_map};
+ghost use Rattle.std.specs.Option.{option_map};
+ghost use Rattle.job.specs.Pipeline.{function, accumulator};
+ghost use Rattle.job.specs.Views.{formula_view, piece_view, stage_view};
+ghost use Rattle.job.specs.Reads.{reads_in, reads_of, other_formula};
 ghost use Rattle.job.specs.ReadViews.{read_view};
 
 use crate::formula::{Formula, Kernel};
+use crate::stage::{Accumulator, Body, Function, Piece, Stage};
 use domains::Index;
 use std::alloc::{AllocError, Global};
 
@@ -51,6 +55,62 @@ fn add_reads(alloc: Global, found: &mut Vec<Read>, formula: &Formula) -> Result<
             found.push(Read::Window(*stage, kernel.copied(alloc)?))?;
             Ok(())
         }
+    }
+}
+
+fn add_pieces(alloc: Global, found: &mut Vec<Read>, pieces: &[Piece]) -> Result<(), AllocError>
+    ensures { OnOk result (map read_view found.new.items ≡ map read_view found.old.items ++ flat_map reads_in (map (λ p. p.formula) (map piece_view pieces.now))) }
+{
+    for piece in pieces {
+        add_reads(alloc, found, piece.formula())?;
+    }
+    Ok(())
+}
+
+fn add_other(
+    alloc: Global,
+    found: &mut Vec<Read>,
+    other: &Option<Formula>,
+) -> Result<(), AllocError>
+    ensures { OnOk result (map read_view found.new.items ≡ map read_view found.old.items ++ flat_map reads_in (other_formula (option_map formula_view other.now))) }
+{
+    match other {
+        Some(formula) => add_reads(alloc, found, formula),
+        None => Ok(()),
+    }
+}
+
+impl Function {
+    // Puts the reads of the pieces, and then those of what holds elsewhere, behind those that were found.
+    fn add_reads(&self, alloc: Global, found: &mut Vec<Read>) -> Result<(), AllocError>
+        ensures { OnOk result (map read_view found.new.items ≡ map read_view found.old.items ++ reads_of (function (map piece_view self.now.pieces.items) (option_map formula_view self.now.otherwise))) }
+    {
+        add_pieces(alloc, found, self.pieces())?;
+        add_other(alloc, found, self.otherwise())
+    }
+}
+
+impl Accumulator {
+    fn add_reads(&self, alloc: Global, found: &mut Vec<Read>) -> Result<(), AllocError>
+        ensures { OnOk result (map read_view found.new.items ≡ map read_view found.old.items ++ reads_of (accumulator self.now.fold self.now.bins (formula_view self.now.value) (formula_view self.now.bin))) }
+    {
+        add_reads(alloc, found, self.value())?;
+        add_reads(alloc, found, self.bin())
+    }
+}
+
+impl Stage {
+    /// What the stage reads, in the order of the text; of an accumulator first for the value and then for the bin.
+    pub fn reads(&self, alloc: Global) -> Result<Vec<Read>, AllocError>
+        ensures { IfOk result (λ v. map read_view v.items ≡ reads_of (stage_view self.now).body) }
+    {
+        let mut found = Vec::new(alloc);
+        match self.body() {
+            Body::Plane(_) => {}
+            Body::Function(function) => function.add_reads(alloc, &mut found)?,
+            Body::Accumulator(accumulator) => accumulator.add_reads(alloc, &mut found)?,
+        }
+        Ok(found)
     }
 }
 

@@ -3,7 +3,7 @@
 
 ghost use Rattle.std.specs.Prelude.{◌≡◌, Some, None, if◌then◌else◌};
 ghost use Rattle.job.specs.Answers.{has_tiles};
-ghost use Rattle.job.specs.Readers.{kind_of};
+ghost use Rattle.job.specs.Readers.{kind_of, fold_of, bins_of};
 ghost use Rattle.job.specs.Views.{stage_view};
 
 use crate::formula::{Formula, Test};
@@ -91,6 +91,26 @@ impl Stage {
             Body::Plane(_) => StageKind::Plane,
             Body::Function(_) => StageKind::Function,
             Body::Accumulator(_) => StageKind::Accumulator,
+        }
+    }
+
+    /// How an accumulator joins the numbers of a bin; none of other stages.
+    pub fn op(&self) -> Option<Fold>
+        ensures { result ≡ fold_of (stage_view self.now).body }
+    {
+        match &self.body {
+            Body::Plane(_) | Body::Function(_) => None,
+            Body::Accumulator(accumulator) => Some(accumulator.fold),
+        }
+    }
+
+    /// The bins of an accumulator; none of other stages.
+    pub fn bins(&self) -> Option<Span>
+        ensures { result ≡ bins_of (stage_view self.now).body }
+    {
+        match &self.body {
+            Body::Plane(_) | Body::Function(_) => None,
+            Body::Accumulator(accumulator) => Some(accumulator.bins),
         }
     }
 

@@ -5,7 +5,7 @@ use domains::TileSides;
 use job::{BindFault, Body, Formula, Job, StageKind};
 use netpbm::Picture;
 use pipe_checks::{Checked, Params, check};
-use pipe_lang::parse;
+use pipe_lang::{Fold, parse};
 use std::alloc::Global;
 use std::test::Fail;
 
@@ -272,6 +272,68 @@ fn cases_have_boxes(rt: HostRuntime) -> Result<(), Fail> {
     match second.formula() {
         Formula::Number(number) => assert_eq!(rt; *number, 4),
         _ => return Err(Fail::new("no number")),
+    }
+    Ok(())
+}
+
+// The number of the plane that a stage is, if it is one.
+fn plane_of(job: &Job, number: usize) -> Option<usize> {
+    match job.stage(number)?.body() {
+        Body::Plane(plane) => Some(*plane),
+        Body::Function(_) | Body::Accumulator(_) => None,
+    }
+}
+
+#[test]
+fn planes_in_the_order_of_their_names(rt: HostRuntime) -> Result<(), Fail> {
+    let alloc = rt.alloc();
+    let text =
+        "image r,g,b(1,1); func u(x in [0..0], y in [0..0]) { else : b(x,y); } func v(x in [0..0], y in [0..0]) { else : g(x,y); } func w(x in [0..0], y in [0..0]) { else : r(x,y); } output u,v,w max 255;";
+    let job = job_of(alloc, text, picture_of(alloc, 1, 1, 3)?, 64)?;
+    for number in 0..3usize {
+        assert_eq!(rt; plane_of(&job, number), Some(number));
+    }
+    for (number, read) in [(3, 2), (4, 1), (5, 0)] {
+        assert_eq!(rt; plane_of(&job, number), None);
+        let wanted = format!(in alloc;
+            "Read({read}, Index {{ mul: 1, add: 0, div: 1 }}, Index {{ mul: 1, add: 0, div: 1 }})"
+        )?;
+        assert_eq!(rt; formula_of(alloc, &job, number)?.as_str(), wanted.as_str());
+    }
+    Ok(())
+}
+
+// What a stage reads, as it is printed.
+fn reads_of(alloc: Global, job: &Job, number: usize) -> Result<String, Fail> {
+    match job.stage(number) {
+        Some(stage) => {
+            let reads = stage.reads(alloc)?;
+            Ok(format!(in alloc; "{:?}", reads.as_slice())?)
+        }
+        None => Ok(String::new(alloc)),
+    }
+}
+
+#[test]
+fn reads_in_text_order(rt: HostRuntime) -> Result<(), Fail> {
+    let alloc = rt.alloc();
+    let text =
+        "image I(1,3); func f(x in [0..0], y in [1..1]) { case x == 0 : stencil(I, 1, [[1,10,-100]]); else : I(x,y-1); } accum h [0..3] over (x in [0..0], y in [1..1]) max f(x,y) at I(x,y+1); output f max 255;";
+    let job = job_of(alloc, text, picture_of(alloc, 1, 3, 1)?, 64)?;
+    assert_eq!(rt; reads_of(alloc, &job, 0)?.as_str(), "[]");
+    assert_eq!(rt;
+        reads_of(alloc, &job, 1)?.as_str(),
+        "[Window(0, Kernel { rows: [Factors { factors: [1, 10, -100] }] }), Point(0, Index { mul: 1, add: 0, div: 1 }, Index { mul: 1, add: -1, div: 1 })]"
+    );
+    assert_eq!(rt;
+        reads_of(alloc, &job, 2)?.as_str(),
+        "[Point(1, Index { mul: 1, add: 0, div: 1 }, Index { mul: 1, add: 0, div: 1 }), Point(0, Index { mul: 1, add: 0, div: 1 }, Index { mul: 1, add: 1, div: 1 })]"
+    );
+    assert_eq!(rt; job.op(2), Some(Fold::Max));
+    assert_eq!(rt; job.bins(1).is_none(), true);
+    match job.bins(2) {
+        Some(bins) => assert_eq!(rt; (bins.lo(), bins.hi()), (0, 3)),
+        None => return Err(Fail::new("no bins")),
     }
     Ok(())
 }
