@@ -11,12 +11,8 @@ mod canonical_texts;
 #[cfg(test)]
 mod checks;
 #[cfg(test)]
-mod domains_at_limits;
-#[cfg(test)]
 mod pictures;
 #[cfg(test)]
 mod texts;
 #[cfg(test)]
 mod tokens;
-#[cfg(test)]
-mod wide_programs;
