@@ -21,3 +21,4 @@ pub mod Assembling
 pub mod Readying
 pub mod SmallLaws
 pub mod SmallSettings
+pub mod KeyLaws

@@ -18,3 +18,4 @@ pub mod Readers
 pub mod Kept
 pub mod Ranges
 pub mod ReadViews
+pub mod Identity

@@ -13,12 +13,16 @@ ghost use Rattle.job.specs.Binding.{item_images, IsJobOf};
 ghost use Rattle.netpbm.specs.Image.{IsImage};
 ghost use Rattle.job.specs.WellFormed.{IsJob};
 ghost use Rattle.job.specs.Parts.{ArePartsOf, AreBoundParts, IsPartsFault};
-ghost use Rattle.job.specs.Views.{program_of};
-ghost use Rattle.job.specs.Kept.{pipeline_in};
+ghost use Rattle.job.specs.Views.{program_of, pipeline_of};
+ghost use Rattle.sha2.specs.Sha256.{sha256};
+ghost use Rattle.pipe_print.specs.Canonical.{canonical};
+ghost use Rattle.job.specs.Identity.{input_id};
 
 use crate::draft::Draft;
 use crate::fault::BindFault;
 use crate::fits::judge_picture;
+use crate::hashing::{input_id, program_id};
+use crate::identity::{InputId, ProgramId};
 use crate::job::Job;
 use crate::outputs::{Output, Parameter, only_image, parameters};
 use crate::resolve::Resolver;
@@ -27,7 +31,7 @@ use crate::stage::Stage;
 use domains::TileSides;
 use netpbm::Picture;
 use pipe_checks::{BoundFault, Checked, Params, bounds};
-use pipe_lang::Image;
+use pipe_lang::{Image, Tree};
 use std::alloc::{AllocError, Global};
 
 /// A job without its picture.
@@ -118,7 +122,16 @@ fn bound_parts(
     }
 }
 
+// The identity of the program, and of what it is given.
+fn identities(alloc: Global, tree: &Tree, draft: &Draft) -> Result<(ProgramId, InputId), AllocError>
+    ensures { IfOk result (λ ids. (ids.0 ≡ sha256 (canonical (content tree.now))) × (ids.1 ≡ input_id (pipeline_of draft.now))) }
+{
+    Ok((program_id(alloc, tree)?, input_id(alloc, draft)?))
+}
+
 impl Job {
+    ghost use Rattle.job.specs.Kept.{pipeline_in, program_id_in};
+
     /// The job that a program is at the values of its parameters, for a picture and the sides of tiles; a parameter without
     /// a value is a side of the picture where an extent is this parameter alone. Else the first fault, in the order of
     /// `BindFault`, and what was given.
@@ -132,6 +145,7 @@ impl Job {
         ensures ok { IfOk result (λ job. IsBound (content (tree_in checked)) (program_of checked params.now) picture sides (pipeline_in job)) }
         ensures job { IfOk result (λ job. IsJob (pipeline_in job)) }
         ensures says { IfOk result (λ job. map (λ s. s.name) params.now ≡ map (λ d. d.name) (params_in checked) → IsJobOf (content (tree_in checked)) params.now picture sides (pipeline_in job)) }
+        ensures program { IfOk result (λ job. program_id_in job ≡ sha256 (canonical (content (tree_in checked)))) }
         ensures back { IfErr result (λ e. (e.0 ≡ checked) × (e.1 ≡ picture)) }
         ensures fault { IfErr result (λ e. IsBindFault (content (tree_in checked)) (program_of checked params.now) picture sides e.2) }
     {
@@ -147,7 +161,14 @@ impl Job {
                 };
                 match draft.size_fault() {
                     Some(fault) => Err((checked, draft.picture, fault)),
-                    None => Ok(Job { draft }),
+                    None => match identities(alloc, checked.tree(), &draft) {
+                        Ok((program, input)) => Ok(Job {
+                            draft,
+                            program,
+                            input,
+                        }),
+                        Err(AllocError) => Err((checked, draft.picture, BindFault::Memory)),
+                    },
                 }
             }
             Err(fault) => Err((checked, picture, fault)),

@@ -1,25 +1,31 @@
 #![tactic(auto)]
 //! Programs that are bound to pictures.
 
-ghost use Rattle.std.specs.Prelude.{◌≡◌, map, slice_get};
+ghost use Rattle.std.specs.Prelude.{◌≡◌, ◌↔◌, map, slice_get, IsSome, IfSome, IfOk};
 ghost use Rattle.std.specs.Option.{option_map};
+ghost use Rattle.job.specs.Identity.{input_bytes, input_id, HasTileAt};
 ghost use Rattle.job.specs.Readers.{kind_of, grid_at, stage_fold, stage_bins};
-ghost use Rattle.job.specs.Views.{stage_view, output_view, parameter_view};
-ghost use Rattle.job.specs.Kept.{pipeline_in};
+ghost use Rattle.job.specs.Views.{stage_view, output_view, parameter_view, pipeline_of};
 
 use crate::draft::Draft;
+use crate::hashing;
+use crate::identity::{InputId, Key, ProgramId};
 use crate::outputs::{Output, Parameter};
 use crate::stage::Stage;
 use domains::{Area, Grid, Span, TileSides};
 use netpbm::Picture;
 use pipe_lang::Fold;
 use pipe_tokens::Name;
+use std::alloc::{AllocError, Global};
 
 /// A program at the values of its parameters, the picture that it works on, and the sides of its tiles. Only `bind` makes
 /// one.
 #[derive(Debug, Drop)]
 pub struct Job {
     pub(crate) draft: Draft,
+    pub(crate) program: ProgramId,
+    pub(crate) input: InputId,
+    ghost hashed: { input ≡ input_id (pipeline_of draft) },
 }
 
 /// What a stage is.
@@ -32,6 +38,8 @@ pub enum StageKind {
 }
 
 impl Job {
+    ghost use Rattle.job.specs.Kept.{pipeline_in, program_id_in};
+
     /// The stages, in the order in which the text declares their names. A stage's number is its place here.
     pub fn stages(&self) -> &[Stage]
         ensures { map stage_view result.now ≡ (pipeline_in self.now).stages }
@@ -142,5 +150,45 @@ impl Job {
             Some(stage) => stage.grid(self.draft.sides),
             None => None,
         }
+    }
+    /// The identity of the program.
+    pub fn program_id(&self) -> ProgramId
+        ensures { result ≡ program_id_in self.now }
+    {
+        self.program
+    }
+
+    /// The identity of what the program is given: of the sides of the tiles, the parameters and the picture.
+    pub fn input_id(&self) -> InputId
+        ensures { result ≡ input_id (pipeline_in self.now) }
+    {
+        self.input
+    }
+
+    /// The bytes whose digest is `input_id`.
+    ///
+    /// # Errors
+    ///
+    /// Fails only where memory is refused.
+    pub fn input_bytes(&self, alloc: Global) -> Result<Vec<u8>, AllocError>
+        ensures { IfOk result (λ bytes. bytes.items ≡ input_bytes (pipeline_in self.now)) }
+    {
+        hashing::input_bytes(alloc, &self.draft)
+    }
+
+    /// The key of the tile in this row and column of the stage's grid; none where there is no such tile.
+    pub fn key(&self, stage: u16, row: u32, col: u32) -> Option<Key>
+        ensures there { IsSome result ↔ HasTileAt (pipeline_in self.now) stage row col }
+        ensures key { IfSome result (λ k. k ≡ record { program = program_id_in self.now; input = input_id (pipeline_in self.now); stage = stage; row = row; col = col }) }
+    {
+        let grid = self.grid(usize::from(stage))?;
+        grid.tile(row, col)?;
+        Some(Key {
+            program: self.program,
+            input: self.input,
+            stage,
+            row,
+            col,
+        })
     }
 }

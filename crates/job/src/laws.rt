@@ -1,7 +1,9 @@
-//! What the definitions amount to, proved once for the crates above. A law is a function that does nothing: its clauses are the law.
+//! What the definitions amount to, proved once for the crates above. A law is a function that does nothing, or calls what it is
+//! about: its clauses are the law.
 
-ghost use Rattle.std.specs.Prelude.{◌≡◌, ◌<◌, ◌++◌, ℕ, ℤ, Some, List, slice_get, All, FitsSigned};
+ghost use Rattle.std.specs.Prelude.{◌≡◌, ◌↔◌, ◌<◌, ◌++◌, ℕ, ℤ, Some, List, slice_get, All, FitsSigned};
 ghost use Rattle.std.specs.Int.{w32, w64};
+ghost use Rattle.std.specs.Cmp.{IsTotalOrder};
 ghost use Rattle.domains.specs.Area.{HoldsPoint, IsArea, IsSubarea};
 ghost use Rattle.domains.specs.declared.area.Area.{Area};
 ghost use Rattle.netpbm.specs.Image.{Image};
@@ -14,6 +16,10 @@ ghost use Rattle.pipe_checks.specs.Boxes.{IsCutArea};
 ghost use Rattle.job.specs.Boxes.{BoundsHold, AreBoxed, box_of};
 ghost use Rattle.job.specs.Totals.{body_totals, total_of, joined, totals_over, totals};
 ghost use Rattle.job.specs.WellFormed.{IsReadable, IsJob, Solves};
+ghost use Rattle.job.specs.Identity.{key_cmp};
+
+use crate::identity::Key;
+use std::cmp::Ordering;
 
 /// Reads lead to lower ranks. So a value is what its stage makes of the values that it reads, and steps beyond the rank change nothing.
 pub fn values_unroll()
@@ -59,3 +65,12 @@ pub fn boxes_are_cut_by_bounds()
     ensures cut { (domain : Area) (tests : List Test) → IsCutArea (BoundsHold tests) domain (box_of domain tests) }
     ensures area { (domain box : Area) (tests : List Test) → IsArea domain → box_of domain tests ≡ Some box → IsArea box }
 {}
+
+/// Keys are in the order of their fields, which is a total one, and equal keys are one.
+pub fn order_of_keys(a: &Key, b: &Key) -> Ordering
+    ensures fields { result ≡ key_cmp a.now b.now }
+    ensures total { IsTotalOrder key_cmp }
+    ensures one { (result ≡ Ordering.Equal) ↔ (a.now ≡ b.now) }
+{
+    a.cmp(b)
+}

@@ -1,20 +1,17 @@
 #![tactic(auto)]
 //! Names to numbers: formulas and tests of a program at the values of its parameters.
 
-ghost use Rattle.std.specs.Prelude.{◌≡◌, ◌<◌, ◌^◌, pos, IfOk, unwrap_or, filter, map};
+ghost use Rattle.std.specs.Prelude.{◌≡◌, ◌<◌, ◌^◌, pos, IfOk, filter, map};
 ghost use Rattle.domains.specs.Index.{IsIndex};
 ghost use Rattle.pipe_lang.specs.Tree.{view};
-ghost use Rattle.pipe_checks.specs.Names.{number_of};
-ghost use Rattle.pipe_checks.specs.Settings.{place_in, param_value};
 ghost use Rattle.pipe_checks.specs.Sites.{is_plane};
 ghost use Rattle.job.specs.Binding.{stage_number, rank_named, plane_number, axis_of, name_formula, scale_of, formula_of, test_of};
 ghost use Rattle.job.specs.Ranges.{IsRanged};
 ghost use Rattle.job.specs.Views.{axis_view, formula_view, test_view, program_in, variables_in};
 
 use crate::formula::{Axis, Formula, Kernel, Test};
-use crate::settings::is_same;
 use domains::Index;
-use pipe_checks::{Checked, Declared, NameKind, Params, Setting, affine_value};
+use pipe_checks::{Checked, Declared, NameKind, Params, affine_value, is_same, number_of};
 use pipe_lang::Expr;
 use pipe_tokens::Name;
 use std::alloc::{AllocError, Global};
@@ -26,15 +23,6 @@ pub(crate) struct Variables {
     pub column: Name,
 }
 
-/// The number of the first of the stages that has this name.
-fn number_of(stages: &[Declared], name: &Name) -> Option<usize>
-    ensures { result ≡ number_of stages.now name.now }
-{
-    stages
-        .iter()
-        .position(|declared| is_same(&declared.name, name))
-}
-
 fn is_plane(kind: NameKind) -> bool
     ensures { result ≡ is_plane kind }
 {
@@ -42,15 +30,6 @@ fn is_plane(kind: NameKind) -> bool
         NameKind::Plane => true,
         NameKind::Param | NameKind::Func | NameKind::Accum => false,
     }
-}
-
-// The number of the first parameter of this name.
-fn place_in(settings: &[Setting], name: &Name) -> Option<usize>
-    ensures { result ≡ place_in settings.now name.now }
-{
-    settings
-        .iter()
-        .position(|setting| is_same(&setting.name, name))
 }
 
 fn planes_of(alloc: Global, stages: &[Declared]) -> Result<Vec<Declared>, AllocError>
@@ -61,15 +40,6 @@ fn planes_of(alloc: Global, stages: &[Declared]) -> Result<Vec<Declared>, AllocE
         .filter(|declared| is_plane(declared.kind))
         .copied()
         .collect(alloc)
-}
-
-fn param_value(params: &Params, name: &Name) -> i32
-    ensures { result ≡ param_value params.now name.now }
-{
-    match place_in(params.settings(), name) {
-        Some(place) => params.get(place).unwrap_or(0),
-        None => 0,
-    }
 }
 
 // A number of the text.
@@ -142,7 +112,7 @@ impl Resolver<'_> {
         } else if is_same(name, &own.column) {
             Formula::Coordinate(Axis::Column)
         } else {
-            Formula::Number(param_value(self.params, name))
+            Formula::Number(self.params.value_of(name))
         }
     }
 

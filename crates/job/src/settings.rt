@@ -8,17 +8,10 @@ ghost use Rattle.std.specs.Str.{bytes_eq};
 ghost use Rattle.job.specs.Binding.{is_exactly, side_of, settled, settings_for, AreSmall};
 
 use netpbm::Picture;
-use pipe_checks::{Params, Setting};
+use pipe_checks::{Params, Setting, is_same};
 use pipe_lang::{Affine, Image};
 use pipe_tokens::Name;
 use std::alloc::{AllocError, Global};
-
-/// Whether two names have the same bytes.
-pub(crate) fn is_same(left: &Name, right: &Name) -> bool
-    ensures { result ≡ bytes_eq left.now right.now }
-{
-    left.as_bytes() == right.as_bytes()
-}
 
 fn is_named(name: &Option<Name>, wanted: &Name) -> bool
     ensures { result ≡ option_map_or (λ x. bytes_eq x wanted.now) name.now false }

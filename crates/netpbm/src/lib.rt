@@ -20,4 +20,4 @@ pub use picture::{LONGEST_SIDE, Picture};
 pub use reading::read;
 pub use stream::{Metered, Sink, Source};
 pub use whole::{SourceFault, WriteFailed, read_whole, write_whole};
-pub use writing::{raw, write_raw};
+pub use writing::{hash_raw, raw, write_raw};

@@ -1,5 +1,5 @@
 //! From a picture to its one written form.
-ghost use Rattle.std.specs.Prelude.{◌≡◌, ◌≤◌, ◌<◌, ◌+◌, ◌-◌, ◌*◌, ◌++◌, ◌∷◌, [], take, length, decimal, IfOk, OnOk, OnErr};
+ghost use Rattle.std.specs.Prelude.{List, ℕ, ◌≡◌, ◌≤◌, ◌<◌, ◌+◌, ◌-◌, ◌*◌, ◌++◌, ◌∷◌, [], take, length, decimal, IfOk, OnOk, OnErr};
 ghost use Rattle.std.specs.Io.KnownBytes.{Appends};
 ghost use Rattle.netpbm.specs.Raw.{raw_raster};
 ghost use Rattle.netpbm.specs.Spelling.{header as header_of, spelling};
@@ -11,6 +11,7 @@ use crate::picture::Picture;
 use crate::raw_raster::{put_samples, sample_width};
 use crate::stream::Sink;
 use crate::whole::{WriteFailed, write_whole};
+use sha2::Digest;
 use std::alloc::{AllocError, Global};
 
 // How many bytes a header has at most.
@@ -59,6 +60,24 @@ pub fn write_raw<W: Sink>(picture: &Picture, writer: &mut W) -> Result<(), Write
         done = end;
     }
     Ok(())
+}
+
+/// Adds the written form of a picture to the message that a hasher holds. It takes no memory.
+pub fn hash_raw<D: Digest>(picture: &Picture, hasher: &mut D)
+    ensures { (message : List ℕ) → D.holds hasher.old message → D.holds hasher.new (message ++ spelling picture.now) }
+{
+    let mut header = [0u8; LONGEST_HEADER];
+    let header_len = put_header(&mut header, picture);
+    hasher.update(&header[..header_len]);
+    let mut piece = [0u8; 6 * PIXELS];
+    let area = picture.area();
+    let mut done = 0;
+    while done < area {
+        let end = area.min(done + PIXELS);
+        let len = put_pixels(&mut piece, picture, done, end);
+        hasher.update(&piece[..len]);
+        done = end;
+    }
 }
 
 // The number of bytes of the written raster.

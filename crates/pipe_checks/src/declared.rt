@@ -28,7 +28,7 @@ pub struct Declared {
 }
 
 /// Whether two names have the same bytes.
-pub(crate) fn is_same(left: &Name, right: &Name) -> bool
+pub fn is_same(left: &Name, right: &Name) -> bool
     ensures { result ≡ bytes_eq left.now right.now }
 {
     left.as_bytes() == right.as_bytes()
@@ -118,7 +118,7 @@ pub(crate) fn stages_of(alloc: Global, names: &[Declared]) -> Result<Vec<Declare
 }
 
 /// The number of the first of the names that is this one.
-pub(crate) fn number_of(names: &[Declared], name: &Name) -> Option<usize>
+pub fn number_of(names: &[Declared], name: &Name) -> Option<usize>
     ensures { result ≡ number_of names.now name.now }
 {
     names

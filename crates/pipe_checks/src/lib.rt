@@ -25,7 +25,7 @@ mod within;
 pub use affine::affine_value;
 pub use boxes::case_box;
 pub use checked::{Checked, check};
-pub use declared::{Declared, NameKind, declared_stages};
+pub use declared::{Declared, NameKind, declared_stages, is_same, number_of};
 pub use determined::bound_faults_are_determined;
 pub use domain::{IntervalFault, bins, stage_domain};
 pub use fault::{Axis, BoundFault, CheckFault, Cycle, ParamFault};

@@ -106,7 +106,7 @@ impl Params {
     }
 
     /// The value of the parameter of this name; 0 where there is no such parameter, or it has no value.
-    pub(crate) fn value_of(&self, name: &Name) -> i32
+    pub fn value_of(&self, name: &Name) -> i32
         ensures { result ≡ param_value self.now name.now }
     {
         match self.number_of(name.as_bytes()) {

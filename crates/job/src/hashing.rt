@@ -1,0 +1,78 @@
+#![tactic(auto)]
+//! What is hashed of a job: its program's canonical text, and what the program is given.
+
+ghost use Rattle.std.specs.Prelude.{◌≡◌, ◌++◌, IfOk, OnOk};
+ghost use Rattle.std.specs.Int.{w16, to_be_bytes};
+ghost use Rattle.sha2.specs.Sha256.{sha256};
+ghost use Rattle.pipe_lang.specs.Tree.{content};
+ghost use Rattle.pipe_print.specs.Canonical.{canonical};
+ghost use Rattle.job.specs.Identity.{parameter_bytes, settings_bytes, input_bytes, input_id};
+ghost use Rattle.job.specs.Views.{parameter_view, pipeline_of};
+
+use crate::draft::Draft;
+use crate::identity::{InputId, ProgramId};
+use crate::outputs::Parameter;
+use netpbm::{hash_raw, raw};
+use pipe_lang::Tree;
+use pipe_print::print;
+use sha2::{Digest, Sha256};
+use std::alloc::{AllocError, Global};
+
+/// The identity of a program.
+pub(crate) fn program_id(alloc: Global, tree: &Tree) -> Result<ProgramId, AllocError>
+    ensures { IfOk result (λ id. id ≡ sha256 (canonical (content tree.now))) }
+{
+    let text = print(alloc, tree)?;
+    Ok(ProgramId::new(Sha256::digest(text.as_slice())))
+}
+
+/// The identity of what a program is given. The picture is hashed piece by piece.
+pub(crate) fn input_id(alloc: Global, draft: &Draft) -> Result<InputId, AllocError>
+    ensures { IfOk result (λ id. id ≡ input_id (pipeline_of draft.now)) }
+{
+    let settings = settings_bytes(alloc, draft)?;
+    let mut hasher = Sha256::new_with_prefix(settings.as_slice());
+    hash_raw(&draft.picture, &mut hasher);
+    Ok(InputId::new(hasher.finalize()))
+}
+
+/// The bytes whose digest is the identity of what a program is given.
+pub(crate) fn input_bytes(alloc: Global, draft: &Draft) -> Result<Vec<u8>, AllocError>
+    ensures { IfOk result (λ bytes. bytes.items ≡ input_bytes (pipeline_of draft.now)) }
+{
+    let mut bytes = settings_bytes(alloc, draft)?;
+    let picture = raw(alloc, &draft.picture)?;
+    bytes.extend_from_slice(&picture)?;
+    Ok(bytes)
+}
+
+// What is hashed before the picture.
+fn settings_bytes(alloc: Global, draft: &Draft) -> Result<Vec<u8>, AllocError>
+    ensures { IfOk result (λ bytes. bytes.items ≡ settings_bytes (pipeline_of draft.now)) }
+{
+    let mut bytes = Vec::new(alloc);
+    bytes.extend_from_slice(b"PTI1")?;
+    bytes.extend_from_slice(&draft.sides.height().to_be_bytes())?;
+    bytes.extend_from_slice(&draft.sides.width().to_be_bytes())?;
+    bytes.extend_from_slice(&count_bytes(draft.params.len()))?;
+    for parameter in &draft.params {
+        push_parameter(&mut bytes, parameter)?;
+    }
+    Ok(bytes)
+}
+
+// A number of parameters in 16 bits. A text has at most 64.
+fn count_bytes(count: usize) -> [u8; 2]
+    ensures { result ≡ to_be_bytes w16 count }
+{
+    ((count % 65536) as u16).to_be_bytes()
+}
+
+fn push_parameter(bytes: &mut Vec<u8>, parameter: &Parameter) -> Result<(), AllocError>
+    ensures { OnOk result (bytes.new.items ≡ bytes.old.items ++ parameter_bytes (parameter_view parameter.now)) }
+{
+    let name = parameter.name.as_bytes();
+    bytes.push(name.len() as u8)?;
+    bytes.extend_from_slice(name)?;
+    bytes.extend_from_slice(&parameter.value.to_be_bytes())
+}

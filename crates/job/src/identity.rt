@@ -1,0 +1,102 @@
+#![tactic(auto)]
+//! Identities of programs and of what they are given, and the keys of tiles.
+
+ghost use Rattle.std.specs.Prelude.{◌≡◌};
+
+use std::fmt;
+use std::marker::Model;
+
+/// The identity of a program: the SHA-256 digest of its canonical text.
+#[derive(Clone, Copy, Debug, PartialEq, Eq, PartialOrd, Ord, Hash)]
+pub struct ProgramId {
+    bytes: [u8; 32],
+}
+
+impl Model for ProgramId {
+    ghost use Rattle.std.specs.Prelude.{ℕ, List};
+
+    ghost Value = { List ℕ };
+
+    ghost view = { λ id. id.bytes };
+
+    ghost inverse = { λ bytes. record { bytes = bytes } };
+}
+
+impl ProgramId {
+    /// The identity that these bytes are.
+    pub fn new(bytes: [u8; 32]) -> ProgramId
+        ensures { result ≡ bytes }
+    {
+        ProgramId { bytes }
+    }
+
+    /// The bytes of the digest.
+    pub fn as_bytes(&self) -> &[u8; 32]
+        ensures { result.now ≡ self.now }
+    {
+        &self.bytes
+    }
+}
+
+impl fmt::Display for ProgramId {
+    fn fmt<W: fmt::Write>(&self, f: &mut fmt::Formatter<W>) -> fmt::Result {
+        write_hex(&self.bytes, f)
+    }
+}
+
+/// The identity of what a program is given: the SHA-256 digest of the sides of the tiles, the parameters and the picture.
+#[derive(Clone, Copy, Debug, PartialEq, Eq, PartialOrd, Ord, Hash)]
+pub struct InputId {
+    bytes: [u8; 32],
+}
+
+impl Model for InputId {
+    ghost use Rattle.std.specs.Prelude.{ℕ, List};
+
+    ghost Value = { List ℕ };
+
+    ghost view = { λ id. id.bytes };
+
+    ghost inverse = { λ bytes. record { bytes = bytes } };
+}
+
+impl InputId {
+    /// The identity that these bytes are.
+    pub fn new(bytes: [u8; 32]) -> InputId
+        ensures { result ≡ bytes }
+    {
+        InputId { bytes }
+    }
+
+    /// The bytes of the digest.
+    pub fn as_bytes(&self) -> &[u8; 32]
+        ensures { result.now ≡ self.now }
+    {
+        &self.bytes
+    }
+}
+
+impl fmt::Display for InputId {
+    fn fmt<W: fmt::Write>(&self, f: &mut fmt::Formatter<W>) -> fmt::Result {
+        write_hex(&self.bytes, f)
+    }
+}
+
+// Two hexadecimal digits for each byte.
+fn write_hex<W: fmt::Write>(bytes: &[u8], f: &mut fmt::Formatter<W>) -> fmt::Result {
+    for byte in bytes {
+        write!(f, "{byte:02x}")?;
+    }
+    Ok(())
+}
+
+/// The name of a tile: its program, what this is given, the stage, and the row and the column in the stage's grid. Keys are
+/// in the order of their fields.
+#[derive(Clone, Copy, Debug, PartialEq, Eq, PartialOrd, Ord, Hash)]
+pub struct Key {
+    pub program: ProgramId,
+    pub input: InputId,
+    pub stage: u16,
+    pub row: u32,
+    pub col: u32,
+}
