@@ -4,3 +4,9 @@ pub mod Gathering
 pub mod Covering
 pub mod Columns
 pub mod Grid
+pub mod Rasters
+pub mod Sampling
+pub mod Domains
+pub mod Rooms
+pub mod Knowing
+pub mod Places

@@ -1,3 +1,5 @@
 pub mod Rows
 pub mod Reading
 pub mod Pieces
+pub mod Whole
+pub mod Counted

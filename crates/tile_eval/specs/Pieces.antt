@@ -1,6 +1,6 @@
 -- Pieces of functions along a row of points.
 use Rattle.std.specs.Prelude.{ℕ, ◌-◌, ◌≤◌, ◌≡◌, ℤ, pos, Bool, true, false, ◌&&◌, Option, Some, None, List, [], ◌∷◌, All}
-use Rattle.std.specs.Option.{option_map_or}
+use Rattle.std.specs.Option.{option_map_or, ForSome}
 use Rattle.domains.specs.Area.{HoldsPoint}
 use Rattle.domains.specs.declared.area.Area.{Area}
 use Rattle.job.specs.Formula.{Formula, Test, compare, remainder}
@@ -44,3 +44,9 @@ pub record IsRoomy (n room : ℕ) (p : Piece) : Type 0 where
   pub tests : All IsTest p.tests
   pub row : n ≤ room
   pub operands : HasRoom p.formula n (room - n)
+
+-- room for one row, for the operands of all pieces beside it, and for those of what holds elsewhere
+pub record HasFunctionRoom (n room : ℕ) (ps : List Piece) (otherwise : Option Formula) : Type 0 where
+  pub row : n ≤ room
+  pub operands : All (λ p. HasRoom p.formula n (room - n)) ps
+  pub other : ForSome otherwise (λ f. HasRoom f n room)

@@ -1,11 +1,19 @@
 //! Values of jobs, a row of points at a time, whatever lends the samples that are read.
 #![tactic(auto)]
 
-pub mod areas;
-pub mod kernels;
-pub mod passing;
-pub mod pieces;
-pub mod rows;
-pub mod source;
-pub mod start;
-pub mod taps;
+mod areas;
+mod functions;
+mod kernels;
+mod lending;
+mod passing;
+mod pieces;
+mod planes;
+mod room;
+mod rows;
+mod source;
+mod stages;
+mod start;
+mod taps;
+mod wholes;
+
+pub use stages::{plain, plain_all};

@@ -1,0 +1,79 @@
+#![tactic(auto)]
+//! The room that the operands of formulas take.
+
+ghost use Rattle.std.specs.Prelude.{◌+◌, ◌*◌, ℕ, max, map, All};
+ghost use Rattle.std.specs.Option.{option_map, ForSome};
+ghost use Rattle.job.specs.Views.{piece_view, formula_view};
+ghost use Rattle.tile_eval.specs.Counted.{IsCounted, IsLeast};
+ghost use Rattle.tile_eval.specs.Pieces.{HasFunctionRoom};
+ghost use Rattle.tile_eval.specs.Reading.{HasRoom};
+
+use job::{Formula, Function, Piece};
+
+// The greater of two rooms.
+fn greater(first: Option<usize>, second: Option<usize>) -> Option<usize>
+    ensures { (a b : ℕ) → IsCounted first a → IsCounted second b → IsCounted result (max a b) }
+{
+    Some(first?.max(second?))
+}
+
+// Room for so many rows of `n` numbers and for what else is needed.
+fn with_rows(rows: usize, n: usize, rest: Option<usize>) -> Option<usize>
+    ensures { (a : ℕ) → IsCounted rest a → IsCounted result (n * rows + a) }
+{
+    n.checked_mul(rows)?.checked_add(rest?)
+}
+
+/// The least room for the operands of a formula at `n` points, if that many numbers can be counted.
+pub fn formula_room(formula: &Formula, n: usize) -> Option<usize>
+    ensures { IsLeast (HasRoom (formula_view formula.now) n) result }
+{
+    match formula {
+        Formula::Number(_) | Formula::Coordinate(_) | Formula::Read(_, _, _) => Some(0),
+        Formula::Neg(a) | Formula::Abs(a) | Formula::Literal(_, a, _) => formula_room(a, n),
+        Formula::Binary(_, a, b) => {
+            let right = with_rows(1, n, formula_room(b, n));
+            greater(formula_room(a, n), right)
+        }
+        Formula::Clamp(a, low, high) => {
+            let bounds = greater(formula_room(low, n), formula_room(high, n));
+            greater(formula_room(a, n), with_rows(2, n, bounds))
+        }
+        Formula::Select(a, _, b, first, second) => {
+            let compared = greater(formula_room(a, n), formula_room(b, n));
+            let others = greater(compared, formula_room(second, n));
+            greater(formula_room(first, n), with_rows(3, n, others))
+        }
+        Formula::Stencil(_, _, _) => n.checked_add(14),
+    }
+}
+
+// The least room for the operands of each of some pieces.
+fn pieces_room(pieces: &[Piece], n: usize) -> Option<usize>
+    ensures { IsLeast (λ room. All (λ p. HasRoom (formula_view p.formula) n room) pieces.now) result }
+{
+    let mut room = Some(0);
+    for piece in pieces {
+        room = greater(room, formula_room(piece.formula(), n));
+    }
+    room
+}
+
+// The least room for what stands where no piece holds.
+fn other_room(otherwise: &Option<Formula>, n: usize) -> Option<usize>
+    ensures { IsLeast (λ room. ForSome (option_map formula_view otherwise.now) (λ f. HasRoom f n room)) result }
+{
+    match otherwise {
+        Some(formula) => formula_room(formula, n),
+        None => Some(0),
+    }
+}
+
+/// The least room for what a function needs at `n` points, if that many numbers can be counted: for one row beside the
+/// operands of each piece, and for those of what stands where no piece holds.
+pub fn function_room(function: &Function, n: usize) -> Option<usize>
+    ensures { IsLeast (λ room. HasFunctionRoom n room (map piece_view function.now.pieces.items) (option_map formula_view function.now.otherwise)) result }
+{
+    let pieces = with_rows(1, n, pieces_room(function.pieces(), n));
+    greater(pieces, other_room(function.otherwise(), n))
+}
