@@ -1,25 +1,25 @@
--- Values that are given one after the other, and extents that give theirs.
-use Rattle.std.proofs.Common.{◌≡◌, ℕ, suc, ◌+◌, ◌<◌, ◌++◌, List, [], ◌∷◌, Option, Some, None, Result, Ok, Err, OnOk, length, get_or, take, map, slice_get, refl, sym, ap, ◌∙◌, subst, add-one}
-use Rattle.std.proofs.Math.Seq.{take-suc}
+-- Values that are given one after the other.
+use Rattle.std.proofs.Common.{◌≡◌, ℕ, ℤ, ◌+◌, ◌<◌, ◌++◌, List, [], ◌∷◌, Some, None, Result, Ok, Err, OnOk, length, get_or, take, map, slice_get, refl, sym, ap, ◌∙◌, subst, add-one}
+use Rattle.std.proofs.Math.Seq.{map-set_same, take-suc}
+use Rattle.std.proofs.lemmas.Option.{get_or_from_slice_get}
+use Rattle.std.proofs.lemmas.Simd.{map-map}
 use Rattle.std.specs.Prelude.{◌↔◌, string_bytes}
-use Rattle.std.proofs.lemmas.List.{map-append}
-use Rattle.netpbm.specs.Image.{Image}
-use Rattle.pipe_lang.specs.Tree.{Declaration, declaration, declarations}
-use Rattle.pipe_lang.specs.declared.tree.Item.{Item}
+use Rattle.pipe_checks.specs.declared.declared.Declared.{Declared}
 use Rattle.pipe_checks.specs.declared.params.Setting.{Setting}
 use Rattle.pipe_checks.specs.declared.fault.ParamFault.{ParamFault}
 use Rattle.pipe_checks.specs.declared.fault.ParamFault.TheVariants.{NoSuchParam, SetTwice}
 use Rattle.pipe_checks.specs.Settings.{SetsOne, IsSet, place_in}
+use Rattle.pipe_checks.specs.Unset.{unset}
 use Rattle.tilefarm.specs.declared.faults.StreamFault.{StreamFault}
 use Rattle.tilefarm.specs.declared.faults.StreamFault.TheVariants as faults
-use Rattle.tilefarm.specs.Binding.{IsParamRefusal, TellsParam}
-use Rattle.tilefarm.specs.Settling.{Given, AreGiven, AllTakeSides, TakesSides, IsNotSettable}
+use Rattle.tilefarm.specs.Giving.{Given, AreGiven, IsNotSettable}
+use Rattle.tilefarm.specs.Steps.{IsParamRefusal, TellsParam}
 
 -- the front of a list with one more element
-pub one_more : {X : Type 0} (xs : List X) (i : ℕ) (x : X) → i < length xs → x ≡ get_or xs i x → take (i + 1) xs ≡ take i xs ++ x ∷ []
+one_more : {X : Type 0} (xs : List X) (i : ℕ) (x : X) → i < length xs → x ≡ get_or xs i x → take (i + 1) xs ≡ take i xs ++ x ∷ []
 one_more xs i x within is = ap (λ n. take n xs) (add-one i) ∙ take-suc xs i x within ∙ ap (λ y. take i xs ++ y ∷ []) (sym is)
 
-pub given_last : (old mid new : List Setting) (xs : List Given) (x : Given) → AreGiven old xs mid → SetsOne mid new (string_bytes x.0) x.1 → AreGiven old (xs ++ x ∷ []) new
+given_last : (old mid new : List Setting) (xs : List Given) (x : Given) → AreGiven old xs mid → SetsOne mid new (string_bytes x.0) x.1 → AreGiven old (xs ++ x ∷ []) new
 given_last old mid new [] x e set = (new, subst (λ ss. SetsOne ss new (string_bytes x.0) x.1) e set, refl)
 given_last old mid new ((name, value) ∷ xs) x (next, first, rest) set = (next, first, given_last next mid new xs x rest set)
 
@@ -27,17 +27,21 @@ pub given_more : (old mid new : List Setting) (xs : List Given) (i : ℕ) (x : G
     → SetsOne mid new (string_bytes x.0) x.1 → AreGiven old (take (i + 1) xs) new
 given_more old mid new xs i x within is so_far set = subst (λ ys. AreGiven old ys new) (sym (one_more xs i x within is)) (given_last old mid new (take i xs) x so_far set)
 
-pub sides_last : (source : Image) (old mid new : List Setting) (ds : List Declaration) (d : Declaration) → AllTakeSides ds source old mid → TakesSides d source mid new
-    → AllTakeSides (ds ++ d ∷ []) source old new
-sides_last source old mid new [] d e takes = (new, subst (λ ss. TakesSides d source ss new) e takes, refl)
-sides_last source old mid new (x ∷ ds) d (next, first, rest) takes = (next, first, sides_last source next mid new ds d rest takes)
+-- ---- names stay
 
-pub sides_more : (source : Image) (old mid new : List Setting) (items : List Item) (i : ℕ) (x : Item) → i < length items → x ≡ get_or items i x
-    → AllTakeSides (declarations (take i items)) source old mid → TakesSides (declaration x) source mid new → AllTakeSides (declarations (take (i + 1) items)) source old new
-sides_more source old mid new items i x within is so_far takes =
-    let grown : declarations (take (i + 1) items) ≡ declarations (take i items) ++ declaration x ∷ [] =
-    ap declarations (one_more items i x within is) ∙ map-append declaration (take i items) (x ∷ []) in
-    subst (λ ds. AllTakeSides ds source old new) (sym grown) (sides_last source old mid new (declarations (take i items)) (declaration x) so_far takes)
+set_named : (old new : List Setting) (name : List ℕ) (value : ℤ) → SetsOne old new name value → map (λ (s : Setting). s.name) new ≡ map (λ (s : Setting). s.name) old
+set_named old new name value is =
+    ap (map (λ (s : Setting). s.name)) is.set
+    ∙ map-set_same (λ (s : Setting). s.name) old is.place (record is.setting { value = Some value }) is.setting
+    (ap (λ (s : Setting). s.name) (sym (get_or_from_slice_get old is.place is.setting is.setting is.there)))
+
+given_named : (old : List Setting) (xs : List Given) (new : List Setting) → AreGiven old xs new → map (λ (s : Setting). s.name) new ≡ map (λ (s : Setting). s.name) old
+given_named old [] new e = ap (map (λ (s : Setting). s.name)) e
+given_named old ((name, value) ∷ xs) new (next, first, rest) = given_named next xs new rest ∙ set_named old next (string_bytes name) value first
+
+pub params_named : (ps : List Declared) (xs : List Given) (new : List Setting) → AreGiven (map unset ps) xs new
+    → map (λ (s : Setting). s.name) new ≡ map (λ (d : Declared). d.name) ps
+params_named ps xs new given = given_named (map unset ps) xs new given ∙ map-map (λ (s : Setting). s.name) unset ps
 
 -- ---- refusals
 

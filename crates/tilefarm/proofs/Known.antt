@@ -1,111 +1,169 @@
--- The first fault of an input, from the faults of the steps.
-use Rattle.std.proofs.Common.{◌≡◌, List, Result, Err, Option, Some, None, ℕ, refl, sym, ap, ◌∙◌, subst}
+-- The first fault of an input, and its job, from what the steps make sure of.
+use Rattle.std.proofs.Common.{◌≡◌, ◌≢◌, ◌≤◌, List, length, map, Err, Option, Some, None, ℕ, refl, sym, ap, ◌∙◌, subst}
 use Rattle.std.specs.Prelude.{IfSome}
+use Rattle.domains.specs.Sides.{Sides}
 use Rattle.netpbm.specs.Faults.{IsFault as IsPictureFault}
 use Rattle.netpbm.specs.Image.{Image}
 use Rattle.netpbm.specs.declared.fault.PicFault.{PicFault}
 use Rattle.netpbm.specs.declared.fault.PicFault.TheVariants as pictures
 use Rattle.pipe_lang.specs.Faults.{IsFault as IsTextFault, IsText}
-use Rattle.pipe_lang.specs.Tree.{Declaration}
+use Rattle.pipe_lang.specs.Tree.{Declaration, content}
 use Rattle.pipe_lang.specs.declared.fault.ParseFault.{ParseFault}
 use Rattle.pipe_lang.specs.declared.fault.ParseFault.TheVariants as texts
+use Rattle.pipe_lang.specs.declared.tree.Tree.{Tree}
+use Rattle.pipe_checks.specs.CheckedProgram.{CheckedProgram}
+use Rattle.pipe_checks.specs.Checking.{IsCheckedOf, params_in, ranks_in, stages_in, tree_in}
+use Rattle.pipe_checks.specs.Graph.{IsRanking}
+use Rattle.pipe_checks.specs.Names.{params_of, stages_of}
+use Rattle.pipe_checks.specs.Sites.{graph_of}
+use Rattle.pipe_checks.specs.Unset.{unset}
+use Rattle.pipe_checks.specs.declared.declared.Declared.{Declared}
 use Rattle.pipe_checks.specs.declared.params.Setting.{Setting}
+use Rattle.job.specs.BindFaults.{IsBindFault, IsBound}
+use Rattle.job.specs.Binding.{IsJobOf}
+use Rattle.job.specs.Pipeline.{Pipeline}
+use Rattle.job.specs.Views.{program_of}
+use Rattle.job.specs.declared.fault.BindFault.{BindFault}
+use Rattle.job.specs.declared.fault.BindFault.TheVariants as binding
 use Rattle.tilefarm.specs.declared.faults.StreamFault.{StreamFault}
 use Rattle.tilefarm.specs.declared.faults.StreamFault.TheVariants as faults
-use Rattle.tilefarm.specs.declared.lines.BindLine.{BindLine}
-use Rattle.tilefarm.specs.declared.lines.BindLine.TheVariants as binding
-use Rattle.tilefarm.specs.Binding.{IsOfBinding, IsParamRefusal, IsRefusal}
-use Rattle.tilefarm.specs.Faults.{IsFaultOf}
-use Rattle.tilefarm.specs.Input.{IsInput, IsParted, IsRunnable}
-use Rattle.tilefarm.specs.Outcomes.{WritesResult}
-use Rattle.tilefarm.specs.Settling.{Given, AreSettled, unset_of}
-use Rattle.tilefarm.specs.Told.{told_bind, told_parse, told_picture}
+use Rattle.tilefarm.specs.Faults.{IsFaultOf, blamed}
+use Rattle.tilefarm.specs.Giving.{Given, AreGiven, unset_of}
+use Rattle.tilefarm.specs.Input.{IsInput, IsInputJob, IsParted, IsRunnable, program_at}
+use Rattle.tilefarm.specs.Outcomes.{IfRead, WritesResult, most_input}
+use Rattle.tilefarm.specs.Steps.{IsParamRefusal, IsRefusal, TellsBind}
+use Rattle.tilefarm.specs.Told.{told_parse, told_picture}
+use Rattle.tilefarm.proofs.Handing.{params_named}
 
-pub program_fault : (input text spelling : List ℕ) (given : List Given) (f : ParseFault) → IsParted input text spelling → IsTextFault text f → IsFaultOf input given (told_parse f)
-program_fault input text spelling given texts.Memory parted is = tt
-program_fault input text spelling given (texts.NotAscii n) parted is = (text, spelling, parted, is, λ e. cc)
-program_fault input text spelling given (texts.BadToken n) parted is = (text, spelling, parted, is, λ e. cc)
-program_fault input text spelling given (texts.Unexpected n) parted is = (text, spelling, parted, is, λ e. cc)
-program_fault input text spelling given (texts.NumberTooBig n) parted is = (text, spelling, parted, is, λ e. cc)
-program_fault input text spelling given (texts.TooDeep n) parted is = (text, spelling, parted, is, λ e. cc)
-program_fault input text spelling given (texts.TooLong n) parted is = (text, spelling, parted, is, λ e. cc)
-program_fault input text spelling given (texts.TooMany n) parted is = (text, spelling, parted, is, λ e. cc)
+pub program_fault : (input text spelling : List ℕ) (given : List Given) (sides : Sides) (f : ParseFault) → IsParted input text spelling → IsTextFault text f → IsFaultOf input given sides (told_parse f)
+program_fault input text spelling given sides texts.Memory parted is = tt
+program_fault input text spelling given sides (texts.NotAscii n) parted is = (text, spelling, parted, is, λ e. cc)
+program_fault input text spelling given sides (texts.BadToken n) parted is = (text, spelling, parted, is, λ e. cc)
+program_fault input text spelling given sides (texts.Unexpected n) parted is = (text, spelling, parted, is, λ e. cc)
+program_fault input text spelling given sides (texts.NumberTooBig n) parted is = (text, spelling, parted, is, λ e. cc)
+program_fault input text spelling given sides (texts.TooDeep n) parted is = (text, spelling, parted, is, λ e. cc)
+program_fault input text spelling given sides (texts.TooLong n) parted is = (text, spelling, parted, is, λ e. cc)
+program_fault input text spelling given sides (texts.TooMany n) parted is = (text, spelling, parted, is, λ e. cc)
 
-pub picture_fault : (input text spelling : List ℕ) (given : List Given) (tree : List Declaration) (f : PicFault) → IsParted input text spelling → IsText text tree
-    → IsPictureFault spelling f → IsFaultOf input given (told_picture f)
-picture_fault input text spelling given tree pictures.Memory parted program is = tt
-picture_fault input text spelling given tree (pictures.OtherFormat n) parted program is = (text, spelling, tree, parted, program, is, λ e. cc)
-picture_fault input text spelling given tree (pictures.HeaderCut n) parted program is = (text, spelling, tree, parted, program, is, λ e. cc)
-picture_fault input text spelling given tree (pictures.BadNumber n) parted program is = (text, spelling, tree, parted, program, is, λ e. cc)
-picture_fault input text spelling given tree (pictures.BadSize n) parted program is = (text, spelling, tree, parted, program, is, λ e. cc)
-picture_fault input text spelling given tree (pictures.BadMax n) parted program is = (text, spelling, tree, parted, program, is, λ e. cc)
-picture_fault input text spelling given tree (pictures.CommentBehindDigit n) parted program is = (text, spelling, tree, parted, program, is, λ e. cc)
-picture_fault input text spelling given tree (pictures.RasterCut n) parted program is = (text, spelling, tree, parted, program, is, λ e. cc)
-picture_fault input text spelling given tree (pictures.SampleTooBig n) parted program is = (text, spelling, tree, parted, program, is, λ e. cc)
-picture_fault input text spelling given tree (pictures.TrailingBytes n) parted program is = (text, spelling, tree, parted, program, is, λ e. cc)
+pub picture_fault : (input text spelling : List ℕ) (given : List Given) (sides : Sides) (tree : List Declaration) (f : PicFault) → IsParted input text spelling → IsText text tree
+    → IsPictureFault spelling f → IsFaultOf input given sides (told_picture f)
+picture_fault input text spelling given sides tree pictures.Memory parted program is = tt
+picture_fault input text spelling given sides tree (pictures.OtherFormat n) parted program is = (text, spelling, tree, parted, program, is, λ e. cc)
+picture_fault input text spelling given sides tree (pictures.HeaderCut n) parted program is = (text, spelling, tree, parted, program, is, λ e. cc)
+picture_fault input text spelling given sides tree (pictures.BadNumber n) parted program is = (text, spelling, tree, parted, program, is, λ e. cc)
+picture_fault input text spelling given sides tree (pictures.BadSize n) parted program is = (text, spelling, tree, parted, program, is, λ e. cc)
+picture_fault input text spelling given sides tree (pictures.BadMax n) parted program is = (text, spelling, tree, parted, program, is, λ e. cc)
+picture_fault input text spelling given sides tree (pictures.CommentBehindDigit n) parted program is = (text, spelling, tree, parted, program, is, λ e. cc)
+picture_fault input text spelling given sides tree (pictures.RasterCut n) parted program is = (text, spelling, tree, parted, program, is, λ e. cc)
+picture_fault input text spelling given sides tree (pictures.SampleTooBig n) parted program is = (text, spelling, tree, parted, program, is, λ e. cc)
+picture_fault input text spelling given sides tree (pictures.TrailingBytes n) parted program is = (text, spelling, tree, parted, program, is, λ e. cc)
 
-pub check_fault : (input : List ℕ) (given : List Given) (tree : List Declaration) (source : Image) (f : StreamFault) → IsInput input tree source → IsRefusal tree f → IsFaultOf input given f
-check_fault input given tree source (faults.Check line) read is = (tree, source, read, is)
-check_fault input given tree source faults.Memory read is = tt
-check_fault input given tree source faults.Read read is = absurd is
-check_fault input given tree source faults.TooLong read is = absurd is
-check_fault input given tree source faults.NoSeparator read is = absurd is
-check_fault input given tree source (faults.Program x) read is = absurd is
-check_fault input given tree source (faults.Picture x) read is = absurd is
-check_fault input given tree source (faults.Param x) read is = absurd is
-check_fault input given tree source (faults.Bind x) read is = absurd is
-check_fault input given tree source faults.Write read is = absurd is
+pub check_fault : (input : List ℕ) (given : List Given) (sides : Sides) (tree : List Declaration) (source : Image) (f : StreamFault) → IsInput input tree source → IsRefusal tree f → IsFaultOf input given sides f
+check_fault input given sides tree source (faults.Check line) read is = (tree, source, read, is)
+check_fault input given sides tree source faults.Memory read is = tt
+check_fault input given sides tree source faults.Read read is = absurd is
+check_fault input given sides tree source faults.TooLong read is = absurd is
+check_fault input given sides tree source faults.NoSeparator read is = absurd is
+check_fault input given sides tree source (faults.Program x) read is = absurd is
+check_fault input given sides tree source (faults.Picture x) read is = absurd is
+check_fault input given sides tree source (faults.Param x) read is = absurd is
+check_fault input given sides tree source (faults.Bind x) read is = absurd is
+check_fault input given sides tree source faults.Write read is = absurd is
 
-pub param_fault : (input : List ℕ) (given : List Given) (tree : List Declaration) (source : Image) (f : StreamFault) → IsInput input tree source → IsRunnable tree
-    → IsParamRefusal (unset_of tree) given f → IsFaultOf input given f
-param_fault input given tree source (faults.Param line) read runnable is = (tree, source, read, runnable, is)
-param_fault input given tree source faults.Memory read runnable is = tt
-param_fault input given tree source faults.Read read runnable is = absurd is
-param_fault input given tree source faults.TooLong read runnable is = absurd is
-param_fault input given tree source faults.NoSeparator read runnable is = absurd is
-param_fault input given tree source (faults.Program x) read runnable is = absurd is
-param_fault input given tree source (faults.Picture x) read runnable is = absurd is
-param_fault input given tree source (faults.Check x) read runnable is = absurd is
-param_fault input given tree source (faults.Bind x) read runnable is = absurd is
-param_fault input given tree source faults.Write read runnable is = absurd is
+pub param_fault : (input : List ℕ) (given : List Given) (sides : Sides) (tree : List Declaration) (source : Image) (f : StreamFault) → IsInput input tree source → IsRunnable tree
+    → IsParamRefusal (unset_of tree) given f → IsFaultOf input given sides f
+param_fault input given sides tree source (faults.Param line) read runnable is = (tree, source, read, runnable, is)
+param_fault input given sides tree source faults.Memory read runnable is = tt
+param_fault input given sides tree source faults.Read read runnable is = absurd is
+param_fault input given sides tree source faults.TooLong read runnable is = absurd is
+param_fault input given sides tree source faults.NoSeparator read runnable is = absurd is
+param_fault input given sides tree source (faults.Program x) read runnable is = absurd is
+param_fault input given sides tree source (faults.Picture x) read runnable is = absurd is
+param_fault input given sides tree source (faults.Check x) read runnable is = absurd is
+param_fault input given sides tree source (faults.Bind x) read runnable is = absurd is
+param_fault input given sides tree source faults.Write read runnable is = absurd is
 
-pub late_fault : (input : List ℕ) (given : List Given) (tree : List Declaration) (source : Image) (ss : List Setting) (f : StreamFault) → IsInput input tree source → IsRunnable tree
-    → AreSettled (unset_of tree) given tree source ss → IsOfBinding f → IsFaultOf input given f
-late_fault input given tree source ss (faults.Bind line) read runnable settled is = (tree, source, ss, read, runnable, settled)
-late_fault input given tree source ss faults.Memory read runnable settled is = tt
-late_fault input given tree source ss faults.Read read runnable settled is = absurd is
-late_fault input given tree source ss faults.TooLong read runnable settled is = absurd is
-late_fault input given tree source ss faults.NoSeparator read runnable settled is = absurd is
-late_fault input given tree source ss (faults.Program x) read runnable settled is = absurd is
-late_fault input given tree source ss (faults.Picture x) read runnable settled is = absurd is
-late_fault input given tree source ss (faults.Check x) read runnable settled is = absurd is
-late_fault input given tree source ss (faults.Param x) read runnable settled is = absurd is
-late_fault input given tree source ss faults.Write read runnable settled is = absurd is
+bind_fault : (input : List ℕ) (given : List Given) (sides : Sides) (tree : List Declaration) (source : Image) (chosen : List Setting) (ranks : List ℕ) (fault : BindFault) (f : StreamFault)
+    → IsInput input tree source → IsRunnable tree → AreGiven (unset_of tree) given chosen → IsRanking (graph_of tree) ranks
+    → IsBindFault tree (program_at tree ranks chosen) source sides fault → TellsBind (params_of tree) (stages_of tree) fault f → IsFaultOf input given sides f
+bind_fault input given sides tree source chosen ranks fault (faults.Bind line) read runnable are_given ranking is told =
+    let same = sym told.0 in (
+      tree,
+      source,
+      read,
+      runnable,
+      record {
+        chosen = chosen;
+        are_given = are_given;
+        ranks = ranks;
+        ranking = ranking;
+        fault = subst (IsBindFault tree (program_at tree ranks chosen) source sides) same is;
+        no_memory = subst (λ x. x ≢ binding.Memory) same told.1;
+        blames = told.2 ∙ ap (blamed (params_of tree) (stages_of tree)) same;
+      },
+    )
+bind_fault input given sides tree source chosen ranks fault faults.Memory read runnable are_given ranking is told = tt
+bind_fault input given sides tree source chosen ranks fault faults.Read read runnable are_given ranking is told = absurd told
+bind_fault input given sides tree source chosen ranks fault faults.TooLong read runnable are_given ranking is told = absurd told
+bind_fault input given sides tree source chosen ranks fault faults.NoSeparator read runnable are_given ranking is told = absurd told
+bind_fault input given sides tree source chosen ranks fault (faults.Program x) read runnable are_given ranking is told = absurd told
+bind_fault input given sides tree source chosen ranks fault (faults.Picture x) read runnable are_given ranking is told = absurd told
+bind_fault input given sides tree source chosen ranks fault (faults.Check x) read runnable are_given ranking is told = absurd told
+bind_fault input given sides tree source chosen ranks fault (faults.Param x) read runnable are_given ranking is told = absurd told
+bind_fault input given sides tree source chosen ranks fault faults.Write read runnable are_given ranking is told = absurd told
 
-pub of_binding : (line : BindLine) → IsOfBinding (told_bind line)
-of_binding binding.Memory = tt
-of_binding (binding.Bounds f name) = tt
-of_binding binding.Planes = tt
-of_binding binding.ExtentMismatch = tt
-of_binding binding.OutputShapes = tt
-of_binding (binding.TooManyTiles name) = tt
+-- ---- the job, from what the steps before it make sure of
+
+-- what is said by what `check` keeps is said by the tree
+pub input_job : (input : List ℕ) (given : List Given) (sides : Sides) (tree : Tree) (source : Image) (checked : CheckedProgram) (chosen : List Setting) (job : Pipeline)
+    → IsInput input (content tree) source → IsRunnable (content tree) → IsCheckedOf tree checked → AreGiven (map unset (params_in checked)) given chosen
+    → IsBound (content (tree_in checked)) (program_of checked chosen) source sides job
+    → (map (λ (s : Setting). s.name) chosen ≡ map (λ (d : Declared). d.name) (params_in checked) → IsJobOf (content (tree_in checked)) chosen source sides job)
+    → IsInputJob input given sides job
+input_job input given sides tree source checked chosen job read runnable ok are_given bound says =
+    record {
+      tree = content tree;
+      source = source;
+      read = read;
+      runnable = runnable;
+      chosen = chosen;
+      are_given = subst (λ ps. AreGiven (map unset ps) given chosen) ok.params are_given;
+      ranks = ranks_in checked;
+      ranking = ok.ranks;
+      bound =
+          subst (λ stages. IsBound (content tree) (record { stages = stages; ranks = ranks_in checked; settings = chosen }) source sides job) ok.stages
+          (subst (λ (t : Tree). IsBound (content t) (program_of checked chosen) source sides job) ok.same bound);
+      says = subst (λ (t : Tree). IsJobOf (content t) chosen source sides job) ok.same (says (params_named (params_in checked) given chosen are_given));
+    }
+
+pub late_fault : (input : List ℕ) (given : List Given) (sides : Sides) (tree : Tree) (source : Image) (checked : CheckedProgram) (chosen : List Setting) (f : StreamFault)
+    → IsInput input (content tree) source → IsRunnable (content tree) → IsCheckedOf tree checked → AreGiven (map unset (params_in checked)) given chosen
+    → (fault : BindFault) × IsBindFault (content (tree_in checked)) (program_of checked chosen) source sides fault × TellsBind (params_in checked) (stages_in checked) fault f
+    → IsFaultOf input given sides f
+late_fault input given sides tree source checked chosen f read runnable ok are_given (fault, is, told) =
+    bind_fault input given sides (content tree) source chosen (ranks_in checked) fault f read runnable
+    (subst (λ ps. AreGiven (map unset ps) given chosen) ok.params are_given)
+    ok.ranks
+    (subst (λ stages. IsBindFault (content tree) (record { stages = stages; ranks = ranks_in checked; settings = chosen }) source sides fault) ok.stages
+    (subst (λ (t : Tree). IsBindFault (content t) (program_of checked chosen) source sides fault) ok.same is))
+    (subst (λ ps. TellsBind ps (stages_of (content tree)) fault f) ok.params (subst (λ stages. TellsBind (params_in checked) stages fault f) ok.stages told))
 
 -- ---- where the input may not be known
 
-pub known_then : (known : Option (List ℕ)) (input : List ℕ) (P : List ℕ → Type 0) → IfSome known (λ all. input ≡ all) → P input → IfSome known P
-known_then None input P is h = tt
-known_then (Some all) input P is h = subst P is h
+pub read_then : (known : Option (List ℕ)) (input : List ℕ) (P : List ℕ → Type 0) → IfSome known (λ all. input ≡ all) → length input ≤ most_input → P input → IfRead known P
+read_then None input P is within h = tt
+read_then (Some all) input P is within h = subst (λ i. (length i ≤ most_input) × P i) is (within, h)
 
 -- a fault of the input wrote nothing
-pub input_fault : (X : Type 0) (known : Option (List ℕ)) (input : List ℕ) (given : List Given) (f : StreamFault) (old : Option (List ℕ)) → IfSome known (λ all. input ≡ all)
-    → IsFaultOf input given f → WritesResult {X = X} known given (Err f) old old
-input_fault X known input given faults.Memory old same is = (refl, tt)
-input_fault X known input given faults.NoSeparator old same is = (refl, known_then known input (λ i. IsFaultOf i given faults.NoSeparator) same is)
-input_fault X known input given (faults.Program x) old same is = (refl, known_then known input (λ i. IsFaultOf i given (faults.Program x)) same is)
-input_fault X known input given (faults.Picture x) old same is = (refl, known_then known input (λ i. IsFaultOf i given (faults.Picture x)) same is)
-input_fault X known input given (faults.Check x) old same is = (refl, known_then known input (λ i. IsFaultOf i given (faults.Check x)) same is)
-input_fault X known input given (faults.Param x) old same is = (refl, known_then known input (λ i. IsFaultOf i given (faults.Param x)) same is)
-input_fault X known input given (faults.Bind x) old same is = (refl, known_then known input (λ i. IsFaultOf i given (faults.Bind x)) same is)
-input_fault X known input given faults.Read old same is = absurd is
-input_fault X known input given faults.TooLong old same is = absurd is
-input_fault X known input given faults.Write old same is = absurd is
+pub input_fault : (X : Type 0) (known : Option (List ℕ)) (input : List ℕ) (given : List Given) (sides : Sides) (f : StreamFault) (old : Option (List ℕ)) → IfSome known (λ all. input ≡ all)
+    → length input ≤ most_input → IsFaultOf input given sides f → WritesResult {X = X} known given sides (Err f) old old
+input_fault X known input given sides faults.Memory old same within is = (refl, tt)
+input_fault X known input given sides faults.NoSeparator old same within is = (refl, read_then known input (λ i. IsFaultOf i given sides faults.NoSeparator) same within is)
+input_fault X known input given sides (faults.Program x) old same within is = (refl, read_then known input (λ i. IsFaultOf i given sides (faults.Program x)) same within is)
+input_fault X known input given sides (faults.Picture x) old same within is = (refl, read_then known input (λ i. IsFaultOf i given sides (faults.Picture x)) same within is)
+input_fault X known input given sides (faults.Check x) old same within is = (refl, read_then known input (λ i. IsFaultOf i given sides (faults.Check x)) same within is)
+input_fault X known input given sides (faults.Param x) old same within is = (refl, read_then known input (λ i. IsFaultOf i given sides (faults.Param x)) same within is)
+input_fault X known input given sides (faults.Bind x) old same within is = (refl, read_then known input (λ i. IsFaultOf i given sides (faults.Bind x)) same within is)
+input_fault X known input given sides faults.Read old same within is = absurd is
+input_fault X known input given sides faults.TooLong old same within is = absurd is
+input_fault X known input given sides faults.Write old same within is = absurd is

@@ -1,6 +1,6 @@
 pub mod Accepting
-pub mod Ascii
-pub mod Listed
-pub mod Shapes
 pub mod Handing
 pub mod Known
+pub mod Listed
+pub mod Outputs
+pub mod Pictures

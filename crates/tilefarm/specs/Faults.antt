@@ -1,6 +1,7 @@
 -- Which fault of an input is told: each only where none of those before it is.
-use Rattle.std.specs.Prelude.{◌≡◌, ◌≢◌, ◌⊎◌, ℕ, Option, Some, List, position, slice_get, filter_map}
+use Rattle.std.specs.Prelude.{◌≡◌, ◌≢◌, ◌⊎◌, ℕ, Option, Some, None, List, position, slice_get, filter_map}
 use Rattle.std.specs.Option.{option_map}
+use Rattle.domains.specs.Sides.{Sides}
 use Rattle.netpbm.specs.Image.{Image}
 use Rattle.netpbm.specs.Faults.{IsFault as IsPictureFault}
 use Rattle.netpbm.specs.declared.fault.PicFault.TheVariants as pictures
@@ -8,23 +9,31 @@ use Rattle.pipe_lang.specs.Faults.{IsFault as IsTextFault, IsText}
 use Rattle.pipe_lang.specs.Tree.{Declaration}
 use Rattle.pipe_lang.specs.declared.fault.ParseFault.TheVariants as texts
 use Rattle.pipe_checks.specs.Checking.{IsFault as IsProgramFault}
-use Rattle.pipe_checks.specs.Names.{stages_of}
+use Rattle.pipe_checks.specs.Graph.{IsRanking}
+use Rattle.pipe_checks.specs.Names.{params_of, stages_of}
+use Rattle.pipe_checks.specs.Sites.{graph_of}
 use Rattle.pipe_checks.specs.declared.declared.Declared.{Declared}
-use Rattle.pipe_checks.specs.declared.fault.CheckFault.{CheckFault}
+use Rattle.pipe_checks.specs.declared.fault.BoundFault.{BoundFault}
+use Rattle.pipe_checks.specs.declared.fault.BoundFault.TheVariants as bounds
 use Rattle.pipe_checks.specs.declared.fault.CheckFault.TheVariants as checks
-use Rattle.pipe_checks.specs.declared.fault.Cycle.{Cycle}
 use Rattle.pipe_checks.specs.declared.params.Setting.{Setting}
-use Rattle.tilefarm.specs.Input.{IsInput, IsParted, IsRunnable, MeansSomething, is_beyond}
+use Rattle.job.specs.BindFaults.{IsBindFault}
+use Rattle.job.specs.declared.fault.BindFault.{BindFault}
+use Rattle.job.specs.declared.fault.BindFault.TheVariants as binding
+use Rattle.tilefarm.specs.Giving.{Given, AreGiven, IsFirstRefused, unset_of}
+use Rattle.tilefarm.specs.Input.{IsInput, IsParted, IsRunnable, MeansSomething, is_beyond, program_at}
 use Rattle.tilefarm.specs.Sections.{HasNoSeparator}
-use Rattle.tilefarm.specs.Settling.{Given, AreSettled, IsFirstRefused, unset_of}
 use Rattle.tilefarm.specs.declared.faults.StreamFault.{StreamFault}
 use Rattle.tilefarm.specs.declared.faults.StreamFault.TheVariants.{Read, TooLong, NoSeparator, Program, Picture, Check, Param, Bind, Memory, Write}
+use Rattle.tilefarm.specs.declared.lines.BindLine.{BindLine}
 use Rattle.tilefarm.specs.declared.lines.CheckLine.{CheckLine}
 use Rattle.tilefarm.specs.declared.lines.CheckLine.TheVariants as lines
 
--- the name of the stage of this number
+-- the name of the stage, or of the parameter, of this number
 abbrev pub name_at : List Declared → ℕ → Option (List ℕ)
-name_at stages n = option_map (λ (d : Declared). d.name) (slice_get stages n)
+name_at declared n = option_map (λ (d : Declared). d.name) (slice_get declared n)
+
+-- ---- faults of a program
 
 -- the names of the stages of these numbers
 abbrev pub names_of : List Declared → List ℕ → List (List ℕ)
@@ -43,21 +52,51 @@ IsCheckLine tree (lines.Fault (checks.Cycle cycle)) = ⊥
 IsCheckLine tree (lines.Fault checks.Memory) = ⊥
 IsCheckLine tree (lines.Fault fault) = IsProgramFault tree fault
 
--- the first fault of an input and of the parameters that are given; memory may run out for any
-abbrev pub IsFaultOf : List ℕ → List Given → StreamFault → Type 0
-IsFaultOf input given NoSeparator = HasNoSeparator input
-IsFaultOf input given (Program fault) = (text spelling : List ℕ) × IsParted input text spelling × IsTextFault text fault × (fault ≢ texts.Memory)
-IsFaultOf input given (Picture fault) =
+-- ---- faults of a program and a picture
+
+-- the name of the parameter or the stage that a fault blames, if it blames one
+abbrev pub blamed_in_bounds : List Declared → List Declared → BoundFault → Option (List ℕ)
+blamed_in_bounds params stages (bounds.ParamUnset n) = name_at params n
+blamed_in_bounds params stages (bounds.EmptyDomain n) = name_at stages n
+blamed_in_bounds params stages (bounds.DomainTooWide n) = name_at stages n
+blamed_in_bounds params stages (bounds.OutOfBounds n case read axis least greatest) = name_at stages n
+blamed_in_bounds params stages bounds.Memory = None
+
+abbrev pub blamed : List Declared → List Declared → BindFault → Option (List ℕ)
+blamed params stages (binding.Bounds fault) = blamed_in_bounds params stages fault
+blamed params stages binding.Planes = None
+blamed params stages binding.ExtentMismatch = None
+blamed params stages binding.OutputShapes = None
+blamed params stages (binding.TooManyTiles n) = name_at stages n
+blamed params stages binding.Memory = None
+
+-- the first fault of a program at the values that are given, of a picture and the sides of tiles, told by the name that it
+-- blames
+pub record IsBindLine (tree : List Declaration) (given : List Given) (source : Image) (sides : Sides) (line : BindLine) : Type 0 where
+  pub chosen : List Setting
+  pub are_given : AreGiven (unset_of tree) given chosen
+  pub ranks : List ℕ
+  pub ranking : IsRanking (graph_of tree) ranks
+  pub fault : IsBindFault tree (program_at tree ranks chosen) source sides line.fault
+  pub no_memory : line.fault ≢ binding.Memory
+  pub blames : line.blamed ≡ blamed (params_of tree) (stages_of tree) line.fault
+
+-- ---- the whole
+
+-- the first fault of an input, of the parameters that are given and of the sides of tiles; memory may run out for any
+abbrev pub IsFaultOf : List ℕ → List Given → Sides → StreamFault → Type 0
+IsFaultOf input given sides NoSeparator = HasNoSeparator input
+IsFaultOf input given sides (Program fault) = (text spelling : List ℕ) × IsParted input text spelling × IsTextFault text fault × (fault ≢ texts.Memory)
+IsFaultOf input given sides (Picture fault) =
     (text spelling : List ℕ) × (tree : List Declaration) × IsParted input text spelling × IsText text tree
     × IsPictureFault spelling fault × (fault ≢ pictures.Memory)
-IsFaultOf input given (Check line) = (tree : List Declaration) × (source : Image) × IsInput input tree source × IsCheckLine tree line
-IsFaultOf input given (Param line) =
+IsFaultOf input given sides (Check line) = (tree : List Declaration) × (source : Image) × IsInput input tree source × IsCheckLine tree line
+IsFaultOf input given sides (Param line) =
     (tree : List Declaration) × (source : Image) × IsInput input tree source × IsRunnable tree × IsFirstRefused (unset_of tree) given line
-IsFaultOf input given (Bind line) =
-    (tree : List Declaration) × (source : Image) × (settings : List Setting) × IsInput input tree source × IsRunnable tree
-    × AreSettled (unset_of tree) given tree source settings
-IsFaultOf input given Memory = Unit {0}
+IsFaultOf input given sides (Bind line) =
+    (tree : List Declaration) × (source : Image) × IsInput input tree source × IsRunnable tree × IsBindLine tree given source sides line
+IsFaultOf input given sides Memory = Unit {0}
 -- neither a reader nor a writer is known here
-IsFaultOf input given Read = ⊥
-IsFaultOf input given TooLong = ⊥
-IsFaultOf input given Write = ⊥
+IsFaultOf input given sides Read = ⊥
+IsFaultOf input given sides TooLong = ⊥
+IsFaultOf input given sides Write = ⊥

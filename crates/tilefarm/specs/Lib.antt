@@ -1,8 +1,7 @@
-pub mod Binding
 pub mod Faults
+pub mod Giving
 pub mod Input
 pub mod Outcomes
 pub mod Sections
-pub mod Settling
-pub mod Shape
+pub mod Steps
 pub mod Told

@@ -1,4 +1,4 @@
-use Rattle.std.specs.Prelude.{◌≡◌, ℕ, ◌+◌, ◌-◌, ◌<◌, ◌==◌, ◌||◌, ◌&&◌, Bool, IsTrue, Option, Some, None, List, [], ◌∷◌, length, take, drop, slice_index, nat_eq}
+use Rattle.std.specs.Prelude.{ℕ, ◌-◌, ◌<◌, ◌==◌, ◌||◌, ◌&&◌, Bool, IsTrue, List, [], ◌∷◌, length, drop, slice_index, nat_eq}
 use Rattle.std.specs.List.{starts_with}
 
 -- two percent signs and a line feed

@@ -4,9 +4,7 @@ use Rattle.netpbm.specs.declared.fault.PicFault.TheVariants as pictures
 use Rattle.pipe_lang.specs.declared.fault.ParseFault.{ParseFault}
 use Rattle.pipe_lang.specs.declared.fault.ParseFault.TheVariants as texts
 use Rattle.tilefarm.specs.declared.faults.StreamFault.{StreamFault}
-use Rattle.tilefarm.specs.declared.faults.StreamFault.TheVariants.{Program, Picture, Bind, Memory}
-use Rattle.tilefarm.specs.declared.lines.BindLine.{BindLine}
-use Rattle.tilefarm.specs.declared.lines.BindLine.TheVariants as binding
+use Rattle.tilefarm.specs.declared.faults.StreamFault.TheVariants.{Program, Picture, Memory}
 
 abbrev pub told_parse : ParseFault → StreamFault
 told_parse texts.Memory = Memory
@@ -15,7 +13,3 @@ told_parse f = Program f
 abbrev pub told_picture : PicFault → StreamFault
 told_picture pictures.Memory = Memory
 told_picture f = Picture f
-
-abbrev pub told_bind : BindLine → StreamFault
-told_bind binding.Memory = Memory
-told_bind line = Bind line

@@ -4,14 +4,14 @@ ghost use Rattle.std.specs.Prelude.{◌≡◌, IfOk, IfErr, position};
 ghost use Rattle.pipe_lang.specs.Tree.{content, declaration, declarations};
 ghost use Rattle.pipe_checks.specs.Checking.{IsCheckedOf, IsFault};
 ghost use Rattle.pipe_checks.specs.Names.{stages_of};
-ghost use Rattle.tilefarm.specs.Binding.{IsRefusal};
+ghost use Rattle.tilefarm.specs.Steps.{IsRefusal};
 ghost use Rattle.tilefarm.specs.Faults.{name_at, names_of};
 ghost use Rattle.tilefarm.specs.Input.{IsRunnable, is_beyond};
 
 use crate::faults::StreamFault;
 use crate::lines::{CheckLine, StageNames};
 use pipe_checks::{CheckFault, Checked, Cycle, Declared, check, declared_stages};
-use pipe_lang::{Item, Names, Tree};
+use pipe_lang::{Item, Tree};
 use pipe_tokens::Name;
 use std::alloc::{AllocError, Global};
 
@@ -37,17 +37,13 @@ fn first_beyond(items: &[Item]) -> Option<usize>
     items.iter().position(|item| is_beyond(item))
 }
 
-/// Accumulators, and outputs of three functions, are not evaluated yet.
+/// Accumulators are not evaluated yet.
 fn is_beyond(item: &Item) -> bool
     ensures { result ≡ is_beyond (declaration item.now) }
 {
     match item {
         Item::Accum(_) => true,
-        Item::Output(output) => match output.names {
-            Names::One(_) => false,
-            Names::Three(..) => true,
-        },
-        Item::Param(_) | Item::Image(_) | Item::Func(_) => false,
+        Item::Param(_) | Item::Image(_) | Item::Func(_) | Item::Output(_) => false,
     }
 }
 
@@ -86,9 +82,9 @@ fn names_of(alloc: Global, stages: &[Declared], numbers: &[usize]) -> Result<Sta
     Ok(StageNames { names })
 }
 
-/// The name of the stage of this number.
-fn name_at(stages: &[Declared], number: usize) -> Option<Name>
-    ensures { result ≡ name_at stages.now number }
+/// The name of the stage, or of the parameter, of this number.
+pub fn name_at(declared: &[Declared], number: usize) -> Option<Name>
+    ensures { result ≡ name_at declared.now number }
 {
-    Some(stages.get(number)?.name)
+    Some(declared.get(number)?.name)
 }

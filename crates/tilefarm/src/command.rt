@@ -1,8 +1,9 @@
 //! The command line.
 
 ghost use Rattle.std.specs.Prelude.{◌≡◌, ◌≤◌, ◌⊎◌, List};
+ghost use Rattle.domains.specs.Sides.{Sides};
 ghost use Rattle.tilefarm.specs.Outcomes.{AppendsResult, status_of};
-ghost use Rattle.tilefarm.specs.Settling.{Given};
+ghost use Rattle.tilefarm.specs.Giving.{Given};
 
 use crate::faults::StreamFault;
 use crate::stream::{Options, eval_stream};
@@ -17,9 +18,6 @@ const USAGE: &[u8] = b"usage: tilefarm COMMAND [OPTIONS] [NAME=VALUE]...\n";
 
 /// The line where memory ran out, which takes none.
 const MEMORY: &[u8] = b"memory\n";
-
-/// The sides of tiles where no option gives them.
-const SIDE: u32 = 64;
 
 /// How a command is to be run, and the parameters that are given, in order.
 #[derive(Drop)]
@@ -65,7 +63,7 @@ pub fn run_command<H: AllocGlobal, R: Source, W: Sink>(
     reader: &mut R,
     writer: &mut W,
 ) -> u8
-    ensures done { result ≡ 0 → (given : List Given) × AppendsResult (R.remaining reader.old) given (W.contents writer.old) (W.contents writer.new) }
+    ensures done { result ≡ 0 → (given : List Given) × (sides : Sides) × AppendsResult (R.remaining reader.old) given sides (W.contents writer.old) (W.contents writer.new) }
     ensures known { result ≤ 5 }
     ensures read { (R.failures reader.new ≡ R.failures reader.old) ⊎ (result ≡ 4) }
 {
@@ -145,17 +143,20 @@ fn side<'a>(alloc: Global, name: &'a str) -> Arg<'a> {
 }
 
 fn sides_of(given: &ArgMatches) -> Result<TileSides, Refusal> {
-    match (side_of(given, "rows"), side_of(given, "cols")) {
+    let usual = Options::usual().sides;
+    let rows = side_of(given, "rows", usual.height());
+    let cols = side_of(given, "cols", usual.width());
+    match (rows, cols) {
         (Some(rows), Some(cols)) => TileSides::new(rows, cols).ok_or(Refusal::Usage),
         _ => Err(Refusal::Usage),
     }
 }
 
-fn side_of(given: &ArgMatches, name: &str) -> Option<u32> {
+fn side_of(given: &ArgMatches, name: &str, usual: u32) -> Option<u32> {
     match given.get_str(name) {
         Some(digits) if digits.starts_with('+') => None,
         Some(digits) => digits.parse().ok(),
-        None => Some(SIDE),
+        None => Some(usual),
     }
 }
 

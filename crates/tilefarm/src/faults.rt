@@ -97,17 +97,3 @@ impl From<PicFault> for StreamFault {
         }
     }
 }
-
-impl From<BindLine> for StreamFault {
-    ghost use Rattle.std.specs.Prelude.{◌≡◌};
-    ghost use Rattle.tilefarm.specs.Told.{told_bind};
-
-    ghost from_gives = { λ line fault. fault ≡ told_bind line };
-
-    fn from(line: BindLine) -> StreamFault {
-        match line {
-            BindLine::Memory => StreamFault::Memory,
-            line => StreamFault::Bind(line),
-        }
-    }
-}

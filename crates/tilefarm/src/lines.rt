@@ -1,8 +1,8 @@
 //! Faults of a program as they are told: by the names of its parameters and stages where the libraries have numbers.
 
+use job::BindFault;
 use pipe_checks::{Axis, BoundFault, CheckFault, ParamFault};
 use pipe_tokens::Name;
-use std::alloc::{AllocError, AllocFailed};
 use std::fmt;
 use std::marker::Model;
 
@@ -85,6 +85,19 @@ impl fmt::Display for ParamLine {
     }
 }
 
+/// The name that a fault blames, behind a blank.
+#[derive(Clone, Copy)]
+struct Blamed(Option<Name>);
+
+impl fmt::Display for Blamed {
+    fn fmt<W: fmt::Write>(&self, f: &mut fmt::Formatter<W>) -> fmt::Result {
+        match self.0 {
+            Some(name) => write!(f, " {name}"),
+            None => Ok(()),
+        }
+    }
+}
+
 /// Where a read leaves the domain that it reads; nothing at other faults.
 #[derive(Clone, Copy)]
 struct Reads(BoundFault);
@@ -118,62 +131,28 @@ fn axis_word(axis: Axis) -> &'static str {
     }
 }
 
-/// Why a program and a picture make no job.
+/// The first fault of a program and a picture that make no job.
 #[derive(Debug, Drop)]
-pub enum BindLine {
-    /// The parameter or the stage of this name has a fault of the bounds.
-    Bounds(BoundFault, Name),
-    /// The program names one plane and the picture has three, or the other way round.
-    Planes,
-    /// The picture has other sides than the program declares.
-    ExtentMismatch,
-    /// The output has a side over 4096.
-    OutputShapes,
-    /// A function has more than 65,536 tiles.
-    TooManyTiles(Name),
-    /// Memory ran out.
-    Memory,
-}
-
-impl From<AllocError> for BindLine {
-    ghost use Rattle.std.specs.Prelude.{◌≡◌};
-    ghost use Rattle.tilefarm.specs.declared.lines.BindLine.TheVariants.{Memory};
-
-    ghost from_gives = { λ _ line. line ≡ Memory };
-
-    fn from(_error: AllocError) -> BindLine {
-        BindLine::Memory
-    }
-}
-
-impl<T: Drop> From<AllocFailed<T>> for BindLine {
-    ghost use Rattle.std.specs.Prelude.{◌≡◌};
-    ghost use Rattle.tilefarm.specs.declared.lines.BindLine.TheVariants.{Memory};
-
-    ghost from_gives = { λ _ line. line ≡ Memory };
-
-    fn from(_error: AllocFailed<T>) -> BindLine {
-        BindLine::Memory
-    }
+pub struct BindLine {
+    pub fault: BindFault,
+    /// The name of the parameter or the stage that the fault blames, if it blames one.
+    pub blamed: Option<Name>,
 }
 
 impl fmt::Display for BindLine {
     fn fmt<W: fmt::Write>(&self, f: &mut fmt::Formatter<W>) -> fmt::Result {
-        match self {
-            BindLine::Bounds(fault, name) => {
-                write!(
-                    f,
-                    "bounds: {} {} {name}{}",
-                    fault.number(),
-                    fault.name(),
-                    Reads(*fault)
-                )
+        match self.fault {
+            BindFault::Bounds(fault) => {
+                write!(f, "bounds: {} {}", fault.number(), fault.name())?;
+                write!(f, "{}{}", Blamed(self.blamed), Reads(fault))
             }
-            BindLine::Planes => f.write_str("bind: 2 Planes"),
-            BindLine::ExtentMismatch => f.write_str("bind: 3 ExtentMismatch"),
-            BindLine::OutputShapes => f.write_str("bind: 4 OutputShapes"),
-            BindLine::TooManyTiles(name) => write!(f, "bind: 5 TooManyTiles {name}"),
-            BindLine::Memory => f.write_str("bind: 6 Memory"),
+            fault => write!(
+                f,
+                "bind: {} {}{}",
+                fault.number(),
+                fault.name(),
+                Blamed(self.blamed)
+            ),
         }
     }
 }

@@ -2,14 +2,14 @@
 #![tactic(auto)]
 
 mod accepted;
-mod bind;
+mod answer;
+mod bound;
 mod command;
 mod faults;
 mod lines;
 mod sections;
 mod settings;
 mod stream;
-mod values;
 
 use command::run_command;
 use netpbm::Metered;

@@ -1,21 +1,27 @@
 //! From the bytes of the input to the bytes of the result.
 
-ghost use Rattle.std.specs.Prelude.{◌≡◌, All, IfOk, IfErr, IfSome, length};
+ghost use Rattle.std.specs.Prelude.{◌≡◌, ◌≤◌, IfOk, IfErr, IfSome, List, length};
+ghost use Rattle.domains.specs.Sides.{Sides};
 ghost use Rattle.netpbm.specs.Image.{IsImage};
-ghost use Rattle.tilefarm.specs.Binding.{IsOfReader};
+ghost use Rattle.pipe_lang.specs.Tree.{content};
+ghost use Rattle.job.specs.Kept.{pipeline_in};
+ghost use Rattle.job.specs.WellFormed.{IsJob};
 ghost use Rattle.tilefarm.specs.Faults.{IsFaultOf};
-ghost use Rattle.tilefarm.specs.Input.{IsShapedResult};
-ghost use Rattle.tilefarm.specs.Outcomes.{WritesResult, CountsRead, CountsWritten};
+ghost use Rattle.tilefarm.specs.Giving.{Given};
+ghost use Rattle.tilefarm.specs.Input.{IsInput, IsInputJob, IsResult};
+ghost use Rattle.tilefarm.specs.Outcomes.{WritesResult, CountsRead, CountsWritten, most_input};
+ghost use Rattle.tilefarm.specs.Steps.{IsOfReader};
 
 use crate::accepted::accept;
-use crate::bind::bind;
+use crate::answer::evaluate;
+use crate::bound::bind;
 use crate::faults::StreamFault;
 use crate::sections::split_section;
-use crate::settings::settle;
-use crate::values::evaluate;
+use crate::settings::choose;
 use domains::TileSides;
+use job::Job;
 use netpbm::{Picture, Sink, Source, SourceFault, read_whole, write_raw};
-use pipe_lang::parse;
+use pipe_lang::{Tree, parse};
 use std::alloc::Global;
 
 /// The most bytes of an input.
@@ -28,6 +34,20 @@ pub struct Options {
     pub sides: TileSides,
 }
 
+impl Options {
+    ghost use Rattle.std.specs.Prelude.{◌≡◌};
+
+    /// Tiles of 64 rows and 64 columns.
+    pub fn usual() -> Options
+        ensures { result.sides ≡ record { height = 64; width = 64 } }
+    {
+        match TileSides::new(64, 64) {
+            Some(sides) => Options { sides },
+            None => unreachable!(),
+        }
+    }
+}
+
 /// Reads a program and a picture, and writes the result of running the program on the picture.
 ///
 /// The input is the program's text, a line `%%` and the picture. `parameters` gives values of the program's parameters.
@@ -38,9 +58,9 @@ pub fn eval_stream<H: AllocGlobal, R: Source, W: Sink>(
     reader: &mut R,
     writer: &mut W,
 ) -> Result<(), StreamFault>
-    // At `Ok` the writer took a raw PGM picture of the result's shape, and where it failed a part of one. Any other fault
-    // has written nothing, and is the first fault of the input and the parameters.
-    ensures written { WritesResult (R.remaining reader.old) parameters.now result (W.contents writer.old) (W.contents writer.new) }
+    // At `Ok` the writer took the raw spelling of the result, and where it failed a part of it. Any other fault has
+    // written nothing, and is the first fault of the input and the parameters.
+    ensures written { WritesResult (R.remaining reader.old) parameters.now options.now.sides result (W.contents writer.old) (W.contents writer.new) }
     // A fault of the reader or the writer is answered where it failed, and nowhere else.
     ensures read { CountsRead result (R.failures reader.old) (R.failures reader.new) }
     ensures write { CountsWritten result (W.failures writer.old) (W.failures writer.new) }
@@ -56,6 +76,7 @@ pub fn eval_stream<H: AllocGlobal, R: Source, W: Sink>(
 /// All bytes of the input.
 fn read_input<R: Source>(alloc: Global, reader: &mut R) -> Result<Vec<u8>, StreamFault>
     ensures whole { IfOk result (λ input. IfSome (R.remaining reader.old) (λ all. input.items ≡ all)) }
+    ensures within { IfOk result (λ input. length input.items ≤ most_input) }
     ensures read { CountsRead result (R.failures reader.old) (R.failures reader.new) }
     ensures fault { IfErr result (IsOfReader (R.remaining reader.old)) }
     ensures no_write { CountsWritten result 0 0 }
@@ -68,25 +89,47 @@ fn read_input<R: Source>(alloc: Global, reader: &mut R) -> Result<Vec<u8>, Strea
     }
 }
 
-/// The result of the program and the picture that the input spells.
+/// The result of the job of the input.
 fn result_of(
     alloc: Global,
     sides: TileSides,
     given: &[(String, i32)],
     input: &[u8],
 ) -> Result<Picture, StreamFault>
-    ensures shape { IfOk result (IsShapedResult input.now given.now) }
-    ensures grey { IfOk result (λ picture. length picture.planes ≡ 1) }
+    ensures result { IfOk result (IsResult input.now given.now sides) }
     ensures image { IfOk result IsImage }
-    ensures fault { IfErr result (IsFaultOf input.now given.now) }
+    ensures fault { IfErr result (IsFaultOf input.now given.now sides) }
+{
+    let job = job_of(alloc, sides, given, input)?;
+    Ok(evaluate(alloc, &job)?)
+}
+
+/// The job of the program and the picture that the input spells.
+fn job_of(
+    alloc: Global,
+    sides: TileSides,
+    given: &[(String, i32)],
+    input: &[u8],
+) -> Result<Job, StreamFault>
+    ensures of_input { IfOk result (λ job. IsInputJob input.now given.now sides (pipeline_in job)) }
+    ensures job { IfOk result (λ job. IsJob (pipeline_in job)) }
+    ensures fault { IfErr result (IsFaultOf input.now given.now sides) }
+{
+    let (tree, picture) = read_sections(alloc, input)?;
+    let checked = accept(alloc, tree)?;
+    let params = choose(alloc, &checked, given)?;
+    bind(alloc, checked, &params, picture, sides)
+}
+
+/// The program and the picture that the input spells.
+fn read_sections(alloc: Global, input: &[u8]) -> Result<(Tree, Picture), StreamFault>
+    ensures ok { IfOk result (λ read. IsInput input.now (content read.0) read.1) }
+    ensures fault { (given : List Given) (sides : Sides) → IfErr result (IsFaultOf input.now given sides) }
 {
     let Some((text, spelling)) = split_section(input) else {
         return Err(StreamFault::NoSeparator);
     };
     let tree = parse(alloc, text)?;
     let picture = netpbm::read(alloc, spelling)?;
-    let checked = accept(alloc, tree)?;
-    let params = settle(alloc, &checked, given, &picture)?;
-    let job = bind(alloc, checked, params, picture, sides)?;
-    evaluate(alloc, &job)
+    Ok((tree, picture))
 }

@@ -1,6 +1,6 @@
-use Rattle.std.proofs.Common.{◌≡◌, Option, Some, None, position, inr, sym, ap, ◌∙◌, subst}
+use Rattle.std.proofs.Common.{position, inr, sym, ap, ◌∙◌, subst}
 use Rattle.pipe_lang.specs.Tree.{content, declaration, declarations, items_of}
-use Rattle.pipe_checks.specs.Checking.{IsFault, tree_in}
+use Rattle.pipe_checks.specs.Checking.{IsFault}
 use Rattle.tilefarm.specs.Input.{is_beyond}
 use Rattle.tilefarm.proofs.Accepting.{means}
 use Rattle.tilefarm.proofs.Listed.{position_map}

@@ -1,4 +1,4 @@
-use Rattle.std.proofs.Common.{◌≡◌, ℕ, ◌<◌, IsTrue}
+use Rattle.std.proofs.Common.{ℕ, ◌<◌, IsTrue}
 use Rattle.tilefarm.specs.Sections.{separates}
 use Rattle.tilefarm.proofs.sections.split_section.Given as goal
 

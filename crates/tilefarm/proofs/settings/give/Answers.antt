@@ -1,8 +1,7 @@
-use Rattle.std.proofs.Common.{◌≡◌, ◌∙◌, sym, subst, arith, rules, SFits, w32, refl}
+use Rattle.std.proofs.Common.{subst, arith, rules, SFits, w32}
 use Rattle.std.proofs.Math.Facts.{to_z-of_z}
-use Rattle.std.specs.Prelude.{string_bytes}
 use Rattle.pipe_checks.specs.Settings.{SetsOne}
-use Rattle.tilefarm.specs.Settling.{IsNotSettable}
+use Rattle.tilefarm.specs.Giving.{IsNotSettable}
 use Rattle.tilefarm.proofs.Handing.{given_more, not_settable, set_of, told_refusal}
 use Rattle.tilefarm.proofs.Listed.{here_is}
 use Rattle.tilefarm.proofs.settings.give.Goals as goal

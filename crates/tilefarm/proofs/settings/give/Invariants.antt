@@ -1,5 +1,5 @@
 use Rattle.std.proofs.Common.{take}
-use Rattle.tilefarm.specs.Settling.{AreGiven}
+use Rattle.tilefarm.specs.Giving.{AreGiven}
 use Rattle.tilefarm.proofs.settings.give.Given as goal
 
 abbrev pub invariant-loop-name : goal.invariant-loop-name

@@ -1,6 +1,0 @@
-use Rattle.std.proofs.lemmas.Str.{IsUtf8-from_ascii}
-use Rattle.tilefarm.proofs.Ascii.{ascii_name}
-use Rattle.tilefarm.proofs.settings.text_of.Goals as goal
-
-pub unreachable-requires : goal.unreachable-requires
-unreachable-requires c = c.in-Err.ensures.cases.0 (IsUtf8-from_ascii c.as_bytes.result.now (ascii_name c.as_bytes.result.now c.as_bytes.ensures.name))
