@@ -1,18 +1,18 @@
-//! Tests of the libraries: what no contract of theirs says. They stand in a crate of their own, since a crate with tests
-//! is proved twice.
+//! Tests of the libraries: what no contract of theirs says, and what no run of a program reaches. They stand in a crate of
+//! their own, since a crate with tests is proved twice.
 #![tactic(auto)]
 
 #[cfg(test)]
 mod areas;
 #[cfg(test)]
-mod bindings;
+mod binding;
 #[cfg(test)]
-mod canonical_texts;
+mod identities;
 #[cfg(test)]
-mod checks;
+mod jobs;
 #[cfg(test)]
 mod pictures;
 #[cfg(test)]
 mod texts;
 #[cfg(test)]
-mod tokens;
+mod values;

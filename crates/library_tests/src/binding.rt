@@ -1,0 +1,44 @@
+#![tactic(auto)]
+//! Programs that are bound to pictures, for the other tests.
+
+ghost use Rattle.std.specs.Prelude.{IfOk};
+ghost use Rattle.job.specs.Kept.{pipeline_in};
+ghost use Rattle.job.specs.WellFormed.{IsJob};
+
+use domains::TileSides;
+use job::Job;
+use netpbm::read;
+use pipe_checks::{Checked, Params, check};
+use pipe_lang::parse;
+use std::alloc::Global;
+use std::test::Fail;
+
+fn checked_of(alloc: Global, text: &str) -> Result<Checked, Fail> {
+    match check(alloc, parse(alloc, text.as_bytes())?) {
+        Ok(checked) => Ok(checked),
+        Err((_, fault)) => Err(Fail::new(fault)),
+    }
+}
+
+/// The job of a text at these values of parameters, a file of a picture and the sides of tiles.
+pub(crate) fn job_of(
+    alloc: Global,
+    text: &str,
+    values: &[(&str, i32)],
+    file: &[u8],
+    sides: (u32, u32),
+) -> Result<Job, Fail>
+    ensures { IfOk result (λ job. IsJob (pipeline_in job)) }
+{
+    let checked = checked_of(alloc, text)?;
+    let mut params = Params::of(alloc, &checked)?;
+    for (name, value) in values {
+        params.set(name, *value)?;
+    }
+    let picture = read(alloc, file)?;
+    let sides = TileSides::new(sides.0, sides.1).ok_or("no sides")?;
+    match Job::bind(alloc, checked, &params, picture, sides) {
+        Ok(job) => Ok(job),
+        Err((_, _, fault)) => Err(Fail::new(fault)),
+    }
+}

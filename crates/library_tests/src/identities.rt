@@ -1,0 +1,102 @@
+#![tactic(auto)]
+//! The identities of jobs, beside digests that another program computed of the same bytes, and the keys of their tiles.
+
+use crate::binding::job_of;
+use job::{InputId, Key, ProgramId};
+use std::test::Fail;
+
+/// A program that copies a grey picture.
+const COPY: &str =
+    "param R; param C; image I(R,C); func f(x in [0..R-1], y in [0..C-1]) { else : I(x,y); } output f max 255;";
+
+#[test]
+fn bytes_of_a_grey_input(rt: HostRuntime) -> Result<(), Fail> {
+    let alloc = rt.alloc();
+    let job = job_of(alloc, COPY, &[], b"P2 2 2 255 1 2 3 4\n", (2, 2))?;
+    let bytes = job.input_bytes(alloc)?;
+    assert_eq!(rt; bytes.len(), 41);
+    assert_eq!(rt;
+        hex::encode(alloc, bytes.as_slice())?.as_str(),
+        "505449310000000200000002000201520000000201430000000250350a3220320a3235350a01020304"
+    );
+    assert_eq!(rt;
+        format!(in alloc; "{}", job.input_id())?.as_str(),
+        "fd17eda6718699f8da71d309eb34c2ee2e0220a4b9694dd8c3c44b40c42d07d9"
+    );
+    assert_eq!(rt;
+        format!(in alloc; "{}", job.program_id())?.as_str(),
+        "7609cadcb0ed4eaee5ebfe5f461d6a2841e6f0d0e0ee23c3dd1cd942a2385118"
+    );
+    Ok(())
+}
+
+#[test]
+fn bytes_of_a_coloured_input(rt: HostRuntime) -> Result<(), Fail> {
+    let alloc = rt.alloc();
+    let text =
+        "param N; param long_name; image r,g,b(1,1); func f(x in [0..0], y in [0..0]) { else : r(x,y); } output f max 1;";
+    let values = [("long_name", 300), ("N", -2)];
+    let job = job_of(alloc, text, &values, b"P3 1 1 256 1 256 3", (3, 1024))?;
+    assert_eq!(rt;
+        hex::encode(alloc, job.input_bytes(alloc)?.as_slice())?.as_str(),
+        "5054493100000003000004000002014efffffffe096c6f6e675f6e616d650000012c50360a3120310a3235360a000101000003"
+    );
+    assert_eq!(rt;
+        format!(in alloc; "{}", job.input_id())?.as_str(),
+        "f115d67296cc102105aa0ad5d7603a20589441fed23c4cfa1b1e9fa2b141c52b"
+    );
+    assert_eq!(rt;
+        format!(in alloc; "{}", job.program_id())?.as_str(),
+        "902fce8bccc9519eab9136ccd6bdeeefe2475d01905a7a71de27b871bc200a7f"
+    );
+    Ok(())
+}
+
+#[test]
+fn keys_of_tiles(rt: HostRuntime) -> Result<(), Fail> {
+    let alloc = rt.alloc();
+    let job = job_of(alloc, COPY, &[], b"P2 3 2 255 1 2 3 4 5 6", (1, 2))?;
+    let Some(last) = job.key(1, 1, 1) else {
+        return Err(Fail::new("no key"));
+    };
+    assert_eq!(rt; last.program, job.program_id());
+    assert_eq!(rt; last.input, job.input_id());
+    assert_eq!(rt; (last.stage, last.row, last.col), (1, 1, 1));
+    assert_eq!(rt; job.key(1, 2, 0), None);
+    assert_eq!(rt; job.key(1, 0, 2), None);
+    assert_eq!(rt; job.key(0, 0, 0), None);
+    assert_eq!(rt; job.key(2, 0, 0), None);
+    match job.key(1, 1, 0) {
+        Some(before) => assert!(rt; before < last),
+        None => return Err(Fail::new("no key")),
+    }
+    Ok(())
+}
+
+// A key whose identities are these bytes, each 32 times.
+fn key_of(program: u8, input: u8, place: (u16, u32, u32)) -> Key {
+    Key {
+        program: ProgramId::new([program; 32]),
+        input: InputId::new([input; 32]),
+        stage: place.0,
+        row: place.1,
+        col: place.2,
+    }
+}
+
+#[test]
+fn fields_of_keys_in_order(rt: HostRuntime) -> Result<(), Fail> {
+    let rising = [
+        key_of(1, 200, (9, 9, 9)),
+        key_of(2, 3, (9, 9, 9)),
+        key_of(2, 129, (1, 9, 9)),
+        key_of(2, 129, (256, 0, 9)),
+        key_of(2, 129, (256, 1, 0)),
+        key_of(2, 129, (256, 1, 1)),
+    ];
+    for number in 1..6usize {
+        assert!(rt; rising[number - 1] < rising[number]);
+    }
+    assert_eq!(rt; key_of(1, 2, (3, 4, 5)), key_of(1, 2, (3, 4, 5)));
+    Ok(())
+}
