@@ -22,3 +22,4 @@ pub mod Readying
 pub mod SmallLaws
 pub mod SmallSettings
 pub mod KeyLaws
+pub mod InputLaws

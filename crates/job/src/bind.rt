@@ -32,6 +32,7 @@ use domains::TileSides;
 use netpbm::Picture;
 use pipe_checks::{BoundFault, Checked, Params, bounds};
 use pipe_lang::{Image, Tree};
+use pipe_print::print;
 use std::alloc::{AllocError, Global};
 
 /// A job without its picture.
@@ -122,15 +123,23 @@ fn bound_parts(
     }
 }
 
-// The identity of the program, and of what it is given.
-fn identities(alloc: Global, tree: &Tree, draft: &Draft) -> Result<(ProgramId, InputId), AllocError>
-    ensures { IfOk result (λ ids. (ids.0 ≡ sha256 (canonical (content tree.now))) × (ids.1 ≡ input_id (pipeline_of draft.now))) }
+// The canonical text of a program, its identity, and that of what the program is given.
+fn identities(
+    alloc: Global,
+    tree: &Tree,
+    draft: &Draft,
+) -> Result<(Vec<u8>, ProgramId, InputId), AllocError>
+    ensures text { IfOk result (λ ids. ids.0.items ≡ canonical (content tree.now)) }
+    ensures program { IfOk result (λ ids. ids.1 ≡ sha256 ids.0.items) }
+    ensures input { IfOk result (λ ids. ids.2 ≡ input_id (pipeline_of draft.now)) }
 {
-    Ok((program_id(alloc, tree)?, input_id(alloc, draft)?))
+    let text = print(alloc, tree)?;
+    let program = program_id(&text);
+    Ok((text, program, input_id(alloc, draft)?))
 }
 
 impl Job {
-    ghost use Rattle.job.specs.Kept.{pipeline_in, program_id_in};
+    ghost use Rattle.job.specs.Kept.{pipeline_in, program_text_in, program_id_in};
 
     /// The job that a program is at the values of its parameters, for a picture and the sides of tiles; a parameter without
     /// a value is a side of the picture where an extent is this parameter alone. Else the first fault, in the order of
@@ -145,6 +154,7 @@ impl Job {
         ensures ok { IfOk result (λ job. IsBound (content (tree_in checked)) (program_of checked params.now) picture sides (pipeline_in job)) }
         ensures job { IfOk result (λ job. IsJob (pipeline_in job)) }
         ensures says { IfOk result (λ job. map (λ s. s.name) params.now ≡ map (λ d. d.name) (params_in checked) → IsJobOf (content (tree_in checked)) params.now picture sides (pipeline_in job)) }
+        ensures text { IfOk result (λ job. program_text_in job ≡ canonical (content (tree_in checked))) }
         ensures program { IfOk result (λ job. program_id_in job ≡ sha256 (canonical (content (tree_in checked)))) }
         ensures back { IfErr result (λ e. (e.0 ≡ checked) × (e.1 ≡ picture)) }
         ensures fault { IfErr result (λ e. IsBindFault (content (tree_in checked)) (program_of checked params.now) picture sides e.2) }
@@ -162,8 +172,9 @@ impl Job {
                 match draft.size_fault() {
                     Some(fault) => Err((checked, draft.picture, fault)),
                     None => match identities(alloc, checked.tree(), &draft) {
-                        Ok((program, input)) => Ok(Job {
+                        Ok((text, program, input)) => Ok(Job {
                             draft,
+                            text,
                             program,
                             input,
                         }),

@@ -4,8 +4,6 @@
 ghost use Rattle.std.specs.Prelude.{◌≡◌, ◌++◌, IfOk, OnOk};
 ghost use Rattle.std.specs.Int.{w16, to_be_bytes};
 ghost use Rattle.sha2.specs.Sha256.{sha256};
-ghost use Rattle.pipe_lang.specs.Tree.{content};
-ghost use Rattle.pipe_print.specs.Canonical.{canonical};
 ghost use Rattle.job.specs.Identity.{parameter_bytes, settings_bytes, input_bytes, input_id};
 ghost use Rattle.job.specs.Views.{parameter_view, pipeline_of};
 
@@ -13,17 +11,14 @@ use crate::draft::Draft;
 use crate::identity::{InputId, ProgramId};
 use crate::outputs::Parameter;
 use netpbm::{hash_raw, raw};
-use pipe_lang::Tree;
-use pipe_print::print;
 use sha2::{Digest, Sha256};
 use std::alloc::{AllocError, Global};
 
-/// The identity of a program.
-pub(crate) fn program_id(alloc: Global, tree: &Tree) -> Result<ProgramId, AllocError>
-    ensures { IfOk result (λ id. id ≡ sha256 (canonical (content tree.now))) }
+/// The identity of the program of this canonical text.
+pub(crate) fn program_id(text: &[u8]) -> ProgramId
+    ensures { result ≡ sha256 text.now }
 {
-    let text = print(alloc, tree)?;
-    Ok(ProgramId::new(Sha256::digest(text.as_slice())))
+    ProgramId::new(Sha256::digest(text))
 }
 
 /// The identity of what a program is given. The picture is hashed piece by piece.

@@ -3,6 +3,7 @@
 
 ghost use Rattle.std.specs.Prelude.{◌≡◌, ◌↔◌, map, slice_get, IsSome, IfSome, IfOk};
 ghost use Rattle.std.specs.Option.{option_map};
+ghost use Rattle.sha2.specs.Sha256.{sha256};
 ghost use Rattle.job.specs.Identity.{input_bytes, input_id, HasTileAt};
 ghost use Rattle.job.specs.Readers.{kind_of, grid_at, stage_fold, stage_bins};
 ghost use Rattle.job.specs.Views.{stage_view, output_view, parameter_view, pipeline_of};
@@ -23,8 +24,10 @@ use std::alloc::{AllocError, Global};
 #[derive(Debug, Drop)]
 pub struct Job {
     pub(crate) draft: Draft,
+    pub(crate) text: Vec<u8>,
     pub(crate) program: ProgramId,
     pub(crate) input: InputId,
+    ghost named: { program ≡ sha256 text.items },
     ghost hashed: { input ≡ input_id (pipeline_of draft) },
 }
 
@@ -38,7 +41,7 @@ pub enum StageKind {
 }
 
 impl Job {
-    ghost use Rattle.job.specs.Kept.{pipeline_in, program_id_in};
+    ghost use Rattle.job.specs.Kept.{pipeline_in, program_text_in, program_id_in};
 
     /// The stages, in the order in which the text declares their names. A stage's number is its place here.
     pub fn stages(&self) -> &[Stage]
@@ -151,7 +154,14 @@ impl Job {
             None => None,
         }
     }
-    /// The identity of the program.
+    /// The canonical text of the program.
+    pub fn program_text(&self) -> &[u8]
+        ensures { result.now ≡ program_text_in self.now }
+    {
+        &self.text
+    }
+
+    /// The identity of the program: the digest of its canonical text.
     pub fn program_id(&self) -> ProgramId
         ensures { result ≡ program_id_in self.now }
     {

@@ -15,8 +15,8 @@ ghost use Rattle.job.specs.Reads.{EachRead, BodyReads, SameAt, AgreeOver, stage_
 ghost use Rattle.pipe_checks.specs.Boxes.{IsCutArea};
 ghost use Rattle.job.specs.Boxes.{BoundsHold, AreBoxed, box_of};
 ghost use Rattle.job.specs.Totals.{body_totals, total_of, joined, totals_over, totals};
-ghost use Rattle.job.specs.WellFormed.{IsReadable, IsJob, Solves};
-ghost use Rattle.job.specs.Identity.{key_cmp};
+ghost use Rattle.job.specs.WellFormed.{IsReadable, IsJob, IsSmall, Solves};
+ghost use Rattle.job.specs.Identity.{input_bytes, key_cmp};
 
 use crate::identity::Key;
 use std::cmp::Ordering;
@@ -64,6 +64,12 @@ pub fn totals_join()
 pub fn boxes_are_cut_by_bounds()
     ensures cut { (domain : Area) (tests : List Test) → IsCutArea (BoundsHold tests) domain (box_of domain tests) }
     ensures area { (domain box : Area) (tests : List Test) → IsArea domain → box_of domain tests ≡ Some box → IsArea box }
+{}
+
+/// Equal bytes are of one input: the sides of the tiles, the parameters and the picture are the same. There are few parameters, as
+/// in a text.
+pub fn one_input()
+    ensures { (a b : Pipeline) → IsJob a → IsJob b → IsSmall a → IsSmall b → input_bytes a ≡ input_bytes b → (a.sides ≡ b.sides) × (a.params ≡ b.params) × (a.picture ≡ b.picture) }
 {}
 
 /// Keys are in the order of their fields, which is a total one, and equal keys are one.
