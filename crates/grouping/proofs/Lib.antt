@@ -1,0 +1,17 @@
+pub mod Areas
+pub mod Lists
+pub mod Stages
+pub mod Falling
+pub mod Sorting
+pub mod Rule
+pub mod Walking
+pub mod Hulls
+pub mod Images
+pub mod Needs
+pub mod Ordering
+pub mod Tiles
+pub mod Counting
+pub mod Costing
+pub mod Scheduling
+pub mod Alone
+pub mod Inside

@@ -1,0 +1,6 @@
+use Rattle.job.proofs.Solving.{ranked_is}
+use Rattle.grouping.proofs.Rule.{box_follows}
+use Rattle.grouping.proofs.laws.boxes_follow_the_rule.Goals as goal
+
+pub returns : goal.returns
+returns c = λ t g job. box_follows t g (ranked_is t.job job)

@@ -1,0 +1,5 @@
+use Rattle.grouping.proofs.Needs.{has_what_it_reads}
+use Rattle.grouping.proofs.laws.boxes_hold_what_is_read.Goals as goal
+
+pub returns : goal.returns
+returns c = has_what_it_reads

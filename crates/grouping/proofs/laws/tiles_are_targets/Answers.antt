@@ -1,0 +1,5 @@
+use Rattle.grouping.proofs.Tiles.{tile_is_target}
+use Rattle.grouping.proofs.laws.tiles_are_targets.Goals as goal
+
+pub returns : goal.returns
+returns c = tile_is_target

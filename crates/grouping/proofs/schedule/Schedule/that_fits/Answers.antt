@@ -1,0 +1,12 @@
+use Rattle.std.proofs.Common.{subst, sym}
+use Rattle.job.specs.Kept.{pipeline_in}
+use Rattle.grouping.specs.Schedules.{IsSchedule}
+use Rattle.grouping.specs.Inlining.{StoresOutputs}
+use Rattle.grouping.proofs.Scheduling.{asked_is}
+use Rattle.grouping.proofs.schedule.Schedule.that_fits.Goals as goal
+
+pub with_room-requires-clause-schedule : goal.with_room-requires-clause-schedule
+with_room-requires-clause-schedule c =
+    let job = pipeline_in c.args.job.now in
+    let stored : StoresOutputs job c.in_ok-flags.flags = c.in-None.ensures.none in
+    subst (IsSchedule job) (sym c.in_ok-flags.ensures) (asked_is job c.args.chosen (subst (StoresOutputs job) c.in_ok-flags.ensures stored))

@@ -1,0 +1,44 @@
+-- A schedule as contracts see it: a flag for each stage, whether it is inlined, and what each stage costs.
+use Rattle.std.specs.Prelude.{ℕ, ◌<◌, ◌≡◌, Bool, true, false, ◌&&◌, not, Option, Some, List, map, length, slice_get}
+use Rattle.std.specs.List.{range_with_len}
+use Rattle.job.specs.Pipeline.{Stage, Pipeline}
+use Rattle.job.specs.Answers.{has_tiles, is_output}
+use Rattle.grouping.specs.Schedules.{is_inlined, IsSchedule, flags_for}
+use Rattle.grouping.specs.Costs.{cost, FitsScratch}
+use Rattle.grouping.specs.declared.fault.ScheduleFault.{ScheduleFault}
+use Rattle.grouping.specs.declared.fault.ScheduleFault.TheVariants.{OutputInlined, Memory}
+
+pub record Inlining : Type 0 where
+  pub flags : List Bool
+  pub costs : List (Option ℕ)
+
+-- what each stage of the job costs
+abbrev pub costs_of : Pipeline → List Bool → List (Option ℕ)
+costs_of job flags = map (cost job flags) (range_with_len 0 (length job.stages))
+
+-- its flags are a schedule of the job, and its costs are the job's
+pub record IsScheduleOf (job : Pipeline) (s : Inlining) : Type 0 where
+  pub flags : IsSchedule job s.flags
+  pub costs : s.costs ≡ costs_of job s.flags
+
+-- no tile of a stage that has a cost has more in scratch memory than there may be
+abbrev pub AllFitScratch : Pipeline → List Bool → Type 0
+AllFitScratch job flags =
+    (g : ℕ) (s : Stage) → slice_get job.stages g ≡ Some s → (has_tiles s.body && not (is_inlined flags g)) ≡ true → FitsScratch job flags g s
+
+-- ---- outputs
+
+-- no output is inlined
+abbrev pub StoresOutputs : Pipeline → List Bool → Type 0
+StoresOutputs job flags = (g : ℕ) → is_inlined flags g ≡ true → is_output job g ≡ false
+
+-- stage g is the least output that is inlined
+pub record IsInlinedOutput (job : Pipeline) (flags : List Bool) (g : ℕ) : Type 0 where
+  pub inlined : is_inlined flags g ≡ true
+  pub output : is_output job g ≡ true
+  pub least : (k : ℕ) → k < g → is_inlined flags k ≡ true → is_output job k ≡ false
+
+-- why the flags that are asked for make no schedule
+abbrev pub IsScheduleFault : Pipeline → List Bool → ScheduleFault → Type 0
+IsScheduleFault job asked (OutputInlined g) = IsInlinedOutput job (flags_for job asked) g
+IsScheduleFault job asked Memory = Unit {0}

@@ -1,0 +1,9 @@
+pub mod Order
+pub mod Schedules
+pub mod Demands
+pub mod Targets
+pub mod Walks
+pub mod Costs
+pub mod Inlining
+pub mod Faults
+pub mod Tallies

@@ -1,0 +1,61 @@
+-- How costs are added up, a tile at a time.
+use Rattle.std.specs.Prelude.{ℕ, Bool, true, ◌&&◌, not, nat_le, if◌then◌else◌, Option, List, map, slice_get}
+use Rattle.std.specs.List.{sum, flat_map, range_with_len, list_all}
+use Rattle.std.specs.Option.{option_map_or}
+use Rattle.domains.specs.Area.{point_count}
+use Rattle.domains.specs.Tiles.{tile_area, tile_rows, tile_cols}
+use Rattle.domains.specs.declared.area.Area.{Area}
+use Rattle.domains.specs.declared.grid.Grid.{Grid}
+use Rattle.job.specs.Pipeline.{Pipeline, Stage}
+use Rattle.job.specs.Reads.{Read, stage_read}
+use Rattle.job.specs.Answers.{grid_of, has_tiles}
+use Rattle.grouping.specs.Schedules.{is_inlined}
+use Rattle.grouping.specs.Targets.{Target, is_boxed, box}
+use Rattle.grouping.specs.Costs.{points, scratch, most_scratch}
+
+-- the areas of the tiles in one row, of so many columns, and in all rows
+abbrev pub row_areas : Grid → ℕ → ℕ → List Area
+row_areas g i cols = map (λ j. tile_area g i j) (range_with_len 0 cols)
+
+abbrev pub areas_of_tiles : Grid → List Area
+areas_of_tiles g = flat_map (λ i. row_areas g i (tile_cols g)) (range_with_len 0 (tile_rows g))
+
+-- the same stage over another region
+abbrev pub over : Target → Area → Target
+over t a = record { job = t.job; flags = t.flags; stage = t.stage; region = a }
+
+-- the points of a stage's box that lie in scratch memory
+abbrev pub inner_points : Target → ℕ → ℕ
+inner_points t g = if is_inlined t.flags g && is_boxed t g then option_map_or point_count (box t g) 0 else 0
+
+-- the points over several regions, and whether there is room in scratch memory for each
+abbrev pub points_over : Target → List Area → ℕ
+points_over t areas = sum (map (λ a. points (over t a)) areas)
+
+abbrev pub has_scratch : Target → Bool
+has_scratch t = nat_le (scratch t) most_scratch
+
+abbrev pub all_have_scratch : Target → List Area → Bool
+all_have_scratch t areas = list_all (λ a. has_scratch (over t a)) areas
+
+-- ---- stages
+
+-- a stage over its domain
+abbrev pub whole : Pipeline → List Bool → ℕ → Stage → Target
+whole job flags g s = record { job = job; flags = flags; stage = g; region = s.domain }
+
+-- whether a stage has a cost
+abbrev pub has_cost : List Bool → ℕ → Stage → Bool
+has_cost flags g s = has_tiles s.body && not (is_inlined flags g)
+
+-- whether there is room for each tile of a stage, if it has a cost
+abbrev pub stage_fits : Pipeline → List Bool → ℕ → Option Stage → Bool
+stage_fits job flags g s =
+    option_map_or (λ s. if has_cost flags g s then all_have_scratch (whole job flags g s) (areas_of_tiles (grid_of job s)) else true) s true
+
+abbrev pub all_stages_fit : Pipeline → List Bool → List ℕ → Bool
+all_stages_fit job flags gs = list_all (λ g. stage_fits job flags g (slice_get job.stages g)) gs
+
+-- whether none of what is read is inlined
+abbrev pub reads_stored : List Bool → List Read → Bool
+reads_stored flags reads = list_all (λ x. not (is_inlined flags (stage_read x))) reads

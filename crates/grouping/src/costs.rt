@@ -1,0 +1,272 @@
+#![tactic(auto)]
+//! What stages cost: how many points are computed for their tiles.
+
+ghost use Rattle.std.specs.Prelude.{◌≡◌, ◌<◌, ◌+◌, ◌++◌, ◌&&◌, ℕ, true, [], ◌∷◌, map, nat_le, slice_get, All, IfOk, OnOk};
+ghost use Rattle.std.specs.Option.{option_map, option_map_or};
+ghost use Rattle.std.specs.List.{sum};
+ghost use Rattle.domains.specs.Tiles.{tile_rows, tile_cols};
+ghost use Rattle.job.specs.Kept.{pipeline_in};
+ghost use Rattle.job.specs.Views.{stage_view};
+ghost use Rattle.job.specs.Reads.{stage_read, reads_of};
+ghost use Rattle.job.specs.ReadViews.{read_view};
+ghost use Rattle.job.specs.WellFormed.{IsJob};
+ghost use Rattle.grouping.specs.Order.{in_order};
+ghost use Rattle.grouping.specs.Targets.{IsTarget, box};
+ghost use Rattle.grouping.specs.Walks.{target_of, cut_hull};
+ghost use Rattle.grouping.specs.Costs.{scratch, most_scratch, cost};
+ghost use Rattle.grouping.specs.Inlining.{AllFitScratch, costs_of};
+ghost use Rattle.grouping.specs.Tallies.{row_areas, areas_of_tiles, over, inner_points, points_over, all_have_scratch, stage_fits, reads_stored};
+
+use crate::flags::Flags;
+use crate::order::in_order;
+use crate::target::Site;
+use domains::{Area, Grid};
+use job::{Job, Read, Stage};
+use std::alloc::{AllocError, Global};
+
+/// The most points that a tile may have in scratch memory.
+pub const MOST_SCRATCH: u64 = 67_108_864;
+
+// Puts the areas of the tiles in row `i` behind others.
+#[tactic(auto, using(crate::proofs::Costing::row_more))]
+fn add_row(areas: &mut Vec<Area>, grid: &Grid, i: u32) -> Result<(), AllocError>
+    requires { i < tile_rows grid.now }
+    ensures { OnOk result (areas.new.items ≡ areas.old.items ++ row_areas grid.now i (tile_cols grid.now)) }
+{
+    for j in 0..grid.tile_cols() {
+        if let Some(area) = grid.tile(i, j) {
+            areas.push(area)?;
+        }
+    }
+    Ok(())
+}
+
+/// The areas of a grid's tiles, row by row.
+#[tactic(auto, using(crate::proofs::Lists::flat_map_range_more))]
+pub(crate) fn areas_of_tiles(alloc: Global, grid: &Grid) -> Result<Vec<Area>, AllocError>
+    ensures { IfOk result (λ areas. areas.items ≡ areas_of_tiles grid.now) }
+{
+    let mut areas = Vec::new(alloc);
+    for i in 0..grid.tile_rows() {
+        add_row(&mut areas, grid, i)?;
+    }
+    Ok(areas)
+}
+
+/// How many points some tiles take together, and whether each has room in scratch memory.
+#[derive(Clone, Copy)]
+pub(crate) struct Tally {
+    pub(crate) points: u64,
+    pub(crate) fits: bool,
+}
+
+impl Tally {
+    // One more tile, with so many points in scratch memory and so many of its own.
+    fn with(self, scratch: u64, own: u64) -> Result<Tally, AllocError>
+        ensures points { IfOk result (λ t. t.points ≡ self.points + (scratch + own)) }
+        ensures fits { IfOk result (λ t. t.fits ≡ (self.fits && nat_le scratch most_scratch)) }
+    {
+        let both = scratch.checked_add(own).ok_or(AllocError)?;
+        let points = self.points.checked_add(both).ok_or(AllocError)?;
+        let fits = self.fits && scratch <= MOST_SCRATCH;
+        Ok(Tally { points, fits })
+    }
+}
+
+impl<'a> Site<'a> {
+    // The same stage over another region.
+    fn over(&self, region: Area) -> Site<'a>
+        ensures { target_of result ≡ over (target_of self.now) region }
+    {
+        Site {
+            job: self.job,
+            schedule: self.schedule,
+            stage: self.stage,
+            region,
+        }
+    }
+}
+
+impl Site<'_> {
+    fn inner_points(&self, hulls: &[Option<Area>], number: usize) -> u64
+        requires job { IsJob (pipeline_in self.now.job.now) }
+        requires boxes { (g : ℕ) → cut_hull (pipeline_in self.now.job.now).stages hulls.now g ≡ box (target_of self.now) g }
+        ensures { result ≡ inner_points (target_of self.now) number }
+    {
+        if self.schedule.inlined(number) && self.is_boxed(number) {
+            match self.box_of(hulls, number) {
+                Some(area) => area.points(),
+                None => 0,
+            }
+        } else {
+            0
+        }
+    }
+
+    fn inner_sum(&self, hulls: &[Option<Area>], numbers: &[usize]) -> Result<u64, AllocError>
+        requires job { IsJob (pipeline_in self.now.job.now) }
+        requires boxes { (g : ℕ) → cut_hull (pipeline_in self.now.job.now).stages hulls.now g ≡ box (target_of self.now) g }
+        ensures { IfOk result (λ n. n ≡ sum (map (inner_points (target_of self.now)) numbers.now)) }
+    {
+        let mut total: u64 = 0;
+        for number in numbers {
+            let points = self.inner_points(hulls, *number);
+            total = total.checked_add(points).ok_or(AllocError)?;
+        }
+        Ok(total)
+    }
+
+    // The points of the boxes of what is inlined.
+    fn scratch(&self, alloc: Global, order: &[usize]) -> Result<u64, AllocError>
+        requires job { IsJob (pipeline_in self.now.job.now) }
+        requires target { IsTarget (target_of self.now) }
+        requires order { order.now ≡ in_order (pipeline_in self.now.job.now).stages }
+        ensures { IfOk result (λ n. n ≡ scratch (target_of self.now)) }
+    {
+        let hulls = self.hulls(alloc, order)?;
+        self.inner_sum(&hulls, order)
+    }
+
+    // The points of the boxes of what is inlined; none of a stage that reads nothing of it.
+    fn scratch_unless(
+        &self,
+        alloc: Global,
+        order: &[usize],
+        is_alone: bool,
+    ) -> Result<u64, AllocError>
+        requires job { IsJob (pipeline_in self.now.job.now) }
+        requires target { IsTarget (target_of self.now) }
+        requires order { order.now ≡ in_order (pipeline_in self.now.job.now).stages }
+        requires alone { is_alone ≡ true → scratch (target_of self.now) ≡ 0 }
+        ensures { IfOk result (λ n. n ≡ scratch (target_of self.now)) }
+    {
+        if is_alone {
+            Ok(0)
+        } else {
+            self.scratch(alloc, order)
+        }
+    }
+
+    // What the stage takes over each of these areas.
+    #[tactic(auto, using(crate::proofs::Costing::points_is))]
+    fn tally(
+        &self,
+        alloc: Global,
+        order: &[usize],
+        areas: &[Area],
+        is_alone: bool,
+    ) -> Result<Tally, AllocError>
+        requires job { IsJob (pipeline_in self.now.job.now) }
+        requires targets { All (λ a. IsTarget (over (target_of self.now) a)) areas.now }
+        requires order { order.now ≡ in_order (pipeline_in self.now.job.now).stages }
+        requires alone { is_alone ≡ true → (a : Area) → scratch (over (target_of self.now) a) ≡ 0 }
+        ensures points { IfOk result (λ t. t.points ≡ points_over (target_of self.now) areas.now) }
+        ensures fits { IfOk result (λ t. t.fits ≡ all_have_scratch (target_of self.now) areas.now) }
+    {
+        let mut tally = Tally {
+            points: 0,
+            fits: true,
+        };
+        for area in areas {
+            let site = self.over(*area);
+            let scratch = site.scratch_unless(alloc, order, is_alone)?;
+            tally = tally.with(scratch, area.points())?;
+        }
+        Ok(tally)
+    }
+}
+
+// Whether a stage reads nothing that is inlined.
+fn reads_stored(alloc: Global, flags: &Flags, stage: &Stage) -> Result<bool, AllocError>
+    ensures { IfOk result (λ b. b ≡ reads_stored flags.now (reads_of (stage_view stage.now).body)) }
+{
+    let reads = stage.reads(alloc)?;
+    for read in reads.iter() {
+        if flags.inlined(stage_of(read)) {
+            return Ok(false);
+        }
+    }
+    Ok(true)
+}
+
+/// The stage that is read.
+pub(crate) fn stage_of(read: &Read) -> usize
+    ensures { result ≡ stage_read (read_view read.now) }
+{
+    match read {
+        Read::Point(stage, _, _) | Read::Window(stage, _) => *stage,
+    }
+}
+
+/// What the tiles of a stage take, if it has a cost.
+pub(crate) fn tally_of(
+    alloc: Global,
+    job: &Job,
+    flags: &Flags,
+    order: &[usize],
+    number: usize,
+) -> Result<Option<Tally>, AllocError>
+    requires job { IsJob (pipeline_in job.now) }
+    requires order { order.now ≡ in_order (pipeline_in job.now).stages }
+    ensures cost { IfOk result (λ t. option_map (λ t. t.points) t ≡ cost (pipeline_in job.now) flags.now number) }
+    ensures fits { IfOk result (λ t. option_map_or (λ t. t.fits) t true ≡ stage_fits (pipeline_in job.now) flags.now number (slice_get (pipeline_in job.now).stages number)) }
+{
+    if flags.inlined(number) {
+        return Ok(None);
+    }
+    let Some(grid) = job.grid(number) else {
+        return Ok(None);
+    };
+    let Some(stage) = job.stage(number) else {
+        return Ok(None);
+    };
+    let is_alone = reads_stored(alloc, flags, stage)?;
+    let areas = areas_of_tiles(alloc, &grid)?;
+    let site = Site {
+        job,
+        schedule: flags,
+        stage: number,
+        region: grid.area,
+    };
+    Ok(Some(site.tally(alloc, order, &areas, is_alone)?))
+}
+
+/// What the stages of a job cost, and whether each of their tiles has room in scratch memory.
+#[derive(Drop)]
+pub(crate) struct Survey {
+    pub(crate) costs: Vec<Option<u64>>,
+    pub(crate) fits: bool,
+}
+
+impl Survey {
+    fn add(&mut self, tally: Option<Tally>) -> Result<(), AllocError>
+        ensures costs { OnOk result (self.new.costs.items ≡ self.old.costs.items ++ option_map (λ t. t.points) tally ∷ []) }
+        ensures fits { OnOk result (self.new.fits ≡ (self.old.fits && option_map_or (λ t. t.fits) tally true)) }
+    {
+        match tally {
+            Some(tally) => {
+                self.costs.push(Some(tally.points))?;
+                self.fits = self.fits && tally.fits;
+            }
+            None => self.costs.push(None)?,
+        }
+        Ok(())
+    }
+}
+
+/// What each stage costs.
+pub(crate) fn costs_of(alloc: Global, job: &Job, flags: &Flags) -> Result<Survey, AllocError>
+    requires { IsJob (pipeline_in job.now) }
+    ensures costs { IfOk result (λ s. s.costs.items ≡ costs_of (pipeline_in job.now) flags.now) }
+    ensures fits { IfOk result (λ s. s.fits ≡ true → AllFitScratch (pipeline_in job.now) flags.now) }
+{
+    let order = in_order(alloc, job.stages())?;
+    let mut survey = Survey {
+        costs: Vec::new(alloc),
+        fits: true,
+    };
+    for number in 0..job.stages().len() {
+        survey.add(tally_of(alloc, job, flags, &order, number)?)?;
+    }
+    Ok(survey)
+}

@@ -1,0 +1,196 @@
+#![tactic(auto)]
+//! What stages demand of others.
+
+ghost use Rattle.std.specs.Prelude.{◌≡◌, ◌≤◌, ◌≤ℤ◌, ◌+ℤ◌, ◌-ℤ◌, pos, negsuc, map, All, IfSome, length};
+ghost use Rattle.std.specs.List.{flat_map};
+ghost use Rattle.std.specs.Option.{option_map, ForSome};
+ghost use Rattle.domains.specs.Index.{image_of};
+ghost use Rattle.job.specs.Reads.{window, formulas_of};
+ghost use Rattle.job.specs.Values.{factors};
+ghost use Rattle.job.specs.Views.{formula_view, piece_view, body_view};
+ghost use Rattle.job.specs.WellFormed.{IsNear, IsKernel, IsFormula};
+ghost use Rattle.grouping.specs.Demands.{meet_of_areas, widened, image_under, grown_by, formula_demands, piece_demands, other_demands, body_demands};
+ghost use Rattle.grouping.specs.Walks.{IsNearArea, demanded, demanded_all};
+
+use domains::{Area, Index, Span};
+use job::{Body, Formula, Function, Kernel, Piece};
+
+/// What two areas have in common, if they meet.
+pub(crate) fn common(one: &Area, other: &Area) -> Option<Area>
+    ensures is { result ≡ meet_of_areas one.now other.now }
+    ensures near { IsNearArea other.now → IfSome result IsNearArea }
+{
+    let rows = one.rows.meet(&other.rows)?;
+    let cols = one.cols.meet(&other.cols)?;
+    Some(Area { rows, cols })
+}
+
+// The number so many below.
+#[tactic(auto, using(std::proofs::lemmas::Int::ints))]
+fn below(v: i32, by: usize) -> i32
+    requires few { by ≤ 7 }
+    requires least { negsuc 16383 ≤ℤ v }
+    requires most { v ≤ℤ pos 16384 }
+    ensures { result ≡ v -ℤ pos by }
+{
+    v - by as i32
+}
+
+// The number so many above.
+#[tactic(auto, using(std::proofs::lemmas::Int::ints))]
+fn above(v: i32, by: usize) -> i32
+    requires few { by ≤ 7 }
+    requires least { negsuc 16383 ≤ℤ v }
+    requires most { v ≤ℤ pos 16384 }
+    ensures { result ≡ v +ℤ pos by }
+{
+    v + by as i32
+}
+
+// So many numbers more on each side.
+fn widened(span: &Span, by: usize) -> Span
+    requires near { IsNear span.now }
+    requires few { by ≤ 7 }
+    ensures { result ≡ widened by span.now }
+{
+    match Span::new(below(span.lo(), by), above(span.hi(), by)) {
+        Some(wide) => wide,
+        None => unreachable!(),
+    }
+}
+
+fn image_of_point(row: &Index, column: &Index, region: &Area) -> Area
+    requires { IsNearArea region.now }
+    ensures { result ≡ record { rows = image_of row.now region.now.rows; cols = image_of column.now region.now.cols } }
+{
+    Area {
+        rows: row.image(&region.rows),
+        cols: column.image(&region.cols),
+    }
+}
+
+fn width(kernel: &Kernel) -> usize
+    requires { IsKernel kernel.now }
+    ensures { result ≡ length (factors kernel.now 0) }
+{
+    match kernel.rows().first() {
+        Some(row) => row.factors().len(),
+        None => 0,
+    }
+}
+
+fn image_of_kernel(kernel: &Kernel, region: &Area) -> Area
+    requires kernel { IsKernel kernel.now }
+    requires near { IsNearArea region.now }
+    ensures { result ≡ image_under (window 0 kernel.now) region.now }
+{
+    Area {
+        rows: widened(&region.rows, kernel.rows().len() / 2),
+        cols: widened(&region.cols, width(kernel) / 2),
+    }
+}
+
+// The hull of an area and of those before it.
+fn grown(hull: &Option<Area>, area: Area) -> Option<Area>
+    ensures { result ≡ grown_by hull.now area }
+{
+    match hull {
+        Some(hull) => Some(hull.hull(&area)),
+        None => Some(area),
+    }
+}
+
+fn demand(hulls: &mut [Option<Area>], stage: usize, area: Area)
+    ensures { hulls.new ≡ demanded hulls.old (record { stage = stage; area = area }) }
+{
+    if stage < hulls.len() {
+        hulls[stage] = grown(&hulls[stage], area);
+    }
+}
+
+/// Each read of a formula demands its image.
+fn demand_reads(hulls: &mut [Option<Area>], formula: &Formula, region: &Area)
+    requires formula { IsFormula (formula_view formula.now) }
+    requires near { IsNearArea region.now }
+    ensures { hulls.new ≡ demanded_all hulls.old (formula_demands (formula_view formula.now) region.now) }
+{
+    match formula {
+        Formula::Number(_) | Formula::Coordinate(_) => {}
+        Formula::Read(stage, row, column) => {
+            demand(hulls, *stage, image_of_point(row, column, region));
+        }
+        Formula::Neg(operand) | Formula::Abs(operand) | Formula::Literal(_, operand, _) => {
+            demand_reads(hulls, operand, region);
+        }
+        Formula::Binary(_, left, right) => {
+            demand_reads(hulls, left, region);
+            demand_reads(hulls, right, region);
+        }
+        Formula::Clamp(value, least, greatest) => {
+            demand_reads(hulls, value, region);
+            demand_reads(hulls, least, region);
+            demand_reads(hulls, greatest, region);
+        }
+        Formula::Select(left, _, right, then, otherwise) => {
+            demand_reads(hulls, left, region);
+            demand_reads(hulls, right, region);
+            demand_reads(hulls, then, region);
+            demand_reads(hulls, otherwise, region);
+        }
+        Formula::Stencil(stage, _, kernel) => {
+            demand(hulls, *stage, image_of_kernel(kernel, region));
+        }
+    }
+}
+
+// A piece demands what it reads where its box meets the region.
+fn demand_piece(hulls: &mut [Option<Area>], piece: &Piece, region: &Area)
+    requires formula { IsFormula (formula_view piece.now.formula) }
+    requires near { IsNearArea region.now }
+    ensures { hulls.new ≡ demanded_all hulls.old (piece_demands region.now (piece_view piece.now)) }
+{
+    if let Some(area) = piece.area() {
+        if let Some(meet) = common(area, region) {
+            demand_reads(hulls, piece.formula(), &meet);
+        }
+    }
+}
+
+fn demand_pieces(hulls: &mut [Option<Area>], pieces: &[Piece], region: &Area)
+    requires formulas { All IsFormula (map (λ p. p.formula) (map piece_view pieces.now)) }
+    requires near { IsNearArea region.now }
+    ensures { hulls.new ≡ demanded_all hulls.old (flat_map (piece_demands region.now) (map piece_view pieces.now)) }
+{
+    for piece in pieces {
+        demand_piece(hulls, piece, region);
+    }
+}
+
+fn demand_other(hulls: &mut [Option<Area>], otherwise: &Option<Formula>, region: &Area)
+    requires formula { ForSome (option_map formula_view otherwise.now) IsFormula }
+    requires near { IsNearArea region.now }
+    ensures { hulls.new ≡ demanded_all hulls.old (other_demands (option_map formula_view otherwise.now) region.now) }
+{
+    if let Some(formula) = otherwise {
+        demand_reads(hulls, formula, region);
+    }
+}
+
+/// What a stage demands over a region comes in.
+pub(crate) fn demand_all(hulls: &mut [Option<Area>], body: &Body, region: &Area)
+    requires formulas { All IsFormula (formulas_of (body_view body.now)) }
+    requires near { IsNearArea region.now }
+    ensures { hulls.new ≡ demanded_all hulls.old (body_demands (body_view body.now) region.now) }
+{
+    match body {
+        Body::Plane(_) => {}
+        Body::Function(function) => {
+            demand_pieces(hulls, function.pieces(), region);
+            demand_other(hulls, function.otherwise(), region);
+        }
+        Body::Accumulator(accumulator) => {
+            demand_reads(hulls, accumulator.value(), region);
+            demand_reads(hulls, accumulator.bin(), region);
+        }
+    }
+}

@@ -1,0 +1,58 @@
+//! What the definitions amount to, proved once for the crates above. A law is a function that does nothing: its clauses are the law.
+
+ghost use Rattle.std.specs.Prelude.{◌≡◌, ◌<◌, ◌↔◌, ℕ, Bool, Some, None, List, [], length, slice_get, All, AllPairs, Contains};
+ghost use Rattle.domains.specs.Area.{IsArea, IsSubarea, point_count};
+ghost use Rattle.domains.specs.Tiles.{HasTile, tile_area};
+ghost use Rattle.domains.specs.declared.area.Area.{Area};
+ghost use Rattle.domains.specs.declared.grid.Grid.{Grid};
+ghost use Rattle.job.specs.Pipeline.{Stage, Pipeline};
+ghost use Rattle.job.specs.Readers.{grid_at};
+ghost use Rattle.job.specs.Reads.{stage_read, reads_of, IsRanked};
+ghost use Rattle.job.specs.WellFormed.{IsJob};
+ghost use Rattle.grouping.specs.Costs.{scratch, points};
+ghost use Rattle.grouping.specs.Demands.{IsHullOfAll, hull_of_all};
+ghost use Rattle.grouping.specs.Order.{ComesBefore, in_order};
+ghost use Rattle.grouping.specs.Schedules.{all_stored};
+ghost use Rattle.grouping.specs.Targets.{Target, IsTarget, IsListed, HasWhatItReads, box_by, box, region, boxes};
+
+/// The box of a stage is the hull of what the stages in the target demand of it, each over its own region, cut to its domain.
+pub fn boxes_follow_the_rule()
+    ensures { (t : Target) (g : ℕ) → IsJob t.job → box t g ≡ box_by t (box t) g }
+{}
+
+/// Whatever a stage in a target reads at a point of its region lies in the box of what it reads.
+pub fn boxes_hold_what_is_read()
+    ensures { (t : Target) → IsJob t.job → IsTarget t → HasWhatItReads t }
+{}
+
+/// Dependence order has each stage once, by ranks, and by numbers where ranks are equal.
+pub fn dependence_order_has_each_stage()
+    ensures all { (stages : List Stage) (g : ℕ) → Contains (in_order stages) g ↔ (g < length stages) }
+    ensures order { (stages : List Stage) → AllPairs (ComesBefore stages) (in_order stages) }
+    ensures reads { (stages : List Stage) (g : ℕ) (s : Stage) → IsRanked stages → slice_get stages g ≡ Some s → All (λ x. ComesBefore stages (stage_read x) g) (reads_of s.body) }
+{}
+
+/// A hull is the least area that holds each of those that it is made of; there is one where these are any.
+pub fn hulls_are_least()
+    ensures some { (areas : List Area) (h : Area) → All IsArea areas → hull_of_all areas ≡ Some h → IsHullOfAll areas h }
+    ensures none { (areas : List Area) → hull_of_all areas ≡ None → areas ≡ [] }
+{}
+
+/// Each tile of a stage is a target.
+pub fn tiles_are_targets()
+    ensures { (job : Pipeline) (flags : List Bool) (g i j : ℕ) (grid : Grid) → IsJob job → grid_at job g ≡ Some grid → HasTile grid i j → IsTarget (record { job = job; flags = flags; stage = g; region = tile_area grid i j }) }
+{}
+
+/// Boxes, and the regions of all that is in a target, are areas that lie in the domains. What is listed are functions with
+/// their boxes.
+pub fn boxes_lie_in_domains()
+    ensures boxes { (t : Target) (g : ℕ) (s : Stage) (a : Area) → IsJob t.job → slice_get t.job.stages g ≡ Some s → box t g ≡ Some a → IsArea a × IsSubarea a s.domain }
+    ensures regions { (t : Target) (g : ℕ) (s : Stage) (a : Area) → IsJob t.job → IsTarget t → slice_get t.job.stages g ≡ Some s → region t g ≡ Some a → IsArea a × IsSubarea a s.domain }
+    ensures listed { (t : Target) → IsJob t.job → All (IsListed t) (boxes t) }
+{}
+
+/// Where nothing is inlined a target takes no scratch memory, and its own points alone.
+pub fn stored_stages_take_no_scratch()
+    ensures scratch { (t : Target) → t.flags ≡ all_stored t.job → scratch t ≡ 0 }
+    ensures points { (t : Target) → t.flags ≡ all_stored t.job → points t ≡ point_count t.region }
+{}

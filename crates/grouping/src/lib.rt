@@ -1,0 +1,16 @@
+//! Schedules: which functions of a job are inlined into the tiles that need them, and which area of each a tile needs.
+#![tactic(auto)]
+
+mod costs;
+mod demands;
+mod fault;
+mod flags;
+mod greedy;
+pub mod laws;
+mod order;
+mod schedule;
+mod target;
+
+pub use costs::MOST_SCRATCH;
+pub use fault::ScheduleFault;
+pub use schedule::Schedule;

@@ -1,0 +1,176 @@
+#![tactic(auto)]
+//! Which functions are inlined, and what that costs.
+
+ghost use Rattle.std.specs.Prelude.{◌≡◌, ◌≤◌, None, IfOk, IfErr, IfSome, length, slice_index_or};
+
+use crate::costs::costs_of;
+use crate::fault::ScheduleFault;
+use crate::flags::Flags;
+use crate::greedy::greedy_flags;
+use crate::target::Site;
+use domains::Area;
+use job::Job;
+use std::alloc::{AllocError, Global};
+use std::marker::Model;
+
+/// Which functions are inlined, and what the other functions and the accumulators cost. Contracts see both as lists.
+#[derive(Debug, Drop)]
+pub struct Schedule {
+    flags: Flags,
+    costs: Vec<Option<u64>>,
+}
+
+impl Model for Schedule {
+    ghost use Rattle.grouping.specs.Inlining.{Inlining};
+
+    ghost Value = { Inlining };
+
+    ghost view = { λ s. record { flags = s.flags; costs = s.costs.items } };
+}
+
+impl Schedule {
+    ghost use Rattle.job.specs.Kept.{pipeline_in};
+    ghost use Rattle.job.specs.WellFormed.{IsJob};
+    ghost use Rattle.grouping.specs.Schedules.{is_inlined, flags_for, all_stored, IsSchedule};
+    ghost use Rattle.grouping.specs.Targets.{IsTarget, boxes};
+    ghost use Rattle.grouping.specs.Inlining.{IsScheduleOf, IsScheduleFault, AllFitScratch};
+
+    /// The schedule that inlines nothing.
+    ///
+    /// # Errors
+    ///
+    /// Fails only where memory is refused, or where a cost has more than 64 bits; no program of 64 stages has such a cost.
+    pub fn stored(alloc: Global, job: &Job) -> Result<Schedule, AllocError>
+        requires { IsJob (pipeline_in job.now) }
+        ensures stored { IfOk result (λ s. s.flags ≡ all_stored (pipeline_in job.now)) }
+        ensures fits { IfOk result (λ s. AllFitScratch (pipeline_in job.now) s.flags) }
+        ensures schedule { IfOk result (IsScheduleOf (pipeline_in job.now)) }
+    {
+        let flags = Flags::all_stored(alloc, job)?;
+        let schedule = Schedule::with_costs(alloc, job, flags)?;
+        Ok(schedule)
+    }
+
+    /// The schedule that inlines the flagged functions. There is a flag for each stage; those of planes and accumulators
+    /// count as false.
+    ///
+    /// # Errors
+    ///
+    /// Names the least output that is flagged. Else fails only where memory is refused, or where a cost has more than 64
+    /// bits; no program of 64 stages has such a cost.
+    pub fn of(alloc: Global, job: &Job, flags: &[bool]) -> Result<Schedule, ScheduleFault>
+        requires job { IsJob (pipeline_in job.now) }
+        requires each { length flags.now ≡ length (pipeline_in job.now).stages }
+        ensures flags { IfOk result (λ s. s.flags ≡ flags_for (pipeline_in job.now) flags.now) }
+        ensures schedule { IfOk result (IsScheduleOf (pipeline_in job.now)) }
+        ensures fault { IfErr result (IsScheduleFault (pipeline_in job.now) flags.now) }
+    {
+        let asked = Flags::asked(alloc, job, flags)?;
+        match asked.first_output(job) {
+            Some(stage) => Err(ScheduleFault::OutputInlined(stage)),
+            None => Ok(Schedule::with_costs(alloc, job, asked)?),
+        }
+    }
+
+    /// The greedy schedule. Functions are visited from the last to the first in dependence order. One that is read, and is no
+    /// output, is inlined where one stored stage has all its readers in its tiles, has room for them in scratch memory, and
+    /// then takes at most `percent` percent more points than both take apart.
+    ///
+    /// # Errors
+    ///
+    /// Fails only where memory is refused, or where a cost has more than 64 bits; no program of 64 stages has such a cost.
+    pub fn greedy(alloc: Global, job: &Job, percent: u32) -> Result<Schedule, AllocError>
+        requires job { IsJob (pipeline_in job.now) }
+        requires percent { percent ≤ 10000 }
+        ensures schedule { IfOk result (IsScheduleOf (pipeline_in job.now)) }
+        ensures fits { IfOk result (λ s. AllFitScratch (pipeline_in job.now) s.flags) }
+    {
+        let chosen = greedy_flags(alloc, job, percent)?;
+        match Schedule::that_fits(alloc, job, chosen)? {
+            Some(schedule) => Ok(schedule),
+            None => Schedule::stored(alloc, job),
+        }
+    }
+
+    // The schedule of these flags, if it is one and its tiles have room.
+    fn that_fits(alloc: Global, job: &Job, chosen: Flags) -> Result<Option<Schedule>, AllocError>
+        requires { IsJob (pipeline_in job.now) }
+        ensures schedule { IfOk result (λ found. IfSome found (IsScheduleOf (pipeline_in job.now))) }
+        ensures fits { IfOk result (λ found. IfSome found (λ s. AllFitScratch (pipeline_in job.now) s.flags)) }
+    {
+        let flags = chosen.of_functions(alloc, job)?;
+        match flags.first_output(job) {
+            Some(_) => Ok(None),
+            None => Schedule::with_room(alloc, job, flags),
+        }
+    }
+
+    fn with_room(alloc: Global, job: &Job, flags: Flags) -> Result<Option<Schedule>, AllocError>
+        requires job { IsJob (pipeline_in job.now) }
+        requires schedule { IsSchedule (pipeline_in job.now) flags }
+        ensures schedule { IfOk result (λ found. IfSome found (IsScheduleOf (pipeline_in job.now))) }
+        ensures fits { IfOk result (λ found. IfSome found (λ s. AllFitScratch (pipeline_in job.now) s.flags)) }
+    {
+        let survey = costs_of(alloc, job, &flags)?;
+        if survey.fits {
+            let costs = survey.costs;
+            Ok(Some(Schedule { flags, costs }))
+        } else {
+            Ok(None)
+        }
+    }
+
+    fn with_costs(alloc: Global, job: &Job, flags: Flags) -> Result<Schedule, AllocError>
+        requires job { IsJob (pipeline_in job.now) }
+        requires schedule { IsSchedule (pipeline_in job.now) flags }
+        ensures flags { IfOk result (λ s. s.flags ≡ flags) }
+        ensures schedule { IfOk result (IsScheduleOf (pipeline_in job.now)) }
+    {
+        let costs = costs_of(alloc, job, &flags)?.costs;
+        Ok(Schedule { flags, costs })
+    }
+
+    /// Whether the stage of this number is inlined.
+    pub fn inlined(&self, stage: usize) -> bool
+        ensures { result ≡ is_inlined self.now.flags stage }
+    {
+        self.flags.inlined(stage)
+    }
+
+    /// How many points the tiles of a stored function or of an accumulator take together, with those of what is inlined in
+    /// them; none of other stages.
+    pub fn cost(&self, stage: usize) -> Option<u64>
+        ensures { result ≡ slice_index_or self.now.costs stage None }
+    {
+        match self.costs.as_slice().get(stage) {
+            Some(cost) => *cost,
+            None => None,
+        }
+    }
+
+    /// The functions of which a target needs something over a region of its domain, but the target itself, each with the
+    /// area that is needed; in dependence order.
+    ///
+    /// # Errors
+    ///
+    /// Fails only where memory is refused.
+    pub fn boxes(
+        &self,
+        alloc: Global,
+        job: &Job,
+        target: usize,
+        region: Area,
+    ) -> Result<Vec<(usize, Area)>, AllocError>
+        requires job { IsJob (pipeline_in job.now) }
+        requires target { IsTarget (record { job = pipeline_in job.now; flags = self.now.flags; stage = target; region = region }) }
+        ensures { IfOk result (λ found. found.items ≡ boxes (record { job = pipeline_in job.now; flags = self.now.flags; stage = target; region = region })) }
+    {
+        let site = Site {
+            job,
+            schedule: &self.flags,
+            stage: target,
+            region,
+        };
+        site.boxes(alloc)
+    }
+}

@@ -1,0 +1,154 @@
+#![tactic(auto)]
+//! Targets, and the boxes of what they need.
+
+ghost use Rattle.std.specs.Prelude.{◌≡◌, IfOk, IfSome, reverse};
+ghost use Rattle.std.specs.List.{flat_map};
+
+use crate::demands::{common, demand_all};
+use crate::flags::Flags;
+use crate::order::in_order;
+use domains::Area;
+use job::{Job, StageKind};
+use std::alloc::{AllocError, Global};
+
+/// A stage of a job over a region of its domain.
+#[derive(Clone, Copy)]
+pub(crate) struct Site<'a> {
+    pub(crate) job: &'a Job,
+    pub(crate) schedule: &'a Flags,
+    pub(crate) stage: usize,
+    pub(crate) region: Area,
+}
+
+impl Site<'_> {
+    ghost use Rattle.job.specs.Kept.{pipeline_in};
+    ghost use Rattle.job.specs.WellFormed.{IsJob};
+    ghost use Rattle.grouping.specs.Targets.{IsTarget, region_by, with_number, is_boxed, boxes};
+    ghost use Rattle.grouping.specs.Walks.{IsNearArea, target_of, no_hulls, cut_hull, walked_one, walked, numbered_hull};
+
+    // The hull of what is demanded of a stage, cut to its domain.
+    pub(crate) fn box_of(&self, hulls: &[Option<Area>], number: usize) -> Option<Area>
+        requires { IsJob (pipeline_in self.now.job.now) }
+        ensures is { result ≡ cut_hull (pipeline_in self.now.job.now).stages hulls.now number }
+        ensures near { IfSome result IsNearArea }
+    {
+        match (self.job.stage(number), hulls.get(number)) {
+            (Some(stage), Some(Some(hull))) => common(hull, stage.domain()),
+            _ => None,
+        }
+    }
+
+    // The region of a stage that is in the target.
+    fn region_of(&self, hulls: &[Option<Area>], number: usize) -> Option<Area>
+        requires job { IsJob (pipeline_in self.now.job.now) }
+        requires target { IsTarget (target_of self.now) }
+        ensures is { result ≡ region_by (target_of self.now) (cut_hull (pipeline_in self.now.job.now).stages hulls.now) number }
+        ensures near { IfSome result IsNearArea }
+    {
+        if number == self.stage {
+            Some(self.region)
+        } else if self.schedule.inlined(number) {
+            self.box_of(hulls, number)
+        } else {
+            None
+        }
+    }
+
+    // What a stage in the target demands comes in.
+    fn visit(&self, hulls: &mut [Option<Area>], number: usize)
+        requires job { IsJob (pipeline_in self.now.job.now) }
+        requires target { IsTarget (target_of self.now) }
+        ensures { hulls.new ≡ walked_one (target_of self.now) hulls.old number }
+    {
+        if let Some(region) = self.region_of(hulls, number) {
+            if let Some(stage) = self.job.stage(number) {
+                demand_all(hulls, stage.body(), &region);
+            }
+        }
+    }
+
+    fn walk(&self, hulls: &mut [Option<Area>], numbers: &[usize])
+        requires job { IsJob (pipeline_in self.now.job.now) }
+        requires target { IsTarget (target_of self.now) }
+        ensures { hulls.new ≡ walked (target_of self.now) hulls.old numbers.now }
+    {
+        for number in numbers {
+            self.visit(hulls, *number);
+        }
+    }
+
+    fn no_hulls(&self, alloc: Global) -> Result<Vec<Option<Area>>, AllocError>
+        ensures { IfOk result (λ hulls. hulls.items ≡ no_hulls (pipeline_in self.now.job.now).stages) }
+    {
+        let mut hulls = Vec::new(alloc);
+        for _stage in self.job.stages() {
+            hulls.push(None)?;
+        }
+        Ok(hulls)
+    }
+
+    // The hulls of all that the stages in the target demand.
+    pub(crate) fn hulls(
+        &self,
+        alloc: Global,
+        order: &[usize],
+    ) -> Result<Vec<Option<Area>>, AllocError>
+        requires job { IsJob (pipeline_in self.now.job.now) }
+        requires target { IsTarget (target_of self.now) }
+        ensures { IfOk result (λ hulls. hulls.items ≡ walked (target_of self.now) (no_hulls (pipeline_in self.now.job.now).stages) (reverse order.now)) }
+    {
+        let mut hulls = self.no_hulls(alloc)?;
+        let mut backward = order.to_vec(alloc)?;
+        backward.reverse();
+        self.walk(&mut hulls, &backward);
+        Ok(hulls)
+    }
+
+    pub(crate) fn is_boxed(&self, number: usize) -> bool
+        ensures { result ≡ is_boxed (target_of self.now) number }
+    {
+        self.job.kind(number) == Some(StageKind::Function) && number != self.stage
+    }
+
+    // The box of a function other than the target, if it has one.
+    fn needed(&self, hulls: &[Option<Area>], number: usize) -> Option<Area>
+        requires { IsJob (pipeline_in self.now.job.now) }
+        ensures { with_number number result ≡ numbered_hull (target_of self.now) hulls.now number }
+    {
+        if self.is_boxed(number) {
+            self.box_of(hulls, number)
+        } else {
+            None
+        }
+    }
+
+    // The functions but the target that have a box, with their boxes, in this order.
+    fn listed(
+        &self,
+        alloc: Global,
+        hulls: &[Option<Area>],
+        order: &[usize],
+    ) -> Result<Vec<(usize, Area)>, AllocError>
+        requires { IsJob (pipeline_in self.now.job.now) }
+        ensures { IfOk result (λ found. found.items ≡ flat_map (numbered_hull (target_of self.now) hulls.now) order.now) }
+    {
+        let mut found = Vec::new(alloc);
+        for number in order {
+            if let Some(area) = self.needed(hulls, *number) {
+                found.push((*number, area))?;
+            }
+        }
+        Ok(found)
+    }
+
+    /// The functions but the target that have a box, with their boxes, in dependence order.
+    pub(crate) fn boxes(&self, alloc: Global) -> Result<Vec<(usize, Area)>, AllocError>
+        requires job { IsJob (pipeline_in self.now.job.now) }
+        requires target { IsTarget (target_of self.now) }
+        ensures { IfOk result (λ found. found.items ≡ boxes (target_of self.now)) }
+    {
+        let order = in_order(alloc, self.job.stages())?;
+        let hulls = self.hulls(alloc, &order)?;
+        self.listed(alloc, &hulls, &order)
+    }
+}
