@@ -1,0 +1,11 @@
+pub mod Lists
+pub mod Counting
+pub mod Ranging
+pub mod Keys
+pub mod Tiling
+pub mod Found
+pub mod Needing
+pub mod Planning
+pub mod Lower
+pub mod Rising
+pub mod Reading

@@ -1,0 +1,5 @@
+use Rattle.overlap_tiles.proofs.Reading.{step_in_domain}
+use Rattle.overlap_tiles.proofs.laws.steps_lie_in_domains.Goals as goal
+
+pub returns : goal.returns
+returns c = step_in_domain

@@ -1,0 +1,13 @@
+use Rattle.std.proofs.Common.{◌≡◌, ◌+◌, ◌++◌, map, drop}
+use Rattle.std.specs.Prelude.{fold}
+use Rattle.domains.specs.Area.{point_count}
+use Rattle.grouping.specs.Costs.{points_in}
+use Rattle.overlap_tiles.specs.Views.{step_view}
+use Rattle.overlap_tiles.specs.Made.{end_to_end}
+use Rattle.overlap_tiles.proofs.ranges.end_to_end.Given as goal
+
+abbrev pub invariant-loop-step : goal.invariant-loop-step
+invariant-loop-step l =
+    (fold (λ a n. a + n) l.start (map (λ s. point_count s.1) (map step_view (drop l.step-index l.steps))) ≡ points_in (map step_view l.steps))
+    × (l.ranges.items ++ end_to_end l.start (map (λ s. point_count s.1) (map step_view (drop l.step-index l.steps)))
+    ≡ end_to_end 0 (map (λ s. point_count s.1) (map step_view l.steps)))

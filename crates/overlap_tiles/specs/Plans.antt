@@ -1,0 +1,71 @@
+-- The plan of a tile: the tiles that it needs, what is computed in which order, and where each inner step lies in scratch memory.
+use Rattle.std.specs.Prelude.{ℕ, ◌<◌, ◌≤◌, ◌≡◌, Bool, Some, List}
+use Rattle.domains.specs.Tiles.{HasTile, tile_area}
+use Rattle.domains.specs.declared.area.Area.{Area}
+use Rattle.domains.specs.declared.grid.Grid.{Grid}
+use Rattle.job.specs.Pipeline.{Pipeline}
+use Rattle.job.specs.declared.identity.Key.{Key}
+use Rattle.job.specs.Identity.{HasTileAt}
+use Rattle.job.specs.Readers.{grid_at}
+use Rattle.grouping.specs.Targets.{Target}
+use Rattle.grouping.specs.Costs.{steps, points, scratch, most_scratch}
+use Rattle.overlap_tiles.specs.declared.fault.PlanFault.{PlanFault}
+use Rattle.overlap_tiles.specs.declared.fault.PlanFault.TheVariants.{NoSuchTile, ScratchTooBig, Memory}
+use Rattle.overlap_tiles.specs.Needs.{needed_keys}
+use Rattle.overlap_tiles.specs.Ranges.{HaveRoom}
+
+-- how contracts see a plan
+pub record Plan : Type 0 where
+  pub needs : List Key
+  pub steps : List (ℕ × Area)
+  pub points : ℕ
+  pub ranges : List (ℕ × ℕ)
+  pub scratch : ℕ
+
+-- the plan of a target, by the identity of its program
+pub record IsPlan (program : List ℕ) (t : Target) (p : Plan) : Type 0 where
+  pub needs : p.needs ≡ needed_keys program t
+  pub steps : p.steps ≡ steps t
+  pub points : p.points ≡ points t
+  pub ranges : HaveRoom t p.ranges p.scratch
+
+-- and its inner steps have no more points than may lie in scratch memory
+pub record IsFittingPlan (program : List ℕ) (t : Target) (p : Plan) : Type 0 where
+  pub plan : IsPlan program t p
+  pub fits : scratch t ≤ most_scratch
+
+-- why a target has no plan. Memory may be refused at any
+abbrev pub IsTargetFault : Target → PlanFault → Type 0
+IsTargetFault t NoSuchTile = ⊥
+IsTargetFault t ScratchTooBig = most_scratch < scratch t
+IsTargetFault t Memory = Unit {0}
+
+-- ---- tiles
+
+-- the tile in row i and column j of the grid of stage g, a function or an accumulator, has this area
+pub record IsTileAt (job : Pipeline) (g i j : ℕ) (area : Area) : Type 0 where
+  pub grid : Grid
+  pub there : grid_at job g ≡ Some grid
+  pub tile : HasTile grid i j
+  pub is : area ≡ tile_area grid i j
+
+abbrev pub target_over : Pipeline → List Bool → ℕ → Area → Target
+target_over job flags g area = record { job = job; flags = flags; stage = g; region = area }
+
+-- the plan is that of this tile
+pub record IsTilePlan (program : List ℕ) (job : Pipeline) (flags : List Bool) (g i j : ℕ) (p : Plan) : Type 0 where
+  pub area : Area
+  pub tile : IsTileAt job g i j area
+  pub plan : IsFittingPlan program (target_over job flags g area) p
+
+-- there is this tile, and no plan of it
+pub record IsTileFault (job : Pipeline) (flags : List Bool) (g i j : ℕ) (fault : PlanFault) : Type 0 where
+  pub area : Area
+  pub tile : IsTileAt job g i j area
+  pub reason : IsTargetFault (target_over job flags g area) fault
+
+-- why there is no plan of this tile
+abbrev pub IsPlanFault : Pipeline → List Bool → ℕ → ℕ → ℕ → PlanFault → Type 0
+IsPlanFault job flags g i j NoSuchTile = ¬ (HasTileAt job g i j)
+IsPlanFault job flags g i j ScratchTooBig = IsTileFault job flags g i j ScratchTooBig
+IsPlanFault job flags g i j Memory = IsTileFault job flags g i j Memory

@@ -1,0 +1,37 @@
+//! What the definitions amount to, proved once for the crates above. A law is a function that does nothing: its clauses are the law.
+
+ghost use Rattle.std.specs.Prelude.{◌≡◌, ◌↔◌, ◌<◌, ◌≤◌, ℕ, Some, slice_get, List, AllPairs, Contains};
+ghost use Rattle.domains.specs.Area.{IsArea, IsSubarea};
+ghost use Rattle.domains.specs.declared.area.Area.{Area};
+ghost use Rattle.job.specs.Pipeline.{Stage, Pipeline};
+ghost use Rattle.job.specs.Answers.{Tile};
+ghost use Rattle.job.specs.WellFormed.{IsJob};
+ghost use Rattle.grouping.specs.Costs.{steps};
+ghost use Rattle.grouping.specs.Targets.{Target, IsTarget};
+ghost use Rattle.overlap_tiles.specs.Needs.{needs, needed_keys, IsNeeded, IsTileBefore, IsKeyBefore};
+ghost use Rattle.overlap_tiles.specs.Lives.{IsReadAt, LivesMeet};
+ghost use Rattle.overlap_tiles.specs.AtHand.{HasAtHand};
+
+/// The list of what a target needs has exactly the tiles of stored functions that have a point of their function's box; they
+/// and their keys rise.
+pub fn needs_are_exact()
+    ensures all { (t : Target) (n : Tile) → IsJob t.job → IsTarget t → Contains (needs t) n ↔ IsNeeded t n }
+    ensures order { (t : Target) → AllPairs IsTileBefore (needs t) }
+    ensures keys { (program : List ℕ) (t : Target) → AllPairs IsKeyBefore (needed_keys program t) }
+{}
+
+/// Each read that a step makes at a point of its area lies in a plane, in what an earlier step computes, or in a needed tile.
+pub fn steps_have_what_they_read()
+    ensures { (t : Target) → IsJob t.job → IsTarget t → HasAtHand t }
+{}
+
+/// The area of a step lies in the domain of its stage.
+pub fn steps_lie_in_domains()
+    ensures { (t : Target) (k g : ℕ) (s : Stage) (a : Area) → IsJob t.job → IsTarget t → slice_get (steps t) k ≡ Some (g, a) → slice_get t.job.stages g ≡ Some s → IsArea a × IsSubarea a s.domain }
+{}
+
+/// What a step reads is alive at each step from the one that computes it up to the one that reads it, so that the ranges of
+/// those between lie elsewhere.
+pub fn lives_last_to_the_reader()
+    ensures { (job : Pipeline) (steps : List (ℕ × Area)) (k l m : ℕ) → k < l → l ≤ m → IsReadAt job steps k m → LivesMeet job steps k l }
+{}

@@ -1,0 +1,62 @@
+#![tactic(auto)]
+//! What is computed for a tile, step by step.
+
+ghost use Rattle.std.specs.Prelude.{◌≡◌, ◌≤◌, ◌<◌, ◌^◌, map, filter, IfOk, IfSome, IfNone};
+ghost use Rattle.domains.specs.Area.{IsArea, point_count};
+ghost use Rattle.grouping.specs.Schedules.{is_inlined};
+ghost use Rattle.grouping.specs.Costs.{points_in, most_scratch};
+ghost use Rattle.overlap_tiles.specs.Views.{step_view};
+
+use domains::Area;
+use grouping::{MOST_SCRATCH, Schedule};
+use std::alloc::{AllocError, Global};
+
+/// A stage, and the area over which it is computed.
+#[derive(Clone, Copy, Debug, PartialEq, Eq)]
+pub struct Step {
+    pub stage: usize,
+    pub area: Area,
+}
+
+/// The steps of those boxes whose stages are inlined.
+pub(crate) fn inner_steps(
+    alloc: Global,
+    schedule: &Schedule,
+    boxes: &[(usize, Area)],
+) -> Result<Vec<Step>, AllocError>
+    ensures { IfOk result (λ steps. map step_view steps.items ≡ filter (λ s. is_inlined schedule.now.flags s.0) boxes.now) }
+{
+    let mut steps = Vec::new(alloc);
+    for found in boxes {
+        let (stage, area) = *found;
+        if schedule.inlined(stage) {
+            steps.push(Step { stage, area })?;
+        }
+    }
+    Ok(steps)
+}
+
+// An area has few enough points that many areas can be counted.
+#[tactic(auto, using(crate::proofs::Counting::few_points))]
+pub(crate) fn points(area: &Area) -> u64
+    ensures number { result ≡ point_count area.now }
+    ensures few { result < 2 ^ 43 }
+{
+    area.points()
+}
+
+/// How many points the areas of the steps have together; none where those are more than may lie in scratch memory.
+pub(crate) fn scratch_points(steps: &[Step]) -> Option<u64>
+    ensures number { IfSome result (λ n. n ≡ points_in (map step_view steps.now)) }
+    ensures few { IfSome result (λ n. n ≤ most_scratch) }
+    ensures many { IfNone result (most_scratch < points_in (map step_view steps.now)) }
+{
+    let mut total = 0;
+    for step in steps {
+        total += points(&step.area);
+        if total > MOST_SCRATCH {
+            return None;
+        }
+    }
+    Some(total)
+}
