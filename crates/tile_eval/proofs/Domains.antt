@@ -1,4 +1,4 @@
--- Functions at the points of their domains.
+-- Functions at the points of areas of their domains.
 use Rattle.std.proofs.Common.{arith, ℕ, ℤ, ◌≡◌, ◌*◌, ◌+◌, ◌<◌, ◌↔◌, pos, ◌+ℤ◌, List, length, Option, Some, None, subst, sym, ap, ◌∙◌, refl}
 use Rattle.std.specs.Prelude.{All, map, slice_index_or}
 use Rattle.std.specs.Option.{ForSome}
@@ -9,7 +9,7 @@ use Rattle.domains.specs.declared.area.Area.{Area}
 use Rattle.domains.proofs.Lengths.{len_is}
 use Rattle.job.specs.Formula.{Formula}
 use Rattle.job.specs.Pipeline.{Piece, function}
-use Rattle.job.specs.Boxes.{BoundsHold, AreBoxed, box_of}
+use Rattle.job.specs.Boxes.{BoundsHold, box_of}
 use Rattle.job.specs.Reads.{EachRead, PieceReads, BodyReads, formulas_of, other_formula}
 use Rattle.job.specs.WellFormed.{IsFormula, IsTest, IsNear}
 use Rattle.job.proofs.Agreeing.{All-left, All-right}
@@ -17,7 +17,7 @@ use Rattle.job.proofs.BoxLaws.{box_is_cut, passed_in_box}
 use Rattle.job.proofs.Steps.{All-from_map, other_each}
 use Rattle.tile_eval.specs.Rows.{EachPlace, at}
 use Rattle.tile_eval.specs.Reading.{HasRoom}
-use Rattle.tile_eval.specs.Pieces.{InBox, IsReady, IsRoomy, HasFunctionRoom}
+use Rattle.tile_eval.specs.Pieces.{InBox, IsReady, IsRoomy, HasFunctionRoom, AreBoxedAround}
 use Rattle.tile_eval.specs.Whole.{raster}
 use Rattle.tile_eval.proofs.Rasters.{raster_of}
 
@@ -49,40 +49,40 @@ piece_ready has domain p r c is inside reads = record {
   reads = λ h. let there = in_some p.box r c h in reads there.0 there.1 there.2;
 }
 
--- ---- a function on its domain
+-- ---- a function on an area
 
--- so many rows and columns from a point on are those of the domain
-pub record IsLaid (domain : Area) (row col : ℤ) (rows cols : ℕ) : Type 0 where
-  pub top : row ≡ domain.rows.lo
-  pub left : col ≡ domain.cols.lo
-  pub height : rows ≡ len_of domain.rows
-  pub width : cols ≡ len_of domain.cols
-  pub near_rows : IsNear domain.rows
-  pub near_cols : IsNear domain.cols
+-- so many rows and columns from a point on are those of an area
+pub record IsLaid (area : Area) (row col : ℤ) (rows cols : ℕ) : Type 0 where
+  pub top : row ≡ area.rows.lo
+  pub left : col ≡ area.cols.lo
+  pub height : rows ≡ len_of area.rows
+  pub width : cols ≡ len_of area.cols
+  pub near_rows : IsNear area.rows
+  pub near_cols : IsNear area.cols
 
 -- a piece is ready at each of so many rows and columns from a point on, and there is room for it
 abbrev pub IsReadyOver : (ℕ → ℤ → ℤ → Type 0) → ℤ → ℤ → ℕ → ℕ → ℕ → Piece → Type 0
 IsReadyOver has row col rows cols room p = ((i k : ℕ) → i < rows → k < cols → IsReady has p (row +ℤ pos i) (col +ℤ pos k)) × IsRoomy cols room p
 
-module _ (has : ℕ → ℤ → ℤ → Type 0) (domain : Area) (ps : List Piece) (o : Option Formula) (row col : ℤ) (rows cols room : ℕ) (laid : IsLaid domain row col rows cols) where
-  inside : (i k : ℕ) → i < rows → k < cols → HoldsPoint domain (row +ℤ pos i) (col +ℤ pos k)
+module _ (has : ℕ → ℤ → ℤ → Type 0) (area : Area) (ps : List Piece) (o : Option Formula) (row col : ℤ) (rows cols room : ℕ) (laid : IsLaid area row col rows cols) where
+  inside : (i k : ℕ) → i < rows → k < cols → HoldsPoint area (row +ℤ pos i) (col +ℤ pos k)
   inside i k li lk = (
-    holds_from domain.rows row rows i laid.top laid.height laid.near_rows li,
-    holds_from domain.cols col cols k laid.left laid.width laid.near_cols lk,
+    holds_from area.rows row rows i laid.top laid.height laid.near_rows li,
+    holds_from area.cols col cols k laid.left laid.width laid.near_cols lk,
   )
 
-  pub pieces_ready : All (λ p. All IsTest p.tests) ps → All IsFormula (formulas_of (function ps o)) → AreBoxed domain (function ps o) → ((r c : ℤ) → HoldsPoint domain r c → BodyReads has (function ps o) r c) → HasFunctionRoom (len_of domain.cols) room ps o
+  pub pieces_ready : All (λ p. All IsTest p.tests) ps → All IsFormula (formulas_of (function ps o)) → AreBoxedAround area (function ps o) → ((r c : ℤ) → HoldsPoint area r c → BodyReads has (function ps o) r c) → HasFunctionRoom (len_of area.cols) room ps o
       → All (IsReadyOver has row col rows cols room) ps
   pieces_ready tests formulas boxed reads is =
       let fits : HasFunctionRoom cols room ps o = subst (λ (n : ℕ). HasFunctionRoom n room ps o) (sym laid.width) is in
       let each : All (λ p. IsFormula p.formula) ps = All-from_map IsFormula (λ p. p.formula) ps (All-left IsFormula (map (λ p. p.formula) ps) (other_formula o) formulas) in
       λ n d l. (
-        (λ i k li lk. piece_ready has domain (slice_index_or ps n d) (row +ℤ pos i) (col +ℤ pos k) (boxed n d l) (inside i k li lk) ((reads (row +ℤ pos i) (col +ℤ pos k) (inside i k li lk)).0 n d l)),
+        (λ i k li lk. piece_ready has boxed.0 (slice_index_or ps n d) (row +ℤ pos i) (col +ℤ pos k) (boxed.2 n d l) (boxed.1 (row +ℤ pos i) (col +ℤ pos k) (inside i k li lk)) ((reads (row +ℤ pos i) (col +ℤ pos k) (inside i k li lk)).0 n d l)),
         record { formula = each n d l; tests = tests n d l; row = fits.row; operands = fits.operands n d l },
       )
 
   -- what holds elsewhere is there at each point, and there is room for it
-  pub other_ready : All IsFormula (formulas_of (function ps o)) → ((r c : ℤ) → HoldsPoint domain r c → BodyReads has (function ps o) r c) → HasFunctionRoom (len_of domain.cols) room ps o
+  pub other_ready : All IsFormula (formulas_of (function ps o)) → ((r c : ℤ) → HoldsPoint area r c → BodyReads has (function ps o) r c) → HasFunctionRoom (len_of area.cols) room ps o
       → ForSome o (λ f. ((i k : ℕ) → i < rows → k < cols → EachRead has f (row +ℤ pos i) (col +ℤ pos k)) × IsFormula f × HasRoom f cols room)
   other_ready formulas reads is = λ f there.
       let fits : HasFunctionRoom cols room ps o = subst (λ (n : ℕ). HasFunctionRoom n room ps o) (sym laid.width) is in (
@@ -91,14 +91,14 @@ module _ (has : ℕ → ℤ → ℤ → Type 0) (domain : Area) (ps : List Piece
         fits.other f there,
       )
 
--- numbers that are right at each row and column are the values on the domain
-pub raster_from : (domain : Area) (f : ℤ → ℤ → ℤ) (row col : ℤ) (rows cols : ℕ) (xs : List ℤ) → IsLaid domain row col rows cols → length xs ≡ point_count domain
+-- numbers that are right at each row and column are the values on it
+pub raster_from : (area : Area) (f : ℤ → ℤ → ℤ) (row col : ℤ) (rows cols : ℕ) (xs : List ℤ) → IsLaid area row col rows cols → length xs ≡ point_count area
     → ((i : ℕ) → i < rows → EachPlace cols (λ k. at xs (i * cols + k) ≡ f (row +ℤ pos i) (col +ℤ pos k)))
-    → xs ≡ raster domain f
-raster_from domain f row col rows cols xs laid len right = raster_of domain f xs len (λ i k li lk.
+    → xs ≡ raster area f
+raster_from area f row col rows cols xs laid len right = raster_of area f xs len (λ i k li lk.
     let below : i < rows = rw laid.height li in
     let before : k < cols = rw laid.width lk in
     ap (λ (n : ℕ). at xs (i * n + k)) (sym laid.width)
     ∙ right i below k before
     ∙ ap (λ (r : ℤ). f (r +ℤ pos i) (col +ℤ pos k)) laid.top
-    ∙ ap (λ (c : ℤ). f (domain.rows.lo +ℤ pos i) (c +ℤ pos k)) laid.left)
+    ∙ ap (λ (c : ℤ). f (area.rows.lo +ℤ pos i) (c +ℤ pos k)) laid.left)

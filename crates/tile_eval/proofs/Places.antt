@@ -1,5 +1,7 @@
 -- Where the points of an area stand among its values.
-use Rattle.std.proofs.Common.{arith, ℕ, ℤ, ◌≡◌, ◌+◌, ◌-◌, ◌<◌, ◌≤◌, pos, ◌+ℤ◌, ◌≤ℤ◌}
+use Rattle.std.proofs.Common.{arith, ℕ, ℤ, ◌≡◌, ◌+◌, ◌-◌, ◌<◌, ◌≤◌, pos, ◌+ℤ◌, ◌≤ℤ◌, List, Option, Some, ap, ◌∙◌, sym, subst}
+use Rattle.std.specs.Prelude.{slice_get, unwrap_or}
+use Rattle.std.specs.Option.{option_map_or}
 use Rattle.std.specs.Int.{int_gap}
 use Rattle.std.proofs.lemmas.Int.{ints}
 use Rattle.std.proofs.lemmas.Nat.{mul-add-lt}
@@ -7,8 +9,9 @@ use Rattle.domains.specs.Span.{Ends, Holds, len_of}
 use Rattle.domains.specs.Area.{HoldsPoint, point_count}
 use Rattle.domains.specs.declared.area.Area.{Area}
 use Rattle.domains.proofs.Lengths.{gap_is}
-use Rattle.tile_eval.specs.Rows.{EachPlace}
-use Rattle.tile_eval.specs.Whole.{place_of}
+use Rattle.tile_eval.specs.Rows.{EachPlace, at}
+use Rattle.tile_eval.specs.Whole.{place_of, sample_in, IsKnownAt}
+use Rattle.tile_eval.specs.declared.wholes.Whole.{Whole}
 
 -- a number of a span lies less far behind its first number than the span is long
 pub gap_below : (s : Ends) (v : ℤ) → Holds s v → int_gap s.lo v < len_of s
@@ -43,3 +46,22 @@ row_within a r c n some h =
     let first = first_there a r c n some h in
     let short : n - 1 < n = omega arith in
     omega (arith, place_along a r c (n - 1) first.1.0, place_below a r (c +ℤ pos (n - 1)) (h (n - 1) short))
+
+-- ---- known stages
+
+same_whole : (wholes : List (Option Whole)) (g : ℕ) (a b : Whole) → slice_get wholes g ≡ Some (Some a) → slice_get wholes g ≡ Some (Some b) → a ≡ b
+same_whole wholes g a b e f = ap (λ (o : Option (Option Whole)). option_map_or (λ q. unwrap_or q b) o b) (sym e ∙ f)
+
+-- a point at which a stage is known lies in what is known of it
+pub known_within : (wholes : List (Option Whole)) (g : ℕ) (whole : Whole) (area : Area) (r c : ℤ) → slice_get wholes g ≡ Some (Some whole) → area ≡ whole.area → IsKnownAt wholes g r c → HoldsPoint area r c
+known_within wholes g whole area r c there is known =
+    subst (λ (a : Area). HoldsPoint a r c) (sym is) (subst (λ (w : Whole). HoldsPoint w.area r c) (same_whole wholes g known.whole whole known.there there) known.within)
+
+-- and its value stands at the point's place
+pub known_sample : (wholes : List (Option Whole)) (g : ℕ) (whole : Whole) (area : Area) (values : List ℤ) (r c v : ℤ) → slice_get wholes g ≡ Some (Some whole) → area ≡ whole.area → values ≡ whole.values.items
+    → v ≡ at values (place_of area r c) → v ≡ sample_in (slice_get wholes g) r c
+known_sample wholes g whole area values r c v there is same e =
+    e
+    ∙ ap (λ (xs : List ℤ). at xs (place_of area r c)) same
+    ∙ ap (λ (a : Area). at whole.values.items (place_of a r c)) is
+    ∙ ap (λ (o : Option (Option Whole)). sample_in o r c) (sym there)

@@ -1,12 +1,12 @@
 -- Pieces of functions along a row of points.
 use Rattle.std.specs.Prelude.{ℕ, ◌-◌, ◌≤◌, ◌≡◌, ℤ, pos, Bool, true, false, ◌&&◌, Option, Some, None, List, [], ◌∷◌, All}
 use Rattle.std.specs.Option.{option_map_or, ForSome}
-use Rattle.domains.specs.Area.{HoldsPoint}
+use Rattle.domains.specs.Area.{HoldsPoint, IsSubarea}
 use Rattle.domains.specs.declared.area.Area.{Area}
 use Rattle.job.specs.Formula.{Formula, Test, compare, remainder}
-use Rattle.job.specs.Pipeline.{Piece}
+use Rattle.job.specs.Pipeline.{Piece, Body}
 use Rattle.job.specs.Values.{Valuation, all_passed, formula_value, chosen}
-use Rattle.job.specs.Boxes.{BoundsHold}
+use Rattle.job.specs.Boxes.{BoundsHold, AreBoxed}
 use Rattle.job.specs.Reads.{EachRead}
 use Rattle.job.specs.WellFormed.{IsFormula, IsTest}
 use Rattle.tile_eval.specs.Reading.{HasRoom}
@@ -30,6 +30,10 @@ abbrev pub function_value : Valuation → List Piece → Option Formula → ℤ 
 function_value env pieces otherwise r c = option_map_or (λ f. formula_value env f r c) (chosen pieces otherwise r c) (pos 0)
 
 -- ---- what is needed to evaluate pieces
+
+-- the boxes of the pieces are those of a domain in which the area lies
+abbrev pub AreBoxedAround : Area → Body → Type 0
+AreBoxedAround area body = (domain : Area) × IsSubarea area domain × AreBoxed domain body
 
 -- at a point: where its tests hold it lies in the box, there the bounds hold, and all that the formula reads is there
 pub record IsReady (has : ℕ → ℤ → ℤ → Type 0) (p : Piece) (r c : ℤ) : Type 0 where

@@ -1,5 +1,5 @@
 #![tactic(auto)]
-//! Functions on whole domains.
+//! Functions on areas.
 
 ghost use Rattle.std.specs.Prelude.{◌≡◌, ℤ, length, map, All, IfOk};
 ghost use Rattle.std.specs.Option.{option_map};
@@ -10,7 +10,7 @@ ghost use Rattle.job.specs.Pipeline.{function as by_pieces};
 ghost use Rattle.job.specs.Reads.{BodyReads, formulas_of};
 ghost use Rattle.job.specs.Views.{piece_view, formula_view};
 ghost use Rattle.job.specs.WellFormed.{IsFormula, IsNear, IsTest};
-ghost use Rattle.tile_eval.specs.Pieces.{HasFunctionRoom, function_value};
+ghost use Rattle.tile_eval.specs.Pieces.{AreBoxedAround, HasFunctionRoom, function_value};
 ghost use Rattle.tile_eval.specs.Whole.{raster};
 
 use crate::areas::function_area;
@@ -21,41 +21,64 @@ use domains::Area;
 use job::Function;
 use std::alloc::{AllocError, Global};
 
-// The first point of a domain.
-fn corner(domain: &Area) -> Start
-    requires rows { IsNear domain.now.rows }
-    requires cols { IsNear domain.now.cols }
-    ensures row { result.row ≡ domain.now.rows.lo }
-    ensures col { result.col ≡ domain.now.cols.lo }
+// The first point of an area.
+fn corner(area: &Area) -> Start
+    requires rows { IsNear area.now.rows }
+    requires cols { IsNear area.now.cols }
+    ensures row { result.row ≡ area.now.rows.lo }
+    ensures col { result.col ≡ area.now.cols.lo }
 {
     Start {
-        row: domain.rows.lo(),
-        col: domain.cols.lo(),
+        row: area.rows.lo(),
+        col: area.cols.lo(),
     }
 }
 
-// Writes the values of a function on its domain, row by row.
+// Writes the values of a function on an area, row by row.
 fn fill_area<S: Source>(
     source: &S,
     function: &Function,
-    domain: &Area,
+    area: &Area,
     out: &mut [i32],
     temps: &mut [i32],
 )
-    requires rows { IsNear domain.now.rows }
-    requires cols { IsNear domain.now.cols }
+    requires rows { IsNear area.now.rows }
+    requires cols { IsNear area.now.cols }
     requires tests { All (λ p. All IsTest p.tests) (map piece_view function.now.pieces.items) }
     requires formulas { All IsFormula (formulas_of (by_pieces (map piece_view function.now.pieces.items) (option_map formula_view function.now.otherwise))) }
-    requires boxes { AreBoxed domain.now (by_pieces (map piece_view function.now.pieces.items) (option_map formula_view function.now.otherwise)) }
-    requires reads { (r c : ℤ) → HoldsPoint domain.now r c → BodyReads (S.has source.now) (by_pieces (map piece_view function.now.pieces.items) (option_map formula_view function.now.otherwise)) r c }
-    requires len { length out.old ≡ point_count domain.now }
-    requires room { HasFunctionRoom (len_of domain.now.cols) (length temps.old) (map piece_view function.now.pieces.items) (option_map formula_view function.now.otherwise) }
-    ensures { out.new ≡ raster domain.now (function_value (S.sample source.now) (map piece_view function.now.pieces.items) (option_map formula_view function.now.otherwise)) }
+    requires boxes { AreBoxedAround area.now (by_pieces (map piece_view function.now.pieces.items) (option_map formula_view function.now.otherwise)) }
+    requires reads { (r c : ℤ) → HoldsPoint area.now r c → BodyReads (S.has source.now) (by_pieces (map piece_view function.now.pieces.items) (option_map formula_view function.now.otherwise)) r c }
+    requires len { length out.old ≡ point_count area.now }
+    requires room { HasFunctionRoom (len_of area.now.cols) (length temps.old) (map piece_view function.now.pieces.items) (option_map formula_view function.now.otherwise) }
+    ensures { out.new ≡ raster area.now (function_value (S.sample source.now) (map piece_view function.now.pieces.items) (option_map formula_view function.now.otherwise)) }
 {
-    let start = corner(domain);
-    let rows = domain.rows.len() as usize;
-    let cols = domain.cols.len() as usize;
+    let start = corner(area);
+    let rows = area.rows.len() as usize;
+    let cols = area.cols.len() as usize;
     function_area(source, function, &start, rows, cols, out, temps);
+}
+
+/// The values of a function on an area of its domain, row by row.
+pub fn area_values<S: Source>(
+    alloc: Global,
+    source: &S,
+    function: &Function,
+    area: &Area,
+) -> Result<Vec<i32>, AllocError>
+    requires rows { IsNear area.now.rows }
+    requires cols { IsNear area.now.cols }
+    requires tests { All (λ p. All IsTest p.tests) (map piece_view function.now.pieces.items) }
+    requires formulas { All IsFormula (formulas_of (by_pieces (map piece_view function.now.pieces.items) (option_map formula_view function.now.otherwise))) }
+    requires boxes { AreBoxedAround area.now (by_pieces (map piece_view function.now.pieces.items) (option_map formula_view function.now.otherwise)) }
+    requires reads { (r c : ℤ) → HoldsPoint area.now r c → BodyReads (S.has source.now) (by_pieces (map piece_view function.now.pieces.items) (option_map formula_view function.now.otherwise)) r c }
+    ensures { IfOk result (λ values. values.items ≡ raster area.now (function_value (S.sample source.now) (map piece_view function.now.pieces.items) (option_map formula_view function.now.otherwise))) }
+{
+    let cols = area.cols.len() as usize;
+    let room = function_room(function, cols).ok_or(AllocError)?;
+    let mut values = vec![in alloc; 0; area.points() as usize]?;
+    let mut temps = vec![in alloc; 0; room]?;
+    fill_area(source, function, area, &mut values, &mut temps);
+    Ok(values)
 }
 
 /// The values of a function on its domain, row by row.
@@ -73,10 +96,5 @@ pub fn function_values<S: Source>(
     requires reads { (r c : ℤ) → HoldsPoint domain.now r c → BodyReads (S.has source.now) (by_pieces (map piece_view function.now.pieces.items) (option_map formula_view function.now.otherwise)) r c }
     ensures { IfOk result (λ values. values.items ≡ raster domain.now (function_value (S.sample source.now) (map piece_view function.now.pieces.items) (option_map formula_view function.now.otherwise))) }
 {
-    let cols = domain.cols.len() as usize;
-    let room = function_room(function, cols).ok_or(AllocError)?;
-    let mut values = vec![in alloc; 0; domain.points() as usize]?;
-    let mut temps = vec![in alloc; 0; room]?;
-    fill_area(source, function, domain, &mut values, &mut temps);
-    Ok(values)
+    area_values(alloc, source, function, domain)
 }

@@ -2,6 +2,7 @@
 #![tactic(auto)]
 
 mod areas;
+mod blocks;
 mod functions;
 mod kernels;
 mod lending;
@@ -16,4 +17,8 @@ mod start;
 mod taps;
 mod wholes;
 
+pub use blocks::Block;
+pub use functions::area_values;
+pub use source::Source;
 pub use stages::{plain, plain_all};
+pub use wholes::{Known, Whole};

@@ -14,8 +14,8 @@ use job::{Body, Job, StageKind};
 use std::alloc::{AllocError, Global};
 
 impl Known {
-    // Of so many stages none is known.
-    fn none(alloc: Global, count: usize) -> Result<Known, AllocError>
+    /// Of so many stages none is known.
+    pub fn none(alloc: Global, count: usize) -> Result<Known, AllocError>
         ensures { IfOk result (λ known. known.wholes.items ≡ replicate count None) }
     {
         let mut wholes = Vec::new(alloc);

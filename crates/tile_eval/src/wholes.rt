@@ -1,7 +1,7 @@
 #![tactic(auto)]
 //! Stages whose values are known on their whole domains.
 
-ghost use Rattle.std.specs.Prelude.{◌≡◌, length};
+ghost use Rattle.std.specs.Prelude.{◌≡◌, ◌<◌, length, Some, slice_set};
 ghost use Rattle.domains.specs.Area.{point_count};
 
 use domains::Area;
@@ -18,4 +18,25 @@ pub struct Whole {
 #[derive(Drop)]
 pub struct Known {
     pub(crate) wholes: Vec<Option<Whole>>,
+}
+
+impl Whole {
+    /// The values of an area: as many as it has points.
+    pub fn new(area: Area, values: Vec<i32>) -> Whole
+        requires { length values.items ≡ point_count area }
+        ensures area { result.area ≡ area }
+        ensures values { result.values.items ≡ values.items }
+    {
+        Whole { area, values }
+    }
+}
+
+impl Known {
+    /// Keeps the values of a stage.
+    pub fn put(&mut self, stage: usize, whole: Whole)
+        requires { stage < length self.old.wholes.items }
+        ensures { self.new.wholes.items ≡ slice_set self.old.wholes.items stage (Some whole) }
+    {
+        self.wholes[stage] = Some(whole);
+    }
 }

@@ -1,0 +1,146 @@
+-- Tiles that are lent, and rows of points that cross their borders.
+use Rattle.std.proofs.Common.{arith, ℕ, zero, suc, ℤ, pos, ◌≡◌, ◌+◌, ◌-◌, ◌<◌, ◌≤◌, ◌+ℤ◌, ◌≤ℤ◌, ◌⊎◌, inl, inr, ap, ◌∙◌, sym, subst, List, ◌++◌, take, drop, length, Option, Some, None}
+use Rattle.std.specs.Prelude.{IfNone}
+use Rattle.std.proofs.lemmas.Int.{ints, clamps}
+use Rattle.std.proofs.lemmas.Bool.{cases_lt}
+use Rattle.std.proofs.lemmas.Grind.{common_steps}
+use Rattle.domains.specs.Area.{HoldsPoint}
+use borrow.Rule.Slice.PartMut.{put_mid}
+use Rattle.domains.specs.Span.{Ends, Holds}
+use Rattle.domains.specs.Tiles.{IsTileOf, part_of, tile_area, tile_at}
+use Rattle.domains.specs.declared.area.Area.{Area}
+use Rattle.domains.specs.declared.grid.Grid.{Grid}
+use Rattle.domains.proofs.PartsOfSpans.{place_only}
+use Rattle.tile_eval.specs.declared.blocks.Block.{Block}
+use Rattle.tile_eval.specs.Rows.{EachPlace, at}
+use Rattle.tile_eval.specs.Whole.{place_of}
+use Rattle.tile_run.specs.Lent.{Lending, number_in, number_at}
+use Rattle.tile_run.specs.Tiles.{IsLentAt, IsTileAbout}
+
+none_some : {X : Type 0} (x : X) → None ≡ Some x → ⊥
+none_some x e = absurd (cc)
+
+pub if_none : {X : Type 0} (o : Option X) (P : Type 0) → P → IfNone o P
+if_none None P p = p
+if_none (Some x) P p = tt
+
+-- ---- the tile of a point
+
+module _ (lent : Lending) (g : ℕ) (grid : Grid) (r c r' c' : ℤ) (i j : ℕ) (row : r' ≡ r) (col : c' ≡ c) (is : (i, j) ≡ tile_at grid r' c') where
+  same_tile : (i, j) ≡ tile_at grid r c
+  same_tile = is ∙ (λ k. tile_at grid (row k) (col k))
+
+  pub not_lent : lent g i j ≡ None → ¬ (IsLentAt lent g grid r c)
+  not_lent none h = none_some h.1.0 (sym none ∙ ap (λ (t : ℕ × ℕ). lent g t.0 t.1) same_tile ∙ h.1.1)
+
+  pub tile_about : (block : Block) (area : Area) (xs : List ℤ) → IsTileOf grid r' c' (i, j) → block.area ≡ area → area ≡ tile_area grid i j → block.values.now ≡ xs → lent g i j ≡ Some xs → IsTileAbout lent g grid r c block
+  tile_about block area xs of same tile numbers lends = record {
+    area = same ∙ tile ∙ ap (λ (t : ℕ × ℕ). tile_area grid t.0 t.1) same_tile;
+    numbers = sym (ap (λ (t : ℕ × ℕ). lent g t.0 t.1) same_tile) ∙ lends ∙ ap (λ (ys : List ℤ). Some ys) (sym numbers);
+    holds =
+        subst (λ (a : Area). HoldsPoint a r c) (sym (same ∙ tile))
+        (subst (λ (z : ℤ). HoldsPoint (tile_area grid i j) z c) row (subst (λ (z : ℤ). HoldsPoint (tile_area grid i j) r' z) col of.holds));
+  }
+
+-- parts of a span have numbers only where they are longer than 0
+some_side : (s : Ends) (side i : ℕ) (v : ℤ) → Holds (part_of s side i) v → 1 ≤ side
+some_side s zero i v h = let low = h.0 in let high = h.1 in absurd (omega (arith, ints, clamps))
+some_side s (suc side) i v h = omega arith
+
+pub same_about : (lent : Lending) (g : ℕ) (grid : Grid) (r c r' c' : ℤ) (block : Block) → r' ≡ r → c' ≡ c → IsTileAbout lent g grid r' c' block → IsTileAbout lent g grid r c block
+same_about lent g grid r c r' c' block row col about =
+    subst (λ (z : ℤ). IsTileAbout lent g grid z c block) row (subst (λ (z : ℤ). IsTileAbout lent g grid r' z block) col about)
+
+module _ (lent : Lending) (g : ℕ) (grid : Grid) (r c : ℤ) (block : Block) (about : IsTileAbout lent g grid r c block) where
+  -- its number stands in the block
+  pub number_is : at block.values.now (place_of block.area r c) ≡ number_at lent g grid r c
+  number_is =
+      ap (λ (a : Area). at block.values.now (place_of a r c)) about.area
+      ∙ ap (λ (o : Option (List ℤ)). number_in (tile_area grid (tile_at grid r c).0 (tile_at grid r c).1) r c o) (sym about.numbers)
+
+  -- so do those of the other points of the block's area
+  pub about_more : (d : ℤ) → HoldsPoint block.area r d → IsTileAbout lent g grid r d block
+  about_more d held =
+      let t : ℕ × ℕ = tile_at grid r c in
+      let inside : HoldsPoint (tile_area grid t.0 t.1) r d = subst (λ (a : Area). HoldsPoint a r d) about.area held in
+      let col : t.1 ≡ (tile_at grid r d).1 = place_only grid.area.cols grid.sides.width d t.1 (some_side grid.area.cols grid.sides.width t.1 d inside.1) inside.1 in
+      record {
+        area = about.area ∙ ap (tile_area grid t.0) col;
+        numbers = sym (ap (lent g t.0) col) ∙ about.numbers;
+        holds = held;
+      }
+
+-- ---- a row of points from the first on
+
+-- within the columns of an area
+row_held : (a : Area) (r c : ℤ) (n k : ℕ) → HoldsPoint a r c → (c +ℤ pos n) ≤ℤ (a.cols.hi +ℤ pos 1) → k < n → HoldsPoint a r (c +ℤ pos k)
+row_held a r c n k h most l = let low = h.1.0 in (h.0, (omega (arith, ints), omega (arith, ints)))
+
+take_len : (n : ℕ) (xs : List ℤ) → n ≤ length xs → length (take n xs) ≡ n
+take_len n xs le = grind (arith, common_steps)
+
+in_front : (k : ℕ) (xs ys : List ℤ) → k < length xs → at (xs ++ ys) k ≡ at xs k
+in_front k xs ys l = grind (arith, common_steps)
+
+-- as far as a part of a row goes
+pub part_held : (a : Area) (cols : Ends) (r c c' : ℤ) (n k : ℕ) (out : List ℤ) → HoldsPoint a r c → cols ≡ a.cols → c' ≡ c → (c' +ℤ pos n) ≤ℤ (cols.hi +ℤ pos 1) → n ≤ length out → k < length (take n out) → HoldsPoint a r (c +ℤ pos k)
+part_held a cols r c c' n k out h same col most le l =
+    let end : (c +ℤ pos n) ≤ℤ (a.cols.hi +ℤ pos 1) = subst (λ (z : ℤ). (z +ℤ pos n) ≤ℤ (a.cols.hi +ℤ pos 1)) col (subst (λ (s : Ends). (c' +ℤ pos n) ≤ℤ (s.hi +ℤ pos 1)) same most) in
+    row_held a r c n k h end (subst (λ (m : ℕ). k < m) (take_len n out le) l)
+
+-- the numbers of a part of a row
+pub part_number : (lent : Lending) (g : ℕ) (grid : Grid) (r c r' c' : ℤ) (block : Block) (n k : ℕ) (out new rest : List ℤ) → IsTileAbout lent g grid r c block → r' ≡ r → c' ≡ c → n ≤ length out → length new ≡ length (take n out) → k < n
+    → EachPlace (length (take n out)) (λ j. HoldsPoint block.area r (c +ℤ pos j))
+    → EachPlace (length (take n out)) (λ j. at new j ≡ at block.values.now (place_of block.area r' (c' +ℤ pos j)))
+    → at (new ++ rest) k ≡ number_at lent g grid r (c +ℤ pos k)
+part_number lent g grid r c r' c' block n k out new rest about row col le len l held numbers =
+    let within : k < length (take n out) = subst (λ (m : ℕ). k < m) (sym (take_len n out le)) l in
+    in_front k new rest (subst (λ (m : ℕ). k < m) (sym len) within)
+    ∙ numbers k within
+    ∙ (λ i. at block.values.now (place_of block.area (row i) (col i +ℤ pos k)))
+    ∙ number_is lent g grid r (c +ℤ pos k) block (about_more lent g grid r c block about (c +ℤ pos k) (held k within))
+
+put_before : (a n k : ℕ) (xs ys : List ℤ) → k < a → a ≤ length xs → at (put_mid a n xs ys) k ≡ at xs k
+put_before a n k xs ys l le = grind (arith, common_steps)
+
+put_within : (a n k : ℕ) (xs ys : List ℤ) → k < length ys → a ≤ length xs → at (put_mid a n xs ys) (a + k) ≡ at ys k
+put_within a n k xs ys l le = grind (arith, common_steps)
+
+put_len : (a : ℕ) (xs ys : List ℤ) → a ≤ length xs → length ys ≡ length xs - a → length (put_mid a (length xs - a) xs ys) ≡ length xs
+put_len a xs ys le e = grind (arith, common_steps)
+
+rest_len : (a : ℕ) (xs : List ℤ) → length (take (length xs - a) (drop a xs)) ≡ length xs - a
+rest_len a xs = grind (arith, common_steps)
+
+column : (c d : ℤ) (done k : ℕ) → d ≡ c +ℤ pos done → done ≤ k → d +ℤ pos (k - done) ≡ c +ℤ pos k
+column c d done k e l = omega (arith, ints)
+
+further : (c d : ℤ) (done k : ℕ) → d ≡ c +ℤ pos done → c +ℤ pos (done + k) ≡ d +ℤ pos k
+further c d done k e = omega (arith, ints)
+
+-- a row as far as it is done, and its rest from column d on
+module _ (c d : ℤ) (done : ℕ) (out : List ℤ) (le : done ≤ length out) (column_is : d ≡ c +ℤ pos done) where
+  -- what holds along the row holds along its rest
+  pub rest_held : (P : ℤ → Type 0) (n : ℕ) → length out ≡ n → EachPlace n (λ k. P (c +ℤ pos k)) → EachPlace (length (take (length out - done) (drop done out))) (λ k. P (d +ℤ pos k))
+  rest_held P n len each k h =
+      let short : k < length out - done = subst (λ (m : ℕ). k < m) (rest_len done out) h in
+      subst P (further c d done k column_is) (each (done + k) (omega arith))
+
+  module _ (new : List ℤ) (n : ℕ) (len : length new ≡ length (take (length out - done) (drop done out))) (most : n ≤ length (take (length out - done) (drop done out))) where
+    new_len : length new ≡ length out - done
+    new_len = len ∙ rest_len done out
+
+    pub still_most : done + n ≤ length (put_mid done (length out - done) out new)
+    still_most = omega (arith, put_len done out new le new_len, rest_len done out)
+
+    -- a row that is right as far as it is done goes on with numbers that are right
+    pub row_goes_on : (f : ℤ → ℤ) → EachPlace done (λ k. at out k ≡ f (c +ℤ pos k)) → EachPlace n (λ k. at new k ≡ f (d +ℤ pos k)) → EachPlace (done + n) (λ k. at (put_mid done (length out - done) out new) k ≡ f (c +ℤ pos k))
+    row_goes_on f old more k h = by (cases_lt k done)
+      where
+        by : (k < done) ⊎ (done ≤ k) → at (put_mid done (length out - done) out new) k ≡ f (c +ℤ pos k)
+        by (inl l) = put_before done (length out - done) k out new l le ∙ old k l
+        by (inr l) =
+            let short : k - done < n = omega arith in
+            let within : k - done < length new = omega (arith, len) in
+            let place : k ≡ done + (k - done) = omega arith in
+            ap (at (put_mid done (length out - done) out new)) place ∙ put_within done (length out - done) (k - done) out new within le ∙ more (k - done) short ∙ ap f (column c d done k column_is l)

@@ -1,0 +1,11 @@
+pub mod Planes
+pub mod Borders
+pub mod Hands
+pub mod LocalValues
+pub mod Computing
+pub mod Bridging
+pub mod Running
+pub mod Planned
+pub mod Storing
+pub mod Closing
+pub mod Making

@@ -1,0 +1,8 @@
+use Rattle.overlap_tiles.specs.Needs.{needed_keys, IsKeyBefore}
+use Rattle.overlap_tiles.proofs.Keys.{keys_rise}
+use Rattle.tile_run.specs.Runs.{is_missing}
+use Rattle.tile_run.proofs.Planned.{found_least}
+use Rattle.tile_run.proofs.laws.first_missing_is_least.Goals as goal
+
+pub returns : goal.returns
+returns c = λ program t lent key other. found_least IsKeyBefore (is_missing lent) (needed_keys program t) (keys_rise program t) key other

@@ -1,0 +1,7 @@
+pub mod Lent
+pub mod Tiles
+pub mod Local
+pub mod Steps
+pub mod Runs
+pub mod Stored
+pub mod Running

@@ -1,0 +1,30 @@
+#![tactic(auto)]
+//! Why a tile is not computed.
+
+ghost use Rattle.std.specs.Prelude.{◌≡◌};
+
+use job::Key;
+use std::alloc::{AllocError, AllocFailed};
+use thiserror::Error;
+
+/// Why a tile is not computed.
+#[derive(Clone, Copy, Debug, PartialEq, Eq, Error)]
+pub enum EvalFault {
+    /// The tile of this key is needed and not lent; no lesser one is.
+    #[error("a tile that is needed is not there")]
+    Missing(Key),
+    /// No memory was left.
+    #[error("out of memory")]
+    Memory,
+}
+
+impl From<AllocError> for EvalFault {
+    ghost use Rattle.std.specs.Prelude.{◌≡◌};
+    ghost use Rattle.tile_run.specs.declared.fault.EvalFault.TheVariants.{Memory};
+
+    ghost from_gives = { λ _ e. e ≡ Memory };
+
+    fn from(_e: AllocError) -> EvalFault {
+        EvalFault::Memory
+    }
+}

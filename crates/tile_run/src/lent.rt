@@ -1,0 +1,101 @@
+#![tactic(auto)]
+//! Rows and points of tiles that are lent.
+
+ghost use Rattle.std.specs.Prelude.{◌≡◌, ◌≤◌, ◌<◌, ◌+ℤ◌, ◌≤ℤ◌, pos, length, IfSome, IfNone};
+ghost use Rattle.domains.specs.Area.{IsArea};
+ghost use Rattle.domains.specs.Span.{Holds};
+ghost use Rattle.tile_eval.specs.Rows.{EachPlace, at};
+ghost use Rattle.tile_run.specs.Lent.{number_at, HasWholeTiles};
+ghost use Rattle.tile_run.specs.Tiles.{IsLentAt, IsTileAbout};
+
+use crate::lender::Lender;
+use domains::{Grid, Span};
+use tile_eval::Block;
+
+/// The tiles of one stage that are lent.
+#[derive(Drop)]
+pub(crate) struct Lent<'a, K: Lender> {
+    pub(crate) lender: &'a K,
+    pub(crate) stage: usize,
+    pub(crate) grid: Grid,
+    ghost area: { IsArea grid.area },
+    ghost whole: { HasWholeTiles (K.lent lender.now) stage grid },
+}
+
+// The number `k` behind `first`.
+#[inline]
+#[tactic(auto, using(std::proofs::lemmas::Int::ints))]
+fn behind(first: i32, k: usize) -> i32
+    requires few { k ≤ 100000 }
+    requires most { first ≤ℤ pos 1048576 }
+    ensures { result ≡ first +ℤ pos k }
+{
+    first + k as i32
+}
+
+// How many numbers of a span there are from this one on, but at most so many.
+#[tactic(auto, using(std::proofs::lemmas::Int::ints))]
+fn reach(span: &Span, first: i32, most: usize) -> usize
+    requires held { Holds span.now first }
+    requires some { 0 < most }
+    ensures some { 0 < result }
+    ensures most { result ≤ most }
+    ensures within { (first +ℤ pos result) ≤ℤ (span.now.hi +ℤ pos 1) }
+{
+    most.min((span.hi() - first) as usize + 1)
+}
+
+impl<'a, K: Lender> Lent<'a, K> {
+    // The tile in which a point lies, if it is lent.
+    fn block(&self, row: i32, col: i32) -> Option<Block<'a>>
+        ensures some { IfSome result (IsTileAbout (K.lent self.now.lender.now) self.now.stage self.now.grid row col) }
+        ensures none { IfNone result (¬ (IsLentAt (K.lent self.now.lender.now) self.now.stage self.now.grid row col)) }
+    {
+        let (i, j) = self.grid.tile_of(row, col)?;
+        let area = self.grid.tile(i, j)?;
+        let numbers = self.lender.tile(self.stage, i, j)?;
+        Some(Block::new(area, numbers))
+    }
+
+    // Writes the numbers along a row as far as the tile of its first point goes, and tells how many these are.
+    fn part(&self, row: i32, first: i32, out: &mut [i32]) -> usize
+        requires some { 0 < length out.old }
+        requires short { length out.old ≤ 100000 }
+        requires there { EachPlace (length out.old) (λ k. IsLentAt (K.lent self.now.lender.now) self.now.stage self.now.grid row (first +ℤ pos k)) }
+        ensures some { 0 < result }
+        ensures most { result ≤ length out.old }
+        ensures numbers { EachPlace result (λ k. at out.new k ≡ number_at (K.lent self.now.lender.now) self.now.stage self.now.grid row (first +ℤ pos k)) }
+    {
+        match self.block(row, first) {
+            Some(block) => {
+                let count = reach(block.columns(), first, out.len());
+                block.line(row, first, &mut out[..count]);
+                count
+            }
+            None => out.len(),
+        }
+    }
+
+    /// Writes the numbers along a row, from a column on.
+    pub(crate) fn line(&self, row: i32, first: i32, out: &mut [i32])
+        requires short { length out.old ≤ 100000 }
+        requires there { EachPlace (length out.old) (λ k. IsLentAt (K.lent self.now.lender.now) self.now.stage self.now.grid row (first +ℤ pos k)) }
+        ensures { EachPlace (length out.old) (λ k. at out.new k ≡ number_at (K.lent self.now.lender.now) self.now.stage self.now.grid row (first +ℤ pos k)) }
+    {
+        let mut done = 0;
+        while done < out.len() {
+            done += self.part(row, behind(first, done), &mut out[done..]);
+        }
+    }
+
+    /// The number of a point.
+    pub(crate) fn point(&self, row: i32, col: i32) -> i32
+        requires { IsLentAt (K.lent self.now.lender.now) self.now.stage self.now.grid row col }
+        ensures { result ≡ number_at (K.lent self.now.lender.now) self.now.stage self.now.grid row col }
+    {
+        match self.block(row, col) {
+            Some(block) => block.point(row, col),
+            None => 0,
+        }
+    }
+}

@@ -1,0 +1,214 @@
+#![tactic(auto)]
+//! All stored functions of a job, each after those that it reads.
+
+ghost use Rattle.std.specs.Prelude.{◌≡◌, ◌<◌, ◌≤◌, ◌+◌, ℕ, Some, None, true, false, length, map, replicate, slice_get, IfOk, IfErr};
+ghost use Rattle.domains.specs.Tiles.{HasTile, tile_rows, tile_cols};
+ghost use Rattle.domains.specs.declared.grid.Grid.{Grid as GridOf};
+ghost use Rattle.job.specs.Answers.{grid_of};
+ghost use Rattle.job.specs.Kept.{pipeline_in, program_id_in};
+ghost use Rattle.job.specs.Pipeline.{Stage as StageOf, rank_of};
+ghost use Rattle.job.specs.Views.{stage_view};
+ghost use Rattle.job.specs.WellFormed.{IsJob};
+ghost use Rattle.grouping.specs.Inlining.{AllFitScratch};
+ghost use Rattle.grouping.specs.Order.{greatest_rank};
+ghost use Rattle.grouping.specs.Schedules.{is_inlined, is_function_body};
+ghost use Rattle.overlap_tiles.specs.Plans.{IsTilePlan};
+ghost use Rattle.tile_run.specs.Running.{row_numbers, tile_values, row_values, grid_values, AreTilesOf, AreStored, IsReady, StoredFit};
+ghost use Rattle.tile_run.specs.Stored.{stored_tiles, IsStoredFunction, LendsAllTiles};
+ghost use Rattle.tile_run.specs.Lent.{AreTrue};
+
+use crate::fault::EvalFault;
+use crate::run::run_tile;
+use crate::stored::{Stored, TileRow, Tiles};
+use domains::Grid;
+use grouping::Schedule;
+use job::{Job, Stage, StageKind};
+use overlap_tiles::{PlanFault, TilePlan};
+use std::alloc::{AllocError, Global};
+
+// A stored function of a job, whose tiles are to be made, with what is stored of those that it reads.
+#[derive(Clone, Copy)]
+struct Work<'a> {
+    job: &'a Job,
+    schedule: &'a Schedule,
+    stored: &'a Stored,
+    stage: usize,
+    grid: Grid,
+}
+
+impl Work<'_> {
+    // The plan of a tile.
+    fn plan(&self, alloc: Global, row: u32, col: u32) -> Result<TilePlan, AllocError>
+        requires ready { IsReady (pipeline_in self.now.job.now) self.now.schedule.now.flags self.now.stored.now.stages.items self.now.stage self.now.grid }
+        requires tile { HasTile self.now.grid row col }
+        ensures { IfOk result (IsTilePlan (program_id_in self.now.job.now) (pipeline_in self.now.job.now) self.now.schedule.now.flags self.now.stage row col) }
+    {
+        match TilePlan::of(alloc, self.job, self.schedule, self.stage, row, col) {
+            Ok(plan) => Ok(plan),
+            Err(PlanFault::NoSuchTile | PlanFault::ScratchTooBig) => unreachable!(),
+            Err(PlanFault::Memory) => Err(AllocError),
+        }
+    }
+
+    // The values of a tile.
+    fn tile(&self, alloc: Global, row: u32, col: u32) -> Result<Vec<i32>, AllocError>
+        requires ready { IsReady (pipeline_in self.now.job.now) self.now.schedule.now.flags self.now.stored.now.stages.items self.now.stage self.now.grid }
+        requires tile { HasTile self.now.grid row col }
+        ensures { IfOk result (λ values. values.items ≡ tile_values (pipeline_in self.now.job.now) self.now.stage self.now.grid row col) }
+    {
+        let plan = self.plan(alloc, row, col)?;
+        match run_tile(alloc, self.job, self.schedule, &plan, self.stored) {
+            Ok(values) => Ok(values),
+            Err(EvalFault::Missing(_)) => unreachable!(),
+            Err(EvalFault::Memory) => Err(AllocError),
+        }
+    }
+
+    // Those of a row of tiles.
+    fn row(&self, alloc: Global, row: u32) -> Result<TileRow, AllocError>
+        requires ready { IsReady (pipeline_in self.now.job.now) self.now.schedule.now.flags self.now.stored.now.stages.items self.now.stage self.now.grid }
+        requires row { row < tile_rows self.now.grid }
+        ensures { IfOk result (λ tiles. row_numbers tiles ≡ row_values (pipeline_in self.now.job.now) self.now.stage self.now.grid row (tile_cols self.now.grid)) }
+    {
+        let mut tiles = Vec::new(alloc);
+        for col in 0..self.grid.tile_cols() {
+            tiles.push(self.tile(alloc, row, col)?)?;
+        }
+        Ok(TileRow { tiles })
+    }
+
+    // Those of all tiles.
+    fn tiles(&self, alloc: Global) -> Result<Tiles, AllocError>
+        requires ready { IsReady (pipeline_in self.now.job.now) self.now.schedule.now.flags self.now.stored.now.stages.items self.now.stage self.now.grid }
+        ensures { IfOk result (λ tiles. map row_numbers tiles.rows.items ≡ grid_values (pipeline_in self.now.job.now) self.now.stage self.now.grid (tile_rows self.now.grid)) }
+    {
+        let mut rows = Vec::new(alloc);
+        for row in 0..self.grid.tile_rows() {
+            rows.push(self.row(alloc, row)?)?;
+        }
+        Ok(Tiles { rows })
+    }
+}
+
+impl Stored {
+    // Of so many stages none is stored.
+    fn none(alloc: Global, count: usize) -> Result<Stored, AllocError>
+        ensures length { IfOk result (λ stored. length stored.stages.items ≡ count) }
+        ensures none { IfOk result (λ stored. (g i j : ℕ) → stored_tiles stored.stages.items g i j ≡ None) }
+    {
+        let mut stages = Vec::new(alloc);
+        for _ in 0..count {
+            stages.push(Tiles {
+                rows: Vec::new(alloc),
+            })?;
+        }
+        Ok(Stored { stages })
+    }
+
+    // The tiles of a stage, if it is a stored function.
+    fn tiles_of(
+        &self,
+        alloc: Global,
+        job: &Job,
+        schedule: &Schedule,
+        stage: usize,
+    ) -> Result<Tiles, AllocError>
+        requires job { IsJob (pipeline_in job.now) }
+        requires few { length (pipeline_in job.now).stages ≤ 65536 }
+        requires fit { StoredFit (pipeline_in job.now) schedule.now.flags }
+        requires lower { AreStored (pipeline_in job.now) schedule.now.flags (rank_of (pipeline_in job.now).stages stage) self.now.stages.items }
+        ensures { IfOk result (AreTilesOf (pipeline_in job.now) schedule.now.flags stage) }
+    {
+        match job.stage(stage) {
+            Some(found) if is_stored(schedule, stage, found) => {
+                let grid = Grid::new(*found.domain(), job.sides());
+                let work = Work {
+                    job,
+                    schedule,
+                    stored: self,
+                    stage,
+                    grid,
+                };
+                work.tiles(alloc)
+            }
+            _ => Ok(Tiles {
+                rows: Vec::new(alloc),
+            }),
+        }
+    }
+
+    // The tiles of a rank besides, where those of lower ranks are stored.
+    fn add_rank(
+        &mut self,
+        alloc: Global,
+        job: &Job,
+        schedule: &Schedule,
+        rank: usize,
+    ) -> Result<(), AllocError>
+        requires job { IsJob (pipeline_in job.now) }
+        requires few { length (pipeline_in job.now).stages ≤ 65536 }
+        requires fit { StoredFit (pipeline_in job.now) schedule.now.flags }
+        requires lower { AreStored (pipeline_in job.now) schedule.now.flags rank self.old.stages.items }
+        ensures { IfOk result (λ done. AreStored (pipeline_in job.now) schedule.now.flags (rank + 1) self.new.stages.items) }
+    {
+        for number in 0..job.stages().len() {
+            if job.rank(number) == Some(rank) {
+                self.stages[number] = self.tiles_of(alloc, job, schedule, number)?;
+            }
+        }
+        Ok(())
+    }
+
+    // The tiles of all ranks up to this one.
+    fn through(
+        alloc: Global,
+        job: &Job,
+        schedule: &Schedule,
+        rank: usize,
+    ) -> Result<Stored, AllocError>
+        requires job { IsJob (pipeline_in job.now) }
+        requires few { length (pipeline_in job.now).stages ≤ 65536 }
+        requires fit { StoredFit (pipeline_in job.now) schedule.now.flags }
+        ensures { IfOk result (λ stored. AreStored (pipeline_in job.now) schedule.now.flags (rank + 1) stored.stages.items) }
+    {
+        let mut stored = Stored::none(alloc, job.stages().len())?;
+        for lower in 0..rank {
+            stored.add_rank(alloc, job, schedule, lower)?;
+        }
+        stored.add_rank(alloc, job, schedule, rank)?;
+        Ok(stored)
+    }
+}
+
+// Whether a stage is a function that is not inlined.
+fn is_stored(schedule: &Schedule, number: usize, stage: &Stage) -> bool
+    ensures stored { result ≡ true → is_function_body (stage_view stage.now).body ≡ true × is_inlined schedule.now.flags number ≡ false }
+    ensures other { result ≡ false → is_function_body (stage_view stage.now).body ≡ true → is_inlined schedule.now.flags number ≡ true }
+{
+    stage.kind() == StageKind::Function && !schedule.inlined(number)
+}
+
+fn last_rank(stages: &[Stage]) -> usize
+    ensures { result ≡ greatest_rank (map stage_view stages.now) }
+{
+    let mut last = 0;
+    for stage in stages {
+        last = stage.rank().max(last);
+    }
+    last
+}
+
+/// All tiles of the stored functions of a job: those of a rank after those of lower ranks.
+///
+/// # Errors
+///
+/// Fails only where memory is refused.
+pub fn run_all(alloc: Global, job: &Job, schedule: &Schedule) -> Result<Stored, AllocError>
+    requires job { IsJob (pipeline_in job.now) }
+    requires few { length (pipeline_in job.now).stages ≤ 65536 }
+    requires fit { AllFitScratch (pipeline_in job.now) schedule.now.flags }
+    ensures all { IfOk result (λ stored. LendsAllTiles (pipeline_in job.now) schedule.now.flags (stored_tiles stored.stages.items)) }
+    ensures values { IfOk result (λ stored. AreTrue (pipeline_in job.now) (stored_tiles stored.stages.items)) }
+{
+    Stored::through(alloc, job, schedule, last_rank(job.stages()))
+}

@@ -1,0 +1,60 @@
+#![tactic(auto)]
+//! Samples of planes as numbers.
+
+ghost use Rattle.std.specs.Prelude.{◌≡◌, ◌≤◌, ◌<◌, ◌+◌, ◌*◌, ◌≤ℤ◌, ◌+ℤ◌, pos, length, slice_index, slice_index_or, unsigned_abs, []};
+ghost use Rattle.domains.specs.Area.{HoldsPoint};
+ghost use Rattle.job.specs.Values.{sample_at};
+ghost use Rattle.job.specs.WellFormed.{picture_area};
+ghost use Rattle.tile_eval.specs.Rows.{EachPlace, at};
+
+use netpbm::Picture;
+
+// Takes the samples from a place on.
+fn widen(samples: &[u16], place: usize, out: &mut [i32])
+    requires { place + length out.old ≤ length samples.now }
+    ensures { EachPlace (length out.old) (λ k. at out.new k ≡ pos (slice_index samples.now (place + k))) }
+{
+    for k in 0..out.len() {
+        out[k] = i32::from(samples[place + k]);
+    }
+}
+
+// The place of a sample among those of a plane.
+#[tactic(auto, using(crate::proofs::Planes::sample_below))]
+fn place_in(picture: &Picture, row: i32, col: i32) -> usize
+    requires { HoldsPoint (picture_area picture.now) row col }
+    ensures place { result ≡ unsigned_abs row * picture.now.cols + unsigned_abs col }
+    ensures below { result < picture.now.rows * picture.now.cols }
+{
+    row as usize * picture.cols() as usize + col as usize
+}
+
+// The samples of a plane, row by row.
+#[tactic(auto, using(tile_eval::proofs::Sampling::plane_found))]
+fn plane_of(picture: &Picture, plane: usize) -> &[u16]
+    requires { plane < length picture.now.planes }
+    ensures samples { result.now ≡ slice_index_or picture.now.planes plane [] }
+    ensures whole { length result.now ≡ picture.now.rows * picture.now.cols }
+{
+    &picture.planes()[plane]
+}
+
+/// The samples of a plane along a row, from a column on.
+pub(crate) fn plane_line(picture: &Picture, plane: usize, row: i32, first: i32, out: &mut [i32])
+    requires plane { plane < length picture.now.planes }
+    requires there { EachPlace (length out.old) (λ k. HoldsPoint (picture_area picture.now) row (first +ℤ pos k)) }
+    ensures { EachPlace (length out.old) (λ k. at out.new k ≡ sample_at picture.now plane row (first +ℤ pos k)) }
+{
+    if !out.is_empty() {
+        widen(plane_of(picture, plane), place_in(picture, row, first), out);
+    }
+}
+
+/// A sample of a plane.
+pub(crate) fn plane_point(picture: &Picture, plane: usize, row: i32, col: i32) -> i32
+    requires plane { plane < length picture.now.planes }
+    requires there { HoldsPoint (picture_area picture.now) row col }
+    ensures { result ≡ sample_at picture.now plane row col }
+{
+    i32::from(picture.sample(plane, row as u32, col as u32))
+}

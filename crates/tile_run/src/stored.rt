@@ -1,0 +1,35 @@
+#![tactic(auto)]
+//! Tiles in memory.
+
+use crate::lender::Lender;
+
+/// The tiles in one row of a grid, each with its numbers row by row.
+#[derive(Drop)]
+pub(crate) struct TileRow {
+    pub(crate) tiles: Vec<Vec<i32>>,
+}
+
+/// The tiles of one stage.
+#[derive(Drop)]
+pub(crate) struct Tiles {
+    pub(crate) rows: Vec<TileRow>,
+}
+
+/// The tiles of a job's functions, each function's at the place of its number; of functions that are not stored there are none.
+#[derive(Drop)]
+pub struct Stored {
+    pub(crate) stages: Vec<Tiles>,
+}
+
+impl Lender for Stored {
+    ghost use Rattle.tile_run.specs.Stored.{stored_tiles};
+
+    ghost lent = { λ stored. stored_tiles stored.stages.items };
+
+    fn tile(&self, stage: usize, row: u32, col: u32) -> Option<&[i32]> {
+        let tiles = self.stages.get(stage)?;
+        let row = tiles.rows.get(row as usize)?;
+        let numbers = row.tiles.get(col as usize)?;
+        Some(numbers.as_slice())
+    }
+}
