@@ -31,7 +31,7 @@ use Rattle.tilefarm.specs.Faults.{IsFaultOf, blamed}
 use Rattle.tilefarm.specs.Giving.{Given, AreGiven, unset_of}
 use Rattle.tilefarm.specs.Input.{IsInput, IsInputJob, IsParted, IsRunnable, program_at}
 use Rattle.tilefarm.specs.Outcomes.{IfRead, WritesResult, most_input}
-use Rattle.tilefarm.specs.Steps.{IsParamRefusal, IsRefusal, TellsBind}
+use Rattle.tilefarm.specs.Steps.{TellsBind}
 use Rattle.tilefarm.specs.Told.{told_parse, told_picture}
 use Rattle.tilefarm.proofs.Handing.{params_named}
 
@@ -57,31 +57,6 @@ picture_fault input text spelling given sides tree (pictures.CommentBehindDigit 
 picture_fault input text spelling given sides tree (pictures.RasterCut n) parted program is = (text, spelling, tree, parted, program, is, λ e. cc)
 picture_fault input text spelling given sides tree (pictures.SampleTooBig n) parted program is = (text, spelling, tree, parted, program, is, λ e. cc)
 picture_fault input text spelling given sides tree (pictures.TrailingBytes n) parted program is = (text, spelling, tree, parted, program, is, λ e. cc)
-
-pub check_fault : (input : List ℕ) (given : List Given) (sides : Sides) (tree : List Declaration) (source : Image) (f : StreamFault) → IsInput input tree source → IsRefusal tree f → IsFaultOf input given sides f
-check_fault input given sides tree source (faults.Check line) read is = (tree, source, read, is)
-check_fault input given sides tree source faults.Memory read is = tt
-check_fault input given sides tree source faults.Read read is = absurd is
-check_fault input given sides tree source faults.TooLong read is = absurd is
-check_fault input given sides tree source faults.NoSeparator read is = absurd is
-check_fault input given sides tree source (faults.Program x) read is = absurd is
-check_fault input given sides tree source (faults.Picture x) read is = absurd is
-check_fault input given sides tree source (faults.Param x) read is = absurd is
-check_fault input given sides tree source (faults.Bind x) read is = absurd is
-check_fault input given sides tree source faults.Write read is = absurd is
-
-pub param_fault : (input : List ℕ) (given : List Given) (sides : Sides) (tree : List Declaration) (source : Image) (f : StreamFault) → IsInput input tree source → IsRunnable tree
-    → IsParamRefusal (unset_of tree) given f → IsFaultOf input given sides f
-param_fault input given sides tree source (faults.Param line) read runnable is = (tree, source, read, runnable, is)
-param_fault input given sides tree source faults.Memory read runnable is = tt
-param_fault input given sides tree source faults.Read read runnable is = absurd is
-param_fault input given sides tree source faults.TooLong read runnable is = absurd is
-param_fault input given sides tree source faults.NoSeparator read runnable is = absurd is
-param_fault input given sides tree source (faults.Program x) read runnable is = absurd is
-param_fault input given sides tree source (faults.Picture x) read runnable is = absurd is
-param_fault input given sides tree source (faults.Check x) read runnable is = absurd is
-param_fault input given sides tree source (faults.Bind x) read runnable is = absurd is
-param_fault input given sides tree source faults.Write read runnable is = absurd is
 
 bind_fault : (input : List ℕ) (given : List Given) (sides : Sides) (tree : List Declaration) (source : Image) (chosen : List Setting) (ranks : List ℕ) (fault : BindFault) (f : StreamFault)
     → IsInput input tree source → IsRunnable tree → AreGiven (unset_of tree) given chosen → IsRanking (graph_of tree) ranks

@@ -1,16 +1,12 @@
 -- Lists: what stands at a place.
 use Rattle.std.proofs.Common.{Result, Ok, Err, IfOk, Bool, not, cond, nat_lt, position, ℕ, ◌+◌, ◌<◌, ◌≡◌, List, [], ◌∷◌, Some, None, length, map, get_or, slice_get, refl, ap, ◌∙◌}
-use Rattle.std.specs.Option.{option_map}
 use Rattle.std.specs.List.{position_or_len}
 use Rattle.std.proofs.lemmas.List.{length-map}
-use Rattle.std.proofs.lemmas.Option.{slice_get-map, slice_get_read}
+use Rattle.std.proofs.lemmas.Option.{slice_get_read}
 
 -- what a loop over a list has before it
 pub here_is : {X : Type 0} (xs : List X) (i : ℕ) (x : X) → i < length xs → x ≡ get_or xs i x → slice_get xs i ≡ Some x
 here_is xs i x within is = slice_get_read xs (length xs) i x refl within is
-
-pub at_map : {X Y : Type 0} (f : X → Y) (xs : List X) (i : ℕ) (x : X) → slice_get xs i ≡ Some x → slice_get (map f xs) i ≡ Some (f x)
-at_map f xs i x at = slice_get-map f xs i ∙ ap (option_map f) at
 
 -- where the first element stands that passes, seen through a map
 place_map : {X Y : Type 0} (p : Y → Bool) (f : X → Y) (xs : List X) → position_or_len p (map f xs) ≡ position_or_len (λ x. p (f x)) xs

@@ -1,8 +1,11 @@
 //! From the bytes of the input to the bytes of the result.
 
-ghost use Rattle.std.specs.Prelude.{◌≡◌, ◌≤◌, IfOk, IfErr, IfSome, List, length};
+ghost use Rattle.std.specs.Prelude.{◌≡◌, ◌≤◌, IfOk, IfErr, IfSome, OnOk, OnErr, List, length};
+ghost use Rattle.std.specs.Io.KnownBytes.{Appends};
 ghost use Rattle.domains.specs.Sides.{Sides};
 ghost use Rattle.netpbm.specs.Image.{IsImage};
+ghost use Rattle.netpbm.specs.Spelling.{spelling};
+ghost use Rattle.netpbm.specs.Streams.{AppendsPart};
 ghost use Rattle.pipe_lang.specs.Tree.{content};
 ghost use Rattle.job.specs.Kept.{pipeline_in};
 ghost use Rattle.job.specs.WellFormed.{IsJob};
@@ -11,6 +14,7 @@ ghost use Rattle.tilefarm.specs.Giving.{Given};
 ghost use Rattle.tilefarm.specs.Input.{IsInput, IsInputJob, IsResult};
 ghost use Rattle.tilefarm.specs.Outcomes.{WritesResult, CountsRead, CountsWritten, most_input};
 ghost use Rattle.tilefarm.specs.Steps.{IsOfReader};
+ghost use Rattle.tilefarm.specs.declared.faults.StreamFault.TheVariants.{Write};
 
 use crate::accepted::accept;
 use crate::answer::evaluate;
@@ -67,7 +71,17 @@ pub fn eval_stream<H: AllocGlobal, R: Source, W: Sink>(
 {
     let input = read_input(rt.alloc(), reader)?;
     let picture = result_of(rt.alloc(), options.sides, parameters, input.as_slice())?;
-    match write_raw(&picture, writer) {
+    write_result(&picture, writer)
+}
+
+/// Writes the raw spelling of a picture.
+fn write_result<W: Sink>(picture: &Picture, writer: &mut W) -> Result<(), StreamFault>
+    ensures ok { OnOk result (Appends (W.contents writer.old) (W.contents writer.new) (spelling picture.now)) }
+    ensures part { OnErr result (AppendsPart (W.contents writer.old) (W.contents writer.new) (spelling picture.now)) }
+    ensures fault { IfErr result (λ fault. fault ≡ Write) }
+    ensures write { CountsWritten result (W.failures writer.old) (W.failures writer.new) }
+{
+    match write_raw(picture, writer) {
         Ok(()) => Ok(()),
         Err(_) => Err(StreamFault::Write),
     }
