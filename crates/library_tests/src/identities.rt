@@ -3,6 +3,7 @@
 
 use crate::binding::job_of;
 use job::{InputId, Key, ProgramId};
+use std::str;
 use std::test::Fail;
 
 /// A program that copies a grey picture.
@@ -22,6 +23,10 @@ fn bytes_of_a_grey_input(rt: HostRuntime) -> Result<(), Fail> {
     assert_eq!(rt;
         format!(in alloc; "{}", job.input_id())?.as_str(),
         "fd17eda6718699f8da71d309eb34c2ee2e0220a4b9694dd8c3c44b40c42d07d9"
+    );
+    assert_eq!(rt;
+        str::from_utf8(job.program_text())?,
+        "param R;param C;image I(R,C);func f(x in[0..R-1],y in[0..C-1]){else:I(x,y);}output f max 255;"
     );
     assert_eq!(rt;
         format!(in alloc; "{}", job.program_id())?.as_str(),

@@ -7,12 +7,20 @@ mod areas;
 #[cfg(test)]
 mod binding;
 #[cfg(test)]
+mod greedy;
+#[cfg(test)]
 mod identities;
 #[cfg(test)]
 mod jobs;
 #[cfg(test)]
 mod pictures;
 #[cfg(test)]
+mod plans;
+#[cfg(test)]
+mod schedules;
+#[cfg(test)]
 mod texts;
+#[cfg(test)]
+mod tiles;
 #[cfg(test)]
 mod values;
