@@ -23,3 +23,4 @@ pub mod SmallLaws
 pub mod SmallSettings
 pub mod KeyLaws
 pub mod InputLaws
+pub mod Hashed

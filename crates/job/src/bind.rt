@@ -13,16 +13,15 @@ ghost use Rattle.job.specs.Binding.{item_images, IsJobOf};
 ghost use Rattle.netpbm.specs.Image.{IsImage};
 ghost use Rattle.job.specs.WellFormed.{IsJob};
 ghost use Rattle.job.specs.Parts.{ArePartsOf, AreBoundParts, IsPartsFault};
-ghost use Rattle.job.specs.Views.{program_of, pipeline_of};
+ghost use Rattle.job.specs.Views.{program_of};
 ghost use Rattle.sha2.specs.Sha256.{sha256};
 ghost use Rattle.pipe_print.specs.Canonical.{canonical};
-ghost use Rattle.job.specs.Identity.{input_id};
 
 use crate::draft::Draft;
 use crate::fault::BindFault;
 use crate::fits::judge_picture;
-use crate::hashing::{input_id, program_id};
-use crate::identity::{InputId, ProgramId};
+use crate::hashing::program_id;
+use crate::identity::ProgramId;
 use crate::job::Job;
 use crate::outputs::{Output, Parameter, only_image, parameters};
 use crate::resolve::Resolver;
@@ -123,19 +122,14 @@ fn bound_parts(
     }
 }
 
-// The canonical text of a program, its identity, and that of what the program is given.
-fn identities(
-    alloc: Global,
-    tree: &Tree,
-    draft: &Draft,
-) -> Result<(Vec<u8>, ProgramId, InputId), AllocError>
-    ensures text { IfOk result (λ ids. ids.0.items ≡ canonical (content tree.now)) }
-    ensures program { IfOk result (λ ids. ids.1 ≡ sha256 ids.0.items) }
-    ensures input { IfOk result (λ ids. ids.2 ≡ input_id (pipeline_of draft.now)) }
+// The canonical text of a program, and its identity.
+fn named(alloc: Global, tree: &Tree) -> Result<(Vec<u8>, ProgramId), AllocError>
+    ensures text { IfOk result (λ named. named.0.items ≡ canonical (content tree.now)) }
+    ensures program { IfOk result (λ named. named.1 ≡ sha256 named.0.items) }
 {
     let text = print(alloc, tree)?;
     let program = program_id(&text);
-    Ok((text, program, input_id(alloc, draft)?))
+    Ok((text, program))
 }
 
 impl Job {
@@ -143,7 +137,7 @@ impl Job {
 
     /// The job that a program is at the values of its parameters, for a picture and the sides of tiles; a parameter without
     /// a value is a side of the picture where an extent is this parameter alone. Else the first fault, in the order of
-    /// `BindFault`, and what was given.
+    /// `BindFault`, and what was given. The text is hashed, and the picture is not.
     pub fn bind(
         alloc: Global,
         checked: Checked,
@@ -171,12 +165,12 @@ impl Job {
                 };
                 match draft.size_fault() {
                     Some(fault) => Err((checked, draft.picture, fault)),
-                    None => match identities(alloc, checked.tree(), &draft) {
-                        Ok((text, program, input)) => Ok(Job {
+                    None => match named(alloc, checked.tree()) {
+                        Ok((text, program)) => Ok(Job {
                             draft,
                             text,
                             program,
-                            input,
+                            input: None,
                         }),
                         Err(AllocError) => Err((checked, draft.picture, BindFault::Memory)),
                     },

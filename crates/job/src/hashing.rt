@@ -1,7 +1,8 @@
 #![tactic(auto)]
 //! What is hashed of a job: its program's canonical text, and what the program is given.
 
-ghost use Rattle.std.specs.Prelude.{◌≡◌, ◌++◌, IfOk, OnOk};
+ghost use Rattle.std.specs.Prelude.{◌≡◌, ◌++◌, ℕ, List, map, IfOk, OnOk};
+ghost use Rattle.std.specs.List.{flat_map};
 ghost use Rattle.std.specs.Int.{w16, to_be_bytes};
 ghost use Rattle.sha2.specs.Sha256.{sha256};
 ghost use Rattle.job.specs.Identity.{parameter_bytes, settings_bytes, input_bytes, input_id};
@@ -21,14 +22,43 @@ pub(crate) fn program_id(text: &[u8]) -> ProgramId
     ProgramId::new(Sha256::digest(text))
 }
 
-/// The identity of what a program is given. The picture is hashed piece by piece.
-pub(crate) fn input_id(alloc: Global, draft: &Draft) -> Result<InputId, AllocError>
-    ensures { IfOk result (λ id. id ≡ input_id (pipeline_of draft.now)) }
+/// The identity of what a program is given. All is hashed piece by piece, without memory.
+pub(crate) fn input_id(draft: &Draft) -> InputId
+    ensures { result ≡ input_id (pipeline_of draft.now) }
 {
-    let settings = settings_bytes(alloc, draft)?;
-    let mut hasher = Sha256::new_with_prefix(settings.as_slice());
+    let mut hasher = Sha256::new();
+    hash_settings(&mut hasher, draft);
     hash_raw(&draft.picture, &mut hasher);
-    Ok(InputId::new(hasher.finalize()))
+    InputId::new(hasher.finalize())
+}
+
+// What is hashed before the picture.
+fn hash_settings<D: Digest>(hasher: &mut D, draft: &Draft)
+    ensures { (m : List ℕ) → D.holds hasher.old m → D.holds hasher.new (m ++ settings_bytes (pipeline_of draft.now)) }
+{
+    let parameters = draft.params.as_slice();
+    hasher.update(b"PTI1");
+    hasher.update(&draft.sides.height().to_be_bytes());
+    hasher.update(&draft.sides.width().to_be_bytes());
+    hasher.update(&count_bytes(parameters.len()));
+    hash_parameters(hasher, parameters);
+}
+
+fn hash_parameters<D: Digest>(hasher: &mut D, parameters: &[Parameter])
+    ensures { (m : List ℕ) → D.holds hasher.old m → D.holds hasher.new (m ++ flat_map parameter_bytes (map parameter_view parameters.now)) }
+{
+    for parameter in parameters {
+        hash_parameter(hasher, parameter);
+    }
+}
+
+fn hash_parameter<D: Digest>(hasher: &mut D, parameter: &Parameter)
+    ensures { (m : List ℕ) → D.holds hasher.old m → D.holds hasher.new (m ++ parameter_bytes (parameter_view parameter.now)) }
+{
+    let name = parameter.name.as_bytes();
+    hasher.update(&[name.len() as u8]);
+    hasher.update(name);
+    hasher.update(&parameter.value.to_be_bytes());
 }
 
 /// The bytes whose digest is the identity of what a program is given.

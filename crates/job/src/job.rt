@@ -2,7 +2,7 @@
 //! Programs that are bound to pictures.
 
 ghost use Rattle.std.specs.Prelude.{◌≡◌, ◌↔◌, map, slice_get, IsSome, IfSome, IfOk};
-ghost use Rattle.std.specs.Option.{option_map};
+ghost use Rattle.std.specs.Option.{option_map, ForSome};
 ghost use Rattle.sha2.specs.Sha256.{sha256};
 ghost use Rattle.job.specs.Identity.{input_bytes, input_id, HasTileAt};
 ghost use Rattle.job.specs.Readers.{kind_of, grid_at, stage_fold, stage_bins};
@@ -26,9 +26,9 @@ pub struct Job {
     pub(crate) draft: Draft,
     pub(crate) text: Vec<u8>,
     pub(crate) program: ProgramId,
-    pub(crate) input: InputId,
+    pub(crate) input: Option<InputId>,
     ghost named: { program ≡ sha256 text.items },
-    ghost hashed: { input ≡ input_id (pipeline_of draft) },
+    ghost hashed: { ForSome input (λ id. id ≡ input_id (pipeline_of draft)) },
 }
 
 /// What a stage is.
@@ -161,18 +161,31 @@ impl Job {
         &self.text
     }
 
-    /// The identity of the program: the digest of its canonical text.
+    /// The identity of the program: the digest of its canonical text. It is always kept.
     pub fn program_id(&self) -> ProgramId
         ensures { result ≡ program_id_in self.now }
     {
         self.program
     }
 
-    /// The identity of what the program is given: of the sides of the tiles, the parameters and the picture.
+    /// The identity of what the program is given: of the sides of the tiles, the parameters and the picture. Where it is not
+    /// kept, all samples of the picture are hashed at each call; no memory is taken.
     pub fn input_id(&self) -> InputId
         ensures { result ≡ input_id (pipeline_in self.now) }
     {
-        self.input
+        match self.input {
+            Some(id) => id,
+            None => hashing::input_id(&self.draft),
+        }
+    }
+
+    /// Hashes what the program is given, and keeps this identity: from then on `input_id` and `key` hash nothing.
+    pub fn keep_input_id(&mut self)
+        ensures pipeline { pipeline_in self.new ≡ pipeline_in self.old }
+        ensures text { program_text_in self.new ≡ program_text_in self.old }
+        ensures program { program_id_in self.new ≡ program_id_in self.old }
+    {
+        self.input = Some(self.input_id());
     }
 
     /// The bytes whose digest is `input_id`.
@@ -186,7 +199,8 @@ impl Job {
         hashing::input_bytes(alloc, &self.draft)
     }
 
-    /// The key of the tile in this row and column of the stage's grid; none where there is no such tile.
+    /// The key of the tile in this row and column of the stage's grid; none where there is no such tile. It names what the
+    /// program is given, at the cost of `input_id`.
     pub fn key(&self, stage: u16, row: u32, col: u32) -> Option<Key>
         ensures there { IsSome result ↔ HasTileAt (pipeline_in self.now) stage row col }
         ensures key { IfSome result (λ k. k ≡ record { program = program_id_in self.now; input = input_id (pipeline_in self.now); stage = stage; row = row; col = col }) }
@@ -195,7 +209,7 @@ impl Job {
         grid.tile(row, col)?;
         Some(Key {
             program: self.program,
-            input: self.input,
+            input: self.input_id(),
             stage,
             row,
             col,

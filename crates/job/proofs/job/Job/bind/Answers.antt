@@ -8,14 +8,14 @@ use Rattle.job.specs.Views.{program_of}
 use Rattle.job.proofs.Assembling.{bound_is_job, bound_is_said, late_fault}
 use Rattle.job.proofs.job.Job.bind.Goals as goal
 
-pub returns-in-Ok-identities-clause-job : goal.returns-in-Ok-identities-clause-job
-returns-in-Ok-identities-clause-job c =
+pub returns-in-Ok-named-clause-job : goal.returns-in-Ok-named-clause-job
+returns-in-Ok-named-clause-job c =
     let known = c.bound_parts.ensures.checked in
     bound_is_job (content (tree_in c.args.checked)) (program_of c.args.checked c.args.params.now) c.args.picture c.args.sides c.in-Ok.parts known.named known.stages known.ranks c.in-Ok.ensures.ok
     c.height.ensures.within c.in-None.ensures.none.0 c.in-None.ensures.none.1
 
-pub returns-in-Ok-identities-clause-says : goal.returns-in-Ok-identities-clause-says
-returns-in-Ok-identities-clause-says c = λ names.
+pub returns-in-Ok-named-clause-says : goal.returns-in-Ok-named-clause-says
+returns-in-Ok-named-clause-says c = λ names.
     let known = c.bound_parts.ensures.checked in
     bound_is_said (content (tree_in c.args.checked)) (program_of c.args.checked c.args.params.now) c.args.picture c.args.sides c.in-Ok.parts known.named known.stages known.ranks c.in-Ok.ensures.ok
     (names ∙ ap (λ (ds : List Declared). map (λ d. d.name) ds) known.params)
