@@ -1,4 +1,5 @@
--- A schedule as contracts see it: a flag for each stage, whether it is inlined, and what each stage costs.
+-- A schedule as contracts see it: a flag for each stage, whether it is inlined; what each stage costs; and whether each tile is
+-- known to have room in scratch memory.
 use Rattle.std.specs.Prelude.{ℕ, ◌<◌, ◌≡◌, Bool, true, false, ◌&&◌, not, Option, Some, List, map, length, slice_get}
 use Rattle.std.specs.List.{range_with_len}
 use Rattle.job.specs.Pipeline.{Stage, Pipeline}
@@ -11,20 +12,22 @@ use Rattle.grouping.specs.declared.fault.ScheduleFault.TheVariants.{OutputInline
 pub record Inlining : Type 0 where
   pub flags : List Bool
   pub costs : List (Option ℕ)
+  pub fits : Bool
 
 -- what each stage of the job costs
 abbrev pub costs_of : Pipeline → List Bool → List (Option ℕ)
 costs_of job flags = map (cost job flags) (range_with_len 0 (length job.stages))
 
--- its flags are a schedule of the job, and its costs are the job's
-pub record IsScheduleOf (job : Pipeline) (s : Inlining) : Type 0 where
-  pub flags : IsSchedule job s.flags
-  pub costs : s.costs ≡ costs_of job s.flags
-
 -- no tile of a stage that has a cost has more in scratch memory than there may be
 abbrev pub AllFitScratch : Pipeline → List Bool → Type 0
 AllFitScratch job flags =
     (g : ℕ) (s : Stage) → slice_get job.stages g ≡ Some s → (has_tiles s.body && not (is_inlined flags g)) ≡ true → FitsScratch job flags g s
+
+-- its flags are a schedule of the job, and its costs are the job's. If it says so, each tile has room
+pub record IsScheduleOf (job : Pipeline) (s : Inlining) : Type 0 where
+  pub flags : IsSchedule job s.flags
+  pub costs : s.costs ≡ costs_of job s.flags
+  pub fits : s.fits ≡ true → AllFitScratch job s.flags
 
 -- ---- outputs
 

@@ -117,7 +117,7 @@ impl Site<'_> {
     }
 
     // The points of the boxes of what is inlined.
-    fn scratch(&self, alloc: Global, order: &[usize]) -> Result<u64, AllocError>
+    pub(crate) fn scratch(&self, alloc: Global, order: &[usize]) -> Result<u64, AllocError>
         requires job { IsJob (pipeline_in self.now.job.now) }
         requires target { IsTarget (target_of self.now) }
         requires order { order.now ≡ in_order (pipeline_in self.now.job.now).stages }

@@ -13,4 +13,5 @@ mod target;
 
 pub use costs::MOST_SCRATCH;
 pub use fault::ScheduleFault;
+pub use order::in_order;
 pub use schedule::Schedule;

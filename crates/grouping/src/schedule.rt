@@ -7,17 +7,20 @@ use crate::costs::costs_of;
 use crate::fault::ScheduleFault;
 use crate::flags::Flags;
 use crate::greedy::greedy_flags;
+use crate::order::in_order;
 use crate::target::Site;
 use domains::Area;
 use job::Job;
 use std::alloc::{AllocError, Global};
 use std::marker::Model;
 
-/// Which functions are inlined, and what the other functions and the accumulators cost. Contracts see both as lists.
+/// Which functions are inlined, what the other functions and the accumulators cost, and whether each of their tiles is known to
+/// have room in scratch memory. Contracts see flags and costs as lists.
 #[derive(Debug, Drop)]
 pub struct Schedule {
     flags: Flags,
     costs: Vec<Option<u64>>,
+    fits: bool,
 }
 
 impl Model for Schedule {
@@ -25,7 +28,7 @@ impl Model for Schedule {
 
     ghost Value = { Inlining };
 
-    ghost view = { λ s. record { flags = s.flags; costs = s.costs.items } };
+    ghost view = { λ s. record { flags = s.flags; costs = s.costs.items; fits = s.fits } };
 }
 
 impl Schedule {
@@ -33,6 +36,7 @@ impl Schedule {
     ghost use Rattle.job.specs.WellFormed.{IsJob};
     ghost use Rattle.grouping.specs.Schedules.{is_inlined, flags_for, all_stored, IsSchedule};
     ghost use Rattle.grouping.specs.Targets.{IsTarget, boxes};
+    ghost use Rattle.grouping.specs.Costs.{scratch};
     ghost use Rattle.grouping.specs.Inlining.{IsScheduleOf, IsScheduleFault, AllFitScratch};
 
     /// The schedule that inlines nothing.
@@ -111,10 +115,9 @@ impl Schedule {
         ensures schedule { IfOk result (λ found. IfSome found (IsScheduleOf (pipeline_in job.now))) }
         ensures fits { IfOk result (λ found. IfSome found (λ s. AllFitScratch (pipeline_in job.now) s.flags)) }
     {
-        let survey = costs_of(alloc, job, &flags)?;
-        if survey.fits {
-            let costs = survey.costs;
-            Ok(Some(Schedule { flags, costs }))
+        let schedule = Schedule::with_costs(alloc, job, flags)?;
+        if schedule.fits() {
+            Ok(Some(schedule))
         } else {
             Ok(None)
         }
@@ -126,8 +129,12 @@ impl Schedule {
         ensures flags { IfOk result (λ s. s.flags ≡ flags) }
         ensures schedule { IfOk result (IsScheduleOf (pipeline_in job.now)) }
     {
-        let costs = costs_of(alloc, job, &flags)?.costs;
-        Ok(Schedule { flags, costs })
+        let survey = costs_of(alloc, job, &flags)?;
+        Ok(Schedule {
+            flags,
+            costs: survey.costs,
+            fits: survey.fits,
+        })
     }
 
     /// Whether the stage of this number is inlined.
@@ -146,6 +153,13 @@ impl Schedule {
             Some(cost) => *cost,
             None => None,
         }
+    }
+
+    /// Whether each tile of a stored function and of an accumulator is known to have room in scratch memory.
+    pub fn fits(&self) -> bool
+        ensures { result ≡ self.now.fits }
+    {
+        self.fits
     }
 
     /// The functions of which a target needs something over a region of its domain, but the target itself, each with the
@@ -172,5 +186,29 @@ impl Schedule {
             region,
         };
         site.boxes(alloc)
+    }
+    /// How many points the boxes of what is inlined have together, for a target over a region of its domain.
+    ///
+    /// # Errors
+    ///
+    /// Fails only where memory is refused, or where there are more than 64 bits can count; no program of 64 stages has so many.
+    pub fn scratch(
+        &self,
+        alloc: Global,
+        job: &Job,
+        target: usize,
+        region: Area,
+    ) -> Result<u64, AllocError>
+        requires job { IsJob (pipeline_in job.now) }
+        requires target { IsTarget (record { job = pipeline_in job.now; flags = self.now.flags; stage = target; region = region }) }
+        ensures { IfOk result (λ n. n ≡ scratch (record { job = pipeline_in job.now; flags = self.now.flags; stage = target; region = region })) }
+    {
+        let site = Site {
+            job,
+            schedule: &self.flags,
+            stage: target,
+            region,
+        };
+        site.scratch(alloc, &in_order(alloc, job.stages())?)
     }
 }

@@ -1,7 +1,7 @@
 pub mod Lists
 pub mod Counting
 pub mod Ranging
-pub mod Keys
+pub mod KeyOrder
 pub mod Tiling
 pub mod Found
 pub mod Needing

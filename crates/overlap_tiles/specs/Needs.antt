@@ -39,6 +39,10 @@ needs t = flat_map (needs_of t) (range_with_len 0 (length t.job.stages))
 abbrev pub key_of : List ℕ → Pipeline → Tile → Key
 key_of program job n = record { program = program; input = input_id job; stage = n.stage; row = n.row; col = n.col }
 
+-- the tile of a key
+abbrev pub key_tile : Key → Tile
+key_tile k = record { stage = k.stage; row = k.row; col = k.col }
+
 -- in the order of keys, by programs first
 abbrev pub IsKeyBefore : Key → Key → Type 0
 IsKeyBefore k l = key_cmp k l ≡ Less

@@ -1,9 +1,10 @@
 -- The plan of a tile: the tiles that it needs, what is computed in which order, and where each inner step lies in scratch memory.
-use Rattle.std.specs.Prelude.{ℕ, ◌<◌, ◌≤◌, ◌≡◌, Bool, Some, List}
+use Rattle.std.specs.Prelude.{ℕ, ◌<◌, ◌≤◌, ◌≡◌, Bool, Some, List, map}
 use Rattle.domains.specs.Tiles.{HasTile, tile_area}
 use Rattle.domains.specs.declared.area.Area.{Area}
 use Rattle.domains.specs.declared.grid.Grid.{Grid}
 use Rattle.job.specs.Pipeline.{Pipeline}
+use Rattle.job.specs.Answers.{Tile}
 use Rattle.job.specs.declared.identity.Key.{Key}
 use Rattle.job.specs.Identity.{HasTileAt}
 use Rattle.job.specs.Readers.{grid_at}
@@ -11,8 +12,28 @@ use Rattle.grouping.specs.Targets.{Target}
 use Rattle.grouping.specs.Costs.{steps, points, scratch, most_scratch}
 use Rattle.overlap_tiles.specs.declared.fault.PlanFault.{PlanFault}
 use Rattle.overlap_tiles.specs.declared.fault.PlanFault.TheVariants.{NoSuchTile, ScratchTooBig, Memory}
-use Rattle.overlap_tiles.specs.Needs.{needed_keys}
+use Rattle.overlap_tiles.specs.Needs.{needs, key_tile, needed_keys}
 use Rattle.overlap_tiles.specs.Ranges.{HaveRoom}
+
+-- how contracts see a layout: a plan without identities
+pub record Layout : Type 0 where
+  pub needs : List Tile
+  pub steps : List (ℕ × Area)
+  pub points : ℕ
+  pub ranges : List (ℕ × ℕ)
+  pub scratch : ℕ
+
+-- the layout of a target
+pub record IsLayout (t : Target) (l : Layout) : Type 0 where
+  pub needs : l.needs ≡ needs t
+  pub steps : l.steps ≡ steps t
+  pub points : l.points ≡ points t
+  pub ranges : HaveRoom t l.ranges l.scratch
+
+-- and its inner steps have no more points than may lie in scratch memory
+pub record IsFittingLayout (t : Target) (l : Layout) : Type 0 where
+  pub layout : IsLayout t l
+  pub fits : scratch t ≤ most_scratch
 
 -- how contracts see a plan
 pub record Plan : Type 0 where
@@ -29,12 +50,15 @@ pub record IsPlan (program : List ℕ) (t : Target) (p : Plan) : Type 0 where
   pub points : p.points ≡ points t
   pub ranges : HaveRoom t p.ranges p.scratch
 
--- and its inner steps have no more points than may lie in scratch memory
 pub record IsFittingPlan (program : List ℕ) (t : Target) (p : Plan) : Type 0 where
   pub plan : IsPlan program t p
   pub fits : scratch t ≤ most_scratch
 
--- why a target has no plan. Memory may be refused at any
+-- what is left of a plan without identities
+abbrev pub layout_of : Plan → Layout
+layout_of p = record { needs = map key_tile p.needs; steps = p.steps; points = p.points; ranges = p.ranges; scratch = p.scratch }
+
+-- why a target has no layout, and no plan. Memory may be refused at any
 abbrev pub IsTargetFault : Target → PlanFault → Type 0
 IsTargetFault t NoSuchTile = ⊥
 IsTargetFault t ScratchTooBig = most_scratch < scratch t
@@ -52,19 +76,25 @@ pub record IsTileAt (job : Pipeline) (g i j : ℕ) (area : Area) : Type 0 where
 abbrev pub target_over : Pipeline → List Bool → ℕ → Area → Target
 target_over job flags g area = record { job = job; flags = flags; stage = g; region = area }
 
+-- the layout is that of this tile
+pub record IsTileLayout (job : Pipeline) (flags : List Bool) (g i j : ℕ) (l : Layout) : Type 0 where
+  pub area : Area
+  pub tile : IsTileAt job g i j area
+  pub layout : IsFittingLayout (target_over job flags g area) l
+
 -- the plan is that of this tile
 pub record IsTilePlan (program : List ℕ) (job : Pipeline) (flags : List Bool) (g i j : ℕ) (p : Plan) : Type 0 where
   pub area : Area
   pub tile : IsTileAt job g i j area
   pub plan : IsFittingPlan program (target_over job flags g area) p
 
--- there is this tile, and no plan of it
+-- there is this tile, and neither a layout nor a plan of it
 pub record IsTileFault (job : Pipeline) (flags : List Bool) (g i j : ℕ) (fault : PlanFault) : Type 0 where
   pub area : Area
   pub tile : IsTileAt job g i j area
   pub reason : IsTargetFault (target_over job flags g area) fault
 
--- why there is no plan of this tile
+-- why there is neither a layout nor a plan of this tile
 abbrev pub IsPlanFault : Pipeline → List Bool → ℕ → ℕ → ℕ → PlanFault → Type 0
 IsPlanFault job flags g i j NoSuchTile = ¬ (HasTileAt job g i j)
 IsPlanFault job flags g i j ScratchTooBig = IsTileFault job flags g i j ScratchTooBig

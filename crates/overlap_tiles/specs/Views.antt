@@ -1,7 +1,12 @@
--- Steps of the program, as contracts see them.
+-- Steps and needs of the program, as contracts see them.
 use Rattle.std.specs.Prelude.{ℕ}
 use Rattle.domains.specs.declared.area.Area.{Area}
+use Rattle.job.specs.Answers.{Tile}
+use Rattle.overlap_tiles.specs.declared.needs.Need.{Need}
 use Rattle.overlap_tiles.specs.declared.steps.Step.{Step}
 
 abbrev pub step_view : Step → ℕ × Area
 step_view s = (s.stage, s.area)
+
+abbrev pub need_view : Need → Tile
+need_view n = record { stage = n.stage; row = n.row; col = n.col }

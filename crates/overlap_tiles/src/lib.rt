@@ -1,14 +1,18 @@
-//! Plans of tiles: which stored tiles a tile reads, which boxes are computed for it in which order, and where each lies in
-//! scratch memory.
+//! Layouts and plans of tiles: which stored tiles a tile reads, which boxes are computed for it in which order, and where
+//! each lies in scratch memory.
 #![tactic(auto)]
 
 mod fault;
+mod keys;
 pub mod laws;
+mod layout;
 mod needs;
 mod plan;
 mod ranges;
 mod steps;
 
 pub use fault::PlanFault;
+pub use layout::Layout;
+pub use needs::Need;
 pub use plan::TilePlan;
 pub use steps::Step;

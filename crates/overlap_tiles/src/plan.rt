@@ -1,20 +1,18 @@
 #![tactic(auto)]
 //! The plan of a tile.
 
-ghost use Rattle.std.specs.Prelude.{◌≡◌, ◌≤◌, length, map, IfOk, IfErr, IfSome, IfNone};
-ghost use Rattle.domains.specs.Area.{IsArea};
-ghost use Rattle.job.specs.Identity.{HasTileAt};
+ghost use Rattle.std.specs.Prelude.{◌≡◌, ◌≤◌, ℕ, Bool, List, length, map, IfOk, IfErr};
 ghost use Rattle.job.specs.Kept.{pipeline_in, program_id_in};
+ghost use Rattle.job.specs.Pipeline.{Pipeline};
 ghost use Rattle.job.specs.WellFormed.{IsJob};
-ghost use Rattle.grouping.specs.Targets.{boxes};
-ghost use Rattle.overlap_tiles.specs.Plans.{IsTileAt, IsTilePlan, IsFittingPlan, IsTargetFault, IsPlanFault, target_over};
+ghost use Rattle.overlap_tiles.specs.Needs.{key_tile};
+ghost use Rattle.overlap_tiles.specs.Plans.{IsTileLayout, IsTilePlan, IsPlanFault, layout_of};
 ghost use Rattle.overlap_tiles.specs.Views.{step_view};
 
 use crate::fault::PlanFault;
-use crate::needs::needs;
-use crate::ranges::end_to_end;
-use crate::steps::{Step, inner_steps, points, scratch_points};
-use domains::Area;
+use crate::keys::keys;
+use crate::layout::Layout;
+use crate::steps::Step;
 use grouping::Schedule;
 use job::{Job, Key};
 use std::alloc::Global;
@@ -24,34 +22,22 @@ use std::marker::Model;
 /// lies in scratch memory. Only `of` makes one.
 #[derive(Debug, Drop)]
 pub struct TilePlan {
+    layout: Layout,
     needs: Vec<Key>,
-    steps: Vec<Step>,
-    points: u64,
-    ranges: Vec<(usize, usize)>,
-    scratch: usize,
+    ghost tied: { map key_tile needs.items ≡ layout.needs },
 }
 
 impl Model for TilePlan {
-    ghost use Rattle.std.specs.Prelude.{map};
     ghost use Rattle.overlap_tiles.specs.Plans.{Plan};
-    ghost use Rattle.overlap_tiles.specs.Views.{step_view};
 
     ghost Value = { Plan };
 
-    ghost view = { λ p. record { needs = p.needs.items; steps = map step_view p.steps.items; points = p.points; ranges = p.ranges.items; scratch = p.scratch } };
-}
-
-// The area of a tile of a function or accumulator.
-fn tile_area(job: &Job, stage: usize, row: u32, col: u32) -> Option<Area>
-    ensures some { IfSome result (IsTileAt (pipeline_in job.now) stage row col) }
-    ensures within { IfSome result IsArea }
-    ensures none { IfNone result (¬ (HasTileAt (pipeline_in job.now) stage row col)) }
-{
-    job.grid(stage)?.tile(row, col)
+    ghost view = { λ p. record { needs = p.needs.items; steps = p.layout.steps; points = p.layout.points; ranges = p.layout.ranges; scratch = p.layout.scratch } };
 }
 
 impl TilePlan {
-    /// The plan of the tile in this row and this column of a function's or accumulator's grid.
+    /// The plan of the tile in this row and this column of a function's or accumulator's grid. Its keys name what the program
+    /// is given: where the job does not keep that identity (`Job::keep_input_id`), the picture is hashed for each plan.
     ///
     /// # Errors
     ///
@@ -70,42 +56,17 @@ impl TilePlan {
         ensures plan { IfOk result (IsTilePlan (program_id_in job.now) (pipeline_in job.now) schedule.now.flags stage row col) }
         ensures fault { IfErr result (IsPlanFault (pipeline_in job.now) schedule.now.flags stage row col) }
     {
-        let Some(area) = tile_area(job, stage, row, col) else {
-            return Err(PlanFault::NoSuchTile);
-        };
-        let target = Step { stage, area };
-        let boxes = schedule.boxes(alloc, job, stage, target.area)?;
-        TilePlan::over(alloc, job, schedule, target, &boxes)
+        let layout = Layout::of(alloc, job, schedule, stage, row, col)?;
+        let needs = keys(alloc, job, layout.needs())?;
+        Ok(TilePlan { layout, needs })
     }
 
-    // The plan of a target whose boxes these are.
-    fn over(
-        alloc: Global,
-        job: &Job,
-        schedule: &Schedule,
-        target: Step,
-        found: &[(usize, Area)],
-    ) -> Result<TilePlan, PlanFault>
-        requires few { length (pipeline_in job.now).stages ≤ 65536 }
-        requires area { IsArea target.area }
-        requires boxes { found.now ≡ boxes (target_over (pipeline_in job.now) schedule.now.flags target.stage target.area) }
-        ensures plan { IfOk result (IsFittingPlan (program_id_in job.now) (target_over (pipeline_in job.now) schedule.now.flags target.stage target.area)) }
-        ensures fault { IfErr result (IsTargetFault (target_over (pipeline_in job.now) schedule.now.flags target.stage target.area)) }
+    /// The same without identities. The plan of a tile has the tile's layout.
+    pub fn layout(&self) -> &Layout
+        ensures same { result.now ≡ layout_of self.now }
+        ensures tile { (program : List ℕ) (job : Pipeline) (flags : List Bool) (g i j : ℕ) → IsTilePlan program job flags g i j self.now → IsTileLayout job flags g i j result.now }
     {
-        let mut steps = inner_steps(alloc, schedule, found)?;
-        let Some(scratch) = scratch_points(&steps) else {
-            return Err(PlanFault::ScratchTooBig);
-        };
-        let ranges = end_to_end(alloc, &steps)?;
-        let needs = needs(alloc, job, schedule, found)?;
-        steps.push(target)?;
-        Ok(TilePlan {
-            needs,
-            steps,
-            points: scratch + points(&target.area),
-            ranges,
-            scratch: scratch as usize,
-        })
+        &self.layout
     }
 
     /// The tiles of stored functions that it reads, each once, in the order of keys.
@@ -119,27 +80,27 @@ impl TilePlan {
     pub fn steps(&self) -> &[Step]
         ensures { map step_view result.now ≡ self.now.steps }
     {
-        &self.steps
+        self.layout.steps()
     }
 
     /// How many points that is.
     pub fn points(&self) -> u64
         ensures { result ≡ self.now.points }
     {
-        self.points
+        self.layout.points()
     }
 
     /// Where the steps but the last lie in scratch memory, each by its start and its length.
     pub fn ranges(&self) -> &[(usize, usize)]
         ensures { result.now ≡ self.now.ranges }
     {
-        &self.ranges
+        self.layout.ranges()
     }
 
     /// How many points the scratch memory has.
     pub fn scratch(&self) -> usize
         ensures { result ≡ self.now.scratch }
     {
-        self.scratch
+        self.layout.scratch()
     }
 }

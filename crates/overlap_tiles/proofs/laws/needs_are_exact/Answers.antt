@@ -1,4 +1,4 @@
-use Rattle.overlap_tiles.proofs.Keys.{keys_rise}
+use Rattle.overlap_tiles.proofs.KeyOrder.{keys_rise}
 use Rattle.overlap_tiles.proofs.Needing.{from_needs, to_needs, needs_rise}
 use Rattle.overlap_tiles.proofs.laws.needs_are_exact.Goals as goal
 

@@ -1,10 +1,10 @@
 use Rattle.std.proofs.Common.{◌≡◌, map}
 use Rattle.std.specs.List.{flat_map, range_with_len}
-use Rattle.job.specs.Kept.{pipeline_in, program_id_in}
-use Rattle.overlap_tiles.specs.Needs.{key_of}
+use Rattle.job.specs.Kept.{pipeline_in}
 use Rattle.overlap_tiles.specs.Made.{stage_needs}
+use Rattle.overlap_tiles.specs.Views.{need_view}
 use Rattle.overlap_tiles.proofs.needs.needs.Given as goal
 
 abbrev pub invariant-loop-stage : goal.invariant-loop-stage
 invariant-loop-stage l =
-    l.needs.items ≡ map (key_of (program_id_in l.job) (pipeline_in l.job)) (flat_map (stage_needs (pipeline_in l.job) l.schedule.flags l.boxes) (range_with_len 0 l.stage))
+    map need_view l.needs.items ≡ flat_map (stage_needs (pipeline_in l.job) l.schedule.flags l.boxes) (range_with_len 0 l.stage)

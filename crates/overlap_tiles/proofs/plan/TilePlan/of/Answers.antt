@@ -1,7 +1,15 @@
-use Rattle.job.specs.Kept.{pipeline_in}
-use Rattle.overlap_tiles.proofs.Tiling.{tile_is_target}
+use Rattle.std.proofs.Common.{◌∙◌, ap, map}
+use Rattle.job.specs.Kept.{pipeline_in, program_id_in}
+use Rattle.overlap_tiles.specs.Needs.{key_tile}
+use Rattle.overlap_tiles.specs.Plans.{target_over}
+use Rattle.overlap_tiles.proofs.Planning.{tiles_back, numbers_fit}
 use Rattle.overlap_tiles.proofs.plan.TilePlan.of.Goals as goal
 
-pub boxes-requires-clause-target : goal.boxes-requires-clause-target
-boxes-requires-clause-target c =
-    tile_is_target (pipeline_in c.args.job.now) c.args.schedule.now.flags c.args.stage c.args.row c.args.col c.in-Some.area c.requires.job c.in-Some.ensures.some
+pub keys-requires : goal.keys-requires
+keys-requires c =
+    let is = c.in_ok-layout.ensures.layout in
+    numbers_fit (target_over (pipeline_in c.args.job.now) c.args.schedule.now.flags c.args.stage is.area) c.needs.result.now c.requires.job c.requires.few (c.needs.ensures ∙ is.layout.layout.needs)
+
+pub invariant_of-result : goal.invariant_of-result
+invariant_of-result c =
+    (ap (map key_tile) c.in_ok-needs.ensures ∙ tiles_back (program_id_in c.args.job.now) (pipeline_in c.args.job.now) _ ∙ c.needs.ensures, tt)

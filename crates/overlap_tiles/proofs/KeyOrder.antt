@@ -1,25 +1,17 @@
 -- Keys of needed tiles.
-use Rattle.std.proofs.Common.{ℕ, ◌≡◌, ◌+◌, ◌<◌, inl, inr, refl, ap, ◌∙◌, List, ◌++◌, map, cond, eqb, arith, Ordering, Less, Equal, Greater}
+use Rattle.std.proofs.Common.{ℕ, ◌≡◌, ◌<◌, inl, inr, refl, ap, ◌∙◌, List, cond, eqb, arith, Ordering, Less, Equal, Greater}
 use Rattle.std.specs.Prelude.{AllPairs}
-use Rattle.std.specs.List.{flat_map, range_with_len}
 use Rattle.std.specs.Ordering.{nat_cmp, ordering_then, ordering_reverse}
 use Rattle.std.specs.Cmp.Lexicographic.{slice_cmp}
 use Rattle.std.proofs.lemmas.Bool.{lt-ltb, le-ltb, eq-eqb}
 use Rattle.std.proofs.lemmas.Cmp.{nat_list_cmp_total}
-use Rattle.std.proofs.lemmas.List.{map-append}
-use Rattle.job.specs.declared.identity.Key.{Key}
 use Rattle.job.specs.Identity.{input_id}
 use Rattle.job.specs.Pipeline.{Pipeline}
 use Rattle.job.specs.Answers.{Tile}
 use Rattle.grouping.specs.Targets.{Target}
-use Rattle.grouping.proofs.Lists.{flat_map_range_more}
 use Rattle.overlap_tiles.specs.Needs.{key_of, needs, needed_keys, IsTileBefore, IsKeyBefore}
 use Rattle.overlap_tiles.proofs.Lists.{AllPairs-map}
 use Rattle.overlap_tiles.proofs.Needing.{needs_rise}
-
--- the keys of one more stage
-pub keys_range_more : (k : Tile → Key) (f : ℕ → List Tile) (n : ℕ) → map k (flat_map f (range_with_len 0 (n + 1))) ≡ map k (flat_map f (range_with_len 0 n)) ++ map k (f n)
-keys_range_more k f n = ap (map k) (flat_map_range_more f n) ∙ map-append k (flat_map f (range_with_len 0 n)) (f n)
 
 -- ---- in order
 

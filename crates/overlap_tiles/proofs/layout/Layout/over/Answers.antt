@@ -4,19 +4,18 @@ use Rattle.std.specs.List.{flat_map, range_with_len}
 use Rattle.std.proofs.lemmas.List.{map_push}
 use Rattle.domains.specs.Area.{point_count}
 use Rattle.domains.specs.declared.area.Area.{Area}
-use Rattle.job.specs.Kept.{pipeline_in, program_id_in}
+use Rattle.job.specs.Kept.{pipeline_in}
 use Rattle.grouping.specs.Schedules.{is_inlined}
 use Rattle.grouping.specs.Costs.{points_in, most_scratch}
 use Rattle.overlap_tiles.specs.declared.steps.Step.{Step}
 use Rattle.overlap_tiles.specs.Made.{stage_needs, end_to_end}
-use Rattle.overlap_tiles.specs.Needs.{key_of}
 use Rattle.overlap_tiles.specs.Plans.{target_over}
 use Rattle.overlap_tiles.specs.Views.{step_view}
-use Rattle.overlap_tiles.proofs.Planning.{is_plan}
-use Rattle.overlap_tiles.proofs.plan.TilePlan.over.Goals as goal
+use Rattle.overlap_tiles.proofs.Planning.{is_layout}
+use Rattle.overlap_tiles.proofs.layout.Layout.over.Goals as goal
 
-pub returns-clause-plan : goal.returns-clause-plan
-returns-clause-plan c =
+pub returns-clause-layout : goal.returns-clause-layout
+returns-clause-layout c =
     let job = pipeline_in c.args.job.now in
     let flags : List Bool = c.args.schedule.now.flags in
     let t = target_over job flags c.args.target.stage c.args.target.area in
@@ -25,10 +24,10 @@ returns-clause-plan c =
     let number = c.in-Some.ensures.number ∙ ap (λ (ss : List Step). points_in (map step_view ss)) c.deref.ensures.value in
     let few = c.in-Some.ensures.few in
     record {
-      plan = is_plan (program_id_in c.args.job.now) t _ (record {
+      layout = is_layout t _ (record {
         inner = inner;
         kept = kept;
-        needs = c.in_ok-needs.ensures ∙ ap (λ (bs : List (ℕ × Area)). map (key_of (program_id_in c.args.job.now) job) (flat_map (stage_needs job flags bs) (range_with_len 0 (length job.stages)))) c.requires.boxes;
+        needs = c.in_ok-needs.ensures ∙ ap (λ (bs : List (ℕ × Area)). flat_map (stage_needs job flags bs) (range_with_len 0 (length job.stages))) c.requires.boxes;
         steps = ap (map step_view) c.in_ok-push.ensures.items ∙ map_push step_view c.in_ok-steps.steps.items c.args.target;
         scratch = number;
         points = ap (λ (n : ℕ). n + c.points.result) number ∙ ap (λ (n : ℕ). points_in inner + n) c.points.ensures.number;

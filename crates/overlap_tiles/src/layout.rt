@@ -1,0 +1,143 @@
+#![tactic(auto)]
+//! The layout of a tile: what its plan says without identities.
+
+ghost use Rattle.std.specs.Prelude.{◌≡◌, map, IfOk, IfErr, IfSome, IfNone};
+ghost use Rattle.domains.specs.Area.{IsArea};
+ghost use Rattle.job.specs.Identity.{HasTileAt};
+ghost use Rattle.job.specs.Kept.{pipeline_in};
+ghost use Rattle.job.specs.WellFormed.{IsJob};
+ghost use Rattle.grouping.specs.Targets.{boxes};
+ghost use Rattle.overlap_tiles.specs.Plans.{IsTileAt, IsTileLayout, IsFittingLayout, IsTargetFault, IsPlanFault, target_over};
+ghost use Rattle.overlap_tiles.specs.Views.{step_view, need_view};
+
+use crate::fault::PlanFault;
+use crate::needs::{Need, needs};
+use crate::ranges::end_to_end;
+use crate::steps::{Step, inner_steps, points, scratch_points};
+use domains::Area;
+use grouping::Schedule;
+use job::Job;
+use std::alloc::Global;
+use std::marker::Model;
+
+/// What makes one tile, without identities: the stored tiles that it needs, what is computed in which order, and where each
+/// step but the last lies in scratch memory. Nothing is hashed for it. Only `of` makes one.
+#[derive(Debug, Drop)]
+pub struct Layout {
+    needs: Vec<Need>,
+    steps: Vec<Step>,
+    points: u64,
+    ranges: Vec<(usize, usize)>,
+    scratch: usize,
+}
+
+impl Model for Layout {
+    ghost use Rattle.std.specs.Prelude.{map};
+    ghost use Rattle.overlap_tiles.specs.Plans.{Layout as Outline};
+    ghost use Rattle.overlap_tiles.specs.Views.{step_view, need_view};
+
+    ghost Value = { Outline };
+
+    ghost view = { λ l. record { needs = map need_view l.needs.items; steps = map step_view l.steps.items; points = l.points; ranges = l.ranges.items; scratch = l.scratch } };
+}
+
+// The area of a tile of a function or accumulator.
+fn tile_area(job: &Job, stage: usize, row: u32, col: u32) -> Option<Area>
+    ensures some { IfSome result (IsTileAt (pipeline_in job.now) stage row col) }
+    ensures within { IfSome result IsArea }
+    ensures none { IfNone result (¬ (HasTileAt (pipeline_in job.now) stage row col)) }
+{
+    job.grid(stage)?.tile(row, col)
+}
+
+impl Layout {
+    /// The layout of the tile in this row and this column of a function's or accumulator's grid.
+    ///
+    /// # Errors
+    ///
+    /// Fails where there is no such tile, where the boxes of what is inlined have more points together than
+    /// `grouping::MOST_SCRATCH`, and where memory is refused.
+    pub fn of(
+        alloc: Global,
+        job: &Job,
+        schedule: &Schedule,
+        stage: usize,
+        row: u32,
+        col: u32,
+    ) -> Result<Layout, PlanFault>
+        requires { IsJob (pipeline_in job.now) }
+        ensures layout { IfOk result (IsTileLayout (pipeline_in job.now) schedule.now.flags stage row col) }
+        ensures fault { IfErr result (IsPlanFault (pipeline_in job.now) schedule.now.flags stage row col) }
+    {
+        let Some(area) = tile_area(job, stage, row, col) else {
+            return Err(PlanFault::NoSuchTile);
+        };
+        let target = Step { stage, area };
+        let boxes = schedule.boxes(alloc, job, stage, target.area)?;
+        Layout::over(alloc, job, schedule, target, &boxes)
+    }
+
+    // The layout of a target whose boxes these are.
+    fn over(
+        alloc: Global,
+        job: &Job,
+        schedule: &Schedule,
+        target: Step,
+        found: &[(usize, Area)],
+    ) -> Result<Layout, PlanFault>
+        requires area { IsArea target.area }
+        requires boxes { found.now ≡ boxes (target_over (pipeline_in job.now) schedule.now.flags target.stage target.area) }
+        ensures layout { IfOk result (IsFittingLayout (target_over (pipeline_in job.now) schedule.now.flags target.stage target.area)) }
+        ensures fault { IfErr result (IsTargetFault (target_over (pipeline_in job.now) schedule.now.flags target.stage target.area)) }
+    {
+        let mut steps = inner_steps(alloc, schedule, found)?;
+        let Some(scratch) = scratch_points(&steps) else {
+            return Err(PlanFault::ScratchTooBig);
+        };
+        let ranges = end_to_end(alloc, &steps)?;
+        let needs = needs(alloc, job, schedule, found)?;
+        steps.push(target)?;
+        Ok(Layout {
+            needs,
+            steps,
+            points: scratch + points(&target.area),
+            ranges,
+            scratch: scratch as usize,
+        })
+    }
+
+    /// The tiles of stored functions that it reads, each once: stage by stage, and those of a stage row by row.
+    pub fn needs(&self) -> &[Need]
+        ensures { map need_view result.now ≡ self.now.needs }
+    {
+        &self.needs
+    }
+
+    /// What is computed, in this order: the inlined stages that it needs, each over its box, and at last the tile.
+    pub fn steps(&self) -> &[Step]
+        ensures { map step_view result.now ≡ self.now.steps }
+    {
+        &self.steps
+    }
+
+    /// How many points that is.
+    pub fn points(&self) -> u64
+        ensures { result ≡ self.now.points }
+    {
+        self.points
+    }
+
+    /// Where the steps but the last lie in scratch memory, each by its start and its length.
+    pub fn ranges(&self) -> &[(usize, usize)]
+        ensures { result.now ≡ self.now.ranges }
+    {
+        &self.ranges
+    }
+
+    /// How many points the scratch memory has.
+    pub fn scratch(&self) -> usize
+        ensures { result ≡ self.now.scratch }
+    {
+        self.scratch
+    }
+}
