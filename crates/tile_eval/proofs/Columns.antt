@@ -1,6 +1,6 @@
 -- Indices that only add.
-use Rattle.std.proofs.Common.{arith, ℕ, ℤ, ◌≡◌, pos, negsuc, ◌+ℤ◌, ◌*ℤ◌, neg_ℤ, ◌*◌, suc, ◌/◌, ap, sym, ◌∙◌}
-use Rattle.std.proofs.Math.IntN.{pos-*ℤ-pos, pos-*ℤ-negsuc}
+use Rattle.std.proofs.Common.{arith, ℕ, zero, ℤ, ◌≡◌, pos, negsuc, ◌+ℤ◌, ◌*ℤ◌, neg_ℤ, ◌*◌, suc, ◌/◌, ap, sym, ◌∙◌}
+use Rattle.std.proofs.Math.IntN.{suc_ℤ, +ℤ-suc_ℤ, pos-*ℤ-pos, pos-*ℤ-negsuc, *ℤ_comm, suc_ℤ-*ℤ, +ℤ_idr}
 use Rattle.std.proofs.lemmas.Int.{ints}
 use Rattle.domains.specs.Arithmetic.{floor_div}
 use Rattle.domains.specs.Index.{Scale, index_at}
@@ -24,3 +24,35 @@ only_adds x v m d =
 -- it takes columns side by side to columns side by side
 pub columns_follow : (x : Scale) (v : ℤ) (k : ℕ) → x.mul ≡ pos 1 → x.div ≡ pos 1 → index_at x v +ℤ pos k ≡ index_at x (v +ℤ pos k)
 columns_follow x v k m d = ap (λ (z : ℤ). z +ℤ pos k) (only_adds x v m d) ∙ swapped v x.add k ∙ sym (only_adds x (v +ℤ pos k) m d)
+
+-- ---- indices that do not divide
+
+next_number : (v : ℤ) (k : ℕ) → v +ℤ pos (suc k) ≡ suc_ℤ (v +ℤ pos k)
+next_number v k = +ℤ-suc_ℤ v (pos k)
+
+next_product : (p a : ℤ) (k m : ℕ) → p +ℤ pos (k * m) +ℤ pos m ≡ p +ℤ pos (suc k * m)
+next_product p a k m = omega (arith, ints)
+
+-- a product with a number further on
+pub times_further : (m : ℕ) (v : ℤ) (k : ℕ) → pos m *ℤ (v +ℤ pos k) ≡ pos m *ℤ v +ℤ pos (k * m)
+times_further m v zero =
+    let none : 0 ≡ 0 * m = omega arith in
+    ap (λ (z : ℤ). pos m *ℤ z) (+ℤ_idr v) ∙ sym (+ℤ_idr (pos m *ℤ v)) ∙ ap (λ (n : ℕ). pos m *ℤ v +ℤ pos n) none
+times_further m v (suc k) =
+    ap (λ (z : ℤ). pos m *ℤ z) (next_number v k)
+    ∙ *ℤ_comm (pos m) (suc_ℤ (v +ℤ pos k)) ∙ suc_ℤ-*ℤ (v +ℤ pos k) (pos m)
+    ∙ ap (λ (z : ℤ). z +ℤ pos m) (*ℤ_comm (v +ℤ pos k) (pos m) ∙ times_further m v k)
+    ∙ next_product (pos m *ℤ v) v k m
+
+further : (p a : ℤ) (n : ℕ) → p +ℤ pos n +ℤ a ≡ p +ℤ a +ℤ pos n
+further p a n = omega (arith, ints)
+
+undivided : (x : Scale) (m : ℕ) (v : ℤ) → x.mul ≡ pos m → x.div ≡ pos 1 → index_at x v ≡ pos m *ℤ v +ℤ x.add
+undivided x m v e d =
+    ap (λ (z : ℤ). floor_div (z *ℤ v +ℤ x.add) x.div) e ∙ ap (λ (z : ℤ). floor_div (pos m *ℤ v +ℤ x.add) z) d ∙ by_one (pos m *ℤ v +ℤ x.add)
+
+-- it takes columns side by side to columns at steps of one length
+pub columns_step : (x : Scale) (m : ℕ) (v : ℤ) (k : ℕ) → x.mul ≡ pos m → x.div ≡ pos 1 → index_at x (v +ℤ pos k) ≡ index_at x v +ℤ pos (k * m)
+columns_step x m v k e d =
+    undivided x m (v +ℤ pos k) e d ∙ ap (λ (z : ℤ). z +ℤ x.add) (times_further m v k) ∙ further (pos m *ℤ v) x.add (k * m)
+    ∙ ap (λ (z : ℤ). z +ℤ pos (k * m)) (sym (undivided x m v e d))

@@ -1,44 +1,18 @@
 -- Where the tests of a piece hold along a row of points.
 use Rattle.std.proofs.Common.{arith, ℕ, ℤ, zero, suc, map, ◌≡◌, ◌+◌, ◌-◌, ◌<◌, ◌≤◌, ◌⊎◌, inl, inr, pos, ◌+ℤ◌, ◌-ℤ◌, ◌≤ℤ◌, ◌↔◌, List, [], ◌∷◌, Bool, true, false, Option, Some, length, take, drop, subst, sym, ap, ◌∙◌, refl}
-use Rattle.std.specs.Prelude.{int_le, ◌&&◌, if◌then◌else◌, slice_index_or}
+use Rattle.std.specs.Prelude.{◌&&◌, if◌then◌else◌, slice_index_or}
 use Rattle.std.specs.Option.{option_map_or}
 use Rattle.std.proofs.lemmas.Int.{ints}
-use Rattle.std.proofs.lemmas.Bool.{cases_lt, and_parts, and_from}
-use Rattle.std.proofs.lemmas.Bool.Decides.{Decides-int_eq}
+use Rattle.std.proofs.lemmas.Bool.{cases_lt}
 use Rattle.std.proofs.lemmas.Grind.{common_steps}
 use borrow.Rule.Slice.PartMut.{put_mid}
 use Rattle.domains.specs.Span.{Ends, Holds, IsMeet}
-use Rattle.pipe_lang.specs.declared.tree.Relation.{Relation}
-use Rattle.pipe_lang.specs.declared.tree.Relation.TheVariants.{AtMost, AtLeast, Equals}
-use Rattle.job.specs.Formula.{Formula, Test, compare, remainder}
+use Rattle.job.specs.Formula.{Formula, Test}
 use Rattle.job.specs.Pipeline.{Piece}
-use Rattle.job.specs.Values.{Valuation, along, is_related, is_passed, all_passed, formula_value, chosen}
-use Rattle.job.specs.Boxes.{Relates, BoundHolds, BoundsHold}
+use Rattle.job.specs.Values.{Valuation, is_passed, all_passed, formula_value, chosen}
 use Rattle.tile_eval.specs.Rows.{at}
-use Rattle.tile_eval.specs.Pieces.{is_bound, only_bounds, function_value, IsRoomy}
+use Rattle.tile_eval.specs.Pieces.{function_value, IsRoomy}
 use Rattle.tile_eval.proofs.Gathering.{room_less}
-
-to_le : (a b : ℤ) → a ≤ℤ b → int_le a b ≡ true
-to_le a b h = sym (by (int_le a b) refl)
-  where
-    by : (t : Bool) → int_le a b ≡ t → true ≡ int_le a b
-    by t e = omega (arith, ints)
-
-true-is_related : (relation : Relation) (a b : ℤ) → Relates relation a b → is_related relation a b ≡ true
-true-is_related AtMost a b h = to_le a b h
-true-is_related AtLeast a b h = to_le b a h
-true-is_related Equals a b h = (Decides-int_eq a b).1 h
-
-bound_passes : (t : Test) (r c : ℤ) → is_bound t ≡ true → BoundHolds t r c → is_passed t r c ≡ true
-bound_passes (compare x relation bound) r c e h = true-is_related relation (along x r c) bound h
-bound_passes (remainder x modulus rest) r c e h = absurd (cc)
-
--- where all bounds hold, and there are only bounds, all tests hold
-pub bounds_pass : (ts : List Test) (r c : ℤ) → only_bounds ts ≡ true → BoundsHold ts r c → all_passed ts r c ≡ true
-bounds_pass [] r c e h = refl
-bounds_pass (t ∷ ts) r c e h =
-    let both = and_parts (is_bound t) (only_bounds ts) e in
-    and_from (is_passed t r c) (all_passed ts r c) (bound_passes t r c both.0 h.0) (bounds_pass ts r c both.1 h.1)
 
 -- ---- a part of a row
 
@@ -89,11 +63,6 @@ chosen_step f (y ∷ ys) zero x env otherwise r c l e =
     ap (λ z. function_value env (f z ∷ map f ys) otherwise r c) (sym e)
     ∙ chosen_first (all_passed (f x).tests r c) (f x).formula (chosen (map f ys) otherwise r c) (λ a. formula_value env a r c)
 chosen_step f (y ∷ ys) (suc i) x env otherwise r c l e = chosen_step f ys i x env otherwise r c (omega arith) e
-
--- where tests hold, the value is taken
-pub taken : (passed : Bool) (v x y : ℤ) → passed ≡ true → v ≡ x → v ≡ if passed then x else y
-taken true v x y p e = e
-taken false v x y p e = absurd (cc)
 
 -- ---- the part of a row that lies in an area
 

@@ -1,8 +1,7 @@
 -- What a formula reads at each point of a row, gathered along the row.
-use Rattle.std.proofs.Common.{arith, ℕ, zero, suc, ℤ, ◌≡◌, ◌+◌, ◌-◌, ◌%◌, ◌<◌, ◌≤◌, ◌⊎◌, inl, inr, pos, ◌+ℤ◌, List, [], ◌∷◌, ◌++◌, length, take, subst, sym, ap, ◌∙◌}
+use Rattle.std.proofs.Common.{arith, ℕ, zero, suc, ℤ, ◌≡◌, ◌+◌, ◌-◌, ◌%◌, ◌<◌, ◌≤◌, ◌⊎◌, inl, inr, pos, ◌+ℤ◌, List, [], ◌∷◌, ◌++◌, length, subst, sym, ap, ◌∙◌}
 use Rattle.std.specs.Prelude.{All, slice_index_or}
 use Rattle.std.proofs.lemmas.Bool.{cases_lt}
-use Rattle.std.proofs.lemmas.Grind.{common_steps}
 use Rattle.std.proofs.lemmas.List.Elements.{All-head, All-tail}
 use Rattle.job.specs.Formula.{Formula, number, coordinate, read, neg, binary, literal, abs, clamp, select, stencil}
 use Rattle.job.specs.Values.{factors, under, kernel_row, kernel_column}
@@ -38,12 +37,6 @@ pub found_factors : (kernel : List (List ℤ)) (a : ℕ) (x : List ℤ) → a < 
 found_factors [] a x l e = absurd (omega arith)
 found_factors (y ∷ ys) zero x l e = e
 found_factors (y ∷ ys) (suc a) x l e = found_factors ys a x (omega arith) e
-
--- a sample under a factor stands in the line
-pub in_line : (k j n m : ℕ) (ts : List ℤ) → k < n → j < m → n + 14 ≤ length ts → m ≤ 15 → k + j < length (take (n + m - 1) ts)
-in_line k j n m ts a b c d =
-    let fits : n + m - 1 ≤ length ts = omega arith in
-    grind (arith, common_steps)
 
 -- ---- reads
 

@@ -10,3 +10,5 @@ pub mod Domains
 pub mod Rooms
 pub mod Knowing
 pub mod Places
+pub mod Leaving
+pub mod Reciprocals

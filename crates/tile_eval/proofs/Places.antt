@@ -1,10 +1,12 @@
 -- Where the points of an area stand among its values.
-use Rattle.std.proofs.Common.{arith, ℕ, ℤ, ◌≡◌, ◌+◌, ◌-◌, ◌<◌, ◌≤◌, pos, ◌+ℤ◌, ◌≤ℤ◌, List, Option, Some, ap, ◌∙◌, sym, subst}
+use Rattle.std.proofs.Common.{arith, ℕ, ℤ, ◌≡◌, ◌+◌, ◌*◌, ◌-◌, ◌<◌, ◌≤◌, pos, ◌+ℤ◌, ◌≤ℤ◌, List, Option, Some, ap, ◌∙◌, sym, subst}
 use Rattle.std.specs.Prelude.{slice_get, unwrap_or}
 use Rattle.std.specs.Option.{option_map_or}
 use Rattle.std.specs.Int.{int_gap}
+use Rattle.std.proofs.Math.IntN.{+ℤ_idr}
 use Rattle.std.proofs.lemmas.Int.{ints}
 use Rattle.std.proofs.lemmas.Nat.{mul-add-lt}
+use Rattle.domains.specs.Index.{Scale, index_at}
 use Rattle.domains.specs.Span.{Ends, Holds, len_of}
 use Rattle.domains.specs.Area.{HoldsPoint, point_count}
 use Rattle.domains.specs.declared.area.Area.{Area}
@@ -12,6 +14,7 @@ use Rattle.domains.proofs.Lengths.{gap_is}
 use Rattle.tile_eval.specs.Rows.{EachPlace, at}
 use Rattle.tile_eval.specs.Whole.{place_of, sample_in, IsKnownAt}
 use Rattle.tile_eval.specs.declared.wholes.Whole.{Whole}
+use Rattle.tile_eval.proofs.Columns.{columns_step}
 
 -- a number of a span lies less far behind its first number than the span is long
 pub gap_below : (s : Ends) (v : ℤ) → Holds s v → int_gap s.lo v < len_of s
@@ -31,6 +34,14 @@ place_along a r c k low =
     let far : int_gap a.cols.lo (c +ℤ pos k) ≡ int_gap a.cols.lo c + k =
     omega (arith, ints, gap_is a.cols.lo c low, gap_is a.cols.lo (c +ℤ pos k) (omega (arith, ints))) in
     omega arith
+
+-- the places at the columns of an index that does not divide lie at steps of one length
+pub place_steps : (a : Area) (r : ℤ) (x : Scale) (c : ℤ) (m n place : ℕ) → x.mul ≡ pos m → x.div ≡ pos 1 → place ≡ place_of a r (index_at x c) → EachPlace n (λ k. HoldsPoint a r (index_at x (c +ℤ pos k)))
+    → (k : ℕ) → k < n → place + k * m ≡ place_of a r (index_at x (c +ℤ pos k))
+place_steps a r x c m n place e d is each k l =
+    let some : 0 < n = omega arith in
+    let low : a.cols.lo ≤ℤ index_at x c = subst (λ (z : ℤ). a.cols.lo ≤ℤ index_at x z) (+ℤ_idr c) (each 0 some).1.0 in
+    ap (λ (p : ℕ). p + k * m) is ∙ sym (place_along a r (index_at x c) (k * m) low) ∙ ap (place_of a r) (sym (columns_step x m c k e d))
 
 -- ---- a row of points of an area
 

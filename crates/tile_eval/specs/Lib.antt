@@ -3,3 +3,6 @@ pub mod Reading
 pub mod Pieces
 pub mod Whole
 pub mod Counted
+pub mod Passed
+pub mod Reciprocal
+pub mod Taps

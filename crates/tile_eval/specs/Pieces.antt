@@ -1,24 +1,15 @@
 -- Pieces of functions along a row of points.
-use Rattle.std.specs.Prelude.{ℕ, ◌-◌, ◌≤◌, ◌≡◌, ℤ, pos, Bool, true, false, ◌&&◌, Option, Some, None, List, [], ◌∷◌, All}
+use Rattle.std.specs.Prelude.{ℕ, ◌-◌, ◌≤◌, ◌≡◌, ℤ, pos, true, Option, Some, None, List, All}
 use Rattle.std.specs.Option.{option_map_or, ForSome}
 use Rattle.domains.specs.Area.{HoldsPoint, IsSubarea}
 use Rattle.domains.specs.declared.area.Area.{Area}
-use Rattle.job.specs.Formula.{Formula, Test, compare, remainder}
+use Rattle.job.specs.Formula.{Formula}
 use Rattle.job.specs.Pipeline.{Piece, Body}
 use Rattle.job.specs.Values.{Valuation, all_passed, formula_value, chosen}
 use Rattle.job.specs.Boxes.{BoundsHold, AreBoxed}
 use Rattle.job.specs.Reads.{EachRead}
 use Rattle.job.specs.WellFormed.{IsFormula, IsTest}
 use Rattle.tile_eval.specs.Reading.{HasRoom}
-
--- whether no test is one of remainders
-abbrev pub is_bound : Test → Bool
-is_bound (compare x relation bound) = true
-is_bound (remainder x modulus rest) = false
-
-abbrev pub only_bounds : List Test → Bool
-only_bounds [] = true
-only_bounds (t ∷ ts) = is_bound t && only_bounds ts
 
 -- the point lies in the box, if there is one
 abbrev pub InBox : Option Area → ℤ → ℤ → Type 0

@@ -1,7 +1,7 @@
 #![tactic(auto)]
 //! Functions on areas.
 
-ghost use Rattle.std.specs.Prelude.{◌≡◌, ℤ, length, map, All, IfOk};
+ghost use Rattle.std.specs.Prelude.{◌≡◌, ℤ, length, map, All, IfOk, OnOk};
 ghost use Rattle.std.specs.Option.{option_map};
 ghost use Rattle.domains.specs.Span.{len_of};
 ghost use Rattle.domains.specs.Area.{HoldsPoint, point_count};
@@ -58,6 +58,31 @@ fn fill_area<S: Source>(
     function_area(source, function, &start, rows, cols, out, temps);
 }
 
+/// The values of a function on an area of its domain, row by row, in a vector whose memory is used again, as that of the
+/// operands is. What they held before means nothing.
+pub fn area_into<S: Source>(
+    source: &S,
+    function: &Function,
+    area: &Area,
+    values: &mut Vec<i32>,
+    temps: &mut Vec<i32>,
+) -> Result<(), AllocError>
+    requires rows { IsNear area.now.rows }
+    requires cols { IsNear area.now.cols }
+    requires tests { All (λ p. All IsTest p.tests) (map piece_view function.now.pieces.items) }
+    requires formulas { All IsFormula (formulas_of (by_pieces (map piece_view function.now.pieces.items) (option_map formula_view function.now.otherwise))) }
+    requires boxes { AreBoxedAround area.now (by_pieces (map piece_view function.now.pieces.items) (option_map formula_view function.now.otherwise)) }
+    requires reads { (r c : ℤ) → HoldsPoint area.now r c → BodyReads (S.has source.now) (by_pieces (map piece_view function.now.pieces.items) (option_map formula_view function.now.otherwise)) r c }
+    ensures { OnOk result (values.new.items ≡ raster area.now (function_value (S.sample source.now) (map piece_view function.now.pieces.items) (option_map formula_view function.now.otherwise))) }
+{
+    let cols = area.cols.len() as usize;
+    let room = function_room(function, cols).ok_or(AllocError)?;
+    values.resize(area.points() as usize, 0)?;
+    temps.resize(room, 0)?;
+    fill_area(source, function, area, values, temps);
+    Ok(())
+}
+
 /// The values of a function on an area of its domain, row by row.
 pub fn area_values<S: Source>(
     alloc: Global,
@@ -73,11 +98,9 @@ pub fn area_values<S: Source>(
     requires reads { (r c : ℤ) → HoldsPoint area.now r c → BodyReads (S.has source.now) (by_pieces (map piece_view function.now.pieces.items) (option_map formula_view function.now.otherwise)) r c }
     ensures { IfOk result (λ values. values.items ≡ raster area.now (function_value (S.sample source.now) (map piece_view function.now.pieces.items) (option_map formula_view function.now.otherwise))) }
 {
-    let cols = area.cols.len() as usize;
-    let room = function_room(function, cols).ok_or(AllocError)?;
-    let mut values = vec![in alloc; 0; area.points() as usize]?;
-    let mut temps = vec![in alloc; 0; room]?;
-    fill_area(source, function, area, &mut values, &mut temps);
+    let mut values = Vec::new(alloc);
+    let mut temps = Vec::new(alloc);
+    area_into(source, function, area, &mut values, &mut temps)?;
     Ok(values)
 }
 

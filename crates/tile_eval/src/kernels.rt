@@ -9,9 +9,9 @@ ghost use Rattle.job.specs.Values.{is_related};
 ghost use Rattle.job.specs.WellFormed.{IsDivisor};
 ghost use Rattle.tile_eval.specs.Rows.{EachPlace, at};
 
+use crate::reciprocal::Reciprocal;
 use domains::arithmetic::{
-    floor_div, floor_rem, shr, wrapping_abs, wrapping_add, wrapping_mul, wrapping_neg,
-    wrapping_shl, wrapping_sub,
+    shr, wrapping_abs, wrapping_add, wrapping_mul, wrapping_neg, wrapping_shl, wrapping_sub,
 };
 use pipe_lang::Relation;
 
@@ -105,12 +105,11 @@ pub fn make_absolute(out: &mut [i32])
 }
 
 /// Divides each number, rounded down.
-pub fn divide(out: &mut [i32], divisor: i32)
-    requires { pos 0 <ℤ divisor }
-    ensures { EachPlace (length out.old) (λ k. at out.new k ≡ floor_div (at out.old k) divisor) }
+fn divide(out: &mut [i32], reciprocal: Reciprocal)
+    ensures { EachPlace (length out.old) (λ k. at out.new k ≡ floor_div (at out.old k) (pos reciprocal.divisor)) }
 {
     for k in 0..out.len() {
-        out[k] = floor_div(out[k], divisor);
+        out[k] = reciprocal.floor_quotient(out[k]);
     }
 }
 
@@ -119,7 +118,24 @@ pub fn divide_by(out: &mut [i32], number: u32)
     requires { IsDivisor number }
     ensures { EachPlace (length out.old) (λ k. at out.new k ≡ floor_div (at out.old k) (pos number)) }
 {
-    divide(out, number as i32);
+    if number == 1 {
+        return;
+    }
+    let bits = number.ilog2();
+    if number == 1 << bits {
+        shift_right(out, bits);
+    } else {
+        divide(out, Reciprocal::new(number));
+    }
+}
+
+/// Each number becomes what its division, rounded down, leaves.
+fn leave_rests(out: &mut [i32], reciprocal: Reciprocal)
+    ensures { EachPlace (length out.old) (λ k. at out.new k ≡ floor_rem (at out.old k) (pos reciprocal.divisor)) }
+{
+    for k in 0..out.len() {
+        out[k] = reciprocal.floor_rest(out[k]);
+    }
 }
 
 /// Each number becomes what its division, rounded down, leaves.
@@ -127,8 +143,10 @@ pub fn leave_remainder(out: &mut [i32], divisor: i32)
     requires { pos 0 <ℤ divisor }
     ensures { EachPlace (length out.old) (λ k. at out.new k ≡ floor_rem (at out.old k) divisor) }
 {
-    for k in 0..out.len() {
-        out[k] = floor_rem(out[k], divisor);
+    if divisor == 1 {
+        fill(out, 0);
+    } else {
+        leave_rests(out, Reciprocal::new(divisor as u32));
     }
 }
 

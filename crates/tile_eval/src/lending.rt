@@ -6,7 +6,9 @@ ghost use Rattle.tile_eval.specs.Whole.{sample_in, IsKnownAt};
 
 use crate::blocks::Block;
 use crate::source::Source;
+use crate::start::Start;
 use crate::wholes::{Known, Whole};
+use domains::Index;
 
 impl Whole {
     /// The values with their area.
@@ -36,6 +38,16 @@ impl Source for Known {
     fn line(&self, stage: usize, row: i32, first: i32, out: &mut [i32]) {
         if let Some(whole) = self.whole(stage) {
             whole.block().line(row, first, out);
+        }
+    }
+
+    fn lend(&self, stage: usize, row: i32, first: i32, count: usize) -> Option<&[i32]> {
+        Some(self.whole(stage)?.block().slice(row, first, count))
+    }
+
+    fn pick(&self, stage: usize, row: i32, col: &Index, start: &Start, out: &mut [i32]) {
+        if let Some(whole) = self.whole(stage) {
+            whole.block().pick(row, col, start, out);
         }
     }
 

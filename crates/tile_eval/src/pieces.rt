@@ -13,7 +13,7 @@ ghost use Rattle.tile_eval.specs.Reading.{HasRoom};
 ghost use Rattle.tile_eval.specs.Pieces.{InBox, IsReady, IsRoomy, function_value};
 
 use crate::kernels::fill;
-use crate::passing::{are_bounds, take_passed};
+use crate::passing::{Passed, take_where, where_passed};
 use crate::rows::row;
 use crate::source::Source;
 use crate::start::Start;
@@ -45,12 +45,14 @@ fn part_row<S: Source>(source: &S, piece: &Piece, start: &Start, out: &mut [i32]
     requires roomy { IsRoomy (length out.old) (length temps.old) (piece_view piece.now) }
     ensures { EachPlace (length out.old) (λ k. at out.new k ≡ (if all_passed (piece_view piece.now).tests start.now.row (start.now.col +ℤ pos k) then formula_value (S.sample source.now) (piece_view piece.now).formula start.now.row (start.now.col +ℤ pos k) else at out.old k)) }
 {
-    if are_bounds(piece.tests()) {
-        row(source, piece.formula(), start, out, temps);
-    } else {
-        let (mine, rest) = temps.split_at_mut(out.len());
-        row(source, piece.formula(), start, mine, rest);
-        take_passed(out, mine, piece.tests(), start);
+    match where_passed(piece.tests(), start) {
+        Passed::Nowhere => {}
+        Passed::Everywhere => row(source, piece.formula(), start, out, temps),
+        passed => {
+            let (mine, rest) = temps.split_at_mut(out.len());
+            row(source, piece.formula(), start, mine, rest);
+            take_where(out, mine, piece.tests(), passed, start);
+        }
     }
 }
 

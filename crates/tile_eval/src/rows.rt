@@ -1,19 +1,18 @@
 #![tactic(auto)]
 //! Formulas along rows of points.
 
-ghost use Rattle.std.specs.Prelude.{◌≡◌, ◌+ℤ◌, ◌≤ℤ◌, pos, length};
-ghost use Rattle.domains.specs.Index.{index_at};
-ghost use Rattle.job.specs.Values.{binary_value, literal_value, formula_value};
+ghost use Rattle.std.specs.Prelude.{◌≡◌, ◌≤◌, ◌-◌, ◌+ℤ◌, ◌≤ℤ◌, ℤ, pos, length, IfSome};
+ghost use Rattle.job.specs.Values.{Valuation, binary_value, literal_value, formula_value};
 ghost use Rattle.job.specs.WellFormed.{IsLiteral, IsFormula};
 ghost use Rattle.job.specs.Views.{formula_view};
 ghost use Rattle.tile_eval.specs.Rows.{EachPlace, at};
 ghost use Rattle.tile_eval.specs.Reading.{ReadsWithin, HasRoom};
 
-use crate::kernels;
+use crate::reads::{lent_row, read_row};
 use crate::source::Source;
 use crate::start::Start;
 use crate::taps::stencil_row;
-use domains::Index;
+use crate::{constants, kernels};
 use job::{Axis, Formula};
 use pipe_lang::{BinaryOp, LiteralOp};
 
@@ -31,6 +30,19 @@ pub fn combine(op: BinaryOp, out: &mut [i32], right: &[i32])
     }
 }
 
+/// Joins a row with one number, the right operand of each.
+pub fn combine_number(op: BinaryOp, out: &mut [i32], number: i32)
+    ensures { EachPlace (length out.old) (λ k. at out.new k ≡ binary_value op (at out.old k) number) }
+{
+    match op {
+        BinaryOp::Add => constants::add_number(out, number),
+        BinaryOp::Sub => constants::subtract_number(out, number),
+        BinaryOp::Mul => constants::multiply_number(out, number),
+        BinaryOp::Min => constants::cut_above(out, number),
+        BinaryOp::Max => constants::cut_below(out, number),
+    }
+}
+
 /// Joins a row with a number of the text.
 pub fn combine_literal(op: LiteralOp, out: &mut [i32], number: u32)
     requires { IsLiteral op number }
@@ -44,66 +56,67 @@ pub fn combine_literal(op: LiteralOp, out: &mut [i32], number: u32)
     }
 }
 
-// The samples at the columns of an index, each looked up.
-fn gather<S: Source>(
-    source: &S,
-    stage: usize,
-    row: &Index,
-    col: &Index,
-    start: &Start,
-    out: &mut [i32],
-)
-    requires most { (start.now.col +ℤ pos (length out.old)) ≤ℤ pos 16385 }
-    requires reads { EachPlace (length out.old) (λ k. S.has source.now stage (index_at row.now start.now.row) (index_at col.now (start.now.col +ℤ pos k))) }
-    ensures { EachPlace (length out.old) (λ k. at out.new k ≡ S.sample source.now stage (index_at row.now start.now.row) (index_at col.now (start.now.col +ℤ pos k))) }
+// The number that a formula is all along a row of points, if it is one.
+fn number_along(formula: &Formula, start: &Start) -> Option<i32>
+    ensures { IfSome result (λ number. (env : Valuation) (c : ℤ) → formula_value env (formula_view formula.now) start.now.row c ≡ number) }
 {
-    let row = start.row_at(row);
-    for k in 0..out.len() {
-        out[k] = source.point(stage, row, col.at(start.column(k)));
+    match formula {
+        Formula::Number(number) => Some(*number),
+        Formula::Coordinate(Axis::Row) => Some(start.row),
+        _ => None,
     }
 }
 
-// The samples at the columns of an index that only adds.
-fn copy<S: Source>(
-    source: &S,
-    stage: usize,
-    row: &Index,
-    col: &Index,
+// The values of a formula along a row of points: samples that the source lends, else numbers that are computed into `own`.
+#[cycle(row)]
+fn operand<'a, S: Source>(
+    source: &'a S,
+    formula: &Formula,
     start: &Start,
-    out: &mut [i32],
-)
-    requires mul { col.now.mul ≡ pos 1 }
-    requires div { col.now.div ≡ pos 1 }
-    requires most { (start.now.col +ℤ pos (length out.old)) ≤ℤ pos 16385 }
-    requires reads { EachPlace (length out.old) (λ k. S.has source.now stage (index_at row.now start.now.row) (index_at col.now (start.now.col +ℤ pos k))) }
-    ensures { EachPlace (length out.old) (λ k. at out.new k ≡ S.sample source.now stage (index_at row.now start.now.row) (index_at col.now (start.now.col +ℤ pos k))) }
+    own: &'a mut [i32],
+    temps: &mut [i32],
+) -> &'a [i32]
+    requires most { (start.now.col +ℤ pos (length own.old)) ≤ℤ pos 16385 }
+    requires formula { IsFormula (formula_view formula.now) }
+    requires reads { ReadsWithin (S.has source.now) (formula_view formula.now) start.now.row start.now.col (length own.old) }
+    requires room { HasRoom (formula_view formula.now) (length own.old) (length temps.old) }
+    ensures count { length result.now ≡ length own.old }
+    ensures values { EachPlace (length own.old) (λ k. at result.now k ≡ formula_value (S.sample source.now) (formula_view formula.now) start.now.row (start.now.col +ℤ pos k)) }
 {
-    let row = start.row_at(row);
-    let first = start.col_at(col);
-    source.line(stage, row, first, out);
+    if let Some(line) = lent_row(source, formula, start, own.len()) {
+        return line;
+    }
+    row(source, formula, start, own, temps);
+    own
 }
 
-/// The samples that a read takes along a row of points.
-pub fn read_row<S: Source>(
+// Joins a row with the values of the right operand.
+#[cycle(row)]
+fn join_right<S: Source>(
     source: &S,
-    stage: usize,
-    row: &Index,
-    col: &Index,
+    op: BinaryOp,
+    right: &Formula,
     start: &Start,
     out: &mut [i32],
+    temps: &mut [i32],
 )
     requires most { (start.now.col +ℤ pos (length out.old)) ≤ℤ pos 16385 }
-    requires reads { EachPlace (length out.old) (λ k. S.has source.now stage (index_at row.now start.now.row) (index_at col.now (start.now.col +ℤ pos k))) }
-    ensures { EachPlace (length out.old) (λ k. at out.new k ≡ S.sample source.now stage (index_at row.now start.now.row) (index_at col.now (start.now.col +ℤ pos k))) }
+    requires formula { IsFormula (formula_view right.now) }
+    requires reads { ReadsWithin (S.has source.now) (formula_view right.now) start.now.row start.now.col (length out.old) }
+    requires own { length out.old ≤ length temps.old }
+    requires room { HasRoom (formula_view right.now) (length out.old) (length temps.old - length out.old) }
+    ensures { EachPlace (length out.old) (λ k. at out.new k ≡ binary_value op (at out.old k) (formula_value (S.sample source.now) (formula_view right.now) start.now.row (start.now.col +ℤ pos k))) }
 {
-    if col.mul() == 1 && col.div() == 1 {
-        copy(source, stage, row, col, start, out);
+    if let Some(number) = number_along(right, start) {
+        combine_number(op, out, number);
     } else {
-        gather(source, stage, row, col, start, out);
+        let (own, rest) = temps.split_at_mut(out.len());
+        combine(op, out, operand(source, right, start, own, rest));
     }
 }
 
 /// The values of a formula along a row of points, where reads take what the source lends.
+#[cycle(row)]
 pub fn row<S: Source>(
     source: &S,
     formula: &Formula,
@@ -128,9 +141,7 @@ pub fn row<S: Source>(
         }
         Formula::Binary(op, a, b) => {
             row(source, a, start, out, temps);
-            let (right, rest) = temps.split_at_mut(out.len());
-            row(source, b, start, right, rest);
-            combine(*op, out, right);
+            join_right(source, *op, b, start, out, temps);
         }
         Formula::Literal(op, a, number) => {
             row(source, a, start, out, temps);
@@ -142,12 +153,16 @@ pub fn row<S: Source>(
         }
         Formula::Clamp(a, low, high) => {
             row(source, a, start, out, temps);
-            let n = out.len();
-            let (least, rest) = temps.split_at_mut(n);
-            let (greatest, rest) = rest.split_at_mut(n);
-            row(source, low, start, least, rest);
-            row(source, high, start, greatest, rest);
-            kernels::cut(out, least, greatest);
+            if let (Some(low), Some(high)) = (number_along(low, start), number_along(high, start)) {
+                constants::cut_between(out, low, high);
+            } else {
+                let n = out.len();
+                let (least, rest) = temps.split_at_mut(n);
+                let (greatest, rest) = rest.split_at_mut(n);
+                let least = operand(source, low, start, least, rest);
+                let greatest = operand(source, high, start, greatest, rest);
+                kernels::cut(out, least, greatest);
+            }
         }
         Formula::Select(a, relation, b, first, second) => {
             row(source, first, start, out, temps);
@@ -155,9 +170,9 @@ pub fn row<S: Source>(
             let (left, rest) = temps.split_at_mut(n);
             let (right, rest) = rest.split_at_mut(n);
             let (other, rest) = rest.split_at_mut(n);
-            row(source, a, start, left, rest);
-            row(source, b, start, right, rest);
-            row(source, second, start, other, rest);
+            let left = operand(source, a, start, left, rest);
+            let right = operand(source, b, start, right, rest);
+            let other = operand(source, second, start, other, rest);
             kernels::keep_related(out, left, *relation, right, other);
         }
         Formula::Stencil(stage, divisor, kernel) => {

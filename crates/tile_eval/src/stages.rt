@@ -26,7 +26,7 @@ impl Known {
     }
 
     /// The planes and functions of the ranks below this one.
-    pub(crate) fn below(alloc: Global, job: &Job, rank: usize) -> Result<Known, AllocError>
+    pub fn below(alloc: Global, job: &Job, rank: usize) -> Result<Known, AllocError>
         requires { IsJob (pipeline_in job.now) }
         ensures { IfOk result (λ known. AreKnown (pipeline_in job.now) rank known.wholes.items) }
     {

@@ -3,9 +3,11 @@
 
 ghost use Rattle.std.specs.Prelude.{◌≡◌, ◌<◌, ◌≤◌, ◌≤ℤ◌, ◌+ℤ◌, ◌-ℤ◌, pos, negsuc, Some};
 ghost use Rattle.domains.specs.Index.{index_at};
+ghost use Rattle.domains.specs.Span.{len_of};
 ghost use Rattle.job.specs.Values.{under};
+ghost use Rattle.job.specs.WellFormed.{IsNear};
 
-use domains::{Index, Span};
+use domains::{Area, Index, Span};
 
 /// The first point of a row of points.
 #[derive(Clone, Copy, Debug)]
@@ -31,6 +33,20 @@ pub(crate) fn along(first: i32, k: usize) -> i32
 }
 
 impl Start {
+    /// The first point of row number `row` of an area.
+    pub fn at(area: &Area, row: usize) -> Start
+        requires rows { IsNear area.now.rows }
+        requires cols { IsNear area.now.cols }
+        requires row { row < len_of area.now.rows }
+        ensures row { result.row ≡ area.now.rows.lo +ℤ pos row }
+        ensures col { result.col ≡ area.now.cols.lo }
+    {
+        Start {
+            row: along(area.rows.lo(), row),
+            col: area.cols.lo(),
+        }
+    }
+
     /// The column of point number `k`.
     pub(crate) fn column(&self, k: usize) -> i32
         requires { (self.now.col +ℤ pos k) ≤ℤ pos 16385 }

@@ -29,6 +29,13 @@ impl Whole {
     {
         Whole { area, values }
     }
+
+    /// The values alone.
+    pub fn into_values(self) -> Vec<i32>
+        ensures { result.items ≡ self.values.items }
+    {
+        self.values
+    }
 }
 
 impl Known {
@@ -38,5 +45,10 @@ impl Known {
         ensures { self.new.wholes.items ≡ slice_set self.old.wholes.items stage (Some whole) }
     {
         self.wholes[stage] = Some(whole);
+    }
+
+    /// Takes the values of a stage out, if they are known.
+    pub fn take(&mut self, stage: usize) -> Option<Whole> {
+        self.wholes.get_mut(stage)?.take()
     }
 }

@@ -1,5 +1,0 @@
-use Rattle.std.proofs.Common.{length}
-use Rattle.tile_eval.proofs.passing.+are_bounds.Given as goal
-
-abbrev pub decreases-are_bounds : goal.decreases-are_bounds
-decreases-are_bounds l = length l.tests.now

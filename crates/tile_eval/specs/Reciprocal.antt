@@ -1,0 +1,16 @@
+-- Division as a product and a shift.
+use Rattle.std.specs.Prelude.{ℕ, ◌*◌, ◌/◌, ◌^◌, ◌<◌, ◌≡◌, ℤ, pos, negsuc}
+
+-- for each n below 2 ^ 31 the product with the factor, without its last bits, is the quotient
+abbrev pub IsReciprocal : (divisor factor shift : ℕ) → Type 0
+IsReciprocal divisor factor shift = (n : ℕ) → n < 2 ^ 31 → n * factor / 2 ^ shift ≡ n / divisor
+
+-- how far a number lies from 0, and one below 0 from -1
+abbrev pub distance : ℤ → ℕ
+distance (pos n) = n
+distance (negsuc n) = n
+
+-- the number that lies so far from 0 or from -1, on the side of z
+abbrev pub on_side : ℤ → ℕ → ℤ
+on_side (pos n) m = pos m
+on_side (negsuc n) m = negsuc m
