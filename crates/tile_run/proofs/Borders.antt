@@ -1,6 +1,6 @@
 -- Tiles that are lent, and rows of points that cross their borders.
-use Rattle.std.proofs.Common.{arith, ℕ, zero, suc, ℤ, pos, ◌≡◌, ◌+◌, ◌-◌, ◌<◌, ◌≤◌, ◌+ℤ◌, ◌≤ℤ◌, ◌⊎◌, inl, inr, ap, ◌∙◌, sym, subst, List, ◌++◌, take, drop, length, Option, Some, None}
-use Rattle.std.specs.Prelude.{IfNone}
+use Rattle.std.proofs.Common.{arith, ℕ, zero, suc, ℤ, pos, ◌≡◌, ◌+◌, ◌-◌, ◌<◌, ◌≤◌, ◌+ℤ◌, ◌≤ℤ◌, ◌⊎◌, inl, inr, ap, ◌∙◌, sym, subst, List, ◌++◌, take, drop, length, Option, Some, None, Bor}
+use Rattle.std.specs.Prelude.{IfSome, IfNone}
 use Rattle.std.proofs.lemmas.Int.{ints, clamps}
 use Rattle.std.proofs.lemmas.Bool.{cases_lt}
 use Rattle.std.proofs.lemmas.Grind.{common_steps}
@@ -99,6 +99,21 @@ part_number lent g grid r c r' c' block n k out new rest about row col le len l 
     ∙ numbers k within
     ∙ (λ i. at block.values.now (place_of block.area (row i) (col i +ℤ pos k)))
     ∙ number_is lent g grid r (c +ℤ pos k) block (about_more lent g grid r c block about (c +ℤ pos k) (held k within))
+
+-- a slice of the block in which a row begins
+pub slice_numbers : (lent : Lending) (g : ℕ) (grid : Grid) (r c r' c' : ℤ) (block : Block) (n : ℕ) (o : Option (Bor (List ℤ))) → IsTileAbout lent g grid r c block → r' ≡ r → c' ≡ c
+    → IfSome o (λ l. length l.now ≡ n) → IfSome o (λ l. EachPlace n (λ k. HoldsPoint block.area r' (c' +ℤ pos k)))
+    → IfSome o (λ l. EachPlace n (λ k. at l.now k ≡ at block.values.now (place_of block.area r' (c' +ℤ pos k))))
+    → IfSome o (λ l. (length l.now ≡ n) × EachPlace n (λ k. at l.now k ≡ number_at lent g grid r (c +ℤ pos k)))
+slice_numbers lent g grid r c r' c' block n None about row col long held numbers = tt
+slice_numbers lent g grid r c r' c' block n (Some l) about row col long held numbers = (
+  long,
+  λ k low.
+      let here : HoldsPoint block.area r (c +ℤ pos k) = subst (λ (z : ℤ). HoldsPoint block.area z (c +ℤ pos k)) row (subst (λ (z : ℤ). HoldsPoint block.area r' (z +ℤ pos k)) col (held k low)) in
+      numbers k low
+      ∙ (λ i. at block.values.now (place_of block.area (row i) (col i +ℤ pos k)))
+      ∙ number_is lent g grid r (c +ℤ pos k) block (about_more lent g grid r c block about (c +ℤ pos k) here),
+)
 
 put_before : (a n k : ℕ) (xs ys : List ℤ) → k < a → a ≤ length xs → at (put_mid a n xs ys) k ≡ at xs k
 put_before a n k xs ys l le = grind (arith, common_steps)

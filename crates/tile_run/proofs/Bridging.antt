@@ -5,13 +5,13 @@ use Rattle.std.specs.Option.{option_map_or}
 use Rattle.std.proofs.lemmas.Bool.{and_parts, not-true, false≢true}
 use Rattle.std.proofs.lemmas.List.{get_or_append_left, length-append}
 use Rattle.std.proofs.lemmas.Option.{slice_get_within, get_or_from_slice_get}
-use Rattle.std.proofs.lemmas.List.Elements.{Contains-append_cases}
+use Rattle.pipe_checks.proofs.Firsts.{slice_get-end}
 use Rattle.domains.specs.Area.{HoldsPoint}
 use Rattle.domains.specs.Tiles.{tile_area, tile_at}
 use Rattle.domains.specs.declared.area.Area.{Area}
 use Rattle.domains.specs.declared.grid.Grid.{Grid}
 use Rattle.domains.proofs.Covers.{tile_is}
-use Rattle.domains.proofs.PairLists.{Contains-cases, Contains-from_filter}
+use Rattle.domains.proofs.PairLists.{Contains-from_filter}
 use Rattle.job.specs.Pipeline.{Body, plane, function, accumulator, Stage, Pipeline}
 use Rattle.job.specs.Answers.{Tile, grid_of, has_tiles}
 use Rattle.job.specs.Readers.{stage_grid, grid_at}
@@ -30,9 +30,11 @@ use Rattle.tile_eval.specs.declared.wholes.Whole.{Whole}
 use Rattle.tile_run.specs.Lent.{Lending, IsLent}
 use Rattle.tile_run.specs.Tiles.{IsLentAt}
 use Rattle.tile_run.specs.Local.{FunctionAtHand, BodyAtHand, StageAtHand, IsAtHand}
+use Rattle.tile_run.specs.Runs.{AreLent}
 use Rattle.tile_run.specs.Steps.{IsReadyOver, AreComputed, AreRunnable}
 use Rattle.tile_run.proofs.Computing.{same_stage}
 use Rattle.tile_run.proofs.LocalValues.{reads_weaker}
+use Rattle.tile_run.proofs.Running.{to_longer, computed_longer}
 
 opposite : (b : Bool) → b ≡ true → b ≡ false → ⊥
 opposite b yes_is no_is = false≢true (sym no_is ∙ yes_is)
@@ -50,22 +52,10 @@ function_stage job g is = by (slice_get job.stages g) refl is
     by None there e = absurd (false≢true e)
     by (Some s) there e = record { stage = s; there = there; function = e }
 
-step_there : (t : Target) (k g : ℕ) (a : Area) → slice_get (steps t) k ≡ Some (g, a) → Contains (steps t) (g, a)
-step_there t k g a here = (k, slice_get_within (steps t) k (g, a) here, get_or_from_slice_get (steps t) k (g, a) (g, a) here)
-
 inner_function : (t : Target) (s : ℕ × Area) → Contains (inner_steps t) s → (is_function t.job s.0 ≡ true) × (is_inlined t.flags s.0 ≡ true)
 inner_function t s k =
     let inner = Contains-from_filter (λ x. is_inlined t.flags x.0) (boxes t) s k in
     ((and_parts (is_function t.job s.0) (not (eqb s.0 t.stage)) (box_listed t s inner.0).boxed).0, inner.1)
-
-step_function : (t : Target) (k g : ℕ) (a : Area) → is_function t.job t.stage ≡ true → slice_get (steps t) k ≡ Some (g, a) → is_function t.job g ≡ true
-step_function t k g a own here = elim (Contains-append_cases (inner_steps t) ((t.stage, t.region) ∷ []) (g, a) (step_there t k g a here)) [
-  | inl inner ↦ (inner_function t (g, a) inner).0
-  | inr last ↦ elim (Contains-cases (t.stage, t.region) [] (g, a) last) [
-    | inl e ↦ subst (λ (x : ℕ × Area). is_function t.job x.0 ≡ true) e own
-    | inr n ↦ absurd (omega (arith, n.1))
-  ]
-]
 
 -- a step before another is inlined
 step_inlined : (t : Target) (p k g h : ℕ) (a b : Area) → p < k → slice_get (steps t) k ≡ Some (g, a) → slice_get (steps t) p ≡ Some (h, b) → is_inlined t.flags h ≡ true
@@ -78,7 +68,7 @@ step_inlined t p k g h a b before here there =
       sym (get_or_append_left (inner_steps t) ((t.stage, t.region) ∷ []) (h, b) p inside) ∙ get_or_from_slice_get (steps t) p (h, b) (h, b) there,
     )).1
 
-module _ (t : Target) (job : IsJob t.job) (lent : Lending) (given : (n : Tile) → Contains (needs t) n → (xs : List ℤ) × (lent n.stage n.row n.col ≡ Some xs)) where
+module _ (t : Target) (job : IsJob t.job) (lent : Lending) (given : AreLent lent (needs t)) where
   needed_stored : (h : ℕ) (r c : ℤ) → IsInNeededTile t h r c → is_inlined t.flags h ≡ false
   needed_stored h r c n =
       let needed = from_needs t (record { stage = h; row = n.row; col = n.col }) job n.needed in
@@ -124,22 +114,43 @@ module _ (t : Target) (job : IsJob t.job) (lent : Lending) (given : (n : Tile) �
         at_body (function ps o) e = of_function (ap is_function_body e) (ap has_tiles e) (is_inlined t.flags h) refl
         at_body (accumulator fold bins value bin) e = absurd (subst IsValued e both.1.valued)
 
-    pub ready : IsTarget t → is_function t.job g ≡ true → IsReadyOver t.job t.flags lent wholes g a
-    ready target is = λ r c holds.
-        let own = function_stage t.job g is in
-        let inside = (step_in_domain t k g own.stage a job target here own.there).1 r c holds in
+    ready : IsTarget t → (s : Stage) → slice_get t.job.stages g ≡ Some s → IsReadyOver t.job t.flags lent wholes g a
+    ready target s there = λ r c holds.
+        let inside = (step_in_domain t k g s a job target here there).1 r c holds in
         record {
-          stage = own.stage;
-          there = own.there;
+          stage = s;
+          there = there;
           inside = inside;
-          reads = reads_weaker (Both (IsFound t k) (IsReadable t.job.stages)) (IsAtHand t.job t.flags lent (IsKnownAt wholes)) found own.stage.body r c
-              (both_body (IsFound t k) (IsReadable t.job.stages) r c own.stage.body (has_at_hand t job target k g own.stage a here own.there r c holds) ((job.stages g own.stage own.there).reads r c inside));
+          reads = reads_weaker (Both (IsFound t k) (IsReadable t.job.stages)) (IsAtHand t.job t.flags lent (IsKnownAt wholes)) found s.body r c
+              (both_body (IsFound t k) (IsReadable t.job.stages) r c s.body (has_at_hand t job target k g s a here there r c holds) ((job.stages g s there).reads r c inside));
         }
 
-  pub runnable : IsTarget t → is_function t.job t.stage ≡ true → AreRunnable t.job t.flags lent (steps t)
-  runnable target own = record {
-    functions = λ k g a here. step_function t k g a own here;
-    areas = λ k g a here. let is = function_stage t.job g (step_function t k g a own here) in (step_in_domain t k g is.stage a job target here is.there).0;
-    one_area = λ k n g a b here there. ap (λ (o : Option Area). unwrap_or o b) (sym (step_region t k g a here) ∙ step_region t n g b there);
-    ready = λ k g a wholes here done. ready k g a here wholes done target (step_function t k g a own here);
+  -- a step before the last
+  module _ (k g : ℕ) (a : Area) (here : slice_get (inner_steps t) k ≡ Some (g, a)) where
+    among : slice_get (steps t) k ≡ Some (g, a)
+    among = to_longer (inner_steps t) ((t.stage, t.region) ∷ []) k (g, a) here
+
+    own : is_function t.job g ≡ true
+    own = (inner_function t (g, a) (k, slice_get_within (inner_steps t) k (g, a) here, get_or_from_slice_get (inner_steps t) k (g, a) (g, a) here)).0
+
+    found_stage : IsFunctionStage t.job g
+    found_stage = function_stage t.job g own
+
+    step_ready : (wholes : List (Option Whole)) → AreComputed (inner_steps t) k wholes → IsTarget t → IsReadyOver t.job t.flags lent wholes g a
+    step_ready wholes done target =
+        let inside = slice_get_within (inner_steps t) k (g, a) here in
+        ready k g a among wholes (computed_longer (inner_steps t) ((t.stage, t.region) ∷ []) k wholes (omega arith) done) target found_stage.stage found_stage.there
+
+  pub inner_runnable : IsTarget t → AreRunnable t.job t.flags lent (inner_steps t)
+  inner_runnable target = record {
+    functions = own;
+    areas = λ k g a here. (step_in_domain t k g (found_stage k g a here).stage a job target (among k g a here) (found_stage k g a here).there).0;
+    one_area = λ k n g a b here there. ap (λ (o : Option Area). unwrap_or o b) (sym (step_region t k g a (among k g a here)) ∙ step_region t n g b (among n g b there));
+    ready = λ k g a wholes here done. step_ready k g a here wholes done target;
   }
+
+  -- after them all that the target reads is at hand
+  pub target_ready : IsTarget t → (wholes : List (Option Whole)) → AreComputed (inner_steps t) (length (inner_steps t)) wholes → IsReadyOver t.job t.flags lent wholes t.stage t.region
+  target_ready target wholes done =
+      ready (length (inner_steps t)) t.stage t.region (slice_get-end (inner_steps t) (t.stage, t.region)) wholes
+      (computed_longer (inner_steps t) ((t.stage, t.region) ∷ []) (length (inner_steps t)) wholes (omega arith) done) target target.owner target.there

@@ -1,9 +1,8 @@
 -- All that a target reads is at hand where the tiles that it needs are lent.
-use Rattle.std.proofs.Common.{ℕ, arith, ◌≡◌, ℤ, Bool, true, false, not, eqb, Option, Some, None, List, [], ◌∷◌, map, refl, sym, ap, ◌∙◌, subst}
+use Rattle.std.proofs.Common.{ℕ, arith, ◌≡◌, ℤ, Bool, true, false, not, eqb, Option, Some, None, List, refl, sym, ap, ◌∙◌, subst}
 use Rattle.std.specs.Prelude.{All, slice_get, if◌then◌else◌}
-use Rattle.std.specs.Option.{is_none, option_map_or}
+use Rattle.std.specs.Option.{option_map_or}
 use Rattle.std.proofs.lemmas.Bool.{and_from, ne_eqb, eq-eqb}
-use Rattle.std.proofs.lemmas.List.Elements.{All-head, All-tail}
 use Rattle.domains.specs.Area.{HoldsPoint}
 use Rattle.domains.specs.Tiles.{tile_at}
 use Rattle.domains.specs.declared.area.Area.{Area}
@@ -22,17 +21,14 @@ use Rattle.grouping.specs.Schedules.{is_inlined, is_function, is_function_body}
 use Rattle.grouping.specs.Targets.{Target, IsTarget, is_boxed, box, region, IsInBox}
 use Rattle.grouping.proofs.Needs.{has_what_it_reads}
 use Rattle.grouping.proofs.Inside.{region_in_domain}
-use Rattle.overlap_tiles.specs.Needs.{needs, needed_keys, key_of, IsNeeded}
-use Rattle.overlap_tiles.proofs.Lists.{All-from_contains}
+use Rattle.overlap_tiles.specs.Needs.{IsNeeded}
 use Rattle.overlap_tiles.proofs.Lower.{box_low}
-use Rattle.overlap_tiles.proofs.Needing.{from_needs}
 use Rattle.overlap_tiles.proofs.Tiling.{grid_fits}
 use Rattle.tile_eval.specs.Whole.{raster}
 use Rattle.tile_eval.proofs.Rasters.{raster_same}
 use Rattle.tile_run.specs.Lent.{Lending, AreTrue}
 use Rattle.tile_run.specs.Tiles.{IsLentAt}
 use Rattle.tile_run.specs.Local.{local_value, FunctionAtHand, BodyAtHand, StageAtHand, IsAtHand, IsProvided}
-use Rattle.tile_run.specs.Runs.{is_missing, first_missing}
 use Rattle.tile_run.proofs.LocalValues.{reads_weaker, local_is_value}
 
 -- ---- two facts of all that is read
@@ -112,7 +108,7 @@ module _ (t : Target) (job : IsJob t.job) (target : IsTarget t) (lent : Lending)
     of_read : IsAtHand t.job t.flags lent (IsInTarget t) h r c
     of_read = subst (λ (o : Option Stage). StageAtHand t.job t.flags lent (IsInTarget t) h o r c) (sym x.there) (by_body x.stage.body refl (is_inlined t.flags h) refl)
 
-  closed : (g : ℕ) (r c : ℤ) → IsInTarget t g r c → IsProvided t.job t.flags lent (IsInTarget t) g r c
+  pub closed : (g : ℕ) (r c : ℤ) → IsInTarget t g r c → IsProvided t.job t.flags lent (IsInTarget t) g r c
   closed g r c p =
       let inside = (region_in_domain t g p.stage p.area job target p.there p.is).1 r c p.holds in
       record {
@@ -133,13 +129,3 @@ module _ (t : Target) (job : IsJob t.job) (target : IsTarget t) (lent : Lending)
         is = λ i. if eq-eqb t.stage t.stage refl i then Some t.region else (if is_inlined t.flags t.stage then box t t.stage else None);
         holds = holds;
       }))
-
-  -- and no tile that it needs is missing
-  pub none_missing : (program : List ℕ) → first_missing lent (needed_keys program t) ≡ None
-  none_missing program = all_there (needs t) (All-from_contains (λ n. is_missing lent (key_of program t.job n) ≡ false) (needs t) (λ n has. ap is_none (lends n (from_needs t n job has)).1))
-    where
-      all_there : (ns : List Tile) → All (λ n. is_missing lent (key_of program t.job n) ≡ false) ns → first_missing lent (map (key_of program t.job) ns) ≡ None
-      all_there [] h = refl
-      all_there (n ∷ ns) h =
-          (λ i. if All-head (λ m. is_missing lent (key_of program t.job m) ≡ false) n ns h i then Some (key_of program t.job n) else first_missing lent (map (key_of program t.job) ns))
-          ∙ all_there ns (All-tail (λ m. is_missing lent (key_of program t.job m) ≡ false) n ns h)

@@ -1,6 +1,6 @@
 -- What is at hand of a stage, and what is read of it, by what stands at its points.
 use Rattle.std.proofs.Common.{ℕ, ℤ, ◌≡◌, ap, ◌∙◌, sym, subst, Bool, true, false, List, Option, Some, None, slice_get}
-use Rattle.std.specs.Prelude.{if◌then◌else◌, map}
+use Rattle.std.specs.Prelude.{if◌then◌else◌, map, IfSome}
 use Rattle.std.specs.Option.{option_map}
 use Rattle.domains.specs.Span.{Ends}
 use Rattle.domains.specs.Area.{HoldsPoint}
@@ -74,3 +74,8 @@ module _ (lent lent' : Lending) (g g' : ℕ) (grid grid' : Grid) (r c r' c' : �
       (subst (λ (d : Grid). IsLentAt lent g d r' c') (sym same_grid)
       (subst (λ (z : ℤ). IsLentAt lent g grid z c') (sym same_row)
       (subst (λ (z : ℤ). IsLentAt lent g grid r z) (sym same_column) h))))
+
+-- what follows where there is something
+pub some_then : {X : Type 0} {P Q : X → Type 0} (o : Option X) → IfSome o P → ((x : X) → P x → Q x) → IfSome o Q
+some_then None p f = tt
+some_then (Some x) p f = f x p

@@ -9,3 +9,6 @@ pub mod Planned
 pub mod Storing
 pub mod Closing
 pub mod Making
+pub mod Finding
+pub mod Fitting
+pub mod StoredRows

@@ -113,7 +113,7 @@ step_is_local job flags lent Inner e is right g s r c there inside reads =
 -- ---- what is lent is true
 
 module _ (job : Pipeline) (is : IsJob job) where
-  grid_is : (g : ℕ) (s : Stage) → slice_get job.stages g ≡ Some s → IsGrid (grid_of job s)
+  pub grid_is : (g : ℕ) (s : Stage) → slice_get job.stages g ≡ Some s → IsGrid (grid_of job s)
   grid_is g s there =
       let stage : IsStage job s = is.stages g s there in
       record { area = record { rows = stage.rows.span; cols = stage.cols.span }; sides = is.sides }
@@ -145,7 +145,7 @@ module _ (job : Pipeline) (is : IsJob job) where
       stage_true None there hand = absurd hand
       stage_true (Some s) there hand = body_true s s.body there refl hand
 
-      read_true : IsAtHand job flags lent Inner g r c → read_from job flags lent (local_value job flags lent) g r c ≡ value job g r c
+      pub read_true : IsAtHand job flags lent Inner g r c → read_from job flags lent (local_value job flags lent) g r c ≡ value job g r c
       read_true hand = stage_true (slice_get job.stages g) refl hand
 
     module _ (Inner : ℕ → ℤ → ℤ → Type 0) (closed : IsClosed job flags lent Inner) where

@@ -1,11 +1,11 @@
--- What the plan of a tile tells of its steps, where no need is missing.
-use Rattle.std.proofs.Common.{arith, ℕ, suc, ℤ, ◌≡◌, ◌⊎◌, inl, inr, refl, length, Bool, true, false, List, [], ◌∷◌, ◌++◌, Option, Some, None, get_or, cond, ap, sym, ◌∙◌, subst}
+-- What the layout of a tile tells of its steps, where all that it needs is lent.
+use Rattle.std.proofs.Common.{arith, ℕ, suc, ℤ, ◌≡◌, ◌⊎◌, inl, inr, refl, length, Bool, true, false, List, [], ◌∷◌, ◌++◌, map, Option, Some, None, cond, ap, sym, ◌∙◌, subst}
 use Rattle.std.specs.Prelude.{AllPairs, Contains, find, unwrap_or}
 use Rattle.std.specs.Option.{is_none}
-use Rattle.std.proofs.Math.Seq.{get_or-append_seam}
 use Rattle.std.proofs.lemmas.Bool.{false≢true, true≢false}
 use Rattle.std.proofs.lemmas.List.{length-append}
 use Rattle.std.proofs.lemmas.Option.{none-some}
+use Rattle.domains.specs.Area.{IsArea}
 use Rattle.domains.specs.Tiles.{tile_area}
 use Rattle.domains.specs.declared.area.Area.{Area}
 use Rattle.domains.specs.declared.grid.Grid.{Grid}
@@ -15,20 +15,22 @@ use Rattle.job.specs.Answers.{Tile}
 use Rattle.job.specs.Pipeline.{Pipeline}
 use Rattle.job.specs.WellFormed.{IsJob}
 use Rattle.grouping.specs.Costs.{inner_steps}
-use Rattle.grouping.specs.Schedules.{is_function}
-use Rattle.grouping.specs.Targets.{IsTarget}
-use Rattle.grouping.proofs.Tiles.{tile_is_target}
-use Rattle.overlap_tiles.specs.Needs.{key_of, needs}
-use Rattle.overlap_tiles.specs.Plans.{Plan, IsTilePlan, target_over}
-use Rattle.overlap_tiles.proofs.Lists.{Contains-map}
+use Rattle.grouping.specs.Targets.{Target, IsTarget}
+use Rattle.overlap_tiles.specs.declared.steps.Step.{Step}
+use Rattle.overlap_tiles.specs.Needs.{key_tile, needs}
+use Rattle.overlap_tiles.specs.Plans.{Layout, IsTileAt, IsTileLayout, target_over}
+use Rattle.overlap_tiles.specs.Views.{step_view}
+use Rattle.overlap_tiles.proofs.Lists.{Contains-from_map}
+use Rattle.overlap_tiles.proofs.Tiling.{tile_is_target}
 use Rattle.tile_eval.specs.Whole.{raster}
+use Rattle.tile_eval.specs.declared.wholes.Whole.{Whole}
 use Rattle.tile_run.specs.Lent.{Lending}
 use Rattle.tile_run.specs.Local.{local_value}
-use Rattle.tile_run.specs.Runs.{is_missing, first_missing, AreLocalOn}
-use Rattle.tile_run.specs.Steps.{AreRunnable}
-use Rattle.tile_run.proofs.Bridging.{runnable}
+use Rattle.tile_run.specs.Runs.{is_missing, first_missing, AreLent, AreLocalOn, IsReadyOn}
+use Rattle.tile_run.specs.Steps.{AreComputed, AreRunnable, IsReadyOver}
+use Rattle.tile_run.proofs.Bridging.{inner_runnable, target_ready}
 
-none_found : {X : Type 0} → (p : X → Bool) (xs : List X) → find p xs ≡ None → (x : X) → Contains xs x → p x ≡ false
+pub none_found : {X : Type 0} → (p : X → Bool) (xs : List X) → find p xs ≡ None → (x : X) → Contains xs x → p x ≡ false
 none_found p [] e x h = absurd (omega (arith, h.1))
 none_found p (y ∷ ys) e x h = by (p y) refl e (λ rest. none_found p ys rest x)
   where
@@ -57,29 +59,50 @@ some_of : (o : Option (List ℤ)) → is_none o ≡ false → (xs : List ℤ) ×
 some_of None e = absurd (true≢false e)
 some_of (Some xs) e = (xs, refl)
 
-last_same : {X : Type 0} → (xs ys : List X) (x y : X) → xs ++ x ∷ [] ≡ ys ++ y ∷ [] → x ≡ y
-last_same xs ys x y e =
-    let long : length (xs ++ x ∷ []) ≡ length (ys ++ y ∷ []) = ap length e in
-    let same : length xs ≡ length ys = omega (arith, length-append xs (x ∷ []), length-append ys (y ∷ [])) in
-    sym (get_or-append_seam xs x [] x) ∙ ap (λ l. get_or l (length xs) x) e ∙ ap (λ k. get_or (ys ++ y ∷ []) k x) same ∙ get_or-append_seam ys y [] x
+-- a list of steps that has a last one
+pub not_empty : (steps : List Step) (inner : List (ℕ × Area)) (last : ℕ × Area) → steps ≡ [] → map step_view steps ≡ inner ++ last ∷ [] → ⊥
+not_empty steps inner last none are =
+    let size : length (map step_view steps) ≡ length (inner ++ last ∷ []) = ap length are in
+    let zero_long : length (map step_view steps) ≡ 0 = ap (λ (ss : List Step). length (map step_view ss)) none in
+    absurd (omega (arith, size, zero_long, length-append inner (last ∷ [])))
 
-module _ (program : List ℕ) (job : Pipeline) (flags : List Bool) (lent : Lending) (p : Plan) (g i j : ℕ) (is : IsTilePlan program job flags g i j p) where
-  needs_lent : first_missing lent p.needs ≡ None → (n : Tile) → Contains (needs (target_over job flags g is.area)) n → (xs : List ℤ) × (lent n.stage n.row n.col ≡ Some xs)
-  needs_lent none n needed =
-      some_of (lent n.stage n.row n.col) (none_found (is_missing lent) p.needs none (key_of program job n)
-      (subst (λ (ks : List Key). Contains ks (key_of program job n)) (sym is.plan.plan.needs) (Contains-map (key_of program job) (needs (target_over job flags g is.area)) n needed)))
+-- where no key is missing, the tile of each is lent
+pub keys_lent : (lent : Lending) (keys : List Key) → first_missing lent keys ≡ None → AreLent lent (map key_tile keys)
+keys_lent lent keys none n needed =
+    let key = Contains-from_map key_tile keys n needed in
+    let found = some_of (lent key.0.stage key.0.row key.0.col) (none_found (is_missing lent) keys none key.0 key.1) in
+    (found.0, ap (λ (m : Tile). lent m.stage m.row m.col) (sym key.2) ∙ found.1)
 
-  target : IsJob job → IsTarget (target_over job flags g is.area)
-  target good = subst (λ (a : Area). IsTarget (target_over job flags g a)) (sym is.tile.is) (tile_is_target job flags g i j is.tile.grid good is.tile.there is.tile.tile)
+module _ (job : Pipeline) (flags : List Bool) (lent : Lending) (l : Layout) (g i j : ℕ) (is : IsTileLayout job flags g i j l) where
+  abbrev of_tile : Target
+  of_tile = target_over job flags g is.area
 
-  pub plan_runnable : IsJob job → is_function job g ≡ true → first_missing lent p.needs ≡ None → AreRunnable job flags lent p.steps
-  plan_runnable good own none =
-      subst (λ (ss : List (ℕ × Area)). AreRunnable job flags lent ss) (sym is.plan.plan.steps)
-      (runnable (target_over job flags g is.area) good lent (needs_lent none) (target good) own)
+  target : IsJob job → IsTarget of_tile
+  target good = tile_is_target job flags g i j is.area good is.tile
 
-  pub plan_values : (inner : List (ℕ × Area)) (last : ℕ × Area) (numbers : List ℤ) → p.steps ≡ inner ++ last ∷ [] → numbers ≡ raster last.1 (local_value job flags lent last.0) → AreLocalOn job flags lent g i j numbers
-  plan_values inner last numbers steps values = λ area at.
-      let end : last ≡ (g, is.area) = last_same inner (inner_steps (target_over job flags g is.area)) last (g, is.area) (sym steps ∙ is.plan.plan.steps) in
+  pub layout_steps : l.steps ≡ inner_steps of_tile ++ (g, is.area) ∷ []
+  layout_steps = is.layout.layout.steps
+
+  lends : AreLent lent l.needs → AreLent lent (needs of_tile)
+  lends given = subst (AreLent lent) is.layout.layout.needs given
+
+  pub layout_runnable : IsJob job → AreLent lent l.needs → AreRunnable job flags lent (inner_steps of_tile)
+  layout_runnable good given = inner_runnable of_tile good lent (lends given) (target good)
+
+  pub layout_area : IsJob job → IsArea is.area
+  layout_area good = (target good).area
+
+  -- the areas of one tile are the same
+  only_area : (area : Area) → IsTileAt job g i j area → is.area ≡ area
+  only_area area at =
       let grid : is.tile.grid ≡ at.grid = ap (λ (o : Option Grid). unwrap_or o at.grid) (sym is.tile.there ∙ at.there) in
-      let same : is.area ≡ area = is.tile.is ∙ ap (λ (d : Grid). tile_area d i j) grid ∙ sym at.is in
-      values ∙ ap (λ (x : ℕ × Area). raster x.1 (local_value job flags lent x.0)) end ∙ ap (λ (a : Area). raster a (local_value job flags lent g)) same
+      is.tile.is ∙ ap (λ (d : Grid). tile_area d i j) grid ∙ sym at.is
+
+  -- after the inner steps all that the tile reads is at hand
+  pub layout_ready : IsJob job → AreLent lent l.needs → (wholes : List (Option Whole)) → AreComputed (inner_steps of_tile) (length (inner_steps of_tile)) wholes → IsReadyOn job flags lent wholes g i j
+  layout_ready good given wholes done area at =
+      subst (IsReadyOver job flags lent wholes g) (only_area area at) (target_ready of_tile good lent (lends given) (target good) wholes done)
+
+  pub layout_values : (last : ℕ × Area) (numbers : List ℤ) → last ≡ (g, is.area) → numbers ≡ raster last.1 (local_value job flags lent last.0) → AreLocalOn job flags lent g i j numbers
+  layout_values last numbers end values area at =
+      values ∙ ap (λ (x : ℕ × Area). raster x.1 (local_value job flags lent x.0)) end ∙ ap (λ (a : Area). raster a (local_value job flags lent g)) (only_area area at)

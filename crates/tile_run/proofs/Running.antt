@@ -19,7 +19,7 @@ use Rattle.tile_run.specs.Steps.{AreLocal, AreComputed, AreRunnable}
 -- ---- the first steps of a list
 
 module _ (xs ys : List (ℕ × Area)) where
-  to_longer : (k : ℕ) (x : ℕ × Area) → slice_get xs k ≡ Some x → slice_get (xs ++ ys) k ≡ Some x
+  pub to_longer : (k : ℕ) (x : ℕ × Area) → slice_get xs k ≡ Some x → slice_get (xs ++ ys) k ≡ Some x
   to_longer k x is =
       let there = slice_get_within xs k x is in
       slice_get-get_or (xs ++ ys) k x (omega (arith, length-append xs ys)) ∙ ap Some (get_or_append_left xs ys x k there ∙ get_or_from_slice_get xs k x x is)
@@ -29,16 +29,6 @@ module _ (xs ys : List (ℕ × Area)) where
 
   pub computed_longer : (n : ℕ) (wholes : List (Option Whole)) → n ≤ length xs → AreComputed xs n wholes → AreComputed (xs ++ ys) n wholes
   computed_longer n wholes few done = λ k g a before is r c holds. done k g a before (from_longer k (g, a) (omega arith) is) r c holds
-
-  pub runnable_first : (job : Pipeline) (flags : List Bool) (lent : Lending) → AreRunnable job flags lent (xs ++ ys) → AreRunnable job flags lent xs
-  runnable_first job flags lent all = record {
-    functions = λ k g a is. all.functions k g a (to_longer k (g, a) is);
-    areas = λ k g a is. all.areas k g a (to_longer k (g, a) is);
-    one_area = λ k n g a b is other. all.one_area k n g a b (to_longer k (g, a) is) (to_longer n (g, b) other);
-    ready = λ k g a wholes is done.
-        let there = slice_get_within xs k (g, a) is in
-        all.ready k g a wholes (to_longer k (g, a) is) (computed_longer k wholes (omega arith) done);
-  }
 
 -- ---- one step more
 

@@ -5,3 +5,4 @@ pub mod Steps
 pub mod Runs
 pub mod Stored
 pub mod Running
+pub mod Work

@@ -51,7 +51,6 @@ StoredFit job flags = (g : ℕ) (s : Stage) → IsStoredFunction job flags g s �
 -- all is there that the tiles of stage g, a stored function with this grid, are made of
 pub record IsReady (job : Pipeline) (flags : List Bool) (stages : List Tiles) (g : ℕ) (grid : Grid) : Type 0 where
   pub is_job : IsJob job
-  pub few : length job.stages ≤ 65536
   pub stage : Stage
   pub function : IsStoredFunction job flags g stage
   pub parted : grid ≡ grid_of job stage

@@ -7,6 +7,7 @@ ghost use Rattle.tile_eval.specs.Whole.{sample_in, IsKnownAt};
 ghost use Rattle.tile_run.specs.Lent.{AreWhole};
 ghost use Rattle.tile_run.specs.Local.{HaveAreas, PlanesLie, IsAtHand, read_from};
 
+use crate::buffers::Scratch;
 use crate::lender::Lender;
 use crate::lent::Lent;
 use crate::samples::{plane_line, plane_point};
@@ -14,7 +15,7 @@ use domains::{Area, Grid};
 use grouping::Schedule;
 use job::{Body, Function, Job, Stage};
 use std::alloc::{AllocError, Global};
-use tile_eval::{Known, Source, Whole, area_values};
+use tile_eval::{Known, Source, Whole, area_into};
 
 /// The planes of a job, tiles that are lent of functions that are stored, and boxes of functions that are inlined.
 #[derive(Drop)]
@@ -29,7 +30,7 @@ pub struct AtHand<'a, K: Lender> {
 }
 
 impl<'a, K: Lender> AtHand<'a, K> {
-    ghost use Rattle.std.specs.Prelude.{◌≢◌, ◌<◌, ℕ, ℤ, Some, map, length, IfOk, OnOk};
+    ghost use Rattle.std.specs.Prelude.{◌≢◌, ◌<◌, ℕ, ℤ, Some, map, length, OnOk};
     ghost use Rattle.std.specs.Option.{option_map};
     ghost use Rattle.domains.specs.Area.{HoldsPoint, IsArea};
     ghost use Rattle.job.specs.Answers.{grid_of};
@@ -39,22 +40,24 @@ impl<'a, K: Lender> AtHand<'a, K> {
     ghost use Rattle.tile_run.specs.Local.{local_value};
     ghost use Rattle.tile_run.specs.Steps.{IsFunctionAt, AreLocal, IsReadyOver};
 
-    /// The values of a function over an area of its domain, row by row, where all that it reads there is at hand.
+    /// Writes the values of a function over an area of its domain, row by row, where all that it reads there is at hand. What the
+    /// vectors hold before means nothing; their memory is used again.
     pub fn values(
         &self,
-        alloc: Global,
         number: usize,
         function: &Function,
         area: &Area,
-    ) -> Result<Vec<i32>, AllocError>
+        values: &mut Vec<i32>,
+        temps: &mut Vec<i32>,
+    ) -> Result<(), AllocError>
         requires job { IsJob (pipeline_in self.now.job.now) }
         requires function { IsFunctionAt (pipeline_in self.now.job.now) number (map piece_view function.now.pieces.items) (option_map formula_view function.now.otherwise) }
         requires area { IsArea area.now }
         requires boxes { AreLocal (pipeline_in self.now.job.now) self.now.schedule.now.flags (K.lent self.now.lender.now) self.now.boxes.wholes.items }
         requires ready { IsReadyOver (pipeline_in self.now.job.now) self.now.schedule.now.flags (K.lent self.now.lender.now) self.now.boxes.wholes.items number area.now }
-        ensures { IfOk result (λ values. values.items ≡ raster area.now (local_value (pipeline_in self.now.job.now) self.now.schedule.now.flags (K.lent self.now.lender.now) number)) }
+        ensures { OnOk result (values.new.items ≡ raster area.now (local_value (pipeline_in self.now.job.now) self.now.schedule.now.flags (K.lent self.now.lender.now) number)) }
     {
-        area_values(alloc, self, function, area)
+        area_into(self, function, area, values, temps)
     }
 
     /// Computes a function over an area of its domain, where all that it reads there is at hand, so that this is at hand from
@@ -65,6 +68,7 @@ impl<'a, K: Lender> AtHand<'a, K> {
         number: usize,
         function: &Function,
         area: &Area,
+        scratch: &mut Scratch,
     ) -> Result<(), AllocError>
         requires job { IsJob (pipeline_in self.old.job.now) }
         requires function { IsFunctionAt (pipeline_in self.old.job.now) number (map piece_view function.now.pieces.items) (option_map formula_view function.now.otherwise) }
@@ -80,9 +84,19 @@ impl<'a, K: Lender> AtHand<'a, K> {
         ensures computed { OnOk result ((r c : ℤ) → HoldsPoint area.now r c → IsKnownAt self.new.boxes.wholes.items number r c) }
         ensures others { (g : ℕ) → g ≢ number → slice_get self.new.boxes.wholes.items g ≡ slice_get self.old.boxes.wholes.items g }
     {
-        let values = self.values(alloc, number, function, area)?;
+        let mut values = scratch.spare(alloc);
+        self.values(number, function, area, &mut values, &mut scratch.temps)?;
         self.boxes.put(number, Whole::new(*area, values));
         Ok(())
+    }
+
+    /// Gives the memory of the boxes back, so that the next tile is computed in it.
+    pub fn finish(mut self, scratch: &mut Scratch) {
+        for number in 0..self.job.stages().len() {
+            if let Some(whole) = self.boxes.take(number) {
+                scratch.keep(whole.into_values());
+            }
+        }
     }
 
     // The tiles of a stored stage.
@@ -116,6 +130,17 @@ impl<K: Lender> Source for AtHand<'_, K> {
             }
             Body::Function(_) => self.lent(stage, found).line(row, first, out),
             Body::Accumulator(_) => {}
+        }
+    }
+
+    fn lend(&self, stage: usize, row: i32, first: i32, count: usize) -> Option<&[i32]> {
+        let found = self.job.stage(stage)?;
+        match found.body() {
+            Body::Function(_) if self.schedule.inlined(stage) => {
+                self.boxes.lend(stage, row, first, count)
+            }
+            Body::Function(_) => self.lent(stage, found).lend(row, first, count),
+            _ => None,
         }
     }
 

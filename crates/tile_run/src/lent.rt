@@ -2,9 +2,10 @@
 //! Rows and points of tiles that are lent.
 
 ghost use Rattle.std.specs.Prelude.{◌≡◌, ◌≤◌, ◌<◌, ◌+ℤ◌, ◌≤ℤ◌, pos, length, IfSome, IfNone};
-ghost use Rattle.domains.specs.Area.{IsArea};
+ghost use Rattle.domains.specs.Area.{HoldsPoint, IsArea};
 ghost use Rattle.domains.specs.Span.{Holds};
 ghost use Rattle.tile_eval.specs.Rows.{EachPlace, at};
+ghost use Rattle.tile_eval.specs.Whole.{place_of};
 ghost use Rattle.tile_run.specs.Lent.{number_at, HasWholeTiles};
 ghost use Rattle.tile_run.specs.Tiles.{IsLentAt, IsTileAbout};
 
@@ -43,6 +44,19 @@ fn reach(span: &Span, first: i32, most: usize) -> usize
     ensures within { (first +ℤ pos result) ≤ℤ (span.now.hi +ℤ pos 1) }
 {
     most.min((span.hi() - first) as usize + 1)
+}
+
+// So many numbers of a block along a row, from a column on, if its columns go so far.
+fn slice_of<'a>(block: &Block<'a>, row: i32, first: i32, count: usize) -> Option<&'a [i32]>
+    requires { HoldsPoint block.now.area row first }
+    ensures count { IfSome result (λ line. length line.now ≡ count) }
+    ensures held { IfSome result (λ line. EachPlace count (λ k. HoldsPoint block.now.area row (first +ℤ pos k))) }
+    ensures values { IfSome result (λ line. EachPlace count (λ k. at line.now k ≡ at block.now.values.now (place_of block.now.area row (first +ℤ pos k)))) }
+{
+    if count == 0 || reach(block.columns(), first, count) < count {
+        return None;
+    }
+    Some(block.slice(row, first, count))
 }
 
 impl<'a, K: Lender> Lent<'a, K> {
@@ -85,6 +99,17 @@ impl<'a, K: Lender> Lent<'a, K> {
         let mut done = 0;
         while done < out.len() {
             done += self.part(row, behind(first, done), &mut out[done..]);
+        }
+    }
+
+    /// The numbers along a row, from a column on, where one tile has them all.
+    pub(crate) fn lend(&self, row: i32, first: i32, count: usize) -> Option<&'a [i32]>
+        requires { EachPlace count (λ k. IsLentAt (K.lent self.now.lender.now) self.now.stage self.now.grid row (first +ℤ pos k)) }
+        ensures { IfSome result (λ line. (length line.now ≡ count) × EachPlace count (λ k. at line.now k ≡ number_at (K.lent self.now.lender.now) self.now.stage self.now.grid row (first +ℤ pos k))) }
+    {
+        match self.block(row, first) {
+            Some(block) => slice_of(&block, row, first, count),
+            None => None,
         }
     }
 

@@ -9,26 +9,29 @@ ghost use Rattle.job.specs.Kept.{pipeline_in, program_id_in};
 ghost use Rattle.job.specs.Pipeline.{Stage as StageOf, rank_of};
 ghost use Rattle.job.specs.Views.{stage_view};
 ghost use Rattle.job.specs.WellFormed.{IsJob};
-ghost use Rattle.grouping.specs.Inlining.{AllFitScratch};
+ghost use Rattle.grouping.specs.Inlining.{IsScheduleOf};
 ghost use Rattle.grouping.specs.Order.{greatest_rank};
 ghost use Rattle.grouping.specs.Schedules.{is_inlined, is_function_body};
-ghost use Rattle.overlap_tiles.specs.Plans.{IsTilePlan};
+ghost use Rattle.overlap_tiles.specs.Plans.{IsTileLayout};
 ghost use Rattle.tile_run.specs.Running.{row_numbers, tile_values, row_values, grid_values, AreTilesOf, AreStored, IsReady, StoredFit};
 ghost use Rattle.tile_run.specs.Stored.{stored_tiles, IsStoredFunction, LendsAllTiles};
+ghost use Rattle.tile_run.specs.Work.{is_stored_function, first_too_big, IsRunFault};
 ghost use Rattle.tile_run.specs.Lent.{AreTrue};
 
-use crate::fault::EvalFault;
-use crate::run::run_tile;
+use crate::buffers::Scratch;
+use crate::fault::RunFault;
+use crate::room::{Work, first_too_big};
+use crate::run::run_layout;
 use crate::stored::{Stored, TileRow, Tiles};
 use domains::Grid;
 use grouping::Schedule;
 use job::{Job, Stage, StageKind};
-use overlap_tiles::{PlanFault, TilePlan};
+use overlap_tiles::{Layout, PlanFault};
 use std::alloc::{AllocError, Global};
 
 // A stored function of a job, whose tiles are to be made, with what is stored of those that it reads.
 #[derive(Clone, Copy)]
-struct Work<'a> {
+struct StageRun<'a> {
     job: &'a Job,
     schedule: &'a Schedule,
     stored: &'a Stored,
@@ -36,55 +39,64 @@ struct Work<'a> {
     grid: Grid,
 }
 
-impl Work<'_> {
-    // The plan of a tile.
-    fn plan(&self, alloc: Global, row: u32, col: u32) -> Result<TilePlan, AllocError>
+impl StageRun<'_> {
+    // The layout of a tile.
+    fn layout(&self, alloc: Global, row: u32, col: u32) -> Result<Layout, AllocError>
         requires ready { IsReady (pipeline_in self.now.job.now) self.now.schedule.now.flags self.now.stored.now.stages.items self.now.stage self.now.grid }
         requires tile { HasTile self.now.grid row col }
-        ensures { IfOk result (IsTilePlan (program_id_in self.now.job.now) (pipeline_in self.now.job.now) self.now.schedule.now.flags self.now.stage row col) }
+        ensures { IfOk result (IsTileLayout (pipeline_in self.now.job.now) self.now.schedule.now.flags self.now.stage row col) }
     {
-        match TilePlan::of(alloc, self.job, self.schedule, self.stage, row, col) {
-            Ok(plan) => Ok(plan),
+        match Layout::of(alloc, self.job, self.schedule, self.stage, row, col) {
+            Ok(layout) => Ok(layout),
             Err(PlanFault::NoSuchTile | PlanFault::ScratchTooBig) => unreachable!(),
             Err(PlanFault::Memory) => Err(AllocError),
         }
     }
 
     // The values of a tile.
-    fn tile(&self, alloc: Global, row: u32, col: u32) -> Result<Vec<i32>, AllocError>
+    fn tile(
+        &self,
+        alloc: Global,
+        row: u32,
+        col: u32,
+        scratch: &mut Scratch,
+    ) -> Result<Vec<i32>, AllocError>
         requires ready { IsReady (pipeline_in self.now.job.now) self.now.schedule.now.flags self.now.stored.now.stages.items self.now.stage self.now.grid }
         requires tile { HasTile self.now.grid row col }
         ensures { IfOk result (λ values. values.items ≡ tile_values (pipeline_in self.now.job.now) self.now.stage self.now.grid row col) }
     {
-        let plan = self.plan(alloc, row, col)?;
-        match run_tile(alloc, self.job, self.schedule, &plan, self.stored) {
-            Ok(values) => Ok(values),
-            Err(EvalFault::Missing(_)) => unreachable!(),
-            Err(EvalFault::Memory) => Err(AllocError),
-        }
+        let layout = self.layout(alloc, row, col)?;
+        run_layout(
+            alloc,
+            self.job,
+            self.schedule,
+            &layout,
+            scratch,
+            self.stored,
+        )
     }
 
     // Those of a row of tiles.
-    fn row(&self, alloc: Global, row: u32) -> Result<TileRow, AllocError>
+    fn row(&self, alloc: Global, row: u32, scratch: &mut Scratch) -> Result<TileRow, AllocError>
         requires ready { IsReady (pipeline_in self.now.job.now) self.now.schedule.now.flags self.now.stored.now.stages.items self.now.stage self.now.grid }
         requires row { row < tile_rows self.now.grid }
         ensures { IfOk result (λ tiles. row_numbers tiles ≡ row_values (pipeline_in self.now.job.now) self.now.stage self.now.grid row (tile_cols self.now.grid)) }
     {
         let mut tiles = Vec::new(alloc);
         for col in 0..self.grid.tile_cols() {
-            tiles.push(self.tile(alloc, row, col)?)?;
+            tiles.push(self.tile(alloc, row, col, scratch)?)?;
         }
         Ok(TileRow { tiles })
     }
 
     // Those of all tiles.
-    fn tiles(&self, alloc: Global) -> Result<Tiles, AllocError>
+    fn tiles(&self, alloc: Global, scratch: &mut Scratch) -> Result<Tiles, AllocError>
         requires ready { IsReady (pipeline_in self.now.job.now) self.now.schedule.now.flags self.now.stored.now.stages.items self.now.stage self.now.grid }
         ensures { IfOk result (λ tiles. map row_numbers tiles.rows.items ≡ grid_values (pipeline_in self.now.job.now) self.now.stage self.now.grid (tile_rows self.now.grid)) }
     {
         let mut rows = Vec::new(alloc);
         for row in 0..self.grid.tile_rows() {
-            rows.push(self.row(alloc, row)?)?;
+            rows.push(self.row(alloc, row, scratch)?)?;
         }
         Ok(Tiles { rows })
     }
@@ -112,9 +124,9 @@ impl Stored {
         job: &Job,
         schedule: &Schedule,
         stage: usize,
+        scratch: &mut Scratch,
     ) -> Result<Tiles, AllocError>
         requires job { IsJob (pipeline_in job.now) }
-        requires few { length (pipeline_in job.now).stages ≤ 65536 }
         requires fit { StoredFit (pipeline_in job.now) schedule.now.flags }
         requires lower { AreStored (pipeline_in job.now) schedule.now.flags (rank_of (pipeline_in job.now).stages stage) self.now.stages.items }
         ensures { IfOk result (AreTilesOf (pipeline_in job.now) schedule.now.flags stage) }
@@ -122,14 +134,14 @@ impl Stored {
         match job.stage(stage) {
             Some(found) if is_stored(schedule, stage, found) => {
                 let grid = Grid::new(*found.domain(), job.sides());
-                let work = Work {
+                let run = StageRun {
                     job,
                     schedule,
                     stored: self,
                     stage,
                     grid,
                 };
-                work.tiles(alloc)
+                run.tiles(alloc, scratch)
             }
             _ => Ok(Tiles {
                 rows: Vec::new(alloc),
@@ -144,16 +156,16 @@ impl Stored {
         job: &Job,
         schedule: &Schedule,
         rank: usize,
+        scratch: &mut Scratch,
     ) -> Result<(), AllocError>
         requires job { IsJob (pipeline_in job.now) }
-        requires few { length (pipeline_in job.now).stages ≤ 65536 }
         requires fit { StoredFit (pipeline_in job.now) schedule.now.flags }
         requires lower { AreStored (pipeline_in job.now) schedule.now.flags rank self.old.stages.items }
         ensures { IfOk result (λ done. AreStored (pipeline_in job.now) schedule.now.flags (rank + 1) self.new.stages.items) }
     {
         for number in 0..job.stages().len() {
             if job.rank(number) == Some(rank) {
-                self.stages[number] = self.tiles_of(alloc, job, schedule, number)?;
+                self.stages[number] = self.tiles_of(alloc, job, schedule, number, scratch)?;
             }
         }
         Ok(())
@@ -167,15 +179,15 @@ impl Stored {
         rank: usize,
     ) -> Result<Stored, AllocError>
         requires job { IsJob (pipeline_in job.now) }
-        requires few { length (pipeline_in job.now).stages ≤ 65536 }
         requires fit { StoredFit (pipeline_in job.now) schedule.now.flags }
         ensures { IfOk result (λ stored. AreStored (pipeline_in job.now) schedule.now.flags (rank + 1) stored.stages.items) }
     {
         let mut stored = Stored::none(alloc, job.stages().len())?;
+        let mut scratch = Scratch::new(alloc);
         for lower in 0..rank {
-            stored.add_rank(alloc, job, schedule, lower)?;
+            stored.add_rank(alloc, job, schedule, lower, &mut scratch)?;
         }
-        stored.add_rank(alloc, job, schedule, rank)?;
+        stored.add_rank(alloc, job, schedule, rank, &mut scratch)?;
         Ok(stored)
     }
 }
@@ -202,13 +214,19 @@ fn last_rank(stages: &[Stage]) -> usize
 ///
 /// # Errors
 ///
-/// Fails only where memory is refused.
-pub fn run_all(alloc: Global, job: &Job, schedule: &Schedule) -> Result<Stored, AllocError>
+/// Fails where a tile takes too much scratch memory, with the first one and before any is made; and where memory is refused.
+pub fn run_all(alloc: Global, job: &Job, schedule: &Schedule) -> Result<Stored, RunFault>
     requires job { IsJob (pipeline_in job.now) }
     requires few { length (pipeline_in job.now).stages ≤ 65536 }
-    requires fit { AllFitScratch (pipeline_in job.now) schedule.now.flags }
+    requires schedule { IsScheduleOf (pipeline_in job.now) schedule.now }
     ensures all { IfOk result (λ stored. LendsAllTiles (pipeline_in job.now) schedule.now.flags (stored_tiles stored.stages.items)) }
     ensures values { IfOk result (λ stored. AreTrue (pipeline_in job.now) (stored_tiles stored.stages.items)) }
+    ensures fits { IfOk result (λ stored. first_too_big (pipeline_in job.now) schedule.now.flags (is_stored_function (pipeline_in job.now) schedule.now.flags) ≡ None) }
+    ensures fault { IfErr result (IsRunFault (program_id_in job.now) (pipeline_in job.now) schedule.now.flags (is_stored_function (pipeline_in job.now) schedule.now.flags)) }
 {
-    Stored::through(alloc, job, schedule, last_rank(job.stages()))
+    if let Some(key) = first_too_big(alloc, job, schedule, Work::Functions)? {
+        return Err(RunFault::ScratchTooBig(key));
+    }
+    let stored = Stored::through(alloc, job, schedule, last_rank(job.stages()))?;
+    Ok(stored)
 }

@@ -1,23 +1,26 @@
 #![tactic(auto)]
 //! A tile of a function, from what is lent.
 
-ghost use Rattle.std.specs.Prelude.{◌≡◌, ℕ, true, false, None, map, length, IfOk, IfErr, IfSome, IfNone};
+ghost use Rattle.std.specs.Prelude.{◌≡◌, ◌++◌, ◌∷◌, [], ℕ, List, true, false, None, map, length, IfOk, IfErr, IfSome, IfNone};
+ghost use Rattle.domains.specs.declared.area.Area.{Area};
 ghost use Rattle.std.specs.Option.{option_map};
 ghost use Rattle.grouping.specs.Schedules.{is_function};
 ghost use Rattle.job.specs.Kept.{pipeline_in, program_id_in};
 ghost use Rattle.job.specs.Views.{piece_view, formula_view};
 ghost use Rattle.job.specs.WellFormed.{IsJob};
-ghost use Rattle.overlap_tiles.specs.Plans.{IsTilePlan};
+ghost use Rattle.overlap_tiles.specs.Plans.{IsTilePlan, IsTileLayout};
+ghost use Rattle.overlap_tiles.specs.Views.{step_view};
 ghost use Rattle.tile_run.specs.Lent.{AreWhole};
-ghost use Rattle.tile_run.specs.Runs.{is_missing, first_missing, AreLocalOn, IsFunctionPlan, IsEvalFault};
-ghost use Rattle.tile_run.specs.Steps.{IsFunctionAt};
+ghost use Rattle.tile_run.specs.Runs.{is_missing, first_missing, AreLocalOn, AreLent, IsReadyOn, IsFunctionPlan, IsSomePlan, IsFunctionLayout, IsSomeLayout, IsEvalFault};
+ghost use Rattle.tile_run.specs.Steps.{IsFunctionAt, AreLocal};
 
+use crate::buffers::Scratch;
 use crate::fault::EvalFault;
 use crate::hand::AtHand;
 use crate::lender::Lender;
 use grouping::Schedule;
 use job::{Body, Function, Job, Key};
-use overlap_tiles::{Step, TilePlan};
+use overlap_tiles::{Layout, Step, TilePlan};
 use std::alloc::{AllocError, Global};
 use tile_eval::Known;
 
@@ -79,7 +82,13 @@ impl<'a, K: Lender> AtHand<'a, K> {
     }
 
     // Computes the step at this place of a list, where those before it are computed.
-    fn run_step(&mut self, alloc: Global, steps: &[Step], place: usize) -> Result<(), AllocError>
+    fn run_step(
+        &mut self,
+        alloc: Global,
+        steps: &[Step],
+        place: usize,
+        scratch: &mut Scratch,
+    ) -> Result<(), AllocError>
         requires job { IsJob (pipeline_in self.old.job.now) }
         requires room { length self.old.boxes.wholes.items ≡ length (pipeline_in self.old.job.now).stages }
         requires there { place < length steps.now }
@@ -95,13 +104,18 @@ impl<'a, K: Lender> AtHand<'a, K> {
     {
         let step = steps[place];
         match function_of(self.job, step.stage) {
-            Some(function) => self.compute(alloc, step.stage, function, &step.area),
+            Some(function) => self.compute(alloc, step.stage, function, &step.area, scratch),
             None => Ok(()),
         }
     }
 
     // Computes each of these steps.
-    fn run_steps(&mut self, alloc: Global, steps: &[Step]) -> Result<(), AllocError>
+    fn run_steps(
+        &mut self,
+        alloc: Global,
+        steps: &[Step],
+        scratch: &mut Scratch,
+    ) -> Result<(), AllocError>
         requires job { IsJob (pipeline_in self.old.job.now) }
         requires room { length self.old.boxes.wholes.items ≡ length (pipeline_in self.old.job.now).stages }
         requires runnable { AreRunnable (pipeline_in self.old.job.now) self.old.schedule.now.flags (K.lent self.old.lender.now) (map step_view steps.now) }
@@ -113,13 +127,18 @@ impl<'a, K: Lender> AtHand<'a, K> {
         ensures computed { OnOk result (AreComputed (map step_view steps.now) (length steps.now) self.new.boxes.wholes.items) }
     {
         for place in 0..steps.len() {
-            self.run_step(alloc, steps, place)?;
+            self.run_step(alloc, steps, place, scratch)?;
         }
         Ok(())
     }
 
     // The values of the last step, where those before it are computed.
-    fn target(&self, alloc: Global, step: &Step) -> Result<Vec<i32>, AllocError>
+    fn target(
+        &self,
+        alloc: Global,
+        step: &Step,
+        scratch: &mut Scratch,
+    ) -> Result<Vec<i32>, AllocError>
         requires job { IsJob (pipeline_in self.now.job.now) }
         requires function { is_function (pipeline_in self.now.job.now) step.now.stage ≡ true }
         requires area { IsArea step.now.area }
@@ -127,23 +146,121 @@ impl<'a, K: Lender> AtHand<'a, K> {
         requires ready { IsReadyOver (pipeline_in self.now.job.now) self.now.schedule.now.flags (K.lent self.now.lender.now) self.now.boxes.wholes.items step.now.stage step.now.area }
         ensures { IfOk result (λ values. values.items ≡ raster step.now.area (local_value (pipeline_in self.now.job.now) self.now.schedule.now.flags (K.lent self.now.lender.now) step.now.stage)) }
     {
-        match function_of(self.job, step.stage) {
-            Some(function) => self.values(alloc, step.stage, function, &step.area),
-            None => Ok(Vec::new(alloc)),
+        let mut values = Vec::new(alloc);
+        if let Some(function) = function_of(self.job, step.stage) {
+            let temps = &mut scratch.temps;
+            self.values(step.stage, function, &step.area, &mut values, temps)?;
         }
+        Ok(values)
     }
+}
 
-    // Runs these steps, and gives the values of the last.
-    fn run(&mut self, alloc: Global, inner: &[Step], last: &Step) -> Result<Vec<i32>, AllocError>
-        requires job { IsJob (pipeline_in self.old.job.now) }
-        requires room { length self.old.boxes.wholes.items ≡ length (pipeline_in self.old.job.now).stages }
-        requires runnable { AreRunnable (pipeline_in self.old.job.now) self.old.schedule.now.flags (K.lent self.old.lender.now) (map step_view inner.now ++ step_view last.now ∷ []) }
-        requires boxes { AreLocal (pipeline_in self.old.job.now) self.old.schedule.now.flags (K.lent self.old.lender.now) self.old.boxes.wholes.items }
-        ensures { IfOk result (λ values. values.items ≡ raster last.now.area (local_value (pipeline_in self.old.job.now) self.old.schedule.now.flags (K.lent self.old.lender.now) last.now.stage)) }
-    {
-        self.run_steps(alloc, inner)?;
-        self.target(alloc, last)
+// The steps before the last.
+fn inner_of(steps: &[Step]) -> &[Step]
+    ensures { (inner : List (ℕ × Area)) (last : ℕ × Area) → map step_view steps.now ≡ inner ++ last ∷ [] → map step_view result.now ≡ inner }
+{
+    match steps.split_last() {
+        Some((_, inner)) => inner,
+        None => steps,
     }
+}
+
+// The last step.
+fn last_of(steps: &[Step]) -> Option<&Step>
+    ensures some { IfSome result (λ step. (inner : List (ℕ × Area)) (last : ℕ × Area) → map step_view steps.now ≡ inner ++ last ∷ [] → step_view step.now ≡ last) }
+    ensures none { IfNone result (steps.now ≡ []) }
+{
+    match steps.split_last() {
+        Some((last, _)) => Some(last),
+        None => None,
+    }
+}
+
+/// All that a tile reads, at hand: the boxes of the inlined functions that its layout names are computed, from tiles that are lent.
+///
+/// # Errors
+///
+/// Fails only where memory is refused.
+pub fn prepare_layout<'a, K: Lender>(
+    alloc: Global,
+    job: &'a Job,
+    schedule: &'a Schedule,
+    layout: &Layout,
+    scratch: &mut Scratch,
+    lender: &'a K,
+) -> Result<AtHand<'a, K>, AllocError>
+    requires job { IsJob (pipeline_in job.now) }
+    requires whole { AreWhole (pipeline_in job.now) (K.lent lender.now) }
+    requires layout { IsSomeLayout (pipeline_in job.now) schedule.now.flags layout.now }
+    requires needs { AreLent (K.lent lender.now) layout.now.needs }
+    ensures job { IfOk result (λ hand. hand.job.now ≡ job.now) }
+    ensures schedule { IfOk result (λ hand. hand.schedule.now ≡ schedule.now) }
+    ensures lender { IfOk result (λ hand. hand.lender.now ≡ lender.now) }
+    ensures local { IfOk result (λ hand. AreLocal (pipeline_in job.now) schedule.now.flags (K.lent lender.now) hand.boxes.wholes.items) }
+    ensures ready { IfOk result (λ hand. (g i j : ℕ) → IsTileLayout (pipeline_in job.now) schedule.now.flags g i j layout.now → IsReadyOn (pipeline_in job.now) schedule.now.flags (K.lent lender.now) hand.boxes.wholes.items g i j) }
+{
+    let mut hand = AtHand::new(alloc, job, schedule, lender)?;
+    hand.run_steps(alloc, inner_of(layout.steps()), scratch)?;
+    Ok(hand)
+}
+
+/// The local values of a tile of a function, row by row, by its layout and from what is lent.
+///
+/// # Errors
+///
+/// Fails only where memory is refused.
+pub fn run_layout<K: Lender>(
+    alloc: Global,
+    job: &Job,
+    schedule: &Schedule,
+    layout: &Layout,
+    scratch: &mut Scratch,
+    lender: &K,
+) -> Result<Vec<i32>, AllocError>
+    requires job { IsJob (pipeline_in job.now) }
+    requires whole { AreWhole (pipeline_in job.now) (K.lent lender.now) }
+    requires layout { IsFunctionLayout (pipeline_in job.now) schedule.now.flags layout.now }
+    requires needs { AreLent (K.lent lender.now) layout.now.needs }
+    ensures { IfOk result (λ values. (g i j : ℕ) → IsTileLayout (pipeline_in job.now) schedule.now.flags g i j layout.now → AreLocalOn (pipeline_in job.now) schedule.now.flags (K.lent lender.now) g i j values.items) }
+{
+    let Some(last) = last_of(layout.steps()) else {
+        return Ok(Vec::new(alloc));
+    };
+    let hand = prepare_layout(alloc, job, schedule, layout, scratch, lender)?;
+    let values = hand.target(alloc, last, scratch)?;
+    hand.finish(scratch);
+    Ok(values)
+}
+
+/// All that a tile of a function or an accumulator reads, at hand, by the tile's plan and from what is lent, whatever that is.
+///
+/// # Errors
+///
+/// Fails where a tile that the plan needs is not lent, with the least, before memory is taken; and where memory is refused.
+pub fn prepare<'a, K: Lender>(
+    alloc: Global,
+    job: &'a Job,
+    schedule: &'a Schedule,
+    plan: &TilePlan,
+    scratch: &mut Scratch,
+    lender: &'a K,
+) -> Result<AtHand<'a, K>, EvalFault>
+    requires job { IsJob (pipeline_in job.now) }
+    requires whole { AreWhole (pipeline_in job.now) (K.lent lender.now) }
+    requires plan { IsSomePlan (program_id_in job.now) (pipeline_in job.now) schedule.now.flags plan.now }
+    ensures job { IfOk result (λ hand. hand.job.now ≡ job.now) }
+    ensures schedule { IfOk result (λ hand. hand.schedule.now ≡ schedule.now) }
+    ensures lender { IfOk result (λ hand. hand.lender.now ≡ lender.now) }
+    ensures local { IfOk result (λ hand. AreLocal (pipeline_in job.now) schedule.now.flags (K.lent lender.now) hand.boxes.wholes.items) }
+    ensures ready { IfOk result (λ hand. (g i j : ℕ) → IsTilePlan (program_id_in job.now) (pipeline_in job.now) schedule.now.flags g i j plan.now → IsReadyOn (pipeline_in job.now) schedule.now.flags (K.lent lender.now) hand.boxes.wholes.items g i j) }
+    ensures lent { IfOk result (λ hand. first_missing (K.lent lender.now) plan.now.needs ≡ None) }
+    ensures fault { IfErr result (IsEvalFault (K.lent lender.now) plan.now.needs) }
+{
+    if let Some(key) = first_missing(plan.needs(), lender) {
+        return Err(EvalFault::Missing(key));
+    }
+    let hand = prepare_layout(alloc, job, schedule, plan.layout(), scratch, lender)?;
+    Ok(hand)
 }
 
 /// The local values of a tile of a function, row by row, by its plan and from what is lent, whatever that is.
@@ -156,6 +273,7 @@ pub fn run_tile<K: Lender>(
     job: &Job,
     schedule: &Schedule,
     plan: &TilePlan,
+    scratch: &mut Scratch,
     lender: &K,
 ) -> Result<Vec<i32>, EvalFault>
     requires job { IsJob (pipeline_in job.now) }
@@ -168,9 +286,6 @@ pub fn run_tile<K: Lender>(
     if let Some(key) = first_missing(plan.needs(), lender) {
         return Err(EvalFault::Missing(key));
     }
-    let Some((last, inner)) = plan.steps().split_last() else {
-        return Ok(Vec::new(alloc));
-    };
-    let mut hand = AtHand::new(alloc, job, schedule, lender)?;
-    Ok(hand.run(alloc, inner, last)?)
+    let values = run_layout(alloc, job, schedule, plan.layout(), scratch, lender)?;
+    Ok(values)
 }

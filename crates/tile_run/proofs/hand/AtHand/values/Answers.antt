@@ -6,23 +6,23 @@ use Rattle.job.specs.Views.{piece_view, formula_view}
 use Rattle.tile_run.proofs.Computing.{all_near, tests_are, formulas_are, boxes_are, reads_are, values_are}
 use Rattle.tile_run.proofs.hand.AtHand.values.Goals as goal
 
-pub area_values-requires-clause-rows : goal.area_values-requires-clause-rows
-area_values-requires-clause-rows g c = (all_near (pipeline_in c.args.self.now.job.now) c.requires.job c.args.self.now.schedule.now.flags (g.K.Lender.lent c.args.self.now.lender.now) c.args.self.now.boxes.wholes.items c.args.number (map piece_view c.args.function.now.pieces.items) (option_map formula_view c.args.function.now.otherwise) c.args.area.now c.requires.function c.requires.ready c.requires.area).0
+pub area_into-requires-clause-rows : goal.area_into-requires-clause-rows
+area_into-requires-clause-rows g c = (all_near (pipeline_in c.args.self.now.job.now) c.requires.job c.args.self.now.schedule.now.flags (g.K.Lender.lent c.args.self.now.lender.now) c.args.self.now.boxes.wholes.items c.args.number (map piece_view c.args.function.now.pieces.items) (option_map formula_view c.args.function.now.otherwise) c.args.area.now c.requires.function c.requires.ready c.requires.area).0
 
-pub area_values-requires-clause-cols : goal.area_values-requires-clause-cols
-area_values-requires-clause-cols g c = (all_near (pipeline_in c.args.self.now.job.now) c.requires.job c.args.self.now.schedule.now.flags (g.K.Lender.lent c.args.self.now.lender.now) c.args.self.now.boxes.wholes.items c.args.number (map piece_view c.args.function.now.pieces.items) (option_map formula_view c.args.function.now.otherwise) c.args.area.now c.requires.function c.requires.ready c.requires.area).1
+pub area_into-requires-clause-cols : goal.area_into-requires-clause-cols
+area_into-requires-clause-cols g c = (all_near (pipeline_in c.args.self.now.job.now) c.requires.job c.args.self.now.schedule.now.flags (g.K.Lender.lent c.args.self.now.lender.now) c.args.self.now.boxes.wholes.items c.args.number (map piece_view c.args.function.now.pieces.items) (option_map formula_view c.args.function.now.otherwise) c.args.area.now c.requires.function c.requires.ready c.requires.area).1
 
-pub area_values-requires-clause-tests : goal.area_values-requires-clause-tests
-area_values-requires-clause-tests g c = tests_are (pipeline_in c.args.self.now.job.now) c.requires.job c.args.self.now.schedule.now.flags (g.K.Lender.lent c.args.self.now.lender.now) c.args.self.now.boxes.wholes.items c.args.number (map piece_view c.args.function.now.pieces.items) (option_map formula_view c.args.function.now.otherwise) c.args.area.now c.requires.function c.requires.ready
+pub area_into-requires-clause-tests : goal.area_into-requires-clause-tests
+area_into-requires-clause-tests g c = tests_are (pipeline_in c.args.self.now.job.now) c.requires.job c.args.self.now.schedule.now.flags (g.K.Lender.lent c.args.self.now.lender.now) c.args.self.now.boxes.wholes.items c.args.number (map piece_view c.args.function.now.pieces.items) (option_map formula_view c.args.function.now.otherwise) c.args.area.now c.requires.function c.requires.ready
 
-pub area_values-requires-clause-formulas : goal.area_values-requires-clause-formulas
-area_values-requires-clause-formulas g c = formulas_are (pipeline_in c.args.self.now.job.now) c.requires.job c.args.self.now.schedule.now.flags (g.K.Lender.lent c.args.self.now.lender.now) c.args.self.now.boxes.wholes.items c.args.number (map piece_view c.args.function.now.pieces.items) (option_map formula_view c.args.function.now.otherwise) c.args.area.now c.requires.function c.requires.ready
+pub area_into-requires-clause-formulas : goal.area_into-requires-clause-formulas
+area_into-requires-clause-formulas g c = formulas_are (pipeline_in c.args.self.now.job.now) c.requires.job c.args.self.now.schedule.now.flags (g.K.Lender.lent c.args.self.now.lender.now) c.args.self.now.boxes.wholes.items c.args.number (map piece_view c.args.function.now.pieces.items) (option_map formula_view c.args.function.now.otherwise) c.args.area.now c.requires.function c.requires.ready
 
-pub area_values-requires-clause-boxes : goal.area_values-requires-clause-boxes
-area_values-requires-clause-boxes g c = boxes_are (pipeline_in c.args.self.now.job.now) c.requires.job c.args.self.now.schedule.now.flags (g.K.Lender.lent c.args.self.now.lender.now) c.args.self.now.boxes.wholes.items c.args.number (map piece_view c.args.function.now.pieces.items) (option_map formula_view c.args.function.now.otherwise) c.args.area.now c.requires.function c.requires.ready
+pub area_into-requires-clause-boxes : goal.area_into-requires-clause-boxes
+area_into-requires-clause-boxes g c = boxes_are (pipeline_in c.args.self.now.job.now) c.requires.job c.args.self.now.schedule.now.flags (g.K.Lender.lent c.args.self.now.lender.now) c.args.self.now.boxes.wholes.items c.args.number (map piece_view c.args.function.now.pieces.items) (option_map formula_view c.args.function.now.otherwise) c.args.area.now c.requires.function c.requires.ready
 
-pub area_values-requires-clause-reads : goal.area_values-requires-clause-reads
-area_values-requires-clause-reads g c = reads_are (pipeline_in c.args.self.now.job.now) c.requires.job c.args.self.now.schedule.now.flags (g.K.Lender.lent c.args.self.now.lender.now) c.args.self.now.boxes.wholes.items c.args.number (map piece_view c.args.function.now.pieces.items) (option_map formula_view c.args.function.now.otherwise) c.args.area.now c.requires.function c.requires.ready
+pub area_into-requires-clause-reads : goal.area_into-requires-clause-reads
+area_into-requires-clause-reads g c = reads_are (pipeline_in c.args.self.now.job.now) c.requires.job c.args.self.now.schedule.now.flags (g.K.Lender.lent c.args.self.now.lender.now) c.args.self.now.boxes.wholes.items c.args.number (map piece_view c.args.function.now.pieces.items) (option_map formula_view c.args.function.now.otherwise) c.args.area.now c.requires.function c.requires.ready
 
 pub returns : goal.returns
-returns g c = ok_then c.area_values.result c.area_values.ensures (λ values is. is ∙ values_are (pipeline_in c.args.self.now.job.now) c.requires.job c.args.self.now.schedule.now.flags (g.K.Lender.lent c.args.self.now.lender.now) c.args.self.now.boxes.wholes.items c.args.number (map piece_view c.args.function.now.pieces.items) (option_map formula_view c.args.function.now.otherwise) c.args.area.now c.requires.function c.requires.ready c.requires.boxes)
+returns g c = ok_then c.area_into.result c.area_into.ensures (λ done is. is ∙ values_are (pipeline_in c.args.self.now.job.now) c.requires.job c.args.self.now.schedule.now.flags (g.K.Lender.lent c.args.self.now.lender.now) c.args.self.now.boxes.wholes.items c.args.number (map piece_view c.args.function.now.pieces.items) (option_map formula_view c.args.function.now.otherwise) c.args.area.now c.requires.function c.requires.ready c.requires.boxes)

@@ -22,7 +22,6 @@ tiles-requires c =
     record {
       ready = record {
         is_job = c.requires.job;
-        few = c.requires.few;
         stage = s;
         function = function;
         parted = parted;

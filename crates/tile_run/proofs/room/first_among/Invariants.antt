@@ -1,0 +1,11 @@
+use Rattle.std.proofs.Common.{◌≡◌, find, filter, drop}
+use Rattle.std.specs.List.{flat_map}
+use Rattle.job.specs.Answers.{tiles}
+use Rattle.job.specs.Kept.{pipeline_in}
+use Rattle.tile_run.specs.Work.{wanted_by, too_big}
+use Rattle.tile_run.proofs.room.first_among.Given as goal
+
+abbrev pub invariant-loop-number : goal.invariant-loop-number
+invariant-loop-number l =
+    find (too_big (pipeline_in l.job) l.schedule.flags) (flat_map (tiles (pipeline_in l.job)) (filter (wanted_by (pipeline_in l.job) l.schedule.flags l.work) (drop l.number-index l.order)))
+    ≡ find (too_big (pipeline_in l.job) l.schedule.flags) (flat_map (tiles (pipeline_in l.job)) (filter (wanted_by (pipeline_in l.job) l.schedule.flags l.work) l.order))

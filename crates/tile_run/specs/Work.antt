@@ -1,0 +1,58 @@
+-- The tiles that a run makes, and the first of them that takes too much scratch memory.
+use Rattle.std.specs.Prelude.{ℕ, ◌≡◌, Bool, false, ◌&&◌, not, nat_le, Option, Some, List, map, filter, find, slice_get}
+use Rattle.std.specs.List.{flat_map, range_with_len}
+use Rattle.std.specs.Option.{option_map, option_map_or}
+use Rattle.domains.specs.Tiles.{tile_area, tile_cols}
+use Rattle.domains.specs.declared.grid.Grid.{Grid}
+use Rattle.job.specs.declared.identity.Key.{Key}
+use Rattle.job.specs.Answers.{Tile, tiles, grid_of, is_accumulator}
+use Rattle.job.specs.Pipeline.{Stage, Pipeline}
+use Rattle.grouping.specs.Costs.{scratch, most_scratch}
+use Rattle.grouping.specs.Order.{in_order}
+use Rattle.grouping.specs.Schedules.{is_inlined, is_function}
+use Rattle.overlap_tiles.specs.Needs.{key_of}
+use Rattle.overlap_tiles.specs.Plans.{target_over}
+use Rattle.tile_run.specs.declared.room.Work.{Work}
+use Rattle.tile_run.specs.declared.room.Work.TheVariants.{Functions, Accumulators}
+use Rattle.tile_run.specs.declared.fault.RunFault.{RunFault}
+use Rattle.tile_run.specs.declared.fault.RunFault.TheVariants.{ScratchTooBig, Memory}
+
+-- ---- the stages whose tiles are made
+
+-- a function that is not inlined
+abbrev pub is_stored_function : Pipeline → List Bool → ℕ → Bool
+is_stored_function job flags g = is_function job g && not (is_inlined flags g)
+
+abbrev pub is_accumulator_at : Pipeline → ℕ → Bool
+is_accumulator_at job g = option_map_or (λ s. is_accumulator s.body) (slice_get job.stages g) false
+
+-- the stages of a kind of work
+abbrev pub wanted_by : Pipeline → List Bool → Work → ℕ → Bool
+wanted_by job flags Functions = is_stored_function job flags
+wanted_by job flags Accumulators = is_accumulator_at job
+
+-- ---- their tiles
+
+-- the tiles of the stages that are wanted: stage by stage in dependence order, and row by row
+abbrev pub work_tiles : Pipeline → (ℕ → Bool) → List Tile
+work_tiles job wants = flat_map (tiles job) (filter wants (in_order job.stages))
+
+-- the places of the tiles in row i of a grid
+abbrev pub row_tiles : Grid → ℕ → List (ℕ × ℕ)
+row_tiles grid i = map (λ j. (i, j)) (range_with_len 0 (tile_cols grid))
+
+-- the points that a tile has in scratch memory
+abbrev pub tile_scratch : Pipeline → List Bool → Tile → Stage → ℕ
+tile_scratch job flags t s = scratch (target_over job flags t.stage (tile_area (grid_of job s) t.row t.col))
+
+-- whether they are more than there may be
+abbrev pub too_big : Pipeline → List Bool → Tile → Bool
+too_big job flags t = option_map_or (λ s. not (nat_le (tile_scratch job flags t s) most_scratch)) (slice_get job.stages t.stage) false
+
+abbrev pub first_too_big : Pipeline → List Bool → (ℕ → Bool) → Option Tile
+first_too_big job flags wants = find (too_big job flags) (work_tiles job wants)
+
+-- why a run has no answer: a tile has no room, and none before it; memory may be refused at any
+abbrev pub IsRunFault : List ℕ → Pipeline → List Bool → (ℕ → Bool) → RunFault → Type 0
+IsRunFault program job flags wants (ScratchTooBig key) = option_map (key_of program job) (first_too_big job flags wants) ≡ Some key
+IsRunFault program job flags wants Memory = Unit {0}

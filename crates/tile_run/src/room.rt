@@ -1,0 +1,178 @@
+#![tactic(auto)]
+//! Whether the tiles that a run makes have room in scratch memory.
+
+ghost use Rattle.std.specs.Prelude.{◌≡◌, ◌≤◌, ◌<◌, Some, filter, find, length, All, IfOk};
+ghost use Rattle.std.specs.List.{flat_map};
+ghost use Rattle.std.specs.Option.{option_map};
+ghost use Rattle.domains.specs.Tiles.{HasTile, tile_rows, tiles_of};
+ghost use Rattle.job.specs.Answers.{tiles};
+ghost use Rattle.job.specs.Kept.{pipeline_in, program_id_in};
+ghost use Rattle.job.specs.Readers.{grid_at};
+ghost use Rattle.job.specs.WellFormed.{IsJob};
+ghost use Rattle.grouping.specs.Inlining.{IsScheduleOf};
+ghost use Rattle.overlap_tiles.specs.Needs.{key_of, tile_of_stage};
+ghost use Rattle.tile_run.specs.Work.{wanted_by, row_tiles, too_big, first_too_big};
+
+use domains::Grid;
+use grouping::{MOST_SCRATCH, Schedule, in_order};
+use job::{Job, Key, StageKind};
+use std::alloc::{AllocError, Global};
+
+/// Of which stages tiles are made.
+#[derive(Clone, Copy, Debug, PartialEq, Eq)]
+pub enum Work {
+    /// Functions that are not inlined.
+    Functions,
+    Accumulators,
+}
+
+// Whether the tiles of a stage belong to the work.
+fn is_wanted(job: &Job, schedule: &Schedule, work: Work, stage: usize) -> bool
+    ensures { result ≡ wanted_by (pipeline_in job.now) schedule.now.flags work stage }
+{
+    match work {
+        Work::Functions => {
+            job.kind(stage) == Some(StageKind::Function) && !schedule.inlined(stage)
+        }
+        Work::Accumulators => job.kind(stage) == Some(StageKind::Accumulator),
+    }
+}
+
+// The tiles of one stage.
+#[derive(Clone, Copy)]
+struct StageTiles<'a> {
+    job: &'a Job,
+    schedule: &'a Schedule,
+    stage: usize,
+    grid: Grid,
+    ghost parted: { grid_at (pipeline_in job.now) stage ≡ Some grid },
+}
+
+impl StageTiles<'_> {
+    // Whether a tile takes too much scratch memory.
+    fn is_too_big(&self, alloc: Global, row: u32, col: u32) -> Result<bool, AllocError>
+        requires job { IsJob (pipeline_in self.now.job.now) }
+        requires tile { HasTile self.now.grid row col }
+        ensures { IfOk result (λ big. big ≡ too_big (pipeline_in self.now.job.now) self.now.schedule.now.flags (tile_of_stage self.now.stage (row, col))) }
+    {
+        let Some(area) = self.grid.tile(row, col) else {
+            return Ok(false);
+        };
+        let points = self.schedule.scratch(alloc, self.job, self.stage, area)?;
+        Ok(points > MOST_SCRATCH)
+    }
+
+    // The first tile of a row that does.
+    fn first_in_row(&self, alloc: Global, row: u32) -> Result<Option<(u32, u32)>, AllocError>
+        requires job { IsJob (pipeline_in self.now.job.now) }
+        requires row { row < tile_rows self.now.grid }
+        ensures { IfOk result (λ found. found ≡ find (λ t. too_big (pipeline_in self.now.job.now) self.now.schedule.now.flags (tile_of_stage self.now.stage t)) (row_tiles self.now.grid row)) }
+    {
+        for col in 0..self.grid.tile_cols() {
+            if self.is_too_big(alloc, row, col)? {
+                return Ok(Some((row, col)));
+            }
+        }
+        Ok(None)
+    }
+
+    // The first tile that does.
+    fn first(&self, alloc: Global) -> Result<Option<(u32, u32)>, AllocError>
+        requires { IsJob (pipeline_in self.now.job.now) }
+        ensures { IfOk result (λ found. found ≡ find (λ t. too_big (pipeline_in self.now.job.now) self.now.schedule.now.flags (tile_of_stage self.now.stage t)) (tiles_of self.now.grid)) }
+    {
+        for row in 0..self.grid.tile_rows() {
+            let found = self.first_in_row(alloc, row)?;
+            if found.is_some() {
+                return Ok(found);
+            }
+        }
+        Ok(None)
+    }
+}
+
+// The key of a tile.
+fn key_at(job: &Job, stage: usize, row: u32, col: u32) -> Key
+    requires { stage < 65536 }
+    ensures { result ≡ key_of (program_id_in job.now) (pipeline_in job.now) (tile_of_stage stage (row, col)) }
+{
+    Key {
+        program: job.program_id(),
+        input: job.input_id(),
+        stage: stage as u16,
+        row,
+        col,
+    }
+}
+
+// The key of the first tile of a stage that takes too much scratch memory.
+fn first_of_stage(
+    alloc: Global,
+    job: &Job,
+    schedule: &Schedule,
+    stage: usize,
+) -> Result<Option<Key>, AllocError>
+    requires job { IsJob (pipeline_in job.now) }
+    requires few { stage < 65536 }
+    ensures { IfOk result (λ found. found ≡ option_map (key_of (program_id_in job.now) (pipeline_in job.now)) (find (too_big (pipeline_in job.now) schedule.now.flags) (tiles (pipeline_in job.now) stage))) }
+{
+    let Some(grid) = job.grid(stage) else {
+        return Ok(None);
+    };
+    let tiles = StageTiles {
+        job,
+        schedule,
+        stage,
+        grid,
+    };
+    match tiles.first(alloc)? {
+        Some((row, col)) => Ok(Some(key_at(job, stage, row, col))),
+        None => Ok(None),
+    }
+}
+
+// The same of several stages, in this order.
+fn first_among(
+    alloc: Global,
+    job: &Job,
+    schedule: &Schedule,
+    work: Work,
+    order: &[usize],
+) -> Result<Option<Key>, AllocError>
+    requires job { IsJob (pipeline_in job.now) }
+    requires few { All (λ g. g < 65536) order.now }
+    ensures { IfOk result (λ found. found ≡ option_map (key_of (program_id_in job.now) (pipeline_in job.now)) (find (too_big (pipeline_in job.now) schedule.now.flags) (flat_map (tiles (pipeline_in job.now)) (filter (wanted_by (pipeline_in job.now) schedule.now.flags work) order.now)))) }
+{
+    for number in order {
+        if is_wanted(job, schedule, work, *number) {
+            let found = first_of_stage(alloc, job, schedule, *number)?;
+            if found.is_some() {
+                return Ok(found);
+            }
+        }
+    }
+    Ok(None)
+}
+
+/// The key of the first tile, in dependence order and row by row, that takes more scratch memory than `grouping::MOST_SCRATCH`
+/// points. Where the schedule is known to fit, nothing is looked through.
+///
+/// # Errors
+///
+/// Fails only where memory is refused.
+pub fn first_too_big(
+    alloc: Global,
+    job: &Job,
+    schedule: &Schedule,
+    work: Work,
+) -> Result<Option<Key>, AllocError>
+    requires job { IsJob (pipeline_in job.now) }
+    requires few { length (pipeline_in job.now).stages ≤ 65536 }
+    requires schedule { IsScheduleOf (pipeline_in job.now) schedule.now }
+    ensures { IfOk result (λ found. found ≡ option_map (key_of (program_id_in job.now) (pipeline_in job.now)) (first_too_big (pipeline_in job.now) schedule.now.flags (wanted_by (pipeline_in job.now) schedule.now.flags work))) }
+{
+    if schedule.fits() {
+        return Ok(None);
+    }
+    first_among(alloc, job, schedule, work, &in_order(alloc, job.stages())?)
+}
