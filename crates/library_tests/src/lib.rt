@@ -23,4 +23,6 @@ mod texts;
 #[cfg(test)]
 mod tiles;
 #[cfg(test)]
+mod totals;
+#[cfg(test)]
 mod values;

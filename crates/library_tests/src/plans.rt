@@ -4,6 +4,7 @@
 ghost use Rattle.std.specs.Prelude.{◌≡◌, ◌≤◌, length, IfOk};
 ghost use Rattle.job.specs.Kept.{pipeline_in};
 ghost use Rattle.job.specs.WellFormed.{IsJob};
+ghost use Rattle.grouping.specs.Inlining.{IsScheduleOf};
 
 use crate::binding::job_of;
 use domains::Area;
@@ -45,7 +46,7 @@ func b(x in [0..1023], y in [0..1023]) { else : a(8*x,8*y) + a(8*x+7,8*y+7); }
 output b max 255;";
 
 /// It reads one row and one column more.
-const TOO_BIG: &str = "image I(1,1);
+pub(crate) const TOO_BIG: &str = "image I(1,1);
 func a(x in [0..8192], y in [0..8192]) { else : 1; }
 func b(x in [0..1023], y in [0..1023]) { else : a(8*x,8*y) + a(8*x+8,8*y+8); }
 output b max 255;";
@@ -65,8 +66,9 @@ pub(crate) fn bound(alloc: Global, text: &str, file: &[u8], sides: (u32, u32)) -
 }
 
 // The schedule of these flags, one for each stage.
-fn schedule_of(alloc: Global, job: &Job, flags: &[bool]) -> Result<Schedule, Fail>
+pub(crate) fn schedule_of(alloc: Global, job: &Job, flags: &[bool]) -> Result<Schedule, Fail>
     requires { IsJob (pipeline_in job.now) }
+    ensures { IfOk result (IsScheduleOf (pipeline_in job.now)) }
 {
     if flags.len() != job.stages().len() {
         return Err(Fail::new("not as many flags as stages"));

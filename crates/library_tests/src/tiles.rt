@@ -5,13 +5,13 @@ ghost use Rattle.std.specs.Prelude.{◌≤◌, length};
 ghost use Rattle.job.specs.Kept.{pipeline_in};
 ghost use Rattle.job.specs.WellFormed.{IsJob};
 
-use crate::plans::bound;
+use crate::plans::{TOO_BIG, bound, schedule_of};
 use grouping::Schedule;
 use job::{Job, StageKind};
 use std::alloc::Global;
 use std::test::Fail;
 use tile_eval::plain;
-use tile_run::{Lender, Stored, run_all};
+use tile_run::{Lender, RunFault, Stored, run_all};
 
 /// Stencils, cases, halves and doubles, one function after the other.
 const PIPELINE: &str = "image I(7,9);
@@ -105,6 +105,42 @@ fn tiles_with_inlined_functions_are_parts_of_whole_stages(rt: HostRuntime) -> Re
         assert!(rt; schedule.inlined(1) && schedule.inlined(2) && schedule.inlined(3));
         let stored = run_all(alloc, &job, &schedule)?;
         compare(alloc, &job, &schedule, &stored)?;
+    }
+    Ok(())
+}
+
+/// Half of the rows and columns, and each of those twice.
+const HALF_AND_DOUBLE: &str = "image I(4,4);
+func f(x in [0..1], y in [0..1]) { else : I(2*x, 2*y); }
+func g(x in [0..3], y in [0..3]) { else : f(x/2, y/2); }
+output g max 255;";
+
+#[test]
+fn halves_then_doubles(rt: HostRuntime) -> Result<(), Fail> {
+    let alloc = rt.alloc();
+    let file = b"P2 4 4 255 0 1 2 3 4 5 6 7 8 9 10 11 12 13 14 15";
+    let doubled = [0, 0, 2, 2, 0, 0, 2, 2, 8, 8, 10, 10, 8, 8, 10, 10];
+    let job = bound(alloc, HALF_AND_DOUBLE, file, (1, 1))?;
+    assert_eq!(rt; plain(alloc, &job, 1)?.as_slice(), [0, 2, 8, 10].as_slice());
+    assert_eq!(rt; plain(alloc, &job, 2)?.as_slice(), doubled.as_slice());
+    for inlined in [false, true] {
+        let schedule = schedule_of(alloc, &job, &[false, inlined, false])?;
+        let stored = run_all(alloc, &job, &schedule)?;
+        assert_eq!(rt; stored.tile(1, 1, 1).is_some(), !inlined);
+        assert_eq!(rt; have(&stored, 2, (1, 1), 4, &doubled), Some(true));
+    }
+    Ok(())
+}
+
+#[test]
+fn a_tile_without_room_is_told_before_any_is_computed(rt: HostRuntime) -> Result<(), Fail> {
+    let alloc = rt.alloc();
+    let job = bound(alloc, TOO_BIG, b"P2 1 1 9 0", (1024, 1024))?;
+    let schedule = schedule_of(alloc, &job, &[false, true, false])?;
+    match run_all(alloc, &job, &schedule) {
+        Err(RunFault::ScratchTooBig(key)) => assert_eq!(rt; Some(key), job.key(2, 0, 0)),
+        Err(RunFault::Memory) => return Err(Fail::new("out of memory")),
+        Ok(_) => return Err(Fail::new("it has room")),
     }
     Ok(())
 }

@@ -1,0 +1,12 @@
+pub mod Folding
+pub mod Taking
+pub mod Joined
+pub mod Planes
+pub mod Arriving
+pub mod Pictures
+pub mod Tallying
+pub mod Tiling
+pub mod Parting
+pub mod Knowing
+pub mod Totalling
+pub mod Tiles

@@ -1,0 +1,109 @@
+-- A tile of an accumulator, from all tiles of the stored functions.
+use Rattle.std.proofs.Common.{ℕ, ℤ, ◌≡◌, ◌≤◌, arith, refl, sym, ap, ◌∙◌, subst, Bool, true, false, not, eqb, Option, Some, None, List, length}
+use Rattle.std.specs.Prelude.{Contains, IsSomeAnd, if◌then◌else◌}
+use Rattle.std.specs.Option.{option_map_or}
+use Rattle.std.proofs.lemmas.Bool.{and_parts, not-true, eq-eqb}
+use Rattle.std.proofs.lemmas.Option.{same_Some}
+use Rattle.domains.specs.Area.{HoldsPoint}
+use Rattle.domains.specs.Span.{Ends}
+use Rattle.domains.specs.Tiles.{HasTile, tile_area}
+use Rattle.domains.specs.declared.area.Area.{Area}
+use Rattle.domains.specs.declared.grid.Grid.{Grid}
+use Rattle.pipe_lang.specs.declared.tree.Fold.{Fold}
+use Rattle.job.specs.Answers.{Tile, grid_of, has_tiles}
+use Rattle.job.specs.Identity.{HasTileAt}
+use Rattle.job.specs.Pipeline.{Pipeline, Stage}
+use Rattle.job.specs.Reads.{BodyReads}
+use Rattle.job.specs.Totals.{totals_over}
+use Rattle.job.specs.Values.{value}
+use Rattle.job.specs.WellFormed.{IsJob}
+use Rattle.grouping.specs.Costs.{scratch, most_scratch}
+use Rattle.grouping.specs.Schedules.{is_inlined, is_function, is_function_body}
+use Rattle.grouping.specs.Targets.{Target, IsTarget, is_boxed, box}
+use Rattle.overlap_tiles.specs.Needs.{IsNeeded}
+use Rattle.overlap_tiles.specs.Plans.{Layout, IsTileAt, IsTileFault, IsTileLayout, target_over}
+use Rattle.overlap_tiles.specs.declared.fault.PlanFault.TheVariants.{ScratchTooBig}
+use Rattle.overlap_tiles.proofs.Needing.{from_needs}
+use Rattle.overlap_tiles.proofs.Tiling.{has_grid, tile_is_target}
+use Rattle.tile_eval.proofs.Rasters.{raster_len}
+use Rattle.tile_run.specs.Local.{IsAtHand}
+use Rattle.tile_run.specs.Lent.{Lending, AreTrue, AreWhole}
+use Rattle.tile_run.specs.Runs.{AreLent}
+use Rattle.tile_run.specs.Stored.{IsStoredFunction, LendsAllTiles}
+use Rattle.tile_run.specs.Work.{first_too_big, is_accumulator_at}
+use Rattle.tile_run.proofs.Closing.{IsInTarget, closed}
+use Rattle.tile_run.proofs.Computing.{same_stage}
+use Rattle.tile_run.proofs.Fitting.{none_too_big}
+use Rattle.accumulators.specs.Making.{IsGathered}
+use Rattle.accumulators.specs.Partials.{AreLocalTotals}
+use Rattle.accumulators.proofs.Tallying.{grid_there, is_wanted}
+use Rattle.accumulators.proofs.Totalling.{true_totals}
+
+-- true tiles have as many numbers as points
+pub whole : (job : Pipeline) (lent : Lending) → AreTrue job lent → AreWhole job lent
+whole job lent right g s there i j xs tile found = ap length (right g s there i j xs tile found) ∙ raster_len (tile_area (grid_of job s) i j) (value job g)
+
+module _ (job : Pipeline) (g : ℕ) (way : Fold) (bins : Ends) (grid : Grid) (is : IsGathered job g way bins grid) (i j : ℕ) where
+  -- ---- a tile of the grid
+
+  pub has_tile : HasTile grid i j → HasTileAt job g i j
+  has_tile tile = subst (λ (o : Option Grid). IsSomeAnd o (λ d. HasTile d i j)) (sym (grid_there job g way bins grid is)) tile
+
+  same_area : (area : Area) → IsTileAt job g i j area → area ≡ tile_area grid i j
+  same_area area at = at.is ∙ ap (λ (d : Grid). tile_area d i j) (same_Some at.grid grid (sym at.there ∙ grid_there job g way bins grid is))
+
+  -- has room where none is too big
+  has_room : (flags : List Bool) (area : Area) → first_too_big job flags (is_accumulator_at job) ≡ None → HasTile grid i j → IsTileAt job g i j area → scratch (target_over job flags g area) ≤ most_scratch
+  has_room flags area none tile at =
+      let has : has_tiles is.stage.body ≡ true = ap has_tiles is.body in
+      let here : tile_area (grid_of job is.stage) i j ≡ area = ap (λ (d : Grid). tile_area d i j) (sym is.parted) ∙ sym (same_area area at) in
+      subst (λ (a : Area). scratch (target_over job flags g a) ≤ most_scratch) here
+      (none_too_big job flags (is_accumulator_at job) none g is.stage is.there has (is_wanted job g way bins grid is) i j (subst (λ (d : Grid). HasTile d i j) is.parted tile))
+
+  pub not_too_big : (flags : List Bool) → first_too_big job flags (is_accumulator_at job) ≡ None → HasTile grid i j → ¬ (IsTileFault job flags g i j ScratchTooBig)
+  not_too_big flags none tile fault = let room = has_room flags fault.area none tile fault.tile in let over = fault.reason in omega arith
+
+  module _ (flags : List Bool) (lent : Lending) (good : IsJob job) (all : LendsAllTiles job flags lent) (l : Layout) (layout : IsTileLayout job flags g i j l) where
+    abbrev of_tile : Target
+    of_tile = target_over job flags g layout.area
+
+    target : IsTarget of_tile
+    target = tile_is_target job flags g i j layout.area good layout.tile
+
+    lends : (n : Tile) → IsNeeded of_tile n → (xs : List ℤ) × (lent n.stage n.row n.col ≡ Some xs)
+    lends n needed =
+        let at = has_grid job n.stage needed.grid needed.there in
+        let both = and_parts (is_boxed of_tile n.stage) (not (is_inlined flags n.stage)) needed.stored in
+        let boxed = and_parts (is_function job n.stage) (not (eqb n.stage g)) both.0 in
+        let stored : IsStoredFunction job flags n.stage at.stage = record {
+          there = at.there;
+          function = sym (ap (λ (o : Option Stage). option_map_or (λ s. is_function_body s.body) o false) at.there) ∙ boxed.0;
+          stored = not-true (is_inlined flags n.stage) both.1;
+        } in
+        (_, all n.stage at.stage stored n.row n.col (subst (λ (d : Grid). HasTile d n.row n.col) (sym at.is) needed.meets.there))
+
+    -- each tile that it needs is lent
+    pub all_lent : AreLent lent l.needs
+    all_lent n k = lends n (from_needs of_tile n good (subst (λ (ns : List Tile). Contains ns n) layout.layout.layout.needs k))
+
+    in_target : (r c : ℤ) → HoldsPoint layout.area r c → IsInTarget of_tile g r c
+    in_target r c holds = record {
+      stage = is.stage;
+      there = is.there;
+      area = layout.area;
+      is = λ i. if eq-eqb g g refl i then Some layout.area else (if is_inlined flags g then box of_tile g else None);
+      holds = holds;
+    }
+
+    reads : (r c : ℤ) → HoldsPoint layout.area r c → BodyReads (IsAtHand job flags lent (IsInTarget of_tile)) is.stage.body r c
+    reads r c holds =
+        let p = closed of_tile good target lent lends g r c (in_target r c holds) in
+        subst (λ (s : Stage). BodyReads (IsAtHand job flags lent (IsInTarget of_tile)) s.body r c) (same_stage job.stages g p.stage is.stage p.there is.there) p.reads
+
+    -- and what is gathered from true tiles is what the job gathers
+    pub totals_are : AreTrue job lent → (xs : List ℤ) → AreLocalTotals job flags lent g i j xs → xs ≡ totals_over job (tile_area grid i j) g
+    totals_are right xs local =
+        local layout.area layout.tile
+        ∙ true_totals job flags lent (IsInTarget of_tile) g is.stage layout.area good is.there target.area right (closed of_tile good target lent lends)
+        reads
+        ∙ ap (λ (a : Area). totals_over job a g) (same_area layout.area layout.tile)

@@ -1,0 +1,5 @@
+use Rattle.accumulators.proofs.Totalling.{partials_join}
+use Rattle.accumulators.proofs.laws.partials_join.Goals as goal
+
+pub returns : goal.returns
+returns c = partials_join

@@ -1,0 +1,33 @@
+use Rattle.std.proofs.Common.{ℕ, sym}
+use Rattle.grouping.specs.Inlining.{Inlining}
+use Rattle.job.specs.declared.job.Job.{Job}
+use Rattle.job.specs.Kept.{pipeline_in, program_id_in}
+use Rattle.overlap_tiles.specs.Plans.{IsTileLayout}
+use Rattle.tile_run.specs.Steps.{AreLocal}
+use Rattle.tile_run.proofs.Running.{carry}
+use Rattle.accumulators.specs.Layouts.{IsReadyLayout}
+use Rattle.accumulators.specs.Partials.{AreLocalTotals}
+use Rattle.accumulators.proofs.partials.partial.Goals as goal
+
+pub prepare-requires-clause-plan : goal.prepare-requires-clause-plan
+prepare-requires-clause-plan g c = let own = c.requires.plan in record { stage = own.stage; row = own.row; col = own.col; plan = own.plan }
+
+pub gather_tile-requires-clause-local : goal.gather_tile-requires-clause-local
+gather_tile-requires-clause-local g c =
+    let next = c.in_ok-hand.ensures in
+    carry (λ (j : Job) (s : Inlining) l. AreLocal (pipeline_in c.args.job.now) s.flags (g.K.Lender.lent l) c.in_ok-hand.hand.boxes.wholes.items) next.job next.schedule next.lender next.local
+
+pub gather_tile-requires-clause-ready : goal.gather_tile-requires-clause-ready
+gather_tile-requires-clause-ready g c =
+    let next = c.in_ok-hand.ensures in
+    let own = c.requires.plan in
+    let job = pipeline_in c.args.job.now in
+    carry (λ (j : Job) (s : Inlining) l. IsReadyLayout job s.flags (g.K.Lender.lent l) c.in_ok-hand.hand.boxes.wholes.items c.layout.result.now) next.job next.schedule next.lender
+    (record { stage = own.stage; row = own.row; col = own.col; layout = c.layout.ensures.tile (program_id_in c.args.job.now) job c.args.schedule.now.flags own.stage own.row own.col own.plan; ready = next.ready own.stage own.row own.col own.plan })
+
+pub returns-clause-totals : goal.returns-clause-totals
+returns-clause-totals g c = λ k i t is.
+    let next = c.in_ok-hand.ensures in
+    let job = pipeline_in c.args.job.now in
+    carry (λ (j : Job) (s : Inlining) l. (n a b : ℕ) → IsTileLayout job s.flags n a b c.layout.result.now → AreLocalTotals job s.flags (g.K.Lender.lent l) n a b c.in_ok-bins.bins.items) (sym next.job) (sym next.schedule) (sym next.lender) c.in_ok-bins.ensures
+    k i t (c.layout.ensures.tile (program_id_in c.args.job.now) job c.args.schedule.now.flags k i t is)

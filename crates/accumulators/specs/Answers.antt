@@ -1,0 +1,36 @@
+-- The answer of a job: the picture of its output and the totals of its accumulators.
+use Rattle.std.specs.Prelude.{ℕ, ℤ, ◌≡◌, List, [], ◌∷◌, map, length, slice_get}
+use Rattle.std.specs.List.{flat_map, range_with_len}
+use Rattle.std.specs.Option.{option_map_or}
+use Rattle.job.specs.Answers.{image}
+use Rattle.job.specs.Pipeline.{Body, plane, function, accumulator, Pipeline}
+use Rattle.job.specs.Totals.{totals}
+use Rattle.accumulators.specs.declared.answer.Answer.{Answer}
+use Rattle.accumulators.specs.declared.answer.Total.{Total}
+
+-- a stage, its first bin, and what is in its bins from there on
+pub record Gathered : Type 0 where
+  pub stage : ℕ
+  pub lo : ℤ
+  pub bins : List ℤ
+
+abbrev pub gathered : Total → Gathered
+gathered t = record { stage = t.stage; lo = t.lo; bins = t.bins.items }
+
+-- what a stage gathered, if it is an accumulator
+abbrev pub body_gathered : Pipeline → ℕ → Body → List Gathered
+body_gathered job g (accumulator way bins value bin) = record { stage = g; lo = bins.lo; bins = totals job g } ∷ []
+body_gathered job g (plane n) = []
+body_gathered job g (function pieces otherwise) = []
+
+abbrev pub gathered_at : Pipeline → ℕ → List Gathered
+gathered_at job g = option_map_or (λ s. body_gathered job g s.body) (slice_get job.stages g) []
+
+-- what all accumulators gathered, in the order of the stages
+abbrev pub all_gathered : Pipeline → List Gathered
+all_gathered job = flat_map (gathered_at job) (range_with_len 0 (length job.stages))
+
+-- the picture is the job's image, if it has one, and the totals are those of all accumulators
+pub record IsAnswer (job : Pipeline) (answer : Answer) : Type 0 where
+  pub picture : answer.picture ≡ image job
+  pub totals : map gathered answer.totals.items ≡ all_gathered job

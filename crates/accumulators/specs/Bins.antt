@@ -1,0 +1,13 @@
+-- What bins start from, and how bins are joined with bins.
+use Rattle.std.specs.Prelude.{ℤ, List, map, zip}
+use Rattle.domains.specs.Span.{Ends, numbers_of}
+use Rattle.pipe_lang.specs.declared.tree.Fold.{Fold}
+use Rattle.job.specs.Totals.{start_of, joined}
+
+-- what each bin starts from
+abbrev pub starts : Fold → Ends → List ℤ
+starts way bins = map (λ b. start_of way) (numbers_of bins)
+
+-- bins joined with bins, place by place
+abbrev pub joined_bins : Fold → List ℤ → List ℤ → List ℤ
+joined_bins way xs ys = map (λ p. joined way p.0 p.1) (zip xs ys)

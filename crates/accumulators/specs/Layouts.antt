@@ -1,0 +1,15 @@
+-- Layouts of tiles for which all is at hand. Only contracts inside the crate cite it.
+use Rattle.std.specs.Prelude.{ℕ, Bool, Option, List}
+use Rattle.job.specs.Pipeline.{Pipeline}
+use Rattle.overlap_tiles.specs.Plans.{Layout, IsTileLayout}
+use Rattle.tile_eval.specs.declared.wholes.Whole.{Whole}
+use Rattle.tile_run.specs.Lent.{Lending}
+use Rattle.tile_run.specs.Runs.{IsReadyOn}
+
+-- the layout is that of a tile for which all that its stage reads there is at hand
+pub record IsReadyLayout (job : Pipeline) (flags : List Bool) (lent : Lending) (wholes : List (Option Whole)) (l : Layout) : Type 0 where
+  pub stage : ℕ
+  pub row : ℕ
+  pub col : ℕ
+  pub layout : IsTileLayout job flags stage row col l
+  pub ready : IsReadyOn job flags lent wholes stage row col

@@ -1,0 +1,7 @@
+pub mod Bins
+pub mod Gathering
+pub mod Accumulating
+pub mod Layouts
+pub mod Partials
+pub mod Answers
+pub mod Making

@@ -1,0 +1,14 @@
+#![tactic(auto)]
+//! Jobs whose stored functions are computed.
+
+use grouping::Schedule;
+use job::Job;
+use tile_run::Stored;
+
+/// A job with its schedule, and with all tiles of its stored functions.
+#[derive(Clone, Copy)]
+pub(crate) struct Computed<'a> {
+    pub(crate) job: &'a Job,
+    pub(crate) schedule: &'a Schedule,
+    pub(crate) stored: &'a Stored,
+}

@@ -1,0 +1,120 @@
+#![tactic(auto)]
+//! What an accumulator gathers over an area, from whatever lends the samples that are read.
+
+ghost use Rattle.std.specs.Prelude.{◌≡◌, ◌<◌, ◌+ℤ◌, ◌≤ℤ◌, ℤ, pos, length, IfSome, IfOk};
+ghost use Rattle.domains.specs.Area.{HoldsPoint, points_of};
+ghost use Rattle.domains.specs.Span.{len_of};
+ghost use Rattle.job.specs.Pipeline.{accumulator as accumulator_by};
+ghost use Rattle.job.specs.Totals.{body_totals};
+ghost use Rattle.job.specs.Views.{formula_view};
+ghost use Rattle.job.specs.WellFormed.{IsNear};
+ghost use Rattle.tile_eval.specs.Rows.{EachPlace};
+ghost use Rattle.accumulators.specs.Accumulating.{HasFormulas, ReadsAt, HasRoomAlong, TookPoints};
+ghost use Rattle.accumulators.specs.Gathering.{points_along};
+
+use crate::bins::take_values;
+use crate::starts::starts;
+use domains::Area;
+use job::Accumulator;
+use std::alloc::{AllocError, Global};
+use tile_eval::{Source, Start, formula_room, formula_row};
+
+// Room for the operands of both formulas at `n` points, if that many numbers can be counted.
+fn room_along(accumulator: &Accumulator, n: usize) -> Option<usize>
+    ensures { IfSome result (HasRoomAlong accumulator.now n) }
+{
+    let value = formula_room(accumulator.value(), n)?;
+    let bin = formula_room(accumulator.bin(), n)?;
+    Some(value.max(bin))
+}
+
+// Takes a row of points into the bins.
+fn gather_row<S: Source>(
+    source: &S,
+    accumulator: &Accumulator,
+    start: &Start,
+    bins: &mut [i64],
+    values: &mut [i32],
+    bins_of: &mut [i32],
+    temps: &mut [i32],
+)
+    requires some { 0 < length values.old }
+    requires one_length { length bins_of.old ≡ length values.old }
+    requires bins { length bins.old ≡ len_of accumulator.now.bins }
+    requires most { (start.now.col +ℤ pos (length values.old)) ≤ℤ pos 16385 }
+    requires formulas { HasFormulas accumulator.now }
+    requires reads { EachPlace (length values.old) (λ k. ReadsAt (S.has source.now) accumulator.now start.now.row (start.now.col +ℤ pos k)) }
+    requires room { HasRoomAlong accumulator.now (length values.old) (length temps.old) }
+    ensures { TookPoints (S.sample source.now) accumulator.now (points_along start.now.row start.now.col (length values.old)) bins.old bins.new }
+{
+    formula_row(source, accumulator.value(), start, values, temps);
+    formula_row(source, accumulator.bin(), start, bins_of, temps);
+    take_values(
+        accumulator.fold(),
+        accumulator.bins(),
+        bins,
+        values,
+        bins_of,
+    );
+}
+
+// Takes the points of an area into the bins, row by row.
+fn gather_rows<S: Source>(
+    source: &S,
+    accumulator: &Accumulator,
+    area: &Area,
+    bins: &mut [i64],
+    values: &mut [i32],
+    bins_of: &mut [i32],
+    temps: &mut [i32],
+)
+    requires rows { IsNear area.now.rows }
+    requires cols { IsNear area.now.cols }
+    requires width { length values.old ≡ len_of area.now.cols }
+    requires one_length { length bins_of.old ≡ length values.old }
+    requires bins { length bins.old ≡ len_of accumulator.now.bins }
+    requires formulas { HasFormulas accumulator.now }
+    requires reads { (r c : ℤ) → HoldsPoint area.now r c → ReadsAt (S.has source.now) accumulator.now r c }
+    requires room { HasRoomAlong accumulator.now (length values.old) (length temps.old) }
+    ensures { TookPoints (S.sample source.now) accumulator.now (points_of area.now) bins.old bins.new }
+{
+    for i in 0..area.rows.len() as usize {
+        let start = Start::at(area, i);
+        gather_row(source, accumulator, &start, bins, values, bins_of, temps);
+    }
+}
+
+/// What an accumulator gathers in its bins, rising, over an area where all that it reads is there.
+///
+/// # Errors
+///
+/// Fails only where memory is refused.
+pub(crate) fn gather<S: Source>(
+    alloc: Global,
+    source: &S,
+    accumulator: &Accumulator,
+    area: &Area,
+) -> Result<Vec<i64>, AllocError>
+    requires rows { IsNear area.now.rows }
+    requires cols { IsNear area.now.cols }
+    requires formulas { HasFormulas accumulator.now }
+    requires reads { (r c : ℤ) → HoldsPoint area.now r c → ReadsAt (S.has source.now) accumulator.now r c }
+    ensures { IfOk result (λ bins. bins.items ≡ body_totals (S.sample source.now) area.now (accumulator_by accumulator.now.fold accumulator.now.bins (formula_view accumulator.now.value) (formula_view accumulator.now.bin))) }
+{
+    let n = area.cols.len() as usize;
+    let room = room_along(accumulator, n).ok_or(AllocError)?;
+    let mut bins = starts(alloc, accumulator.fold(), accumulator.bins())?;
+    let mut values = vec![in alloc; 0; n]?;
+    let mut bins_of = vec![in alloc; 0; n]?;
+    let mut temps = vec![in alloc; 0; room]?;
+    gather_rows(
+        source,
+        accumulator,
+        area,
+        &mut bins,
+        &mut values,
+        &mut bins_of,
+        &mut temps,
+    );
+    Ok(bins)
+}

@@ -1,0 +1,30 @@
+#![tactic(auto)]
+//! Bins joined with bins.
+
+ghost use Rattle.std.specs.Prelude.{◌≡◌, length};
+ghost use Rattle.job.specs.Totals.{joined as joined_of};
+ghost use Rattle.accumulators.specs.Bins.{joined_bins};
+
+use pipe_lang::Fold;
+
+/// Joins two numbers of one bin: sums wrap at 64 bits.
+#[tactic(auto, using(std::proofs::lemmas::Int::wraps))]
+pub(crate) fn joined(op: Fold, first: i64, second: i64) -> i64
+    ensures { result ≡ joined_of op first second }
+{
+    match op {
+        Fold::Sum => first.wrapping_add(second),
+        Fold::Min => first.min(second),
+        Fold::Max => first.max(second),
+    }
+}
+
+/// Joins each bin with the other of its place: sums wrap at 64 bits.
+pub fn join_into(op: Fold, bins: &mut [i64], others: &[i64])
+    requires { length others.now ≡ length bins.old }
+    ensures { bins.new ≡ joined_bins op bins.old others.now }
+{
+    for k in 0..bins.len() {
+        bins[k] = joined(op, bins[k], others[k]);
+    }
+}

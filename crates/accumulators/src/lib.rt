@@ -1,0 +1,19 @@
+//! Accumulators: what they gather in their bins, over tiles and whole, and the answer of a job.
+#![tactic(auto)]
+
+mod answer;
+mod bins;
+mod computed;
+mod gather;
+mod join;
+pub mod laws;
+mod partials;
+mod picture;
+mod starts;
+mod totals;
+mod wholes;
+
+pub use answer::{Answer, Total, answer_of};
+pub use join::join_into;
+pub use partials::partial;
+pub use wholes::whole;

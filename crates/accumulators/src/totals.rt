@@ -1,0 +1,170 @@
+#![tactic(auto)]
+//! The totals of a job, from tiles that are joined as they are made.
+
+ghost use Rattle.std.specs.Prelude.{◌≡◌, ◌<◌, ◌++◌, ◌∷◌, [], map, fold, length, IfOk, IfSome, IfNone, OnOk};
+ghost use Rattle.std.specs.List.{range_with_len};
+ghost use Rattle.domains.specs.Span.{len_of};
+ghost use Rattle.domains.specs.Tiles.{HasTile, tile_area, tile_cols, tile_rows};
+ghost use Rattle.job.specs.Kept.{pipeline_in};
+ghost use Rattle.job.specs.Totals.{totals, totals_over};
+ghost use Rattle.overlap_tiles.specs.Plans.{IsTileLayout};
+ghost use Rattle.accumulators.specs.Answers.{all_gathered, gathered, gathered_at};
+ghost use Rattle.accumulators.specs.Making.{IsComputed, IsTally, TotalsFit, with_tile};
+
+use crate::answer::Total;
+use crate::computed::Computed;
+use crate::join::join_into;
+use crate::partials::layout_totals;
+use crate::starts::starts;
+use domains::{Grid, Span};
+use overlap_tiles::{Layout, PlanFault};
+use pipe_lang::Fold;
+use std::alloc::{AllocError, Global};
+use tile_run::Scratch;
+
+/// An accumulator of a job, whose totals are put together.
+#[derive(Clone, Copy)]
+pub(crate) struct Tally<'a> {
+    of: Computed<'a>,
+    stage: usize,
+    op: Fold,
+    bins: Span,
+    grid: Grid,
+}
+
+impl Computed<'_> {
+    /// The totals of all accumulators, in the order of the stages, where each of their tiles has room in scratch memory.
+    #[tactic(auto, using(grouping::proofs::Lists::flat_map_range_more))]
+    pub(crate) fn totals(&self, alloc: Global) -> Result<Vec<Total>, AllocError>
+        requires computed { IsComputed self.now }
+        requires fits { TotalsFit self.now }
+        ensures { IfOk result (λ all. map gathered all.items ≡ all_gathered (pipeline_in self.now.job.now)) }
+    {
+        let mut scratch = Scratch::new(alloc);
+        let mut all = Vec::new(alloc);
+        for stage in 0..self.job.stages().len() {
+            self.push_total(&mut all, alloc, &mut scratch, stage)?;
+        }
+        Ok(all)
+    }
+
+    // Adds the total of a stage, if it is an accumulator.
+    fn push_total(
+        &self,
+        all: &mut Vec<Total>,
+        alloc: Global,
+        scratch: &mut Scratch,
+        stage: usize,
+    ) -> Result<(), AllocError>
+        requires computed { IsComputed self.now }
+        requires fits { TotalsFit self.now }
+        ensures { OnOk result (map gathered all.new.items ≡ map gathered all.old.items ++ gathered_at (pipeline_in self.now.job.now) stage) }
+    {
+        let Some(tally) = self.tally(stage) else {
+            return Ok(());
+        };
+        let total = tally.total(alloc, scratch)?;
+        all.push(total)?;
+        Ok(())
+    }
+
+    // The stage of this number, if it is an accumulator.
+    fn tally(&self, stage: usize) -> Option<Tally<'_>>
+        requires computed { IsComputed self.now }
+        requires fits { TotalsFit self.now }
+        ensures stage { IfSome result (λ tally. tally.stage ≡ stage) }
+        ensures of { IfSome result (λ tally. tally.of.job.now ≡ self.now.job.now) }
+        ensures tally { IfSome result IsTally }
+        ensures none { IfNone result (gathered_at (pipeline_in self.now.job.now) stage ≡ []) }
+    {
+        let op = self.job.op(stage)?;
+        let bins = self.job.bins(stage)?;
+        let grid = self.job.grid(stage)?;
+        Some(Tally {
+            of: *self,
+            stage,
+            op,
+            bins,
+            grid,
+        })
+    }
+}
+
+impl Tally<'_> {
+    // What it gathered.
+    fn total(&self, alloc: Global, scratch: &mut Scratch) -> Result<Total, AllocError>
+        requires { IsTally self.now }
+        ensures { IfOk result (λ total. gathered_at (pipeline_in self.now.of.job.now) self.now.stage ≡ gathered total ∷ []) }
+    {
+        Ok(Total {
+            stage: self.stage,
+            lo: self.bins.lo(),
+            bins: self.joined(alloc, scratch)?,
+        })
+    }
+
+    // The totals over all tiles, joined row by row.
+    fn joined(&self, alloc: Global, scratch: &mut Scratch) -> Result<Vec<i64>, AllocError>
+        requires { IsTally self.now }
+        ensures { IfOk result (λ bins. bins.items ≡ totals (pipeline_in self.now.of.job.now) self.now.stage) }
+    {
+        let mut all = starts(alloc, self.op, &self.bins)?;
+        let bins = all.as_mut_slice();
+        for row in 0..self.grid.tile_rows() {
+            self.join_row(alloc, scratch, row, bins)?;
+        }
+        Ok(all)
+    }
+
+    // Joins the totals over each tile of a row to what came before.
+    fn join_row(
+        &self,
+        alloc: Global,
+        scratch: &mut Scratch,
+        row: u32,
+        bins: &mut [i64],
+    ) -> Result<(), AllocError>
+        requires tally { IsTally self.now }
+        requires row { row < tile_rows self.now.grid }
+        requires count { length bins.old ≡ len_of self.now.bins }
+        ensures { OnOk result (bins.new ≡ fold (with_tile (pipeline_in self.now.of.job.now) self.now.stage self.now.op self.now.grid) bins.old (map (λ j. (row, j)) (range_with_len 0 (tile_cols self.now.grid)))) }
+    {
+        for col in 0..self.grid.tile_cols() {
+            let partial = self.tile(alloc, scratch, row, col)?;
+            join_into(self.op, bins, &partial);
+        }
+        Ok(())
+    }
+
+    // The totals over one tile.
+    fn tile(
+        &self,
+        alloc: Global,
+        scratch: &mut Scratch,
+        row: u32,
+        col: u32,
+    ) -> Result<Vec<i64>, AllocError>
+        requires tally { IsTally self.now }
+        requires tile { HasTile self.now.grid row col }
+        ensures { IfOk result (λ bins. bins.items ≡ totals_over (pipeline_in self.now.of.job.now) (tile_area self.now.grid row col) self.now.stage) }
+    {
+        let of = &self.of;
+        let layout = self.layout(alloc, row, col)?;
+        layout_totals(alloc, of.job, of.schedule, &layout, scratch, of.stored)
+    }
+
+    // The layout of a tile.
+    fn layout(&self, alloc: Global, row: u32, col: u32) -> Result<Layout, AllocError>
+        requires tally { IsTally self.now }
+        requires tile { HasTile self.now.grid row col }
+        ensures { IfOk result (IsTileLayout (pipeline_in self.now.of.job.now) self.now.of.schedule.now.flags self.now.stage row col) }
+    {
+        let of = &self.of;
+        match Layout::of(alloc, of.job, of.schedule, self.stage, row, col) {
+            Ok(layout) => Ok(layout),
+            Err(PlanFault::NoSuchTile) => unreachable!(),
+            Err(PlanFault::ScratchTooBig) => unreachable!(),
+            Err(PlanFault::Memory) => Err(AllocError),
+        }
+    }
+}
