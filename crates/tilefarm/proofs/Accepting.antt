@@ -5,5 +5,5 @@ use Rattle.pipe_checks.specs.CheckedProgram.{CheckedProgram}
 use Rattle.pipe_checks.specs.Checking.{IsCheckedOf, ranks_in}
 use Rattle.tilefarm.specs.Input.{MeansSomething}
 
-pub means : (tree : Tree) (c : CheckedProgram) → IsCheckedOf tree c → MeansSomething (content tree)
-means tree c h = record { named = h.named; result = h.result; ranks = ranks_in c; ranking = h.ranks }
+pub means_something : (tree : Tree) (c : CheckedProgram) → IsCheckedOf tree c → MeansSomething (content tree)
+means_something tree c h = record { named = h.named; result = h.result; ranks = ranks_in c; ranking = h.ranks }

@@ -1,6 +1,8 @@
 pub mod Accepting
+pub mod Fitting
 pub mod Handing
 pub mod Known
 pub mod Listed
-pub mod Outputs
-pub mod Pictures
+pub mod Ranging
+pub mod Replying
+pub mod TotalLines

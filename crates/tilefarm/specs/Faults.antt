@@ -1,5 +1,5 @@
 -- Which fault of an input is told: each only where none of those before it is.
-use Rattle.std.specs.Prelude.{◌≡◌, ◌≢◌, ◌⊎◌, ℕ, Option, Some, None, List, position, slice_get, filter_map}
+use Rattle.std.specs.Prelude.{◌≡◌, ◌≢◌, ℕ, Option, None, List, slice_get, filter_map}
 use Rattle.std.specs.Option.{option_map}
 use Rattle.domains.specs.Sides.{Sides}
 use Rattle.netpbm.specs.Image.{Image}
@@ -21,7 +21,7 @@ use Rattle.job.specs.BindFaults.{IsBindFault}
 use Rattle.job.specs.declared.fault.BindFault.{BindFault}
 use Rattle.job.specs.declared.fault.BindFault.TheVariants as binding
 use Rattle.tilefarm.specs.Giving.{Given, AreGiven, IsFirstRefused, unset_of}
-use Rattle.tilefarm.specs.Input.{IsInput, IsParted, IsRunnable, MeansSomething, is_beyond, program_at}
+use Rattle.tilefarm.specs.Input.{IsInput, IsParted, MeansSomething, program_at}
 use Rattle.tilefarm.specs.Sections.{HasNoSeparator}
 use Rattle.tilefarm.specs.declared.faults.StreamFault.{StreamFault}
 use Rattle.tilefarm.specs.declared.faults.StreamFault.TheVariants.{Read, TooLong, NoSeparator, Program, Picture, Check, Param, Bind, Memory, Write}
@@ -39,15 +39,9 @@ name_at declared n = option_map (λ (d : Declared). d.name) (slice_get declared 
 abbrev pub names_of : List Declared → List ℕ → List (List ℕ)
 names_of stages numbers = filter_map (name_at stages) numbers
 
--- the first item that is not evaluated, in a program that means something
-pub record IsFirstBeyond (tree : List Declaration) (n : ℕ) : Type 0 where
-  pub means : MeansSomething tree
-  pub first : position is_beyond tree ≡ Some n
-
 -- the fault of a program, told by the names of its stages
 abbrev pub IsCheckLine : List Declaration → CheckLine → Type 0
 IsCheckLine tree (lines.Cycle names) = (cycle : List ℕ) × IsProgramFault tree (checks.Cycle cycle) × (names ≡ names_of (stages_of tree) cycle)
-IsCheckLine tree (lines.Fault (checks.Kind n)) = IsProgramFault tree (checks.Kind n) ⊎ IsFirstBeyond tree n
 IsCheckLine tree (lines.Fault (checks.Cycle cycle)) = ⊥
 IsCheckLine tree (lines.Fault checks.Memory) = ⊥
 IsCheckLine tree (lines.Fault fault) = IsProgramFault tree fault
@@ -92,9 +86,9 @@ IsFaultOf input given sides (Picture fault) =
     × IsPictureFault spelling fault × (fault ≢ pictures.Memory)
 IsFaultOf input given sides (Check line) = (tree : List Declaration) × (source : Image) × IsInput input tree source × IsCheckLine tree line
 IsFaultOf input given sides (Param line) =
-    (tree : List Declaration) × (source : Image) × IsInput input tree source × IsRunnable tree × IsFirstRefused (unset_of tree) given line
+    (tree : List Declaration) × (source : Image) × IsInput input tree source × MeansSomething tree × IsFirstRefused (unset_of tree) given line
 IsFaultOf input given sides (Bind line) =
-    (tree : List Declaration) × (source : Image) × IsInput input tree source × IsRunnable tree × IsBindLine tree given source sides line
+    (tree : List Declaration) × (source : Image) × IsInput input tree source × MeansSomething tree × IsBindLine tree given source sides line
 IsFaultOf input given sides Memory = Unit {0}
 -- neither a reader nor a writer is known here
 IsFaultOf input given sides Read = ⊥

@@ -1,17 +1,16 @@
--- From the bytes of an input to its job, and to the job's result.
-use Rattle.std.specs.Prelude.{◌≡◌, ℕ, ◌+◌, Bool, true, false, Some, None, List, take, drop, position}
+-- From the bytes of an input to its job.
+use Rattle.std.specs.Prelude.{◌≡◌, ℕ, ◌+◌, true, List, take, drop}
 use Rattle.std.specs.List.{list_any}
 use Rattle.domains.specs.Sides.{Sides}
 use Rattle.netpbm.specs.Grammar.{IsPicture}
 use Rattle.netpbm.specs.Image.{Image}
 use Rattle.pipe_lang.specs.Faults.{IsText}
-use Rattle.pipe_lang.specs.Tree.{Declaration, param, image, function, accumulator, output}
+use Rattle.pipe_lang.specs.Tree.{Declaration}
 use Rattle.pipe_checks.specs.declared.params.Setting.{Setting}
 use Rattle.pipe_checks.specs.Checking.{IsNamed, is_result}
 use Rattle.pipe_checks.specs.Graph.{IsRanking}
 use Rattle.pipe_checks.specs.Names.{stages_of}
 use Rattle.pipe_checks.specs.Sites.{graph_of}
-use Rattle.job.specs.Answers.{image as answer}
 use Rattle.job.specs.BindFaults.{IsBound}
 use Rattle.job.specs.Binding.{Program, IsJobOf}
 use Rattle.job.specs.Pipeline.{Pipeline}
@@ -37,14 +36,6 @@ pub record IsInput (input : List ℕ) (tree : List Declaration) (source : Image)
 
 -- ---- the program
 
--- accumulators are not evaluated yet
-abbrev pub is_beyond : Declaration → Bool
-is_beyond (param p) = false
-is_beyond (image i) = false
-is_beyond (function f) = false
-is_beyond (accumulator a) = true
-is_beyond (output o) = false
-
 -- each name stands for what its place wants, there is a result, and no stage leads back to itself
 pub record MeansSomething (tree : List Declaration) : Type 0 where
   pub named : IsNamed tree
@@ -52,34 +43,22 @@ pub record MeansSomething (tree : List Declaration) : Type 0 where
   pub ranks : List ℕ
   pub ranking : IsRanking (graph_of tree) ranks
 
--- a program that is evaluated
-pub record IsRunnable (tree : List Declaration) : Type 0 where
-  pub means : MeansSomething tree
-  pub all : position is_beyond tree ≡ None
-
 -- ---- the job
 
 -- a program with the ranks of its stages and the values that its parameters are given
 abbrev pub program_at : List Declaration → List ℕ → List Setting → Program
 program_at tree ranks chosen = record { stages = stages_of tree; ranks = ranks; settings = chosen }
 
--- The input is a program that is evaluated, a separator line and a picture. All values that are given have a parameter of
--- their own. The job is what the program says at these values, with the others taken from the picture's sides, and nothing
--- is amiss: all is in bounds, and the picture, the sides of the output's functions and the numbers of tiles fit.
-pub record IsInputJob (input : List ℕ) (given : List Given) (sides : Sides) (job : Pipeline) : Type 0 where
-  pub tree : List Declaration
+-- The input is a program that means something, of this tree, a separator line and a picture. All values that are given have a
+-- parameter of their own. The job is what the program says at these values, with the others taken from the picture's sides, and
+-- nothing is amiss: all is in bounds, and the picture, the sides of the output's functions and the numbers of tiles fit.
+pub record IsInputJob (input : List ℕ) (given : List Given) (sides : Sides) (tree : List Declaration) (job : Pipeline) : Type 0 where
   pub source : Image
   pub read : IsInput input tree source
-  pub runnable : IsRunnable tree
+  pub means : MeansSomething tree
   pub chosen : List Setting
   pub are_given : AreGiven (unset_of tree) given chosen
   pub ranks : List ℕ
   pub ranking : IsRanking (graph_of tree) ranks
   pub bound : IsBound tree (program_at tree ranks chosen) source sides job
   pub says : IsJobOf tree chosen source sides job
-
--- the picture is what the job of the input answers
-pub record IsResult (input : List ℕ) (given : List Given) (sides : Sides) (result : Image) : Type 0 where
-  pub job : Pipeline
-  pub of_input : IsInputJob input given sides job
-  pub answered : answer job ≡ Some result

@@ -1,7 +1,13 @@
 pub mod Faults
+pub mod Gathering
 pub mod Giving
 pub mod Input
+pub mod Listing
 pub mod Outcomes
+pub mod Planning
+pub mod Replies
+pub mod Results
 pub mod Sections
 pub mod Steps
+pub mod Tasks
 pub mod Told

@@ -2,14 +2,17 @@
 use Rattle.std.specs.Prelude.{◌≡◌, ℕ, ◌<◌, ◌≤◌, List, length, Option, Result, Ok, Err, IfSome}
 use Rattle.std.specs.Io.KnownBytes.{Appends}
 use Rattle.domains.specs.Sides.{Sides}
-use Rattle.netpbm.specs.Image.{Image, IsImage}
-use Rattle.netpbm.specs.Spelling.{spelling}
 use Rattle.netpbm.specs.Streams.{AppendsPart, one_more}
+use Rattle.pipe_lang.specs.Tree.{Declaration}
+use Rattle.job.specs.Pipeline.{Pipeline}
+use Rattle.job.specs.WellFormed.{IsJob}
 use Rattle.tilefarm.specs.Faults.{IsFaultOf}
 use Rattle.tilefarm.specs.Giving.{Given}
-use Rattle.tilefarm.specs.Input.{IsResult}
+use Rattle.tilefarm.specs.Input.{IsInputJob}
 use Rattle.tilefarm.specs.declared.faults.StreamFault.{StreamFault}
 use Rattle.tilefarm.specs.declared.faults.StreamFault.TheVariants.{Read, TooLong, NoSeparator, Program, Picture, Check, Param, Bind, Memory, Write}
+
+-- ---- what is read
 
 -- the most bytes of an input
 abbrev pub most_input : ℕ
@@ -17,15 +20,39 @@ most_input = 536870912
 
 -- where the input is known it is not too long, and this is said of it
 abbrev pub IfRead : Option (List ℕ) → (List ℕ → Type 0) → Type 0
-IfRead known Says = IfSome known (λ input. (length input ≤ most_input) × Says input)
+IfRead known Holds = IfSome known (λ input. (length input ≤ most_input) × Holds input)
 
--- where the input is known the picture is its result
-abbrev pub IsResultOfKnown : Option (List ℕ) → List Given → Sides → Image → Type 0
-IsResultOfKnown known given sides picture = IsImage picture × IfRead known (λ input. IsResult input given sides picture)
+-- ---- what is said
 
--- the writer took the raw spelling of such a picture
-abbrev pub AppendsResult : Option (List ℕ) → List Given → Sides → Option (List ℕ) → Option (List ℕ) → Type 0
-AppendsResult known given sides old new = (picture : Image) × IsResultOfKnown known given sides picture × Appends old new (spelling picture)
+-- which bytes a command says of the tree of a program and of its job
+abbrev pub Saying : Type 1
+Saying = List Declaration → Pipeline → List ℕ → Type 0
+
+-- the bytes are what a command says of a tree and a job, for which Reads holds
+pub record IsSaidOf (Says : Saying) (Reads : List Declaration → Pipeline → Type 0) (bytes : List ℕ) : Type 0 where
+  pub tree : List Declaration
+  pub job : Pipeline
+  pub is_job : IsJob job
+  pub of_input : Reads tree job
+  pub says : Says tree job bytes
+
+-- what a command says of the program and of the job of an input
+abbrev pub IsSaid : Saying → List ℕ → List Given → Sides → List ℕ → Type 0
+IsSaid Says input given sides bytes = IsSaidOf Says (IsInputJob input given sides) bytes
+
+-- the same where the input may not be known: then it is said of some job
+abbrev pub IsSaidOfKnown : Saying → Option (List ℕ) → List Given → Sides → List ℕ → Type 0
+IsSaidOfKnown Says known given sides bytes = IsSaidOf Says (λ tree job. IfRead known (λ input. IsInputJob input given sides tree job)) bytes
+
+-- ---- what is written
+
+-- the writer took what the command says
+abbrev pub AppendsSaid : Saying → Option (List ℕ) → List Given → Sides → Option (List ℕ) → Option (List ℕ) → Type 0
+AppendsSaid Says known given sides old new = (bytes : List ℕ) × IsSaidOfKnown Says known given sides bytes × Appends old new bytes
+
+-- or a part of it
+abbrev pub AppendsPartSaid : Saying → Option (List ℕ) → List Given → Sides → Option (List ℕ) → Option (List ℕ) → Type 0
+AppendsPartSaid Says known given sides old new = (bytes : List ℕ) × IsSaidOfKnown Says known given sides bytes × AppendsPart old new bytes
 
 -- the fault is one of the input, where this is known, or of the reader
 abbrev pub IsFaultOfKnown : Option (List ℕ) → List Given → Sides → StreamFault → Type 0
@@ -34,12 +61,12 @@ IsFaultOfKnown known given sides TooLong = IfSome known (λ input. most_input < 
 IsFaultOfKnown known given sides Memory = Unit {0}
 IsFaultOfKnown known given sides fault = IfRead known (λ input. IsFaultOf input given sides fault)
 
--- what was written: all of the raw spelling of the result; where the writer failed a part of it; else nothing, and the
--- fault is the first one
-abbrev pub WritesResult : {X : Type 0} → Option (List ℕ) → List Given → Sides → Result X StreamFault → Option (List ℕ) → Option (List ℕ) → Type 0
-WritesResult known given sides (Ok _) old new = AppendsResult known given sides old new
-WritesResult known given sides (Err Write) old new = (picture : Image) × IsResultOfKnown known given sides picture × AppendsPart old new (spelling picture)
-WritesResult known given sides (Err fault) old new = (new ≡ old) × IsFaultOfKnown known given sides fault
+-- what was written: all that the command says; where the writer failed a part of it; else nothing, and the fault is the first
+-- one
+abbrev pub Writes : {X : Type 0} → Saying → Option (List ℕ) → List Given → Sides → Result X StreamFault → Option (List ℕ) → Option (List ℕ) → Type 0
+Writes Says known given sides (Ok _) old new = AppendsSaid Says known given sides old new
+Writes Says known given sides (Err Write) old new = AppendsPartSaid Says known given sides old new
+Writes Says known given sides (Err fault) old new = (new ≡ old) × IsFaultOfKnown known given sides fault
 
 -- one call of the reader failed at `Read`, and none at any other answer
 abbrev pub CountsRead : {X : Type 0} → Result X StreamFault → ℕ → ℕ → Type 0

@@ -1,16 +1,27 @@
--- What the steps from an input to its result are refused with. Only contracts inside the crate cite it.
+-- What the steps from an input to its job give, and what they are refused with. Only contracts inside the crate cite it.
 use Rattle.std.specs.Prelude.{◌≡◌, ◌≢◌, ℕ, ◌<◌, Option, IfSome, List, length, string_bytes}
+use Rattle.domains.specs.Sides.{Sides}
 use Rattle.pipe_lang.specs.Tree.{Declaration}
+use Rattle.pipe_print.specs.Canonical.{canonical}
 use Rattle.pipe_checks.specs.declared.declared.Declared.{Declared}
 use Rattle.pipe_checks.specs.declared.fault.ParamFault.{ParamFault}
 use Rattle.pipe_checks.specs.declared.params.Setting.{Setting}
+use Rattle.job.specs.Kept.{pipeline_in, program_text_in}
 use Rattle.job.specs.declared.fault.BindFault.{BindFault}
 use Rattle.job.specs.declared.fault.BindFault.TheVariants as binding
+use Rattle.job.specs.declared.job.Job.{Job}
 use Rattle.tilefarm.specs.declared.faults.StreamFault.{StreamFault}
 use Rattle.tilefarm.specs.declared.faults.StreamFault.TheVariants as faults
 use Rattle.tilefarm.specs.Faults.{IsCheckLine, blamed}
 use Rattle.tilefarm.specs.Giving.{Given, IsFirstRefused}
+use Rattle.tilefarm.specs.Input.{IsInputJob}
 use Rattle.tilefarm.specs.Outcomes.{most_input}
+
+-- the job of an input, which keeps the canonical text of its program
+pub record IsReadJob (input : List ℕ) (given : List Given) (sides : Sides) (job : Job) : Type 0 where
+  pub tree : List Declaration
+  pub of_input : IsInputJob input given sides tree (pipeline_in job)
+  pub text : program_text_in job ≡ canonical tree
 
 -- what reading is refused with
 abbrev pub IsOfReader : Option (List ℕ) → StreamFault → Type 0

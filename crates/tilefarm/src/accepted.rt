@@ -1,12 +1,11 @@
-//! Programs that mean something and are evaluated, and what others are refused with.
+//! Programs that mean something, and what others are refused with.
 
-ghost use Rattle.std.specs.Prelude.{◌≡◌, IfOk, IfErr, position};
-ghost use Rattle.pipe_lang.specs.Tree.{content, declaration, declarations};
+ghost use Rattle.std.specs.Prelude.{◌≡◌, IfOk, IfErr};
+ghost use Rattle.pipe_lang.specs.Tree.{content, declarations};
 ghost use Rattle.pipe_checks.specs.Checking.{IsCheckedOf, IsFault};
 ghost use Rattle.pipe_checks.specs.Names.{stages_of};
 ghost use Rattle.tilefarm.specs.Steps.{IsRefusal};
 ghost use Rattle.tilefarm.specs.Faults.{name_at, names_of};
-ghost use Rattle.tilefarm.specs.Input.{IsRunnable, is_beyond};
 
 use crate::faults::StreamFault;
 use crate::lines::{CheckLine, StageNames};
@@ -15,35 +14,14 @@ use pipe_lang::{Item, Tree};
 use pipe_tokens::Name;
 use std::alloc::{AllocError, Global};
 
-/// The program that the tree is, if it means something and is evaluated; else its first fault.
+/// The program that the tree is, if it means something; else its first fault.
 pub fn accept(alloc: Global, tree: Tree) -> Result<Checked, StreamFault>
     ensures ok { IfOk result (IsCheckedOf tree) }
-    ensures runnable { IfOk result (λ _. IsRunnable (content tree)) }
     ensures fault { IfErr result (IsRefusal (content tree)) }
 {
     match check(alloc, tree) {
-        Ok(checked) => match first_beyond(checked.tree().items()) {
-            None => Ok(checked),
-            Some(item) => Err(StreamFault::Check(CheckLine::Fault(CheckFault::Kind(item)))),
-        },
+        Ok(checked) => Ok(checked),
         Err((tree, fault)) => Err(refusal(alloc, tree.items(), fault)),
-    }
-}
-
-/// The first item that is not evaluated yet.
-fn first_beyond(items: &[Item]) -> Option<usize>
-    ensures { result ≡ position (λ item. is_beyond (declaration item)) items.now }
-{
-    items.iter().position(|item| is_beyond(item))
-}
-
-/// Accumulators are not evaluated yet.
-fn is_beyond(item: &Item) -> bool
-    ensures { result ≡ is_beyond (declaration item.now) }
-{
-    match item {
-        Item::Accum(_) => true,
-        Item::Param(_) | Item::Image(_) | Item::Func(_) | Item::Output(_) => false,
     }
 }
 

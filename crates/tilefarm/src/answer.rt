@@ -1,93 +1,65 @@
-//! The picture that a job answers.
+//! What a job answers, by tiles.
 
-ghost use Rattle.std.specs.Prelude.{◌≡◌, IfOk, IsTrue, Some, is_some, map};
-ghost use Rattle.netpbm.specs.Image.{IsImage};
-ghost use Rattle.netpbm.specs.Planes.{samples_of};
-ghost use Rattle.job.specs.Answers.{height_of, image, picture_of, sample_of, width_of};
+ghost use Rattle.std.specs.Prelude.{◌≡◌, ◌≤◌, IfOk, length};
+ghost use Rattle.accumulators.specs.Answers.{IsAnswer};
+ghost use Rattle.grouping.specs.Inlining.{AllFitScratch, IsScheduleOf};
 ghost use Rattle.job.specs.Kept.{pipeline_in};
-ghost use Rattle.job.specs.Views.{output_view};
-ghost use Rattle.job.specs.WellFormed.{IsJob, IsOutput};
+ghost use Rattle.job.specs.WellFormed.{IsJob};
+ghost use Rattle.tile_run.specs.Lent.{AreTrue};
+ghost use Rattle.tile_run.specs.Stored.{stored_tiles, LendsAllTiles};
+ghost use Rattle.tilefarm.specs.Replies.{reply_bytes};
+ghost use Rattle.tilefarm.specs.Results.{result_bytes};
 
-use domains::arithmetic::clamp;
-use job::{Job, Output};
-use netpbm::Picture;
+use crate::options::Options;
+use crate::reply::Reply;
+use crate::schedules::schedule_of;
+use crate::totals::lines_of;
+use accumulators::{Answer, answer_of};
+use grouping::Schedule;
+use job::Job;
 use std::alloc::{AllocError, Global};
-use tile_eval::plain_all;
+use tile_run::{RunFault, Stored, run_all};
 
-/// The picture of a job that has an output.
-pub fn evaluate(alloc: Global, job: &Job) -> Result<Picture, AllocError>
+/// The result of a job: the picture of its output, if it has one, and a line for each of its accumulators.
+pub fn evaluate(alloc: Global, job: &Job, options: &Options) -> Result<Reply, AllocError>
     requires job { IsJob (pipeline_in job.now) }
-    requires output { IsTrue (is_some (pipeline_in job.now).output) }
-    ensures answer { IfOk result (λ picture. image (pipeline_in job.now) ≡ Some picture) }
-    ensures image { IfOk result IsImage }
+    requires few { length (pipeline_in job.now).stages ≤ 65536 }
+    ensures { IfOk result (λ reply. reply_bytes reply ≡ result_bytes (pipeline_in job.now)) }
 {
-    match job.output() {
-        Some(output) => picture_of(alloc, job, output),
-        None => unreachable!(),
-    }
+    let schedule = schedule_of(alloc, job, options)?;
+    let Answer { picture, totals } = answer(alloc, job, &schedule)?;
+    let lines = lines_of(alloc, job, totals.as_slice())?;
+    Ok(Reply { picture, lines })
 }
 
-/// The output's functions as planes.
-fn picture_of(alloc: Global, job: &Job, output: &Output) -> Result<Picture, AllocError>
+/// The answer of a job by a schedule of which each tile has room in scratch memory. The stored tiles are let go.
+fn answer(alloc: Global, job: &Job, schedule: &Schedule) -> Result<Answer, AllocError>
     requires job { IsJob (pipeline_in job.now) }
-    requires output { IsOutput (pipeline_in job.now) (output_view output.now) }
-    ensures answer { IfOk result (λ picture. picture ≡ picture_of (pipeline_in job.now) (output_view output.now)) }
-    ensures image { IfOk result IsImage }
+    requires few { length (pipeline_in job.now).stages ≤ 65536 }
+    requires schedule { IsScheduleOf (pipeline_in job.now) schedule.now }
+    requires fit { AllFitScratch (pipeline_in job.now) schedule.now.flags }
+    ensures { IfOk result (IsAnswer (pipeline_in job.now)) }
 {
-    let max = output.max() as u16;
-    let stages = plain_all(alloc, job, output.stages())?;
-    let planes = cut_planes(alloc, &stages, max)?;
-    let first = output.stages()[0];
-    match Picture::of(height_of(job, first), width_of(job, first), max, planes) {
-        Ok(picture) => Ok(picture),
-        Err(_) => unreachable!(),
+    let stored = run(alloc, job, schedule)?;
+    match answer_of(alloc, job, schedule, &stored) {
+        Ok(answer) => Ok(answer),
+        Err(RunFault::ScratchTooBig(_)) => unreachable!(),
+        Err(RunFault::Memory) => Err(AllocError),
     }
 }
 
-/// The values of stages, cut to 0 and the greatest sample.
-fn cut_planes(alloc: Global, stages: &[Vec<i32>], max: u16) -> Result<Vec<Vec<u16>>, AllocError>
-    ensures { IfOk result (λ planes. samples_of planes.items ≡ map (λ values. map (sample_of max) values.items) stages.now) }
+/// All tiles of the stored functions.
+fn run(alloc: Global, job: &Job, schedule: &Schedule) -> Result<Stored, AllocError>
+    requires job { IsJob (pipeline_in job.now) }
+    requires few { length (pipeline_in job.now).stages ≤ 65536 }
+    requires schedule { IsScheduleOf (pipeline_in job.now) schedule.now }
+    requires fit { AllFitScratch (pipeline_in job.now) schedule.now.flags }
+    ensures all { IfOk result (λ stored. LendsAllTiles (pipeline_in job.now) schedule.now.flags (stored_tiles stored.stages.items)) }
+    ensures values { IfOk result (λ stored. AreTrue (pipeline_in job.now) (stored_tiles stored.stages.items)) }
 {
-    let mut planes = Vec::with_capacity(alloc, stages.len())?;
-    for values in stages {
-        planes.push(cut_plane(alloc, values, max)?)?;
-    }
-    Ok(planes)
-}
-
-fn cut_plane(alloc: Global, values: &[i32], max: u16) -> Result<Vec<u16>, AllocError>
-    ensures { IfOk result (λ plane. plane.items ≡ map (sample_of max) values.now) }
-{
-    let mut samples = Vec::with_capacity(alloc, values.len())?;
-    for value in values {
-        samples.push(cut(*value, max))?;
-    }
-    Ok(samples)
-}
-
-/// The value cut to 0 and the greatest sample.
-fn cut(value: i32, max: u16) -> u16
-    ensures { result ≡ sample_of max value }
-{
-    clamp(value, 0, i32::from(max)) as u16
-}
-
-/// How many rows the domain of a stage has.
-fn height_of(job: &Job, stage: usize) -> u32
-    ensures { result ≡ height_of (pipeline_in job.now) stage }
-{
-    match job.domain(stage) {
-        Some(domain) => domain.rows.len(),
-        None => 0,
-    }
-}
-
-/// How many columns the domain of a stage has.
-fn width_of(job: &Job, stage: usize) -> u32
-    ensures { result ≡ width_of (pipeline_in job.now) stage }
-{
-    match job.domain(stage) {
-        Some(domain) => domain.cols.len(),
-        None => 0,
+    match run_all(alloc, job, schedule) {
+        Ok(stored) => Ok(stored),
+        Err(RunFault::ScratchTooBig(_)) => unreachable!(),
+        Err(RunFault::Memory) => Err(AllocError),
     }
 }

@@ -2,11 +2,12 @@
 
 ghost use Rattle.std.specs.Prelude.{◌≡◌, IfOk, IfErr, map};
 ghost use Rattle.pipe_lang.specs.Tree.{content};
+ghost use Rattle.pipe_print.specs.Canonical.{canonical};
 ghost use Rattle.pipe_checks.specs.Checking.{params_in, stages_in, tree_in};
 ghost use Rattle.job.specs.declared.fault.BindFault.{BindFault as BindFaultType};
 ghost use Rattle.job.specs.BindFaults.{IsBindFault, IsBound};
 ghost use Rattle.job.specs.Binding.{IsJobOf};
-ghost use Rattle.job.specs.Kept.{pipeline_in};
+ghost use Rattle.job.specs.Kept.{pipeline_in, program_text_in};
 ghost use Rattle.job.specs.Views.{program_of};
 ghost use Rattle.job.specs.WellFormed.{IsJob};
 ghost use Rattle.tilefarm.specs.Faults.{blamed};
@@ -33,6 +34,7 @@ pub fn bind(
     ensures ok { IfOk result (λ job. IsBound (content (tree_in checked)) (program_of checked params.now) picture sides (pipeline_in job)) }
     ensures job { IfOk result (λ job. IsJob (pipeline_in job)) }
     ensures says { IfOk result (λ job. map (λ s. s.name) params.now ≡ map (λ d. d.name) (params_in checked) → IsJobOf (content (tree_in checked)) params.now picture sides (pipeline_in job)) }
+    ensures text { IfOk result (λ job. program_text_in job ≡ canonical (content (tree_in checked))) }
     ensures fault { IfErr result (λ told. (fault : BindFaultType) × IsBindFault (content (tree_in checked)) (program_of checked params.now) picture sides fault
         × TellsBind (params_in checked) (stages_in checked) fault told) }
 {

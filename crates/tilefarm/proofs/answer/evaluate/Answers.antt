@@ -1,8 +1,7 @@
-use Rattle.std.proofs.Common.{sym, ap, ◌∙◌}
-use Rattle.std.specs.Option.{option_map}
-use Rattle.job.specs.Views.{output_view}
+use Rattle.job.specs.Kept.{pipeline_in}
+use Rattle.tilefarm.proofs.TotalLines.{answer_bytes}
 use Rattle.tilefarm.proofs.answer.evaluate.Goals as goal
 
-pub picture_of-requires-clause-output : goal.picture_of-requires-clause-output
-picture_of-requires-clause-output c =
-    c.requires.job.output (output_view c.in-Some.output) (sym c.output.ensures ∙ ap (option_map output_view) c.in-Some.is)
+pub returns : goal.returns
+returns c =
+    answer_bytes (pipeline_in c.args.job.now) c.in_ok-picture.field-0 c.as_slice.result.now c.in_ok-lines.lines.items c.in_ok-picture.ensures c.as_slice.ensures.value c.in_ok-lines.ensures

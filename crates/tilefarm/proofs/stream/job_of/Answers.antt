@@ -1,7 +1,9 @@
+use Rattle.std.proofs.Common.{◌≡◌, ◌∙◌, ap, map}
 use Rattle.std.proofs.lemmas.Result.{IfErr-weaker, err_from_is_err_and}
-use Rattle.tilefarm.proofs.Listed.{both_then}
-use Rattle.job.specs.Kept.{pipeline_in}
-use Rattle.tilefarm.proofs.Known.{input_job, late_fault}
+use Rattle.pipe_lang.specs.Tree.{content}
+use Rattle.job.specs.Kept.{pipeline_in, program_text_in}
+use Rattle.tilefarm.proofs.Known.{input_job, input_small, late_fault, read_job}
+use Rattle.tilefarm.proofs.Listed.{all_then, both_then}
 use Rattle.tilefarm.proofs.stream.job_of.Goals as goal
 
 pub returns-in_err-tree-clause-fault : goal.returns-in_err-tree-clause-fault
@@ -11,15 +13,22 @@ returns-in_err-tree-clause-fault c =
 
 pub returns-clause-of_input : goal.returns-clause-of_input
 returns-clause-of_input c =
-    let checked = c.in_ok-checked.ensures in
+    all_then c.bind.result
+    (λ job bound says text. read_job c.args.input.items c.args.given.now c.args.sides c.in_ok-tree.tree c.in_ok-tree.picture c.in_ok-checked.checked c.in_ok-params.params job c.in_ok-tree.ensures.ok c.in_ok-checked.ensures.ok c.in_ok-params.ensures.ok bound says text)
+    c.bind.ensures.ok
+    c.bind.ensures.says
+    c.bind.ensures.text
+
+pub returns-clause-small : goal.returns-clause-small
+returns-clause-small c =
     both_then c.bind.result
-    (λ job bound says. input_job c.args.input.now c.args.given.now c.args.sides c.in_ok-tree.tree c.in_ok-tree.picture c.in_ok-checked.checked c.in_ok-params.params (pipeline_in job) c.in_ok-tree.ensures.ok checked.runnable checked.ok c.in_ok-params.ensures.ok bound says)
+    (λ job bound says. input_small c.args.input.items c.args.given.now c.args.sides (content c.in_ok-tree.tree) (pipeline_in job)
+    (input_job c.args.input.items c.args.given.now c.args.sides c.in_ok-tree.tree c.in_ok-tree.picture c.in_ok-checked.checked c.in_ok-params.params (pipeline_in job) c.in_ok-tree.ensures.ok c.in_ok-checked.ensures.ok c.in_ok-params.ensures.ok bound says))
     c.bind.ensures.ok
     c.bind.ensures.says
 
 pub returns-clause-fault : goal.returns-clause-fault
 returns-clause-fault c =
-    let checked = c.in_ok-checked.ensures in
     IfErr-weaker c.bind.result _ _
-    (λ f late. late_fault c.args.input.now c.args.given.now c.args.sides c.in_ok-tree.tree c.in_ok-tree.picture c.in_ok-checked.checked c.in_ok-params.params f c.in_ok-tree.ensures.ok checked.runnable checked.ok c.in_ok-params.ensures.ok late)
+    (λ f late. late_fault c.args.input.items c.args.given.now c.args.sides c.in_ok-tree.tree c.in_ok-tree.picture c.in_ok-checked.checked c.in_ok-params.params f c.in_ok-tree.ensures.ok c.in_ok-checked.ensures.ok c.in_ok-params.ensures.ok late)
     c.bind.ensures.fault

@@ -1,6 +1,0 @@
-use Rattle.std.proofs.Common.{◌≡◌, ◌++◌, drop, map}
-use Rattle.job.specs.Answers.{sample_of}
-use Rattle.tilefarm.proofs.answer.cut_plane.Given as goal
-
-abbrev pub invariant-loop-value : goal.invariant-loop-value
-invariant-loop-value l = l.samples.items ++ map (sample_of l.max) (drop l.value-index l.values) ≡ map (sample_of l.max) l.values

@@ -1,0 +1,26 @@
+//! The schedule that the options ask for.
+
+ghost use Rattle.std.specs.Prelude.{◌≡◌, true, IfOk};
+ghost use Rattle.grouping.specs.Inlining.{AllFitScratch, IsScheduleOf};
+ghost use Rattle.grouping.specs.Schedules.{all_stored};
+ghost use Rattle.job.specs.Kept.{pipeline_in};
+ghost use Rattle.job.specs.WellFormed.{IsJob};
+
+use crate::options::Options;
+use grouping::Schedule;
+use job::Job;
+use std::alloc::{AllocError, Global};
+
+/// The schedule that stores all functions, or else the greedy one. Each of its tiles has room in scratch memory.
+pub fn schedule_of(alloc: Global, job: &Job, options: &Options) -> Result<Schedule, AllocError>
+    requires { IsJob (pipeline_in job.now) }
+    ensures schedule { IfOk result (IsScheduleOf (pipeline_in job.now)) }
+    ensures fits { IfOk result (λ s. AllFitScratch (pipeline_in job.now) s.flags) }
+    ensures stored { options.now.stored ≡ true → IfOk result (λ s. s.flags ≡ all_stored (pipeline_in job.now)) }
+{
+    if options.stored {
+        Schedule::stored(alloc, job)
+    } else {
+        Schedule::greedy(alloc, job, options.percent.get())
+    }
+}
