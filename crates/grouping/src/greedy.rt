@@ -13,18 +13,24 @@ use domains::Area;
 use job::{Job, Stage};
 use std::alloc::{AllocError, Global};
 
-/// What is chosen so far.
+/// What is chosen so far: which functions are inlined, and how each stage stands.
 #[derive(Drop)]
 struct Choice {
     flags: Flags,
-    /// The stored stage into whose tiles each function was inlined; of a stored stage its own number.
-    homes: Vec<usize>,
-    /// What each stored stage costs.
-    costs: Vec<u64>,
-    /// Of each function that was inlined, its box in each tile of its home.
-    boxes: Vec<Vec<Option<Area>>>,
-    /// Of each stage into which something was inlined, the points that each of its tiles has in scratch memory.
-    scratch: Vec<Vec<u64>>,
+    standings: Vec<Standing>,
+}
+
+/// How a stage stands.
+#[derive(Drop)]
+struct Standing {
+    /// The stored stage in whose tiles it is computed; of a stored stage its own number.
+    home: usize,
+    /// If it is stored, what its tiles cost.
+    cost: u64,
+    /// If it is inlined, its box in each tile of its home.
+    boxes: Vec<Option<Area>>,
+    /// If something is inlined in it, the points that each of its tiles has in scratch memory.
+    scratch: Vec<u64>,
 }
 
 /// A function that may be inlined, the stages that read it, and the stored stage in whose tiles all these are computed.
@@ -53,20 +59,16 @@ impl Choice {
     // Each stage is stored.
     fn none(alloc: Global, job: &Job) -> Result<Choice, AllocError> {
         let flags = Flags::all_stored(alloc, job)?;
-        let mut choice = Choice {
-            flags,
-            homes: Vec::new(alloc),
-            costs: Vec::new(alloc),
-            boxes: Vec::new(alloc),
-            scratch: Vec::new(alloc),
-        };
+        let mut standings = Vec::new(alloc);
         for (number, stage) in job.stages().iter().enumerate() {
-            choice.homes.push(number)?;
-            choice.costs.push(stage.domain().points())?;
-            choice.boxes.push(Vec::new(alloc))?;
-            choice.scratch.push(Vec::new(alloc))?;
+            standings.push(Standing {
+                home: number,
+                cost: stage.domain().points(),
+                boxes: Vec::new(alloc),
+                scratch: Vec::new(alloc),
+            })?;
         }
-        Ok(choice)
+        Ok(Choice { flags, standings })
     }
 
     // Inlines a function where that pays.
@@ -115,14 +117,27 @@ impl Choice {
         let scratch = self.scratch_with(alloc, candidate.home, &found)?;
         let added = all_points(&found);
         if fit(&scratch) && self.pays(added, candidate, percent) {
-            let cost = get(&self.costs, candidate.home).saturating_add(added);
-            self.flags.set(candidate.number, true);
-            put(&mut self.homes, candidate.number, candidate.home);
-            put(&mut self.costs, candidate.home, cost);
-            put(&mut self.boxes, candidate.number, found);
-            put(&mut self.scratch, candidate.home, scratch);
+            self.inline(candidate, found);
+            self.grow(candidate.home, added, scratch);
         }
         Ok(())
+    }
+
+    // The function is computed in the tiles of its home, over these boxes.
+    fn inline(&mut self, candidate: &Candidate, boxes: Vec<Option<Area>>) {
+        self.flags.set(candidate.number, true);
+        if let Some(standing) = self.standings.get_mut(candidate.number) {
+            standing.home = candidate.home;
+            standing.boxes = boxes;
+        }
+    }
+
+    // The tiles of a stage cost so many points more, and have so many in scratch memory.
+    fn grow(&mut self, home: usize, added: u64, scratch: Vec<u64>) {
+        if let Some(standing) = self.standings.get_mut(home) {
+            standing.cost = standing.cost.saturating_add(added);
+            standing.scratch = scratch;
+        }
     }
 
     // The function's box in each tile of its home.
@@ -137,7 +152,7 @@ impl Choice {
         let mut hulls = vec![in alloc; None; job.stages().len()]?;
         let mut found = Vec::with_capacity(alloc, candidate.tiles.len())?;
         for (place, tile) in candidate.tiles.iter().enumerate() {
-            put(&mut hulls, candidate.number, None);
+            forget(&mut hulls, candidate.number);
             self.demand(&mut hulls, job, candidate, place, tile);
             found.push(box_of(&hulls, job, candidate.number))?;
         }
@@ -169,7 +184,7 @@ impl Choice {
 
     // The box of a function that was inlined, in a tile of its home.
     fn box_in(&self, number: usize, place: usize) -> Option<Area> {
-        *self.boxes.as_slice().get(number)?.as_slice().get(place)?
+        *self.standings.get(number)?.boxes.get(place)?
     }
 
     // What the tiles of a stage have in scratch memory with these boxes besides.
@@ -181,32 +196,49 @@ impl Choice {
     ) -> Result<Vec<u64>, AllocError> {
         let mut scratch = Vec::with_capacity(alloc, found.len())?;
         for (place, area) in found.iter().enumerate() {
-            let before = match self.scratch.as_slice().get(home) {
-                Some(points) => get(points, place),
-                None => 0,
-            };
-            scratch.push(before.saturating_add(points_of(area)))?;
+            scratch.push(self.scratch_in(home, place).saturating_add(points_of(area)))?;
         }
         Ok(scratch)
     }
 
+    // What one of its tiles has there so far.
+    fn scratch_in(&self, home: usize, place: usize) -> u64 {
+        match self.standings.get(home) {
+            Some(standing) => standing.scratch.get(place).copied().unwrap_or(0),
+            None => 0,
+        }
+    }
+
+    // The stored stage in whose tiles a stage is computed.
+    fn home(&self, number: usize) -> Option<usize> {
+        Some(self.standings.get(number)?.home)
+    }
+
     // The one stored stage in whose tiles all readers are computed, if there is one.
     fn home_of(&self, readers: &[usize]) -> Option<usize> {
-        let home = *self.homes.get(*readers.first()?)?;
+        let home = self.home(*readers.first()?)?;
         for reader in readers {
-            if self.homes.get(*reader) != Some(&home) {
+            if self.home(*reader) != Some(home) {
                 return None;
             }
         }
         Some(home)
     }
 
+    // What the tiles of a stored stage cost.
+    fn cost(&self, number: usize) -> u64 {
+        match self.standings.get(number) {
+            Some(standing) => standing.cost,
+            None => 0,
+        }
+    }
+
     // Whether the home takes few enough points with so many more.
     fn pays(&self, added: u64, candidate: &Candidate, percent: u32) -> bool
         requires { percent ≤ 10000 }
     {
-        let own = u128::from(get(&self.costs, candidate.home));
-        let apart = own + u128::from(get(&self.costs, candidate.number));
+        let own = u128::from(self.cost(candidate.home));
+        let apart = own + u128::from(self.cost(candidate.number));
         100 * (own + u128::from(added)) <= u128::from(100 + percent) * apart
     }
 }
@@ -255,16 +287,9 @@ fn fit(scratch: &[u64]) -> bool {
     scratch.iter().all(|points| *points <= MOST_SCRATCH)
 }
 
-fn get(numbers: &[u64], place: usize) -> u64 {
-    match numbers.get(place) {
-        Some(number) => *number,
-        None => 0,
-    }
-}
-
-fn put<T: Drop>(list: &mut [T], place: usize, item: T) {
-    if place < list.len() {
-        list[place] = item;
+fn forget(hulls: &mut [Option<Area>], number: usize) {
+    if let Some(hull) = hulls.get_mut(number) {
+        *hull = None;
     }
 }
 
