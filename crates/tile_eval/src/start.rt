@@ -48,7 +48,7 @@ impl Start {
     }
 
     /// The column of point number `k`.
-    pub(crate) fn column(&self, k: usize) -> i32
+    pub fn column(&self, k: usize) -> i32
         requires { (self.now.col +ℤ pos k) ≤ℤ pos 16385 }
         ensures { result ≡ self.now.col +ℤ pos k }
     {
@@ -56,7 +56,7 @@ impl Start {
     }
 
     /// The start of the points from number `k` on.
-    pub(crate) fn behind(&self, k: usize) -> Start
+    pub fn behind(&self, k: usize) -> Start
         requires { (self.now.col +ℤ pos k) ≤ℤ pos 16385 }
         ensures row { result.row ≡ self.now.row }
         ensures col { result.col ≡ self.now.col +ℤ pos k }
@@ -75,7 +75,7 @@ impl Start {
     }
 
     /// The first column that an index takes.
-    pub(crate) fn col_at(&self, index: &Index) -> i32
+    pub fn col_at(&self, index: &Index) -> i32
         ensures { result ≡ index_at index.now self.now.col }
     {
         index.at(self.col)

@@ -1,7 +1,7 @@
 #![tactic(auto)]
 //! Stages whose values are known on their whole domains.
 
-ghost use Rattle.std.specs.Prelude.{◌≡◌, ◌<◌, length, Some, slice_set};
+ghost use Rattle.std.specs.Prelude.{◌≡◌, ◌≢◌, ◌<◌, length, Some, None, IfSome, IfNone, slice_get, slice_set};
 ghost use Rattle.domains.specs.Area.{point_count};
 
 use domains::Area;
@@ -48,7 +48,11 @@ impl Known {
     }
 
     /// Takes the values of a stage out, if they are known.
-    pub fn take(&mut self, stage: usize) -> Option<Whole> {
+    pub fn take(&mut self, stage: usize) -> Option<Whole>
+        ensures some { IfSome result (λ whole. slice_get self.old.wholes.items stage ≡ Some (Some whole)) }
+        ensures none { IfNone result ((whole : Whole) → slice_get self.old.wholes.items stage ≢ Some (Some whole)) }
+        ensures rest { self.new.wholes.items ≡ slice_set self.old.wholes.items stage None }
+    {
         self.wholes.get_mut(stage)?.take()
     }
 }

@@ -1,15 +1,18 @@
 -- Tiles that are lent, and rows of points that cross their borders.
 use Rattle.std.proofs.Common.{arith, ℕ, zero, suc, ℤ, pos, ◌≡◌, ◌+◌, ◌-◌, ◌<◌, ◌≤◌, ◌+ℤ◌, ◌≤ℤ◌, ◌⊎◌, inl, inr, ap, ◌∙◌, sym, subst, List, ◌++◌, take, drop, length, Option, Some, None, Bor}
 use Rattle.std.specs.Prelude.{IfSome, IfNone}
+use Rattle.std.proofs.Math.IntN.{+ℤ_idr}
 use Rattle.std.proofs.lemmas.Int.{ints, clamps}
 use Rattle.std.proofs.lemmas.Bool.{cases_lt}
 use Rattle.std.proofs.lemmas.Grind.{common_steps}
 use Rattle.domains.specs.Area.{HoldsPoint}
 use borrow.Rule.Slice.PartMut.{put_mid}
+use Rattle.domains.specs.Index.{Scale, IsIndex, index_at}
 use Rattle.domains.specs.Span.{Ends, Holds}
 use Rattle.domains.specs.Tiles.{IsTileOf, part_of, tile_area, tile_at}
 use Rattle.domains.specs.declared.area.Area.{Area}
 use Rattle.domains.specs.declared.grid.Grid.{Grid}
+use Rattle.domains.proofs.Indices.{index_rises}
 use Rattle.domains.proofs.PartsOfSpans.{place_only}
 use Rattle.tile_eval.specs.declared.blocks.Block.{Block}
 use Rattle.tile_eval.specs.Rows.{EachPlace, at}
@@ -99,6 +102,45 @@ part_number lent g grid r c r' c' block n k out new rest about row col le len l 
     ∙ numbers k within
     ∙ (λ i. at block.values.now (place_of block.area (row i) (col i +ℤ pos k)))
     ∙ number_is lent g grid r (c +ℤ pos k) block (about_more lent g grid r c block about (c +ℤ pos k) (held k within))
+
+-- ---- columns that an index takes, from the first on
+
+-- an index never falls: where it takes two columns into a span, it takes those between there too
+between_held : (s : Ends) (x : Scale) (c : ℤ) (j k : ℕ) → IsIndex x → Holds s (index_at x c) → Holds s (index_at x (c +ℤ pos j)) → k ≤ j → Holds s (index_at x (c +ℤ pos k))
+between_held s x c j k is first last le =
+    let low : s.lo ≤ℤ index_at x c = first.0 in
+    let high : index_at x (c +ℤ pos j) ≤ℤ s.hi = last.1 in
+    let from : index_at x c ≤ℤ index_at x (c +ℤ pos k) = index_rises x c (c +ℤ pos k) is (omega (arith, ints)) in
+    let to : index_at x (c +ℤ pos k) ≤ℤ index_at x (c +ℤ pos j) = index_rises x (c +ℤ pos k) (c +ℤ pos j) is (omega (arith, ints)) in
+    (omega (arith, ints), omega (arith, ints))
+
+-- into a span, from one column to each further one
+pub first_held : (s : Ends) (x : Scale) (c : ℤ) → Holds s (index_at x c) → EachPlace 1 (λ k. Holds s (index_at x (c +ℤ pos k)))
+first_held s x c first zero l = subst (λ (z : ℤ). Holds s (index_at x z)) (sym (+ℤ_idr c)) first
+first_held s x c first (suc k) l = absurd (omega arith)
+
+pub more_held : (s : Ends) (x : Scale) (c : ℤ) (j : ℕ) → IsIndex x → Holds s (index_at x c) → Holds s (index_at x (c +ℤ pos j)) → EachPlace (j + 1) (λ k. Holds s (index_at x (c +ℤ pos k)))
+more_held s x c j is first last k l = between_held s x c j k is first last (omega arith)
+
+-- a part ends no further than the row
+pub part_most : (c m : ℤ) (n : ℕ) (out : List ℤ) → n ≤ length out → (c +ℤ pos (length out)) ≤ℤ m → (c +ℤ pos (length (take n out))) ≤ℤ m
+part_most c m n out le most = omega (arith, ints, take_len n out le)
+
+-- within the area of a block
+pub picked_held : (a : Area) (cols : Ends) (r c : ℤ) (f : ℕ → ℤ) (n : ℕ) (out : List ℤ) → HoldsPoint a r c → cols ≡ a.cols → n ≤ length out → EachPlace n (λ k. Holds cols (f k)) → EachPlace (length (take n out)) (λ k. HoldsPoint a r (f k))
+picked_held a cols r c f n out h same le each k l = (h.0, subst (λ (s : Ends). Holds s (f k)) same (each k (subst (λ (m : ℕ). k < m) (take_len n out le) l)))
+
+-- the numbers there
+pub picked_number : (lent : Lending) (g : ℕ) (grid : Grid) (r c r' : ℤ) (block : Block) (f : ℕ → ℤ) (n k : ℕ) (out new rest : List ℤ) → IsTileAbout lent g grid r c block → r' ≡ r → n ≤ length out → length new ≡ length (take n out) → k < n
+    → EachPlace (length (take n out)) (λ j. HoldsPoint block.area r (f j))
+    → EachPlace (length (take n out)) (λ j. at new j ≡ at block.values.now (place_of block.area r' (f j)))
+    → at (new ++ rest) k ≡ number_at lent g grid r (f k)
+picked_number lent g grid r c r' block f n k out new rest about row le len l held numbers =
+    let within : k < length (take n out) = subst (λ (m : ℕ). k < m) (sym (take_len n out le)) l in
+    in_front k new rest (subst (λ (m : ℕ). k < m) (sym len) within)
+    ∙ numbers k within
+    ∙ ap (λ (z : ℤ). at block.values.now (place_of block.area z (f k))) row
+    ∙ number_is lent g grid r (f k) block (about_more lent g grid r c block about (f k) (held k within))
 
 -- a slice of the block in which a row begins
 pub slice_numbers : (lent : Lending) (g : ℕ) (grid : Grid) (r c r' c' : ℤ) (block : Block) (n : ℕ) (o : Option (Bor (List ℤ))) → IsTileAbout lent g grid r c block → r' ≡ r → c' ≡ c

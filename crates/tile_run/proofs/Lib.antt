@@ -8,6 +8,7 @@ pub mod Running
 pub mod Planned
 pub mod Storing
 pub mod Closing
+pub mod Truths
 pub mod Making
 pub mod Finding
 pub mod Fitting

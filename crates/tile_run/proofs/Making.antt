@@ -14,13 +14,13 @@ use Rattle.job.proofs.Solving.{ranked_is}
 use Rattle.job.proofs.Unrolling.{rank_is}
 use Rattle.grouping.specs.Order.{greatest_rank}
 use Rattle.grouping.specs.Schedules.{is_inlined, is_function, is_function_body}
-use Rattle.grouping.specs.Targets.{Target, IsTarget, is_boxed}
+use Rattle.grouping.specs.Targets.{Target, is_boxed}
 use Rattle.grouping.proofs.Rule.{rank_below}
 use Rattle.overlap_tiles.specs.Needs.{IsNeeded}
 use Rattle.overlap_tiles.specs.Plans.{Layout, IsTileLayout, target_over}
 use Rattle.overlap_tiles.proofs.Lower.{box_low}
 use Rattle.overlap_tiles.proofs.Needing.{from_needs}
-use Rattle.overlap_tiles.proofs.Tiling.{has_grid, tile_is_target}
+use Rattle.overlap_tiles.proofs.Tiling.{has_grid}
 use Rattle.tile_eval.specs.Whole.{raster}
 use Rattle.tile_eval.proofs.Rasters.{raster_len}
 use Rattle.tile_run.specs.Lent.{AreWhole}
@@ -28,7 +28,7 @@ use Rattle.tile_run.specs.Runs.{AreLent, AreLocalOn, IsFunctionLayout}
 use Rattle.tile_run.specs.Running.{tile_values, AreStored, IsReady}
 use Rattle.tile_run.specs.Stored.{stored_tiles, IsStoredFunction, LendsAllTiles}
 use Rattle.tile_run.specs.declared.stored.Tiles.{Tiles}
-use Rattle.tile_run.proofs.Closing.{values_over}
+use Rattle.tile_run.proofs.Truths.{layout_true}
 
 module _ (job : Pipeline) (flags : List Bool) (stages : List Tiles) (g : ℕ) (grid : Grid) (ready : IsReady job flags stages g grid) where
   -- what is stored has as many numbers as points
@@ -44,9 +44,6 @@ module _ (job : Pipeline) (flags : List Bool) (stages : List Tiles) (g : ℕ) (g
 
     abbrev of_tile : Target
     of_tile = target_over job flags g is.area
-
-    target : IsTarget of_tile
-    target = tile_is_target job flags g i j is.area ready.is_job is.tile
 
     -- each tile that it needs is stored
     lends : (n : Tile) → IsNeeded of_tile n → (xs : List ℤ) × (stored_tiles stages n.stage n.row n.col ≡ Some xs)
@@ -74,8 +71,7 @@ module _ (job : Pipeline) (flags : List Bool) (stages : List Tiles) (g : ℕ) (g
     -- its local values are its values
     pub values_are : (xs : List ℤ) → AreLocalOn job flags (stored_tiles stages) g i j xs → xs ≡ tile_values job g grid i j
     values_are xs local =
-        local is.area is.tile
-        ∙ values_over of_tile ready.is_job target (stored_tiles stages) lends ready.lower.right
+        layout_true job flags (stored_tiles stages) l g i j is ready.is_job all_lent ready.lower.right xs local is.area is.tile
         ∙ ap (λ (a : Area). raster a (value job g)) same_area
 
 -- ---- all of a job

@@ -93,7 +93,7 @@ module _ (job : Pipeline) (flags : List Bool) (lent : Lending) (l : Layout) (g i
   layout_area good = (target good).area
 
   -- the areas of one tile are the same
-  only_area : (area : Area) → IsTileAt job g i j area → is.area ≡ area
+  pub only_area : (area : Area) → IsTileAt job g i j area → is.area ≡ area
   only_area area at =
       let grid : is.tile.grid ≡ at.grid = ap (λ (o : Option Grid). unwrap_or o at.grid) (sym is.tile.there ∙ at.there) in
       is.tile.is ∙ ap (λ (d : Grid). tile_area d i j) grid ∙ sym at.is

@@ -5,6 +5,7 @@ use Rattle.domains.specs.declared.area.Area.{Area}
 use Rattle.job.specs.declared.identity.Key.{Key}
 use Rattle.job.specs.Answers.{Tile}
 use Rattle.job.specs.Pipeline.{Pipeline}
+use Rattle.job.specs.Values.{value}
 use Rattle.grouping.specs.Schedules.{is_function}
 use Rattle.overlap_tiles.specs.Plans.{Plan, Layout, IsTileAt, IsTilePlan, IsTileLayout}
 use Rattle.tile_eval.specs.Whole.{raster}
@@ -25,6 +26,10 @@ first_missing lent needs = find (is_missing lent) needs
 -- the numbers are the local values of stage g on its tile in row i and column j, row by row
 abbrev pub AreLocalOn : Pipeline → List Bool → Lending → ℕ → ℕ → ℕ → List ℤ → Type 0
 AreLocalOn job flags lent g i j numbers = (area : Area) → IsTileAt job g i j area → numbers ≡ raster area (local_value job flags lent g)
+
+-- the numbers are the values of the stage there
+abbrev pub AreValuesOn : Pipeline → ℕ → ℕ → ℕ → List ℤ → Type 0
+AreValuesOn job g i j numbers = (area : Area) → IsTileAt job g i j area → numbers ≡ raster area (value job g)
 
 -- the plan is that of a tile of a function
 pub record IsFunctionPlan (program : List ℕ) (job : Pipeline) (flags : List Bool) (p : Plan) : Type 0 where

@@ -10,12 +10,12 @@ ghost use Rattle.tile_run.specs.Local.{HaveAreas, PlanesLie, IsAtHand, read_from
 use crate::buffers::Scratch;
 use crate::lender::Lender;
 use crate::lent::Lent;
-use crate::samples::{plane_line, plane_point};
-use domains::{Area, Grid};
+use crate::samples::{plane_line, plane_pick, plane_point};
+use domains::{Area, Grid, Index};
 use grouping::Schedule;
 use job::{Body, Function, Job, Stage};
 use std::alloc::{AllocError, Global};
-use tile_eval::{Known, Source, Whole, area_into};
+use tile_eval::{Known, Source, Start, Whole, area_into};
 
 /// The planes of a job, tiles that are lent of functions that are stored, and boxes of functions that are inlined.
 #[derive(Drop)]
@@ -141,6 +141,20 @@ impl<K: Lender> Source for AtHand<'_, K> {
             }
             Body::Function(_) => self.lent(stage, found).lend(row, first, count),
             _ => None,
+        }
+    }
+
+    fn pick(&self, stage: usize, row: i32, col: &Index, start: &Start, out: &mut [i32]) {
+        let Some(found) = self.job.stage(stage) else {
+            return;
+        };
+        match found.body() {
+            Body::Plane(plane) => plane_pick(self.job.picture(), *plane, row, col, start, out),
+            Body::Function(_) if self.schedule.inlined(stage) => {
+                self.boxes.pick(stage, row, col, start, out);
+            }
+            Body::Function(_) => self.lent(stage, found).pick(row, col, start, out),
+            Body::Accumulator(_) => {}
         }
     }
 

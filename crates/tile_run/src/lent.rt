@@ -3,6 +3,7 @@
 
 ghost use Rattle.std.specs.Prelude.{◌≡◌, ◌≤◌, ◌<◌, ◌+ℤ◌, ◌≤ℤ◌, pos, length, IfSome, IfNone};
 ghost use Rattle.domains.specs.Area.{HoldsPoint, IsArea};
+ghost use Rattle.domains.specs.Index.{index_at};
 ghost use Rattle.domains.specs.Span.{Holds};
 ghost use Rattle.tile_eval.specs.Rows.{EachPlace, at};
 ghost use Rattle.tile_eval.specs.Whole.{place_of};
@@ -10,8 +11,8 @@ ghost use Rattle.tile_run.specs.Lent.{number_at, HasWholeTiles};
 ghost use Rattle.tile_run.specs.Tiles.{IsLentAt, IsTileAbout};
 
 use crate::lender::Lender;
-use domains::{Grid, Span};
-use tile_eval::Block;
+use domains::{Grid, Index, Span};
+use tile_eval::{Block, Start};
 
 /// The tiles of one stage that are lent.
 #[derive(Drop)]
@@ -44,6 +45,29 @@ fn reach(span: &Span, first: i32, most: usize) -> usize
     ensures within { (first +ℤ pos result) ≤ℤ (span.now.hi +ℤ pos 1) }
 {
     most.min((span.hi() - first) as usize + 1)
+}
+
+// How many columns, from the first on, an index takes into a span, but at most so many. An index never falls: it takes the columns
+// between two that it takes into the span there too, so the last is found by halving.
+fn taken(span: &Span, col: &Index, start: &Start, most: usize) -> usize
+    requires held { Holds span.now (index_at col.now start.now.col) }
+    requires some { 0 < most }
+    requires most { (start.now.col +ℤ pos most) ≤ℤ pos 16385 }
+    ensures some { 0 < result }
+    ensures most { result ≤ most }
+    ensures within { EachPlace result (λ k. Holds span.now (index_at col.now (start.now.col +ℤ pos k))) }
+{
+    let mut held = 1;
+    let mut end = most;
+    while held < end {
+        let middle = held + (end - held) / 2;
+        if span.holds(col.at(start.column(middle))) {
+            held = middle + 1;
+        } else {
+            end = middle;
+        }
+    }
+    held
 }
 
 // So many numbers of a block along a row, from a column on, if its columns go so far.
@@ -99,6 +123,38 @@ impl<'a, K: Lender> Lent<'a, K> {
         let mut done = 0;
         while done < out.len() {
             done += self.part(row, behind(first, done), &mut out[done..]);
+        }
+    }
+
+    // Writes the numbers along a row, at the columns that an index takes, as far as the tile of the first of them goes, and tells
+    // how many these are.
+    fn pick_part(&self, row: i32, col: &Index, start: &Start, out: &mut [i32]) -> usize
+        requires some { 0 < length out.old }
+        requires most { (start.now.col +ℤ pos (length out.old)) ≤ℤ pos 16385 }
+        requires there { EachPlace (length out.old) (λ k. IsLentAt (K.lent self.now.lender.now) self.now.stage self.now.grid row (index_at col.now (start.now.col +ℤ pos k))) }
+        ensures some { 0 < result }
+        ensures most { result ≤ length out.old }
+        ensures numbers { EachPlace result (λ k. at out.new k ≡ number_at (K.lent self.now.lender.now) self.now.stage self.now.grid row (index_at col.now (start.now.col +ℤ pos k))) }
+    {
+        match self.block(row, start.col_at(col)) {
+            Some(block) => {
+                let count = taken(block.columns(), col, start, out.len());
+                block.pick(row, col, start, &mut out[..count]);
+                count
+            }
+            None => out.len(),
+        }
+    }
+
+    /// Writes the numbers along a row, at the columns that an index takes at columns from a start on.
+    pub(crate) fn pick(&self, row: i32, col: &Index, start: &Start, out: &mut [i32])
+        requires most { (start.now.col +ℤ pos (length out.old)) ≤ℤ pos 16385 }
+        requires there { EachPlace (length out.old) (λ k. IsLentAt (K.lent self.now.lender.now) self.now.stage self.now.grid row (index_at col.now (start.now.col +ℤ pos k))) }
+        ensures { EachPlace (length out.old) (λ k. at out.new k ≡ number_at (K.lent self.now.lender.now) self.now.stage self.now.grid row (index_at col.now (start.now.col +ℤ pos k))) }
+    {
+        let mut done = 0;
+        while done < out.len() {
+            done += self.pick_part(row, col, &start.behind(done), &mut out[done..]);
         }
     }
 

@@ -23,6 +23,7 @@ use std::alloc::{AllocError, Global};
 pub enum Work {
     /// Functions that are not inlined.
     Functions,
+    /// All accumulators.
     Accumulators,
 }
 

@@ -10,8 +10,8 @@ ghost use Rattle.job.specs.Views.{piece_view, formula_view};
 ghost use Rattle.job.specs.WellFormed.{IsJob};
 ghost use Rattle.overlap_tiles.specs.Plans.{IsTilePlan, IsTileLayout};
 ghost use Rattle.overlap_tiles.specs.Views.{step_view};
-ghost use Rattle.tile_run.specs.Lent.{AreWhole};
-ghost use Rattle.tile_run.specs.Runs.{is_missing, first_missing, AreLocalOn, AreLent, IsReadyOn, IsFunctionPlan, IsSomePlan, IsFunctionLayout, IsSomeLayout, IsEvalFault};
+ghost use Rattle.tile_run.specs.Lent.{AreTrue, AreWhole};
+ghost use Rattle.tile_run.specs.Runs.{is_missing, first_missing, AreLocalOn, AreValuesOn, AreLent, IsReadyOn, IsFunctionPlan, IsSomePlan, IsFunctionLayout, IsSomeLayout, IsEvalFault};
 ghost use Rattle.tile_run.specs.Steps.{IsFunctionAt, AreLocal};
 
 use crate::buffers::Scratch;
@@ -263,7 +263,8 @@ pub fn prepare<'a, K: Lender>(
     Ok(hand)
 }
 
-/// The local values of a tile of a function, row by row, by its plan and from what is lent, whatever that is.
+/// The local values of a tile of a function, row by row, by its plan and from what is lent, whatever that is. Where all that is
+/// lent is true, they are the values of the job.
 ///
 /// # Errors
 ///
@@ -280,6 +281,7 @@ pub fn run_tile<K: Lender>(
     requires whole { AreWhole (pipeline_in job.now) (K.lent lender.now) }
     requires plan { IsFunctionPlan (program_id_in job.now) (pipeline_in job.now) schedule.now.flags plan.now }
     ensures values { IfOk result (λ values. (g i j : ℕ) → IsTilePlan (program_id_in job.now) (pipeline_in job.now) schedule.now.flags g i j plan.now → AreLocalOn (pipeline_in job.now) schedule.now.flags (K.lent lender.now) g i j values.items) }
+    ensures right { AreTrue (pipeline_in job.now) (K.lent lender.now) → IfOk result (λ values. (g i j : ℕ) → IsTilePlan (program_id_in job.now) (pipeline_in job.now) schedule.now.flags g i j plan.now → AreValuesOn (pipeline_in job.now) g i j values.items) }
     ensures lent { IfOk result (λ values. first_missing (K.lent lender.now) plan.now.needs ≡ None) }
     ensures fault { IfErr result (IsEvalFault (K.lent lender.now) plan.now.needs) }
 {

@@ -3,11 +3,14 @@
 
 ghost use Rattle.std.specs.Prelude.{◌≡◌, ◌≤◌, ◌<◌, ◌+◌, ◌*◌, ◌≤ℤ◌, ◌+ℤ◌, pos, length, slice_index, slice_index_or, unsigned_abs, []};
 ghost use Rattle.domains.specs.Area.{HoldsPoint};
+ghost use Rattle.domains.specs.Index.{index_at};
 ghost use Rattle.job.specs.Values.{sample_at};
 ghost use Rattle.job.specs.WellFormed.{picture_area};
 ghost use Rattle.tile_eval.specs.Rows.{EachPlace, at};
 
+use domains::Index;
 use netpbm::Picture;
+use tile_eval::Start;
 
 // Takes the samples from a place on.
 fn widen(samples: &[u16], place: usize, out: &mut [i32])
@@ -17,6 +20,24 @@ fn widen(samples: &[u16], place: usize, out: &mut [i32])
     for k in 0..out.len() {
         out[k] = i32::from(samples[place + k]);
     }
+}
+
+// Takes the samples from a place on, at steps of one length.
+fn widen_every(samples: &[u16], place: usize, step: usize, out: &mut [i32])
+    requires { EachPlace (length out.old) (λ k. place + k * step < length samples.now) }
+    ensures { EachPlace (length out.old) (λ k. at out.new k ≡ pos (slice_index samples.now (place + k * step))) }
+{
+    for k in 0..out.len() {
+        out[k] = i32::from(samples[place + k * step]);
+    }
+}
+
+// What a column is multiplied by.
+#[tactic(auto, using(std::proofs::lemmas::Int::ints))]
+fn step_of(col: &Index) -> usize
+    ensures { col.now.mul ≡ pos result }
+{
+    col.mul() as usize
 }
 
 // The place of a sample among those of a plane.
@@ -47,6 +68,65 @@ pub(crate) fn plane_line(picture: &Picture, plane: usize, row: i32, first: i32, 
 {
     if !out.is_empty() {
         widen(plane_of(picture, plane), place_in(picture, row, first), out);
+    }
+}
+
+/// The samples of a plane along a row, at the columns that an index takes at columns from a start on.
+pub(crate) fn plane_pick(
+    picture: &Picture,
+    plane: usize,
+    row: i32,
+    col: &Index,
+    start: &Start,
+    out: &mut [i32],
+)
+    requires plane { plane < length picture.now.planes }
+    requires most { (start.now.col +ℤ pos (length out.old)) ≤ℤ pos 16385 }
+    requires there { EachPlace (length out.old) (λ k. HoldsPoint (picture_area picture.now) row (index_at col.now (start.now.col +ℤ pos k))) }
+    ensures { EachPlace (length out.old) (λ k. at out.new k ≡ sample_at picture.now plane row (index_at col.now (start.now.col +ℤ pos k))) }
+{
+    if col.div() == 1 && !out.is_empty() {
+        plane_steps(picture, plane, row, col, start, out);
+    } else {
+        plane_points(picture, plane, row, col, start, out);
+    }
+}
+
+// The same of an index that does not divide: the places of its columns lie at steps of one length.
+fn plane_steps(
+    picture: &Picture,
+    plane: usize,
+    row: i32,
+    col: &Index,
+    start: &Start,
+    out: &mut [i32],
+)
+    requires plane { plane < length picture.now.planes }
+    requires div { col.now.div ≡ pos 1 }
+    requires some { 0 < length out.old }
+    requires there { EachPlace (length out.old) (λ k. HoldsPoint (picture_area picture.now) row (index_at col.now (start.now.col +ℤ pos k))) }
+    ensures { EachPlace (length out.old) (λ k. at out.new k ≡ sample_at picture.now plane row (index_at col.now (start.now.col +ℤ pos k))) }
+{
+    let place = place_in(picture, row, start.col_at(col));
+    widen_every(plane_of(picture, plane), place, step_of(col), out);
+}
+
+// The same of any index, each place looked up.
+fn plane_points(
+    picture: &Picture,
+    plane: usize,
+    row: i32,
+    col: &Index,
+    start: &Start,
+    out: &mut [i32],
+)
+    requires plane { plane < length picture.now.planes }
+    requires most { (start.now.col +ℤ pos (length out.old)) ≤ℤ pos 16385 }
+    requires there { EachPlace (length out.old) (λ k. HoldsPoint (picture_area picture.now) row (index_at col.now (start.now.col +ℤ pos k))) }
+    ensures { EachPlace (length out.old) (λ k. at out.new k ≡ sample_at picture.now plane row (index_at col.now (start.now.col +ℤ pos k))) }
+{
+    for k in 0..out.len() {
+        out[k] = plane_point(picture, plane, row, col.at(start.column(k)));
     }
 }
 

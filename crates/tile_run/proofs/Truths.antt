@@ -1,0 +1,32 @@
+-- Where what is lent is true, so is a tile that is made of it.
+use Rattle.std.proofs.Common.{ℕ, ℤ, ◌≡◌, Bool, List, Some, ap, sym, ◌∙◌, subst}
+use Rattle.std.specs.Prelude.{Contains}
+use Rattle.domains.specs.declared.area.Area.{Area}
+use Rattle.job.specs.Answers.{Tile}
+use Rattle.job.specs.Pipeline.{Pipeline}
+use Rattle.job.specs.Values.{value}
+use Rattle.job.specs.WellFormed.{IsJob}
+use Rattle.grouping.specs.Targets.{Target}
+use Rattle.overlap_tiles.specs.Needs.{IsNeeded}
+use Rattle.overlap_tiles.specs.Plans.{Layout, IsTileLayout, target_over}
+use Rattle.overlap_tiles.proofs.Needing.{to_needs}
+use Rattle.overlap_tiles.proofs.Tiling.{tile_is_target}
+use Rattle.tile_eval.specs.Whole.{raster}
+use Rattle.tile_run.specs.Lent.{Lending, AreTrue}
+use Rattle.tile_run.specs.Runs.{AreLent, AreLocalOn, AreValuesOn}
+use Rattle.tile_run.proofs.Closing.{values_over}
+use Rattle.tile_run.proofs.Planned.{only_area}
+
+module _ (job : Pipeline) (flags : List Bool) (lent : Lending) (l : Layout) (g i j : ℕ) (is : IsTileLayout job flags g i j l) (good : IsJob job) (given : AreLent lent l.needs) where
+  abbrev of_tile : Target
+  of_tile = target_over job flags g is.area
+
+  -- each tile that is needed is lent
+  pub lends : (n : Tile) → IsNeeded of_tile n → (xs : List ℤ) × (lent n.stage n.row n.col ≡ Some xs)
+  lends n needed = given n (subst (λ (ns : List Tile). Contains ns n) (sym is.layout.layout.needs) (to_needs of_tile n good needed))
+
+  pub layout_true : AreTrue job lent → (numbers : List ℤ) → AreLocalOn job flags lent g i j numbers → AreValuesOn job g i j numbers
+  layout_true right numbers local area at =
+      local is.area is.tile
+      ∙ values_over of_tile good (tile_is_target job flags g i j is.area good is.tile) lent lends right
+      ∙ ap (λ (a : Area). raster a (value job g)) (only_area job flags lent l g i j is area at)
