@@ -9,4 +9,5 @@ pub mod Tiling
 pub mod Parting
 pub mod Knowing
 pub mod Totalling
+pub mod Truths
 pub mod Tiles

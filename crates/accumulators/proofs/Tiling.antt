@@ -1,10 +1,9 @@
 -- A tile of an accumulator, from all tiles of the stored functions.
-use Rattle.std.proofs.Common.{ℕ, ℤ, ◌≡◌, ◌≤◌, arith, refl, sym, ap, ◌∙◌, subst, Bool, true, false, not, eqb, Option, Some, None, List, length}
-use Rattle.std.specs.Prelude.{Contains, IsSomeAnd, if◌then◌else◌}
+use Rattle.std.proofs.Common.{ℕ, ℤ, ◌≡◌, ◌≤◌, arith, sym, ap, ◌∙◌, subst, Bool, true, false, not, eqb, Option, Some, None, List, length}
+use Rattle.std.specs.Prelude.{Contains, IsSomeAnd}
 use Rattle.std.specs.Option.{option_map_or}
-use Rattle.std.proofs.lemmas.Bool.{and_parts, not-true, eq-eqb}
+use Rattle.std.proofs.lemmas.Bool.{and_parts, not-true}
 use Rattle.std.proofs.lemmas.Option.{same_Some}
-use Rattle.domains.specs.Area.{HoldsPoint}
 use Rattle.domains.specs.Span.{Ends}
 use Rattle.domains.specs.Tiles.{HasTile, tile_area}
 use Rattle.domains.specs.declared.area.Area.{Area}
@@ -13,31 +12,27 @@ use Rattle.pipe_lang.specs.declared.tree.Fold.{Fold}
 use Rattle.job.specs.Answers.{Tile, grid_of, has_tiles}
 use Rattle.job.specs.Identity.{HasTileAt}
 use Rattle.job.specs.Pipeline.{Pipeline, Stage}
-use Rattle.job.specs.Reads.{BodyReads}
 use Rattle.job.specs.Totals.{totals_over}
 use Rattle.job.specs.Values.{value}
 use Rattle.job.specs.WellFormed.{IsJob}
 use Rattle.grouping.specs.Costs.{scratch, most_scratch}
 use Rattle.grouping.specs.Schedules.{is_inlined, is_function, is_function_body}
-use Rattle.grouping.specs.Targets.{Target, IsTarget, is_boxed, box}
+use Rattle.grouping.specs.Targets.{Target, is_boxed}
 use Rattle.overlap_tiles.specs.Needs.{IsNeeded}
 use Rattle.overlap_tiles.specs.Plans.{Layout, IsTileAt, IsTileFault, IsTileLayout, target_over}
 use Rattle.overlap_tiles.specs.declared.fault.PlanFault.TheVariants.{ScratchTooBig}
 use Rattle.overlap_tiles.proofs.Needing.{from_needs}
-use Rattle.overlap_tiles.proofs.Tiling.{has_grid, tile_is_target}
+use Rattle.overlap_tiles.proofs.Tiling.{has_grid}
 use Rattle.tile_eval.proofs.Rasters.{raster_len}
-use Rattle.tile_run.specs.Local.{IsAtHand}
 use Rattle.tile_run.specs.Lent.{Lending, AreTrue, AreWhole}
 use Rattle.tile_run.specs.Runs.{AreLent}
 use Rattle.tile_run.specs.Stored.{IsStoredFunction, LendsAllTiles}
 use Rattle.tile_run.specs.Work.{first_too_big, is_accumulator_at}
-use Rattle.tile_run.proofs.Closing.{IsInTarget, closed}
-use Rattle.tile_run.proofs.Computing.{same_stage}
 use Rattle.tile_run.proofs.Fitting.{none_too_big}
 use Rattle.accumulators.specs.Making.{IsGathered}
 use Rattle.accumulators.specs.Partials.{AreLocalTotals}
 use Rattle.accumulators.proofs.Tallying.{grid_there, is_wanted}
-use Rattle.accumulators.proofs.Totalling.{true_totals}
+use Rattle.accumulators.proofs.Truths.{layout_totals_true}
 
 -- true tiles have as many numbers as points
 pub whole : (job : Pipeline) (lent : Lending) → AreTrue job lent → AreWhole job lent
@@ -67,9 +62,6 @@ module _ (job : Pipeline) (g : ℕ) (way : Fold) (bins : Ends) (grid : Grid) (is
     abbrev of_tile : Target
     of_tile = target_over job flags g layout.area
 
-    target : IsTarget of_tile
-    target = tile_is_target job flags g i j layout.area good layout.tile
-
     lends : (n : Tile) → IsNeeded of_tile n → (xs : List ℤ) × (lent n.stage n.row n.col ≡ Some xs)
     lends n needed =
         let at = has_grid job n.stage needed.grid needed.there in
@@ -86,24 +78,8 @@ module _ (job : Pipeline) (g : ℕ) (way : Fold) (bins : Ends) (grid : Grid) (is
     pub all_lent : AreLent lent l.needs
     all_lent n k = lends n (from_needs of_tile n good (subst (λ (ns : List Tile). Contains ns n) layout.layout.layout.needs k))
 
-    in_target : (r c : ℤ) → HoldsPoint layout.area r c → IsInTarget of_tile g r c
-    in_target r c holds = record {
-      stage = is.stage;
-      there = is.there;
-      area = layout.area;
-      is = λ i. if eq-eqb g g refl i then Some layout.area else (if is_inlined flags g then box of_tile g else None);
-      holds = holds;
-    }
-
-    reads : (r c : ℤ) → HoldsPoint layout.area r c → BodyReads (IsAtHand job flags lent (IsInTarget of_tile)) is.stage.body r c
-    reads r c holds =
-        let p = closed of_tile good target lent lends g r c (in_target r c holds) in
-        subst (λ (s : Stage). BodyReads (IsAtHand job flags lent (IsInTarget of_tile)) s.body r c) (same_stage job.stages g p.stage is.stage p.there is.there) p.reads
-
     -- and what is gathered from true tiles is what the job gathers
     pub totals_are : AreTrue job lent → (xs : List ℤ) → AreLocalTotals job flags lent g i j xs → xs ≡ totals_over job (tile_area grid i j) g
     totals_are right xs local =
-        local layout.area layout.tile
-        ∙ true_totals job flags lent (IsInTarget of_tile) g is.stage layout.area good is.there target.area right (closed of_tile good target lent lends)
-        reads
+        layout_totals_true job flags lent l g i j layout good all_lent right xs local layout.area layout.tile
         ∙ ap (λ (a : Area). totals_over job a g) (same_area layout.area layout.tile)

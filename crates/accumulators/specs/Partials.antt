@@ -23,6 +23,10 @@ local_totals job flags lent area g = option_map_or (λ s. body_totals (read_from
 abbrev pub AreLocalTotals : Pipeline → List Bool → Lending → ℕ → ℕ → ℕ → List ℤ → Type 0
 AreLocalTotals job flags lent g i j bins = (area : Area) → IsTileAt job g i j area → bins ≡ local_totals job flags lent area g
 
+-- the numbers are the totals of the job there
+abbrev pub AreTotalsOn : Pipeline → ℕ → ℕ → ℕ → List ℤ → Type 0
+AreTotalsOn job g i j bins = (area : Area) → IsTileAt job g i j area → bins ≡ totals_over job area g
+
 -- the plan is that of a tile of an accumulator
 pub record IsAccumulatorPlan (program : List ℕ) (job : Pipeline) (flags : List Bool) (p : Plan) : Type 0 where
   pub stage : ℕ

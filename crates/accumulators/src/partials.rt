@@ -6,11 +6,11 @@ ghost use Rattle.domains.specs.Area.{IsArea};
 ghost use Rattle.job.specs.Kept.{pipeline_in, program_id_in};
 ghost use Rattle.job.specs.WellFormed.{IsJob};
 ghost use Rattle.overlap_tiles.specs.Plans.{IsTilePlan, IsTileLayout};
-ghost use Rattle.tile_run.specs.Lent.{AreWhole};
+ghost use Rattle.tile_run.specs.Lent.{AreTrue, AreWhole};
 ghost use Rattle.tile_run.specs.Runs.{first_missing, AreLent, IsSomeLayout, IsEvalFault};
 ghost use Rattle.tile_run.specs.Steps.{AreLocal, IsReadyOver};
 ghost use Rattle.accumulators.specs.Layouts.{IsReadyLayout};
-ghost use Rattle.accumulators.specs.Partials.{local_totals, AreLocalTotals, IsAccumulatorPlan};
+ghost use Rattle.accumulators.specs.Partials.{local_totals, AreLocalTotals, AreTotalsOn, IsAccumulatorPlan};
 
 use crate::gather::gather;
 use grouping::Schedule;
@@ -86,7 +86,8 @@ pub(crate) fn layout_totals<K: Lender>(
     Ok(bins)
 }
 
-/// What an accumulator gathers in its bins over a tile, rising, by the tile's plan and from what is lent, whatever that is.
+/// What an accumulator gathers in its bins over a tile, rising, by the tile's plan and from what is lent, whatever that is. Where
+/// all that is lent is true, it is what the job gathers there.
 ///
 /// # Errors
 ///
@@ -103,6 +104,7 @@ pub fn partial<K: Lender>(
     requires whole { AreWhole (pipeline_in job.now) (K.lent lender.now) }
     requires plan { IsAccumulatorPlan (program_id_in job.now) (pipeline_in job.now) schedule.now.flags plan.now }
     ensures totals { IfOk result (λ bins. (g i j : ℕ) → IsTilePlan (program_id_in job.now) (pipeline_in job.now) schedule.now.flags g i j plan.now → AreLocalTotals (pipeline_in job.now) schedule.now.flags (K.lent lender.now) g i j bins.items) }
+    ensures right { AreTrue (pipeline_in job.now) (K.lent lender.now) → IfOk result (λ bins. (g i j : ℕ) → IsTilePlan (program_id_in job.now) (pipeline_in job.now) schedule.now.flags g i j plan.now → AreTotalsOn (pipeline_in job.now) g i j bins.items) }
     ensures lent { IfOk result (λ bins. first_missing (K.lent lender.now) plan.now.needs ≡ None) }
     ensures fault { IfErr result (IsEvalFault (K.lent lender.now) plan.now.needs) }
 {

@@ -1,12 +1,15 @@
-use Rattle.std.proofs.Common.{ℕ, sym}
+use Rattle.std.proofs.Common.{ℕ, sym, subst}
 use Rattle.grouping.specs.Inlining.{Inlining}
 use Rattle.job.specs.declared.job.Job.{Job}
 use Rattle.job.specs.Kept.{pipeline_in, program_id_in}
-use Rattle.overlap_tiles.specs.Plans.{IsTileLayout}
+use Rattle.overlap_tiles.specs.Plans.{Layout, IsTileLayout}
+use Rattle.tile_run.specs.Runs.{AreLent}
 use Rattle.tile_run.specs.Steps.{AreLocal}
+use Rattle.tile_run.proofs.Planned.{keys_lent}
 use Rattle.tile_run.proofs.Running.{carry}
 use Rattle.accumulators.specs.Layouts.{IsReadyLayout}
 use Rattle.accumulators.specs.Partials.{AreLocalTotals}
+use Rattle.accumulators.proofs.Truths.{layout_totals_true}
 use Rattle.accumulators.proofs.partials.partial.Goals as goal
 
 pub prepare-requires-clause-plan : goal.prepare-requires-clause-plan
@@ -31,3 +34,12 @@ returns-clause-totals g c = λ k i t is.
     let job = pipeline_in c.args.job.now in
     carry (λ (j : Job) (s : Inlining) l. (n a b : ℕ) → IsTileLayout job s.flags n a b c.layout.result.now → AreLocalTotals job s.flags (g.K.Lender.lent l) n a b c.in_ok-bins.bins.items) (sym next.job) (sym next.schedule) (sym next.lender) c.in_ok-bins.ensures
     k i t (c.layout.ensures.tile (program_id_in c.args.job.now) job c.args.schedule.now.flags k i t is)
+
+pub returns-clause-right : goal.returns-clause-right
+returns-clause-right g c = λ right k i t is.
+    let job = pipeline_in c.args.job.now in
+    let flags = c.args.schedule.now.flags in
+    let lent = g.K.Lender.lent c.args.lender.now in
+    let layout = c.layout.ensures.tile (program_id_in c.args.job.now) job flags k i t is in
+    let given = subst (λ (l : Layout). AreLent lent l.needs) (sym c.layout.ensures.same) (keys_lent lent c.args.plan.now.needs c.in_ok-hand.ensures.lent) in
+    layout_totals_true job flags lent c.layout.result.now k i t layout c.requires.job given right c.in_ok-bins.bins.items (returns-clause-totals g c k i t is)

@@ -1,0 +1,50 @@
+-- What is gathered over a tile from true tiles is what the job gathers there.
+use Rattle.std.proofs.Common.{ℕ, ℤ, refl, ap, ◌∙◌, subst, Bool, Some, None, List}
+use Rattle.std.specs.Prelude.{if◌then◌else◌}
+use Rattle.std.proofs.lemmas.Bool.{eq-eqb}
+use Rattle.domains.specs.Area.{HoldsPoint}
+use Rattle.domains.specs.declared.area.Area.{Area}
+use Rattle.job.specs.Pipeline.{Pipeline, Stage}
+use Rattle.job.specs.Reads.{BodyReads}
+use Rattle.job.specs.Totals.{totals_over}
+use Rattle.job.specs.WellFormed.{IsJob}
+use Rattle.grouping.specs.Schedules.{is_inlined}
+use Rattle.grouping.specs.Targets.{Target, IsTarget, box}
+use Rattle.overlap_tiles.specs.Plans.{Layout, IsTileLayout, target_over}
+use Rattle.overlap_tiles.proofs.Tiling.{tile_is_target}
+use Rattle.tile_run.specs.Lent.{Lending, AreTrue}
+use Rattle.tile_run.specs.Local.{IsAtHand}
+use Rattle.tile_run.specs.Runs.{AreLent}
+use Rattle.tile_run.proofs.Closing.{IsInTarget, closed}
+use Rattle.tile_run.proofs.Computing.{same_stage}
+use Rattle.tile_run.proofs.Planned.{only_area}
+use Rattle.tile_run.proofs.Truths.{lends}
+use Rattle.accumulators.specs.Partials.{AreLocalTotals, AreTotalsOn}
+use Rattle.accumulators.proofs.Totalling.{true_totals}
+
+module _ (job : Pipeline) (flags : List Bool) (lent : Lending) (l : Layout) (g i j : ℕ) (is : IsTileLayout job flags g i j l) (good : IsJob job) (given : AreLent lent l.needs) where
+  abbrev of_tile : Target
+  of_tile = target_over job flags g is.area
+
+  target : IsTarget of_tile
+  target = tile_is_target job flags g i j is.area good is.tile
+
+  in_target : (r c : ℤ) → HoldsPoint is.area r c → IsInTarget of_tile g r c
+  in_target r c holds = record {
+    stage = target.owner;
+    there = target.there;
+    area = is.area;
+    is = λ k. if eq-eqb g g refl k then Some is.area else (if is_inlined flags g then box of_tile g else None);
+    holds = holds;
+  }
+
+  reads : (r c : ℤ) → HoldsPoint is.area r c → BodyReads (IsAtHand job flags lent (IsInTarget of_tile)) target.owner.body r c
+  reads r c holds =
+      let p = closed of_tile good target lent (lends job flags lent l g i j is good given) g r c (in_target r c holds) in
+      subst (λ (s : Stage). BodyReads (IsAtHand job flags lent (IsInTarget of_tile)) s.body r c) (same_stage job.stages g p.stage target.owner p.there target.there) p.reads
+
+  pub layout_totals_true : AreTrue job lent → (bins : List ℤ) → AreLocalTotals job flags lent g i j bins → AreTotalsOn job g i j bins
+  layout_totals_true right bins local area at =
+      local is.area is.tile
+      ∙ true_totals job flags lent (IsInTarget of_tile) g target.owner is.area good target.there target.area right (closed of_tile good target lent (lends job flags lent l g i j is good given)) reads
+      ∙ ap (λ (a : Area). totals_over job a g) (only_area job flags lent l g i j is area at)
