@@ -13,6 +13,8 @@ mod identities;
 #[cfg(test)]
 mod jobs;
 #[cfg(test)]
+mod lent;
+#[cfg(test)]
 mod pictures;
 #[cfg(test)]
 mod plans;

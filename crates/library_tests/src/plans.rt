@@ -19,7 +19,7 @@ const COPY: &str =
     "param R; param C; image I(R,C); func f(x in [0..R-1], y in [0..C-1]) { else : I(x,y); } output f max 255;";
 
 /// Two stencils of three by three in a chain.
-const CHAIN: &str = "image I(6,6);
+pub(crate) const CHAIN: &str = "image I(6,6);
 func a(x in [1..4], y in [1..4]) { else : stencil(I, 1, [[1,1,1],[1,1,1],[1,1,1]]); }
 func b(x in [2..3], y in [2..3]) { else : stencil(a, 1, [[1,1,1],[1,1,1],[1,1,1]]); }
 output b max 65535;";
@@ -33,7 +33,7 @@ func d(x in [0..1], y in [0..1]) { else : c(x,y); }
 output d max 255;";
 
 /// A function whose tile reads four tiles of another, and an accumulator that reads both.
-const CORNERS: &str = "image I(4,4);
+pub(crate) const CORNERS: &str = "image I(4,4);
 func a(x in [0..3], y in [0..3]) { else : I(x,y); }
 func b(x in [0..1], y in [0..1]) { else : a(x+1,y+1); }
 accum h [0..9] over (x in [0..1], y in [0..1]) sum b(x,y) at a(x,y);
@@ -51,7 +51,7 @@ func a(x in [0..8192], y in [0..8192]) { else : 1; }
 func b(x in [0..1023], y in [0..1023]) { else : a(8*x,8*y) + a(8*x+8,8*y+8); }
 output b max 255;";
 
-const POINTS_OF_SIXTEEN: &[u8] = b"P2 4 4 9 0 0 0 0 0 0 0 0 0 0 0 0 0 0 0 0";
+pub(crate) const POINTS_OF_SIXTEEN: &[u8] = b"P2 4 4 9 0 0 0 0 0 0 0 0 0 0 0 0 0 0 0 0";
 
 /// The job of a text, which has few stages.
 pub(crate) fn bound(alloc: Global, text: &str, file: &[u8], sides: (u32, u32)) -> Result<Job, Fail>

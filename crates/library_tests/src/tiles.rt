@@ -14,7 +14,7 @@ use tile_eval::plain;
 use tile_run::{Lender, RunFault, Stored, run_all};
 
 /// Stencils, cases, halves and doubles, one function after the other.
-const PIPELINE: &str = "image I(7,9);
+pub(crate) const PIPELINE: &str = "image I(7,9);
 func a(x in [1..5], y in [1..7]) { else : stencil(I, 9, [[1,2,1],[2,4,2],[1,2,1]]); }
 func b(x in [1..5], y in [1..7]) {
   case x >= 2 and x <= 4 and y % 2 == 0 : a(x-1, y) - a(x+1, y);
@@ -26,7 +26,7 @@ func d(x in [0..5], y in [0..7]) { else : c(x/2, y/2) + clamp(I(x, y), 10, 200);
 output d max 255;";
 
 /// Seven rows of nine samples.
-const SAMPLES: &[u8] =
+pub(crate) const SAMPLES: &[u8] =
     b"P2 9 7 255 165 77 202 24 37 48 187 29 109 19 44 222 214 35 123 46 217 30 63 114 31 203 25 113 23 68 148 214 73 60 157 92 52 96 190 49 32 30 105 254 218 160 238 232 185 153 127 92 124 41 153 253 175 229 147 37 60 214 84 175 77 250 215";
 
 /// The sides of tiles.

@@ -10,10 +10,10 @@ use std::test::Fail;
 use tile_run::run_all;
 
 /// How many samples leave each remainder by 4.
-const REMAINDERS: &str =
+pub(crate) const REMAINDERS: &str =
     "image I(3,3); accum h [0..3] over (x in [0..2], y in [0..2]) sum 1 at I(x, y) % 4;";
 
-const ONE_TO_NINE: &[u8] = b"P2 3 3 255 1 2 3 4 5 6 7 8 9";
+pub(crate) const ONE_TO_NINE: &[u8] = b"P2 3 3 255 1 2 3 4 5 6 7 8 9";
 
 /// The same over the first tile of two rows and two columns.
 const REMAINDERS_OF_A_TILE: &str =

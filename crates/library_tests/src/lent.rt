@@ -1,0 +1,204 @@
+#![tactic(auto)]
+//! Tiles by their plans, from what is lent.
+
+ghost use Rattle.std.specs.Prelude.{◌≡◌, ◌≤◌, length, IfOk};
+ghost use Rattle.grouping.specs.Schedules.{is_function};
+ghost use Rattle.job.specs.Kept.{pipeline_in, program_id_in};
+ghost use Rattle.job.specs.WellFormed.{IsJob};
+ghost use Rattle.tile_run.specs.Lent.{AreWhole};
+ghost use Rattle.tile_run.specs.Runs.{IsFunctionPlan};
+ghost use Rattle.tile_run.specs.Stored.{stored_tiles};
+ghost use Rattle.tile_run.specs.Work.{is_accumulator_at};
+ghost use Rattle.accumulators.specs.Partials.{IsAccumulatorPlan};
+
+use crate::plans::{CHAIN, CORNERS, POINTS_OF_SIXTEEN, bound, schedule_of};
+use crate::tiles::{PIPELINE, SAMPLES};
+use crate::totals::{ONE_TO_NINE, REMAINDERS};
+use accumulators::partial;
+use grouping::Schedule;
+use job::{Job, Key, StageKind};
+use overlap_tiles::TilePlan;
+use std::alloc::Global;
+use std::test::Fail;
+use tile_run::{EvalFault, Lender, Scratch, Stored, run_all, run_tile};
+
+/// Six rows of six samples that are 1.
+const ONES: &[u8] =
+    b"P2 6 6 1 1 1 1 1 1 1 1 1 1 1 1 1 1 1 1 1 1 1 1 1 1 1 1 1 1 1 1 1 1 1 1 1 1 1 1 1";
+
+/// Lends no tile.
+struct Nothing;
+
+impl Lender for Nothing {
+    ghost use Rattle.std.specs.Prelude.{None};
+
+    ghost lent = { λ _ g i j. None };
+
+    fn tile(&self, _stage: usize, _row: u32, _col: u32) -> Option<&[i32]> {
+        None
+    }
+}
+
+fn is_function(job: &Job, stage: usize) -> bool
+    ensures { result ≡ is_function (pipeline_in job.now) stage }
+{
+    job.kind(stage) == Some(StageKind::Function)
+}
+
+fn is_accumulator(job: &Job, stage: usize) -> bool
+    ensures { result ≡ is_accumulator_at (pipeline_in job.now) stage }
+{
+    job.kind(stage) == Some(StageKind::Accumulator)
+}
+
+// The plan of a tile of a function.
+fn plan_of_function(
+    alloc: Global,
+    job: &Job,
+    schedule: &Schedule,
+    stage: usize,
+    row: u32,
+    col: u32,
+) -> Result<TilePlan, Fail>
+    requires job { IsJob (pipeline_in job.now) }
+    requires few { length (pipeline_in job.now).stages ≤ 65536 }
+    ensures { IfOk result (IsFunctionPlan (program_id_in job.now) (pipeline_in job.now) schedule.now.flags) }
+{
+    if !is_function(job, stage) {
+        return Err(Fail::new("no function"));
+    }
+    let plan = TilePlan::of(alloc, job, schedule, stage, row, col)?;
+    Ok(plan)
+}
+
+// The plan of a tile of an accumulator.
+fn plan_of_accumulator(
+    alloc: Global,
+    job: &Job,
+    schedule: &Schedule,
+    stage: usize,
+    row: u32,
+    col: u32,
+) -> Result<TilePlan, Fail>
+    requires job { IsJob (pipeline_in job.now) }
+    requires few { length (pipeline_in job.now).stages ≤ 65536 }
+    ensures { IfOk result (IsAccumulatorPlan (program_id_in job.now) (pipeline_in job.now) schedule.now.flags) }
+{
+    if !is_accumulator(job, stage) {
+        return Err(Fail::new("no accumulator"));
+    }
+    let plan = TilePlan::of(alloc, job, schedule, stage, row, col)?;
+    Ok(plan)
+}
+
+// The numbers of a tile of a function, by its plan.
+fn numbers<K: Lender>(
+    alloc: Global,
+    job: &Job,
+    schedule: &Schedule,
+    tile: (usize, u32, u32),
+    lender: &K,
+) -> Result<Vec<i32>, Fail>
+    requires job { IsJob (pipeline_in job.now) }
+    requires few { length (pipeline_in job.now).stages ≤ 65536 }
+    requires whole { AreWhole (pipeline_in job.now) (K.lent lender.now) }
+{
+    let plan = plan_of_function(alloc, job, schedule, tile.0, tile.1, tile.2)?;
+    let mut scratch = Scratch::new(alloc);
+    Ok(run_tile(alloc, job, schedule, &plan, &mut scratch, lender)?)
+}
+
+// What an accumulator gathers over a tile, by the tile's plan, where nothing is lent.
+fn bins(
+    alloc: Global,
+    job: &Job,
+    schedule: &Schedule,
+    tile: (usize, u32, u32),
+) -> Result<Vec<i64>, Fail>
+    requires job { IsJob (pipeline_in job.now) }
+    requires few { length (pipeline_in job.now).stages ≤ 65536 }
+{
+    let plan = plan_of_accumulator(alloc, job, schedule, tile.0, tile.1, tile.2)?;
+    let mut scratch = Scratch::new(alloc);
+    Ok(partial(alloc, job, schedule, &plan, &mut scratch, &Nothing)?)
+}
+
+// Compares each tile of a stage with the one that a run stored.
+fn compare(
+    alloc: Global,
+    job: &Job,
+    schedule: &Schedule,
+    stored: &Stored,
+    stage: usize,
+) -> Result<(), Fail>
+    requires job { IsJob (pipeline_in job.now) }
+    requires few { length (pipeline_in job.now).stages ≤ 65536 }
+    requires whole { AreWhole (pipeline_in job.now) (stored_tiles stored.now.stages.items) }
+{
+    let grid = job.grid(stage).ok_or("no grid")?;
+    for row in 0..grid.tile_rows() {
+        for col in 0..grid.tile_cols() {
+            let made = numbers(alloc, job, schedule, (stage, row, col), stored)?;
+            if stored.tile(stage, row, col) != Some(made.as_slice()) {
+                return Err(Fail::new("not the tile of the run"));
+            }
+        }
+    }
+    Ok(())
+}
+
+#[test]
+fn tiles_by_their_plans_are_those_of_a_run(rt: HostRuntime) -> Result<(), Fail> {
+    let alloc = rt.alloc();
+    let job = bound(alloc, PIPELINE, SAMPLES, (2, 3))?;
+    let schedule = schedule_of(alloc, &job, &[false, true, false, true, false])?;
+    let stored = run_all(alloc, &job, &schedule)?;
+    compare(alloc, &job, &schedule, &stored, 2)?;
+    compare(alloc, &job, &schedule, &stored, 4)?;
+    Ok(())
+}
+
+#[test]
+fn partials_are_gathered_over_a_tile_alone(rt: HostRuntime) -> Result<(), Fail> {
+    let alloc = rt.alloc();
+    let job = bound(alloc, REMAINDERS, ONE_TO_NINE, (2, 2))?;
+    let schedule = Schedule::stored(alloc, &job)?;
+    let first = bins(alloc, &job, &schedule, (1, 0, 0))?;
+    assert_eq!(rt; first.as_slice(), [1, 2, 1, 0].as_slice());
+    let last = bins(alloc, &job, &schedule, (1, 1, 1))?;
+    assert_eq!(rt; last.as_slice(), [0, 1, 0, 0].as_slice());
+    Ok(())
+}
+
+#[test]
+fn inlined_functions_are_computed_where_nothing_is_lent(rt: HostRuntime) -> Result<(), Fail> {
+    let alloc = rt.alloc();
+    let job = bound(alloc, CHAIN, ONES, (2, 2))?;
+    let schedule = schedule_of(alloc, &job, &[false, true, false])?;
+    let made = numbers(alloc, &job, &schedule, (2, 0, 0), &Nothing)?;
+    assert_eq!(rt; made.as_slice(), [81, 81, 81, 81].as_slice());
+    Ok(())
+}
+
+// Which tile is missing, where one is.
+fn missing<T>(made: &Result<T, EvalFault>) -> Option<Key> {
+    match made {
+        Err(EvalFault::Missing(key)) => Some(*key),
+        Err(EvalFault::Memory) | Ok(_) => None,
+    }
+}
+
+#[test]
+fn the_least_tile_that_is_not_lent_is_named(rt: HostRuntime) -> Result<(), Fail> {
+    let alloc = rt.alloc();
+    let job = bound(alloc, CORNERS, POINTS_OF_SIXTEEN, (2, 2))?;
+    let schedule = schedule_of(alloc, &job, &[false, false, false, false])?;
+    let mut scratch = Scratch::new(alloc);
+    let plan = plan_of_function(alloc, &job, &schedule, 2, 0, 0)?;
+    let made = run_tile(alloc, &job, &schedule, &plan, &mut scratch, &Nothing);
+    assert_eq!(rt; missing(&made), job.key(1, 0, 0));
+    let plan = plan_of_accumulator(alloc, &job, &schedule, 3, 0, 0)?;
+    let made = partial(alloc, &job, &schedule, &plan, &mut scratch, &Nothing);
+    assert_eq!(rt; missing(&made), job.key(1, 0, 0));
+    Ok(())
+}
