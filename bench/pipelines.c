@@ -1,8 +1,9 @@
 /* The pipelines of examples/ in plain C, stage by stage and on one thread: a raw PGM of one-byte samples in, the result out.
    gcc -O3 -march=native -o pipelines pipelines.c && ./pipelines PIPELINE < INPUT.pgm > RESULT
 
-   PIPELINE is copy, blur, sobel, unsharp, harris or histogram. Each function of examples/PIPELINE/PIPELINE.pipe is a whole
-   array of 32-bit numbers, as large as the picture, and filled by one pass over the points where it is not 0. */
+   PIPELINE is copy, blur, half, sobel, unsharp, harris or histogram. Each function of examples/PIPELINE/PIPELINE.pipe is a whole
+   array of 32-bit numbers, as large as the picture (of half: half as high and as wide), and filled by one pass over the points
+   where it is not 0. */
 #include <stdint.h>
 #include <stdio.h>
 #include <stdlib.h>
@@ -71,6 +72,17 @@ static void blur(const struct picture *p) {
     EACH_POINT(p, 0, 0) f[i] = I[i];
     EACH_POINT(p, 1, 1) f[i] = AROUND(I, ones) / 9;
     write_picture(p, f);
+}
+
+static void half(const struct picture *p) {
+    const struct picture small = {p->rows / 2, p->cols / 2, NULL};
+    const sample *restrict I = p->samples;
+    number *restrict f = stage(&small);
+    EACH_POINT(&small, 0, 0) {
+        const sample *upper = I + 4 * (size_t)x * C + 2 * y, *lower = upper + 2 * C;
+        f[i] = (upper[0] + upper[1] + lower[0] + lower[1]) / 4;
+    }
+    write_picture(&small, f);
 }
 
 /* how the picture changes, shifted right; >> rounds down, also below 0 */
@@ -183,7 +195,7 @@ int main(int argc, char **argv) {
     static const struct {
         const char *name;
         void (*run)(const struct picture *);
-    } pipelines[] = {{"copy", copy},       {"blur", blur},     {"sobel", sobel},
+    } pipelines[] = {{"copy", copy},       {"blur", blur},     {"half", half},          {"sobel", sobel},
                      {"unsharp", unsharp}, {"harris", harris}, {"histogram", histogram}};
     for (size_t i = 0; argc == 2 && i < sizeof pipelines / sizeof *pipelines; i++) {
         if (strcmp(argv[1], pipelines[i].name) != 0) continue;
@@ -192,6 +204,6 @@ int main(int argc, char **argv) {
         pipelines[i].run(&p);
         return fflush(stdout) == 0 && !ferror(stdout) ? 0 : 4;
     }
-    fprintf(stderr, "usage: pipelines copy|blur|sobel|unsharp|harris|histogram < INPUT.pgm > RESULT\n");
+    fprintf(stderr, "usage: pipelines copy|blur|half|sobel|unsharp|harris|histogram < INPUT.pgm > RESULT\n");
     return 1;
 }

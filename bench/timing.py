@@ -10,7 +10,7 @@ import time
 
 TOP = os.path.dirname(os.path.dirname(os.path.abspath(__file__)))
 PROGRAM = f"{TOP}/crates/tilefarm/out/tilefarm"
-PIPELINES = ("copy", "blur", "sobel", "unsharp", "harris", "histogram")
+PIPELINES = ("copy", "blur", "half", "sobel", "unsharp", "harris", "histogram")
 
 
 def content(path):
@@ -47,7 +47,7 @@ class Bench:
     """A folder with the C programs, built, and one random picture."""
 
     def __init__(self, room, side):
-        self.room = room
+        self.room, self.side = room, side
         self.native = f"{room}/pipelines"
         self.picture = f"{room}/picture.pgm"
         subprocess.run(["gcc", "-O3", "-march=native", "-o", self.native, f"{TOP}/bench/pipelines.c"], check=True)
@@ -57,12 +57,16 @@ class Bench:
     def c(self, name):
         return Command([self.native, name], self.picture, f"{self.room}/c.result")
 
+    def parameters(self, name):
+        """The values of parameters that the picture does not give: the sides of half's result."""
+        return [f"R={self.side // 2}", f"C={self.side // 2}"] if name == "half" else []
+
     def tilefarm(self, name, options):
         source = f"{self.room}/{name}.input"
         if not os.path.exists(source):
             with open(source, "wb") as file:
                 file.write(content(f"{TOP}/examples/{name}/{name}.pipe") + b"%%\n" + content(self.picture))
-        return Command([PROGRAM, "eval", *options], source, f"{self.room}/tilefarm.result")
+        return Command([PROGRAM, "eval", *options, *self.parameters(name)], source, f"{self.room}/tilefarm.result")
 
 
 def medians(commands, rounds):
