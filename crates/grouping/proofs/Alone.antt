@@ -31,7 +31,7 @@ differ flags g h inlined stored = by (nat_eq h g) refl
     by false e = e
     by true e = let same : h ≡ g = grind (arith, nat_tests) in absurd (false≢true (sym stored ∙ ap (is_inlined flags) same ∙ inlined))
 
-out_of_target : (t : Target) (boxes : ℕ → Option Area) (g r : ℕ) → region_by t boxes r ≡ None → areas_of g (demands_by t boxes r) ≡ []
+pub out_of_target : (t : Target) (boxes : ℕ → Option Area) (g r : ℕ) → region_by t boxes r ≡ None → areas_of g (demands_by t boxes r) ≡ []
 out_of_target t boxes g r out = by (slice_get t.job.stages r) ∙ refl
   where
     by : (o : Option Stage) → areas_of g (stage_demands o (region_by t boxes r)) ≡ []
@@ -54,7 +54,7 @@ none_in_all : (t : Target) (boxes : ℕ → Option Area) (g : ℕ) → ((r : ℕ
 none_in_all t boxes g none [] = refl
 none_in_all t boxes g none (r ∷ rs) = areas_of-append g (demands_by t boxes r) (flat_map (demands_by t boxes) rs) ∙ (λ i. none r i ++ none_in_all t boxes g none rs i)
 
-uncut : (o : Option Stage) → cut_to o None ≡ None
+pub uncut : (o : Option Stage) → cut_to o None ≡ None
 uncut None = refl
 uncut (Some s) = refl
 

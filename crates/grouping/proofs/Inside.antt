@@ -1,15 +1,13 @@
 -- Boxes and regions are areas that lie in the domains.
-use Rattle.std.proofs.Common.{ℕ, zero, suc, ◌≡◌, ◌+◌, arith, ℤ, nat_eq, Bool, true, false, Option, Some, None, List, [], ◌∷◌, ◌++◌, filter, refl, sym, ap, ◌∙◌, subst}
-use Rattle.std.specs.Prelude.{All, slice_get, slice_index_or, map, ◌&&◌, not, if◌then◌else◌}
+use Rattle.std.proofs.Common.{ℕ, zero, suc, ◌≡◌, arith, nat_eq, Bool, true, false, Option, Some, None, List, [], ◌∷◌, ◌++◌, filter, refl, sym, ap, ◌∙◌, subst}
+use Rattle.std.specs.Prelude.{All, slice_get, slice_index_or, map, not, if◌then◌else◌}
 use Rattle.std.specs.List.{flat_map}
 use Rattle.std.specs.Option.{option_map_or}
 use Rattle.std.proofs.lemmas.Bool.{and_parts}
-use Rattle.std.proofs.lemmas.Bool.Decides.{nat_tests}
 use Rattle.std.proofs.lemmas.List.Elements.{All-nil, All-cons, All-append}
-use Rattle.domains.specs.Area.{HoldsPoint, IsArea, IsSubarea, point_count}
+use Rattle.domains.specs.Area.{IsArea, IsSubarea, point_count}
 use Rattle.domains.specs.declared.area.Area.{Area}
 use Rattle.job.specs.Pipeline.{Stage, Pipeline}
-use Rattle.job.specs.Reads.{IsRanked}
 use Rattle.job.specs.WellFormed.{IsStage, IsJob}
 use Rattle.job.proofs.Solving.{ranked_is}
 use Rattle.grouping.specs.Order.{in_order}

@@ -15,3 +15,10 @@ pub mod Costing
 pub mod Scheduling
 pub mod Alone
 pub mod Inside
+pub mod Keeping
+pub mod Reading
+pub mod Choosing
+pub mod Steps
+pub mod Places
+pub mod Visits
+pub mod Chains

@@ -48,7 +48,7 @@ ordered stages g there =
     (Contains-range 0 (greatest_rank stages + 1) (rank_of stages g) (not_below (rank_of stages g)) (below_more (rank_of stages g) (greatest_rank stages) (rank_below stages g)))
     (Contains-filter (λ h. nat_eq (rank_of stages h) (rank_of stages g)) (range_with_len 0 (length stages)) g (Contains-range 0 (length stages) g (not_below g) (below_start g (length stages) there)) (eq_self (rank_of stages g)))
 
-Contains-reverse : (xs : List ℕ) (x : ℕ) → Contains xs x → Contains (reverse xs) x
+pub Contains-reverse : (xs : List ℕ) (x : ℕ) → Contains xs x → Contains (reverse xs) x
 Contains-reverse xs x h =
     All-contains (Contains (reverse xs)) xs x (subst (All (Contains (reverse xs))) (reverse-reverse xs) (All-reverse (Contains (reverse xs)) (reverse xs) (All-contains_itself (reverse xs)))) h
 

@@ -41,7 +41,7 @@ same_region t b c r e = ap (λ o. if nat_eq r t.stage then Some t.region else (i
 pub same_demands : (t : Target) (b c : ℕ → Option Area) (r : ℕ) → b r ≡ c r → demands_by t b r ≡ demands_by t c r
 same_demands t b c r e = ap (stage_demands (slice_get t.job.stages r)) (same_region t b c r e)
 
-low_or_high : (a b : ℕ) → (a ≤ b) ⊎ (b < a)
+pub low_or_high : (a b : ℕ) → (a ≤ b) ⊎ (b < a)
 low_or_high a b = grind arith
 
 pub box_by-same : (t : Target) (b c : ℕ → Option Area) (g : ℕ) → IsRanked t.job.stages → ((r : ℕ) → rank_of t.job.stages g < rank_of t.job.stages r → b r ≡ c r) → box_by t b g ≡ box_by t c g
@@ -57,7 +57,7 @@ box_by-same t b c g ranked same = ap (λ xs. cut_to (slice_get t.job.stages g) (
 abbrev pub IsEnough : Target → ℕ → ℕ → Type 0
 IsEnough t n g = greatest_rank t.job.stages < n + rank_of t.job.stages g
 
-enough_left : (m n a b : ℕ) → m < suc n + a → a < b → m < n + b
+pub enough_left : (m n a b : ℕ) → m < suc n + a → a < b → m < n + b
 enough_left m n a b h k = omega arith
 
 pub box_within-enough : (t : Target) → IsRanked t.job.stages → (n m g : ℕ) → IsEnough t n g → IsEnough t m g → box_within t n g ≡ box_within t m g
@@ -70,7 +70,7 @@ box_within-enough t ranked (suc n) (suc m) g a b =
 above : (m a b : ℕ) → a < b → m < m + b
 above m a b h = omega arith
 
-all_enough : (m b : ℕ) → m < suc m + b
+pub all_enough : (m b : ℕ) → m < suc m + b
 all_enough m b = omega arith
 
 pub box_follows : (t : Target) (g : ℕ) → IsRanked t.job.stages → box t g ≡ box_by t (box t) g

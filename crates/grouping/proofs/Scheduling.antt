@@ -13,7 +13,7 @@ use Rattle.grouping.specs.Targets.{Target, boxes}
 use Rattle.grouping.specs.Costs.{points_in, scratch, most_scratch}
 use Rattle.grouping.specs.Inlining.{StoresOutputs, AllFitScratch}
 
-none_inlined : (stages : List Stage) (g : ℕ) → is_inlined (map (λ s. false) stages) g ≡ false
+pub none_inlined : (stages : List Stage) (g : ℕ) → is_inlined (map (λ s. false) stages) g ≡ false
 none_inlined [] g = refl
 none_inlined (s ∷ stages) g = lists.get_or-map (λ (x : Stage). false) (s ∷ stages) g s
 

@@ -37,7 +37,7 @@ one_more hulls d ds g false there e =
     let other : g ≢ d.stage = grind (arith, nat_tests) in
     ap (λ h. fold grown_by h (map (λ e. e.area) ds)) (get_or-set_other hulls d.stage g (grown_by (hull_at hulls d.stage) d.area) None other)
 
-hull_after : (ds : List Demand) (hulls : List (Option Area)) (g : ℕ) → g < length hulls → hull_at (demanded_all hulls ds) g ≡ fold grown_by (hull_at hulls g) (areas_of g ds)
+pub hull_after : (ds : List Demand) (hulls : List (Option Area)) (g : ℕ) → g < length hulls → hull_at (demanded_all hulls ds) g ≡ fold grown_by (hull_at hulls g) (areas_of g ds)
 hull_after [] hulls g there = refl
 hull_after (d ∷ ds) hulls g there =
     let kept = length-set hulls d.stage (grown_by (hull_at hulls d.stage) d.area) in

@@ -7,3 +7,7 @@ pub mod Costs
 pub mod Inlining
 pub mod Faults
 pub mod Tallies
+pub mod Greedy
+pub mod Chains
+pub mod Standings
+pub mod Trials

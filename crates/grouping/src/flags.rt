@@ -53,13 +53,6 @@ impl Flags {
         Ok(Flags { flags })
     }
 
-    /// The same flags, without those of planes and accumulators.
-    pub(crate) fn of_functions(&self, alloc: Global, job: &Job) -> Result<Flags, AllocError>
-        ensures { IfOk result (λ f. f ≡ flags_for (pipeline_in job.now) self.now) }
-    {
-        Flags::asked(alloc, job, &self.flags)
-    }
-
     /// Whether the stage of this number is inlined.
     pub(crate) fn inlined(&self, stage: usize) -> bool
         ensures { result ≡ is_inlined self.now stage }

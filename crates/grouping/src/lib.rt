@@ -8,8 +8,11 @@ mod flags;
 mod greedy;
 pub mod laws;
 mod order;
+mod readers;
 mod schedule;
+mod standing;
 mod target;
+mod trial;
 
 pub use costs::MOST_SCRATCH;
 pub use fault::ScheduleFault;

@@ -1,7 +1,7 @@
 #![tactic(auto)]
 //! Which functions are inlined, and what that costs.
 
-ghost use Rattle.std.specs.Prelude.{◌≡◌, ◌≤◌, None, IfOk, IfErr, IfSome, length, slice_index_or};
+ghost use Rattle.std.specs.Prelude.{◌≡◌, ◌≤◌, None, IfOk, IfErr, length, slice_index_or};
 
 use crate::costs::costs_of;
 use crate::fault::ScheduleFault;
@@ -37,6 +37,7 @@ impl Schedule {
     ghost use Rattle.grouping.specs.Schedules.{is_inlined, flags_for, all_stored, IsSchedule};
     ghost use Rattle.grouping.specs.Targets.{IsTarget, boxes};
     ghost use Rattle.grouping.specs.Costs.{scratch};
+    ghost use Rattle.grouping.specs.Greedy.{greedy_flags};
     ghost use Rattle.grouping.specs.Inlining.{IsScheduleOf, IsScheduleFault, AllFitScratch};
 
     /// The schedule that inlines nothing.
@@ -77,8 +78,8 @@ impl Schedule {
     }
 
     /// The greedy schedule. Functions are visited from the last to the first in dependence order. One that is read, and is no
-    /// output, is inlined where one stored stage has all its readers in its tiles, has room for them in scratch memory, and
-    /// then takes at most `percent` percent more points than both take apart.
+    /// output, is inlined where one stored stage has all its readers in its tiles, has room there for its boxes in scratch
+    /// memory, and then takes at most `percent` percent more points than both take apart.
     ///
     /// # Errors
     ///
@@ -86,41 +87,13 @@ impl Schedule {
     pub fn greedy(alloc: Global, job: &Job, percent: u32) -> Result<Schedule, AllocError>
         requires job { IsJob (pipeline_in job.now) }
         requires percent { percent ≤ 10000 }
+        ensures greedy { IfOk result (λ s. s.flags ≡ greedy_flags (pipeline_in job.now) percent) }
         ensures schedule { IfOk result (IsScheduleOf (pipeline_in job.now)) }
         ensures fits { IfOk result (λ s. AllFitScratch (pipeline_in job.now) s.flags) }
     {
-        let chosen = greedy_flags(alloc, job, percent)?;
-        match Schedule::that_fits(alloc, job, chosen)? {
-            Some(schedule) => Ok(schedule),
-            None => Schedule::stored(alloc, job),
-        }
-    }
-
-    // The schedule of these flags, if it is one and its tiles have room.
-    fn that_fits(alloc: Global, job: &Job, chosen: Flags) -> Result<Option<Schedule>, AllocError>
-        requires { IsJob (pipeline_in job.now) }
-        ensures schedule { IfOk result (λ found. IfSome found (IsScheduleOf (pipeline_in job.now))) }
-        ensures fits { IfOk result (λ found. IfSome found (λ s. AllFitScratch (pipeline_in job.now) s.flags)) }
-    {
-        let flags = chosen.of_functions(alloc, job)?;
-        match flags.first_output(job) {
-            Some(_) => Ok(None),
-            None => Schedule::with_room(alloc, job, flags),
-        }
-    }
-
-    fn with_room(alloc: Global, job: &Job, flags: Flags) -> Result<Option<Schedule>, AllocError>
-        requires job { IsJob (pipeline_in job.now) }
-        requires schedule { IsSchedule (pipeline_in job.now) flags }
-        ensures schedule { IfOk result (λ found. IfSome found (IsScheduleOf (pipeline_in job.now))) }
-        ensures fits { IfOk result (λ found. IfSome found (λ s. AllFitScratch (pipeline_in job.now) s.flags)) }
-    {
+        let flags = greedy_flags(alloc, job, percent)?;
         let schedule = Schedule::with_costs(alloc, job, flags)?;
-        if schedule.fits() {
-            Ok(Some(schedule))
-        } else {
-            Ok(None)
-        }
+        Ok(schedule)
     }
 
     fn with_costs(alloc: Global, job: &Job, flags: Flags) -> Result<Schedule, AllocError>

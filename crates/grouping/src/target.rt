@@ -1,7 +1,7 @@
 #![tactic(auto)]
 //! Targets, and the boxes of what they need.
 
-ghost use Rattle.std.specs.Prelude.{◌≡◌, IfOk, IfSome, reverse};
+ghost use Rattle.std.specs.Prelude.{◌≡◌, IfOk, IfSome, reverse, slice_get};
 ghost use Rattle.std.specs.List.{flat_map};
 
 use crate::demands::{common, demand_all};
@@ -23,8 +23,8 @@ pub(crate) struct Site<'a> {
 impl Site<'_> {
     ghost use Rattle.job.specs.Kept.{pipeline_in};
     ghost use Rattle.job.specs.WellFormed.{IsJob};
-    ghost use Rattle.grouping.specs.Targets.{IsTarget, region_by, with_number, is_boxed, boxes};
-    ghost use Rattle.grouping.specs.Walks.{IsNearArea, target_of, no_hulls, cut_hull, walked_one, walked, numbered_hull};
+    ghost use Rattle.grouping.specs.Targets.{IsTarget, region_by, stage_demands, with_number, is_boxed, boxes};
+    ghost use Rattle.grouping.specs.Walks.{IsNearArea, target_of, demanded_all, no_hulls, cut_hull, walked_one, walked, numbered_hull};
 
     // The hull of what is demanded of a stage, cut to its domain.
     pub(crate) fn box_of(&self, hulls: &[Option<Area>], number: usize) -> Option<Area>
@@ -60,7 +60,17 @@ impl Site<'_> {
         requires target { IsTarget (target_of self.now) }
         ensures { hulls.new ≡ walked_one (target_of self.now) hulls.old number }
     {
-        if let Some(region) = self.region_of(hulls, number) {
+        let region = self.region_of(hulls, number);
+        self.demand(hulls, number, region);
+    }
+
+    // What a stage demands over a region, if it has one, comes in.
+    pub(crate) fn demand(&self, hulls: &mut [Option<Area>], number: usize, region: Option<Area>)
+        requires job { IsJob (pipeline_in self.now.job.now) }
+        requires near { IfSome region IsNearArea }
+        ensures { hulls.new ≡ demanded_all hulls.old (stage_demands (slice_get (pipeline_in self.now.job.now).stages number) region) }
+    {
+        if let Some(region) = region {
             if let Some(stage) = self.job.stage(number) {
                 demand_all(hulls, stage.body(), &region);
             }

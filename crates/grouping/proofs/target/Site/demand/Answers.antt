@@ -6,7 +6,7 @@ use Rattle.job.specs.declared.stage.Body.{Body as KeptBody}
 use Rattle.job.specs.Reads.{formulas_of}
 use Rattle.job.specs.Views.{stage_view, body_view}
 use Rattle.job.specs.WellFormed.{IsFormula}
-use Rattle.grouping.proofs.target.Site.visit.Goals as goal
+use Rattle.grouping.proofs.target.Site.demand.Goals as goal
 
 pub demand_all-requires-clause-formulas : goal.demand_all-requires-clause-formulas
 demand_all-requires-clause-formulas c =

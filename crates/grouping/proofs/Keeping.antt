@@ -1,0 +1,283 @@
+-- What stays and what grows where one function more is inlined.
+use Rattle.std.proofs.Common.{ℕ, zero, suc, ◌+◌, ◌<◌, ◌≤◌, ◌⊎◌, inl, inr, arith, ◌≡◌, nat_eq, nat_le, Bool, true, false, ◌&&◌, not, Option, Some, None, List, [], ◌∷◌, map, length, refl, ap, sym, subst, ◌∙◌}
+use Rattle.std.specs.Prelude.{All, AllPairs, Contains, slice_get, slice_set, if◌then◌else◌}
+use Rattle.std.specs.List.{sum, list_all}
+use Rattle.std.specs.Option.{option_map_or}
+use Rattle.std.proofs.lemmas.Bool.{false≢true}
+use Rattle.std.proofs.lemmas.Bool.Decides.{nat_tests}
+use Rattle.std.proofs.lemmas.List.{get_or-set_same, get_or-set_other}
+use Rattle.std.proofs.lemmas.List.Elements.{All-nil, All-head, All-tail, All-contains}
+use Rattle.std.proofs.lemmas.List.Folds.{list_all-map}
+use Rattle.std.proofs.lemmas.List.Sums.{sum-map, sum_by-cons}
+use Rattle.std.proofs.lemmas.Option.{slice_get_within}
+use Rattle.domains.specs.Area.{point_count}
+use Rattle.domains.specs.declared.area.Area.{Area}
+use Rattle.domains.proofs.PairLists.{Contains-cases}
+use Rattle.job.specs.Pipeline.{Stage, Pipeline, rank_of}
+use Rattle.job.specs.Reads.{IsRanked}
+use Rattle.job.specs.Answers.{grid_of, has_tiles}
+use Rattle.job.specs.Readers.{stage_grid}
+use Rattle.job.specs.WellFormed.{IsJob}
+use Rattle.job.proofs.Solving.{ranked_is}
+use Rattle.job.proofs.TotalLaws.{map_same}
+use Rattle.grouping.specs.Order.{ComesBefore, greatest_rank, in_order, backward}
+use Rattle.grouping.specs.Schedules.{is_inlined, is_function_body, is_function}
+use Rattle.grouping.specs.Demands.{hull_of_all, areas_of}
+use Rattle.grouping.specs.Targets.{Target, IsTarget, stage_demands, demands_by, cut_to, is_boxed, box_by, box_within, box}
+use Rattle.grouping.specs.Costs.{scratch, most_scratch, points, stage_cost, cost_of}
+use Rattle.grouping.specs.Tallies.{areas_of_tiles, inner_points, whole, all_have_scratch, stage_fits}
+use Rattle.grouping.specs.Greedy.{points_of}
+use Rattle.grouping.specs.Standings.{target_at, areas_at, tile_scratch, tile_boxes, LiesBehind}
+use Rattle.grouping.specs.Trials.{points_of_box}
+use Rattle.grouping.proofs.Falling.{none_of_higher}
+use Rattle.grouping.proofs.Rule.{same_areas, low_or_high}
+use Rattle.grouping.proofs.Ordering.{pairs-head, pairs-tail, order_pairs, order_has}
+use Rattle.grouping.proofs.Costing.{sum_cons, scratch_is, points_is, cost_is, tiles_are_targets}
+
+-- with_one t g is the target t where g is inlined besides
+abbrev pub with_one : Target → ℕ → Target
+with_one t g = record { job = t.job; flags = slice_set t.flags g true; stage = t.stage; region = t.region }
+
+-- ---- flags and ranks
+
+pub other_flag : (flags : List Bool) (g x : ℕ) → nat_eq x g ≡ false → is_inlined (slice_set flags g true) x ≡ is_inlined flags x
+other_flag flags g x other = get_or-set_other flags g x true false (grind (arith, nat_tests))
+
+apart : (stages : List Stage) (g r : ℕ) → rank_of stages g < rank_of stages r → nat_eq r g ≡ false
+apart stages g r falls = by (nat_eq r g) refl
+  where
+    by : (b : Bool) → nat_eq r g ≡ b → nat_eq r g ≡ false
+    by false e = e
+    by true e = let same : r ≡ g = grind (arith, nat_tests) in let ranks : rank_of stages r ≡ rank_of stages g = ap (rank_of stages) same in absurd (omega arith)
+
+turned : (g h : ℕ) → nat_eq g h ≡ false → nat_eq h g ≡ false
+turned g h other = grind (arith, nat_tests)
+
+pub le_lt : (a b c : ℕ) → a ≤ b → b < c → a < c
+le_lt a b c low high = omega arith
+
+-- ---- the boxes of the stages of no lower rank stay
+
+one_step : (t : Target) (g x : ℕ) (b c : ℕ → Option Area) → IsRanked t.job.stages → rank_of t.job.stages g ≤ rank_of t.job.stages x
+    → ((r : ℕ) → rank_of t.job.stages x < rank_of t.job.stages r → b r ≡ c r) → box_by (with_one t g) b x ≡ box_by t c x
+one_step t g x b c ranked low same =
+    ap (λ xs. cut_to (slice_get t.job.stages x) (hull_of_all xs)) (same_areas (demands_by (with_one t g) b) (demands_by t c) x (backward t.job.stages) (λ r. from r (low_or_high (rank_of t.job.stages r) (rank_of t.job.stages x))))
+  where
+    from : (r : ℕ) → (rank_of t.job.stages r ≤ rank_of t.job.stages x) ⊎ (rank_of t.job.stages x < rank_of t.job.stages r) → areas_of x (demands_by (with_one t g) b r) ≡ areas_of x (demands_by t c r)
+    from r (inl below) = none_of_higher (with_one t g) b r x ranked below ∙ sym (none_of_higher t c r x ranked below)
+    from r (inr high) =
+        let other = apart t.job.stages g r (le_lt (rank_of t.job.stages g) (rank_of t.job.stages x) (rank_of t.job.stages r) low high) in
+        let flag = other_flag t.flags g r other in
+        let there = same r high in
+        ap (λ o. areas_of x (stage_demands (slice_get t.job.stages r) o)) (λ i. if nat_eq r t.stage then Some t.region else (if flag i then there i else None))
+
+stays_within : (t : Target) (g : ℕ) → IsRanked t.job.stages → (n x : ℕ) → rank_of t.job.stages g ≤ rank_of t.job.stages x → box_within (with_one t g) n x ≡ box_within t n x
+stays_within t g ranked zero x low = refl
+stays_within t g ranked (suc n) x low =
+    one_step t g x (box_within (with_one t g) n) (box_within t n) ranked low (λ r high. stays_within t g ranked n r (let up = le_lt (rank_of t.job.stages g) (rank_of t.job.stages x) (rank_of t.job.stages r) low high in omega arith))
+
+pub box_stays : (t : Target) (g x : ℕ) → IsJob t.job → rank_of t.job.stages g ≤ rank_of t.job.stages x → box (with_one t g) x ≡ box t x
+unfolding box
+box_stays t g x h low = stays_within t g (ranked_is t.job h) (suc (greatest_rank t.job.stages)) x low
+
+-- ---- sums where one number is greater
+
+abbrev Differs : ℕ → ℕ → Type 0
+Differs x y = nat_eq y x ≡ false
+
+same_sum : (f h : ℕ → ℕ) (g : ℕ) (xs : List ℕ) → ((x : ℕ) → nat_eq x g ≡ false → h x ≡ f x) → All (Differs g) xs → sum (map h xs) ≡ sum (map f xs)
+same_sum f h g [] same none = refl
+same_sum f h g (x ∷ xs) same none =
+    sum_cons h x xs ∙ (λ i. same x (All-head (Differs g) x xs none) i + same_sum f h g xs same (All-tail (Differs g) x xs none) i) ∙ sym (sum_cons f x xs)
+
+more_first : (a s p : ℕ) → (a + p) + s ≡ (a + s) + p
+more_first a s p = omega arith
+
+more_later : (a s p : ℕ) → a + (s + p) ≡ (a + s) + p
+more_later a s p = omega arith
+
+grown_sum : (f h : ℕ → ℕ) (p g : ℕ) (xs : List ℕ) → ((x : ℕ) → nat_eq x g ≡ false → h x ≡ f x) → h g ≡ f g + p → AllPairs Differs xs → Contains xs g → sum (map h xs) ≡ sum (map f xs) + p
+grown_sum f h p g [] same more once has = absurd (omega (arith, has.1))
+grown_sum f h p g (x ∷ xs) same more once has = by (Contains-cases x xs g has) (grown_sum f h p g xs same more (pairs-tail Differs x xs once))
+  where
+    by : (x ≡ g) ⊎ Contains xs g → (Contains xs g → sum (map h xs) ≡ sum (map f xs) + p) → sum (map h (x ∷ xs)) ≡ sum (map f (x ∷ xs)) + p
+    by (inl e) grown =
+        let here : h x ≡ f x + p = subst (λ (y : ℕ). h y ≡ f y + p) (sym e) more in
+        let none : All (Differs g) xs = subst (λ (z : ℕ). All (Differs z) xs) e (pairs-head Differs x xs once) in
+        sum_cons h x xs ∙ (λ i. here i + same_sum f h g xs same none i) ∙ more_first (f x) (sum (map f xs)) p ∙ sym (ap (λ n. n + p) (sum_cons f x xs))
+    by (inr later) grown =
+        let other = turned g x (All-contains (Differs x) xs g (pairs-head Differs x xs once) later) in
+        sum_cons h x xs ∙ (λ i. same x other i + grown later i)
+        ∙ more_later (f x) (sum (map f xs)) p ∙ sym (ap (λ n. n + p) (sum_cons f x xs))
+
+-- ---- scratch memory grows by the box of g
+
+before_differs : (stages : List Stage) (x y : ℕ) → ComesBefore stages x y → nat_eq y x ≡ false
+before_differs stages x y (inl low) = apart stages x y low
+before_differs stages x y (inr both) = let low = both.1 in grind (arith, nat_tests)
+
+function_there : (job : Pipeline) (g : ℕ) → is_function job g ≡ true → g < length job.stages
+function_there job g is = by (slice_get job.stages g) refl
+  where
+    by : (o : Option Stage) → slice_get job.stages g ≡ o → g < length job.stages
+    by (Some s) e = slice_get_within job.stages g s e
+    by None e = absurd (false≢true (sym (ap (λ o. option_map_or (λ s. is_function_body s.body) o false) e) ∙ is))
+
+first_of : (a b : Bool) → (a && b) ≡ true → a ≡ true
+first_of true b e = refl
+first_of false b e = e
+
+inner_stays : (t : Target) (g x : ℕ) → IsJob t.job → LiesBehind t.job t.flags g → nat_eq x g ≡ false → inner_points (with_one t g) x ≡ inner_points t x
+inner_stays t g x h behind other = by (is_inlined t.flags x) refl
+  where
+    flag : is_inlined (slice_set t.flags g true) x ≡ is_inlined t.flags x
+    flag = other_flag t.flags g x other
+
+    by : (b : Bool) → is_inlined t.flags x ≡ b → inner_points (with_one t g) x ≡ inner_points t x
+    by true e = let stays = box_stays t g x h (behind x e) in (λ i. if flag i && is_boxed t x then points_of_box (stays i) else 0)
+    by false e =
+        let off : is_inlined (slice_set t.flags g true) x ≡ false = flag ∙ e in
+        (λ i. if off i && is_boxed t x then points_of_box (box (with_one t g) x) else 0) ∙ sym (λ i. if e i && is_boxed t x then points_of_box (box t x) else 0)
+
+from_none : (p : ℕ) → p ≡ 0 + p
+from_none p = omega arith
+
+pub le_self : (n : ℕ) → n ≤ n
+le_self n = omega arith
+
+inner_grows : (t : Target) (g : ℕ) → IsJob t.job → is_boxed t g ≡ true → is_inlined t.flags g ≡ false → g < length t.flags
+    → inner_points (with_one t g) g ≡ inner_points t g + points_of_box (box t g)
+inner_grows t g h boxed stored below =
+    let on : is_inlined (slice_set t.flags g true) g ≡ true = get_or-set_same t.flags g true false below in
+    let stays = box_stays t g g h (le_self (rank_of t.job.stages g)) in
+    let p : ℕ = points_of_box (box t g) in
+    (λ i. if on i && boxed i then points_of_box (stays i) else 0) ∙ from_none p ∙ sym (λ i. (if stored i && is_boxed t g then p else 0) + p)
+
+pub scratch_grows : (t : Target) (g : ℕ) → IsJob t.job → is_boxed t g ≡ true → is_inlined t.flags g ≡ false → g < length t.flags → LiesBehind t.job t.flags g
+    → scratch (with_one t g) ≡ scratch t + points_of_box (box t g)
+scratch_grows t g h boxed stored below behind =
+    let stages = t.job.stages in
+    let there : g < length stages = function_there t.job g (first_of (is_function t.job g) (not (nat_eq g t.stage)) boxed) in
+    let once : AllPairs Differs (in_order stages) = λ i j d low high. before_differs stages _ _ (order_pairs stages i j d low high) in
+    sym (scratch_is (with_one t g))
+    ∙ grown_sum (inner_points t) (inner_points (with_one t g)) (points_of_box (box t g)) g (in_order stages) (λ x other. inner_stays t g x h behind other)
+    (inner_grows t g h boxed stored below) once ((order_has stages g).1 there)
+    ∙ ap (λ n. n + points_of_box (box t g)) (scratch_is t)
+
+-- and so do the points of a target and of all tiles of a stage
+pub points_grow : (t : Target) (g : ℕ) → IsJob t.job → is_boxed t g ≡ true → is_inlined t.flags g ≡ false → g < length t.flags → LiesBehind t.job t.flags g
+    → points (with_one t g) ≡ points t + points_of_box (box t g)
+points_grow t g h boxed stored below behind =
+    let p : ℕ = points_of_box (box t g) in
+    points_is (with_one t g) ∙ ap (λ n. n + point_count t.region) (scratch_grows t g h boxed stored below behind)
+    ∙ more_first (scratch t) (point_count t.region) p ∙ sym (ap (λ n. n + p) (points_is t))
+
+-- ---- tiles
+
+sum_one : {X : Type 0} (f : X → ℕ) (x : X) (xs : List X) → sum (map f (x ∷ xs)) ≡ f x + sum (map f xs)
+sum_one f x xs = sum-map f (x ∷ xs) ∙ sum_by-cons f x xs ∙ sym (ap (λ n. f x + n) (sum-map f xs))
+
+pairwise : (a p s q : ℕ) → (a + p) + (s + q) ≡ (a + s) + (p + q)
+pairwise a p s q = omega arith
+
+sum_grows : {X Y : Type 0} (f h : X → ℕ) (p : Y → ℕ) (b : X → Y) (xs : List X) → ((x : X) → h x ≡ f x + p (b x)) → sum (map h xs) ≡ sum (map f xs) + sum (map p (map b xs))
+sum_grows f h p b [] more = refl
+sum_grows f h p b (x ∷ xs) more =
+    sum_one h x xs ∙ (λ i. more x i + sum_grows f h p b xs more i) ∙ pairwise (f x) (p (b x)) (sum (map f xs)) (sum (map p (map b xs)))
+    ∙ sym (λ i. sum_one f x xs i + sum_one p (b x) (map b xs) i)
+
+points_by : (job : Pipeline) (flags : List Bool) (h : ℕ) → is_inlined flags h ≡ false → (o : Option Stage)
+    → option_map_or (λ n. n) (stage_cost job flags h o) 0 ≡ sum (map (λ a. points (target_at job flags h a)) (option_map_or areas_of_tiles (stage_grid job o) []))
+points_by job flags h stored None = refl
+points_by job flags h stored (Some s) = by (has_tiles s.body)
+  where
+    by : (b : Bool) → option_map_or (λ n. n) (if b && not (is_inlined flags h) then Some (cost_of job flags h s) else None) 0
+        ≡ sum (map (λ a. points (target_at job flags h a)) (option_map_or areas_of_tiles (if b then Some (grid_of job s) else None) []))
+    by false = refl
+    by true = ap (λ c. option_map_or (λ n. n) (if not c then Some (cost_of job flags h s) else None) 0) stored ∙ cost_is job flags h s
+
+-- the points of a stored stage, tile by tile
+pub points_are : (job : Pipeline) (flags : List Bool) (h : ℕ) → is_inlined flags h ≡ false → points_of job flags h ≡ sum (map (λ a. points (target_at job flags h a)) (areas_at job h))
+points_are job flags h stored = points_by job flags h stored (slice_get job.stages h)
+
+boxed_in : (job : Pipeline) (flags : List Bool) (g h : ℕ) (a : Area) → is_function job g ≡ true → nat_eq g h ≡ false → is_boxed (target_at job flags h a) g ≡ true
+boxed_in job flags g h a function other = λ i. function i && not (other i)
+
+pub cost_grows : (job : Pipeline) (flags : List Bool) (g h : ℕ) → IsJob job → is_function job g ≡ true → nat_eq g h ≡ false → is_inlined flags g ≡ false → g < length flags → LiesBehind job flags g → is_inlined flags h ≡ false
+    → points_of job (slice_set flags g true) h ≡ points_of job flags h + sum (map points_of_box (tile_boxes job flags h g))
+cost_grows job flags g h is function other stored below behind home =
+    points_are job (slice_set flags g true) h (other_flag flags g h (turned g h other) ∙ home)
+    ∙ sum_grows (λ a. points (target_at job flags h a)) (λ a. points (target_at job (slice_set flags g true) h a)) points_of_box (λ a. box (target_at job flags h a) g) (areas_at job h)
+    (λ a. points_grow (target_at job flags h a) g is (boxed_in job flags g h a function other) stored below behind)
+    ∙ sym (ap (λ n. n + sum (map points_of_box (tile_boxes job flags h g))) (points_are job flags h home))
+
+pub scratch_rises : (job : Pipeline) (flags : List Bool) (g h : ℕ) → IsJob job → is_function job g ≡ true → nat_eq g h ≡ false → is_inlined flags g ≡ false → g < length flags → LiesBehind job flags g → is_inlined flags h ≡ false
+    → tile_scratch job (slice_set flags g true) h ≡ map (λ a. scratch (target_at job flags h a) + points_of_box (box (target_at job flags h a) g)) (areas_at job h)
+scratch_rises job flags g h is function other stored below behind home =
+    map_same (λ a. scratch (target_at job (slice_set flags g true) h a)) (λ a. scratch (target_at job flags h a) + points_of_box (box (target_at job flags h a) g)) (areas_at job h)
+    (λ a. scratch_grows (target_at job flags h a) g is (boxed_in job flags g h a function other) stored below behind)
+
+-- ---- room
+
+room_by : (job : Pipeline) (flags : List Bool) (h : ℕ) → is_inlined flags h ≡ false → (o : Option Stage)
+    → stage_fits job flags h o ≡ list_all (λ n. nat_le n most_scratch) (map (λ a. scratch (target_at job flags h a)) (option_map_or areas_of_tiles (stage_grid job o) []))
+room_by job flags h stored None = refl
+room_by job flags h stored (Some s) = by (has_tiles s.body)
+  where
+    fits : Bool
+    fits = all_have_scratch (whole job flags h s) (areas_of_tiles (grid_of job s))
+
+    by : (b : Bool) → (if b && not (is_inlined flags h) then fits else true)
+        ≡ list_all (λ n. nat_le n most_scratch) (map (λ a. scratch (target_at job flags h a)) (option_map_or areas_of_tiles (if b then Some (grid_of job s) else None) []))
+    by false = refl
+    by true =
+        ap (λ c. if not c then fits else true) stored
+        ∙ sym (list_all-map (λ n. nat_le n most_scratch) (λ a. scratch (target_at job flags h a)) (areas_of_tiles (grid_of job s)))
+
+-- a stored stage has room where each of its tiles has (a plane has no tiles)
+pub room_is : (job : Pipeline) (flags : List Bool) (h : ℕ) → is_inlined flags h ≡ false → stage_fits job flags h (slice_get job.stages h) ≡ list_all (λ n. nat_le n most_scratch) (tile_scratch job flags h)
+room_is job flags h stored = room_by job flags h stored (slice_get job.stages h)
+
+-- each tile of a stage is a target
+pub areas_are_targets : (job : Pipeline) (flags : List Bool) (h : ℕ) → IsJob job → All (λ a. IsTarget (target_at job flags h a)) (areas_at job h)
+areas_are_targets job flags h is = by (slice_get job.stages h) refl
+  where
+    pick : (s : Stage) (b : Bool) → slice_get job.stages h ≡ Some s → All (λ a. IsTarget (target_at job flags h a)) (option_map_or areas_of_tiles (if b then Some (grid_of job s) else None) [])
+    pick s true there = tiles_are_targets job flags h s is there
+    pick s false there = All-nil (λ a. IsTarget (target_at job flags h a))
+
+    from : (o : Option Stage) → slice_get job.stages h ≡ o → All (λ a. IsTarget (target_at job flags h a)) (option_map_or areas_of_tiles (stage_grid job o) [])
+    from None there = All-nil (λ a. IsTarget (target_at job flags h a))
+    from (Some s) there = pick s (has_tiles s.body) there
+
+    by : (o : Option Stage) → slice_get job.stages h ≡ o → All (λ a. IsTarget (target_at job flags h a)) (areas_at job h)
+    by o there = subst (λ (x : Option Stage). All (λ a. IsTarget (target_at job flags h a)) (option_map_or areas_of_tiles (stage_grid job x) [])) (sym there) (from o there)
+
+-- ---- where g has no box in h, neither the points of h nor its room change
+
+and_none : (n p : ℕ) → p ≡ 0 → n + p ≡ n
+and_none n p e = omega arith
+
+none_sum : {X Y : Type 0} (p : Y → ℕ) (b : X → Y) (xs : List X) → ((x : X) → p (b x) ≡ 0) → sum (map p (map b xs)) ≡ 0
+none_sum p b [] none = refl
+none_sum p b (x ∷ xs) none = sum_one p (b x) (map b xs) ∙ (λ i. none x i + none_sum p b xs none i)
+
+pub cost_stays : (job : Pipeline) (flags : List Bool) (g h : ℕ) → IsJob job → is_function job g ≡ true → nat_eq g h ≡ false → is_inlined flags g ≡ false → g < length flags → LiesBehind job flags g → is_inlined flags h ≡ false
+    → ((a : Area) → box (target_at job flags h a) g ≡ None) → points_of job (slice_set flags g true) h ≡ points_of job flags h
+cost_stays job flags g h is function other stored below behind home none =
+    let no_points = none_sum points_of_box (λ a. box (target_at job flags h a) g) (areas_at job h) (λ a. ap points_of_box (none a)) in
+    cost_grows job flags g h is function other stored below behind home ∙ and_none (points_of job flags h) (sum (map points_of_box (tile_boxes job flags h g))) no_points
+
+pub scratch_stays : (job : Pipeline) (flags : List Bool) (g h : ℕ) → IsJob job → is_function job g ≡ true → nat_eq g h ≡ false → is_inlined flags g ≡ false → g < length flags → LiesBehind job flags g → is_inlined flags h ≡ false
+    → ((a : Area) → box (target_at job flags h a) g ≡ None) → tile_scratch job (slice_set flags g true) h ≡ tile_scratch job flags h
+scratch_stays job flags g h is function other stored below behind home none =
+    scratch_rises job flags g h is function other stored below behind home
+    ∙ map_same (λ a. scratch (target_at job flags h a) + points_of_box (box (target_at job flags h a) g)) (λ a. scratch (target_at job flags h a)) (areas_at job h)
+    (λ a. and_none (scratch (target_at job flags h a)) (points_of_box (box (target_at job flags h a) g)) (ap points_of_box (none a)))
+
+pub room_stays : (job : Pipeline) (flags : List Bool) (g h : ℕ) → IsJob job → is_function job g ≡ true → nat_eq g h ≡ false → is_inlined flags g ≡ false → g < length flags → LiesBehind job flags g → is_inlined flags h ≡ false
+    → ((a : Area) → box (target_at job flags h a) g ≡ None) → stage_fits job (slice_set flags g true) h (slice_get job.stages h) ≡ stage_fits job flags h (slice_get job.stages h)
+room_stays job flags g h is function other stored below behind home none =
+    room_is job (slice_set flags g true) h (other_flag flags g h (turned g h other) ∙ home)
+    ∙ ap (list_all (λ n. nat_le n most_scratch)) (scratch_stays job flags g h is function other stored below behind home none)
+    ∙ sym (room_is job flags h home)

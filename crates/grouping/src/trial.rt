@@ -1,0 +1,241 @@
+#![tactic(auto)]
+//! What inlining a function would take.
+
+ghost use Rattle.std.specs.Prelude.{◌≡◌, ◌<◌, ◌+◌, ◌++◌, ◌∷◌, [], nat_le, length, slice_get, slice_set, Some, None, All, IfOk, OnOk, IfSome};
+ghost use Rattle.std.specs.List.{flat_map, list_all};
+ghost use Rattle.job.specs.Kept.{pipeline_in};
+ghost use Rattle.job.specs.WellFormed.{IsJob};
+ghost use Rattle.grouping.specs.Costs.{most_scratch};
+ghost use Rattle.grouping.specs.Greedy.{home};
+ghost use Rattle.grouping.specs.Standings.{target_at, areas_at, AllStand};
+ghost use Rattle.grouping.specs.Targets.{IsTarget, region, box, demands_by};
+ghost use Rattle.grouping.specs.Trials.{choice_of, box_at, scratch_at, points_of_box, IsCandidate, IsTrialOf};
+ghost use Rattle.grouping.specs.Walks.{IsNearArea, demanded_all, target_of};
+
+use crate::costs::{MOST_SCRATCH, areas_of_tiles};
+use crate::greedy::Choice;
+use crate::standing::Standing;
+use crate::target::Site;
+use domains::Area;
+use job::Job;
+use std::alloc::{AllocError, Global};
+
+/// A function that may be inlined, the stages that read it, from the last in dependence order to the first, and the stored
+/// stage in whose tiles all these are computed.
+#[derive(Drop)]
+pub(crate) struct Candidate {
+    pub(crate) number: usize,
+    pub(crate) readers: Vec<usize>,
+    pub(crate) home: usize,
+}
+
+/// The boxes of a function in the tiles of its home, how many points they have together, and how many each tile then has in
+/// scratch memory.
+#[derive(Drop)]
+pub(crate) struct Trial {
+    pub(crate) boxes: Vec<Option<Area>>,
+    pub(crate) added: u64,
+    pub(crate) scratch: Vec<u64>,
+}
+
+impl Trial {
+    fn none(alloc: Global) -> Trial
+        ensures boxes { result.boxes.items ≡ [] }
+        ensures added { result.added ≡ 0 }
+        ensures scratch { result.scratch.items ≡ [] }
+    {
+        Trial {
+            boxes: Vec::new(alloc),
+            added: 0,
+            scratch: Vec::new(alloc),
+        }
+    }
+
+    // One more tile, that has had so many points in scratch memory.
+    fn add(&mut self, area: Option<Area>, before: u64) -> Result<(), AllocError>
+        ensures boxes { OnOk result (self.new.boxes.items ≡ self.old.boxes.items ++ area ∷ []) }
+        ensures added { OnOk result (self.new.added ≡ self.old.added + points_of_box area) }
+        ensures scratch { OnOk result (self.new.scratch.items ≡ self.old.scratch.items ++ (before + points_of_box area) ∷ []) }
+    {
+        let points = points_of(&area);
+        self.boxes.push(area)?;
+        self.added = self.added.checked_add(points).ok_or(AllocError)?;
+        self.scratch
+            .push(before.checked_add(points).ok_or(AllocError)?)?;
+        Ok(())
+    }
+
+    /// Whether each tile has room in scratch memory.
+    pub(crate) fn fits(&self) -> bool
+        ensures { result ≡ list_all (λ n. nat_le n most_scratch) self.now.scratch.items }
+    {
+        self.scratch.iter().all(|points| *points <= MOST_SCRATCH)
+    }
+}
+
+fn points_of(area: &Option<Area>) -> u64
+    ensures { result ≡ points_of_box area.now }
+{
+    match area {
+        Some(area) => area.points(),
+        None => 0,
+    }
+}
+
+impl Choice {
+    /// What inlining a function would take.
+    pub(crate) fn trial(
+        &self,
+        alloc: Global,
+        job: &Job,
+        candidate: &Candidate,
+    ) -> Result<Trial, AllocError>
+        requires job { IsJob (pipeline_in job.now) }
+        requires stand { AllStand (pipeline_in job.now) (choice_of self.now) self.now.standings.items }
+        requires candidate { IsCandidate (pipeline_in job.now) (choice_of self.now) candidate.now }
+        ensures { IfOk result (IsTrialOf (pipeline_in job.now) self.now.flags candidate.now.home candidate.now.number) }
+    {
+        let tiles = tiles_of(alloc, job, candidate.home)?;
+        let mut hulls = no_hulls(alloc, job)?;
+        self.trial_over(alloc, job, candidate, &tiles, &mut hulls)
+    }
+
+    // The same over the tiles of its home. The hulls are room to work in.
+    fn trial_over(
+        &self,
+        alloc: Global,
+        job: &Job,
+        candidate: &Candidate,
+        tiles: &[Area],
+        hulls: &mut [Option<Area>],
+    ) -> Result<Trial, AllocError>
+        requires job { IsJob (pipeline_in job.now) }
+        requires stand { AllStand (pipeline_in job.now) (choice_of self.now) self.now.standings.items }
+        requires candidate { IsCandidate (pipeline_in job.now) (choice_of self.now) candidate.now }
+        requires tiles { tiles.now ≡ areas_at (pipeline_in job.now) candidate.now.home }
+        requires hulls { length hulls.old ≡ length (pipeline_in job.now).stages }
+        ensures { IfOk result (IsTrialOf (pipeline_in job.now) self.now.flags candidate.now.home candidate.now.number) }
+    {
+        let mut trial = Trial::none(alloc);
+        for (place, tile) in tiles.iter().enumerate() {
+            let area = self.box_in(job, candidate, place, tile, hulls);
+            trial.add(area, self.scratch_in(candidate.home, place))?;
+        }
+        Ok(trial)
+    }
+
+    // The box of the function in a tile of its home.
+    fn box_in(
+        &self,
+        job: &Job,
+        candidate: &Candidate,
+        place: usize,
+        tile: &Area,
+        hulls: &mut [Option<Area>],
+    ) -> Option<Area>
+        requires job { IsJob (pipeline_in job.now) }
+        requires stand { AllStand (pipeline_in job.now) (choice_of self.now) self.now.standings.items }
+        requires candidate { IsCandidate (pipeline_in job.now) (choice_of self.now) candidate.now }
+        requires tile { slice_get (areas_at (pipeline_in job.now) candidate.now.home) place ≡ Some tile.now }
+        requires hulls { length hulls.old ≡ length (pipeline_in job.now).stages }
+        ensures is { result ≡ box (target_at (pipeline_in job.now) self.now.flags candidate.now.home tile.now) candidate.now.number }
+        ensures room { length hulls.new ≡ length hulls.old }
+    {
+        let site = Site {
+            job,
+            schedule: &self.flags,
+            stage: candidate.home,
+            region: *tile,
+        };
+        forget(hulls, candidate.number);
+        self.demand_all(hulls, &site, &candidate.readers, place);
+        site.box_of(hulls, candidate.number)
+    }
+
+    // What these stages demand in a tile of their home.
+    fn demand_all(
+        &self,
+        hulls: &mut [Option<Area>],
+        site: &Site<'_>,
+        readers: &[usize],
+        place: usize,
+    )
+        requires job { IsJob (pipeline_in site.now.job.now) }
+        requires target { IsTarget (target_of site.now) }
+        requires flags { site.now.schedule.now ≡ self.now.flags }
+        requires stand { AllStand (pipeline_in site.now.job.now) (choice_of self.now) self.now.standings.items }
+        requires tile { slice_get (areas_at (pipeline_in site.now.job.now) site.now.stage) place ≡ Some site.now.region }
+        requires readers { All (λ r. r < length (pipeline_in site.now.job.now).stages) readers.now }
+        requires homes { All (λ r. home (choice_of self.now) r ≡ site.now.stage) readers.now }
+        ensures { hulls.new ≡ demanded_all hulls.old (flat_map (demands_by (target_of site.now) (box (target_of site.now))) readers.now) }
+    {
+        for reader in readers {
+            site.demand(hulls, *reader, self.region_in(site, *reader, place));
+        }
+    }
+
+    // The region of a stage in a tile of its home.
+    fn region_in(&self, site: &Site<'_>, reader: usize, place: usize) -> Option<Area>
+        requires job { IsJob (pipeline_in site.now.job.now) }
+        requires target { IsTarget (target_of site.now) }
+        requires flags { site.now.schedule.now ≡ self.now.flags }
+        requires stand { AllStand (pipeline_in site.now.job.now) (choice_of self.now) self.now.standings.items }
+        requires tile { slice_get (areas_at (pipeline_in site.now.job.now) site.now.stage) place ≡ Some site.now.region }
+        requires there { reader < length (pipeline_in site.now.job.now).stages }
+        requires home { home (choice_of self.now) reader ≡ site.now.stage }
+        ensures is { result ≡ region (target_of site.now) reader }
+        ensures near { IfSome result IsNearArea }
+    {
+        if reader == site.stage {
+            Some(site.region)
+        } else {
+            self.box_at(reader, place)
+        }
+    }
+
+    // The box of a function that was inlined, in a tile of its home.
+    fn box_at(&self, number: usize, place: usize) -> Option<Area>
+        ensures { result ≡ box_at (slice_get self.now.standings.items number) place }
+    {
+        match self.standings.get(number) {
+            Some(Standing::Inlined(boxes)) => *boxes.get(place)?,
+            _ => None,
+        }
+    }
+
+    // What a tile of a stored stage has in scratch memory.
+    fn scratch_in(&self, home: usize, place: usize) -> u64
+        ensures { result ≡ scratch_at (slice_get self.now.standings.items home) place }
+    {
+        match self.standings.get(home) {
+            Some(Standing::Stored(_, scratch)) => scratch.get(place).copied().unwrap_or(0),
+            _ => 0,
+        }
+    }
+}
+
+// Nothing is demanded of any stage yet.
+fn no_hulls(alloc: Global, job: &Job) -> Result<Vec<Option<Area>>, AllocError>
+    ensures { IfOk result (λ hulls. length hulls.items ≡ length (pipeline_in job.now).stages) }
+{
+    vec![in alloc; None; job.stages().len()]
+}
+
+// Nothing is demanded of this stage yet.
+fn forget(hulls: &mut [Option<Area>], number: usize)
+    ensures { hulls.new ≡ slice_set hulls.old number None }
+{
+    if number < hulls.len() {
+        hulls[number] = None;
+    }
+}
+
+/// The areas of the tiles of a stage; planes have none.
+pub(crate) fn tiles_of(alloc: Global, job: &Job, number: usize) -> Result<Vec<Area>, AllocError>
+    ensures { IfOk result (λ v. v.items ≡ areas_at (pipeline_in job.now) number) }
+{
+    match job.grid(number) {
+        Some(grid) => areas_of_tiles(alloc, &grid),
+        None => Ok(Vec::new(alloc)),
+    }
+}
