@@ -1,6 +1,6 @@
 //! What the definitions amount to, proved once for the crates above. A law is a function that does nothing: its clauses are the law.
 
-ghost use Rattle.std.specs.Prelude.{◌≡◌, ◌<◌, ◌↔◌, ℕ, Bool, Some, None, List, [], length, slice_get, All, AllPairs, Contains};
+ghost use Rattle.std.specs.Prelude.{◌≡◌, ◌<◌, ◌↔◌, ℕ, Bool, false, Some, None, List, [], length, slice_get, All, AllPairs, Contains};
 ghost use Rattle.domains.specs.Area.{IsArea, IsSubarea, point_count};
 ghost use Rattle.domains.specs.Tiles.{HasTile, tile_area};
 ghost use Rattle.domains.specs.declared.area.Area.{Area};
@@ -9,10 +9,12 @@ ghost use Rattle.job.specs.Pipeline.{Stage, Pipeline};
 ghost use Rattle.job.specs.Readers.{grid_at};
 ghost use Rattle.job.specs.Reads.{stage_read, reads_of, IsRanked};
 ghost use Rattle.job.specs.WellFormed.{IsJob};
+ghost use Rattle.grouping.specs.Chains.{ChainLeads, chosen_after};
 ghost use Rattle.grouping.specs.Costs.{scratch, points};
 ghost use Rattle.grouping.specs.Demands.{IsHullOfAll, hull_of_all};
+ghost use Rattle.grouping.specs.Greedy.{greedy_choice, greedy_flags, home};
 ghost use Rattle.grouping.specs.Order.{ComesBefore, in_order};
-ghost use Rattle.grouping.specs.Schedules.{all_stored};
+ghost use Rattle.grouping.specs.Schedules.{all_stored, is_inlined};
 ghost use Rattle.grouping.specs.Targets.{Target, IsTarget, IsListed, HasWhatItReads, box_by, box, region, boxes};
 
 /// The box of a stage is the hull of what the stages in the target demand of it, each over its own region, cut to its domain.
@@ -55,4 +57,12 @@ pub fn boxes_lie_in_domains()
 pub fn stored_stages_take_no_scratch()
     ensures scratch { (t : Target) → t.flags ≡ all_stored t.job → scratch t ≡ 0 }
     ensures points { (t : Target) → t.flags ≡ all_stored t.job → points t ≡ point_count t.region }
+{}
+
+/// The greedy choice has each stage at home in a stored stage: the one from which a chain of reads leads to it through inlined
+/// functions alone. Homes follow chains so on the way, too, when some stages have been visited.
+pub fn homes_follow_chains()
+    ensures stored { (job : Pipeline) (percent x : ℕ) → IsJob job → is_inlined (greedy_flags job percent) (home (greedy_choice job percent) x) ≡ false }
+    ensures chains { (job : Pipeline) (percent t x : ℕ) → IsJob job → is_inlined (greedy_flags job percent) t ≡ false → ChainLeads job (greedy_flags job percent) t x ↔ (home (greedy_choice job percent) x ≡ t) }
+    ensures on_the_way { (job : Pipeline) (percent k t x : ℕ) → IsJob job → is_inlined (chosen_after job percent k).flags t ≡ false → ChainLeads job (chosen_after job percent k).flags t x ↔ (home (chosen_after job percent k) x ≡ t) }
 {}
