@@ -18,8 +18,8 @@ word_of Plan = codes "plan"
 abbrev pub AsksFor : List (String Global) → Task → Type 0
 AsksFor words task = (word : String Global) × (slice_get words 0 ≡ Some word) × (string_bytes word ≡ word_of task)
 
--- what a command says, where all functions are to be stored or not
-abbrev pub saying_of : Task → Bool → Saying
-saying_of Eval stored = SaysResult
-saying_of Check stored = SaysCheck
-saying_of Plan stored = SaysPlan stored
+-- what a command says, where all functions are to be stored or not, and by this percentage
+abbrev pub saying_of : Task → Bool → ℕ → Saying
+saying_of Eval stored percent = SaysResult
+saying_of Check stored percent = SaysCheck
+saying_of Plan stored percent = SaysPlan stored percent

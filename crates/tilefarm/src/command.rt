@@ -1,6 +1,6 @@
 //! Commands, and how they end.
 
-ghost use Rattle.std.specs.Prelude.{◌≡◌, ◌≤◌, ◌⊎◌, Bool, List};
+ghost use Rattle.std.specs.Prelude.{◌≡◌, ◌≤◌, ◌⊎◌, ℕ, Bool, List};
 ghost use Rattle.domains.specs.Sides.{Sides};
 ghost use Rattle.tilefarm.specs.Giving.{Given};
 ghost use Rattle.tilefarm.specs.Outcomes.{AppendsSaid, CountsRead, CountsWritten, Writes, status_of};
@@ -31,8 +31,8 @@ pub fn run_command<H: AllocGlobal, R: Source, W: Sink>(
     reader: &mut R,
     writer: &mut W,
 ) -> u8
-    ensures done { result ≡ 0 → (task : Task) × AsksFor words.now task × (stored : Bool) × (given : List Given) × (sides : Sides)
-        × AppendsSaid (saying_of task stored) (R.remaining reader.old) given sides (W.contents writer.old) (W.contents writer.new) }
+    ensures done { result ≡ 0 → (task : Task) × AsksFor words.now task × (stored : Bool) × (percent : ℕ) × (given : List Given) × (sides : Sides)
+        × AppendsSaid (saying_of task stored percent) (R.remaining reader.old) given sides (W.contents writer.old) (W.contents writer.new) }
     ensures known { result ≤ 5 }
     ensures read { (R.failures reader.new ≡ R.failures reader.old) ⊎ (result ≡ 4) }
 {
@@ -57,7 +57,7 @@ fn perform<H: AllocGlobal, R: Source, W: Sink>(
     writer: &mut W,
 ) -> Result<(), StreamFault>
     ensures written { let asked = request.now in
-        Writes (saying_of asked.task asked.options.stored) (R.remaining reader.old) asked.parameters.items asked.options.sides result (W.contents writer.old) (W.contents writer.new) }
+        Writes (saying_of asked.task asked.options.stored asked.options.percent) (R.remaining reader.old) asked.parameters.items asked.options.sides result (W.contents writer.old) (W.contents writer.new) }
     ensures read { CountsRead result (R.failures reader.old) (R.failures reader.new) }
     ensures write { CountsWritten result (W.failures writer.old) (W.failures writer.new) }
 {

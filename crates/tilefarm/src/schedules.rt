@@ -1,10 +1,10 @@
 //! The schedule that the options ask for.
 
-ghost use Rattle.std.specs.Prelude.{◌≡◌, true, IfOk};
+ghost use Rattle.std.specs.Prelude.{◌≡◌, IfOk};
 ghost use Rattle.grouping.specs.Inlining.{AllFitScratch, IsScheduleOf};
-ghost use Rattle.grouping.specs.Schedules.{all_stored};
 ghost use Rattle.job.specs.Kept.{pipeline_in};
 ghost use Rattle.job.specs.WellFormed.{IsJob};
+ghost use Rattle.tilefarm.specs.Planning.{flags_asked};
 
 use crate::options::Options;
 use grouping::Schedule;
@@ -16,7 +16,7 @@ pub fn schedule_of(alloc: Global, job: &Job, options: &Options) -> Result<Schedu
     requires { IsJob (pipeline_in job.now) }
     ensures schedule { IfOk result (IsScheduleOf (pipeline_in job.now)) }
     ensures fits { IfOk result (λ s. AllFitScratch (pipeline_in job.now) s.flags) }
-    ensures stored { options.now.stored ≡ true → IfOk result (λ s. s.flags ≡ all_stored (pipeline_in job.now)) }
+    ensures flags { IfOk result (λ s. s.flags ≡ flags_asked options.now.stored options.now.percent (pipeline_in job.now)) }
 {
     if options.stored {
         Schedule::stored(alloc, job)

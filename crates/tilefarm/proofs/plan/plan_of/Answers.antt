@@ -1,4 +1,6 @@
-use Rattle.tilefarm.specs.Planning.{SaysPlan}
+use Rattle.std.proofs.Common.{Bool, List, subst}
+use Rattle.job.specs.Kept.{pipeline_in}
+use Rattle.tilefarm.specs.Planning.{IsPlan, SaysPlan}
 use Rattle.tilefarm.proofs.Replying.{said_of}
 use Rattle.tilefarm.proofs.plan.plan_of.Goals as goal
 
@@ -6,5 +8,5 @@ pub returns-clause-said : goal.returns-clause-said
 returns-clause-said c =
     let read = c.in_ok-job.ensures in
     let chosen = c.in_ok-schedule.ensures in
-    said_of (SaysPlan c.args.options.now.stored) c.args.input.items c.args.given.now c.args.options.now.sides c.in_ok-job.job c.in_ok-lines.lines.items read.of_input read.job
-    (record { flags = c.in_ok-schedule.schedule.flags; schedule = chosen.schedule.flags; fits = chosen.fits; all = chosen.stored; tells = c.in_ok-lines.ensures })
+    said_of (SaysPlan c.args.options.now.stored c.args.options.now.percent) c.args.input.items c.args.given.now c.args.options.now.sides c.in_ok-job.job c.in_ok-lines.lines.items read.of_input read.job
+    (subst (λ (flags : List Bool). IsPlan (pipeline_in c.in_ok-job.job) flags c.in_ok-lines.lines.items) chosen.flags (record { schedule = chosen.schedule.flags; fits = chosen.fits; tells = c.in_ok-lines.ensures }))
