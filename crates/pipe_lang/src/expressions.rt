@@ -43,20 +43,26 @@ impl Parser<'_> {
     {
         let mut left = self.product(levels)?;
         while sign_of(self.ahead()).is_some() {
-            let negative = self.sign(Role::Node)?;
-            let right = self.product(levels)?;
-            let op = if negative {
+            let sum = Box::new(self.alloc, left)?;
+            let op = if self.sign(Role::Node)? {
                 BinaryOp::Sub
             } else {
                 BinaryOp::Add
             };
-            left = Expr::Binary(
-                op,
-                Box::new(self.alloc, left)?,
-                Box::new(self.alloc, right)?,
-            );
+            let right = self.product(levels)?;
+            left = Expr::Binary(op, sum, Box::new(self.alloc, right)?);
         }
         Ok(left)
+    }
+
+    // An expression in a box of its own, as an operand stands in another.
+    #[cycle(expression)]
+    fn operand(&mut self, levels: u32) -> Result<Box<Expr>, ParseError>
+        ensures exact { Reads (λ e. (view e.value, at self.new)) result (expression_at levels (at self.old)) }
+        ensures shorter { length self.new.rest.now ≤ length self.old.rest.now }
+    {
+        let value = self.expression(levels)?;
+        Ok(Box::new(self.alloc, value)?)
     }
 
     #[cycle(expression)]
@@ -67,20 +73,14 @@ impl Parser<'_> {
     {
         let mut left = self.unary(levels)?;
         while factor_of(self.ahead()).is_some() {
-            match self.factor()? {
+            let product = Box::new(self.alloc, left)?;
+            left = match self.factor()? {
                 Factor::Times => {
                     let right = self.unary(levels)?;
-                    left = Expr::Binary(
-                        BinaryOp::Mul,
-                        Box::new(self.alloc, left)?,
-                        Box::new(self.alloc, right)?,
-                    );
+                    Expr::Binary(BinaryOp::Mul, product, Box::new(self.alloc, right)?)
                 }
-                Factor::Literal(op) => {
-                    let number = self.int(Role::Plain)?;
-                    left = Expr::Literal(op, Box::new(self.alloc, left)?, number);
-                }
-            }
+                Factor::Literal(op) => Expr::Literal(op, product, self.int(Role::Plain)?),
+            };
         }
         Ok(left)
     }
@@ -119,15 +119,14 @@ impl Parser<'_> {
             Opening::Group => {
                 self.mark(Mark::OpenRound, Role::Plain)?;
                 let inner = self.expression(levels)?;
-                self.mark(Mark::CloseRound, Role::Plain)?;
-                Ok(inner)
+                Ok(self.ended(inner, Mark::CloseRound)?)
             }
             Opening::Abs => {
                 self.word(Word::Abs, Role::Node)?;
                 self.mark(Mark::OpenRound, Role::Plain)?;
-                let operand = self.expression(levels)?;
+                let operand = self.operand(levels)?;
                 self.mark(Mark::CloseRound, Role::Plain)?;
-                Ok(Expr::Abs(Box::new(self.alloc, operand)?))
+                Ok(Expr::Abs(operand))
             }
             Opening::Clamp => self.clamp(levels),
             Opening::Select => self.select(levels),
@@ -144,15 +143,11 @@ impl Parser<'_> {
     {
         self.word(word_of(op), Role::Node)?;
         self.mark(Mark::OpenRound, Role::Plain)?;
-        let left = self.expression(levels)?;
+        let left = self.operand(levels)?;
         self.mark(Mark::Comma, Role::Plain)?;
-        let right = self.expression(levels)?;
+        let right = self.operand(levels)?;
         self.mark(Mark::CloseRound, Role::Plain)?;
-        Ok(Expr::Binary(
-            op,
-            Box::new(self.alloc, left)?,
-            Box::new(self.alloc, right)?,
-        ))
+        Ok(Expr::Binary(op, left, right))
     }
 
     #[cycle(expression)]
@@ -163,17 +158,13 @@ impl Parser<'_> {
     {
         self.word(Word::Clamp, Role::Node)?;
         self.mark(Mark::OpenRound, Role::Plain)?;
-        let value = self.expression(levels)?;
+        let value = self.operand(levels)?;
         self.mark(Mark::Comma, Role::Plain)?;
-        let least = self.expression(levels)?;
+        let least = self.operand(levels)?;
         self.mark(Mark::Comma, Role::Plain)?;
-        let greatest = self.expression(levels)?;
+        let greatest = self.operand(levels)?;
         self.mark(Mark::CloseRound, Role::Plain)?;
-        Ok(Expr::Clamp(
-            Box::new(self.alloc, value)?,
-            Box::new(self.alloc, least)?,
-            Box::new(self.alloc, greatest)?,
-        ))
+        Ok(Expr::Clamp(value, least, greatest))
     }
 
     #[cycle(expression)]
@@ -184,21 +175,14 @@ impl Parser<'_> {
     {
         self.word(Word::Select, Role::Node)?;
         self.mark(Mark::OpenRound, Role::Plain)?;
-        let left = self.expression(levels)?;
+        let left = self.operand(levels)?;
         let relation = self.relation()?;
-        let right = self.expression(levels)?;
+        let right = self.operand(levels)?;
         self.mark(Mark::Comma, Role::Plain)?;
-        let then = self.expression(levels)?;
+        let then = self.operand(levels)?;
         self.mark(Mark::Comma, Role::Plain)?;
-        let otherwise = self.expression(levels)?;
+        let otherwise = self.operand(levels)?;
         self.mark(Mark::CloseRound, Role::Plain)?;
-        let (left, right) = (Box::new(self.alloc, left)?, Box::new(self.alloc, right)?);
-        Ok(Expr::Select(
-            left,
-            relation,
-            right,
-            Box::new(self.alloc, then)?,
-            Box::new(self.alloc, otherwise)?,
-        ))
+        Ok(Expr::Select(left, relation, right, then, otherwise))
     }
 }

@@ -126,8 +126,7 @@ impl Parser<'_> {
     {
         self.mark(Mark::Colon, Role::Plain)?;
         let value = self.expression(MAX_LEVELS)?;
-        self.mark(Mark::Semicolon, Role::Plain)?;
-        Ok(value)
+        Ok(self.ended(value, Mark::Semicolon)?)
     }
 
     #[tactic(auto, using(crate::proofs::ItemUnrolled::next_case), unfolding(crate::specs::Reading::cases_at))]
@@ -172,14 +171,14 @@ impl Parser<'_> {
         self.mark(Mark::OpenCurly, Role::Plain)?;
         let cases = self.cases()?;
         let otherwise = self.otherwise()?;
-        self.mark(Mark::CloseCurly, Role::Plain)?;
-        Ok(Func {
+        let func = Func {
             name,
             row,
             column,
             cases,
             otherwise,
-        })
+        };
+        Ok(self.ended(func, Mark::CloseCurly)?)
     }
 
     #[tactic(auto, unfolding(crate::specs::Reading::an_accumulator))]
@@ -198,8 +197,7 @@ impl Parser<'_> {
         let value = self.expression(MAX_LEVELS)?;
         self.word(Word::At, Role::Plain)?;
         let bin = self.expression(MAX_LEVELS)?;
-        self.mark(Mark::Semicolon, Role::Plain)?;
-        Ok(Accum {
+        let accum = Accum {
             name,
             bins,
             row,
@@ -207,7 +205,8 @@ impl Parser<'_> {
             fold,
             value,
             bin,
-        })
+        };
+        Ok(self.ended(accum, Mark::Semicolon)?)
     }
 
     #[tactic(auto, unfolding(crate::specs::Reading::an_output))]

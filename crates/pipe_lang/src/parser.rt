@@ -121,6 +121,16 @@ impl Parser<'_> {
         }
     }
 
+    // Gives back what was read, if the mark stands behind it.
+    pub fn ended<T: Drop>(&mut self, value: T, mark: Mark) -> Result<T, ParseError>
+        ensures exact { Reads (λ _. (tt, at self.new)) result (reading.mark mark Role.Plain (at self.old)) }
+        ensures shorter { length self.new.rest.now ≤ length self.old.rest.now }
+        ensures same { IfOk result (λ x. x ≡ value) }
+    {
+        self.mark(mark, Role::Plain)?;
+        Ok(value)
+    }
+
     #[tactic(auto, using(crate::proofs::Passing::word_passes))]
     pub fn word(&mut self, word: Word, role: Role) -> Result<(), ParseError>
         ensures exact { Reads (λ _. (tt, at self.new)) result (reading.word word role (at self.old)) }

@@ -4,40 +4,43 @@ use Rattle.pipe_lang.specs.Reading.{at, while, is_sign_at, is_factor_at, sum_mor
 use Rattle.pipe_lang.proofs.parser.Parser.+expression.Given as goal
 
 abbrev pub decreases-expression : goal.decreases-expression
-decreases-expression l = 5 * l.levels + 4
+decreases-expression l = 6 * l.levels + 4
+
+abbrev pub decreases-operand : goal.decreases-operand
+decreases-operand l = 6 * l.levels + 5
 
 abbrev pub decreases-product : goal.decreases-product
-decreases-product l = 5 * l.levels + 3
+decreases-product l = 6 * l.levels + 3
 
 abbrev pub decreases-unary : goal.decreases-unary
-decreases-unary l = 5 * l.levels + 2
+decreases-unary l = 6 * l.levels + 2
 
 abbrev pub decreases-opened : goal.decreases-opened
-decreases-opened l = 5 * l.levels + 6
+decreases-opened l = 6 * l.levels + 7
 
 abbrev pub decreases-pair : goal.decreases-pair
-decreases-pair l = 5 * l.levels + 5
+decreases-pair l = 6 * l.levels + 6
 
 abbrev pub decreases-clamp : goal.decreases-clamp
-decreases-clamp l = 5 * l.levels + 5
+decreases-clamp l = 6 * l.levels + 6
 
 abbrev pub decreases-select : goal.decreases-select
-decreases-select l = 5 * l.levels + 5
+decreases-select l = 6 * l.levels + 6
 
-abbrev pub invariant-expression-loop-self : goal.invariant-expression-loop-self
-invariant-expression-loop-self l = record {
+abbrev pub invariant-expression-loop-left : goal.invariant-expression-loop-left
+invariant-expression-loop-left l = record {
   reading : expression_at l.levels (at l.fn.self) ≡ while is_sign_at (sum_more (product_at l.levels)) (view l.left) (at l.self);
   shorter : length l.self.rest.now ≤ length l.fn.self.rest.now;
 }
 
-abbrev pub decreases-expression-loop-self : goal.decreases-expression-loop-self
-decreases-expression-loop-self l = length l.self.rest.now
+abbrev pub decreases-expression-loop-left : goal.decreases-expression-loop-left
+decreases-expression-loop-left l = length l.self.rest.now
 
-abbrev pub invariant-product-loop-self : goal.invariant-product-loop-self
-invariant-product-loop-self l = record {
+abbrev pub invariant-product-loop-left : goal.invariant-product-loop-left
+invariant-product-loop-left l = record {
   reading : product_at l.levels (at l.fn.self) ≡ while is_factor_at (product_more (unary_at l.levels)) (view l.left) (at l.self);
   shorter : length l.self.rest.now ≤ length l.fn.self.rest.now;
 }
 
-abbrev pub decreases-product-loop-self : goal.decreases-product-loop-self
-decreases-product-loop-self l = length l.self.rest.now
+abbrev pub decreases-product-loop-left : goal.decreases-product-loop-left
+decreases-product-loop-left l = length l.self.rest.now
