@@ -15,7 +15,7 @@ use Rattle.domains.specs.declared.grid.Grid.{Grid}
 use Rattle.domains.proofs.Lengths.{len_is}
 use Rattle.domains.proofs.PairLists.{row_of}
 use Rattle.domains.proofs.PartsOfSpans.{part_fits, starts_in}
-use Rattle.pipe_lang.specs.declared.tree.Fold.{Fold}
+use Rattle.domains.specs.declared.operators.Fold.{Fold}
 use Rattle.job.specs.Totals.{start_of, joined}
 use Rattle.accumulators.proofs.Folding.{total_by_values, total_of-none, joined-exchange, starts_join, total_among, total_among-append, total_of-permuted}
 

@@ -13,7 +13,7 @@ use Rattle.domains.specs.Pairs.{pairs}
 use Rattle.domains.specs.Span.{Ends, Holds, IsSpan, len_of, numbers_from, numbers_of}
 use Rattle.domains.proofs.Lengths.{len_is}
 use Rattle.domains.proofs.Spans.{length-numbers_from}
-use Rattle.pipe_lang.specs.declared.tree.Fold.{Fold}
+use Rattle.domains.specs.declared.operators.Fold.{Fold}
 use Rattle.job.specs.Totals.{start_of, total_of, joined}
 use Rattle.tile_eval.specs.Rows.{EachPlace, at}
 use Rattle.accumulators.specs.Bins.{starts}

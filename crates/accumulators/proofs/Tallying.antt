@@ -10,7 +10,7 @@ use Rattle.domains.specs.Span.{Ends, len_of, numbers_of}
 use Rattle.domains.specs.Tiles.{tiles_of}
 use Rattle.domains.specs.declared.area.Area.{Area}
 use Rattle.domains.specs.declared.grid.Grid.{Grid}
-use Rattle.pipe_lang.specs.declared.tree.Fold.{Fold}
+use Rattle.domains.specs.declared.operators.Fold.{Fold}
 use Rattle.job.specs.Answers.{grid_of, has_tiles, is_accumulator}
 use Rattle.job.specs.Pipeline.{Body, plane, function, accumulator, Pipeline, Stage}
 use Rattle.job.specs.Readers.{fold_of, bins_of, stage_fold, stage_bins, stage_grid, grid_at}

@@ -8,7 +8,7 @@ use Rattle.domains.specs.Span.{Ends}
 use Rattle.domains.specs.Tiles.{HasTile, tile_area}
 use Rattle.domains.specs.declared.area.Area.{Area}
 use Rattle.domains.specs.declared.grid.Grid.{Grid}
-use Rattle.pipe_lang.specs.declared.tree.Fold.{Fold}
+use Rattle.domains.specs.declared.operators.Fold.{Fold}
 use Rattle.job.specs.Answers.{Tile, grid_of, has_tiles}
 use Rattle.job.specs.Identity.{HasTileAt}
 use Rattle.job.specs.Pipeline.{Pipeline, Stage}

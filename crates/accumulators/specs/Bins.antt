@@ -1,7 +1,7 @@
 -- What bins start from, and how bins are joined with bins.
 use Rattle.std.specs.Prelude.{ℤ, List, map, zip}
 use Rattle.domains.specs.Span.{Ends, numbers_of}
-use Rattle.pipe_lang.specs.declared.tree.Fold.{Fold}
+use Rattle.domains.specs.declared.operators.Fold.{Fold}
 use Rattle.job.specs.Totals.{start_of, joined}
 
 -- what each bin starts from

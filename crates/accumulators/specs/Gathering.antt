@@ -2,7 +2,7 @@
 use Rattle.std.specs.Prelude.{ℕ, ℤ, pos, ◌+ℤ◌, ◌≡◌, Bool, if◌then◌else◌, List, map, filter, fold, length, zip}
 use Rattle.std.specs.Ordering.{int_eq}
 use Rattle.domains.specs.Span.{numbers_from}
-use Rattle.pipe_lang.specs.declared.tree.Fold.{Fold}
+use Rattle.domains.specs.declared.operators.Fold.{Fold}
 use Rattle.job.specs.Totals.{joined}
 use Rattle.tile_eval.specs.Rows.{EachPlace, at}
 

@@ -4,7 +4,7 @@ use Rattle.domains.specs.Span.{Ends}
 use Rattle.domains.specs.Tiles.{tile_area}
 use Rattle.domains.specs.declared.grid.Grid.{Grid}
 use Rattle.grouping.specs.Inlining.{IsScheduleOf}
-use Rattle.pipe_lang.specs.declared.tree.Fold.{Fold}
+use Rattle.domains.specs.declared.operators.Fold.{Fold}
 use Rattle.job.specs.Answers.{grid_of}
 use Rattle.job.specs.Formula.{Formula}
 use Rattle.job.specs.Kept.{pipeline_in}

@@ -8,8 +8,7 @@ ghost use Rattle.tile_eval.specs.Rows.{EachPlace, at};
 ghost use Rattle.accumulators.specs.Gathering.{once_came, after_values, values_of_bin};
 
 use crate::join::joined;
-use domains::Span;
-use pipe_lang::Fold;
+use domains::{Fold, Span};
 
 // The place of a bin, if it is one of these.
 #[tactic(auto, using(std::proofs::lemmas::Int::ints))]

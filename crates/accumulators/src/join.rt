@@ -5,7 +5,7 @@ ghost use Rattle.std.specs.Prelude.{◌≡◌, length};
 ghost use Rattle.job.specs.Totals.{joined as joined_of};
 ghost use Rattle.accumulators.specs.Bins.{joined_bins};
 
-use pipe_lang::Fold;
+use domains::Fold;
 
 /// Joins two numbers of one bin: sums wrap at 64 bits.
 #[tactic(auto, using(std::proofs::lemmas::Int::wraps))]

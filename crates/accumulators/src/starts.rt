@@ -5,8 +5,7 @@ ghost use Rattle.std.specs.Prelude.{◌≡◌, IfOk};
 ghost use Rattle.job.specs.Totals.{start_of as start_by};
 ghost use Rattle.accumulators.specs.Bins.{starts as starts_by};
 
-use domains::Span;
-use pipe_lang::Fold;
+use domains::{Fold, Span};
 use std::alloc::{AllocError, Global};
 
 // What a bin starts from, which it stays at where no point has this bin.

@@ -16,9 +16,8 @@ use crate::computed::Computed;
 use crate::join::join_into;
 use crate::partials::layout_totals;
 use crate::starts::starts;
-use domains::{Grid, Span};
+use domains::{Fold, Grid, Span};
 use overlap_tiles::{Layout, PlanFault};
-use pipe_lang::Fold;
 use std::alloc::{AllocError, Global};
 use tile_run::Scratch;
 

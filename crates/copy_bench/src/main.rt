@@ -2,11 +2,12 @@
 #![tactic(auto)]
 
 use anyhow::{Context, Result};
-use netpbm::{Metered, read, read_whole, write_raw};
+use netpbm::{read, write_raw};
 use std::fs::File;
 use std::rt::{Clock, Env, Files};
 use std::time::Instant;
 use std::{env, io};
+use streams::{Metered, read_whole};
 
 fn round(rt: &(impl AllocGlobal + Clock + Files + Print + Eprint), path: &str) -> Result<()> {
     let start = Instant::now(rt)?;

@@ -9,3 +9,4 @@ pub mod PartsOfSpans
 pub mod Meetings
 pub mod Grids
 pub mod Covers
+pub mod Places

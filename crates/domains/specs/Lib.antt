@@ -5,3 +5,5 @@ pub mod Area
 pub mod Index
 pub mod Sides
 pub mod Tiles
+pub mod Greatest
+pub mod Cuts

@@ -2,7 +2,7 @@
 use Rattle.std.proofs.Common.{ℕ, ◌<◌, ◌≡◌, List, map, length, slice_index_or, ap, ◌∙◌, refl}
 use Rattle.std.specs.Option.{option_map, option_map_or}
 use Rattle.std.proofs.lemmas.Option.{slice_get-map}
-use Rattle.pipe_checks.proofs.Stages.{here_is}
+use Rattle.domains.proofs.Places.{here_is}
 use Rattle.job.specs.declared.stage.Stage.{Stage as KeptStage}
 use Rattle.job.specs.Pipeline.{rank_of}
 use Rattle.job.specs.Views.{stage_view}

@@ -8,7 +8,7 @@ use Rattle.std.proofs.lemmas.List.{length-set, get_or-set_same, get_or-set_other
 use Rattle.std.proofs.lemmas.List.Elements.{All-nil, All-cons, All-head, All-tail}
 use Rattle.std.proofs.lemmas.Option.{slice_get_cases, slice_get_within}
 use Rattle.domains.specs.declared.area.Area.{Area}
-use Rattle.pipe_checks.proofs.Unknown.{slice_get-set_same, slice_get-set_other}
+use Rattle.domains.proofs.Places.{slice_get-set_same, slice_get-set_other}
 use Rattle.job.specs.Pipeline.{Stage, Pipeline, rank_of}
 use Rattle.job.specs.WellFormed.{IsJob}
 use Rattle.job.proofs.TotalLaws.{map_same}

@@ -7,11 +7,11 @@ use Rattle.std.proofs.lemmas.Bool.Decides.{Decides-int_eq}
 use Rattle.domains.specs.Span.{Ends, Holds}
 use Rattle.domains.specs.Area.{HoldsPoint, IsArea}
 use Rattle.domains.specs.declared.area.Area.{Area}
-use Rattle.pipe_lang.specs.declared.tree.Relation.{Relation}
-use Rattle.pipe_lang.specs.declared.tree.Relation.TheVariants.{AtMost, AtLeast, Equals}
+use Rattle.domains.specs.declared.operators.Relation.{Relation}
+use Rattle.domains.specs.declared.operators.Relation.TheVariants.{AtMost, AtLeast, Equals}
 use Rattle.job.specs.Formula.{row, column, Test, compare, remainder}
 use Rattle.job.specs.Values.{along, is_related, is_passed, all_passed}
-use Rattle.pipe_checks.specs.Boxes.{IsCutArea}
+use Rattle.domains.specs.Cuts.{IsCutArea}
 use Rattle.job.specs.Boxes.{Relates, BoundHolds, BoundsHold, cut_ends, cut_by, cut_by_all, if_some, box_of}
 
 Holds-cut_ends : (relation : Relation) (bound : ℤ) (s : Ends) (v : ℤ) → Holds (cut_ends relation bound s) v ↔ (Holds s v × Relates relation v bound)

@@ -8,10 +8,10 @@ use Rattle.std.proofs.lemmas.List.Elements.{All-head, All-tail}
 use Rattle.domains.specs.Arithmetic.{wrapped, floor_div, floor_rem, clamped}
 use Rattle.domains.proofs.Floors.{floor_splits, floor_div_rises, floor_div_within}
 use Rattle.netpbm.specs.Image.{Image, IsPlane, IsImage}
-use Rattle.pipe_lang.specs.declared.tree.BinaryOp.{BinaryOp}
-use Rattle.pipe_lang.specs.declared.tree.BinaryOp.TheVariants.{Add, Sub, Mul, Min, Max}
-use Rattle.pipe_lang.specs.declared.tree.LiteralOp.{LiteralOp}
-use Rattle.pipe_lang.specs.declared.tree.LiteralOp.TheVariants.{Div, Rem, Shl, Shr}
+use Rattle.domains.specs.declared.operators.BinaryOp.{BinaryOp}
+use Rattle.domains.specs.declared.operators.BinaryOp.TheVariants.{Add, Sub, Mul, Min, Max}
+use Rattle.domains.specs.declared.operators.LiteralOp.{LiteralOp}
+use Rattle.domains.specs.declared.operators.LiteralOp.TheVariants.{Div, Rem, Shl, Shr}
 use Rattle.std.proofs.lemmas.Nat.{pow_pos}
 use Rattle.domains.specs.Area.{HoldsPoint}
 use Rattle.domains.specs.declared.area.Area.{Area}

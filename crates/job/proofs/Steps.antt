@@ -9,7 +9,7 @@ use Rattle.netpbm.specs.Image.{Image}
 use Rattle.job.specs.Formula.{Formula}
 use Rattle.job.specs.Pipeline.{Body, plane, function, accumulator, Stage, rank_of}
 use Rattle.job.specs.Values.{Valuation, kernel_row, kernel_column, body_value, value}
-use Rattle.pipe_checks.specs.Graph.{greatest}
+use Rattle.domains.specs.Greatest.{greatest}
 use Rattle.job.specs.Reads.{Read, point, window, stage_read, reads_in, EachTaken, SameAt, other_formula, reads_of, rank_by}
 use Rattle.job.proofs.Agreeing.{All-left, All-right, formula_value-agrees}
 use Rattle.job.proofs.Choosing.{IsAlike, AlikeWhere, chosen_alike}

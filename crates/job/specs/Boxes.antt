@@ -3,8 +3,8 @@ use Rattle.std.specs.Prelude.{ℤ, ◌≤ℤ◌, ◌≡◌, int_le, ◌&&◌, if
 use Rattle.std.specs.Int.{int_min, int_max}
 use Rattle.domains.specs.Span.{Ends}
 use Rattle.domains.specs.declared.area.Area.{Area}
-use Rattle.pipe_lang.specs.declared.tree.Relation.{Relation}
-use Rattle.pipe_lang.specs.declared.tree.Relation.TheVariants.{AtMost, AtLeast, Equals}
+use Rattle.domains.specs.declared.operators.Relation.{Relation}
+use Rattle.domains.specs.declared.operators.Relation.TheVariants.{AtMost, AtLeast, Equals}
 use Rattle.job.specs.Formula.{Axis, row, column, Test, compare, remainder}
 use Rattle.job.specs.Pipeline.{Body, plane, function, accumulator}
 use Rattle.job.specs.Values.{along}

@@ -2,9 +2,9 @@
 -- by its value.
 use Rattle.std.specs.Prelude.{ℕ, ℤ, List}
 use Rattle.domains.specs.Index.{Scale}
-use Rattle.pipe_lang.specs.declared.tree.BinaryOp.{BinaryOp}
-use Rattle.pipe_lang.specs.declared.tree.LiteralOp.{LiteralOp}
-use Rattle.pipe_lang.specs.declared.tree.Relation.{Relation}
+use Rattle.domains.specs.declared.operators.BinaryOp.{BinaryOp}
+use Rattle.domains.specs.declared.operators.LiteralOp.{LiteralOp}
+use Rattle.domains.specs.declared.operators.Relation.{Relation}
 
 -- the first coordinate of a point is its row, the second its column
 pub data Axis : Type 0 where

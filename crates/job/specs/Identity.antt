@@ -1,14 +1,10 @@
--- What is hashed of a job's input, and the keys of its tiles.
+-- What is hashed of a job's input, and which tiles have keys.
 use Rattle.std.specs.Prelude.{ℕ, List, [], ◌∷◌, ◌++◌, length, codes, IsSomeAnd}
 use Rattle.std.specs.List.{flat_map}
 use Rattle.std.specs.Int.{w16, w32, cast_unsigned, to_be_bytes}
-use Rattle.std.specs.Cmp.Lexicographic.{slice_cmp}
-use Rattle.std.specs.declared.cmp.Ordering.{Ordering}
-use Rattle.std.specs.Ordering.{nat_cmp, then_cmp, on}
 use Rattle.sha2.specs.Sha256.{sha256}
 use Rattle.domains.specs.Tiles.{HasTile}
 use Rattle.netpbm.specs.Spelling.{spelling}
-use Rattle.job.specs.declared.identity.Key.{Key}
 use Rattle.job.specs.Pipeline.{Parameter, Pipeline}
 use Rattle.job.specs.Readers.{grid_at}
 
@@ -34,9 +30,3 @@ input_id job = sha256 (input_bytes job)
 -- there is a tile of stage g in row i and column j of its grid
 abbrev pub HasTileAt : Pipeline → ℕ → ℕ → ℕ → Type 0
 HasTileAt job g i j = IsSomeAnd (grid_at job g) (λ grid. HasTile grid i j)
-
--- keys are in the order of the first field that differs, and identities in that of the first byte that differs
-abbrev pub key_cmp : Key → Key → Ordering
-key_cmp =
-    then_cmp (on (λ k. k.program) (slice_cmp nat_cmp)) (then_cmp (on (λ k. k.input) (slice_cmp nat_cmp))
-    (then_cmp (on (λ k. k.stage) nat_cmp) (then_cmp (on (λ k. k.row) nat_cmp) (on (λ k. k.col) nat_cmp))))

@@ -6,7 +6,7 @@ use Rattle.job.specs.Pipeline.{Pipeline}
 use Rattle.job.specs.Views.{pipeline_of}
 
 abbrev pub pipeline_in : Job → Pipeline
-pipeline_in job = pipeline_of job.draft
+pipeline_in job = pipeline_of job.parts
 
 abbrev pub program_text_in : Job → List ℕ
 program_text_in job = job.text.items

@@ -8,14 +8,8 @@ pub mod Answers
 pub mod WellFormed
 pub mod Worked
 pub mod Lopsided
-pub mod Binding
-pub mod Fits
-pub mod Texts
 pub mod Views
-pub mod BindFaults
-pub mod Parts
 pub mod Readers
 pub mod Kept
-pub mod Ranges
 pub mod ReadViews
 pub mod Identity

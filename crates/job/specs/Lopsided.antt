@@ -3,10 +3,10 @@ use Rattle.std.specs.Prelude.{ℤ, pos, negsuc, Some, None, List, [], ◌∷◌}
 use Rattle.domains.specs.Index.{Scale}
 use Rattle.domains.specs.declared.area.Area.{Area}
 use Rattle.netpbm.specs.Image.{image}
-use Rattle.pipe_lang.specs.declared.tree.BinaryOp.TheVariants.{Add, Mul}
-use Rattle.pipe_lang.specs.declared.tree.LiteralOp.TheVariants.{Shl}
-use Rattle.pipe_lang.specs.declared.tree.Relation.TheVariants.{AtMost, AtLeast}
-use Rattle.pipe_lang.specs.declared.tree.Fold.TheVariants.{Max}
+use Rattle.domains.specs.declared.operators.BinaryOp.TheVariants.{Add, Mul}
+use Rattle.domains.specs.declared.operators.LiteralOp.TheVariants.{Shl}
+use Rattle.domains.specs.declared.operators.Relation.TheVariants.{AtMost, AtLeast}
+use Rattle.domains.specs.declared.operators.Fold.TheVariants.{Max}
 use Rattle.job.specs.Formula.{row, column, number, coordinate, read, neg, binary, literal, stencil, Test, compare, remainder}
 use Rattle.job.specs.Pipeline.{function, accumulator, Stage, Pipeline}
 use Rattle.job.specs.Worked.{ends, area, sides, same, plane_stage, everywhere, job_of}

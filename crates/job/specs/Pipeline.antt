@@ -6,7 +6,7 @@ use Rattle.domains.specs.Span.{Ends}
 use Rattle.domains.specs.Sides.{Sides}
 use Rattle.domains.specs.declared.area.Area.{Area}
 use Rattle.netpbm.specs.Image.{Image}
-use Rattle.pipe_lang.specs.declared.tree.Fold.{Fold}
+use Rattle.domains.specs.declared.operators.Fold.{Fold}
 use Rattle.job.specs.Formula.{Formula, Test}
 
 -- a formula where all tests hold. The box has the points of the domain at which the tests of bounds hold, if there are any

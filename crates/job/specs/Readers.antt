@@ -2,7 +2,7 @@
 use Rattle.std.specs.Prelude.{ℕ, if◌then◌else◌, Option, Some, None, slice_get}
 use Rattle.domains.specs.Span.{Ends}
 use Rattle.domains.specs.declared.grid.Grid.{Grid}
-use Rattle.pipe_lang.specs.declared.tree.Fold.{Fold}
+use Rattle.domains.specs.declared.operators.Fold.{Fold}
 use Rattle.job.specs.declared.job.StageKind.{StageKind}
 use Rattle.job.specs.declared.job.StageKind.TheVariants.{Plane, Function, Accumulator}
 use Rattle.job.specs.Pipeline.{Body, plane, function, accumulator, Stage, Pipeline}

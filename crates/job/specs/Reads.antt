@@ -5,7 +5,7 @@ use Rattle.std.specs.Option.{ForSome}
 use Rattle.domains.specs.Index.{Scale, index_at}
 use Rattle.domains.specs.Area.{HoldsPoint}
 use Rattle.domains.specs.declared.area.Area.{Area}
-use Rattle.pipe_checks.specs.Graph.{greatest}
+use Rattle.domains.specs.Greatest.{greatest}
 use Rattle.job.specs.Formula.{Formula, number, coordinate, read, neg, binary, literal, abs, clamp, select, stencil}
 use Rattle.job.specs.Pipeline.{Piece, Body, plane, function, accumulator, Stage, rank_of}
 use Rattle.job.specs.Values.{Valuation, factors, kernel_row, kernel_column}

@@ -7,8 +7,8 @@ use Rattle.domains.specs.Arithmetic.{wrapped_long}
 use Rattle.domains.specs.Span.{numbers_of}
 use Rattle.domains.specs.Area.{points_of}
 use Rattle.domains.specs.declared.area.Area.{Area}
-use Rattle.pipe_lang.specs.declared.tree.Fold.{Fold}
-use Rattle.pipe_lang.specs.declared.tree.Fold.TheVariants.{Sum, Min, Max}
+use Rattle.domains.specs.declared.operators.Fold.{Fold}
+use Rattle.domains.specs.declared.operators.Fold.TheVariants.{Sum, Min, Max}
 use Rattle.job.specs.Formula.{Formula}
 use Rattle.job.specs.Pipeline.{Body, plane, function, accumulator, Pipeline}
 use Rattle.job.specs.Values.{Valuation, formula_value, value}

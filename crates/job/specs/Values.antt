@@ -6,12 +6,12 @@ use Rattle.std.specs.Option.{option_map_or}
 use Rattle.domains.specs.Arithmetic.{wrapped, floor_div, floor_rem, clamped}
 use Rattle.domains.specs.Index.{index_at}
 use Rattle.netpbm.specs.Image.{Image}
-use Rattle.pipe_lang.specs.declared.tree.BinaryOp.{BinaryOp}
-use Rattle.pipe_lang.specs.declared.tree.BinaryOp.TheVariants.{Add, Sub, Mul, Min, Max}
-use Rattle.pipe_lang.specs.declared.tree.LiteralOp.{LiteralOp}
-use Rattle.pipe_lang.specs.declared.tree.LiteralOp.TheVariants.{Div, Rem, Shl, Shr}
-use Rattle.pipe_lang.specs.declared.tree.Relation.{Relation}
-use Rattle.pipe_lang.specs.declared.tree.Relation.TheVariants.{AtMost, AtLeast, Equals}
+use Rattle.domains.specs.declared.operators.BinaryOp.{BinaryOp}
+use Rattle.domains.specs.declared.operators.BinaryOp.TheVariants.{Add, Sub, Mul, Min, Max}
+use Rattle.domains.specs.declared.operators.LiteralOp.{LiteralOp}
+use Rattle.domains.specs.declared.operators.LiteralOp.TheVariants.{Div, Rem, Shl, Shr}
+use Rattle.domains.specs.declared.operators.Relation.{Relation}
+use Rattle.domains.specs.declared.operators.Relation.TheVariants.{AtMost, AtLeast, Equals}
 use Rattle.job.specs.Formula.{Axis, row, column, Formula, number, coordinate, read, neg, binary, literal, abs, clamp, select, stencil, Test, compare, remainder}
 use Rattle.job.specs.Pipeline.{Piece, Body, plane, function, accumulator, Stage, Pipeline, rank_of}
 

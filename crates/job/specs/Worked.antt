@@ -5,10 +5,10 @@ use Rattle.domains.specs.Index.{Scale}
 use Rattle.domains.specs.Sides.{Sides}
 use Rattle.domains.specs.declared.area.Area.{Area}
 use Rattle.netpbm.specs.Image.{Image, image}
-use Rattle.pipe_lang.specs.declared.tree.BinaryOp.TheVariants.{Add}
-use Rattle.pipe_lang.specs.declared.tree.LiteralOp.TheVariants.{Div, Rem}
-use Rattle.pipe_lang.specs.declared.tree.Relation.TheVariants.{Equals}
-use Rattle.pipe_lang.specs.declared.tree.Fold.TheVariants.{Sum, Min}
+use Rattle.domains.specs.declared.operators.BinaryOp.TheVariants.{Add}
+use Rattle.domains.specs.declared.operators.LiteralOp.TheVariants.{Div, Rem}
+use Rattle.domains.specs.declared.operators.Relation.TheVariants.{Equals}
+use Rattle.domains.specs.declared.operators.Fold.TheVariants.{Sum, Min}
 use Rattle.job.specs.Formula.{row, column, Formula, number, read, neg, binary, literal, abs, stencil, compare}
 use Rattle.job.specs.Answers.{Tile}
 use Rattle.job.specs.Pipeline.{Piece, plane, function, accumulator, Stage, Pipeline}

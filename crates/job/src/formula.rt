@@ -3,8 +3,7 @@
 
 ghost use Rattle.std.specs.Prelude.{◌≡◌, IfOk};
 
-use domains::Index;
-use pipe_lang::{BinaryOp, LiteralOp, Relation};
+use domains::{BinaryOp, Index, LiteralOp, Relation};
 use std::alloc::{AllocError, Global};
 use std::marker::Model;
 
@@ -59,6 +58,13 @@ impl Model for Kernel {
 }
 
 impl Kernel {
+    /// The kernel of these rows.
+    pub fn new(rows: Vec<Factors>) -> Self
+        ensures { result ≡ rows.items }
+    {
+        Kernel { rows }
+    }
+
     /// The rows from the top.
     pub fn rows(&self) -> &[Factors]
         ensures { result.now ≡ self.now }
@@ -73,17 +79,6 @@ impl Kernel {
         let mut rows = Vec::new(alloc);
         for row in self.rows() {
             rows.push(row.copied(alloc)?)?;
-        }
-        Ok(Kernel { rows })
-    }
-
-    /// The factors that a text has.
-    pub(crate) fn of(alloc: Global, kernel: &pipe_lang::Kernel) -> Result<Self, AllocError>
-        ensures { IfOk result (λ k. k ≡ kernel.now) }
-    {
-        let mut rows = Vec::new(alloc);
-        for row in kernel.rows() {
-            rows.push(Factors::of(alloc, row)?)?;
         }
         Ok(Kernel { rows })
     }
@@ -104,6 +99,13 @@ impl Model for Factors {
 }
 
 impl Factors {
+    /// The row of these factors.
+    pub fn new(factors: Vec<i32>) -> Self
+        ensures { result ≡ factors.items }
+    {
+        Factors { factors }
+    }
+
     /// The factors from the left.
     pub fn factors(&self) -> &[i32]
         ensures { result.now ≡ self.now }
@@ -116,14 +118,6 @@ impl Factors {
     {
         Ok(Factors {
             factors: self.factors().to_vec(alloc)?,
-        })
-    }
-
-    fn of(alloc: Global, row: &pipe_lang::Row) -> Result<Self, AllocError>
-        ensures { IfOk result (λ f. f ≡ row.now) }
-    {
-        Ok(Factors {
-            factors: row.entries().to_vec(alloc)?,
         })
     }
 }

@@ -8,9 +8,9 @@ ghost use Rattle.sha2.specs.Sha256.{sha256};
 ghost use Rattle.job.specs.Identity.{parameter_bytes, settings_bytes, input_bytes, input_id};
 ghost use Rattle.job.specs.Views.{parameter_view, pipeline_of};
 
-use crate::draft::Draft;
-use crate::identity::{InputId, ProgramId};
+use crate::bound_pipeline::BoundPipeline;
 use crate::outputs::Parameter;
+use identity::{InputId, ProgramId};
 use netpbm::{hash_raw, raw};
 use sha2::{Digest, Sha256};
 use std::alloc::{AllocError, Global};
@@ -23,23 +23,23 @@ pub(crate) fn program_id(text: &[u8]) -> ProgramId
 }
 
 /// The identity of what a program is given. All is hashed piece by piece, without memory.
-pub(crate) fn input_id(draft: &Draft) -> InputId
-    ensures { result ≡ input_id (pipeline_of draft.now) }
+pub(crate) fn input_id(parts: &BoundPipeline) -> InputId
+    ensures { result ≡ input_id (pipeline_of parts.now) }
 {
     let mut hasher = Sha256::new();
-    hash_settings(&mut hasher, draft);
-    hash_raw(&draft.picture, &mut hasher);
+    hash_settings(&mut hasher, parts);
+    hash_raw(&parts.picture, &mut hasher);
     InputId::new(hasher.finalize())
 }
 
 // What is hashed before the picture.
-fn hash_settings<D: Digest>(hasher: &mut D, draft: &Draft)
-    ensures { (m : List ℕ) → D.holds hasher.old m → D.holds hasher.new (m ++ settings_bytes (pipeline_of draft.now)) }
+fn hash_settings<D: Digest>(hasher: &mut D, parts: &BoundPipeline)
+    ensures { (m : List ℕ) → D.holds hasher.old m → D.holds hasher.new (m ++ settings_bytes (pipeline_of parts.now)) }
 {
-    let parameters = draft.params.as_slice();
+    let parameters = parts.params.as_slice();
     hasher.update(b"PTI1");
-    hasher.update(&draft.sides.height().to_be_bytes());
-    hasher.update(&draft.sides.width().to_be_bytes());
+    hasher.update(&parts.sides.height().to_be_bytes());
+    hasher.update(&parts.sides.width().to_be_bytes());
     hasher.update(&count_bytes(parameters.len()));
     hash_parameters(hasher, parameters);
 }
@@ -62,25 +62,25 @@ fn hash_parameter<D: Digest>(hasher: &mut D, parameter: &Parameter)
 }
 
 /// The bytes whose digest is the identity of what a program is given.
-pub(crate) fn input_bytes(alloc: Global, draft: &Draft) -> Result<Vec<u8>, AllocError>
-    ensures { IfOk result (λ bytes. bytes.items ≡ input_bytes (pipeline_of draft.now)) }
+pub(crate) fn input_bytes(alloc: Global, parts: &BoundPipeline) -> Result<Vec<u8>, AllocError>
+    ensures { IfOk result (λ bytes. bytes.items ≡ input_bytes (pipeline_of parts.now)) }
 {
-    let mut bytes = settings_bytes(alloc, draft)?;
-    let picture = raw(alloc, &draft.picture)?;
+    let mut bytes = settings_bytes(alloc, parts)?;
+    let picture = raw(alloc, &parts.picture)?;
     bytes.extend_from_slice(&picture)?;
     Ok(bytes)
 }
 
 // What is hashed before the picture.
-fn settings_bytes(alloc: Global, draft: &Draft) -> Result<Vec<u8>, AllocError>
-    ensures { IfOk result (λ bytes. bytes.items ≡ settings_bytes (pipeline_of draft.now)) }
+fn settings_bytes(alloc: Global, parts: &BoundPipeline) -> Result<Vec<u8>, AllocError>
+    ensures { IfOk result (λ bytes. bytes.items ≡ settings_bytes (pipeline_of parts.now)) }
 {
     let mut bytes = Vec::new(alloc);
     bytes.extend_from_slice(b"PTI1")?;
-    bytes.extend_from_slice(&draft.sides.height().to_be_bytes())?;
-    bytes.extend_from_slice(&draft.sides.width().to_be_bytes())?;
-    bytes.extend_from_slice(&count_bytes(draft.params.len()))?;
-    for parameter in &draft.params {
+    bytes.extend_from_slice(&parts.sides.height().to_be_bytes())?;
+    bytes.extend_from_slice(&parts.sides.width().to_be_bytes())?;
+    bytes.extend_from_slice(&count_bytes(parts.params.len()))?;
+    for parameter in &parts.params {
         push_parameter(&mut bytes, parameter)?;
     }
     Ok(bytes)

@@ -6,29 +6,30 @@ ghost use Rattle.std.specs.Option.{option_map, ForSome};
 ghost use Rattle.sha2.specs.Sha256.{sha256};
 ghost use Rattle.job.specs.Identity.{input_bytes, input_id, HasTileAt};
 ghost use Rattle.job.specs.Readers.{kind_of, grid_at, stage_fold, stage_bins};
+ghost use Rattle.job.specs.WellFormed.{IsJob};
 ghost use Rattle.job.specs.Views.{stage_view, output_view, parameter_view, pipeline_of};
 
-use crate::draft::Draft;
+use crate::bound_pipeline::BoundPipeline;
 use crate::hashing;
-use crate::identity::{InputId, Key, ProgramId};
 use crate::outputs::{Output, Parameter};
 use crate::stage::Stage;
-use domains::{Area, Grid, Span, TileSides};
+use domains::{Area, Fold, Grid, Span, TileSides};
+use identity::{InputId, Key, ProgramId};
 use netpbm::Picture;
-use pipe_lang::Fold;
 use pipe_tokens::Name;
 use std::alloc::{AllocError, Global};
 
-/// A program at the values of its parameters, the picture that it works on, and the sides of its tiles. Only `bind` makes
-/// one.
+/// A program at the values of its parameters, the picture that it works on, and the sides of its tiles. It is well formed, as `new`
+/// asks.
 #[derive(Debug, Drop)]
 pub struct Job {
-    pub(crate) draft: Draft,
-    pub(crate) text: Vec<u8>,
-    pub(crate) program: ProgramId,
-    pub(crate) input: Option<InputId>,
+    parts: BoundPipeline,
+    text: Vec<u8>,
+    program: ProgramId,
+    input: Option<InputId>,
+    ghost well: { ∥ IsJob (pipeline_of parts) ∥₁ },
     ghost named: { program ≡ sha256 text.items },
-    ghost hashed: { ForSome input (λ id. id ≡ input_id (pipeline_of draft)) },
+    ghost hashed: { ForSome input (λ id. id ≡ input_id (pipeline_of parts)) },
 }
 
 /// What a stage is.
@@ -43,46 +44,62 @@ pub enum StageKind {
 impl Job {
     ghost use Rattle.job.specs.Kept.{pipeline_in, program_text_in, program_id_in};
 
+    /// The job of these parts, whose program has this canonical text. The text is hashed, and the picture is not.
+    pub fn new(parts: BoundPipeline, text: Vec<u8>) -> Job
+        requires { IsJob (pipeline_of parts) }
+        ensures pipeline { pipeline_in result ≡ pipeline_of parts }
+        ensures text { program_text_in result ≡ text.items }
+        ensures program { program_id_in result ≡ sha256 text.items }
+    {
+        let program = hashing::program_id(&text);
+        Job {
+            parts,
+            text,
+            program,
+            input: None,
+        }
+    }
+
     /// The stages, in the order in which the text declares their names. A stage's number is its place here.
     pub fn stages(&self) -> &[Stage]
         ensures { map stage_view result.now ≡ (pipeline_in self.now).stages }
     {
-        &self.draft.stages
+        &self.parts.stages
     }
 
     /// The stage of this number.
     pub fn stage(&self, number: usize) -> Option<&Stage>
         ensures { option_map (λ s. stage_view s.now) result ≡ slice_get (pipeline_in self.now).stages number }
     {
-        self.draft.stages.as_slice().get(number)
+        self.parts.stages.as_slice().get(number)
     }
 
     /// The output, if the program has one.
     pub fn output(&self) -> &Option<Output>
         ensures { option_map output_view result.now ≡ (pipeline_in self.now).output }
     {
-        &self.draft.output
+        &self.parts.output
     }
 
     /// The parameters with their values, in the order of the text.
     pub fn params(&self) -> &[Parameter]
         ensures { map parameter_view result.now ≡ (pipeline_in self.now).params }
     {
-        &self.draft.params
+        &self.parts.params
     }
 
     /// The picture.
     pub fn picture(&self) -> &Picture
         ensures { result.now ≡ (pipeline_in self.now).picture }
     {
-        &self.draft.picture
+        &self.parts.picture
     }
 
     /// The sides of the tiles.
     pub fn sides(&self) -> TileSides
         ensures { result ≡ (pipeline_in self.now).sides }
     {
-        self.draft.sides
+        self.parts.sides
     }
 
     /// What the stage of this number is.
@@ -150,7 +167,7 @@ impl Job {
         ensures { result ≡ grid_at (pipeline_in self.now) number }
     {
         match self.stage(number) {
-            Some(stage) => stage.grid(self.draft.sides),
+            Some(stage) => stage.grid(self.parts.sides),
             None => None,
         }
     }
@@ -175,7 +192,7 @@ impl Job {
     {
         match self.input {
             Some(id) => id,
-            None => hashing::input_id(&self.draft),
+            None => hashing::input_id(&self.parts),
         }
     }
 
@@ -196,7 +213,7 @@ impl Job {
     pub fn input_bytes(&self, alloc: Global) -> Result<Vec<u8>, AllocError>
         ensures { IfOk result (λ bytes. bytes.items ≡ input_bytes (pipeline_in self.now)) }
     {
-        hashing::input_bytes(alloc, &self.draft)
+        hashing::input_bytes(alloc, &self.parts)
     }
 
     /// The key of the tile in this row and column of the stage's grid; none where there is no such tile. It names what the

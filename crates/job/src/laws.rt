@@ -3,23 +3,19 @@
 
 ghost use Rattle.std.specs.Prelude.{◌≡◌, ◌↔◌, ◌<◌, ◌++◌, ℕ, ℤ, Some, List, slice_get, All, FitsSigned};
 ghost use Rattle.std.specs.Int.{w32, w64};
-ghost use Rattle.std.specs.Cmp.{IsTotalOrder};
 ghost use Rattle.domains.specs.Area.{HoldsPoint, IsArea, IsSubarea};
 ghost use Rattle.domains.specs.declared.area.Area.{Area};
 ghost use Rattle.netpbm.specs.Image.{Image};
-ghost use Rattle.pipe_lang.specs.declared.tree.Fold.{Fold};
+ghost use Rattle.domains.specs.declared.operators.Fold.{Fold};
 ghost use Rattle.job.specs.Formula.{Formula, Test};
 ghost use Rattle.job.specs.Pipeline.{Body, Stage, Pipeline, rank_of};
 ghost use Rattle.job.specs.Values.{Valuation, formula_value, body_value, stage_value, value_within, value};
 ghost use Rattle.job.specs.Reads.{EachRead, BodyReads, SameAt, AgreeOver, stage_read, reads_of, IsRanked};
-ghost use Rattle.pipe_checks.specs.Boxes.{IsCutArea};
+ghost use Rattle.domains.specs.Cuts.{IsCutArea};
 ghost use Rattle.job.specs.Boxes.{BoundsHold, AreBoxed, box_of};
 ghost use Rattle.job.specs.Totals.{body_totals, total_of, joined, totals_over, totals};
 ghost use Rattle.job.specs.WellFormed.{IsReadable, IsJob, IsSmall, Solves};
-ghost use Rattle.job.specs.Identity.{input_bytes, key_cmp};
-
-use crate::identity::Key;
-use std::cmp::Ordering;
+ghost use Rattle.job.specs.Identity.{input_bytes};
 
 /// Reads lead to lower ranks. So a value is what its stage makes of the values that it reads, and steps beyond the rank change nothing.
 pub fn values_unroll()
@@ -71,12 +67,3 @@ pub fn boxes_are_cut_by_bounds()
 pub fn one_input()
     ensures { (a b : Pipeline) → IsJob a → IsJob b → IsSmall a → IsSmall b → input_bytes a ≡ input_bytes b → (a.sides ≡ b.sides) × (a.params ≡ b.params) × (a.picture ≡ b.picture) }
 {}
-
-/// Keys are in the order of their fields, which is a total one, and equal keys are one.
-pub fn order_of_keys(a: &Key, b: &Key) -> Ordering
-    ensures fields { result ≡ key_cmp a.now b.now }
-    ensures total { IsTotalOrder key_cmp }
-    ensures one { (result ≡ Ordering.Equal) ↔ (a.now ≡ b.now) }
-{
-    a.cmp(b)
-}

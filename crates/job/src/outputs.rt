@@ -1,29 +1,26 @@
 #![tactic(auto)]
-//! The output, the parameters and the image of a program.
+//! The output and the parameters of a job.
 
-ghost use Rattle.std.specs.Prelude.{◌≡◌, ◌≢◌, IfOk, IfSome, IfNone, map, slice_get, slice_index, [], ◌∷◌};
-ghost use Rattle.std.specs.List.{flat_map};
-ghost use Rattle.std.specs.Option.{option_map};
-ghost use Rattle.pipe_lang.specs.declared.tree.Image.{Image as ImageType};
-ghost use Rattle.pipe_lang.specs.Tree.{declarations};
-ghost use Rattle.job.specs.Binding.{stage_number, names_in, item_outputs, item_images, parameter_of};
-ghost use Rattle.job.specs.Views.{output_view, parameter_view, output_of, program_in};
+ghost use Rattle.std.specs.Prelude.{◌≡◌, slice_index};
+ghost use Rattle.job.specs.Views.{output_view};
 
-use crate::fault::BindFault;
-use crate::resolve::Resolver;
-use pipe_checks::Setting;
-use pipe_lang::{Image, Item, Names};
 use pipe_tokens::Name;
-use std::alloc::{AllocError, Global};
 
 /// The functions that are the planes of the result, by their numbers, and its greatest sample.
 #[derive(Debug, Drop)]
 pub struct Output {
-    pub(crate) stages: Vec<usize>,
-    pub(crate) max: u32,
+    stages: Vec<usize>,
+    max: u32,
 }
 
 impl Output {
+    /// The output of these functions, with this greatest sample.
+    pub fn new(stages: Vec<usize>, max: u32) -> Self
+        ensures { output_view result ≡ record { stages = stages.items; max = max } }
+    {
+        Output { stages, max }
+    }
+
     /// The numbers of the functions: one, or three for red, green and blue.
     pub fn stages(&self) -> &[usize]
         ensures { result.now ≡ (output_view self.now).stages }
@@ -38,8 +35,8 @@ impl Output {
         self.max
     }
 
-    // The first function.
-    pub(crate) fn first(&self) -> usize
+    /// The number of the first function.
+    pub fn first(&self) -> usize
         ensures { result ≡ slice_index (output_view self.now).stages 0 }
     {
         match self.stages() {
@@ -54,81 +51,4 @@ impl Output {
 pub struct Parameter {
     pub name: Name,
     pub value: i32,
-}
-
-impl Resolver<'_> {
-    fn numbers(&self, names: &Names) -> Result<Vec<usize>, AllocError>
-        ensures { IfOk result (λ v. v.items ≡ map (stage_number (program_in self.now)) (names_in names.now)) }
-    {
-        let mut numbers = Vec::new(self.alloc);
-        match names {
-            Names::One(name) => {
-                numbers.push(self.stage_number(name))?;
-            }
-            Names::Three(red, green, blue) => {
-                numbers.push(self.stage_number(red))?;
-                numbers.push(self.stage_number(green))?;
-                numbers.push(self.stage_number(blue))?;
-            }
-        }
-        Ok(numbers)
-    }
-
-    fn one_output(&self, output: &pipe_lang::Output) -> Result<Output, AllocError>
-        ensures { IfOk result (λ o. output_view o ≡ output_of (program_in self.now) output.now) }
-    {
-        Ok(Output {
-            stages: self.numbers(&output.names)?,
-            max: output.max,
-        })
-    }
-
-    /// The first output, if there is one.
-    pub fn output(&self, items: &[Item]) -> Result<Option<Output>, AllocError>
-        ensures { IfOk result (λ o. option_map output_view o ≡ slice_get (flat_map (item_outputs (program_in self.now)) (declarations items.now)) 0) }
-    {
-        for item in items {
-            if let Item::Output(output) = item {
-                return Ok(Some(self.one_output(output)?));
-            }
-        }
-        Ok(None)
-    }
-}
-
-fn settled_parameter(setting: &Setting) -> Parameter
-    ensures { parameter_view result ≡ parameter_of setting.now }
-{
-    Parameter {
-        name: setting.name,
-        value: setting.value.unwrap_or(0),
-    }
-}
-
-/// The parameters with their values.
-pub(crate) fn parameters(alloc: Global, settings: &[Setting]) -> Result<Vec<Parameter>, AllocError>
-    ensures { IfOk result (λ v. map parameter_view v.items ≡ map parameter_of settings.now) }
-{
-    let mut parameters = Vec::new(alloc);
-    for setting in settings {
-        parameters.push(settled_parameter(setting))?;
-    }
-    Ok(parameters)
-}
-
-/// The image item, where there is exactly one.
-pub(crate) fn only_image(items: &[Item]) -> Option<&Image>
-    ensures none { IfNone result ((i : ImageType) → flat_map item_images (declarations items.now) ≢ i ∷ []) }
-    ensures some { IfSome result (λ i. flat_map item_images (declarations items.now) ≡ i.now ∷ []) }
-{
-    let mut found = None;
-    for item in items {
-        if let Item::Image(image) = item {
-            if found.is_some() {
-                return None;
-            }
-            found = Some(image);
-        }
-    }
-    found
 }

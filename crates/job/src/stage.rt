@@ -8,32 +8,31 @@ ghost use Rattle.job.specs.Views.{stage_view};
 
 use crate::formula::{Formula, Test};
 use crate::job::StageKind;
-use domains::{Area, Grid, Span, TileSides};
-use pipe_lang::Fold;
+use domains::{Area, Fold, Grid, Span, TileSides};
 use pipe_tokens::Name;
 
 /// A formula where all tests hold.
 #[derive(Debug, Drop)]
 pub struct Piece {
-    pub(crate) area: Option<Area>,
-    pub(crate) tests: Vec<Test>,
-    pub(crate) formula: Formula,
+    area: Option<Area>,
+    tests: Vec<Test>,
+    formula: Formula,
 }
 
 /// A function: the first piece whose tests hold at a point gives its value there, else `otherwise`, else it is 0.
 #[derive(Debug, Drop)]
 pub struct Function {
-    pub(crate) pieces: Vec<Piece>,
-    pub(crate) otherwise: Option<Formula>,
+    pieces: Vec<Piece>,
+    otherwise: Option<Formula>,
 }
 
 /// An accumulator: how it joins the numbers of a bin, its bins, and of each point the number and the bin.
 #[derive(Debug, Drop)]
 pub struct Accumulator {
-    pub(crate) fold: Fold,
-    pub(crate) bins: Span,
-    pub(crate) value: Formula,
-    pub(crate) bin: Formula,
+    fold: Fold,
+    bins: Span,
+    value: Formula,
+    bin: Formula,
 }
 
 /// What stands at each point of a stage.
@@ -48,13 +47,25 @@ pub enum Body {
 /// A stage. The domain of an accumulator is the area that it reduces.
 #[derive(Debug, Drop)]
 pub struct Stage {
-    pub(crate) name: Name,
-    pub(crate) rank: usize,
-    pub(crate) domain: Area,
-    pub(crate) body: Body,
+    name: Name,
+    rank: usize,
+    domain: Area,
+    body: Body,
 }
 
 impl Stage {
+    /// The stage of this name, rank and domain, with what stands at each point.
+    pub fn new(name: Name, rank: usize, domain: Area, body: Body) -> Self
+        ensures { result ≡ record { name = name; rank = rank; domain = domain; body = body } }
+    {
+        Stage {
+            name,
+            rank,
+            domain,
+            body,
+        }
+    }
+
     /// The name.
     pub fn name(&self) -> &Name
         ensures { result.now ≡ self.now.name }
@@ -126,6 +137,17 @@ impl Stage {
 }
 
 impl Piece {
+    /// The formula that stands in this area where these tests hold.
+    pub fn new(area: Option<Area>, tests: Vec<Test>, formula: Formula) -> Self
+        ensures { result ≡ record { area = area; tests = tests; formula = formula } }
+    {
+        Piece {
+            area,
+            tests,
+            formula,
+        }
+    }
+
     /// The points of the domain at which the tests of bounds hold, if there are any.
     pub fn area(&self) -> &Option<Area>
         ensures { result.now ≡ self.now.area }
@@ -149,6 +171,13 @@ impl Piece {
 }
 
 impl Function {
+    /// The function of these pieces, with what stands elsewhere.
+    pub fn new(pieces: Vec<Piece>, otherwise: Option<Formula>) -> Self
+        ensures { result ≡ record { pieces = pieces; otherwise = otherwise } }
+    {
+        Function { pieces, otherwise }
+    }
+
     /// The pieces, in the order of the text.
     pub fn pieces(&self) -> &[Piece]
         ensures { result.now ≡ self.now.pieces.items }
@@ -165,6 +194,18 @@ impl Function {
 }
 
 impl Accumulator {
+    /// The accumulator that joins so over these bins, with the number and the bin of each point.
+    pub fn new(fold: Fold, bins: Span, value: Formula, bin: Formula) -> Self
+        ensures { result ≡ record { fold = fold; bins = bins; value = value; bin = bin } }
+    {
+        Accumulator {
+            fold,
+            bins,
+            value,
+            bin,
+        }
+    }
+
     /// How the numbers of a bin are joined.
     pub fn fold(&self) -> Fold
         ensures { result ≡ self.now.fold }

@@ -2,8 +2,8 @@
 
 ghost use Rattle.std.specs.Prelude.{◌≡◌, ℤ, pos, negsuc, Some, [], ◌∷◌};
 ghost use Rattle.netpbm.specs.Image.{image as picture};
-ghost use Rattle.pipe_lang.specs.declared.tree.LiteralOp.TheVariants.{Shl, Shr};
-ghost use Rattle.pipe_lang.specs.declared.tree.Relation.TheVariants.{AtMost, AtLeast, Equals};
+ghost use Rattle.domains.specs.declared.operators.LiteralOp.TheVariants.{Shl, Shr};
+ghost use Rattle.domains.specs.declared.operators.Relation.TheVariants.{AtMost, AtLeast, Equals};
 ghost use Rattle.job.specs.Formula.{number, neg, literal, clamp, select};
 ghost use Rattle.job.specs.Boxes.{box_of};
 ghost use Rattle.job.specs.Values.{Valuation, formula_value, value};

@@ -9,6 +9,4 @@ pub mod Planes
 pub mod Raw
 pub mod Reading
 pub mod Spelling
-pub mod Streams
 pub mod Text
-pub mod Wholes

@@ -3,16 +3,15 @@ ghost use Rattle.std.specs.Prelude.{List, ℕ, ◌≡◌, ◌≤◌, ◌<◌, �
 ghost use Rattle.std.specs.Io.KnownBytes.{Appends};
 ghost use Rattle.netpbm.specs.Raw.{raw_raster};
 ghost use Rattle.netpbm.specs.Spelling.{header as header_of, spelling};
-ghost use Rattle.netpbm.specs.Streams.{AppendsPart, CountsFailure};
+ghost use Rattle.streams.specs.Streams.{AppendsPart, CountsFailure};
 ghost use Rattle.netpbm.specs.Pixels.{pixels};
 
 use crate::colours::weave;
 use crate::picture::Picture;
 use crate::raw_raster::{put_samples, sample_width};
-use crate::stream::Sink;
-use crate::whole::{WriteFailed, write_whole};
 use sha2::Digest;
 use std::alloc::{AllocError, Global};
+use streams::{Sink, WriteFailed, write_whole};
 
 // How many bytes a header has at most.
 const LONGEST_HEADER: usize = 32;

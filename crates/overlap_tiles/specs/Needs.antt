@@ -5,9 +5,10 @@ use Rattle.std.specs.List.{flat_map, range_with_len}
 use Rattle.domains.specs.Tiles.{MeetsTile, cover}
 use Rattle.domains.specs.declared.area.Area.{Area}
 use Rattle.domains.specs.declared.grid.Grid.{Grid}
-use Rattle.job.specs.declared.identity.Key.{Key}
+use Rattle.identity.specs.declared.key.Key.{Key}
 use Rattle.job.specs.Pipeline.{Pipeline}
-use Rattle.job.specs.Identity.{input_id, key_cmp}
+use Rattle.job.specs.Identity.{input_id}
+use Rattle.identity.specs.Keys.{key_cmp}
 use Rattle.job.specs.Answers.{Tile}
 use Rattle.job.specs.Readers.{grid_at}
 use Rattle.grouping.specs.Schedules.{is_inlined}

@@ -5,7 +5,7 @@ use Rattle.domains.specs.declared.area.Area.{Area}
 use Rattle.domains.specs.declared.grid.Grid.{Grid}
 use Rattle.job.specs.Pipeline.{Pipeline}
 use Rattle.job.specs.Answers.{Tile}
-use Rattle.job.specs.declared.identity.Key.{Key}
+use Rattle.identity.specs.declared.key.Key.{Key}
 use Rattle.job.specs.Identity.{HasTileAt}
 use Rattle.job.specs.Readers.{grid_at}
 use Rattle.grouping.specs.Targets.{Target}

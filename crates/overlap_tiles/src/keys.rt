@@ -7,7 +7,8 @@ ghost use Rattle.overlap_tiles.specs.Needs.{key_of};
 ghost use Rattle.overlap_tiles.specs.Views.{need_view};
 
 use crate::needs::Need;
-use job::{Job, Key};
+use identity::Key;
+use job::Job;
 use std::alloc::{AllocError, Global};
 
 /// The keys of these tiles. What the program is given is hashed at most once.

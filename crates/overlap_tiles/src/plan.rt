@@ -14,7 +14,8 @@ use crate::keys::keys;
 use crate::layout::Layout;
 use crate::steps::Step;
 use grouping::Schedule;
-use job::{Job, Key};
+use identity::Key;
+use job::Job;
 use std::alloc::Global;
 use std::marker::Model;
 

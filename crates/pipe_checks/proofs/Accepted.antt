@@ -8,15 +8,15 @@ use Rattle.std.proofs.lemmas.Bool.Decides.{nat_tests}
 use Rattle.std.proofs.lemmas.Int.{ints}
 use Rattle.std.proofs.lemmas.List.Elements.{All-nil, All-cons, All-weaker}
 use Rattle.std.proofs.lemmas.List.Sums.{AllPass-from_list_all}
-use Rattle.pipe_lang.specs.declared.tree.LiteralOp.{LiteralOp}
-use Rattle.pipe_lang.specs.declared.tree.LiteralOp.TheVariants.{Div, Rem, Shl, Shr}
-use Rattle.pipe_lang.specs.declared.tree.Names.{Names}
-use Rattle.pipe_lang.specs.declared.tree.Names.TheVariants.{One, Three}
-use Rattle.pipe_lang.specs.declared.tree.Index.{Index}
-use Rattle.pipe_lang.specs.declared.tree.Test.{Test}
-use Rattle.pipe_lang.specs.declared.tree.Test.TheVariants.{Compare, Remainder}
-use Rattle.pipe_lang.specs.Tree as tree
-use Rattle.pipe_lang.specs.Tree.{Node, Branch, Declaration}
+use Rattle.domains.specs.declared.operators.LiteralOp.{LiteralOp}
+use Rattle.domains.specs.declared.operators.LiteralOp.TheVariants.{Div, Rem, Shl, Shr}
+use Rattle.pipe_tree.specs.declared.tree.Names.{Names}
+use Rattle.pipe_tree.specs.declared.tree.Names.TheVariants.{One, Three}
+use Rattle.pipe_tree.specs.declared.tree.Index.{Index}
+use Rattle.pipe_tree.specs.declared.tree.Test.{Test}
+use Rattle.pipe_tree.specs.declared.tree.Test.TheVariants.{Compare, Remainder}
+use Rattle.pipe_tree.specs.Tree as tree
+use Rattle.pipe_tree.specs.Tree.{Node, Branch, Declaration}
 use Rattle.pipe_checks.specs.declared.declared.Declared.{Declared}
 use Rattle.pipe_checks.specs.declared.declared.NameKind.{NameKind}
 use Rattle.pipe_checks.specs.declared.declared.NameKind.TheVariants.{Param, Plane, Func, Accum}

@@ -1,7 +1,7 @@
 -- The faults of parts are faults of the whole.
 use Rattle.std.proofs.Common.{ℕ, ◌≡◌, true, Result, Ok, Err, OnOk, IfErr, List, sym, subst}
 use Rattle.std.specs.List.{list_any}
-use Rattle.pipe_lang.specs.Tree.{Declaration}
+use Rattle.pipe_tree.specs.Tree.{Declaration}
 use Rattle.pipe_checks.specs.declared.fault.Misuse.{Misuse}
 use Rattle.pipe_checks.specs.declared.fault.Misuse.TheVariants as misuse
 use Rattle.pipe_checks.specs.declared.fault.CheckFault.{CheckFault}

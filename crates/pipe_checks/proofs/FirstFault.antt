@@ -4,8 +4,8 @@ use Rattle.std.specs.List.{list_any}
 use Rattle.std.proofs.lemmas.Bool.{cases_lt, false≢true}
 use Rattle.std.proofs.lemmas.Option.{same_Some}
 use Rattle.std.proofs.lemmas.Grind.{same_number_lists}
-use Rattle.pipe_lang.specs.declared.tree.Tree.{Tree}
-use Rattle.pipe_lang.specs.Tree.{Declaration, content}
+use Rattle.pipe_tree.specs.declared.tree.Tree.{Tree}
+use Rattle.pipe_tree.specs.Tree.{Declaration, content}
 use Rattle.pipe_checks.specs.declared.declared.Declared.{Declared}
 use Rattle.pipe_checks.specs.declared.fault.Misuse.{Misuse}
 use Rattle.pipe_checks.specs.declared.fault.Misuse.TheVariants as misuse

@@ -4,16 +4,7 @@ pub mod Numbering
 pub mod Ranking
 pub mod Closing
 pub mod Places
-pub mod Cutting
 pub mod Faulting
-pub mod Settled
-pub mod Stages
-pub mod Taking
-pub mod Firsts
-pub mod Sounding
-pub mod Spanning
 pub mod Accepted
-pub mod OneDomain
-pub mod OneFault
 pub mod Rising
 pub mod FirstFault

@@ -4,7 +4,8 @@ use Rattle.std.proofs.lemmas.Bool.{cases_eq, cases_lt, false≢true}
 use Rattle.std.proofs.lemmas.List.{get_or-set_other, get_or-set_same, get_or_past, length-set}
 use Rattle.std.specs.Prelude.{Contains}
 use Rattle.pipe_checks.specs.Links.{Links}
-use Rattle.pipe_checks.specs.Graph.{links_at, IsPlane, Reads, greatest, IsRanked, IsRanking}
+use Rattle.pipe_checks.specs.Graph.{links_at, IsPlane, Reads, IsRanked, IsRanking}
+use Rattle.domains.specs.Greatest.{greatest}
 use Rattle.pipe_checks.specs.Search.{rank_over}
 use Rattle.pipe_checks.proofs.Distances.{reads_within}
 

@@ -5,29 +5,19 @@ use Rattle.std.specs.Option.{option_map}
 use Rattle.std.proofs.lemmas.Bool.{cases_lt}
 use Rattle.std.proofs.lemmas.List.{length-map}
 use Rattle.std.proofs.lemmas.Option.{cond_some, same_Some, slice_get_within, slice_get-get_or, slice_get-map}
-use Rattle.pipe_lang.specs.declared.tree.Item.{Item}
-use Rattle.pipe_lang.specs.Tree.{Declaration, declaration, declarations}
+use Rattle.pipe_tree.specs.declared.tree.Item.{Item}
+use Rattle.pipe_tree.specs.Tree.{Declaration, declaration, declarations}
 use Rattle.pipe_checks.specs.declared.declared.Declared.{Declared}
 use Rattle.pipe_checks.specs.Checking.{IsTwice, IsFirstTwice}
 use Rattle.pipe_checks.specs.declared.fault.Misuse.{Misuse}
 use Rattle.pipe_checks.specs.Uses.{Verdict, and_then}
-use Rattle.pipe_checks.proofs.Cutting.{next_of}
+use Rattle.domains.proofs.Places.{next_of}
 use borrow.Author.Tests.{ltb-true}
 
 pub position_within : {X : Type 0} (p : X → Bool) (xs : List X) (i : ℕ) → position p xs ≡ Some i → i < length xs
 position_within p xs i e =
     let f = cond_some (nat_lt (position_or_len p xs) (length xs)) (position_or_len p xs) i e in
     subst (λ n. n < length xs) f.1 (ltb-true _ _ f.0)
-
--- one more place
-pub all_more : {X : Type 0} (P : ℕ → X → Type 0) (xs : List X) (i : ℕ) (x : X) → slice_get xs i ≡ Some x → P i x → ((k : ℕ) (y : X) → k < i → slice_get xs k ≡ Some y → P k y) → (k : ℕ) (y : X) → k < i + 1 → slice_get xs k ≡ Some y → P k y
-all_more P xs i x there here before k y h at = by_place (cases_lt k i)
-  where
-    by_place : (k < i) ⊎ (i ≤ k) → P k y
-    by_place (inl l) = before k y l at
-    by_place (inr m) =
-        let same : i ≡ k = omega arith in
-        subst (λ n. P n y) same (subst (P i) (same_Some x y (sym there ∙ ap (slice_get xs) same ∙ at)) here)
 
 -- all places, once the loop is past the end
 pub all_of_them : {X : Type 0} (P : ℕ → X → Type 0) (xs : List X) (i : ℕ) → length xs ≤ i → ((k : ℕ) (y : X) → k < i → slice_get xs k ≡ Some y → P k y) → (k : ℕ) (y : X) → slice_get xs k ≡ Some y → P k y

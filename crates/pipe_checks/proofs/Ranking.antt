@@ -8,10 +8,12 @@ use Rattle.std.proofs.lemmas.List.{get_or-set_other, get_or_past, get_or_read, g
 use Rattle.std.proofs.lemmas.Map.Keys.{IsDistinct-cons}
 use Rattle.std.proofs.lemmas.Map.Steps.{length-le_from_distinct_below}
 use Rattle.pipe_checks.specs.Links.{Links}
-use Rattle.pipe_checks.specs.Graph.{links_at, Reads, greatest, IsRanking, Way, IsAcyclic}
+use Rattle.pipe_checks.specs.Graph.{links_at, Reads, IsRanking, Way, IsAcyclic}
+use Rattle.domains.specs.Greatest.{greatest}
 use Rattle.pipe_checks.specs.Search.{rank_over, unknowns, known_rank, IsBounded, SomeUnranked, AreRanked}
 use Rattle.pipe_checks.proofs.Numbering.{ranking-from_recurrence}
-use Rattle.pipe_checks.proofs.Unknown.{slice_get-set_same, slice_get-set_other, unknowns-set, unknowns-le}
+use Rattle.pipe_checks.proofs.Unknown.{unknowns-set, unknowns-le}
+use Rattle.domains.proofs.Places.{slice_get-set_same, slice_get-set_other}
 
 -- ---- the greatest
 

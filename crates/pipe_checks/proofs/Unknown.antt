@@ -5,18 +5,6 @@ use Rattle.std.proofs.lemmas.Option.{slice_get_within, slice_get-get_or, get_or_
 use Rattle.std.proofs.lemmas.List.Sums.{sum_by-set, count_by-le-length}
 use Rattle.pipe_checks.specs.Search.{unknowns}
 
-pub slice_get-set_same : {X : Type 0} (xs : List X) (i : ℕ) (y : X) → i < length xs → slice_get (set xs i y) i ≡ Some y
-slice_get-set_same [] i y h = absurd (omega arith)
-slice_get-set_same (x ∷ xs) zero y h = refl
-slice_get-set_same (x ∷ xs) (suc i) y h = slice_get-set_same xs i y (omega arith)
-
-pub slice_get-set_other : {X : Type 0} (xs : List X) (i j : ℕ) (y : X) → j ≢ i → slice_get (set xs i y) j ≡ slice_get xs j
-slice_get-set_other [] i j y h = refl
-slice_get-set_other (x ∷ xs) zero zero y h = absurd (h refl)
-slice_get-set_other (x ∷ xs) zero (suc j) y h = refl
-slice_get-set_other (x ∷ xs) (suc i) zero y h = refl
-slice_get-set_other (x ∷ xs) (suc i) (suc j) y h = slice_get-set_other xs i j y (λ e. h (ap suc e))
-
 -- one less is unknown once one is known
 pub unknowns-set : (xs : List (Option ℕ)) (i r : ℕ) → slice_get xs i ≡ Some None → unknowns (set xs i (Some r)) + 1 ≡ unknowns xs
 unknowns-set xs i r e =
@@ -40,11 +28,6 @@ unknown_at xs i h e = by_value (get_or xs i None) refl
 
 pub known_at : (xs : List (Option ℕ)) (i : ℕ) → is_some (get_or xs i None) ≡ true → slice_get xs i ≡ Some None → ⊥
 known_at xs i e none = false≢true (sym (ap is_some (get_or_from_slice_get xs i None None none)) ∙ e)
-
--- what follows from what a clause says of an Ok
-pub ok_then : {X Y : Type 0} {P Q : X → Type 0} (r : Result X Y) → IfOk r P → ((x : X) → P x → Q x) → IfOk r Q
-ok_then (Ok x) p f = f x p
-ok_then (Err e) p f = tt
 
 -- and where there is nothing
 pub none_then : {X P Q : Type 0} (o : Option X) → IfNone o P → (P → Q) → IfNone o Q

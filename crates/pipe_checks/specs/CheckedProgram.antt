@@ -1,6 +1,6 @@
 -- What contracts see of a checked program.
 use Rattle.std.specs.Prelude.{ℕ, List}
-use Rattle.pipe_lang.specs.declared.tree.Tree.{Tree}
+use Rattle.pipe_tree.specs.declared.tree.Tree.{Tree}
 use Rattle.pipe_checks.specs.declared.declared.Declared.{Declared}
 use Rattle.pipe_checks.specs.Links.{Links}
 

@@ -27,11 +27,6 @@ pub record IsRanking (g : List Links) (ranks : List ℕ) : Type 0 where
   pub ranked : IsRanked g ranks
   pub least : (others : List ℕ) → IsRanked g others → (s : ℕ) → slice_index ranks s ≤ slice_index others s
 
--- the greatest of the numbers; 0 where there are none
-abbrev pub greatest : List ℕ → ℕ
-greatest [] = 0
-greatest (n ∷ ns) = max n (greatest ns)
-
 -- ---- cycles
 
 -- k reads lead from s to t

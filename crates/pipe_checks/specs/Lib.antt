@@ -5,13 +5,7 @@ pub mod Graph
 pub mod Names
 pub mod Sites
 pub mod Uses
+pub mod Wants
 pub mod Twice
-pub mod Settings
-pub mod Unset
-pub mod Boxes
-pub mod Domains
 pub mod Checking
 pub mod Search
-pub mod Within
-pub mod InBounds
-pub mod Taken

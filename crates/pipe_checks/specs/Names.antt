@@ -1,9 +1,9 @@
 -- The names that a program declares.
 use Rattle.std.specs.Prelude.{ℕ, ◌+◌, Bool, true, false, not, Option, Some, None, List, [], ◌∷◌, ◌++◌, filter, position, slice_get}
 use Rattle.std.specs.Str.{bytes_eq}
-use Rattle.pipe_lang.specs.declared.tree.Names.{Names}
-use Rattle.pipe_lang.specs.declared.tree.Names.TheVariants.{One, Three}
-use Rattle.pipe_lang.specs.Tree.{Declaration, param, image, function, accumulator, output}
+use Rattle.pipe_tree.specs.declared.tree.Names.{Names}
+use Rattle.pipe_tree.specs.declared.tree.Names.TheVariants.{One, Three}
+use Rattle.pipe_tree.specs.Tree.{Declaration, param, image, function, accumulator, output}
 use Rattle.pipe_checks.specs.declared.declared.NameKind.{NameKind}
 use Rattle.pipe_checks.specs.declared.declared.NameKind.TheVariants.{Param, Plane, Func, Accum}
 use Rattle.pipe_checks.specs.declared.declared.Declared.{Declared}

@@ -1,6 +1,6 @@
 -- What the searches for ranks and for cycles know on their way: only contracts of private functions cite this.
 use Rattle.std.specs.Prelude.{ℕ, ◌+◌, ◌-◌, ◌<◌, ◌≤◌, ◌≡◌, ◌⊎◌, true, if◌then◌else◌, Option, Some, None, is_none, unwrap_or, count_by, Result, Ok, Err, List, map, length, slice_get, slice_index, slice_index_or, Any}
-use Rattle.pipe_lang.specs.Tree.{Declaration}
+use Rattle.pipe_tree.specs.Tree.{Declaration}
 use Rattle.std.specs.List.{list_any}
 use Rattle.pipe_checks.specs.declared.fault.CheckFault.{CheckFault}
 use Rattle.pipe_checks.specs.declared.fault.CheckFault.TheVariants.{Unknown, Twice, Kind, BadKernel, BadLiteral, NoResult, Cycle, Memory}
@@ -11,7 +11,8 @@ use Rattle.pipe_checks.specs.declared.fault.Misuse.TheVariants as misuse
 use Rattle.pipe_checks.specs.Links.{Links}
 use Rattle.pipe_checks.specs.Names.{params_of, stages_of}
 use Rattle.pipe_checks.specs.Sites.{graph_of}
-use Rattle.pipe_checks.specs.Graph.{links_at, Reads, greatest, Way, IsRanking, IsShortestCycle}
+use Rattle.pipe_checks.specs.Graph.{links_at, Reads, Way, IsRanking, IsShortestCycle}
+use Rattle.domains.specs.Greatest.{greatest}
 use Rattle.pipe_checks.specs.Checking.{is_result, AllGood, IsFirstWrong, IsNamed}
 
 -- ---- ranks

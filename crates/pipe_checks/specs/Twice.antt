@@ -1,7 +1,7 @@
 -- Names that stand for two things.
 use Rattle.std.specs.Prelude.{ℕ, Bool, false, ◌||◌, Option, Some, None, is_some, List}
 use Rattle.std.specs.Str.{bytes_eq}
-use Rattle.pipe_lang.specs.Tree.{Declaration, param, image, function, accumulator, output}
+use Rattle.pipe_tree.specs.Tree.{Declaration, param, image, function, accumulator, output}
 use Rattle.pipe_checks.specs.declared.declared.Declared.{Declared}
 use Rattle.pipe_checks.specs.declared.uses.Own.{Own}
 use Rattle.pipe_checks.specs.Names.{number_of}

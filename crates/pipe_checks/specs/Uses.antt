@@ -3,16 +3,16 @@
 use Rattle.std.specs.Prelude.{ℕ, ◌%◌, ℤ, pos, negsuc, int_le, Bool, true, false, ◌&&◌, ◌==◌, nat_le, nat_lt, if◌then◌else◌, Option, Some, None, Result, Ok, Err, List, [], ◌∷◌, length}
 use Rattle.std.specs.List.{list_all}
 use Rattle.std.specs.Str.{bytes_eq}
-use Rattle.pipe_lang.specs.declared.tree.Term.{Term}
-use Rattle.pipe_lang.specs.declared.tree.Index.{Index}
-use Rattle.pipe_lang.specs.declared.tree.AffineSpan.{AffineSpan}
-use Rattle.pipe_lang.specs.declared.tree.LiteralOp.{LiteralOp}
-use Rattle.pipe_lang.specs.declared.tree.LiteralOp.TheVariants.{Div, Rem, Shl, Shr}
-use Rattle.pipe_lang.specs.declared.tree.Test.{Test}
-use Rattle.pipe_lang.specs.declared.tree.Test.TheVariants.{Compare, Remainder}
-use Rattle.pipe_lang.specs.declared.tree.Names.{Names}
-use Rattle.pipe_lang.specs.declared.tree.Names.TheVariants.{One, Three}
-use Rattle.pipe_lang.specs.Tree.{Node, number, variable, read, neg, binary, literal, abs, clamp, select, stencil, Branch, Function, Accumulator, Declaration, param, image, function, accumulator, output}
+use Rattle.pipe_tree.specs.declared.tree.Term.{Term}
+use Rattle.pipe_tree.specs.declared.tree.Index.{Index}
+use Rattle.pipe_tree.specs.declared.tree.AffineSpan.{AffineSpan}
+use Rattle.domains.specs.declared.operators.LiteralOp.{LiteralOp}
+use Rattle.domains.specs.declared.operators.LiteralOp.TheVariants.{Div, Rem, Shl, Shr}
+use Rattle.pipe_tree.specs.declared.tree.Test.{Test}
+use Rattle.pipe_tree.specs.declared.tree.Test.TheVariants.{Compare, Remainder}
+use Rattle.pipe_tree.specs.declared.tree.Names.{Names}
+use Rattle.pipe_tree.specs.declared.tree.Names.TheVariants.{One, Three}
+use Rattle.pipe_tree.specs.Tree.{Node, number, variable, read, neg, binary, literal, abs, clamp, select, stencil, Branch, Function, Accumulator, Declaration, param, image, function, accumulator, output}
 use Rattle.pipe_checks.specs.declared.declared.NameKind.{NameKind}
 use Rattle.pipe_checks.specs.declared.declared.NameKind.TheVariants as kind
 use Rattle.pipe_checks.specs.declared.declared.Declared.{Declared}

@@ -4,7 +4,7 @@
 ghost use Rattle.std.specs.Prelude.{◌≡◌, true, false, Some, None, Ok, Err, OnOk, IfOk, IfErr, slice_get};
 ghost use Rattle.std.specs.List.{list_any};
 ghost use Rattle.std.specs.Option.{option_copied};
-ghost use Rattle.pipe_lang.specs.Tree.{content, declaration, declarations};
+ghost use Rattle.pipe_tree.specs.Tree.{content, declaration, declarations};
 ghost use Rattle.pipe_checks.specs.Names.{declared_names};
 ghost use Rattle.pipe_checks.specs.Graph.{IsRanking};
 ghost use Rattle.pipe_checks.specs.Checking.{IsNamed, IsFault, IsCheckedOf, tree_in, stages_in, params_in, graph_in, ranks_in, is_result, verdict_of, reads_at};
@@ -17,7 +17,7 @@ use crate::graph::{Links, graph};
 use crate::ranks::ranks;
 use crate::twice::{first_twice, own_of};
 use crate::uses::judge_item;
-use pipe_lang::{Item, Tree};
+use pipe_tree::{Item, Tree};
 use std::alloc::Global;
 use std::marker::Model;
 
@@ -34,7 +34,7 @@ pub struct Checked {
 
 impl Model for Checked {
     ghost use Rattle.std.specs.Coded.{codes};
-    ghost use Rattle.pipe_lang.specs.contracts.tree.Expr as expr;
+    ghost use Rattle.pipe_tree.specs.contracts.tree.Expr as expr;
     ghost use Rattle.pipe_checks.specs.CheckedProgram.{CheckedProgram};
 
     ghost Value = { CheckedProgram };

@@ -3,11 +3,11 @@
 
 ghost use Rattle.std.specs.Prelude.{◌≡◌, ◌++◌, ◌∷◌, [], ◌==◌, OnOk, IfOk, filter, not};
 ghost use Rattle.std.specs.Str.{bytes_eq};
-ghost use Rattle.pipe_lang.specs.Tree.{declaration, declarations};
+ghost use Rattle.pipe_tree.specs.Tree.{declaration, declarations};
 ghost use Rattle.pipe_checks.specs.Names.{number_of, names_of, item_names, names_from, is_param, stages_of, declared_at};
 
-use pipe_lang::{Item, Names};
 use pipe_tokens::Name;
+use pipe_tree::{Item, Names};
 use std::alloc::{AllocError, Global};
 
 /// What a declared name stands for.

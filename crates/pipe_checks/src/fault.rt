@@ -1,9 +1,9 @@
 #![tactic(auto)]
-//! Why a program, or a value of one of its parameters, is refused.
+//! Why a program is refused.
 
 ghost use Rattle.std.specs.Prelude.{◌≡◌};
 
-use std::alloc::{AllocError, AllocFailed};
+use std::alloc::AllocError;
 use std::marker::Model;
 use thiserror::Error;
 
@@ -127,127 +127,4 @@ pub enum Misuse {
     BadKernel,
     /// A number that is out of its range.
     BadLiteral,
-}
-
-/// Why a parameter was not set.
-#[derive(Clone, Copy, Debug, PartialEq, Eq, Error)]
-pub enum ParamFault {
-    /// 1: no parameter has this name.
-    #[error("no parameter has this name")]
-    NoSuchParam,
-    /// 2: the parameter has a value, which it keeps.
-    #[error("the parameter has a value")]
-    SetTwice,
-}
-
-impl ParamFault {
-    ghost use Rattle.pipe_checks.specs.FaultTable.{param_number, param_name};
-
-    /// The fault's number, 1 or 2.
-    pub fn number(self) -> u8
-        ensures { result ≡ param_number self }
-    {
-        match self {
-            ParamFault::NoSuchParam => 1,
-            ParamFault::SetTwice => 2,
-        }
-    }
-
-    /// The fault's name, as it is printed.
-    pub fn name(self) -> &'static str
-        ensures { result.now ≡ param_name self }
-    {
-        match self {
-            ParamFault::NoSuchParam => "NoSuchParam",
-            ParamFault::SetTwice => "SetTwice",
-        }
-    }
-}
-
-/// One of the two directions of an area.
-#[derive(Clone, Copy, Debug, PartialEq, Eq)]
-pub enum Axis {
-    Rows,
-    Columns,
-}
-
-/// Why a program means nothing at the values of its parameters. Parameters and stages are given by their numbers.
-#[derive(Clone, Copy, Debug, PartialEq, Eq, Error)]
-pub enum BoundFault {
-    /// 1: a parameter without a value.
-    #[error("parameter {0} has no value")]
-    ParamUnset(usize),
-    /// 2: an interval whose last number is below its first, or a plane with a side less than 1.
-    #[error("stage {0} has an empty domain")]
-    EmptyDomain(usize),
-    /// 3: an interval that leaves -16384 to 16384, more than 4096 bins, or a plane with a side over 4096.
-    #[error("stage {0} has a domain that is too wide")]
-    DomainTooWide(usize),
-    /// 4: a read that leaves the domain of what it reads, and the least and the greatest index that it takes.
-    #[error("read {read} in case {case} of stage {stage} leaves what it reads")]
-    OutOfBounds {
-        stage: usize,
-        /// Cases are numbered from 0, and `else` has the next number.
-        case: usize,
-        /// Reads and stencils of a case are numbered from 0 in the order of the text.
-        read: usize,
-        axis: Axis,
-        least: i32,
-        greatest: i32,
-    },
-    /// 5: no memory was left.
-    #[error("out of memory")]
-    Memory,
-}
-
-impl BoundFault {
-    ghost use Rattle.pipe_checks.specs.FaultTable.{bound_number, bound_name};
-
-    /// The fault's number, from 1 to 5.
-    pub fn number(self) -> u8
-        ensures { result ≡ bound_number self }
-    {
-        match self {
-            BoundFault::ParamUnset(_) => 1,
-            BoundFault::EmptyDomain(_) => 2,
-            BoundFault::DomainTooWide(_) => 3,
-            BoundFault::OutOfBounds { .. } => 4,
-            BoundFault::Memory => 5,
-        }
-    }
-
-    /// The fault's name, as it is printed.
-    pub fn name(self) -> &'static str
-        ensures { result.now ≡ bound_name self }
-    {
-        match self {
-            BoundFault::ParamUnset(_) => "ParamUnset",
-            BoundFault::EmptyDomain(_) => "EmptyDomain",
-            BoundFault::DomainTooWide(_) => "DomainTooWide",
-            BoundFault::OutOfBounds { .. } => "OutOfBounds",
-            BoundFault::Memory => "Memory",
-        }
-    }
-}
-
-impl From<AllocError> for BoundFault {
-    ghost use Rattle.std.specs.Prelude.{◌≡◌};
-    ghost use Rattle.pipe_checks.specs.declared.fault.BoundFault.TheVariants.{Memory};
-
-    ghost from_gives = { λ _ e. e ≡ Memory };
-
-    fn from(_e: AllocError) -> BoundFault {
-        BoundFault::Memory
-    }
-}
-
-impl<T: Drop> From<AllocFailed<T>> for BoundFault {
-    ghost use Rattle.std.specs.Prelude.{◌≡◌};
-    ghost use Rattle.pipe_checks.specs.declared.fault.BoundFault.TheVariants.{Memory};
-
-    ghost from_gives = { λ _ e. e ≡ Memory };
-
-    fn from(_e: AllocFailed<T>) -> BoundFault {
-        BoundFault::Memory
-    }
 }

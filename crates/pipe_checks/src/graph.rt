@@ -3,12 +3,12 @@
 
 ghost use Rattle.std.specs.Prelude.{◌≡◌, ◌++◌, OnOk, IfOk, map, slice_get};
 ghost use Rattle.std.specs.Option.{option_map};
-ghost use Rattle.pipe_lang.specs.Tree.{view, branches, declaration, declarations};
+ghost use Rattle.pipe_tree.specs.Tree.{view, branches, declaration, declarations};
 ghost use Rattle.pipe_checks.specs.Sites.{branch_sites, otherwise_sites, item_sites, stage_read, is_plane, links_of, links_from};
 
 use crate::declared::{Declared, NameKind};
 use crate::site::{Site, add_sites, stage_read};
-use pipe_lang::{Case, Expr, Item};
+use pipe_tree::{Case, Expr, Item};
 use std::alloc::{AllocError, Global};
 use std::marker::Model;
 

@@ -2,13 +2,13 @@
 //! The reads of an expression.
 
 ghost use Rattle.std.specs.Prelude.{◌≡◌, ◌++◌, OnOk, IfOk};
-ghost use Rattle.pipe_lang.specs.Tree.{view};
+ghost use Rattle.pipe_tree.specs.Tree.{view};
 ghost use Rattle.pipe_checks.specs.Names.{number_of};
 ghost use Rattle.pipe_checks.specs.Sites.{read_at, stencil_at, width_of, sites_of, stage_read};
 
 use crate::declared::{Declared, number_of};
-use pipe_lang::{Expr, Index, Kernel, Row};
 use pipe_tokens::Name;
+use pipe_tree::{Expr, Index, Kernel, Row};
 use std::alloc::{AllocError, Global};
 
 /// A read or a stencil, of the stage of this number.
@@ -21,7 +21,7 @@ pub enum Site {
 }
 
 // The number of the stage that is read.
-pub(crate) fn stage_read(site: &Site) -> usize
+pub fn stage_read(site: &Site) -> usize
     ensures { result ≡ stage_read site.now }
 {
     match site {
@@ -75,11 +75,7 @@ fn add_stencil(
 }
 
 /// Puts the sites of an expression behind those that were found.
-pub(crate) fn add_sites(
-    found: &mut Vec<Site>,
-    stages: &[Declared],
-    expr: &Expr,
-) -> Result<(), AllocError>
+pub fn add_sites(found: &mut Vec<Site>, stages: &[Declared], expr: &Expr) -> Result<(), AllocError>
     ensures { OnOk result (found.new.items ≡ found.old.items ++ sites_of stages.now (view expr.now)) }
 {
     match expr {

@@ -2,14 +2,14 @@
 //! Names that stand for two things.
 
 ghost use Rattle.std.specs.Prelude.{◌≡◌, IsTrue, IfSome, IfNone};
-ghost use Rattle.pipe_lang.specs.Tree.{declaration, declarations};
+ghost use Rattle.pipe_tree.specs.Tree.{declaration, declarations};
 ghost use Rattle.pipe_checks.specs.Checking.{DeclaresAgain, IsFirstTwice, NoneTwice};
 ghost use Rattle.pipe_checks.specs.Twice.{own_of, is_declared, are_same, varies_again};
 
 use crate::declared::{Declared, is_same, number_of};
 use crate::uses::Own;
-use pipe_lang::Item;
 use pipe_tokens::Name;
+use pipe_tree::Item;
 
 /// The variables of an item, if it has them.
 pub(crate) fn own_of(item: &Item) -> Own

@@ -2,8 +2,8 @@
 //! A program has one first fault, or none. This is a law, which no code runs.
 
 ghost use Rattle.std.specs.Prelude.{◌≡◌, ◌≢◌, List};
-ghost use Rattle.pipe_lang.specs.declared.tree.Tree.{Tree as TreeType};
-ghost use Rattle.pipe_lang.specs.Tree.{Declaration, content};
+ghost use Rattle.pipe_tree.specs.declared.tree.Tree.{Tree as TreeType};
+ghost use Rattle.pipe_tree.specs.Tree.{Declaration, content};
 ghost use Rattle.pipe_checks.specs.declared.checked.Checked.{Checked as CheckedType};
 ghost use Rattle.pipe_checks.specs.Checking.{IsFault, IsCheckedOf};
 

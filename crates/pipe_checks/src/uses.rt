@@ -4,17 +4,17 @@
 ghost use Rattle.std.specs.Prelude.{◌≡◌, ◌==◌, length};
 ghost use Rattle.std.specs.List.{list_all};
 ghost use Rattle.std.specs.Option.{option_map};
-ghost use Rattle.pipe_lang.specs.Tree.{view, branch, branches, function_of, accumulator_of, declaration};
+ghost use Rattle.pipe_tree.specs.Tree.{view, branch, branches, function_of, accumulator_of, declaration};
 ghost use Rattle.pipe_checks.specs.Uses.{is_it, allows, standing_of, standing_at, range_verdict, below_verdict, add_verdict, is_side, kernel_verdict, literal_verdict, name_verdict, factor_verdict, affine_verdict, span_verdict, index_verdict, read_verdict, stencil_verdict, expr_verdict, test_verdict, tests_verdict, branch_verdict, branches_verdict, otherwise_verdict, function_verdict, accumulator_verdict, outputs_verdict, item_verdict};
 
 use crate::declared::{Declared, NameKind, declared_at, is_same};
 use crate::fault::Misuse;
 use crate::site::width_of;
-use pipe_lang::{
-    Accum, Affine, AffineSpan, Case, Expr, Func, Index, Item, Kernel, LiteralOp, Names, Output,
-    Row, Test,
-};
+use domains::LiteralOp;
 use pipe_tokens::Name;
+use pipe_tree::{
+    Accum, Affine, AffineSpan, Case, Expr, Func, Index, Item, Kernel, Names, Output, Row, Test,
+};
 
 /// The greatest number of a text.
 pub const MAX_NUMBER: u32 = 2_147_483_647;

@@ -3,20 +3,21 @@ use Rattle.std.proofs.Common.{Bool, true, ◌≡◌, List, [], ◌∷◌, ◌++�
 use Rattle.std.specs.Prelude.{◌||◌}
 use Rattle.std.specs.List.{list_any}
 use Rattle.std.specs.Global.{Vec}
-use Rattle.pipe_lang.specs.declared.fault.ParseError.{ParseError}
-use Rattle.pipe_lang.specs.declared.fault.ParseError.TheVariants as errors
-use Rattle.pipe_lang.specs.declared.tree.Item.{Item}
-use Rattle.pipe_lang.specs.Tokens.{head}
-use Rattle.pipe_lang.specs.Grammar.{is_output}
+use Rattle.pipe_lang.specs.declared.parse_error.ParseError.{ParseError}
+use Rattle.pipe_lang.specs.declared.parse_error.ParseError.TheVariants as errors
+use Rattle.pipe_tree.specs.declared.tree.Item.{Item}
+use Rattle.pipe_tree.specs.Tokens.{head}
+use Rattle.pipe_tree.specs.Grammar.{is_output}
 use Rattle.pipe_tokens.specs.declared.token.Word.TheVariants as words
-use Rattle.pipe_lang.specs.declared.limits.Role.TheVariants as roles
-use Rattle.pipe_lang.specs.declared.tree.Test.{Test}
-use Rattle.pipe_lang.specs.Limits.{most_levels}
-use Rattle.pipe_lang.specs.Lookahead.{is_word_at}
-use Rattle.pipe_lang.specs.Tree.{Node, Branch, Declaration, declaration, declarations}
-use Rattle.pipe_lang.specs.Reading.{At, Answer, ◌>>=◌, gives, choose, while, next_behind, word, a_test, condition, value, a_case, item, goes_on, other, others, value_of, Fails, Reads}
-use Rattle.pipe_lang.proofs.ItemLaws as laws
-use Rattle.pipe_lang.proofs.ProgramLaws as programs
+use Rattle.pipe_tree.specs.declared.limits.Role.TheVariants as roles
+use Rattle.pipe_tree.specs.declared.tree.Test.{Test}
+use Rattle.pipe_tree.specs.Limits.{most_levels}
+use Rattle.pipe_tree.specs.Lookahead.{is_word_at}
+use Rattle.pipe_tree.specs.Tree.{Node, Branch, Declaration, declaration, declarations}
+use Rattle.pipe_tree.specs.Reading.{At, Answer, ◌>>=◌, gives, choose, while, next_behind, word, a_test, condition, value, a_case, item, goes_on, other, others, value_of}
+use Rattle.pipe_lang.specs.Answers.{Fails, Reads}
+use Rattle.pipe_tree.proofs.ItemLaws as laws
+use Rattle.pipe_tree.proofs.ProgramLaws as programs
 
 pub condition_unroll : (tests : List Test) (s : At) → while (is_word_at words.And) (next_behind (word words.And roles.Plain) a_test) tests s ≡ choose (is_word_at words.And) (next_behind (word words.And roles.Plain) a_test tests >>= while (is_word_at words.And) (next_behind (word words.And roles.Plain) a_test)) (gives tests) s
 condition_unroll = laws.condition_unroll 0

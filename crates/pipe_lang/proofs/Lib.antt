@@ -1,16 +1,3 @@
-pub mod AffineLaws
-pub mod Bytes
-pub mod ExpressionLaws
-pub mod Halts
-pub mod IndexLaws
-pub mod ItemLaws
 pub mod ItemUnrolled
-pub mod Laws
-pub mod LoopLaws
 pub mod Passing
-pub mod ProgramLaws
-pub mod SizeLaws
-pub mod StartLaws
-pub mod Theorems
-pub mod TokenLaws
 pub mod Unrolled

@@ -3,10 +3,10 @@ use Rattle.std.proofs.Common.{Bool, true, ◌≡◌, ◌<◌, List, [], ◌∷�
 use Rattle.pipe_tokens.specs.declared.token.Token.{Token}
 use Rattle.pipe_tokens.specs.declared.token.Mark.{Mark}
 use Rattle.pipe_tokens.specs.declared.token.Word.{Word}
-use Rattle.pipe_lang.specs.declared.lookahead.Factor.{Factor}
-use Rattle.pipe_lang.specs.Tokens.{head, tail}
-use Rattle.pipe_lang.specs.Operators.{sign_at, factor_at}
-use Rattle.pipe_lang.specs.Lookahead.{is_mark_at, is_word_at}
+use Rattle.pipe_tree.specs.declared.ahead.Factor.{Factor}
+use Rattle.pipe_tree.specs.Tokens.{head, tail}
+use Rattle.pipe_tree.specs.Operators.{sign_at, factor_at}
+use Rattle.pipe_tree.specs.Lookahead.{is_mark_at, is_word_at}
 
 pub mark_passes : (m : Mark) (rest : List Token) → is_mark_at m (head rest) ≡ true → length (tail rest) < length rest
 mark_passes m [] e = absurd cc

@@ -2,13 +2,13 @@
 use Rattle.std.proofs.Common.{◌≡◌, List, [], ◌∷◌, ◌++◌, Bool, true, Ok, refl, ap, ◌∙◌}
 use Rattle.std.specs.Prelude.{ℤ, if◌then◌else◌}
 use Rattle.pipe_tokens.specs.declared.token.Mark.TheVariants as marks
-use Rattle.pipe_lang.specs.declared.limits.Role.TheVariants as roles
-use Rattle.pipe_lang.specs.declared.tree.Term.{Term}
-use Rattle.pipe_lang.specs.Tokens.{head}
-use Rattle.pipe_lang.specs.Lookahead.{is_mark_at}
-use Rattle.pipe_lang.specs.Reading.{At, Answer, on_ok, ◌>>=◌, gives, choose, while, next_behind, mark, is_sign_at, next_term, entry, row}
-use Rattle.pipe_lang.proofs.AffineLaws as affines
-use Rattle.pipe_lang.proofs.IndexLaws as indices
+use Rattle.pipe_tree.specs.declared.limits.Role.TheVariants as roles
+use Rattle.pipe_tree.specs.declared.tree.Term.{Term}
+use Rattle.pipe_tree.specs.Tokens.{head}
+use Rattle.pipe_tree.specs.Lookahead.{is_mark_at}
+use Rattle.pipe_tree.specs.Reading.{At, Answer, on_ok, ◌>>=◌, gives, choose, while, next_behind, mark, is_sign_at, next_term, entry, row}
+use Rattle.pipe_tree.proofs.AffineLaws as affines
+use Rattle.pipe_tree.proofs.IndexLaws as indices
 
 pub affine_unroll : (terms : List Term) (s : At) → while is_sign_at next_term terms s ≡ choose is_sign_at (next_term terms >>= while is_sign_at next_term) (gives terms) s
 affine_unroll = affines.affine_unroll 0

@@ -1,11 +1,1 @@
-pub mod FaultOf
-pub mod Faults
-pub mod FaultLine
-pub mod Grammar
-pub mod Limits
-pub mod Lookahead
-pub mod Operators
-pub mod Reading
-pub mod Sizes
-pub mod Tokens
-pub mod Tree
+pub mod Answers

@@ -2,15 +2,14 @@
 //! Affine sums of parameters, spans of them, and the variables that run over spans.
 
 ghost use Rattle.std.specs.Prelude.{◌≡◌, ◌<◌, ◌≤◌, length, OnOk};
-ghost use Rattle.pipe_lang.specs.Reading as reading;
-ghost use Rattle.pipe_lang.specs.Reading.{at, Reads};
+ghost use Rattle.pipe_tree.specs.Reading as reading;
+ghost use Rattle.pipe_lang.specs.Answers.{at, Reads};
 
-use crate::fault::ParseError;
-use crate::limits::Role;
 use crate::lookahead::{is_number, sign_of};
+use crate::parse_error::ParseError;
 use crate::parser::Parser;
-use crate::tree::{Affine, AffineSpan, Term, Variable};
 use pipe_tokens::{Mark, Name, Word};
+use pipe_tree::{Affine, AffineSpan, Role, Term, Variable};
 
 impl Parser<'_> {
     // A minus, if there is one.
@@ -26,7 +25,7 @@ impl Parser<'_> {
     }
 
     // A number and the name that it is multiplied by, if there is one; 1 and a name, where no number stands.
-    #[tactic(auto, unfolding(crate::specs::Reading::scaled_name))]
+    #[tactic(auto, unfolding(pipe_tree::specs::Reading::scaled_name))]
     fn scaled_name(&mut self) -> Result<(u32, Option<Name>), ParseError>
         ensures exact { Reads (λ f. (f, at self.new)) result (reading.scaled_name (at self.old)) }
         ensures shorter { length self.new.rest.now ≤ length self.old.rest.now }
@@ -57,7 +56,7 @@ impl Parser<'_> {
         Ok(())
     }
 
-    #[tactic(auto, using(crate::proofs::Unrolled::affine_unroll), unfolding(crate::specs::Reading::affine))]
+    #[tactic(auto, using(crate::proofs::Unrolled::affine_unroll), unfolding(pipe_tree::specs::Reading::affine))]
     pub fn affine(&mut self) -> Result<Affine, ParseError>
         ensures exact { Reads (λ a. (a, at self.new)) result (reading.affine (at self.old)) }
         ensures shorter { length self.new.rest.now ≤ length self.old.rest.now }
@@ -69,10 +68,10 @@ impl Parser<'_> {
             let negative = self.sign(Role::Plain)?;
             self.term(&mut terms, negative)?;
         }
-        Ok(Affine { terms })
+        Ok(Affine::new(terms))
     }
 
-    #[tactic(auto, unfolding(crate::specs::Reading::span))]
+    #[tactic(auto, unfolding(pipe_tree::specs::Reading::span))]
     pub fn span(&mut self) -> Result<AffineSpan, ParseError>
         ensures exact { Reads (λ s. (s, at self.new)) result (reading.span (at self.old)) }
         ensures shorter { length self.new.rest.now ≤ length self.old.rest.now }
@@ -85,7 +84,7 @@ impl Parser<'_> {
         Ok(AffineSpan { first, last })
     }
 
-    #[tactic(auto, unfolding(crate::specs::Reading::a_variable))]
+    #[tactic(auto, unfolding(pipe_tree::specs::Reading::a_variable))]
     pub fn variable(&mut self) -> Result<Variable, ParseError>
         ensures exact { Reads (λ v. (v, at self.new)) result (reading.a_variable (at self.old)) }
         ensures shorter { length self.new.rest.now ≤ length self.old.rest.now }

@@ -2,16 +2,17 @@
 //! Expressions, within so many levels that may still be opened.
 
 ghost use Rattle.std.specs.Prelude.{◌≡◌, ◌<◌, ◌≤◌, length, suc, IfOk, IfErr};
-ghost use Rattle.pipe_lang.specs.Tree.{view};
-ghost use Rattle.pipe_lang.specs.Reading as reading;
-ghost use Rattle.pipe_lang.specs.Reading.{at, Reads, halt_of, unary_at, product_at, expression_at};
+ghost use Rattle.pipe_tree.specs.Tree.{view};
+ghost use Rattle.pipe_tree.specs.Reading as reading;
+ghost use Rattle.pipe_tree.specs.Reading.{halt_of, unary_at, product_at, expression_at};
+ghost use Rattle.pipe_lang.specs.Answers.{at, Reads};
 
-use crate::fault::{Kind, ParseError};
-use crate::limits::Role;
-use crate::lookahead::{Factor, Opening, Start, factor_of, sign_of, start_of};
+use crate::lookahead::{factor_of, sign_of, start_of};
+use crate::parse_error::ParseError;
 use crate::parser::Parser;
-use crate::tree::{BinaryOp, Expr};
+use domains::BinaryOp;
 use pipe_tokens::{Mark, Word};
+use pipe_tree::{Expr, Factor, Kind, Opening, Role, Start};
 
 // The word of `min`, and of `max` else.
 fn word_of(op: BinaryOp) -> Word
@@ -36,7 +37,7 @@ impl Parser<'_> {
     }
 
     #[cycle(expression)]
-    #[tactic(auto, using(crate::proofs::ExpressionLaws::expression_unroll), unfolding(crate::specs::Reading::expression_at))]
+    #[tactic(auto, using(pipe_tree::proofs::ExpressionLaws::expression_unroll), unfolding(pipe_tree::specs::Reading::expression_at))]
     pub fn expression(&mut self, levels: u32) -> Result<Expr, ParseError>
         ensures exact { Reads (λ e. (view e, at self.new)) result (expression_at levels (at self.old)) }
         ensures shorter { length self.new.rest.now ≤ length self.old.rest.now }
@@ -66,7 +67,7 @@ impl Parser<'_> {
     }
 
     #[cycle(expression)]
-    #[tactic(auto, using(crate::proofs::ExpressionLaws::product_at_unroll), unfolding(crate::specs::Reading::product_at))]
+    #[tactic(auto, using(pipe_tree::proofs::ExpressionLaws::product_at_unroll), unfolding(pipe_tree::specs::Reading::product_at))]
     fn product(&mut self, levels: u32) -> Result<Expr, ParseError>
         ensures exact { Reads (λ e. (view e, at self.new)) result (product_at levels (at self.old)) }
         ensures shorter { length self.new.rest.now ≤ length self.old.rest.now }
@@ -86,7 +87,7 @@ impl Parser<'_> {
     }
 
     #[cycle(expression)]
-    #[tactic(auto, unfolding(crate::specs::Reading::unary_at, crate::specs::Reading::product_at, crate::specs::Reading::expression_at))]
+    #[tactic(auto, unfolding(pipe_tree::specs::Reading::unary_at, pipe_tree::specs::Reading::product_at, pipe_tree::specs::Reading::expression_at))]
     fn unary(&mut self, levels: u32) -> Result<Expr, ParseError>
         ensures exact { Reads (λ e. (view e, at self.new)) result (unary_at levels (at self.old)) }
         ensures shorter { length self.new.rest.now ≤ length self.old.rest.now }

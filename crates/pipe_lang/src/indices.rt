@@ -2,18 +2,17 @@
 //! Reads at an index, and stencils with a kernel.
 
 ghost use Rattle.std.specs.Prelude.{◌≡◌, ◌<◌, ◌≤◌, length, OnOk};
-ghost use Rattle.pipe_lang.specs.Grammar as grammar;
-ghost use Rattle.pipe_lang.specs.Tree.{view};
-ghost use Rattle.pipe_lang.specs.Reading as reading;
-ghost use Rattle.pipe_lang.specs.Reading.{at, Reads};
+ghost use Rattle.pipe_tree.specs.Grammar as grammar;
+ghost use Rattle.pipe_tree.specs.Tree.{view};
+ghost use Rattle.pipe_tree.specs.Reading as reading;
+ghost use Rattle.pipe_lang.specs.Answers.{at, Reads};
 ghost use Rattle.pipe_lang.specs.declared.parser.TheConstants.{MAX_NUMBER};
 
-use crate::fault::ParseError;
-use crate::limits::Role;
 use crate::lookahead::{is_number, sign_of};
+use crate::parse_error::ParseError;
 use crate::parser::{MAX_NUMBER, Parser};
-use crate::tree::{Expr, Index, Kernel, Row};
 use pipe_tokens::{Mark, Name, Word};
+use pipe_tree::{Expr, Index, Kernel, Role, Row};
 
 // A number with its sign.
 fn signed(negative: bool, number: u32) -> i32
@@ -29,7 +28,7 @@ fn signed(negative: bool, number: u32) -> i32
 
 impl Parser<'_> {
     // `MUL * NAME`, or a name alone.
-    #[tactic(auto, unfolding(crate::specs::Reading::scaled))]
+    #[tactic(auto, unfolding(pipe_tree::specs::Reading::scaled))]
     fn scaled(&mut self) -> Result<(u32, Name), ParseError>
         ensures exact { Reads (λ f. (f, at self.new)) result (reading.scaled (at self.old)) }
         ensures shorter { length self.new.rest.now ≤ length self.old.rest.now }
@@ -43,7 +42,7 @@ impl Parser<'_> {
     }
 
     // A number that is added or subtracted, if there is one.
-    #[tactic(auto, unfolding(crate::specs::Reading::addend))]
+    #[tactic(auto, unfolding(pipe_tree::specs::Reading::addend))]
     fn addend(&mut self) -> Result<i32, ParseError>
         ensures exact { Reads (λ k. (k, at self.new)) result (reading.addend (at self.old)) }
         ensures shorter { length self.new.rest.now ≤ length self.old.rest.now }
@@ -56,7 +55,7 @@ impl Parser<'_> {
         Ok(signed(negative, number))
     }
 
-    #[tactic(auto, unfolding(crate::specs::Reading::divisor))]
+    #[tactic(auto, unfolding(pipe_tree::specs::Reading::divisor))]
     fn divisor(&mut self) -> Result<u32, ParseError>
         ensures exact { Reads (λ d. (d, at self.new)) result (reading.divisor (at self.old)) }
         ensures shorter { length self.new.rest.now ≤ length self.old.rest.now }
@@ -65,7 +64,7 @@ impl Parser<'_> {
         self.int(Role::Plain)
     }
 
-    #[tactic(auto, unfolding(crate::specs::Reading::index))]
+    #[tactic(auto, unfolding(pipe_tree::specs::Reading::index))]
     fn index(&mut self) -> Result<Index, ParseError>
         ensures exact { Reads (λ i. (i, at self.new)) result (reading.index (at self.old)) }
         ensures shorter { length self.new.rest.now ≤ length self.old.rest.now }
@@ -92,7 +91,7 @@ impl Parser<'_> {
         })
     }
 
-    #[tactic(auto, unfolding(crate::specs::Reading::grouped_index))]
+    #[tactic(auto, unfolding(pipe_tree::specs::Reading::grouped_index))]
     fn grouped_index(&mut self) -> Result<Index, ParseError>
         ensures exact { Reads (λ i. (i, at self.new)) result (reading.grouped_index (at self.old)) }
         ensures shorter { length self.new.rest.now ≤ length self.old.rest.now }
@@ -111,7 +110,7 @@ impl Parser<'_> {
     }
 
     // A name, or a read of what it names.
-    #[tactic(auto, unfolding(crate::specs::Reading::named))]
+    #[tactic(auto, unfolding(pipe_tree::specs::Reading::named))]
     pub fn named(&mut self) -> Result<Expr, ParseError>
         ensures exact { Reads (λ e. (view e, at self.new)) result (reading.named (at self.old)) }
         ensures shorter { length self.new.rest.now ≤ length self.old.rest.now }
@@ -128,7 +127,7 @@ impl Parser<'_> {
         Ok(Expr::Read(name, row, column))
     }
 
-    #[tactic(auto, unfolding(crate::specs::Reading::a_stencil))]
+    #[tactic(auto, unfolding(pipe_tree::specs::Reading::a_stencil))]
     pub fn stencil(&mut self) -> Result<Expr, ParseError>
         ensures exact { Reads (λ e. (view e, at self.new)) result (reading.a_stencil (at self.old)) }
         ensures shorter { length self.new.rest.now ≤ length self.old.rest.now }
@@ -144,7 +143,7 @@ impl Parser<'_> {
         Ok(Expr::Stencil(name, divisor, kernel))
     }
 
-    #[tactic(auto, using(crate::proofs::Unrolled::kernel_unroll), unfolding(crate::specs::Reading::kernel))]
+    #[tactic(auto, using(crate::proofs::Unrolled::kernel_unroll), unfolding(pipe_tree::specs::Reading::kernel))]
     fn kernel(&mut self) -> Result<Kernel, ParseError>
         ensures exact { Reads (λ k. (k, at self.new)) result (reading.kernel (at self.old)) }
         ensures shorter { length self.new.rest.now ≤ length self.old.rest.now }
@@ -159,10 +158,10 @@ impl Parser<'_> {
             rows.push(row)?;
         }
         self.mark(Mark::CloseSquare, Role::Plain)?;
-        Ok(Kernel { rows })
+        Ok(Kernel::new(rows))
     }
 
-    #[tactic(auto, using(crate::proofs::Unrolled::row_unroll), unfolding(crate::specs::Reading::row))]
+    #[tactic(auto, using(crate::proofs::Unrolled::row_unroll), unfolding(pipe_tree::specs::Reading::row))]
     fn row(&mut self) -> Result<Row, ParseError>
         ensures exact { Reads (λ r. (r, at self.new)) result (reading.row (at self.old)) }
         ensures shorter { length self.new.rest.now ≤ length self.old.rest.now }
@@ -177,10 +176,10 @@ impl Parser<'_> {
             entries.push(entry)?;
         }
         self.mark(Mark::CloseSquare, Role::Plain)?;
-        Ok(Row { entries })
+        Ok(Row::new(entries))
     }
 
-    #[tactic(auto, unfolding(crate::specs::Reading::entry))]
+    #[tactic(auto, unfolding(pipe_tree::specs::Reading::entry))]
     fn entry(&mut self) -> Result<i32, ParseError>
         ensures exact { Reads (λ k. (k, at self.new)) result (reading.entry (at self.old)) }
         ensures shorter { length self.new.rest.now ≤ length self.old.rest.now }

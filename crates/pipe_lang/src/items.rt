@@ -4,24 +4,25 @@
 ghost use Rattle.std.specs.Prelude.{◌≡◌, ◌<◌, ◌≤◌, length, OnOk};
 ghost use Rattle.std.specs.List.{list_any};
 ghost use Rattle.std.specs.Option.{option_map};
-ghost use Rattle.pipe_lang.specs.Grammar.{is_output};
-ghost use Rattle.pipe_lang.specs.Limits.{most_levels};
-ghost use Rattle.pipe_lang.specs.Tree.{view, cases_of, branches, function_of, accumulator_of, declaration, declarations};
-ghost use Rattle.pipe_lang.specs.Reading as reading;
-ghost use Rattle.pipe_lang.specs.Reading.{at, Reads, program_of};
+ghost use Rattle.pipe_tree.specs.Grammar.{is_output};
+ghost use Rattle.pipe_tree.specs.Limits.{most_levels};
+ghost use Rattle.pipe_tree.specs.Tree.{view, cases_of, branches, function_of, accumulator_of, declaration, declarations};
+ghost use Rattle.pipe_tree.specs.Reading as reading;
+ghost use Rattle.pipe_tree.specs.Reading.{program_of};
+ghost use Rattle.pipe_lang.specs.Answers.{at, Reads};
 
-use crate::fault::ParseError;
-use crate::limits::{MAX_LEVELS, Role};
-use crate::lookahead::{ItemStart, item_of};
+use crate::lookahead::item_of;
+use crate::parse_error::ParseError;
 use crate::parser::Parser;
-use crate::tree::{
-    Accum, Case, Cases, Condition, Expr, Func, Image, Item, Names, Output, Param, Test, Variable,
-};
 use pipe_tokens::{Mark, Token, Word};
+use pipe_tree::{
+    Accum, Case, Cases, Condition, Expr, Func, Image, Item, ItemStart, MAX_LEVELS, Names, Output,
+    Param, Role, Test, Variable,
+};
 use std::alloc::Global;
 
 impl Parser<'_> {
-    #[tactic(auto, unfolding(crate::specs::Reading::a_param))]
+    #[tactic(auto, unfolding(pipe_tree::specs::Reading::a_param))]
     fn param(&mut self) -> Result<Param, ParseError>
         ensures exact { Reads (λ p. (p, at self.new)) result (reading.a_param (at self.old)) }
         ensures shorter { length self.new.rest.now ≤ length self.old.rest.now }
@@ -34,7 +35,7 @@ impl Parser<'_> {
     }
 
     // One name, or three.
-    #[tactic(auto, unfolding(crate::specs::Reading::names))]
+    #[tactic(auto, unfolding(pipe_tree::specs::Reading::names))]
     fn names(&mut self, role: Role) -> Result<Names, ParseError>
         ensures exact { Reads (λ ns. (ns, at self.new)) result (reading.names role (at self.old)) }
         ensures shorter { length self.new.rest.now ≤ length self.old.rest.now }
@@ -50,7 +51,7 @@ impl Parser<'_> {
         Ok(Names::Three(first, second, third))
     }
 
-    #[tactic(auto, unfolding(crate::specs::Reading::an_image))]
+    #[tactic(auto, unfolding(pipe_tree::specs::Reading::an_image))]
     fn image(&mut self) -> Result<Image, ParseError>
         ensures exact { Reads (λ i. (i, at self.new)) result (reading.an_image (at self.old)) }
         ensures shorter { length self.new.rest.now ≤ length self.old.rest.now }
@@ -71,7 +72,7 @@ impl Parser<'_> {
     }
 
     // The variables of rows and columns.
-    #[tactic(auto, unfolding(crate::specs::Reading::variables))]
+    #[tactic(auto, unfolding(pipe_tree::specs::Reading::variables))]
     fn variables(&mut self) -> Result<(Variable, Variable), ParseError>
         ensures exact { Reads (λ vs. (vs, at self.new)) result (reading.variables (at self.old)) }
         ensures shorter { length self.new.rest.now ≤ length self.old.rest.now }
@@ -84,7 +85,7 @@ impl Parser<'_> {
         Ok((row, column))
     }
 
-    #[tactic(auto, unfolding(crate::specs::Reading::a_test))]
+    #[tactic(auto, unfolding(pipe_tree::specs::Reading::a_test))]
     fn test(&mut self) -> Result<Test, ParseError>
         ensures exact { Reads (λ t. (t, at self.new)) result (reading.a_test (at self.old)) }
         ensures shorter { length self.new.rest.now ≤ length self.old.rest.now }
@@ -101,7 +102,7 @@ impl Parser<'_> {
         Ok(Test::Remainder(name, modulus, remainder))
     }
 
-    #[tactic(auto, using(crate::proofs::ItemUnrolled::condition_unroll), unfolding(crate::specs::Reading::condition))]
+    #[tactic(auto, using(crate::proofs::ItemUnrolled::condition_unroll), unfolding(pipe_tree::specs::Reading::condition))]
     fn condition(&mut self) -> Result<Condition, ParseError>
         ensures exact { Reads (λ c. (c, at self.new)) result (reading.condition (at self.old)) }
         ensures shorter { length self.new.rest.now ≤ length self.old.rest.now }
@@ -114,11 +115,11 @@ impl Parser<'_> {
             let test = self.test()?;
             tests.push(test)?;
         }
-        Ok(Condition { tests })
+        Ok(Condition::new(tests))
     }
 
     // `: VALUE;`
-    #[tactic(auto, unfolding(crate::specs::Reading::value))]
+    #[tactic(auto, unfolding(pipe_tree::specs::Reading::value))]
     fn value(&mut self) -> Result<Expr, ParseError>
         ensures exact { Reads (λ e. (view e, at self.new)) result
             (reading.value most_levels (at self.old)) }
@@ -129,7 +130,7 @@ impl Parser<'_> {
         Ok(self.ended(value, Mark::Semicolon)?)
     }
 
-    #[tactic(auto, using(crate::proofs::ItemUnrolled::next_case), unfolding(crate::specs::Reading::cases_at))]
+    #[tactic(auto, using(crate::proofs::ItemUnrolled::next_case), unfolding(pipe_tree::specs::Reading::cases_at))]
     fn cases(&mut self) -> Result<Cases, ParseError>
         ensures exact { Reads (λ cs. (branches (cases_of cs), at self.new)) result
             (reading.cases_at most_levels (at self.old)) }
@@ -142,10 +143,10 @@ impl Parser<'_> {
             let value = self.value()?;
             cases.push(Case { condition, value })?;
         }
-        Ok(Cases { cases })
+        Ok(Cases::new(cases))
     }
 
-    #[tactic(auto, unfolding(crate::specs::Reading::otherwise))]
+    #[tactic(auto, unfolding(pipe_tree::specs::Reading::otherwise))]
     fn otherwise(&mut self) -> Result<Option<Expr>, ParseError>
         ensures exact { Reads (λ e. (option_map view e, at self.new)) result
             (reading.otherwise most_levels (at self.old)) }
@@ -158,7 +159,7 @@ impl Parser<'_> {
         Ok(Some(self.value()?))
     }
 
-    #[tactic(auto, unfolding(crate::specs::Reading::a_function))]
+    #[tactic(auto, unfolding(pipe_tree::specs::Reading::a_function))]
     fn func(&mut self) -> Result<Func, ParseError>
         ensures exact { Reads (λ f. (function_of f, at self.new)) result
             (reading.a_function most_levels (at self.old)) }
@@ -181,7 +182,7 @@ impl Parser<'_> {
         Ok(self.ended(func, Mark::CloseCurly)?)
     }
 
-    #[tactic(auto, unfolding(crate::specs::Reading::an_accumulator))]
+    #[tactic(auto, unfolding(pipe_tree::specs::Reading::an_accumulator))]
     fn accum(&mut self) -> Result<Accum, ParseError>
         ensures exact { Reads (λ a. (accumulator_of a, at self.new)) result
             (reading.an_accumulator most_levels (at self.old)) }
@@ -209,7 +210,7 @@ impl Parser<'_> {
         Ok(self.ended(accum, Mark::Semicolon)?)
     }
 
-    #[tactic(auto, unfolding(crate::specs::Reading::an_output))]
+    #[tactic(auto, unfolding(pipe_tree::specs::Reading::an_output))]
     fn output(&mut self) -> Result<Output, ParseError>
         ensures exact { Reads (λ o. (o, at self.new)) result (reading.an_output (at self.old)) }
         ensures shorter { length self.new.rest.now ≤ length self.old.rest.now }
@@ -224,7 +225,7 @@ impl Parser<'_> {
     }
 
     // The item ahead, which is no image.
-    #[tactic(auto, unfolding(crate::specs::Reading::item))]
+    #[tactic(auto, unfolding(pipe_tree::specs::Reading::item))]
     fn item(&mut self) -> Result<Item, ParseError>
         ensures exact { Reads (λ i. (declaration i, at self.new)) result
             (reading.item most_levels (at self.old)) }
@@ -241,7 +242,7 @@ impl Parser<'_> {
     }
 
     // Puts the items up to an image, a second output or the end behind those that were read.
-    #[tactic(auto, using(crate::proofs::ItemUnrolled::next_item), unfolding(crate::specs::Reading::others))]
+    #[tactic(auto, using(crate::proofs::ItemUnrolled::next_item), unfolding(pipe_tree::specs::Reading::others))]
     fn others(&mut self, items: &mut Vec<Item>) -> Result<(), ParseError>
         ensures exact { Reads (λ _. (declarations items.new.items, at self.new)) result
             (reading.others most_levels (declarations items.old.items) (at self.old)) }
@@ -255,7 +256,7 @@ impl Parser<'_> {
     }
 
     // Exactly one image stands among the others.
-    #[tactic(auto, unfolding(crate::specs::Reading::program_at))]
+    #[tactic(auto, unfolding(pipe_tree::specs::Reading::program_at))]
     fn program(&mut self) -> Result<Vec<Item>, ParseError>
         ensures exact { Reads (λ items. (declarations items.items, at self.new)) result
             (reading.whole most_levels (at self.old)) }

@@ -2,50 +2,12 @@
 //! What the token ahead begins.
 
 ghost use Rattle.std.specs.Prelude.{◌≡◌};
-ghost use Rattle.pipe_lang.specs.Operators.{sign_at, factor_at, relation_at, fold_at};
-ghost use Rattle.pipe_lang.specs.Lookahead.{start_at, is_number_at, is_mark_at, is_word_at, item_at};
+ghost use Rattle.pipe_tree.specs.Operators.{sign_at, factor_at, relation_at, fold_at};
+ghost use Rattle.pipe_tree.specs.Lookahead.{start_at, is_number_at, is_mark_at, is_word_at, item_at};
 
-use crate::tree::{BinaryOp, Fold, LiteralOp, Relation};
+use domains::{BinaryOp, Fold, LiteralOp, Relation};
 use pipe_tokens::{Mark, Token, Word};
-
-/// What a unary begins with.
-#[derive(Clone, Copy)]
-pub(crate) enum Start {
-    Number,
-    Name,
-    Stencil,
-    Opening(Opening),
-    Nothing,
-}
-
-/// What opens a level.
-#[derive(Clone, Copy)]
-pub(crate) enum Opening {
-    Minus,
-    Group,
-    Abs,
-    Clamp,
-    Select,
-    /// `min` or `max`.
-    Pair(BinaryOp),
-}
-
-/// An operator of a product.
-#[derive(Clone, Copy)]
-pub(crate) enum Factor {
-    Times,
-    Literal(LiteralOp),
-}
-
-/// What an item begins with, but for the image.
-#[derive(Clone, Copy)]
-pub(crate) enum ItemStart {
-    Param,
-    Func,
-    Accum,
-    Output,
-    Nothing,
-}
+use pipe_tree::{Factor, ItemStart, Opening, Start};
 
 pub(crate) fn is_mark(token: Option<Token>, mark: Mark) -> bool
     ensures { result ≡ is_mark_at mark token }

@@ -3,18 +3,19 @@
 //! left to right with one token ahead.
 
 ghost use Rattle.std.specs.Prelude.{◌≡◌, ◌<◌, ◌≤◌, length, IfOk, OnOk};
-ghost use Rattle.pipe_lang.specs.Limits.{none_yet};
-ghost use Rattle.pipe_lang.specs.Reading as reading;
-ghost use Rattle.pipe_lang.specs.Reading.{at, Reads, halt_of, kind_at};
-ghost use Rattle.pipe_lang.specs.Tokens.{head, tail};
-ghost use Rattle.pipe_lang.specs.Operators.{name_at};
-ghost use Rattle.pipe_lang.specs.Lookahead.{is_mark_at, is_word_at};
+ghost use Rattle.pipe_tree.specs.Limits.{none_yet};
+ghost use Rattle.pipe_tree.specs.Reading as reading;
+ghost use Rattle.pipe_tree.specs.Reading.{halt_of, kind_at};
+ghost use Rattle.pipe_lang.specs.Answers.{at, Reads};
+ghost use Rattle.pipe_tree.specs.Tokens.{head, tail};
+ghost use Rattle.pipe_tree.specs.Operators.{name_at};
+ghost use Rattle.pipe_tree.specs.Lookahead.{is_mark_at, is_word_at};
 
-use crate::fault::{Halt, Kind, ParseError};
-use crate::limits::{Counts, Role};
-use crate::lookahead::{Factor, factor_of, fold_of, is_mark, is_word, relation_of, sign_of};
-use crate::tree::{Fold, Relation};
+use crate::lookahead::{factor_of, fold_of, is_mark, is_word, relation_of, sign_of};
+use crate::parse_error::ParseError;
+use domains::{Fold, Relation};
 use pipe_tokens::{Mark, Name, Token, Word};
+use pipe_tree::{Counts, Factor, Halt, Kind, Role};
 use std::alloc::Global;
 
 /// The greatest number of a text.

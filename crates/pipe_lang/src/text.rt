@@ -2,16 +2,15 @@
 //! A text to its tree.
 
 ghost use Rattle.std.specs.Prelude.{◌≡◌, ◌-◌, ◌<◌, length, List, slice_get, unwrap_or, IfOk, IfErr, MatchResult};
-ghost use Rattle.pipe_lang.specs.Limits.{most_bytes};
-ghost use Rattle.pipe_lang.specs.Tree.{Declaration, content};
-ghost use Rattle.pipe_lang.specs.Faults.{IsText, IsFault};
-ghost use Rattle.pipe_lang.specs.FaultOf.{fault_of};
+ghost use Rattle.pipe_tree.specs.Limits.{most_bytes};
+ghost use Rattle.pipe_tree.specs.Tree.{Declaration, content};
+ghost use Rattle.pipe_tree.specs.Faults.{IsText, IsFault};
+ghost use Rattle.pipe_tree.specs.FaultOf.{fault_of};
 
-use crate::fault::{Kind, ParseError, ParseFault};
 use crate::items::program;
-use crate::limits::MAX_BYTES;
-use crate::tree::Tree;
+use crate::parse_error::ParseError;
 use pipe_tokens::lex;
+use pipe_tree::{Kind, MAX_BYTES, ParseFault, Tree};
 use std::alloc::Global;
 
 /// The tree of a program's text.
@@ -35,7 +34,7 @@ pub fn parse(alloc: Global, text: &[u8]) -> Result<Tree, ParseFault>
     }
     let lexed = lex(alloc, text)?;
     match program(alloc, &lexed.tokens) {
-        Ok(items) => Ok(Tree { items }),
+        Ok(items) => Ok(Tree::new(items)),
         Err(ParseError::Memory) => Err(ParseFault::Memory),
         Err(ParseError::Fault(halt)) => {
             let offset = offset_of(&lexed.starts, halt.left, text.len());

@@ -6,12 +6,12 @@ use Rattle.std.proofs.lemmas.List.{append-nil}
 use Rattle.pipe_tokens.specs.declared.token.Token.{Token}
 use Rattle.pipe_tokens.specs.declared.token.Mark.TheVariants as mark
 use Rattle.pipe_tokens.specs.declared.token.Word.TheVariants as word
-use Rattle.pipe_lang.specs.declared.tree.Term.{Term}
-use Rattle.pipe_lang.specs.declared.tree.AffineSpan.{AffineSpan}
-use Rattle.pipe_lang.specs.declared.tree.Variable.{Variable}
-use Rattle.pipe_lang.specs.Limits.{Tagged, plain}
-use Rattle.pipe_lang.specs.Grammar.{Rule, Then, Gives, minus, factor_end, scaled_name, term, next_term, affine, span, a_variable}
-use Rattle.pipe_lang.specs.Grammar as g
+use Rattle.pipe_tree.specs.declared.tree.Term.{Term}
+use Rattle.pipe_tree.specs.declared.tree.AffineSpan.{AffineSpan}
+use Rattle.pipe_tree.specs.declared.tree.Variable.{Variable}
+use Rattle.pipe_tree.specs.Limits.{Tagged, plain}
+use Rattle.pipe_tree.specs.Grammar.{Rule, Then, Gives, minus, factor_end, scaled_name, term, next_term, affine, span, a_variable}
+use Rattle.pipe_tree.specs.Grammar as g
 use Rattle.pipe_print.specs.Canonical as c
 use Rattle.pipe_print.specs.Canonical.{◌⌢◌, product_tokens, scaled_tokens, term_tokens, next_term_tokens, affine_tokens, signed_tokens, span_tokens, variable_tokens}
 use Rattle.pipe_print.proofs.Printed.{Printed, Drops, then_dropped, joined, at_text, chain, gives, gives_none, gives_dropped, takes, relabel, becomes, skip, takes_dropped, Adds, adds_one, many_adds}

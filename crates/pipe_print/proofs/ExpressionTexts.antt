@@ -7,15 +7,15 @@ use Rattle.pipe_tokens.specs.declared.token.Mark.{Mark}
 use Rattle.pipe_tokens.specs.declared.token.Mark.TheVariants as mark
 use Rattle.pipe_tokens.specs.declared.token.Word.{Word}
 use Rattle.pipe_tokens.specs.declared.token.Word.TheVariants as word
-use Rattle.pipe_lang.specs.declared.tree.BinaryOp.{BinaryOp}
-use Rattle.pipe_lang.specs.declared.tree.BinaryOp.TheVariants.{Mul, Min, Max}
-use Rattle.pipe_lang.specs.declared.tree.LiteralOp.{LiteralOp}
-use Rattle.pipe_lang.specs.declared.tree.LiteralOp.TheVariants.{Div, Rem, Shl, Shr}
-use Rattle.pipe_lang.specs.Limits.{Tagged, plain}
-use Rattle.pipe_lang.specs.Operators.{factor_at}
-use Rattle.pipe_lang.specs.Tree.{Node, binary, literal}
-use Rattle.pipe_lang.specs.Grammar.{Rule, Then, Gives, Takes, Some_of, times, many, leaf, literal_number, named, a_stencil, operand, product_more, product, sum_op, sum_more, sums, negation, group, pair, absolute, clamped, selected, opened, Unary, Product, Expression}
-use Rattle.pipe_lang.specs.Grammar as g
+use Rattle.domains.specs.declared.operators.BinaryOp.{BinaryOp}
+use Rattle.domains.specs.declared.operators.BinaryOp.TheVariants.{Mul, Min, Max}
+use Rattle.domains.specs.declared.operators.LiteralOp.{LiteralOp}
+use Rattle.domains.specs.declared.operators.LiteralOp.TheVariants.{Div, Rem, Shl, Shr}
+use Rattle.pipe_tree.specs.Limits.{Tagged, plain}
+use Rattle.pipe_tree.specs.Operators.{factor_at}
+use Rattle.pipe_tree.specs.Tree.{Node, binary, literal}
+use Rattle.pipe_tree.specs.Grammar.{Rule, Then, Gives, Takes, Some_of, times, many, leaf, literal_number, named, a_stencil, operand, product_more, product, sum_op, sum_more, sums, negation, group, pair, absolute, clamped, selected, opened, Unary, Product, Expression}
+use Rattle.pipe_tree.specs.Grammar as g
 use Rattle.pipe_print.specs.declared.place.Place.{Place}
 use Rattle.pipe_print.specs.declared.place.Place.TheVariants as place
 use Rattle.pipe_print.specs.Canonical as c

@@ -6,11 +6,11 @@ use Rattle.std.proofs.lemmas.List.{append-nil}
 use Rattle.pipe_tokens.specs.declared.token.Token.{Token}
 use Rattle.pipe_tokens.specs.declared.token.Token.TheVariants as token
 use Rattle.pipe_tokens.specs.declared.token.Mark.TheVariants as mark
-use Rattle.pipe_lang.specs.declared.tree.Index.{Index}
-use Rattle.pipe_lang.specs.Limits.{Tagged, plain}
-use Rattle.pipe_lang.specs.Tree.{Node}
-use Rattle.pipe_lang.specs.Grammar.{Rule, Then, Gives, Takes, signed, minus, scaled, addend, divisor, index_end, grouped_index, index, name_end, named, entry, row, kernel, next_behind, many, separated, a_stencil}
-use Rattle.pipe_lang.specs.Grammar as g
+use Rattle.pipe_tree.specs.declared.tree.Index.{Index}
+use Rattle.pipe_tree.specs.Limits.{Tagged, plain}
+use Rattle.pipe_tree.specs.Tree.{Node}
+use Rattle.pipe_tree.specs.Grammar.{Rule, Then, Gives, Takes, signed, minus, scaled, addend, divisor, index_end, grouped_index, index, name_end, named, entry, row, kernel, next_behind, many, separated, a_stencil}
+use Rattle.pipe_tree.specs.Grammar as g
 use Rattle.pipe_print.specs.Canonical as c
 use Rattle.pipe_print.specs.Canonical.{◌⌢◌, each_behind, scaled_tokens, addend_tokens, divisor_tokens, is_zero, grouped, grouped_if, index_tokens, entry_tokens, row_tokens, kernel_tokens, expression_tokens, signed_tokens}
 use Rattle.pipe_print.specs.declared.place.Place.{Place}

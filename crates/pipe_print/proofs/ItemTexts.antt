@@ -5,15 +5,15 @@ use Rattle.std.proofs.lemmas.List.{append-nil}
 use Rattle.pipe_tokens.specs.declared.token.Token.{Token}
 use Rattle.pipe_tokens.specs.declared.token.Token.TheVariants as token
 use Rattle.pipe_tokens.specs.declared.token.Word.TheVariants as word
-use Rattle.pipe_lang.specs.declared.tree.Test.{Test}
-use Rattle.pipe_lang.specs.declared.tree.Names.{Names}
-use Rattle.pipe_lang.specs.declared.tree.Param.{Param}
-use Rattle.pipe_lang.specs.declared.tree.Image.{Image}
-use Rattle.pipe_lang.specs.declared.tree.Output.{Output}
-use Rattle.pipe_lang.specs.declared.tree.Variable.{Variable}
-use Rattle.pipe_lang.specs.Limits.{Tagged}
-use Rattle.pipe_lang.specs.Tree.{Node, Branch, Function, Accumulator, Declaration, param, image, function, accumulator, output}
-use Rattle.pipe_lang.specs.Grammar.{names, a_param, an_image, variables, a_test, condition, value, a_case, otherwise, a_function, an_accumulator, an_output, FirstOutput, other, Program}
+use Rattle.pipe_tree.specs.declared.tree.Test.{Test}
+use Rattle.pipe_tree.specs.declared.tree.Names.{Names}
+use Rattle.pipe_tree.specs.declared.tree.Param.{Param}
+use Rattle.pipe_tree.specs.declared.tree.Image.{Image}
+use Rattle.pipe_tree.specs.declared.tree.Output.{Output}
+use Rattle.pipe_tree.specs.declared.tree.Variable.{Variable}
+use Rattle.pipe_tree.specs.Limits.{Tagged}
+use Rattle.pipe_tree.specs.Tree.{Node, Branch, Function, Accumulator, Declaration, param, image, function, accumulator, output}
+use Rattle.pipe_tree.specs.Grammar.{names, a_param, an_image, variables, a_test, condition, value, a_case, otherwise, a_function, an_accumulator, an_output, FirstOutput, other, Program}
 use Rattle.pipe_print.specs.Canonical as c
 use Rattle.pipe_print.specs.Canonical.{names_tokens, variables_tokens, test_tokens, condition_tokens, value_tokens, case_tokens, otherwise_tokens, param_tokens, image_tokens, function_tokens, accumulator_tokens, output_tokens, item_tokens, canonical_tokens}
 use Rattle.pipe_print.proofs.Printed.{Printed, chain, gives, takes, relabel, becomes, Adds, adds_one, many_adds, flat_map-append}

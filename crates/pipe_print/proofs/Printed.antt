@@ -5,8 +5,8 @@ use Rattle.std.specs.List.{flat_map}
 use Rattle.std.proofs.lemmas.List.{append-nil}
 use Rattle.pipe_tokens.specs.declared.token.Token.{Token}
 use Rattle.pipe_tokens.specs.declared.token.Token.TheVariants as token
-use Rattle.pipe_lang.specs.Limits.{Tagged, untagged, plain}
-use Rattle.pipe_lang.specs.Grammar.{Rule, Then, Gives, Takes, times, many}
+use Rattle.pipe_tree.specs.Limits.{Tagged, untagged, plain}
+use Rattle.pipe_tree.specs.Grammar.{Rule, Then, Gives, Takes, times, many}
 
 -- ---- shorter texts
 

@@ -4,12 +4,12 @@ use Rattle.pipe_tokens.specs.declared.token.Token.{Token}
 use Rattle.pipe_tokens.specs.declared.token.Token.TheVariants as token
 use Rattle.pipe_tokens.specs.declared.token.Mark.TheVariants as mark
 use Rattle.pipe_tokens.specs.declared.token.Word.TheVariants as word
-use Rattle.pipe_lang.specs.declared.tree.Relation.{Relation}
-use Rattle.pipe_lang.specs.declared.tree.Fold.{Fold}
-use Rattle.pipe_lang.specs.Limits.{Tagged, plain}
-use Rattle.pipe_lang.specs.Operators.{name_at, sign_at, relation_at, fold_at}
-use Rattle.pipe_lang.specs.Grammar as g
-use Rattle.pipe_lang.specs.Grammar.{Rule, Takes, Means, Some_of}
+use Rattle.domains.specs.declared.operators.Relation.{Relation}
+use Rattle.domains.specs.declared.operators.Fold.{Fold}
+use Rattle.pipe_tree.specs.Limits.{Tagged, plain}
+use Rattle.pipe_tree.specs.Operators.{name_at, sign_at, relation_at, fold_at}
+use Rattle.pipe_tree.specs.Grammar as g
+use Rattle.pipe_tree.specs.Grammar.{Rule, Takes, Means, Some_of}
 use Rattle.pipe_print.specs.Canonical as c
 use Rattle.pipe_print.proofs.Printed.{Shortens, Shortens-refl, nothing, leaves_out, puts_zero, Printed, Drops, becomes, relabel, takes, takes_dropped}
 

@@ -14,11 +14,11 @@ use Rattle.pipe_tokens.proofs.Cuts.{cuts_into}
 use Rattle.pipe_tokens.proofs.Respelled.{spelling_comes_back}
 use Rattle.pipe_tokens.proofs.Shortest.{is_shortest, are_readable}
 use Rattle.pipe_tokens.proofs.Fewer.{fewer_is_shorter}
-use Rattle.pipe_lang.specs.Limits.{most_levels, CountsSoFar, Tagged, untagged, plain, fits, counted, counted_next, counted_all, none_yet}
-use Rattle.pipe_lang.specs.Tree.{Declaration}
-use Rattle.pipe_lang.specs.Grammar.{Program}
-use Rattle.pipe_lang.specs.Faults.{IsText}
-use Rattle.pipe_lang.proofs.Bytes.{one_tree}
+use Rattle.pipe_tree.specs.Limits.{most_levels, CountsSoFar, Tagged, untagged, plain, fits, counted, counted_next, counted_all, none_yet}
+use Rattle.pipe_tree.specs.Tree.{Declaration}
+use Rattle.pipe_tree.specs.Grammar.{Program}
+use Rattle.pipe_tree.specs.Faults.{IsText}
+use Rattle.pipe_tree.proofs.Bytes.{one_tree}
 use Rattle.pipe_print.specs.Canonical.{canonical_tokens, canonical}
 use Rattle.pipe_print.specs.Within.{IsTextWithin}
 use Rattle.pipe_print.proofs.Printed.{Shortens, nothing, keeps, leaves_out, puts_zero, Printed}

@@ -9,25 +9,25 @@ use Rattle.pipe_tokens.specs.declared.token.Mark.TheVariants.{OpenRound, CloseRo
 use Rattle.pipe_tokens.specs.declared.token.Word.{Word}
 use Rattle.pipe_tokens.specs.declared.token.Word.TheVariants as words
 use Rattle.pipe_tokens.specs.Spelling.{spelling}
-use Rattle.pipe_lang.specs.declared.tree.Term.{Term}
-use Rattle.pipe_lang.specs.declared.tree.Test.{Test}
-use Rattle.pipe_lang.specs.declared.tree.Test.TheVariants.{Compare, Remainder}
-use Rattle.pipe_lang.specs.declared.tree.Index.{Index}
-use Rattle.pipe_lang.specs.declared.tree.BinaryOp.TheVariants.{Add, Sub, Mul, Min, Max}
-use Rattle.pipe_lang.specs.declared.tree.LiteralOp.{LiteralOp}
-use Rattle.pipe_lang.specs.declared.tree.LiteralOp.TheVariants.{Div, Rem, Shl, Shr}
-use Rattle.pipe_lang.specs.declared.tree.Relation.{Relation}
-use Rattle.pipe_lang.specs.declared.tree.Relation.TheVariants as relations
-use Rattle.pipe_lang.specs.declared.tree.Fold.{Fold}
-use Rattle.pipe_lang.specs.declared.tree.Fold.TheVariants as folds
-use Rattle.pipe_lang.specs.declared.tree.AffineSpan.{AffineSpan}
-use Rattle.pipe_lang.specs.declared.tree.Variable.{Variable}
-use Rattle.pipe_lang.specs.declared.tree.Names.{Names}
-use Rattle.pipe_lang.specs.declared.tree.Names.TheVariants.{One, Three}
-use Rattle.pipe_lang.specs.declared.tree.Param.{Param}
-use Rattle.pipe_lang.specs.declared.tree.Image.{Image}
-use Rattle.pipe_lang.specs.declared.tree.Output.{Output}
-use Rattle.pipe_lang.specs.Tree.{Node, number, variable, read, neg, binary, literal, abs, clamp, select, stencil, Branch, Function, Accumulator, Declaration, param, image, function, accumulator, output}
+use Rattle.pipe_tree.specs.declared.tree.Term.{Term}
+use Rattle.pipe_tree.specs.declared.tree.Test.{Test}
+use Rattle.pipe_tree.specs.declared.tree.Test.TheVariants.{Compare, Remainder}
+use Rattle.pipe_tree.specs.declared.tree.Index.{Index}
+use Rattle.domains.specs.declared.operators.BinaryOp.TheVariants.{Add, Sub, Mul, Min, Max}
+use Rattle.domains.specs.declared.operators.LiteralOp.{LiteralOp}
+use Rattle.domains.specs.declared.operators.LiteralOp.TheVariants.{Div, Rem, Shl, Shr}
+use Rattle.domains.specs.declared.operators.Relation.{Relation}
+use Rattle.domains.specs.declared.operators.Relation.TheVariants as relations
+use Rattle.domains.specs.declared.operators.Fold.{Fold}
+use Rattle.domains.specs.declared.operators.Fold.TheVariants as folds
+use Rattle.pipe_tree.specs.declared.tree.AffineSpan.{AffineSpan}
+use Rattle.pipe_tree.specs.declared.tree.Variable.{Variable}
+use Rattle.pipe_tree.specs.declared.tree.Names.{Names}
+use Rattle.pipe_tree.specs.declared.tree.Names.TheVariants.{One, Three}
+use Rattle.pipe_tree.specs.declared.tree.Param.{Param}
+use Rattle.pipe_tree.specs.declared.tree.Image.{Image}
+use Rattle.pipe_tree.specs.declared.tree.Output.{Output}
+use Rattle.pipe_tree.specs.Tree.{Node, number, variable, read, neg, binary, literal, abs, clamp, select, stencil, Branch, Function, Accumulator, Declaration, param, image, function, accumulator, output}
 use Rattle.pipe_print.specs.declared.place.Place.{Place}
 use Rattle.pipe_print.specs.declared.place.Place.TheVariants as places
 

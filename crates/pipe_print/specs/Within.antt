@@ -2,9 +2,9 @@
 use Rattle.std.specs.Prelude.{◌≡◌, ℕ, List, Some}
 use Rattle.pipe_tokens.specs.declared.token.Token.{Token}
 use Rattle.pipe_tokens.specs.Cutting.{CutsInto}
-use Rattle.pipe_lang.specs.Limits.{CountsSoFar, Tagged, untagged, counted_all, none_yet}
-use Rattle.pipe_lang.specs.Grammar.{Program}
-use Rattle.pipe_lang.specs.Tree.{Declaration}
+use Rattle.pipe_tree.specs.Limits.{CountsSoFar, Tagged, untagged, counted_all, none_yet}
+use Rattle.pipe_tree.specs.Grammar.{Program}
+use Rattle.pipe_tree.specs.Tree.{Declaration}
 
 -- the bytes are a text of the tree in which at most so many levels are open at once, and in which there are so many
 -- nodes, stages and parameters

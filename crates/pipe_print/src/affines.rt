@@ -5,8 +5,8 @@ ghost use Rattle.std.specs.Prelude.{◌≡◌, ◌++◌, OnOk};
 ghost use Rattle.pipe_print.specs.Canonical.{term_tokens, affine_tokens, span_tokens, variable_tokens};
 
 use crate::printer::Printer;
-use pipe_lang::{Affine, AffineSpan, Term, Variable};
 use pipe_tokens::{Mark, Word};
+use pipe_tree::{Affine, AffineSpan, Term, Variable};
 use std::alloc::AllocError;
 
 impl Printer {

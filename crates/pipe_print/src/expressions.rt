@@ -2,13 +2,14 @@
 //! Expressions, with parentheses only where the grammar needs them.
 
 ghost use Rattle.std.specs.Prelude.{◌≡◌, ◌++◌, OnOk};
-ghost use Rattle.pipe_lang.specs.Tree.{view, binary};
+ghost use Rattle.pipe_tree.specs.Tree.{view, binary};
 ghost use Rattle.pipe_print.specs.Canonical.{mark as mark_tokens, ◌⌢◌, grouped_if, literal_mark, relation_mark, pair_tokens, expression_tokens};
 
 use crate::place::Place;
 use crate::printer::Printer;
-use pipe_lang::{BinaryOp, Expr, LiteralOp, Relation};
+use domains::{BinaryOp, LiteralOp, Relation};
 use pipe_tokens::{Mark, Word};
+use pipe_tree::Expr;
 use std::alloc::AllocError;
 
 // Whether the expression has parentheses there.

@@ -6,8 +6,8 @@ ghost use Rattle.pipe_print.specs.Canonical.{◌⌢◌, separated, scaled_tokens
 ghost use Rattle.pipe_print.specs.Canonical.{mark as mark_tokens};
 
 use crate::printer::Printer;
-use pipe_lang::{Index, Kernel, Row};
 use pipe_tokens::{Mark, Name, Word};
+use pipe_tree::{Index, Kernel, Row};
 use std::alloc::AllocError;
 
 impl Printer {

@@ -4,15 +4,16 @@
 ghost use Rattle.std.specs.Prelude.{◌≡◌, ◌++◌, OnOk};
 ghost use Rattle.std.specs.List.{flat_map};
 ghost use Rattle.std.specs.Option.{option_map};
-ghost use Rattle.pipe_lang.specs.Tree.{view, branches, function_of, accumulator_of, declaration};
+ghost use Rattle.pipe_tree.specs.Tree.{view, branches, function_of, accumulator_of, declaration};
 ghost use Rattle.pipe_print.specs.Canonical.{fold_word, param_tokens, names_tokens, image_tokens, variables_tokens, test_tokens, condition_tokens, value_tokens, case_tokens, otherwise_tokens, function_tokens, update_tokens, accumulator_tokens, output_tokens, item_tokens};
 
 use crate::place::Place;
 use crate::printer::Printer;
-use pipe_lang::{
-    Accum, Case, Condition, Expr, Fold, Func, Image, Item, Names, Output, Param, Test, Variable,
-};
+use domains::Fold;
 use pipe_tokens::{Mark, Word};
+use pipe_tree::{
+    Accum, Case, Condition, Expr, Func, Image, Item, Names, Output, Param, Test, Variable,
+};
 use std::alloc::AllocError;
 
 fn word_of_fold(fold: Fold) -> Word

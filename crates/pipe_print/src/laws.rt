@@ -4,9 +4,9 @@
 ghost use Rattle.std.specs.Prelude.{◌≡◌, ℕ, ◌≤◌, ◌↔◌, List, length};
 ghost use Rattle.pipe_tokens.specs.Lexing.{tokens_of};
 ghost use Rattle.pipe_tokens.specs.Subsequence.{IsSubsequence};
-ghost use Rattle.pipe_lang.specs.Faults.{IsText};
-ghost use Rattle.pipe_lang.specs.Limits.{CountsSoFar};
-ghost use Rattle.pipe_lang.specs.Tree.{Declaration};
+ghost use Rattle.pipe_tree.specs.Faults.{IsText};
+ghost use Rattle.pipe_tree.specs.Limits.{CountsSoFar};
+ghost use Rattle.pipe_tree.specs.Tree.{Declaration};
 ghost use Rattle.pipe_print.specs.Canonical.{canonical_tokens, canonical};
 ghost use Rattle.pipe_print.specs.Within.{IsTextWithin};
 

@@ -2,12 +2,12 @@
 //! A tree to its text.
 
 ghost use Rattle.std.specs.Prelude.{◌≡◌, IfOk};
-ghost use Rattle.pipe_lang.specs.Tree.{content};
+ghost use Rattle.pipe_tree.specs.Tree.{content};
 ghost use Rattle.pipe_print.specs.Canonical.{canonical};
 
 use crate::printer::Printer;
-use pipe_lang::Tree;
 use pipe_tokens::spell;
+use pipe_tree::Tree;
 use std::alloc::{AllocError, Global};
 
 /// The canonical text of a tree: its tokens, with one blank between two neighbours that both begin with a letter or a

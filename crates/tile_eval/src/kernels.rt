@@ -10,10 +10,10 @@ ghost use Rattle.job.specs.WellFormed.{IsDivisor};
 ghost use Rattle.tile_eval.specs.Rows.{EachPlace, at};
 
 use crate::reciprocal::Reciprocal;
+use domains::Relation;
 use domains::arithmetic::{
     shr, wrapping_abs, wrapping_add, wrapping_mul, wrapping_neg, wrapping_shl, wrapping_sub,
 };
-use pipe_lang::Relation;
 
 /// Each place has the number.
 pub fn fill(out: &mut [i32], number: i32)

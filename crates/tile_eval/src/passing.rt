@@ -12,9 +12,9 @@ ghost use Rattle.tile_eval.specs.Rows.{EachPlace, at};
 ghost use Rattle.tile_eval.specs.Passed.{HoldsWhere};
 
 use crate::start::Start;
+use domains::Relation;
 use domains::arithmetic::floor_rem;
 use job::{Axis, Test};
-use pipe_lang::Relation;
 
 fn coordinate(axis: Axis, row: i32, col: i32) -> i32
     ensures { result ≡ along (axis_view axis) row col }

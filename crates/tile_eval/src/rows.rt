@@ -13,8 +13,8 @@ use crate::source::Source;
 use crate::start::Start;
 use crate::taps::stencil_row;
 use crate::{constants, kernels};
+use domains::{BinaryOp, LiteralOp};
 use job::{Axis, Formula};
-use pipe_lang::{BinaryOp, LiteralOp};
 
 /// Joins a row with the row of the right operands.
 pub fn combine(op: BinaryOp, out: &mut [i32], right: &[i32])

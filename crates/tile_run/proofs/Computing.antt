@@ -3,7 +3,7 @@ use Rattle.std.proofs.Common.{arith, ℕ, ℤ, ◌≡◌, ◌<◌, ◌⊎◌, in
 use Rattle.std.specs.Prelude.{All, unwrap_or}
 use Rattle.std.proofs.lemmas.Int.{ints}
 use Rattle.std.proofs.lemmas.Bool.{cases_eq}
-use Rattle.pipe_checks.proofs.Unknown.{slice_get-set_same, slice_get-set_other}
+use Rattle.domains.proofs.Places.{slice_get-set_same, slice_get-set_other}
 use Rattle.domains.specs.Area.{HoldsPoint, IsArea, IsSubarea}
 use Rattle.domains.specs.declared.area.Area.{Area}
 use Rattle.job.specs.Formula.{Formula}

@@ -10,7 +10,7 @@ use Rattle.domains.specs.Tiles.{tile_area}
 use Rattle.domains.specs.declared.area.Area.{Area}
 use Rattle.domains.specs.declared.grid.Grid.{Grid}
 use Rattle.domains.proofs.PairLists.{Contains-cases}
-use Rattle.job.specs.declared.identity.Key.{Key}
+use Rattle.identity.specs.declared.key.Key.{Key}
 use Rattle.job.specs.Answers.{Tile}
 use Rattle.job.specs.Pipeline.{Pipeline}
 use Rattle.job.specs.WellFormed.{IsJob}

@@ -2,7 +2,7 @@
 use Rattle.std.specs.Prelude.{ℕ, ℤ, ◌≡◌, Bool, true, Option, Some, None, List, find, Contains}
 use Rattle.std.specs.Option.{is_none}
 use Rattle.domains.specs.declared.area.Area.{Area}
-use Rattle.job.specs.declared.identity.Key.{Key}
+use Rattle.identity.specs.declared.key.Key.{Key}
 use Rattle.job.specs.Answers.{Tile}
 use Rattle.job.specs.Pipeline.{Pipeline}
 use Rattle.job.specs.Values.{value}

@@ -3,7 +3,7 @@
 
 ghost use Rattle.std.specs.Prelude.{◌≡◌};
 
-use job::Key;
+use identity::Key;
 use std::alloc::{AllocError, AllocFailed};
 use thiserror::Error;
 

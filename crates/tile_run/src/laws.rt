@@ -3,7 +3,7 @@
 ghost use Rattle.std.specs.Prelude.{◌≡◌, ◌⊎◌, ℕ, ℤ, Bool, true, Option, Some, List, slice_get, Contains};
 ghost use Rattle.domains.specs.declared.area.Area.{Area};
 ghost use Rattle.grouping.specs.Targets.{Target};
-ghost use Rattle.job.specs.declared.identity.Key.{Key};
+ghost use Rattle.identity.specs.declared.key.Key.{Key};
 ghost use Rattle.job.specs.Pipeline.{Pipeline};
 ghost use Rattle.job.specs.Reads.{IsRanked};
 ghost use Rattle.job.specs.Values.{stage_value, value};

@@ -15,7 +15,8 @@ ghost use Rattle.tile_run.specs.Work.{wanted_by, row_tiles, too_big, first_too_b
 
 use domains::Grid;
 use grouping::{MOST_SCRATCH, Schedule, in_order};
-use job::{Job, Key, StageKind};
+use identity::Key;
+use job::{Job, StageKind};
 use std::alloc::{AllocError, Global};
 
 /// Of which stages tiles are made.

@@ -1,31 +1,10 @@
 //! A compiler for image pipelines: it reads a program and a picture, and writes the program's result, or tells of its stages.
 #![tactic(auto)]
 
-mod accepted;
-mod answer;
-mod bound;
-mod check;
-mod command;
-mod eval;
-mod faults;
-mod lines;
-mod options;
-mod plan;
-mod plan_lines;
-mod reply;
-mod schedules;
-mod sections;
-mod settings;
-mod stage_lines;
-mod stream;
-mod tasks;
-mod totals;
-mod words;
-
-use command::run_command;
-use netpbm::Metered;
+use commands::run_command;
 use std::io::ErrorKind;
 use std::process::ExitCode;
+use streams::Metered;
 
 fn main(rt: HostRuntime) -> ExitCode {
     let alloc = rt.alloc();

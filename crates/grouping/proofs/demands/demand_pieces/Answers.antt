@@ -1,10 +1,10 @@
 use Rattle.std.proofs.Common.{ap, map, ◌∙◌, refl}
 use Rattle.std.specs.Option.{option_map}
 use Rattle.std.proofs.lemmas.Option.{slice_get-map}
-use Rattle.pipe_checks.proofs.Stages.{here_is}
+use Rattle.domains.proofs.Places.{here_is}
 use Rattle.job.specs.Views.{piece_view}
 use Rattle.job.specs.WellFormed.{IsFormula}
-use Rattle.job.proofs.NumberLaws.{all_at}
+use Rattle.domains.proofs.Places.{all_at}
 use Rattle.grouping.proofs.demands.demand_pieces.Goals as goal
 
 pub demand_piece-requires-clause-formula : goal.demand_piece-requires-clause-formula

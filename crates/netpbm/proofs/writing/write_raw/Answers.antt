@@ -6,8 +6,9 @@ use Rattle.netpbm.specs.Colours.{interleaved}
 use Rattle.netpbm.specs.Pixels.{pixels}
 use Rattle.netpbm.specs.Raw.{raw_raster}
 use Rattle.netpbm.specs.Spelling.{header, spelling}
-use Rattle.netpbm.specs.Streams.{AppendsPart}
-use Rattle.netpbm.proofs.Written.{spelling_to, spelling_none, spelling_more, spelling_all, spelling_parts, AppendsPart-front, AppendsPart-next, on_err}
+use Rattle.streams.specs.Streams.{AppendsPart}
+use Rattle.netpbm.proofs.Written.{spelling_to, spelling_none, spelling_more, spelling_all, spelling_parts, on_err}
+use Rattle.streams.proofs.Appended.{AppendsPart-front, AppendsPart-next}
 use Rattle.netpbm.proofs.writing.write_raw.Goals as goal
 
 pub returns-in_err-write_whole-clause-part : goal.returns-in_err-write_whole-clause-part

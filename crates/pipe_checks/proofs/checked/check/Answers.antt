@@ -1,5 +1,5 @@
 use Rattle.std.proofs.Common.{subst}
-use Rattle.pipe_lang.specs.Tree.{declarations}
+use Rattle.pipe_tree.specs.Tree.{declarations}
 use Rattle.pipe_checks.specs.Checking.{IsFault}
 use Rattle.pipe_checks.proofs.checked.check.Goals as goal
 

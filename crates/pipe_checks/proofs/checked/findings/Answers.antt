@@ -1,7 +1,7 @@
 use Rattle.std.proofs.Common.{◌≡◌, true, not, List, filter, ◌∙◌, ap, subst, rules}
 use Rattle.std.specs.List.{list_any}
 use Rattle.std.proofs.lemmas.Result.{err_from_is_err_and}
-use Rattle.pipe_lang.specs.Tree.{declarations}
+use Rattle.pipe_tree.specs.Tree.{declarations}
 use Rattle.pipe_checks.specs.declared.declared.Declared.{Declared}
 use Rattle.pipe_checks.specs.Names.{is_param}
 use Rattle.pipe_checks.specs.Sites.{links_from}

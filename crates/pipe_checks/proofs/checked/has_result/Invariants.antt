@@ -1,6 +1,6 @@
 use Rattle.std.proofs.Common.{◌≡◌, drop}
 use Rattle.std.specs.List.{list_any}
-use Rattle.pipe_lang.specs.Tree.{declarations}
+use Rattle.pipe_tree.specs.Tree.{declarations}
 use Rattle.pipe_checks.specs.Checking.{is_result}
 use Rattle.pipe_checks.proofs.checked.has_result.Given as goal
 

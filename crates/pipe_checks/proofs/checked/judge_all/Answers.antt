@@ -1,7 +1,8 @@
 use Rattle.std.proofs.Common.{◌≡◌, Ok, sym, ◌∙◌}
-use Rattle.pipe_lang.specs.Tree.{declaration, declarations}
+use Rattle.pipe_tree.specs.Tree.{declaration, declarations}
 use Rattle.pipe_checks.specs.Checking.{verdict_of}
-use Rattle.pipe_checks.proofs.Places.{all_more, all_of_them, declaration_at, declarations_end, ok_of}
+use Rattle.pipe_checks.proofs.Places.{all_of_them, declaration_at, declarations_end, ok_of}
+use Rattle.domains.proofs.Places.{all_more}
 use Rattle.pipe_checks.proofs.checked.judge_all.Goals as goal
 
 pub loop-number-preserved : goal.loop-number-preserved

@@ -1,5 +1,5 @@
 use Rattle.std.proofs.Common.{ℕ, ◌<◌, ◌≡◌, Some, Ok, slice_get}
-use Rattle.pipe_lang.specs.Tree.{Declaration, declarations}
+use Rattle.pipe_tree.specs.Tree.{Declaration, declarations}
 use Rattle.pipe_checks.specs.Checking.{verdict_of}
 use Rattle.pipe_checks.proofs.checked.judge_all.Given as goal
 

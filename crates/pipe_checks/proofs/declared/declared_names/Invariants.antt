@@ -1,5 +1,5 @@
 use Rattle.std.proofs.Common.{◌≡◌, ◌++◌, drop}
-use Rattle.pipe_lang.specs.Tree.{declarations}
+use Rattle.pipe_tree.specs.Tree.{declarations}
 use Rattle.pipe_checks.specs.Names.{names_from}
 use Rattle.pipe_checks.proofs.declared.declared_names.Given as goal
 

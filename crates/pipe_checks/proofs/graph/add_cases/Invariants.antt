@@ -1,5 +1,5 @@
 use Rattle.std.proofs.Common.{◌≡◌, ◌++◌, drop}
-use Rattle.pipe_lang.specs.Tree.{branches}
+use Rattle.pipe_tree.specs.Tree.{branches}
 use Rattle.pipe_checks.specs.Sites.{branch_sites}
 use Rattle.pipe_checks.proofs.graph.add_cases.Given as goal
 

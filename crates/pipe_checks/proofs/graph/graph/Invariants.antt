@@ -1,5 +1,5 @@
 use Rattle.std.proofs.Common.{◌≡◌, map, take}
-use Rattle.pipe_lang.specs.Tree.{declarations}
+use Rattle.pipe_tree.specs.Tree.{declarations}
 use Rattle.pipe_checks.specs.Sites.{links_of}
 use Rattle.pipe_checks.proofs.graph.graph.Given as goal
 

@@ -1,7 +1,7 @@
 use Rattle.std.proofs.Common.{◌+◌, ◌≡◌, max, map, drop, Some, None, get_or, slice_get, arith, sym, ◌∙◌, ap, subst, rules}
 use Rattle.std.proofs.lemmas.Option.{none-some, same_Some}
 use borrow.Author.Count.{below_more}
-use Rattle.pipe_checks.specs.Graph.{greatest}
+use Rattle.domains.specs.Greatest.{greatest}
 use Rattle.pipe_checks.specs.Search.{known_rank, SomeUnranked}
 use Rattle.pipe_checks.proofs.Ranking.{above_step, known_is, known_past, none_of_them}
 use Rattle.pipe_checks.proofs.ranks.rank_above.Goals as goal

@@ -1,5 +1,5 @@
 use Rattle.std.proofs.Common.{ℕ, ◌<◌, ◌^◌, ◌+◌, max, ◌≡◌, Some, None, map, drop, get_or, slice_get}
-use Rattle.pipe_checks.specs.Graph.{greatest}
+use Rattle.domains.specs.Greatest.{greatest}
 use Rattle.pipe_checks.specs.Search.{known_rank}
 use Rattle.pipe_checks.proofs.ranks.rank_above.Given as goal
 

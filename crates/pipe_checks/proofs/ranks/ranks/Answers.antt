@@ -4,7 +4,8 @@ use Rattle.std.specs.Global.{Vec}
 use Rattle.pipe_checks.specs.Graph.{links_at, IsAcyclic}
 use Rattle.pipe_checks.specs.Search.{known_rank, rank_over, SomeUnranked, AreRanked}
 use Rattle.pipe_checks.proofs.Ranking.{ranked_more, ranked_fewer, ranked_start, ranking_of, stuck_is_cyclic}
-use Rattle.pipe_checks.proofs.Unknown.{ok_then, none_then}
+use Rattle.pipe_checks.proofs.Unknown.{none_then}
+use Rattle.domains.proofs.Places.{ok_then}
 use Rattle.pipe_checks.proofs.ranks.ranks.Goals as goal
 
 pub loop-stage-init : goal.loop-stage-init

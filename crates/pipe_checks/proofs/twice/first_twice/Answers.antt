@@ -1,9 +1,10 @@
 use Rattle.std.proofs.Common.{inl, inr, sym, ◌∙◌, ap}
 use Rattle.std.proofs.lemmas.Bool.{false≢true}
-use Rattle.pipe_lang.specs.Tree.{declaration, declarations}
+use Rattle.pipe_tree.specs.Tree.{declaration, declarations}
 use Rattle.pipe_checks.specs.Twice.{varies_again}
 use Rattle.pipe_checks.specs.Checking.{IsTwice}
-use Rattle.pipe_checks.proofs.Places.{all_more, all_of_them, declaration_at, declarations_end, first_twice_is}
+use Rattle.pipe_checks.proofs.Places.{all_of_them, declaration_at, declarations_end, first_twice_is}
+use Rattle.domains.proofs.Places.{all_more}
 use Rattle.pipe_checks.proofs.twice.first_twice.Goals as goal
 use Rattle.pipe_checks.proofs.twice.first_twice.Goals.{then-declares_again-via-then-declares_again, then-declares_again-via-else-declares_again+then-varies_again}
 

@@ -1,5 +1,5 @@
 use Rattle.std.proofs.Common.{ℕ, ◌<◌, ◌≡◌, Some, slice_get}
-use Rattle.pipe_lang.specs.Tree.{Declaration, declarations}
+use Rattle.pipe_tree.specs.Tree.{Declaration, declarations}
 use Rattle.pipe_checks.specs.Checking.{IsTwice}
 use Rattle.pipe_checks.proofs.twice.first_twice.Given as goal
 

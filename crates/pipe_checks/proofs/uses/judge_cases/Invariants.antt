@@ -1,5 +1,5 @@
 use Rattle.std.proofs.Common.{◌≡◌, drop}
-use Rattle.pipe_lang.specs.Tree.{branches}
+use Rattle.pipe_tree.specs.Tree.{branches}
 use Rattle.pipe_checks.specs.Uses.{branches_verdict}
 use Rattle.pipe_checks.proofs.uses.judge_cases.Given as goal
 

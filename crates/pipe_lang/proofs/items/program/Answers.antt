@@ -1,10 +1,11 @@
 -- The program that is read, without where the parser is.
 use Rattle.std.proofs.Common.{subst}
-use Rattle.pipe_lang.specs.Limits.{most_levels}
-use Rattle.pipe_lang.specs.Tree.{declarations}
-use Rattle.pipe_lang.specs.Reading.{At, at, Reads, whole, program_of}
+use Rattle.pipe_tree.specs.Limits.{most_levels}
+use Rattle.pipe_tree.specs.Tree.{declarations}
+use Rattle.pipe_tree.specs.Reading.{At, whole, program_of}
+use Rattle.pipe_lang.specs.Answers.{at, Reads}
 use Rattle.pipe_lang.proofs.ItemUnrolled.{reads_value}
-use Rattle.pipe_lang.proofs.Theorems.{start}
+use Rattle.pipe_tree.proofs.Theorems.{start}
 use Rattle.pipe_lang.proofs.items.program.Goals as goal
 
 pub returns : goal.returns

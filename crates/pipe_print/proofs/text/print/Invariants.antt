@@ -1,6 +1,6 @@
 use Rattle.std.proofs.Common.{◌≡◌, take}
 use Rattle.std.specs.List.{flat_map}
-use Rattle.pipe_lang.specs.Tree.{declarations, items_of}
+use Rattle.pipe_tree.specs.Tree.{declarations, items_of}
 use Rattle.pipe_print.specs.Canonical.{item_tokens}
 use Rattle.pipe_print.proofs.text.print.Given as goal
 

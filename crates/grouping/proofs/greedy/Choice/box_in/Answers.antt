@@ -3,7 +3,7 @@ use Rattle.std.specs.Prelude.{All}
 use Rattle.std.specs.List.{flat_map}
 use Rattle.domains.specs.declared.area.Area.{Area}
 use Rattle.job.specs.Kept.{pipeline_in}
-use Rattle.job.proofs.NumberLaws.{all_at}
+use Rattle.domains.proofs.Places.{all_at}
 use Rattle.grouping.specs.Targets.{Target, IsTarget, box, demands_by}
 use Rattle.grouping.specs.Walks.{cut_hull, demanded_all}
 use Rattle.grouping.specs.Standings.{target_at, areas_at}

@@ -1,6 +1,7 @@
 use Rattle.std.proofs.Common.{◌≡◌, ◌≤◌, length, ◌+◌, ◌*◌}
-use Rattle.pipe_lang.specs.Tree.{view}
-use Rattle.pipe_lang.specs.Reading.{at, while, is_sign_at, is_factor_at, sum_more, product_more, unary_at, product_at, expression_at}
+use Rattle.pipe_tree.specs.Tree.{view}
+use Rattle.pipe_tree.specs.Reading.{while, is_sign_at, is_factor_at, sum_more, product_more, unary_at, product_at, expression_at}
+use Rattle.pipe_lang.specs.Answers.{at}
 use Rattle.pipe_lang.proofs.parser.Parser.+expression.Given as goal
 
 abbrev pub decreases-expression : goal.decreases-expression

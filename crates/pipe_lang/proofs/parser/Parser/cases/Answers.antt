@@ -1,9 +1,10 @@
 -- One more case is read behind the others.
 use Rattle.std.proofs.Common.{rules, ◌≡◌, ◌++◌, ◌∷◌, [], sym, ◌∙◌}
 use Rattle.std.proofs.lemmas.List.{map_push}
-use Rattle.pipe_lang.specs.Limits.{most_levels}
-use Rattle.pipe_lang.specs.Tree.{view, branches}
-use Rattle.pipe_lang.specs.Reading.{at, cases_at}
+use Rattle.pipe_tree.specs.Limits.{most_levels}
+use Rattle.pipe_tree.specs.Tree.{view, branches}
+use Rattle.pipe_tree.specs.Reading.{cases_at}
+use Rattle.pipe_lang.specs.Answers.{at}
 use Rattle.pipe_lang.proofs.ItemUnrolled.{case_step}
 use Rattle.pipe_lang.proofs.parser.Parser.cases.Goals as goal
 

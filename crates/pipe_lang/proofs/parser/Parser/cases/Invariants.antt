@@ -1,9 +1,10 @@
 use Rattle.std.proofs.Common.{◌≡◌, ◌≤◌, length}
 use Rattle.pipe_tokens.specs.declared.token.Word.TheVariants as words
-use Rattle.pipe_lang.specs.Limits.{most_levels}
-use Rattle.pipe_lang.specs.Lookahead.{is_word_at}
-use Rattle.pipe_lang.specs.Tree.{branches}
-use Rattle.pipe_lang.specs.Reading.{at, while, a_case, cases_at}
+use Rattle.pipe_tree.specs.Limits.{most_levels}
+use Rattle.pipe_tree.specs.Lookahead.{is_word_at}
+use Rattle.pipe_tree.specs.Tree.{branches}
+use Rattle.pipe_tree.specs.Reading.{while, a_case, cases_at}
+use Rattle.pipe_lang.specs.Answers.{at}
 use Rattle.pipe_lang.proofs.parser.Parser.cases.Given as goal
 
 abbrev pub invariant-loop-self : goal.invariant-loop-self

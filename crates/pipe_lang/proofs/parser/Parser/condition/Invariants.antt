@@ -1,8 +1,9 @@
 use Rattle.std.proofs.Common.{◌≡◌, ◌≤◌, length}
 use Rattle.pipe_tokens.specs.declared.token.Word.TheVariants.{And}
-use Rattle.pipe_lang.specs.declared.limits.Role.TheVariants.{Plain}
-use Rattle.pipe_lang.specs.Lookahead.{is_word_at}
-use Rattle.pipe_lang.specs.Reading.{at, while, next_behind, word, a_test, condition}
+use Rattle.pipe_tree.specs.declared.limits.Role.TheVariants.{Plain}
+use Rattle.pipe_tree.specs.Lookahead.{is_word_at}
+use Rattle.pipe_tree.specs.Reading.{while, next_behind, word, a_test, condition}
+use Rattle.pipe_lang.specs.Answers.{at}
 use Rattle.pipe_lang.proofs.parser.Parser.condition.Given as goal
 
 abbrev pub invariant-loop-self : goal.invariant-loop-self

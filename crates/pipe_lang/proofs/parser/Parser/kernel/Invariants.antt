@@ -1,8 +1,9 @@
 use Rattle.std.proofs.Common.{◌≡◌, ◌≤◌, length}
 use Rattle.pipe_tokens.specs.declared.token.Mark.TheVariants.{Comma, CloseSquare}
-use Rattle.pipe_lang.specs.declared.limits.Role.TheVariants.{Plain}
-use Rattle.pipe_lang.specs.Lookahead.{is_mark_at}
-use Rattle.pipe_lang.specs.Reading.{at, ◌>>=◌, gives, while, next_behind, mark, row, kernel}
+use Rattle.pipe_tree.specs.declared.limits.Role.TheVariants.{Plain}
+use Rattle.pipe_tree.specs.Lookahead.{is_mark_at}
+use Rattle.pipe_tree.specs.Reading.{◌>>=◌, gives, while, next_behind, mark, row, kernel}
+use Rattle.pipe_lang.specs.Answers.{at}
 use Rattle.pipe_lang.proofs.parser.Parser.kernel.Given as goal
 
 abbrev pub invariant-loop-self : goal.invariant-loop-self

@@ -1,9 +1,10 @@
 -- One more item is read behind the others.
 use Rattle.std.proofs.Common.{rules, ◌≡◌, ◌++◌, ◌∷◌, []}
 use Rattle.std.proofs.lemmas.List.{map_push}
-use Rattle.pipe_lang.specs.Limits.{most_levels}
-use Rattle.pipe_lang.specs.Tree.{declaration, declarations}
-use Rattle.pipe_lang.specs.Reading.{at, others}
+use Rattle.pipe_tree.specs.Limits.{most_levels}
+use Rattle.pipe_tree.specs.Tree.{declaration, declarations}
+use Rattle.pipe_tree.specs.Reading.{others}
+use Rattle.pipe_lang.specs.Answers.{at}
 use Rattle.pipe_lang.proofs.ItemUnrolled.{item_step}
 use Rattle.pipe_lang.proofs.parser.Parser.others.Goals as goal
 

@@ -1,7 +1,8 @@
 use Rattle.std.proofs.Common.{◌≡◌, ◌≤◌, length}
-use Rattle.pipe_lang.specs.Limits.{most_levels}
-use Rattle.pipe_lang.specs.Tree.{declarations}
-use Rattle.pipe_lang.specs.Reading.{at, others}
+use Rattle.pipe_tree.specs.Limits.{most_levels}
+use Rattle.pipe_tree.specs.Tree.{declarations}
+use Rattle.pipe_tree.specs.Reading.{others}
+use Rattle.pipe_lang.specs.Answers.{at}
 use Rattle.pipe_lang.proofs.parser.Parser.others.Given as goal
 
 abbrev pub invariant-loop-self : goal.invariant-loop-self

@@ -1,5 +1,5 @@
 use Rattle.std.proofs.Common.{rules, sym, ◌∙◌, ◌≡◌, ◌++◌, ◌∷◌, []}
-use Rattle.pipe_lang.specs.Reading.{at}
+use Rattle.pipe_lang.specs.Answers.{at}
 use Rattle.pipe_lang.proofs.Unrolled.{row_step}
 use Rattle.pipe_lang.proofs.parser.Parser.row.Goals as goal
 

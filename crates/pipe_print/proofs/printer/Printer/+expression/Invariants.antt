@@ -1,6 +1,6 @@
 use Rattle.std.proofs.Common.{◌+◌, ◌*◌}
-use Rattle.pipe_lang.specs.Tree.{view}
-use Rattle.pipe_lang.specs.Sizes.{node_size}
+use Rattle.pipe_tree.specs.Tree.{view}
+use Rattle.pipe_tree.specs.Sizes.{node_size}
 use Rattle.pipe_print.proofs.printer.Printer.+expression.Given as goal
 
 abbrev pub decreases-bare : goal.decreases-bare

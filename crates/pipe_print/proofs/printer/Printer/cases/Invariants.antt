@@ -1,6 +1,6 @@
 use Rattle.std.proofs.Common.{◌≡◌, ◌++◌, take}
 use Rattle.std.specs.List.{flat_map}
-use Rattle.pipe_lang.specs.Tree.{branches}
+use Rattle.pipe_tree.specs.Tree.{branches}
 use Rattle.pipe_print.specs.Canonical.{case_tokens}
 use Rattle.pipe_print.proofs.printer.Printer.cases.Given as goal
 

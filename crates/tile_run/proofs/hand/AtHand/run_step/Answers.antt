@@ -1,7 +1,7 @@
 use Rattle.std.proofs.Common.{arith, map, sym, ◌∙◌}
 use Rattle.std.proofs.lemmas.Bool.{false≢true}
 use Rattle.std.proofs.lemmas.Option.{slice_get_within}
-use Rattle.pipe_checks.proofs.Unknown.{ok_then}
+use Rattle.domains.proofs.Places.{ok_then}
 use Rattle.job.specs.Kept.{pipeline_in}
 use Rattle.overlap_tiles.specs.Views.{step_view}
 use Rattle.tile_run.proofs.Bridging.{function_stage}

@@ -1,6 +1,6 @@
 use Rattle.std.proofs.Common.{map, ◌∙◌}
 use Rattle.std.specs.Option.{option_map}
-use Rattle.pipe_checks.proofs.Unknown.{ok_then}
+use Rattle.domains.proofs.Places.{ok_then}
 use Rattle.job.specs.Kept.{pipeline_in}
 use Rattle.job.specs.Views.{piece_view, formula_view}
 use Rattle.tile_run.proofs.Computing.{all_near, tests_are, formulas_are, boxes_are, reads_are, values_are}

@@ -1,0 +1,70 @@
+-- The stages, the output and the parameters of a program, a picture and the sides of tiles make a job.
+use Rattle.std.proofs.Common.{◌≡◌, ap, sym, subst, ◌∙◌, Option, List, inr}
+use Rattle.std.specs.Prelude.{map}
+use Rattle.std.specs.Option.{option_map}
+use Rattle.domains.specs.Sides.{Sides, IsSides}
+use Rattle.netpbm.specs.Image.{Image as Picture}
+use Rattle.pipe_tree.specs.Tree.{Declaration}
+use Rattle.binding.specs.declared.bound.Parts.{Parts}
+use Rattle.binding.specs.declared.fault.BindFault.{BindFault}
+use Rattle.job.specs.Pipeline.{Stage, Output, Parameter, Pipeline}
+use Rattle.pipe_checks.specs.declared.declared.Declared.{Declared}
+use Rattle.pipe_checks.specs.Names.{params_of, stages_of}
+use Rattle.pipe_checks.specs.Graph.{IsRanking}
+use Rattle.pipe_checks.specs.Sites.{graph_of}
+use Rattle.pipe_checks.specs.Checking.{IsNamed}
+use Rattle.binding.specs.Binding.{Program, settings_for, job_of, IsJobOf}
+use Rattle.binding.specs.Fits.{ShapesFit, TilesFit}
+use Rattle.job.specs.WellFormed.{IsJob}
+use Rattle.binding.proofs.JobLaws.{job_is}
+use Rattle.binding.specs.BindFaults.{IsSizeFault, IsBindFault, settled_program}
+use Rattle.binding.specs.Parts.{ArePartsOf, AreBoundParts}
+use Rattle.job.specs.Views.{stage_view, output_view, parameter_view}
+
+abbrev pub job_from : Parts → Picture → Sides → Pipeline
+job_from parts picture sides =
+    record {
+      stages = map stage_view parts.stages.items;
+      output = option_map output_view parts.output;
+      params = map parameter_view parts.params.items;
+      picture = picture;
+      sides = sides;
+    }
+
+pub job_from_is : (p : Program) (items : List Declaration) (picture : Picture) (sides : Sides) (parts : Parts) → ArePartsOf p items parts → job_from parts picture sides ≡ job_of p items picture sides
+job_from_is p items picture sides parts h =
+    let told = job_of p items picture sides in
+    ap (λ (ss : List Stage). let j : Pipeline = record { stages = ss; output = option_map output_view parts.output; params = map parameter_view parts.params.items; picture = picture; sides = sides } in j) h.stages
+    ∙ ap (λ (o : Option Output). let j : Pipeline = record { stages = told.stages; output = o; params = map parameter_view parts.params.items; picture = picture; sides = sides } in j) h.output
+    ∙ ap (λ (ps : List Parameter). let j : Pipeline = record { stages = told.stages; output = told.output; params = ps; picture = picture; sides = sides } in j) h.params
+
+module _ (items : List Declaration) (p : Program) (picture : Picture) (sides : Sides) (parts : Parts) (named : IsNamed items) (own : p.stages ≡ stages_of items) (ranking : IsRanking (graph_of items) p.ranks) (h : AreBoundParts items p picture parts) where
+  pub bound_is_job : IsSides sides → ShapesFit (job_from parts picture sides) → TilesFit (job_from parts picture sides) → IsJob (job_from parts picture sides)
+  bound_is_job tile_sides shapes tiles =
+      let same = job_from_is (settled_program p h.image picture) items picture sides parts h.are in
+      subst IsJob (sym same)
+      (job_is items named (settled_program p h.image picture) own h.small h.bounds picture h.image h.declared h.planes h.extents sides ranking (subst TilesFit same tiles) (subst ShapesFit same shapes) h.real tile_sides)
+
+  pub bound_is_said : map (λ s. s.name) p.settings ≡ map (λ d. d.name) (params_of items) → IsJobOf items p.settings picture sides (job_from parts picture sides)
+  bound_is_said names = record {
+    named = named;
+    params = names;
+    image = h.image;
+    declared = h.declared;
+    set = h.bounds.set;
+    ranks = p.ranks;
+    ranking = ranking;
+    is =
+        job_from_is (settled_program p h.image picture) items picture sides parts h.are
+        ∙ ap (λ (ss : List Declared). let q : Program = record { stages = ss; ranks = p.ranks; settings = settings_for h.image picture p.settings } in job_of q items picture sides) own;
+  }
+
+-- a fault of the sizes comes when nothing else is amiss
+pub late_fault : (items : List Declaration) (p : Program) (picture : Picture) (sides : Sides) (parts : Parts) (fault : BindFault)
+    → AreBoundParts items p picture parts → ((told : Pipeline) → job_from parts picture sides ≡ told → IsSizeFault told fault) → IsBindFault items p picture sides fault
+late_fault items p picture sides parts fault h sizes =
+    inr (inr (record {
+      image = h.image;
+      declared = h.declared;
+      first = inr (h.bounds, h.planes, h.extents, sizes _ (job_from_is _ items picture sides parts h.are));
+    }))

@@ -1,0 +1,12 @@
+pub mod NumberLaws
+pub mod JudgedFormulas
+pub mod StageLaws
+pub mod ReadLaws
+pub mod BoundLaws
+pub mod JobLaws
+pub mod OneJob
+pub mod Boxing
+pub mod Assembling
+pub mod Readying
+pub mod SmallLaws
+pub mod SmallSettings

@@ -1,0 +1,5 @@
+use Rattle.binding.proofs.SmallLaws.{small_job}
+use Rattle.binding.proofs.laws.jobs_keep_limits.Goals as goal
+
+pub returns : goal.returns
+returns c = small_job

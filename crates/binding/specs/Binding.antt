@@ -1,0 +1,210 @@
+-- What a program is at the values of its parameters: names become numbers of stages, extents become numbers.
+use Rattle.std.specs.Prelude.{ℕ, ◌==◌, ℤ, pos, ◌-ℤ◌, ◌≡◌, Bool, false, not, ◌&&◌, if◌then◌else◌, Option, Some, None, unwrap_or, List, [], ◌∷◌, map, filter, slice_get, slice_index, FitsSigned}
+use Rattle.std.specs.Int.{w32}
+use Rattle.std.specs.List.{flat_map}
+use Rattle.std.specs.Option.{option_map, option_map_or}
+use Rattle.std.specs.Str.{bytes_eq}
+use Rattle.domains.specs.Span.{Ends}
+use Rattle.domains.specs.Index.{Scale}
+use Rattle.domains.specs.Sides.{Sides}
+use Rattle.domains.specs.declared.area.Area.{Area}
+use Rattle.netpbm.specs.Image.{Image as Picture}
+use Rattle.pipe_tree.specs.declared.tree.Term.{Term}
+use Rattle.pipe_tree.specs.declared.tree.Test.{Test as TestText}
+use Rattle.pipe_tree.specs.declared.tree.Test.TheVariants.{Compare, Remainder}
+use Rattle.pipe_tree.specs.declared.tree.Index.{Index}
+use Rattle.pipe_tree.specs.declared.tree.AffineSpan.{AffineSpan}
+use Rattle.pipe_tree.specs.declared.tree.Variable.{Variable}
+use Rattle.pipe_tree.specs.declared.tree.Names.{Names}
+use Rattle.pipe_tree.specs.declared.tree.Names.TheVariants.{One, Three}
+use Rattle.pipe_tree.specs.declared.tree.Image.{Image}
+use Rattle.pipe_tree.specs.Tree as tree
+use Rattle.pipe_tree.specs.Tree.{Node, Branch, Function, Accumulator, Declaration}
+use Rattle.pipe_checks.specs.declared.declared.Declared.{Declared}
+use Rattle.pipe_bounds.specs.declared.params.Setting.{Setting}
+use Rattle.pipe_bounds.specs.Settings.{affine_value, param_value}
+use Rattle.pipe_checks.specs.Names.{params_of, stages_of, number_of}
+use Rattle.pipe_checks.specs.Checking.{IsNamed}
+use Rattle.pipe_bounds.specs.Within.{AllSet}
+use Rattle.pipe_checks.specs.Graph.{IsRanking}
+use Rattle.pipe_checks.specs.Sites.{graph_of, is_plane}
+use Rattle.job.specs.Formula.{Axis, row, column, Formula, number, coordinate, read, neg, binary, literal, abs, clamp, select, stencil, Test, compare, remainder}
+use Rattle.job.specs.Pipeline.{Piece, plane, function, accumulator, Stage, Output, Parameter, Pipeline}
+use Rattle.job.specs.Boxes.{box_of}
+
+-- ---- parameters that are not given
+
+-- an extent that is this parameter alone
+abbrev pub is_exactly : List Term → List ℕ → Bool
+is_exactly [] x = false
+is_exactly (t ∷ []) x = not t.negative && (t.factor == 1) && option_map_or (λ y. bytes_eq y x) t.name false
+is_exactly (t ∷ u ∷ ts) x = false
+
+-- the side of the picture that is this parameter: its rows first, then its columns
+abbrev pub side_of : Image → Picture → List ℕ → Option ℤ
+side_of i picture x =
+    if is_exactly i.rows x then Some (pos picture.rows)
+    else (if is_exactly i.columns x then Some (pos picture.cols) else None)
+
+abbrev pub settled : Image → Picture → List ℕ → Option ℤ → Option ℤ
+settled i picture x None = side_of i picture x
+settled i picture x (Some v) = Some v
+
+-- the parameters, where those without a value are taken from the picture
+abbrev pub settings_for : Image → Picture → List Setting → List Setting
+settings_for i picture settings = map (λ s. record { name = s.name; value = settled i picture s.name s.value }) settings
+
+-- each value is a number of 32 bits
+abbrev pub AreSmall : List Setting → Type 0
+AreSmall settings = (k : ℕ) (s : Setting) (v : ℤ) → slice_get settings k ≡ Some s → s.value ≡ Some v → FitsSigned w32 v
+
+-- ---- what names stand for
+
+-- in a program: its stages, their ranks, and the values of its parameters
+pub record Program : Type 0 where
+  pub stages : List Declared
+  pub ranks : List ℕ
+  pub settings : List Setting
+
+abbrev pub stage_number : Program → List ℕ → ℕ
+stage_number p x = unwrap_or (number_of p.stages x) 0
+
+abbrev pub rank_named : Program → List ℕ → ℕ
+rank_named p x = slice_index p.ranks (stage_number p x)
+
+-- a plane's number is its place among the planes
+abbrev pub plane_number : Program → List ℕ → ℕ
+plane_number p x = unwrap_or (number_of (filter (λ d. is_plane d.kind) p.stages) x) 0
+
+-- in an item, the names of its two variables
+pub record Variables : Type 0 where
+  pub row_name : List ℕ
+  pub column_name : List ℕ
+
+abbrev pub variables_of : Variable → Variable → Variables
+variables_of x y = record { row_name = x.name; column_name = y.name }
+
+abbrev pub axis_of : Variables → List ℕ → Axis
+axis_of own x = if bytes_eq x own.row_name then row else column
+
+-- a variable, or else a parameter
+abbrev pub name_formula : Program → Variables → List ℕ → Formula
+name_formula p own x =
+    if bytes_eq x own.row_name then coordinate row
+    else (if bytes_eq x own.column_name then coordinate column else number (param_value p.settings x))
+
+-- ---- items
+
+abbrev pub scale_of : Index → Scale
+scale_of i = record { mul = pos i.mul; add = i.add; div = pos i.div }
+
+abbrev pub formula_of : Program → Variables → Node → Formula
+formula_of p own (tree.number n) = number (pos n)
+formula_of p own (tree.variable x) = name_formula p own x
+formula_of p own (tree.read x i j) = read (stage_number p x) (scale_of i) (scale_of j)
+formula_of p own (tree.neg a) = neg (formula_of p own a)
+formula_of p own (tree.binary op a b) = binary op (formula_of p own a) (formula_of p own b)
+formula_of p own (tree.literal op a n) = literal op (formula_of p own a) n
+formula_of p own (tree.abs a) = abs (formula_of p own a)
+formula_of p own (tree.clamp a low high) = clamp (formula_of p own a) (formula_of p own low) (formula_of p own high)
+formula_of p own (tree.select a relation b first second) =
+    select (formula_of p own a) relation (formula_of p own b) (formula_of p own first) (formula_of p own second)
+formula_of p own (tree.stencil x divisor kernel) = stencil (stage_number p x) divisor kernel
+
+abbrev pub test_of : Program → Variables → TestText → Test
+test_of p own (Compare x relation bound) = compare (axis_of own x) relation (affine_value p.settings bound)
+test_of p own (Remainder x modulus rest) = remainder (axis_of own x) modulus rest
+
+abbrev pub piece_of : Program → Variables → Area → Branch → Piece
+piece_of p own domain b =
+    let tests = map (test_of p own) b.condition in
+    record { box = box_of domain tests; tests = tests; formula = formula_of p own b.value }
+
+abbrev pub ends_of : Program → AffineSpan → Ends
+ends_of p s = record { lo = affine_value p.settings s.first; hi = affine_value p.settings s.last }
+
+abbrev pub area_of : Program → Variable → Variable → Area
+area_of p x y = record { rows = ends_of p x.span; cols = ends_of p y.span }
+
+-- from 0 on, so many numbers
+abbrev pub extent_of : Program → List Term → Ends
+extent_of p terms = record { lo = pos 0; hi = affine_value p.settings terms -ℤ pos 1 }
+
+abbrev pub plane_stage : Program → Image → List ℕ → Stage
+plane_stage p i x =
+    record { name = x; rank = rank_named p x; domain = record { rows = extent_of p i.rows; cols = extent_of p i.columns }; body = plane (plane_number p x) }
+
+abbrev pub function_stage : Program → Function → Stage
+function_stage p f =
+    let own : Variables = variables_of f.row f.column in
+    let domain : Area = area_of p f.row f.column in
+    record {
+      name = f.name;
+      rank = rank_named p f.name;
+      domain = domain;
+      body = function (map (piece_of p own domain) f.cases) (option_map (formula_of p own) f.otherwise);
+    }
+
+abbrev pub accumulator_stage : Program → Accumulator → Stage
+accumulator_stage p a =
+    let own : Variables = variables_of a.row a.column in
+    record {
+      name = a.name;
+      rank = rank_named p a.name;
+      domain = area_of p a.row a.column;
+      body = accumulator a.fold (ends_of p a.bins) (formula_of p own a.value) (formula_of p own a.bin);
+    }
+
+abbrev pub names_in : Names → List (List ℕ)
+names_in (One x) = x ∷ []
+names_in (Three x y z) = x ∷ y ∷ z ∷ []
+
+-- the stages that an item declares
+abbrev pub item_stages : Program → Declaration → List Stage
+item_stages p (tree.param x) = []
+item_stages p (tree.image i) = map (plane_stage p i) (names_in i.names)
+item_stages p (tree.function f) = function_stage p f ∷ []
+item_stages p (tree.accumulator a) = accumulator_stage p a ∷ []
+item_stages p (tree.output o) = []
+
+abbrev pub item_outputs : Program → Declaration → List Output
+item_outputs p (tree.param x) = []
+item_outputs p (tree.image i) = []
+item_outputs p (tree.function f) = []
+item_outputs p (tree.accumulator a) = []
+item_outputs p (tree.output o) = record { stages = map (stage_number p) (names_in o.names); max = o.max } ∷ []
+
+abbrev pub parameter_of : Setting → Parameter
+parameter_of s = record { name = s.name; value = unwrap_or s.value (pos 0) }
+
+-- ---- the whole
+
+abbrev pub job_of : Program → List Declaration → Picture → Sides → Pipeline
+job_of p items picture sides =
+    record {
+      stages = flat_map (item_stages p) items;
+      output = slice_get (flat_map (item_outputs p) items) 0;
+      params = map parameter_of p.settings;
+      picture = picture;
+      sides = sides;
+    }
+
+-- the image item, of which a program has one
+abbrev pub item_images : Declaration → List Image
+item_images (tree.param x) = []
+item_images (tree.image i) = i ∷ []
+item_images (tree.function f) = []
+item_images (tree.accumulator a) = []
+item_images (tree.output o) = []
+
+-- The job is what the items say, where each name stands for what its place wants: at the values that are given for the
+-- parameters, which are all of them in the order of the text, with those from the picture. All then have values.
+pub record IsJobOf (items : List Declaration) (given : List Setting) (picture : Picture) (sides : Sides) (job : Pipeline) : Type 0 where
+  pub named : IsNamed items
+  pub params : map (λ s. s.name) given ≡ map (λ d. d.name) (params_of items)
+  pub image : Image
+  pub declared : flat_map item_images items ≡ image ∷ []
+  pub set : AllSet (settings_for image picture given)
+  pub ranks : List ℕ
+  pub ranking : IsRanking (graph_of items) ranks
+  pub is : job ≡ job_of (record { stages = stages_of items; ranks = ranks; settings = settings_for image picture given }) items picture sides

@@ -1,0 +1,7 @@
+pub mod Binding
+pub mod Fits
+pub mod Texts
+pub mod BindFaults
+pub mod Parts
+pub mod Ranges
+pub mod Resolving

@@ -1,0 +1,216 @@
+#![tactic(auto)]
+//! Names to numbers: formulas and tests of a program at the values of its parameters.
+
+ghost use Rattle.std.specs.Prelude.{◌≡◌, ◌<◌, ◌^◌, pos, IfOk, filter, map};
+ghost use Rattle.domains.specs.Index.{IsIndex};
+ghost use Rattle.pipe_tree.specs.Tree.{view};
+ghost use Rattle.pipe_checks.specs.Sites.{is_plane};
+ghost use Rattle.binding.specs.Binding.{stage_number, rank_named, plane_number, axis_of, name_formula, scale_of, formula_of, test_of};
+ghost use Rattle.binding.specs.Ranges.{IsRanged};
+ghost use Rattle.job.specs.Views.{axis_view, formula_view, test_view};
+ghost use Rattle.binding.specs.Resolving.{program_in, variables_in};
+
+use domains::Index;
+use job::{Axis, Factors, Formula, Kernel, Test};
+use pipe_bounds::{Params, affine_value};
+use pipe_checks::{Checked, Declared, NameKind, is_same, number_of};
+use pipe_tokens::Name;
+use pipe_tree::Expr;
+use std::alloc::{AllocError, Global};
+
+/// The names of the two variables of an item.
+#[derive(Clone, Copy, Debug)]
+pub(crate) struct Variables {
+    pub row: Name,
+    pub column: Name,
+}
+
+fn is_plane(kind: NameKind) -> bool
+    ensures { result ≡ is_plane kind }
+{
+    match kind {
+        NameKind::Plane => true,
+        NameKind::Param | NameKind::Func | NameKind::Accum => false,
+    }
+}
+
+fn planes_of(alloc: Global, stages: &[Declared]) -> Result<Vec<Declared>, AllocError>
+    ensures { IfOk result (λ v. v.items ≡ filter (λ d. is_plane d.kind) stages.now) }
+{
+    stages
+        .iter()
+        .filter(|declared| is_plane(declared.kind))
+        .copied()
+        .collect(alloc)
+}
+
+// A number of the text.
+fn number_of_text(number: u32) -> i32
+    requires { number < 2 ^ 31 }
+    ensures { result ≡ pos number }
+{
+    number as i32
+}
+
+// An index of the text.
+fn index_of(index: &pipe_tree::Index) -> Index
+    requires { IsIndex (scale_of index.now) }
+    ensures { result ≡ scale_of index.now }
+{
+    let mul = number_of_text(index.mul);
+    let div = number_of_text(index.div);
+    match Index::new(mul, index.add, div) {
+        Some(index) => index,
+        None => unreachable!(),
+    }
+}
+
+fn axis_of(own: &Variables, name: &Name) -> Axis
+    ensures { axis_view result ≡ axis_of (variables_in own.now) name.now }
+{
+    if is_same(name, &own.row) {
+        Axis::Row
+    } else {
+        Axis::Column
+    }
+}
+
+fn factors_of(alloc: Global, row: &pipe_tree::Row) -> Result<Factors, AllocError>
+    ensures { IfOk result (λ f. f ≡ row.now) }
+{
+    Ok(Factors::new(row.entries().to_vec(alloc)?))
+}
+
+// The factors that a text has.
+fn kernel_of(alloc: Global, kernel: &pipe_tree::Kernel) -> Result<Kernel, AllocError>
+    ensures { IfOk result (λ k. k ≡ kernel.now) }
+{
+    let mut rows = Vec::new(alloc);
+    for row in kernel.rows() {
+        rows.push(factors_of(alloc, row)?)?;
+    }
+    Ok(Kernel::new(rows))
+}
+
+/// A program at the values of its parameters.
+#[derive(Drop)]
+pub(crate) struct Resolver<'a> {
+    pub alloc: Global,
+    pub checked: &'a Checked,
+    pub params: &'a Params,
+}
+
+impl Resolver<'_> {
+    /// The number of the stage of this name.
+    pub fn stage_number(&self, name: &Name) -> usize
+        ensures { result ≡ stage_number (program_in self.now) name.now }
+    {
+        number_of(self.checked.stages(), name).unwrap_or(0)
+    }
+
+    /// The rank of the stage of this name.
+    pub fn rank(&self, name: &Name) -> usize
+        ensures { result ≡ rank_named (program_in self.now) name.now }
+    {
+        self.checked.rank(self.stage_number(name)).unwrap_or(0)
+    }
+
+    /// The place of the plane of this name among the planes.
+    pub fn plane_number(&self, name: &Name) -> Result<usize, AllocError>
+        ensures { IfOk result (λ n. n ≡ plane_number (program_in self.now) name.now) }
+    {
+        let planes = planes_of(self.alloc, self.checked.stages())?;
+        Ok(number_of(&planes, name).unwrap_or(0))
+    }
+
+    fn name(&self, own: &Variables, name: &Name) -> Formula
+        ensures { formula_view result ≡ name_formula (program_in self.now) (variables_in own.now) name.now }
+    {
+        if is_same(name, &own.row) {
+            Formula::Coordinate(Axis::Row)
+        } else if is_same(name, &own.column) {
+            Formula::Coordinate(Axis::Column)
+        } else {
+            Formula::Number(self.params.value_of(name))
+        }
+    }
+
+    /// The formula of an expression.
+    #[cycle(formula)]
+    pub fn formula(&self, own: &Variables, expr: &Expr) -> Result<Formula, AllocError>
+        requires { IsRanged (view expr.now) }
+        ensures { IfOk result (λ f. formula_view f ≡ formula_of (program_in self.now) (variables_in own.now) (view expr.now)) }
+    {
+        match expr {
+            Expr::Number(number) => Ok(Formula::Number(number_of_text(*number))),
+            Expr::Name(name) => Ok(self.name(own, name)),
+            Expr::Read(name, row, column) => Ok(Formula::Read(
+                self.stage_number(name),
+                index_of(row),
+                index_of(column),
+            )),
+            Expr::Neg(operand) => Ok(Formula::Neg(self.boxed(own, operand)?)),
+            Expr::Binary(op, left, right) => Ok(Formula::Binary(
+                *op,
+                self.boxed(own, left)?,
+                self.boxed(own, right)?,
+            )),
+            Expr::Literal(op, operand, number) => {
+                Ok(Formula::Literal(*op, self.boxed(own, operand)?, *number))
+            }
+            Expr::Abs(operand) => Ok(Formula::Abs(self.boxed(own, operand)?)),
+            Expr::Clamp(value, least, greatest) => Ok(Formula::Clamp(
+                self.boxed(own, value)?,
+                self.boxed(own, least)?,
+                self.boxed(own, greatest)?,
+            )),
+            Expr::Select(left, relation, right, then, otherwise) => Ok(Formula::Select(
+                self.boxed(own, left)?,
+                *relation,
+                self.boxed(own, right)?,
+                self.boxed(own, then)?,
+                self.boxed(own, otherwise)?,
+            )),
+            Expr::Stencil(name, divisor, kernel) => Ok(Formula::Stencil(
+                self.stage_number(name),
+                *divisor,
+                kernel_of(self.alloc, kernel)?,
+            )),
+        }
+    }
+
+    #[cycle(formula)]
+    fn boxed(&self, own: &Variables, expr: &Expr) -> Result<Box<Formula>, AllocError>
+        requires { IsRanged (view expr.now) }
+        ensures { IfOk result (λ f. formula_view f.value ≡ formula_of (program_in self.now) (variables_in own.now) (view expr.now)) }
+    {
+        let formula = self.formula(own, expr)?;
+        Ok(Box::new(self.alloc, formula)?)
+    }
+
+    fn test(&self, own: &Variables, test: &pipe_tree::Test) -> Test
+        ensures { test_view result ≡ test_of (program_in self.now) (variables_in own.now) test.now }
+    {
+        match test {
+            pipe_tree::Test::Compare(name, relation, bound) => Test::Compare(
+                axis_of(own, name),
+                *relation,
+                affine_value(self.params, bound),
+            ),
+            pipe_tree::Test::Remainder(name, modulus, rest) => {
+                Test::Remainder(axis_of(own, name), *modulus, *rest)
+            }
+        }
+    }
+
+    /// Tests, in the order of the text.
+    pub fn tests(&self, own: &Variables, tests: &[pipe_tree::Test]) -> Result<Vec<Test>, AllocError>
+        ensures { IfOk result (λ v. map test_view v.items ≡ map (test_of (program_in self.now) (variables_in own.now)) tests.now) }
+    {
+        let mut resolved = Vec::new(self.alloc);
+        for test in tests {
+            resolved.push(self.test(own, test))?;
+        }
+        Ok(resolved)
+    }
+}

@@ -1,0 +1,76 @@
+#![tactic(auto)]
+//! Parameters that are taken from the picture.
+
+ghost use Rattle.std.specs.Prelude.{◌≡◌, IfOk, IfSome, FitsSigned, false};
+ghost use Rattle.std.specs.Int.{w32};
+ghost use Rattle.std.specs.Option.{option_map_or};
+ghost use Rattle.std.specs.Str.{bytes_eq};
+ghost use Rattle.binding.specs.Binding.{is_exactly, side_of, settled, settings_for, AreSmall};
+
+use netpbm::Picture;
+use pipe_bounds::{Params, Setting};
+use pipe_checks::is_same;
+use pipe_tokens::Name;
+use pipe_tree::{Affine, Image};
+use std::alloc::{AllocError, Global};
+
+fn is_named(name: &Option<Name>, wanted: &Name) -> bool
+    ensures { result ≡ option_map_or (λ x. bytes_eq x wanted.now) name.now false }
+{
+    match name {
+        Some(name) => is_same(name, wanted),
+        None => false,
+    }
+}
+
+fn is_exactly(extent: &Affine, name: &Name) -> bool
+    ensures { result ≡ is_exactly extent.now name.now }
+{
+    match extent.terms() {
+        [term] => !term.negative && term.factor == 1 && is_named(&term.name, name),
+        _ => false,
+    }
+}
+
+// The side of the picture that is this parameter: its rows first.
+fn side_of(image: &Image, picture: &Picture, name: &Name) -> Option<i32>
+    ensures { result ≡ side_of image.now picture.now name.now }
+{
+    if is_exactly(&image.rows, name) {
+        return Some(picture.rows() as i32);
+    }
+    if is_exactly(&image.columns, name) {
+        return Some(picture.cols() as i32);
+    }
+    None
+}
+
+fn settle(image: &Image, picture: &Picture, setting: &Setting) -> Option<i32>
+    ensures value { result ≡ settled image.now picture.now setting.now.name setting.now.value }
+    ensures small { IfSome result (FitsSigned w32) }
+{
+    match setting.value {
+        Some(value) => Some(value),
+        None => side_of(image, picture, &setting.name),
+    }
+}
+
+/// The parameters, where those without a value are taken from the picture.
+pub(crate) fn settings_for(
+    alloc: Global,
+    image: &Image,
+    picture: &Picture,
+    params: &Params,
+) -> Result<Params, AllocError>
+    ensures settings { IfOk result (λ p. p ≡ settings_for image.now picture.now params.now) }
+    ensures small { IfOk result AreSmall }
+{
+    let mut settings = Vec::new(alloc);
+    for setting in params.settings() {
+        settings.push(Setting {
+            name: setting.name,
+            value: settle(image, picture, setting),
+        })?;
+    }
+    Ok(Params::of_settings(settings))
+}

@@ -1,0 +1,10 @@
+//! The command line: what its words ask for, how it is to be done, and the values that are given to parameters.
+#![tactic(auto)]
+
+mod options;
+mod tasks;
+mod words;
+
+pub use options::{Options, Percent};
+pub use tasks::Task;
+pub use words::{Refusal, Request, request_of};

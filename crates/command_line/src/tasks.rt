@@ -1,0 +1,28 @@
+//! What the program can be asked to do.
+
+ghost use Rattle.std.specs.Prelude.{IfSome};
+ghost use Rattle.command_line.specs.Tasks.{AsksFor};
+
+/// What the program is asked to do.
+#[derive(Clone, Copy, Debug, PartialEq, Eq)]
+pub enum Task {
+    /// To run a program on a picture.
+    Eval,
+    /// To tell a program, what it is given, and its stages.
+    Check,
+    /// To tell which functions are stored, and what that costs.
+    Plan,
+}
+
+/// What the first word asks for.
+pub fn task_of(words: &[String]) -> Option<Task>
+    ensures { IfSome result (AsksFor words.now) }
+{
+    let word = words.first()?;
+    match word.as_str() {
+        "eval" => Some(Task::Eval),
+        "check" => Some(Task::Check),
+        "plan" => Some(Task::Plan),
+        _ => None,
+    }
+}

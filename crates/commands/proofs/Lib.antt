@@ -1,0 +1,4 @@
+pub mod Fitting
+pub mod Ranging
+pub mod Replying
+pub mod TotalLines

@@ -1,0 +1,46 @@
+-- What `plan` tells in bytes: of each function and accumulator whether it is stored, and what it then costs.
+use Rattle.std.specs.Prelude.{◌≡◌, ℕ, Bool, if◌then◌else◌, Option, Some, None, List, [], ◌∷◌, ◌++◌, codes, length, slice_get}
+use Rattle.std.specs.Fmt.{decimal}
+use Rattle.std.specs.List.{flat_map, range_with_len}
+use Rattle.std.specs.Option.{option_map_or}
+use Rattle.pipe_tree.specs.Tree.{Declaration}
+use Rattle.job.specs.Answers.{has_tiles}
+use Rattle.job.specs.Pipeline.{Stage, Pipeline}
+use Rattle.grouping.specs.Costs.{cost}
+use Rattle.grouping.specs.Greedy.{greedy_flags}
+use Rattle.grouping.specs.Inlining.{AllFitScratch}
+use Rattle.grouping.specs.Schedules.{all_stored, IsSchedule}
+
+-- ---- lines of stages
+
+-- inlined functions have no cost
+abbrev pub plan_line : List ℕ → Option ℕ → List ℕ
+plan_line name None = codes "inlined " ++ name ++ 10 ∷ []
+plan_line name (Some points) = codes "stored " ++ name ++ codes " cost " ++ decimal points ++ 10 ∷ []
+
+-- the line of a function or an accumulator
+abbrev pub stage_plan : Pipeline → List Bool → ℕ → Stage → List ℕ
+stage_plan job flags g s = if has_tiles s.body then plan_line s.name (cost job flags g) else []
+
+abbrev pub plan_line_at : Pipeline → List Bool → ℕ → List ℕ
+plan_line_at job flags g = option_map_or (stage_plan job flags g) (slice_get job.stages g) []
+
+-- ---- the whole
+
+-- the functions and accumulators in the order of the stages
+abbrev pub plan_bytes : Pipeline → List Bool → List ℕ
+plan_bytes job flags = flat_map (plan_line_at job flags) (range_with_len 0 (length job.stages))
+
+-- which functions are inlined: none where all are to be stored, else those that the greedy rule inlines
+abbrev pub flags_asked : Bool → ℕ → Pipeline → List Bool
+flags_asked stored percent job = if stored then all_stored job else greedy_flags job percent
+
+-- the bytes tell these flags, which are a schedule of the job by which each tile has room in scratch memory
+pub record IsPlan (job : Pipeline) (flags : List Bool) (bytes : List ℕ) : Type 0 where
+  pub schedule : IsSchedule job flags
+  pub fits : AllFitScratch job flags
+  pub tells : bytes ≡ plan_bytes job flags
+
+-- what `plan` says of a job: the schedule that is asked for
+abbrev pub SaysPlan : Bool → ℕ → List Declaration → Pipeline → List ℕ → Type 0
+SaysPlan stored percent tree job bytes = IsPlan job (flags_asked stored percent job) bytes

@@ -1,0 +1,125 @@
+//! What a program and its stages are, as lines.
+
+ghost use Rattle.std.specs.Prelude.{◌≡◌, ◌∷◌, ◌++◌, IfOk, OnOk, length};
+ghost use Rattle.job.specs.Answers.{tiles};
+ghost use Rattle.job.specs.Kept.{pipeline_in, program_text_in};
+ghost use Rattle.job.specs.Views.{body_view, stage_view};
+ghost use Rattle.commands.specs.Listing.{check_bytes, identity_line, kind_word, span_text, stage_head, stage_line_at, stage_lines, stage_tail};
+
+use domains::{Area, Span};
+use job::{Body, Job, Stage};
+use std::alloc::{AllocError, Global};
+
+/// A line for the program's identity, one for that of what it is given, and one for each stage.
+pub fn check_lines(alloc: Global, job: &Job) -> Result<Vec<u8>, AllocError>
+    ensures { IfOk result (λ lines. lines.items ≡ check_bytes (program_text_in job.now) (pipeline_in job.now)) }
+{
+    let mut lines = Vec::new(alloc);
+    put_identity(alloc, &mut lines, b"program", job.program_id().as_bytes())?;
+    put_identity(alloc, &mut lines, b"input", job.input_id().as_bytes())?;
+    put_stages(alloc, &mut lines, job)?;
+    Ok(lines)
+}
+
+/// A word and an identity.
+fn put_identity(
+    alloc: Global,
+    lines: &mut Vec<u8>,
+    word: &[u8],
+    id: &[u8],
+) -> Result<(), AllocError>
+    ensures { OnOk result (lines.new.items ≡ lines.old.items ++ identity_line word.now id.now) }
+{
+    let digits = hex::encode(alloc, id)?;
+    lines.extend_from_slice(word)?;
+    lines.push(b' ')?;
+    lines.extend_from_slice(digits.as_bytes())?;
+    lines.push(b'\n')?;
+    Ok(())
+}
+
+/// A line for each stage, in order.
+fn put_stages(alloc: Global, lines: &mut Vec<u8>, job: &Job) -> Result<(), AllocError>
+    ensures { OnOk result (lines.new.items ≡ lines.old.items ++ stage_lines (pipeline_in job.now)) }
+{
+    for number in 0..job.stages().len() {
+        put_stage(alloc, lines, job, number)?;
+    }
+    Ok(())
+}
+
+/// The line of the stage of this number, if there is one.
+fn put_stage(alloc: Global, lines: &mut Vec<u8>, job: &Job, number: usize) -> Result<(), AllocError>
+    ensures { OnOk result (lines.new.items ≡ lines.old.items ++ stage_line_at (pipeline_in job.now) number) }
+{
+    match job.stage(number) {
+        Some(stage) => {
+            put_head(alloc, lines, number, stage)?;
+            put_domain(alloc, lines, stage.domain(), tile_count(job, number))
+        }
+        None => Ok(()),
+    }
+}
+
+/// The number of a stage, its kind and its name.
+fn put_head(
+    alloc: Global,
+    lines: &mut Vec<u8>,
+    number: usize,
+    stage: &Stage,
+) -> Result<(), AllocError>
+    ensures { OnOk result (lines.new.items ≡ lines.old.items ++ stage_head number (stage_view stage.now)) }
+{
+    let text = format!(in alloc; "stage {number} ")?;
+    lines.extend_from_slice(text.as_bytes())?;
+    lines.extend_from_slice(kind_word(stage.body()))?;
+    lines.push(b' ')?;
+    lines.extend_from_slice(stage.name().as_bytes())?;
+    Ok(())
+}
+
+/// The word for what a stage is.
+fn kind_word(body: &Body) -> &'static [u8]
+    ensures { result.now ≡ kind_word (body_view body.now) }
+{
+    match body {
+        Body::Plane(_) => b"plane",
+        Body::Function(_) => b"func",
+        Body::Accumulator(_) => b"accum",
+    }
+}
+
+/// The rows and the columns of a domain, and how many tiles there are.
+fn put_domain(
+    alloc: Global,
+    lines: &mut Vec<u8>,
+    domain: &Area,
+    tiles: u64,
+) -> Result<(), AllocError>
+    ensures { OnOk result (lines.new.items ≡ lines.old.items ++ stage_tail domain.now tiles) }
+{
+    put_span(alloc, lines, &domain.rows)?;
+    put_span(alloc, lines, &domain.cols)?;
+    let count = format!(in alloc; " tiles {tiles}\n")?;
+    lines.extend_from_slice(count.as_bytes())?;
+    Ok(())
+}
+
+/// A blank and the ends of a span.
+fn put_span(alloc: Global, lines: &mut Vec<u8>, span: &Span) -> Result<(), AllocError>
+    ensures { OnOk result (lines.new.items ≡ lines.old.items ++ 32 ∷ span_text span.now) }
+{
+    let text = format!(in alloc; " {}..{}", span.lo(), span.hi())?;
+    lines.extend_from_slice(text.as_bytes())?;
+    Ok(())
+}
+
+/// How many tiles the stage of this number has.
+fn tile_count(job: &Job, number: usize) -> u64
+    ensures { result ≡ length (tiles (pipeline_in job.now) number) }
+{
+    match job.grid(number) {
+        Some(grid) => grid.tiles(),
+        None => 0,
+    }
+}

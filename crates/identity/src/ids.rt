@@ -1,0 +1,92 @@
+//! Identities, which are digests of SHA-256. What is digested is the affair of the crates that make them.
+
+ghost use Rattle.std.specs.Prelude.{◌≡◌};
+
+use std::fmt;
+use std::marker::Model;
+
+/// The identity of a program: the SHA-256 digest of its canonical text.
+#[derive(Clone, Copy, Debug, PartialEq, Eq, PartialOrd, Ord, Hash)]
+pub struct ProgramId {
+    bytes: [u8; 32],
+}
+
+impl Model for ProgramId {
+    ghost use Rattle.std.specs.Prelude.{ℕ, List};
+
+    ghost Value = { List ℕ };
+
+    ghost view = { λ id. id.bytes };
+
+    ghost inverse = { λ bytes. record { bytes = bytes } };
+}
+
+impl ProgramId {
+    /// The identity that these bytes are.
+    pub fn new(bytes: [u8; 32]) -> ProgramId
+        ensures { result ≡ bytes }
+    {
+        ProgramId { bytes }
+    }
+
+    /// The bytes of the digest.
+    pub fn as_bytes(&self) -> &[u8; 32]
+        ensures { result.now ≡ self.now }
+    {
+        &self.bytes
+    }
+}
+
+/// The digest in hexadecimal digits, two for each byte. No clause says so: it is only tested.
+impl fmt::Display for ProgramId {
+    fn fmt<W: fmt::Write>(&self, f: &mut fmt::Formatter<W>) -> fmt::Result {
+        write_hex(&self.bytes, f)
+    }
+}
+
+/// The identity of what a program is given: the SHA-256 digest of the sides of the tiles, the parameters and the picture.
+#[derive(Clone, Copy, Debug, PartialEq, Eq, PartialOrd, Ord, Hash)]
+pub struct InputId {
+    bytes: [u8; 32],
+}
+
+impl Model for InputId {
+    ghost use Rattle.std.specs.Prelude.{ℕ, List};
+
+    ghost Value = { List ℕ };
+
+    ghost view = { λ id. id.bytes };
+
+    ghost inverse = { λ bytes. record { bytes = bytes } };
+}
+
+impl InputId {
+    /// The identity that these bytes are.
+    pub fn new(bytes: [u8; 32]) -> InputId
+        ensures { result ≡ bytes }
+    {
+        InputId { bytes }
+    }
+
+    /// The bytes of the digest.
+    pub fn as_bytes(&self) -> &[u8; 32]
+        ensures { result.now ≡ self.now }
+    {
+        &self.bytes
+    }
+}
+
+/// The digest in hexadecimal digits, two for each byte. No clause says so: it is only tested.
+impl fmt::Display for InputId {
+    fn fmt<W: fmt::Write>(&self, f: &mut fmt::Formatter<W>) -> fmt::Result {
+        write_hex(&self.bytes, f)
+    }
+}
+
+// Two hexadecimal digits for each byte.
+fn write_hex<W: fmt::Write>(bytes: &[u8; 32], f: &mut fmt::Formatter<W>) -> fmt::Result {
+    for byte in bytes {
+        write!(f, "{byte:02x}")?;
+    }
+    Ok(())
+}

@@ -1,0 +1,9 @@
+//! The identities of programs and of what they are given, and the keys of tiles.
+#![tactic(auto)]
+
+mod ids;
+mod key;
+pub mod laws;
+
+pub use ids::{InputId, ProgramId};
+pub use key::Key;

@@ -1,0 +1,4 @@
+pub mod Accepting
+pub mod Handing
+pub mod Known
+pub mod Listed

@@ -1,0 +1,64 @@
+-- From the bytes of an input to its job.
+use Rattle.std.specs.Prelude.{◌≡◌, ℕ, ◌+◌, true, List, take, drop}
+use Rattle.std.specs.List.{list_any}
+use Rattle.domains.specs.Sides.{Sides}
+use Rattle.netpbm.specs.Grammar.{IsPicture}
+use Rattle.netpbm.specs.Image.{Image}
+use Rattle.pipe_tree.specs.Faults.{IsText}
+use Rattle.pipe_tree.specs.Tree.{Declaration}
+use Rattle.pipe_bounds.specs.declared.params.Setting.{Setting}
+use Rattle.pipe_checks.specs.Checking.{IsNamed, is_result}
+use Rattle.pipe_checks.specs.Graph.{IsRanking}
+use Rattle.pipe_checks.specs.Names.{stages_of}
+use Rattle.pipe_checks.specs.Sites.{graph_of}
+use Rattle.binding.specs.BindFaults.{IsBound}
+use Rattle.binding.specs.Binding.{Program, IsJobOf}
+use Rattle.job.specs.Pipeline.{Pipeline}
+use Rattle.inputs.specs.Giving.{Given, AreGiven, unset_of}
+use Rattle.inputs.specs.Sections.{IsFirstSeparator}
+
+-- ---- the sections
+
+-- the first separator line parts the program's text from what spells the picture
+pub record IsParted (input text spelling : List ℕ) : Type 0 where
+  pub at : ℕ
+  pub first : IsFirstSeparator input at
+  pub before : text ≡ take at input
+  pub behind : spelling ≡ drop (at + 3) input
+
+-- a program, a separator line and a picture
+pub record IsInput (input : List ℕ) (tree : List Declaration) (source : Image) : Type 0 where
+  pub text : List ℕ
+  pub spelling : List ℕ
+  pub parted : IsParted input text spelling
+  pub program : IsText text tree
+  pub picture : IsPicture spelling source
+
+-- ---- the program
+
+-- each name stands for what its place wants, there is a result, and no stage leads back to itself
+pub record MeansSomething (tree : List Declaration) : Type 0 where
+  pub named : IsNamed tree
+  pub result : list_any is_result tree ≡ true
+  pub ranks : List ℕ
+  pub ranking : IsRanking (graph_of tree) ranks
+
+-- ---- the job
+
+-- a program with the ranks of its stages and the values that its parameters are given
+abbrev pub program_at : List Declaration → List ℕ → List Setting → Program
+program_at tree ranks chosen = record { stages = stages_of tree; ranks = ranks; settings = chosen }
+
+-- The input is a program that means something, of this tree, a separator line and a picture. All values that are given have a
+-- parameter of their own. The job is what the program says at these values, with the others taken from the picture's sides, and
+-- nothing is amiss: all is in bounds, and the picture, the sides of the output's functions and the numbers of tiles fit.
+pub record IsInputJob (input : List ℕ) (given : List Given) (sides : Sides) (tree : List Declaration) (job : Pipeline) : Type 0 where
+  pub source : Image
+  pub read : IsInput input tree source
+  pub means : MeansSomething tree
+  pub chosen : List Setting
+  pub are_given : AreGiven (unset_of tree) given chosen
+  pub ranks : List ℕ
+  pub ranking : IsRanking (graph_of tree) ranks
+  pub bound : IsBound tree (program_at tree ranks chosen) source sides job
+  pub says : IsJobOf tree chosen source sides job

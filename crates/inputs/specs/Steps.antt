@@ -1,0 +1,57 @@
+-- What the steps from an input to its job give, and what they are refused with. Only contracts inside the crate cite it.
+use Rattle.std.specs.Prelude.{◌≡◌, ◌≢◌, ℕ, ◌<◌, Option, IfSome, List, length, string_bytes}
+use Rattle.domains.specs.Sides.{Sides}
+use Rattle.pipe_tree.specs.Tree.{Declaration}
+use Rattle.pipe_print.specs.Canonical.{canonical}
+use Rattle.pipe_checks.specs.declared.declared.Declared.{Declared}
+use Rattle.pipe_bounds.specs.declared.fault.ParamFault.{ParamFault}
+use Rattle.pipe_bounds.specs.declared.params.Setting.{Setting}
+use Rattle.job.specs.Kept.{pipeline_in, program_text_in}
+use Rattle.binding.specs.declared.fault.BindFault.{BindFault}
+use Rattle.binding.specs.declared.fault.BindFault.TheVariants as binding
+use Rattle.job.specs.declared.job.Job.{Job}
+use Rattle.inputs.specs.declared.faults.StreamFault.{StreamFault}
+use Rattle.inputs.specs.declared.faults.StreamFault.TheVariants as faults
+use Rattle.inputs.specs.Faults.{IsCheckLine, blamed}
+use Rattle.inputs.specs.Giving.{Given, IsFirstRefused}
+use Rattle.inputs.specs.Input.{IsInputJob}
+use Rattle.inputs.specs.Outcomes.{most_input}
+
+-- the job of an input, which keeps the canonical text of its program
+pub record IsReadJob (input : List ℕ) (given : List Given) (sides : Sides) (job : Job) : Type 0 where
+  pub tree : List Declaration
+  pub of_input : IsInputJob input given sides tree (pipeline_in job)
+  pub text : program_text_in job ≡ canonical tree
+
+-- what reading is refused with
+abbrev pub IsOfReader : Option (List ℕ) → StreamFault → Type 0
+IsOfReader known faults.Read = Unit {0}
+IsOfReader known faults.TooLong = IfSome known (λ input. most_input < length input)
+IsOfReader known faults.Memory = Unit {0}
+IsOfReader known _ = ⊥
+
+-- ---- faults of single steps. Each may refuse memory
+
+-- a refused program
+abbrev pub IsRefusal : List Declaration → StreamFault → Type 0
+IsRefusal tree (faults.Check line) = IsCheckLine tree line
+IsRefusal tree faults.Memory = Unit {0}
+IsRefusal tree _ = ⊥
+
+-- how a refused parameter of this name is told
+abbrev pub TellsParam : ParamFault → List ℕ → StreamFault → Type 0
+TellsParam fault name (faults.Param line) = (line.fault ≡ fault) × (string_bytes line.name ≡ name)
+TellsParam fault name faults.Memory = Unit {0}
+TellsParam fault name _ = ⊥
+
+-- the first refused parameter
+abbrev pub IsParamRefusal : List Setting → List Given → StreamFault → Type 0
+IsParamRefusal ss given (faults.Param line) = IsFirstRefused ss given line
+IsParamRefusal ss given faults.Memory = Unit {0}
+IsParamRefusal ss given _ = ⊥
+
+-- how a fault of binding is told by the names of these parameters and stages
+abbrev pub TellsBind : List Declared → List Declared → BindFault → StreamFault → Type 0
+TellsBind params stages fault (faults.Bind line) = (line.fault ≡ fault) × (fault ≢ binding.Memory) × (line.blamed ≡ blamed params stages fault)
+TellsBind params stages fault faults.Memory = Unit {0}
+TellsBind params stages fault _ = ⊥

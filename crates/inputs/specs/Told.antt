@@ -1,0 +1,15 @@
+-- How the faults of the steps are told: a refusal of memory is `Memory`, whichever step it comes from.
+use Rattle.netpbm.specs.declared.fault.PicFault.{PicFault}
+use Rattle.netpbm.specs.declared.fault.PicFault.TheVariants as pictures
+use Rattle.pipe_tree.specs.declared.fault.ParseFault.{ParseFault}
+use Rattle.pipe_tree.specs.declared.fault.ParseFault.TheVariants as texts
+use Rattle.inputs.specs.declared.faults.StreamFault.{StreamFault}
+use Rattle.inputs.specs.declared.faults.StreamFault.TheVariants.{Program, Picture, Memory}
+
+abbrev pub told_parse : ParseFault → StreamFault
+told_parse texts.Memory = Memory
+told_parse f = Program f
+
+abbrev pub told_picture : PicFault → StreamFault
+told_picture pictures.Memory = Memory
+told_picture f = Picture f

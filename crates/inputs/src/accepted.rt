@@ -1,0 +1,68 @@
+//! Programs that mean something, and what others are refused with.
+
+ghost use Rattle.std.specs.Prelude.{◌≡◌, IfOk, IfErr};
+ghost use Rattle.pipe_tree.specs.Tree.{content, declarations};
+ghost use Rattle.pipe_checks.specs.Checking.{IsCheckedOf, IsFault};
+ghost use Rattle.pipe_checks.specs.Names.{stages_of};
+ghost use Rattle.inputs.specs.Steps.{IsRefusal};
+ghost use Rattle.inputs.specs.Faults.{name_at, names_of};
+
+use crate::faults::StreamFault;
+use crate::lines::{CheckLine, StageNames};
+use pipe_checks::{CheckFault, Checked, Cycle, Declared, check, declared_stages};
+use pipe_tokens::Name;
+use pipe_tree::{Item, Tree};
+use std::alloc::{AllocError, Global};
+
+/// The program that the tree is, if it means something; else its first fault.
+pub fn accept(alloc: Global, tree: Tree) -> Result<Checked, StreamFault>
+    ensures ok { IfOk result (IsCheckedOf tree) }
+    ensures fault { IfErr result (IsRefusal (content tree)) }
+{
+    match check(alloc, tree) {
+        Ok(checked) => Ok(checked),
+        Err((tree, fault)) => Err(refusal(alloc, tree.items(), fault)),
+    }
+}
+
+/// How the fault of a program is told.
+fn refusal(alloc: Global, items: &[Item], fault: CheckFault) -> StreamFault
+    requires { IsFault (declarations items.now) fault }
+    ensures { IsRefusal (declarations items.now) result }
+{
+    match fault {
+        CheckFault::Memory => StreamFault::Memory,
+        CheckFault::Cycle(cycle) => match names_along(alloc, items, &cycle) {
+            Ok(names) => StreamFault::Check(CheckLine::Cycle(names)),
+            Err(_) => StreamFault::Memory,
+        },
+        fault => StreamFault::Check(CheckLine::Fault(fault)),
+    }
+}
+
+/// The names of the stages along a cycle.
+fn names_along(alloc: Global, items: &[Item], cycle: &Cycle) -> Result<StageNames, AllocError>
+    ensures { IfOk result (λ names. names ≡ names_of (stages_of (declarations items.now)) cycle.now) }
+{
+    let stages = declared_stages(alloc, items)?;
+    names_of(alloc, &stages, cycle.stages())
+}
+
+fn names_of(alloc: Global, stages: &[Declared], numbers: &[usize]) -> Result<StageNames, AllocError>
+    ensures { IfOk result (λ names. names ≡ names_of stages.now numbers.now) }
+{
+    let mut names = Vec::new(alloc);
+    for number in numbers {
+        if let Some(name) = name_at(stages, *number) {
+            names.push(name)?;
+        }
+    }
+    Ok(StageNames { names })
+}
+
+/// The name of the stage, or of the parameter, of this number.
+pub fn name_at(declared: &[Declared], number: usize) -> Option<Name>
+    ensures { result ≡ name_at declared.now number }
+{
+    Some(declared.get(number)?.name)
+}

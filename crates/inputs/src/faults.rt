@@ -1,0 +1,99 @@
+//! Why a command gave no result.
+
+use crate::lines::{BindLine, CheckLine, ParamLine};
+use netpbm::PicFault;
+use pipe_tree::ParseFault;
+use std::alloc::AllocError;
+use thiserror::Error;
+
+/// Why a command gave no result. The text of each is its line on standard output, but for `Write`, which has none.
+#[derive(Debug, Drop, Error)]
+pub enum StreamFault {
+    /// The reader failed.
+    #[error("input failed")]
+    Read,
+    /// The input has more than 536,870,912 bytes.
+    #[error("input: too long")]
+    TooLong,
+    /// A separator line is missing.
+    #[error("input: no separator")]
+    NoSeparator,
+    /// The first section is no program.
+    #[error("program: {} {} at {}", .0.number(), .0.name(), .0.offset().unwrap_or(0))]
+    Program(ParseFault),
+    /// The last section is no picture.
+    #[error("picture: {} {} at {}", .0.number(), .0.name(), .0.offset().unwrap_or(0))]
+    Picture(PicFault),
+    /// The program means nothing.
+    #[error("check: {0}")]
+    Check(CheckLine),
+    /// A parameter was given in vain.
+    #[error("parameter: {0}")]
+    Param(ParamLine),
+    /// The program and the picture make no job.
+    #[error("{0}")]
+    Bind(BindLine),
+    /// Memory ran out.
+    #[error("memory")]
+    Memory,
+    /// The writer failed or took nothing.
+    #[error("output failed")]
+    Write,
+}
+
+impl StreamFault {
+    ghost use Rattle.std.specs.Prelude.{◌≡◌};
+    ghost use Rattle.inputs.specs.Outcomes.{status_of};
+
+    /// The status that the program ends with.
+    pub fn status(&self) -> u8
+        ensures { result ≡ status_of self.now }
+    {
+        match self {
+            StreamFault::Param(_) => 1,
+            StreamFault::TooLong | StreamFault::NoSeparator | StreamFault::Picture(_) => 2,
+            StreamFault::Program(_) | StreamFault::Check(_) | StreamFault::Bind(_) => 3,
+            StreamFault::Read | StreamFault::Write => 4,
+            StreamFault::Memory => 5,
+        }
+    }
+}
+
+impl From<AllocError> for StreamFault {
+    ghost use Rattle.std.specs.Prelude.{◌≡◌};
+    ghost use Rattle.inputs.specs.declared.faults.StreamFault.TheVariants.{Memory};
+
+    ghost from_gives = { λ _ fault. fault ≡ Memory };
+
+    fn from(_error: AllocError) -> StreamFault {
+        StreamFault::Memory
+    }
+}
+
+impl From<ParseFault> for StreamFault {
+    ghost use Rattle.std.specs.Prelude.{◌≡◌};
+    ghost use Rattle.inputs.specs.Told.{told_parse};
+
+    ghost from_gives = { λ fault told. told ≡ told_parse fault };
+
+    fn from(fault: ParseFault) -> StreamFault {
+        match fault {
+            ParseFault::Memory => StreamFault::Memory,
+            fault => StreamFault::Program(fault),
+        }
+    }
+}
+
+impl From<PicFault> for StreamFault {
+    ghost use Rattle.std.specs.Prelude.{◌≡◌};
+    ghost use Rattle.inputs.specs.Told.{told_picture};
+
+    ghost from_gives = { λ fault told. told ≡ told_picture fault };
+
+    fn from(fault: PicFault) -> StreamFault {
+        match fault {
+            PicFault::Memory => StreamFault::Memory,
+            fault => StreamFault::Picture(fault),
+        }
+    }
+}

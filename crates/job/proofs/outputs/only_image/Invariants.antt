@@ -1,9 +1,0 @@
-use Rattle.std.proofs.Common.{◌≡◌, ◌++◌, [], ◌∷◌, drop}
-use Rattle.std.specs.List.{flat_map}
-use Rattle.std.specs.Option.{option_map_or}
-use Rattle.pipe_lang.specs.Tree.{declarations}
-use Rattle.job.specs.Binding.{item_images}
-use Rattle.job.proofs.outputs.only_image.Given as goal
-
-abbrev pub invariant-loop-item : goal.invariant-loop-item
-invariant-loop-item l = option_map_or (λ i. i.now ∷ []) l.found [] ++ flat_map item_images (declarations (drop l.item-index l.items)) ≡ flat_map item_images (declarations l.items)

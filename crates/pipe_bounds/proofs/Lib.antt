@@ -1,0 +1,9 @@
+pub mod Cutting
+pub mod Settled
+pub mod Stages
+pub mod Taking
+pub mod Firsts
+pub mod Sounding
+pub mod Spanning
+pub mod OneDomain
+pub mod OneFault

@@ -1,0 +1,9 @@
+-- The first fault of each kind is one, and no two kinds stand together.
+use Rattle.pipe_bounds.proofs.OneFault.{one_fault, no_fault}
+use Rattle.pipe_bounds.proofs.determined.bound_faults_are_determined.Goals as goal
+
+pub returns-clause-one : goal.returns-clause-one
+returns-clause-one c = one_fault
+
+pub returns-clause-none : goal.returns-clause-none
+returns-clause-none c = no_fault

@@ -1,0 +1,196 @@
+-- Reads that stay within the domains of what they read, point by point, and the first that does not.
+use Rattle.std.specs.Prelude.{ℕ, ◌<◌, ◌/◌, ℤ, pos, ◌+ℤ◌, ◌≤ℤ◌, ◌≡◌, Option, Some, None, List, [], ◌∷◌, ◌++◌, map, slice_get}
+use Rattle.domains.specs.Span.{Ends, Holds}
+use Rattle.domains.specs.Area.{HoldsPoint}
+use Rattle.domains.specs.Index.{Scale, index_at}
+use Rattle.domains.specs.declared.area.Area.{Area}
+use Rattle.pipe_tree.specs.declared.tree.Index.{Index}
+use Rattle.pipe_tree.specs.declared.tree.Test.{Test}
+use Rattle.pipe_tree.specs.Tree.{Node, Branch, Declaration, param, image, function, accumulator, output}
+use Rattle.pipe_checks.specs.declared.declared.Declared.{Declared}
+use Rattle.pipe_bounds.specs.declared.fault.Axis.{Axis}
+use Rattle.pipe_bounds.specs.declared.fault.Axis.TheVariants.{Rows, Columns}
+use Rattle.pipe_bounds.specs.declared.fault.BoundFault.{BoundFault}
+use Rattle.pipe_bounds.specs.declared.fault.BoundFault.TheVariants.{ParamUnset, EmptyDomain, DomainTooWide, OutOfBounds, Memory}
+use Rattle.pipe_bounds.specs.declared.domain.IntervalFault.TheVariants.{Empty, TooWide}
+use Rattle.pipe_bounds.specs.declared.params.Setting.{Setting}
+use Rattle.pipe_checks.specs.declared.site.Site.{Site}
+use Rattle.pipe_checks.specs.declared.site.Site.TheVariants.{Read, Stencil}
+use Rattle.pipe_bounds.specs.Boxes.{BoundsHold}
+use Rattle.pipe_checks.specs.Names.{stages_of}
+use Rattle.pipe_checks.specs.Sites.{sites_of, stage_read}
+use Rattle.pipe_bounds.specs.Within.{AllSet, IsFirstUnset, HaveDomains, IsFirstFaultyDomain}
+
+-- ---- cases
+
+-- the name of the variable of the rows, the tests of a condition, and the reads and stencils in the order of the text
+pub record ReadCase : Type 0 where
+  pub row : List ℕ
+  pub tests : List Test
+  pub sites : List Site
+
+abbrev pub branch_case : List Declared → List ℕ → Branch → ReadCase
+branch_case stages row b = record { row = row; tests = b.condition; sites = sites_of stages b.value }
+
+-- what stands under no condition
+abbrev pub whole_case : List ℕ → List Site → ReadCase
+whole_case row sites = record { row = row; tests = []; sites = sites }
+
+abbrev pub otherwise_cases : List Declared → List ℕ → Option Node → List ReadCase
+otherwise_cases stages row None = []
+otherwise_cases stages row (Some a) = whole_case row (sites_of stages a) ∷ []
+
+-- the cases of an item by their numbers: `else` stands behind the others, and an accumulator is one case
+abbrev pub item_cases : List Declared → Declaration → List ReadCase
+item_cases stages (param p) = []
+item_cases stages (image i) = []
+item_cases stages (function f) = map (branch_case stages f.row.name) f.cases ++ otherwise_cases stages f.row.name f.otherwise
+item_cases stages (accumulator a) = whole_case a.row.name (sites_of stages a.value ++ sites_of stages a.bin) ∷ []
+item_cases stages (output o) = []
+
+abbrev pub declared_cases : List Declared → Option Declaration → List ReadCase
+declared_cases stages None = []
+declared_cases stages (Some d) = item_cases stages d
+
+-- those of the item that declares a stage
+abbrev pub stage_cases : List Declaration → List Declared → Declared → List ReadCase
+stage_cases ds stages s = declared_cases stages (slice_get ds s.item)
+
+-- a point lies in the box of a case: in the domain, and the tests of bounds hold there
+abbrev pub IsInBox : List Setting → Area → ReadCase → ℤ → ℤ → Type 0
+IsInBox ss domain x r c = HoldsPoint domain r c × BoundsHold ss x.row x.tests r c
+
+-- ---- what a read takes
+
+-- an index of the text, over whole numbers
+abbrev pub scale_of : Index → Scale
+scale_of i = record { mul = pos i.mul; add = i.add; div = pos i.div }
+
+-- w lies within n of v
+abbrev pub IsAbout : ℕ → ℤ → ℤ → Type 0
+IsAbout n v w = (v ≤ℤ (w +ℤ pos n)) × (w ≤ℤ (v +ℤ pos n))
+
+-- the rows that are taken at row r: one by an index, and as many as the kernel has by a stencil
+abbrev pub TakesRow : Site → ℤ → ℤ → Type 0
+TakesRow (Read g i j) r x = x ≡ index_at (scale_of i) r
+TakesRow (Stencil g m n) r x = IsAbout (m / 2) r x
+
+abbrev pub TakesColumn : Site → ℤ → ℤ → Type 0
+TakesColumn (Read g i j) c y = y ≡ index_at (scale_of j) c
+TakesColumn (Stencil g m n) c y = IsAbout (n / 2) c y
+
+-- ---- in bounds. The areas are the domains of the stages, by their numbers
+
+-- the point of row x and column y lies in the domain of stage g
+pub record IsWithin (areas : List Area) (g : ℕ) (x y : ℤ) : Type 0 where
+  pub domain : Area
+  pub there : slice_get areas g ≡ Some domain
+  pub holds : HoldsPoint domain x y
+
+-- at each point of the box, each point that is taken lies in the domain of the stage that is read
+abbrev pub Stays : List Area → (ℤ → ℤ → Type 0) → Site → Type 0
+Stays areas Box site =
+    (r c : ℤ) → Box r c → (x y : ℤ) → TakesRow site r x → TakesColumn site c y → IsWithin areas (stage_read site) x y
+
+abbrev pub AllStay : List Area → (ℤ → ℤ → Type 0) → List Site → Type 0
+AllStay areas Box sites = (m : ℕ) (site : Site) → slice_get sites m ≡ Some site → Stays areas Box site
+
+-- each read of each case of a stage stays
+abbrev pub StageStays : List Setting → List Area → Area → List ReadCase → Type 0
+StageStays ss areas domain cases =
+    (n : ℕ) (x : ReadCase) → slice_get cases n ≡ Some x → AllStay areas (IsInBox ss domain x) x.sites
+
+-- and so for stage k
+abbrev pub StaysAt : List Setting → List Declaration → List Declared → List Area → ℕ → Declared → Type 0
+StaysAt ss ds stages areas k s = (domain : Area) → slice_get areas k ≡ Some domain → StageStays ss areas domain (stage_cases ds stages s)
+
+abbrev pub AreInBounds : List Setting → List Declaration → List Declared → List Area → Type 0
+AreInBounds ss ds stages areas = (k : ℕ) (s : Declared) → slice_get stages k ≡ Some s → StaysAt ss ds stages areas k s
+
+-- a program means something at the values of its parameters: all are set, each stage has its domain, and each read stays
+pub record IsInBounds (ss : List Setting) (ds : List Declaration) : Type 0 where
+  pub set : AllSet ss
+  pub areas : List Area
+  pub domains : HaveDomains ss ds (stages_of ds) areas
+  pub stays : AreInBounds ss ds (stages_of ds) areas
+
+-- ---- a read that leaves
+
+-- a number that is taken along an axis at some point of the box
+abbrev pub IsTakenAlong : (ℤ → ℤ → Type 0) → Site → Axis → ℤ → Type 0
+IsTakenAlong Box site Rows v = (r c : ℤ) × Box r c × TakesRow site r v
+IsTakenAlong Box site Columns v = (r c : ℤ) × Box r c × TakesColumn site c v
+
+abbrev pub side_of : Axis → Area → Ends
+side_of Rows a = a.rows
+side_of Columns a = a.cols
+
+-- all that is taken along an axis lies in the domain
+abbrev pub StaysAlong : (ℤ → ℤ → Type 0) → Site → Area → Axis → Type 0
+StaysAlong Box site domain axis = (v : ℤ) → IsTakenAlong Box site axis v → Holds (side_of axis domain) v
+
+-- the least and the greatest of some numbers
+pub record AreExtremes (Is : ℤ → Type 0) (least greatest : ℤ) : Type 0 where
+  pub first : Is least
+  pub last : Is greatest
+  pub between : (v : ℤ) → Is v → (least ≤ℤ v) × (v ≤ℤ greatest)
+
+-- a read leaves the domain of what it reads along this axis, and takes numbers from the least to the greatest along it. The
+-- columns are told only where it stays along the rows
+pub record Leaves (areas : List Area) (Box : ℤ → ℤ → Type 0) (site : Site) (axis : Axis) (least greatest : ℤ) : Type 0 where
+  pub domain : Area
+  pub there : slice_get areas (stage_read site) ≡ Some domain
+  pub leaves : ¬ (StaysAlong Box site domain axis)
+  pub extremes : AreExtremes (IsTakenAlong Box site axis) least greatest
+  pub rows : axis ≡ Columns → StaysAlong Box site domain Rows
+
+-- ---- the first read that leaves
+
+-- f tells of read m of case n of stage k that it leaves
+pub record TellsRead (areas : List Area) (Box : ℤ → ℤ → Type 0) (site : Site) (k n m : ℕ) (f : BoundFault) : Type 0 where
+  pub axis : Axis
+  pub least : ℤ
+  pub greatest : ℤ
+  pub told : f ≡ OutOfBounds k n m axis least greatest
+  pub leaves : Leaves areas Box site axis least greatest
+
+-- of the reads of case n of stage k: those before it stay
+pub record IsFirstRead (areas : List Area) (Box : ℤ → ℤ → Type 0) (sites : List Site) (k n : ℕ) (f : BoundFault) : Type 0 where
+  pub number : ℕ
+  pub site : Site
+  pub there : slice_get sites number ≡ Some site
+  pub before : (m : ℕ) (y : Site) → m < number → slice_get sites m ≡ Some y → Stays areas Box y
+  pub tells : TellsRead areas Box site k n number f
+
+-- of the cases of stage k
+pub record IsFirstCase (ss : List Setting) (areas : List Area) (domain : Area) (cases : List ReadCase) (k : ℕ) (f : BoundFault) : Type 0 where
+  pub number : ℕ
+  pub place : ReadCase
+  pub there : slice_get cases number ≡ Some place
+  pub before : (n : ℕ) (y : ReadCase) → n < number → slice_get cases n ≡ Some y → AllStay areas (IsInBox ss domain y) y.sites
+  pub read : IsFirstRead areas (IsInBox ss domain place) place.sites k number f
+
+-- of the stages
+pub record IsFirstStage (ss : List Setting) (ds : List Declaration) (stages : List Declared) (areas : List Area) (f : BoundFault) : Type 0 where
+  pub number : ℕ
+  pub stage : Declared
+  pub there : slice_get stages number ≡ Some stage
+  pub domain : Area
+  pub has : slice_get areas number ≡ Some domain
+  pub before : (k : ℕ) (y : Declared) → k < number → slice_get stages k ≡ Some y → StaysAt ss ds stages areas k y
+  pub case : IsFirstCase ss areas domain (stage_cases ds stages stage) number f
+
+-- f tells the first read that leaves what it reads, of a program whose stages have domains
+pub record IsFirstDeparture (ss : List Setting) (ds : List Declaration) (f : BoundFault) : Type 0 where
+  pub areas : List Area
+  pub domains : HaveDomains ss ds (stages_of ds) areas
+  pub stage : IsFirstStage ss ds (stages_of ds) areas f
+
+-- ---- the fault of a program, but for memory
+
+abbrev pub IsBoundFault : List Setting → List Declaration → BoundFault → Type 0
+IsBoundFault ss ds (ParamUnset n) = IsFirstUnset ss n
+IsBoundFault ss ds (EmptyDomain k) = AllSet ss × IsFirstFaultyDomain ss ds (stages_of ds) Empty k
+IsBoundFault ss ds (DomainTooWide k) = AllSet ss × IsFirstFaultyDomain ss ds (stages_of ds) TooWide k
+IsBoundFault ss ds (OutOfBounds k n m axis least greatest) = AllSet ss × IsFirstDeparture ss ds (OutOfBounds k n m axis least greatest)
+IsBoundFault ss ds Memory = Unit {0}

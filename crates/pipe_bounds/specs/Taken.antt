@@ -1,0 +1,103 @@
+-- What reads take over areas, by spans, and what the parts of `bounds` answer. Only inner contracts cite this.
+use Rattle.std.specs.Prelude.{ℕ, ◌<◌, ◌≤◌, ◌/◌, ℤ, pos, negsuc, ◌+ℤ◌, ◌≤ℤ◌, ◌≡◌, ◌⊎◌, Option, Some, None, Result, Ok, Err, List, length, slice_get}
+use Rattle.domains.specs.Span.{Ends, Holds, IsSubspan}
+use Rattle.domains.specs.Index.{IsIndex, IsImage}
+use Rattle.domains.specs.declared.area.Area.{Area}
+use Rattle.pipe_tree.specs.Tree.{Declaration}
+use Rattle.pipe_checks.specs.declared.declared.Declared.{Declared}
+use Rattle.pipe_bounds.specs.declared.domain.IntervalFault.{IntervalFault}
+use Rattle.pipe_bounds.specs.declared.domain.IntervalFault.TheVariants.{Empty, TooWide}
+use Rattle.pipe_bounds.specs.declared.fault.Axis.{Axis}
+use Rattle.pipe_bounds.specs.declared.fault.Axis.TheVariants.{Rows, Columns}
+use Rattle.pipe_bounds.specs.declared.fault.BoundFault.{BoundFault}
+use Rattle.pipe_bounds.specs.declared.fault.BoundFault.TheVariants.{EmptyDomain, DomainTooWide, Memory}
+use Rattle.pipe_bounds.specs.declared.params.Setting.{Setting}
+use Rattle.pipe_checks.specs.declared.site.Site.{Site}
+use Rattle.pipe_checks.specs.declared.site.Site.TheVariants.{Read, Stencil}
+use Rattle.pipe_bounds.specs.declared.taken.Departure.{Departure}
+use Rattle.pipe_bounds.specs.InBounds.{ReadCase, AllStay, StageStays, IsFirstRead, IsFirstCase, item_cases, scale_of}
+use Rattle.pipe_bounds.specs.Within.{IsFirstFaultyDomain}
+
+-- ---- what is taken
+
+-- t reaches n to both sides of s
+pub record IsWidened (n : ℕ) (s t : Ends) : Type 0 where
+  pub lo : t.lo +ℤ pos n ≡ s.lo
+  pub hi : t.hi ≡ s.hi +ℤ pos n
+
+-- t goes from the least to the greatest index that a read or a stencil takes over the points of an area, on each axis
+abbrev pub IsTaken : Site → Area → Area → Type 0
+IsTaken (Read g i j) a t = IsImage (scale_of i) a.rows t.rows × IsImage (scale_of j) a.cols t.cols
+IsTaken (Stencil g m n) a t = IsWidened (m / 2) a.rows t.rows × IsWidened (n / 2) a.cols t.cols
+
+-- along this axis what is taken leaves the domain, from the least to the greatest index; the rows go first
+abbrev pub LeavesAlong : Area → Area → Axis → ℤ → ℤ → Type 0
+LeavesAlong t d Rows least greatest =
+    (IsSubspan t.rows d.rows → ⊥) × (least ≡ t.rows.lo) × (greatest ≡ t.rows.hi)
+LeavesAlong t d Columns least greatest =
+    IsSubspan t.rows d.rows × (IsSubspan t.cols d.cols → ⊥) × (least ≡ t.cols.lo) × (greatest ≡ t.cols.hi)
+
+abbrev pub IsDeparture : Area → Area → Departure → Type 0
+IsDeparture t d x = LeavesAlong t d x.axis x.least x.greatest
+
+-- what is taken lies in the domain
+abbrev pub StaysWithin : Area → Area → Type 0
+StaysWithin t d = IsSubspan t.rows d.rows × IsSubspan t.cols d.cols
+
+-- what is taken lies in the domain, or leaves it
+abbrev pub IsDeparting : Area → Area → Option Departure → Type 0
+IsDeparting t d None = StaysWithin t d
+IsDeparting t d (Some x) = IsDeparture t d x
+
+-- ---- what `check` and the domains leave to take
+
+-- each number lies within 16,384 of 0
+abbrev pub IsNear : Ends → Type 0
+IsNear s = (v : ℤ) → Holds s v → (negsuc 16383 ≤ℤ v) × (v ≤ℤ pos 16384)
+
+abbrev pub IsNearArea : Area → Type 0
+IsNearArea a = IsNear a.rows × IsNear a.cols
+
+-- a read of one of so many stages at indices in their ranges, or a stencil with short sides
+abbrev pub IsSound : ℕ → Site → Type 0
+IsSound count (Read g i j) = (g < count) × IsIndex (scale_of i) × IsIndex (scale_of j)
+IsSound count (Stencil g m n) = (g < count) × (m ≤ 15) × (n ≤ 15)
+
+abbrev pub AreSound : ℕ → List Site → Type 0
+AreSound count sites = (m : ℕ) (site : Site) → slice_get sites m ≡ Some site → IsSound count site
+
+abbrev pub AreSoundCases : ℕ → List ReadCase → Type 0
+AreSoundCases count cases = (n : ℕ) (x : ReadCase) → slice_get cases n ≡ Some x → AreSound count x.sites
+
+abbrev pub AreSoundItems : List Declared → List Declaration → Type 0
+AreSoundItems stages ds = (k : ℕ) (d : Declaration) → slice_get ds k ≡ Some d → AreSoundCases (length stages) (item_cases stages d)
+
+-- each stage is declared by an item
+abbrev pub AreDeclared : List Declaration → List Declared → Type 0
+AreDeclared ds stages = (k : ℕ) (s : Declared) → slice_get stages k ≡ Some s → s.item < length ds
+
+-- ---- what is answered
+
+-- all is good, or else the fault tells what is wrong, or memory
+abbrev pub IsAnswer : {X : Type 0} → (X → Type 0) → (BoundFault → Type 0) → Result X BoundFault → Type 0
+IsAnswer Good Wrong (Ok x) = Good x
+IsAnswer Good Wrong (Err f) = (f ≡ Memory) ⊎ Wrong f
+
+-- of the reads of case n of stage k over a box
+abbrev pub AnswersReads : List Area → (ℤ → ℤ → Type 0) → List Site → ℕ → ℕ → Result (Unit {0}) BoundFault → Type 0
+AnswersReads areas Box sites k n r = IsAnswer (λ u. AllStay areas Box sites) (IsFirstRead areas Box sites k n) r
+
+-- of the cases of stage k
+abbrev pub AnswersCases : List Setting → List Area → Area → List ReadCase → ℕ → Result (Unit {0}) BoundFault → Type 0
+AnswersCases ss areas domain cases k r = IsAnswer (λ u. StageStays ss areas domain cases) (IsFirstCase ss areas domain cases k) r
+
+abbrev pub domain_fault : IntervalFault → ℕ → BoundFault
+domain_fault Empty k = EmptyDomain k
+domain_fault TooWide k = DomainTooWide k
+
+-- f tells the first stage whose domain is faulty
+pub record TellsDomain (ss : List Setting) (ds : List Declaration) (stages : List Declared) (f : BoundFault) : Type 0 where
+  pub fault : IntervalFault
+  pub stage : ℕ
+  pub told : f ≡ domain_fault fault stage
+  pub first : IsFirstFaultyDomain ss ds stages fault stage

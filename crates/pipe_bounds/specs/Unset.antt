@@ -1,0 +1,8 @@
+-- A parameter at first.
+use Rattle.std.specs.Prelude.{None}
+use Rattle.pipe_bounds.specs.declared.params.Setting.{Setting}
+use Rattle.pipe_checks.specs.declared.declared.Declared.{Declared}
+
+-- a parameter without a value
+abbrev pub unset : Declared → Setting
+unset d = record { name = d.name; value = None }

@@ -1,0 +1,87 @@
+#![tactic(auto)]
+//! The box of a case: the points of the domain that its tests of bounds leave.
+
+ghost use Rattle.std.specs.Prelude.{◌≡◌, ◌≤ℤ◌, IfSome};
+ghost use Rattle.domains.specs.Span.{IsSubspan};
+ghost use Rattle.pipe_bounds.specs.Boxes.{Meets, BoundHolds, BoundsHold};
+ghost use Rattle.domains.specs.Cuts.{IsCut, IsCutArea};
+ghost use Rattle.pipe_bounds.specs.Settings.{affine_value};
+
+use crate::affine::affine_value;
+use crate::params::Params;
+use domains::{Area, Relation, Span};
+use pipe_checks::is_same;
+use pipe_tokens::Name;
+use pipe_tree::Test;
+
+fn at_most(span: &Span, bound: i128) -> Option<Span>
+    ensures { IsCut (λ v. v ≤ℤ bound) span.now result }
+{
+    if i128::from(span.hi()) <= bound {
+        return Some(*span);
+    }
+    if bound < i128::from(span.lo()) {
+        return None;
+    }
+    Span::new(span.lo(), bound as i32)
+}
+
+fn at_least(span: &Span, bound: i128) -> Option<Span>
+    ensures { IsCut (λ v. bound ≤ℤ v) span.now result }
+{
+    if bound <= i128::from(span.lo()) {
+        return Some(*span);
+    }
+    if i128::from(span.hi()) < bound {
+        return None;
+    }
+    Span::new(bound as i32, span.hi())
+}
+
+fn cut_span(span: &Span, relation: Relation, bound: i128) -> Option<Span>
+    ensures { IsCut (λ v. Meets relation v bound) span.now result }
+{
+    match relation {
+        Relation::AtMost => at_most(span, bound),
+        Relation::AtLeast => at_least(span, bound),
+        Relation::Equals => at_least(&at_most(span, bound)?, bound),
+    }
+}
+
+fn cut(params: &Params, row: &Name, area: &Area, test: &Test) -> Option<Area>
+    ensures points { IsCutArea (BoundHolds params.now row.now test.now) area.now result }
+    ensures within { IfSome result (λ m. IsSubspan m.rows area.now.rows × IsSubspan m.cols area.now.cols) }
+{
+    match test {
+        Test::Compare(name, relation, bound) => {
+            let bound = affine_value(params, bound);
+            if is_same(name, row) {
+                let rows = cut_span(&area.rows, *relation, bound)?;
+                Some(Area {
+                    rows,
+                    cols: area.cols,
+                })
+            } else {
+                let cols = cut_span(&area.cols, *relation, bound)?;
+                Some(Area {
+                    rows: area.rows,
+                    cols,
+                })
+            }
+        }
+        Test::Remainder(_, _, _) => Some(*area),
+    }
+}
+
+/// The points of a domain at which all tests of bounds hold, of a case whose variable of the rows is `row`; any other name is
+/// the variable of the columns. Tests of a remainder leave all points.
+pub fn case_box(params: &Params, row: &Name, domain: &Area, tests: &[Test]) -> Option<Area>
+    ensures points { IsCutArea (BoundsHold params.now row.now tests.now) domain.now result }
+    ensures within { IfSome result (λ m. IsSubspan m.rows domain.now.rows × IsSubspan m.cols domain.now.cols) }
+{
+    let mut left = *domain;
+    for test in tests {
+        left = cut(params, row, &left, test)?;
+    }
+    Some(left)
+}

@@ -1,0 +1,118 @@
+#![tactic(auto)]
+//! The domains of stages.
+
+ghost use Rattle.std.specs.Prelude.{◌≡◌};
+ghost use Rattle.pipe_bounds.specs.Domains.{IsInterval, IsExtent, IsBins, IsDomain, IsArea, IsSpanOf};
+ghost use Rattle.pipe_bounds.specs.Settings.{affine_value};
+ghost use Rattle.pipe_tree.specs.Tree.{declaration, accumulator, accumulator_of};
+
+use crate::affine::affine_value;
+use crate::params::Params;
+use domains::{Area, Span};
+use pipe_tree::{Accum, Affine, AffineSpan, Func, Image, Item};
+
+/// The ends of a domain and of the bins lie from `-MAX_END` to `MAX_END`.
+pub const MAX_END: i128 = 16384;
+
+/// The greatest extent of a picture, and the most bins.
+pub const MAX_SIZE: i128 = 4096;
+
+/// Why an interval is none.
+#[derive(Clone, Copy, Debug, PartialEq, Eq)]
+pub enum IntervalFault {
+    /// Its last number is below its first.
+    Empty,
+    /// It reaches too far.
+    TooWide,
+}
+
+fn interval(first: i128, last: i128) -> Result<Span, IntervalFault>
+    ensures { IsInterval first last result }
+{
+    if last < first {
+        return Err(IntervalFault::Empty);
+    }
+    if first < -MAX_END || MAX_END < last {
+        return Err(IntervalFault::TooWide);
+    }
+    match Span::new(first as i32, last as i32) {
+        Some(span) => Ok(span),
+        None => unreachable!(),
+    }
+}
+
+fn interval_of(params: &Params, span: &AffineSpan) -> Result<Span, IntervalFault>
+    ensures { IsInterval (affine_value params.now span.now.first) (affine_value params.now span.now.last) result }
+{
+    interval(
+        affine_value(params, &span.first),
+        affine_value(params, &span.last),
+    )
+}
+
+fn extent(side: i128) -> Result<Span, IntervalFault>
+    ensures { IsExtent side result }
+{
+    if side < 1 {
+        return Err(IntervalFault::Empty);
+    }
+    if MAX_SIZE < side {
+        return Err(IntervalFault::TooWide);
+    }
+    interval(0, side - 1)
+}
+
+fn extent_of(params: &Params, side: &Affine) -> Result<Span, IntervalFault>
+    ensures { IsExtent (affine_value params.now side.now) result }
+{
+    extent(affine_value(params, side))
+}
+
+/// The bins of an accumulator.
+pub fn bins(params: &Params, accum: &Accum) -> Result<Span, IntervalFault>
+    ensures { IsBins (affine_value params.now accum.now.bins.first) (affine_value params.now accum.now.bins.last) result }
+{
+    let bins = interval_of(params, &accum.bins)?;
+    if i128::from(bins.len()) <= MAX_SIZE {
+        Ok(bins)
+    } else {
+        Err(IntervalFault::TooWide)
+    }
+}
+
+fn image_domain(params: &Params, image: &Image) -> Result<Area, IntervalFault>
+    ensures { IsArea (IsExtent (affine_value params.now image.now.rows)) (IsExtent (affine_value params.now image.now.columns)) result }
+{
+    let rows = extent_of(params, &image.rows)?;
+    let cols = extent_of(params, &image.columns)?;
+    Ok(Area { rows, cols })
+}
+
+fn func_domain(params: &Params, func: &Func) -> Result<Area, IntervalFault>
+    ensures { IsArea (IsSpanOf params.now func.now.row.span) (IsSpanOf params.now func.now.column.span) result }
+{
+    let rows = interval_of(params, &func.row.span)?;
+    let cols = interval_of(params, &func.column.span)?;
+    Ok(Area { rows, cols })
+}
+
+fn accum_domain(params: &Params, accum: &Accum) -> Result<Area, IntervalFault>
+    ensures { IsDomain params.now (accumulator (accumulator_of accum.now)) result }
+{
+    let _ = bins(params, accum)?;
+    let rows = interval_of(params, &accum.row.span)?;
+    let cols = interval_of(params, &accum.column.span)?;
+    Ok(Area { rows, cols })
+}
+
+/// The domain of a plane or a function, and the reduction domain of an accumulator.
+pub fn stage_domain(params: &Params, item: &Item) -> Result<Area, IntervalFault>
+    ensures { IsDomain params.now (declaration item.now) result }
+{
+    match item {
+        Item::Image(image) => image_domain(params, image),
+        Item::Func(func) => func_domain(params, func),
+        Item::Accum(accum) => accum_domain(params, accum),
+        Item::Param(_) | Item::Output(_) => Err(IntervalFault::Empty),
+    }
+}

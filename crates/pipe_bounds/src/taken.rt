@@ -1,0 +1,102 @@
+#![tactic(auto)]
+//! What a read takes over an area, and where that leaves a domain.
+
+ghost use Rattle.std.specs.Prelude.{◌≡◌, ◌≤◌, ◌/◌, ℕ};
+ghost use Rattle.domains.specs.Span.{IsSpan};
+ghost use Rattle.domains.specs.Area.{IsArea};
+ghost use Rattle.domains.specs.Index.{IsIndex, IsImage};
+ghost use Rattle.pipe_bounds.specs.InBounds.{scale_of};
+ghost use Rattle.pipe_bounds.specs.Taken.{IsWidened, IsTaken, IsDeparting, IsNear, IsNearArea, IsSound};
+
+use crate::fault::Axis;
+use domains::{Area, Index, Span};
+use pipe_checks::Site;
+
+/// The numbers of domains lie within this of 0.
+const MAX_REACH: i32 = 16384;
+
+/// What a read takes, along an axis along which it leaves the domain.
+#[derive(Clone, Copy)]
+pub(crate) struct Departure {
+    pub(crate) axis: Axis,
+    pub(crate) least: i32,
+    pub(crate) greatest: i32,
+}
+
+fn index_of(index: &pipe_tree::Index) -> Index
+    requires { IsIndex (scale_of index.now) }
+    ensures { result ≡ scale_of index.now }
+{
+    match Index::new(index.mul as i32, index.add, index.div as i32) {
+        Some(index) => index,
+        None => unreachable!(),
+    }
+}
+
+// The numbers that an index takes over a span.
+fn image_of(index: &pipe_tree::Index, span: &Span) -> Span
+    requires index { IsIndex (scale_of index.now) }
+    requires near { IsNear span.now }
+    ensures image { IsImage (scale_of index.now) span.now result }
+    ensures within { IsSpan span.now }
+{
+    let (least, greatest) = (span.lo(), span.hi());
+    prove!(-MAX_REACH <= least && greatest <= MAX_REACH);
+    index_of(index).image(span)
+}
+
+// The numbers that a side of this length of a kernel takes about those of a span.
+fn widened(span: &Span, side: usize) -> Span
+    requires near { IsNear span.now }
+    requires side { side ≤ 15 }
+    ensures widened { IsWidened (side / 2) span.now result }
+    ensures within { IsSpan span.now }
+{
+    let (least, greatest) = (span.lo(), span.hi());
+    prove!(-MAX_REACH <= least && greatest <= MAX_REACH);
+    let reach = (side / 2) as i32;
+    match Span::new(least - reach, greatest + reach) {
+        Some(taken) => taken,
+        None => unreachable!(),
+    }
+}
+
+/// The rows and columns that a read takes over the points of an area.
+pub(crate) fn taken(site: &Site, area: &Area) -> Area
+    requires sound { (count : ℕ) × IsSound count site.now }
+    requires near { IsNearArea area.now }
+    ensures taken { IsTaken site.now area.now result }
+    ensures within { IsArea area.now }
+{
+    match site {
+        Site::Read(_, row, column) => Area {
+            rows: image_of(row, &area.rows),
+            cols: image_of(column, &area.cols),
+        },
+        Site::Stencil(_, rows, columns) => Area {
+            rows: widened(&area.rows, *rows),
+            cols: widened(&area.cols, *columns),
+        },
+    }
+}
+
+/// The first axis along which what is taken leaves the domain.
+pub(crate) fn departing(taken: &Area, domain: &Area) -> Option<Departure>
+    ensures { IsDeparting taken.now domain.now result }
+{
+    if !taken.rows.inside(&domain.rows) {
+        return Some(Departure {
+            axis: Axis::Rows,
+            least: taken.rows.lo(),
+            greatest: taken.rows.hi(),
+        });
+    }
+    if !taken.cols.inside(&domain.cols) {
+        return Some(Departure {
+            axis: Axis::Columns,
+            least: taken.cols.lo(),
+            greatest: taken.cols.hi(),
+        });
+    }
+    None
+}

@@ -1,0 +1,72 @@
+#![tactic(auto)]
+//! Whether a program means something at the values of its parameters.
+
+ghost use Rattle.std.specs.Prelude.{◌≡◌, ℕ, OnOk, IfErr, Err};
+ghost use Rattle.pipe_bounds.specs.declared.fault.BoundFault.TheVariants.{ParamUnset};
+ghost use Rattle.pipe_checks.specs.Checking.{tree_in};
+ghost use Rattle.pipe_tree.specs.Tree.{content, declarations};
+ghost use Rattle.pipe_bounds.specs.InBounds.{AreInBounds, IsBoundFault, IsFirstStage, IsInBounds};
+ghost use Rattle.pipe_bounds.specs.Taken.{AreDeclared, AreSoundItems, IsAnswer};
+ghost use Rattle.pipe_bounds.specs.Within.{AreSet, HaveDomains, IsFirstUnset};
+
+use crate::fault::BoundFault;
+use crate::params::Params;
+use crate::reader::Reader;
+use crate::stage_domains::domains_of;
+use domains::Area;
+use pipe_checks::{Checked, Declared};
+use pipe_tree::Item;
+use std::alloc::Global;
+
+fn all_set(params: &Params) -> Result<(), BoundFault>
+    ensures { AreSet params.now result }
+{
+    for (number, setting) in params.settings().iter().enumerate() {
+        if setting.value.is_none() {
+            return Err(BoundFault::ParamUnset(number));
+        }
+    }
+    Ok(())
+}
+
+fn judge_reads(
+    alloc: Global,
+    params: &Params,
+    items: &[Item],
+    stages: &[Declared],
+    domains: &[Area],
+) -> Result<(), BoundFault>
+    requires declared { AreDeclared (declarations items.now) stages.now }
+    requires sound { AreSoundItems stages.now (declarations items.now) }
+    requires domains { HaveDomains params.now (declarations items.now) stages.now domains.now }
+    ensures { IsAnswer (λ _. AreInBounds params.now (declarations items.now) stages.now domains.now) (IsFirstStage params.now (declarations items.now) stages.now domains.now) result }
+{
+    for (stage, declared) in stages.iter().enumerate() {
+        let reader = Reader {
+            alloc,
+            params,
+            stages,
+            domains,
+            stage,
+            domain: &domains[stage],
+        };
+        reader.item(&items[declared.item])?;
+    }
+    Ok(())
+}
+
+/// Whether the program means something at the values of its parameters: all have values, each stage has a domain, and at each
+/// point of each case's box each read takes points of the domain of what it reads alone. Else the first fault: a parameter
+/// without a value; then a stage with an interval that is empty or too wide; then a read that leaves, by stage, case and
+/// read, and the rows before the columns. The values are those of `params`, which are to be of this program.
+pub fn bounds(alloc: Global, checked: &Checked, params: &Params) -> Result<(), BoundFault>
+    ensures ok { OnOk result (IsInBounds params.now (content (tree_in checked.now))) }
+    ensures fault { IfErr result (IsBoundFault params.now (content (tree_in checked.now))) }
+    ensures unset { (n : ℕ) → IsFirstUnset params.now n → result ≡ Err (ParamUnset n) }
+{
+    all_set(params)?;
+    let items = checked.tree().items();
+    let stages = checked.stages();
+    let domains = domains_of(alloc, params, items, stages)?;
+    judge_reads(alloc, params, items, stages, &domains)
+}

@@ -1,9 +1,0 @@
-use Rattle.std.proofs.Common.{ℕ, ◌<◌, ◌≡◌, Some, slice_get}
-use Rattle.pipe_lang.specs.Tree.{declarations}
-use Rattle.pipe_checks.specs.declared.declared.Declared.{Declared}
-use Rattle.pipe_checks.specs.InBounds.{StaysAt}
-use Rattle.pipe_checks.proofs.within.judge_reads.Given as goal
-
-abbrev pub invariant-loop-stage : goal.invariant-loop-stage
-invariant-loop-stage l =
-    (k : ℕ) (s : Declared) → k < l.stage → slice_get l.stages k ≡ Some s → StaysAt l.params (declarations l.items) l.stages l.domains k s

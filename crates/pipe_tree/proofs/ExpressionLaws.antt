@@ -1,0 +1,481 @@
+-- Expressions are read as the grammar says, within any levels.
+use Rattle.std.proofs.Common.{Bool, true, false, ◌≡◌, ℕ, zero, suc, ◌<◌, List, [], ◌∷◌, Option, Some, None, Ok, Err, refl, subst, arith, ◌⊎◌, inl, inr}
+use Rattle.pipe_tokens.specs.declared.token.Token.{Token}
+use Rattle.pipe_tokens.specs.declared.token.Token.TheVariants as token
+use Rattle.pipe_tokens.specs.declared.token.Mark.{Mark}
+use Rattle.pipe_tokens.specs.declared.token.Mark.TheVariants as marks
+use Rattle.pipe_tokens.specs.declared.token.Word.{Word}
+use Rattle.pipe_tokens.specs.declared.token.Word.TheVariants as words
+use Rattle.pipe_tree.specs.declared.fault.Kind.TheVariants.{TooDeep}
+use Rattle.pipe_tree.specs.declared.limits.Counts.{Counts}
+use Rattle.pipe_tree.specs.declared.limits.Role.{Role}
+use Rattle.pipe_tree.specs.declared.limits.Role.TheVariants as roles
+use Rattle.pipe_tree.specs.declared.ahead.Factor.{Factor}
+use Rattle.pipe_tree.specs.declared.ahead.Factor.TheVariants as factors
+use Rattle.pipe_tree.specs.declared.ahead.Opening.{Opening}
+use Rattle.pipe_tree.specs.declared.ahead.Opening.TheVariants as opening
+use Rattle.pipe_tree.specs.declared.ahead.Start.{Start}
+use Rattle.pipe_tree.specs.declared.ahead.Start.TheVariants as start
+use Rattle.domains.specs.declared.operators.BinaryOp.{BinaryOp}
+use Rattle.domains.specs.declared.operators.BinaryOp.TheVariants.{Min, Max}
+use Rattle.domains.specs.declared.operators.Relation.{Relation}
+use Rattle.pipe_tree.specs.Tokens.{head}
+use Rattle.pipe_tree.specs.Limits.{Tagged, fits}
+use Rattle.pipe_tree.specs.Operators.{name_at, sign_at, factor_at, relation_at}
+use Rattle.pipe_tree.specs.Lookahead.{is_mark_at, start_at}
+use Rattle.pipe_tree.specs.Grammar as g
+use Rattle.pipe_tree.specs.Grammar.{Rule, Then, Gives, many, ◌or◌, leaf, Unary, Product, Expression}
+use Rattle.pipe_tree.specs.Faults.{GoesOn}
+use Rattle.pipe_tree.specs.Tree.{Node}
+use Rattle.pipe_tree.specs.Reading.{At, Answer, Reader, ◌>>=◌, gives, stop, by_key, choose, while, mark, is_factor_at, is_sign_at, literal_number, named, a_stencil, operand, product_more, product_of, sum_more, sum_of, negation, group, word_of, pair, absolute, clamped, selected, opened, unary_by, unary_at, product_at, expression_at}
+use Rattle.pipe_tree.proofs.Laws.{on, state, tagged, Within, Sound, HasText, Follow, Any, Ends, All, Parses, Starts, widen, refuse_sound, or_all, or_wider, all_weaker, then_has, has_within, token_rule, parses_then, parses_next, parses_gives}
+use Rattle.pipe_tree.proofs.TokenLaws.{parses_mark, parses_word, parses_sign, parses_factor, parses_relation, parses_int}
+use Rattle.pipe_tree.proofs.LoopLaws.{Turns, loop_unroll, parses_loop, loop_follows}
+use Rattle.pipe_tree.proofs.StartLaws.{Passing, starts_by, starts_with, starts_means, starts_int, starts_gives, long_front, long_means, key_sound, key_all}
+use Rattle.pipe_tree.proofs.AffineLaws.{sign_is_sign}
+use Rattle.pipe_tree.proofs.IndexLaws.{NoOpen, parses_named, parses_stencil, parses_literal_number}
+
+-- ---- what may follow
+
+-- behind a product
+abbrev pub NoFactor : Follow
+NoFactor h = (is_mark_at marks.OpenRound h ≡ false) × (is_factor_at h ≡ false)
+
+-- behind an expression
+abbrev pub NoOperator : Follow
+NoOperator h = (is_mark_at marks.OpenRound h ≡ false) × (is_factor_at h ≡ false) × (is_sign_at h ≡ false)
+
+factor_is_factor : (t : Token) (x : Factor) → factor_at (Some t) ≡ Some x → is_factor_at (Some t) ≡ true
+factor_is_factor (token.Mark marks.Star) x e = refl
+factor_is_factor (token.Mark marks.Slash) x e = refl
+factor_is_factor (token.Mark marks.Percent) x e = refl
+factor_is_factor (token.Mark marks.ShiftLeft) x e = refl
+factor_is_factor (token.Mark marks.ShiftRight) x e = refl
+factor_is_factor t x e = absurd cc
+
+factor_is_no_open : (t : Token) (x : Factor) → factor_at (Some t) ≡ Some x → NoOpen (Some t)
+factor_is_no_open (token.Mark marks.OpenRound) x e = absurd cc
+factor_is_no_open (token.Mark marks.Star) x e = refl
+factor_is_no_open (token.Mark marks.Slash) x e = refl
+factor_is_no_open (token.Mark marks.Percent) x e = refl
+factor_is_no_open (token.Mark marks.ShiftLeft) x e = refl
+factor_is_no_open (token.Mark marks.ShiftRight) x e = refl
+factor_is_no_open t x e = absurd cc
+
+sign_is_no_factor : (t : Token) (x : Bool) → sign_at (Some t) ≡ Some x → NoFactor (Some t)
+sign_is_no_factor (token.Mark marks.Plus) x e = (refl, refl)
+sign_is_no_factor (token.Mark marks.Minus) x e = (refl, refl)
+sign_is_no_factor t x e = absurd cc
+
+relation_is_no_operator : (t : Token) (x : Relation) → relation_at (Some t) ≡ Some x → NoOperator (Some t)
+relation_is_no_operator (token.Mark marks.AtMost) x e = (refl, refl, refl)
+relation_is_no_operator (token.Mark marks.AtLeast) x e = (refl, refl, refl)
+relation_is_no_operator (token.Mark marks.Equals) x e = (refl, refl, refl)
+relation_is_no_operator t x e = absurd cc
+
+name_starts_name : (t : Token) (x : List ℕ) → name_at (Some t) ≡ Some x → start_at (Some t) ≡ start.Name
+name_starts_name (token.Name y) x e = refl
+name_starts_name t x e = absurd cc
+
+-- ---- products and sums, over what reads a unary
+
+module _ (n : ℕ) (u : Reader Node) (U : ℕ → Rule Node) (reads : Parses n u NoOpen U) where
+  parses_operand : (a : Node) (f : Factor) → Parses n (operand u a f) NoOpen (λ m. g.operand (U m) a f)
+  parses_operand a factors.Times = parses_then n u _ NoOpen NoOpen _ _ reads (λ b. parses_gives n _ NoOpen) (λ m b. starts_gives _ NoOpen NoOpen (λ h s. s))
+  parses_operand a (factors.Literal op) = parses_next n _ _ NoOpen _ _ (parses_int roles.Plain n) (λ k. parses_gives n _ NoOpen)
+
+  product_turns : Turns n (λ _. is_factor_at) (product_more u) NoOpen NoFactor (λ a m. g.product_more (U m) a)
+  product_turns = record {
+    each = λ a. parses_next n _ _ NoOpen _ _ (parses_factor n) (λ f. parses_operand a f);
+    some = λ m a b text p. long_front g.factor _ (long_means factor_at roles.Node) text b p;
+    begins = λ m a b text rest p s. starts_by g.factor _ NoOpen (Passing is_factor_at) (starts_means factor_at roles.Node Any (Passing is_factor_at) factor_is_factor) text rest b p s;
+    follows = λ m a b text rest p s. starts_by g.factor _ NoOpen NoOpen (starts_means factor_at roles.Node Any NoOpen factor_is_no_open) text rest b p s;
+    stops = λ a h e. e.1;
+    ends = λ h e. e.0;
+  }
+
+  pub product_unroll : (a : Node) (s : At) → while is_factor_at (product_more u) a s ≡ choose is_factor_at (product_more u a >>= while is_factor_at (product_more u)) (gives a) s
+  product_unroll a s = loop_unroll n _ _ NoOpen NoFactor _ product_turns a s
+
+  pub parses_product : Parses n (product_of u) NoFactor (λ m. g.product (U m))
+  parses_product =
+      parses_then n u _ NoOpen NoFactor _ _ reads (λ a. parses_loop n _ _ NoOpen NoFactor _ product_turns a)
+      (λ m a. loop_follows n _ _ NoOpen NoFactor _ product_turns m a)
+
+module _ (n : ℕ) (p : Reader Node) (P : ℕ → Rule Node) (reads : Parses n p NoFactor P) where
+  sum_turns : Turns n (λ _. is_sign_at) (sum_more p) NoFactor NoOperator (λ a m. g.sum_more (P m) a)
+  sum_turns = record {
+    each = λ a. parses_next n _ _ NoFactor _ _ (parses_sign n roles.Node) (λ negative.
+        parses_then n p _ NoFactor NoFactor _ _ reads (λ b. parses_gives n _ NoFactor) (λ m b. starts_gives _ NoFactor NoFactor (λ h s. s)));
+    some = λ m a b text q. long_front (g.sign roles.Node) _ (long_means sign_at roles.Node) text b q;
+    begins = λ m a b text rest q s. starts_by (g.sign roles.Node) _ NoFactor (Passing is_sign_at) (starts_means sign_at roles.Node Any (Passing is_sign_at) sign_is_sign) text rest b q s;
+    follows = λ m a b text rest q s. starts_by (g.sign roles.Node) _ NoFactor NoFactor (starts_means sign_at roles.Node Any NoFactor sign_is_no_factor) text rest b q s;
+    stops = λ a h e. e.2;
+    ends = λ h e. (e.0, e.1);
+  }
+
+  pub sum_unroll : (a : Node) (s : At) → while is_sign_at (sum_more p) a s ≡ choose is_sign_at (sum_more p a >>= while is_sign_at (sum_more p)) (gives a) s
+  sum_unroll a s = loop_unroll n _ _ NoFactor NoOperator _ sum_turns a s
+
+  pub parses_sum : Parses n (sum_of p) NoOperator (λ m. g.sums (P m))
+  parses_sum =
+      parses_then n p _ NoFactor NoOperator _ _ reads (λ a. parses_loop n _ _ NoFactor NoOperator _ sum_turns a)
+      (λ m a. loop_follows n _ _ NoFactor NoOperator _ sum_turns m a)
+
+-- ---- what opens a level
+
+ends_mark : {Y : Type 0} (m : Mark) (role : Role) (Q : Unit {0} → Rule Y) (T : Follow) → NoOperator (Some (token.Mark m)) → Starts (Then (g.mark m role) Q) T NoOperator
+ends_mark m role Q T f = starts_with (token.Mark m) role Q T NoOperator f
+
+module _ (n : ℕ) (u : Reader Node) (U : ℕ → Rule Node) (reads : Parses n u NoOpen U) where
+  pub parses_negation : Parses n (negation u) NoOpen (λ m. g.negation (U m))
+  parses_negation =
+      parses_next n _ _ NoOpen _ _ (parses_mark n marks.Minus roles.Node) (λ _.
+      parses_then n u _ NoOpen NoOpen _ _ reads (λ a. parses_gives n _ NoOpen) (λ m a. starts_gives _ NoOpen NoOpen (λ h s. s)))
+
+module _ (n : ℕ) (e : Reader Node) (E : ℕ → Rule Node) (reads : Parses n e NoOperator E) where
+  -- the last operand, and the parenthesis behind it
+  last : (f : Node → Node) → Parses n (e >>= λ a. mark marks.CloseRound roles.Plain >>= λ _. gives (f a)) Any (λ m. Then (E m) (λ a. Then (g.mark marks.CloseRound roles.Plain) (λ _. Gives (f a))))
+  last f = parses_then n e _ NoOperator Any _ _ reads (λ a. parses_next n _ _ Any _ _ (parses_mark n marks.CloseRound roles.Plain) (λ _. parses_gives n (f a) Any)) (λ m a. ends_mark marks.CloseRound roles.Plain _ Any (refl, refl, refl))
+
+  pub parses_group : Parses n (group e) Any (λ m. g.group (E m))
+  parses_group = parses_next n _ _ Any _ _ (parses_mark n marks.OpenRound roles.Plain) (λ _. last (λ a. a))
+
+  pub parses_absolute : Parses n (absolute e) Any (λ m. g.absolute (E m))
+  parses_absolute =
+      parses_next n _ _ Any _ _ (parses_word n words.Abs roles.Node) (λ _.
+      parses_next n _ _ Any _ _ (parses_mark n marks.OpenRound roles.Plain) (λ _. last _))
+
+  pub parses_pair : (op : BinaryOp) → Parses n (pair op e) Any (λ m. g.pair (word_of op) op (E m))
+  parses_pair op =
+      parses_next n _ _ Any _ _ (parses_word n (word_of op) roles.Node) (λ _.
+      parses_next n _ _ Any _ _ (parses_mark n marks.OpenRound roles.Plain) (λ _.
+      parses_then n e _ NoOperator Any _ _ reads (λ a.
+      parses_next n _ _ Any _ _ (parses_mark n marks.Comma roles.Plain) (λ _. last _))
+      (λ m a. ends_mark marks.Comma roles.Plain _ Any (refl, refl, refl))))
+
+  pub parses_clamped : Parses n (clamped e) Any (λ m. g.clamped (E m))
+  parses_clamped =
+      parses_next n _ _ Any _ _ (parses_word n words.Clamp roles.Node) (λ _.
+      parses_next n _ _ Any _ _ (parses_mark n marks.OpenRound roles.Plain) (λ _.
+      parses_then n e _ NoOperator Any _ _ reads (λ a.
+      parses_next n _ _ Any _ _ (parses_mark n marks.Comma roles.Plain) (λ _.
+      parses_then n e _ NoOperator Any _ _ reads (λ b.
+      parses_next n _ _ Any _ _ (parses_mark n marks.Comma roles.Plain) (λ _. last _))
+      (λ m b. ends_mark marks.Comma roles.Plain _ Any (refl, refl, refl))))
+      (λ m a. ends_mark marks.Comma roles.Plain _ Any (refl, refl, refl))))
+
+  pub parses_selected : Parses n (selected e) Any (λ m. g.selected (E m))
+  parses_selected =
+      parses_next n _ _ Any _ _ (parses_word n words.Select roles.Node) (λ _.
+      parses_next n _ _ Any _ _ (parses_mark n marks.OpenRound roles.Plain) (λ _.
+      parses_then n e _ NoOperator Any _ _ reads (λ a.
+      parses_next n _ _ Any _ _ (parses_relation n) (λ r.
+      parses_then n e _ NoOperator Any _ _ reads (λ b.
+      parses_next n _ _ Any _ _ (parses_mark n marks.Comma roles.Plain) (λ _.
+      parses_then n e _ NoOperator Any _ _ reads (λ c.
+      parses_next n _ _ Any _ _ (parses_mark n marks.Comma roles.Plain) (λ _. last _))
+      (λ m c. ends_mark marks.Comma roles.Plain _ Any (refl, refl, refl))))
+      (λ m b. ends_mark marks.Comma roles.Plain _ Any (refl, refl, refl))))
+      (λ m a. starts_by g.relation _ Any NoOperator (starts_means relation_at roles.Plain Any NoOperator relation_is_no_operator))))
+
+-- ---- unaries, by what they begin with
+
+deeper_ends : {X : Type 0} (D E : Type 0) (c : Counts) (x : X) (text : List Tagged) (rest : List Token) (a : Answer X) → (D → E) → Ends D c x text rest a → Ends E c x text rest a
+deeper_ends D E c x text rest (Ok a) up e = e
+deeper_ends D E c x text rest (Err h) up (inl e) = inl (e.0, up e.1)
+deeper_ends D E c x text rest (Err h) up (inr e) = inr e
+
+deeper : {X : Type 0} (D E : Type 0) (r : Reader X) (S : Follow) (R : Rule X) → (D → E) → All D r S R → All E r S R
+deeper D E r S R up p = record { read_all = λ c text rest x h t. deeper_ends D E c x text rest (r (state c (on text rest))) up (p.read_all c text rest x h t) }
+
+-- what no level matters to
+at_levels : {X : Type 0} (deep : Type 0) (r : Reader X) (S : Follow) (R : Rule X) → Parses 0 r S (λ _. R) → All deep r S R
+at_levels deep r S R p = deeper (0 < 0) deep r S R (λ less. absurd (omega (arith, less))) (p.all 0)
+
+module _ (deep : Type 0) (open_level : Opening → Reader Node) where
+  leaf_all : All deep (by_key start_at (unary_by open_level)) NoOpen leaf
+  leaf_all =
+      let key = key_all start_at (unary_by open_level) deep NoOpen in
+      let any = λ (r : Reader Node) (R : Rule Node) (p : All deep r Any R). all_weaker deep r Any NoOpen R (λ h s. tt) p in
+      or_all deep _ NoOpen _ _
+      (or_all deep _ NoOpen _ _
+      (key g.literal_number start.Number (starts_by (g.int roles.Node) _ NoOpen (λ h. start_at h ≡ start.Number) (starts_int roles.Node Any (λ h. start_at h ≡ start.Number) (λ k. refl) refl))
+      (any literal_number g.literal_number (at_levels deep literal_number Any g.literal_number (parses_literal_number 0))))
+      (key g.named start.Name (starts_by (g.name roles.Node) _ NoOpen (λ h. start_at h ≡ start.Name) (starts_means name_at roles.Node Any (λ h. start_at h ≡ start.Name) name_starts_name))
+      (at_levels deep named NoOpen g.named (parses_named 0))))
+      (key g.a_stencil start.Stencil (starts_with (token.Word words.Stencil) roles.Node _ NoOpen (λ h. start_at h ≡ start.Stencil) refl)
+      (any a_stencil g.a_stencil (at_levels deep a_stencil Any g.a_stencil (parses_stencil 0))))
+
+  -- what opens a level, each as the rule says
+  levels_all : (U E : Rule Node) → All deep (open_level opening.Minus) NoOpen (g.negation U) → All deep (open_level opening.Group) NoOpen (g.group E) → All deep (open_level (opening.Pair Min)) NoOpen (g.pair words.Min Min E) → All deep (open_level (opening.Pair Max)) NoOpen (g.pair words.Max Max E) → All deep (open_level opening.Abs) NoOpen (g.absolute E) → All deep (open_level opening.Clamp) NoOpen (g.clamped E) → All deep (open_level opening.Select) NoOpen (g.selected E) → All deep (by_key start_at (unary_by open_level)) NoOpen (leaf or g.opened U E)
+  levels_all U E negated grouped least most absolute clamped selected =
+      let key = key_all start_at (unary_by open_level) deep NoOpen in
+      or_all deep _ NoOpen _ _ leaf_all
+      (or_all deep _ NoOpen _ _
+      (or_all deep _ NoOpen _ _
+      (or_all deep _ NoOpen _ _
+      (or_all deep _ NoOpen _ _
+      (or_all deep _ NoOpen _ _
+      (or_all deep _ NoOpen _ _
+      (key (g.negation U) (start.Opening opening.Minus) (starts_with (token.Mark marks.Minus) roles.Node _ NoOpen (λ h. start_at h ≡ start.Opening opening.Minus) refl) negated)
+      (key (g.group E) (start.Opening opening.Group) (starts_with (token.Mark marks.OpenRound) roles.Plain _ NoOpen (λ h. start_at h ≡ start.Opening opening.Group) refl) grouped))
+      (key (g.pair words.Min Min E) (start.Opening (opening.Pair Min)) (starts_with (token.Word words.Min) roles.Node _ NoOpen (λ h. start_at h ≡ start.Opening (opening.Pair Min)) refl) least))
+      (key (g.pair words.Max Max E) (start.Opening (opening.Pair Max)) (starts_with (token.Word words.Max) roles.Node _ NoOpen (λ h. start_at h ≡ start.Opening (opening.Pair Max)) refl) most))
+      (key (g.absolute E) (start.Opening opening.Abs) (starts_with (token.Word words.Abs) roles.Node _ NoOpen (λ h. start_at h ≡ start.Opening opening.Abs) refl) absolute))
+      (key (g.clamped E) (start.Opening opening.Clamp) (starts_with (token.Word words.Clamp) roles.Node _ NoOpen (λ h. start_at h ≡ start.Opening opening.Clamp) refl) clamped))
+      (key (g.selected E) (start.Opening opening.Select) (starts_with (token.Word words.Select) roles.Node _ NoOpen (λ h. start_at h ≡ start.Opening opening.Select) refl) selected))
+
+-- ---- the levels
+
+leaf_has : HasText leaf
+leaf_has = has_within g.literal_number leaf (λ text x p. inl (inl p)) (parses_literal_number 0).has
+
+leaf_in_unary : (n : ℕ) → Within leaf (Unary n)
+unfolding Unary
+leaf_in_unary zero text x p = p
+leaf_in_unary (suc n) text x p = inl p
+
+unary_has : (n : ℕ) → HasText (Unary n)
+unary_has n = has_within leaf (Unary n) (leaf_in_unary n) leaf_has
+
+-- what a level that is opened stands for
+abbrev Level : ℕ → Rule Node
+Level n = g.opened (Unary n) (g.sums (g.product (Unary n)))
+
+level_in_unary : (n : ℕ) → Within (Level n) (Unary (suc n))
+unfolding Unary
+level_in_unary n text x p = inr p
+
+-- the rule of each opening
+abbrev opened_rule : Rule Node → Rule Node → Opening → Rule Node
+opened_rule U E opening.Minus = g.negation U
+opened_rule U E opening.Group = g.group E
+opened_rule U E opening.Abs = g.absolute E
+opened_rule U E opening.Clamp = g.clamped E
+opened_rule U E opening.Select = g.selected E
+opened_rule U E (opening.Pair op) = g.pair (word_of op) op E
+
+pair_word : (w : Word) (op : BinaryOp) → start_at (Some (token.Word w)) ≡ start.Opening (opening.Pair op) → (op ≡ Min) ⊎ (op ≡ Max)
+pair_word words.Min op e = inl cc
+pair_word words.Max op e = inr cc
+pair_word w op e = absurd cc
+
+no_pair_mark : (m : Mark) (op : BinaryOp) → start_at (Some (token.Mark m)) ≡ start.Opening (opening.Pair op) → ⊥
+no_pair_mark marks.Minus op e = cc
+no_pair_mark marks.OpenRound op e = cc
+no_pair_mark m op e = cc
+
+-- `min` and `max` are the only pairs
+pair_is : (h : Option Token) (op : BinaryOp) → start_at h ≡ start.Opening (opening.Pair op) → (op ≡ Min) ⊎ (op ≡ Max)
+pair_is (Some (token.Word w)) op e = pair_word w op e
+pair_is (Some (token.Mark m)) op e = absurd (no_pair_mark m op e)
+pair_is (Some t) op e = absurd cc
+pair_is None op e = absurd cc
+
+opened_within : (U E : Rule Node) (h : Option Token) (o : Opening) → start_at h ≡ start.Opening o → Within (opened_rule U E o) (g.opened U E)
+opened_within U E h opening.Minus e text x p = inl (inl (inl (inl (inl (inl p)))))
+opened_within U E h opening.Group e text x p = inl (inl (inl (inl (inl (inr p)))))
+opened_within U E h opening.Abs e text x p = inl (inl (inr p))
+opened_within U E h opening.Clamp e text x p = inl (inr p)
+opened_within U E h opening.Select e text x p = inr p
+opened_within U E h (opening.Pair op) e text x p = within_pair (pair_is h op e)
+  where
+    within_pair : (op ≡ Min) ⊎ (op ≡ Max) → g.opened U E text x
+    within_pair (inl is) = inl (inl (inl (inl (inr (subst (λ (q : BinaryOp). g.pair (word_of q) q E text x) is p)))))
+    within_pair (inr is) = inl (inl (inl (inr (subst (λ (q : BinaryOp). g.pair (word_of q) q E text x) is p))))
+
+-- a rule that begins with a token goes on with it
+going_with : (t : Token) (role : Role) (Q : Unit {0} → Rule Node) → fits t ≡ true → HasText (Q tt) → GoesOn (Then (token_rule t role) Q) [] (Some t) (λ u. fits u.token ≡ true)
+going_with t role Q good q = record {
+  next = tagged t role;
+  more = q.text;
+  value = q.value;
+  ahead_is = refl;
+  holds = good;
+  rule = record { front = tagged t role ∷ []; back = q.text; value = tt; parts = refl; first = record { text_is = refl; value = refl }; second = q.rule };
+}
+
+goes_within : (R Q : Rule Node) (h : Option Token) (P : Tagged → Type 0) → Within R Q → GoesOn R [] h P → GoesOn Q [] h P
+goes_within R Q h P up f = record { next = f.next; more = f.more; value = f.value; ahead_is = f.ahead_is; rule = up _ _ f.rule; holds = f.holds }
+
+mark_has : (m : Mark) (role : Role) → HasText (g.mark m role)
+mark_has m role = (parses_mark 0 m role).has
+
+zero_many : (T : Node → Rule Node) (a : Node) → HasText (many T a)
+zero_many T a = record { text = []; value = a; rule = record { which = 0; it = record { empty = refl; value = refl } } }
+
+sum_has : HasText (g.sums (g.product (Unary 0)))
+sum_has = then_has (g.product (Unary 0)) _ (then_has (Unary 0) _ (unary_has 0) (λ a. zero_many (g.product_more (Unary 0)) a)) (λ a. zero_many (g.sum_more (g.product (Unary 0))) a)
+
+closes : (f : Node → Node) → HasText (Then (g.sums (g.product (Unary 0))) (λ a. Then (g.mark marks.CloseRound roles.Plain) (λ _. Gives (f a))))
+closes f = then_has _ _ sum_has (λ a. then_has _ _ (mark_has marks.CloseRound roles.Plain) (λ _. (parses_gives 0 (f a) Any).has))
+
+-- an argument, and what is behind the comma
+argument : (Q : Node → Rule Node) → ((a : Node) → HasText (Q a)) → HasText (Then (g.sums (g.product (Unary 0))) (λ a. Then (g.mark marks.Comma roles.Plain) (λ _. Q a)))
+argument Q has = then_has _ _ sum_has (λ a. then_has _ _ (mark_has marks.Comma roles.Plain) (λ _. has a))
+
+-- a level that is opened has its place, if there is one more level
+too_deep : (h : Option Token) (o : Opening) → start_at h ≡ start.Opening o → GoesOn (Unary 1) [] h (λ t. fits t.token ≡ true)
+too_deep (Some (token.Mark marks.Minus)) o e =
+    goes_within (g.negation (Unary 0)) (Unary 1) _ _ (λ text x p. level_in_unary 0 text x (inl (inl (inl (inl (inl (inl p)))))))
+    (going_with (token.Mark marks.Minus) roles.Node _ refl (then_has _ _ (unary_has 0) (λ a. (parses_gives 0 _ Any).has)))
+too_deep (Some (token.Mark marks.OpenRound)) o e =
+    goes_within (g.group (g.sums (g.product (Unary 0)))) (Unary 1) _ _ (λ text x p. level_in_unary 0 text x (inl (inl (inl (inl (inl (inr p)))))))
+    (going_with (token.Mark marks.OpenRound) roles.Plain _ refl (closes (λ a. a)))
+too_deep (Some (token.Word words.Min)) o e =
+    goes_within (g.pair words.Min Min (g.sums (g.product (Unary 0)))) (Unary 1) _ _ (λ text x p. level_in_unary 0 text x (inl (inl (inl (inl (inr p))))))
+    (going_with (token.Word words.Min) roles.Node _ refl (then_has _ _ (mark_has marks.OpenRound roles.Plain) (λ _. argument _ (λ a. closes _))))
+too_deep (Some (token.Word words.Max)) o e =
+    goes_within (g.pair words.Max Max (g.sums (g.product (Unary 0)))) (Unary 1) _ _ (λ text x p. level_in_unary 0 text x (inl (inl (inl (inr p)))))
+    (going_with (token.Word words.Max) roles.Node _ refl (then_has _ _ (mark_has marks.OpenRound roles.Plain) (λ _. argument _ (λ a. closes _))))
+too_deep (Some (token.Word words.Abs)) o e =
+    goes_within (g.absolute (g.sums (g.product (Unary 0)))) (Unary 1) _ _ (λ text x p. level_in_unary 0 text x (inl (inl (inr p))))
+    (going_with (token.Word words.Abs) roles.Node _ refl (then_has _ _ (mark_has marks.OpenRound roles.Plain) (λ _. closes _)))
+too_deep (Some (token.Word words.Clamp)) o e =
+    goes_within (g.clamped (g.sums (g.product (Unary 0)))) (Unary 1) _ _ (λ text x p. level_in_unary 0 text x (inl (inr p)))
+    (going_with (token.Word words.Clamp) roles.Node _ refl (then_has _ _ (mark_has marks.OpenRound roles.Plain) (λ _. argument _ (λ a. argument _ (λ b. closes _)))))
+too_deep (Some (token.Word words.Select)) o e =
+    goes_within (g.selected (g.sums (g.product (Unary 0)))) (Unary 1) _ _ (λ text x p. level_in_unary 0 text x (inr p))
+    (going_with (token.Word words.Select) roles.Node _ refl (then_has _ _ (mark_has marks.OpenRound roles.Plain) (λ _.
+    then_has _ _ sum_has (λ a. then_has _ _ (parses_relation 0).has (λ r. argument _ (λ b. argument _ (λ c. closes _)))))))
+too_deep (Some t) o e = absurd cc
+too_deep None o e = absurd cc
+
+-- what opens no level, with any reader of levels
+leaf_sound : (open_level : Opening → Reader Node) (R W : Rule Node) → Within leaf R → Within leaf W → (s : At) → ((o : Opening) → start_at (head s.rest) ≡ start.Opening o → Sound (open_level o) R W s (open_level o s)) → (k : Start) → start_at (head s.rest) ≡ k → Sound (unary_by open_level k) R W s (unary_by open_level k s)
+leaf_sound open_level R W up wide s opens start.Number e = widen literal_number g.literal_number g.literal_number R W s (literal_number s) (λ text x p. up text x (inl (inl p))) (λ text x p. wide text x (inl (inl p))) ((parses_literal_number 0).sound s)
+leaf_sound open_level R W up wide s opens start.Name e = widen named g.named g.named R W s (named s) (λ text x p. up text x (inl (inr p))) (λ text x p. wide text x (inl (inr p))) ((parses_named 0).sound s)
+leaf_sound open_level R W up wide s opens start.Stencil e = widen a_stencil g.a_stencil g.a_stencil R W s (a_stencil s) (λ text x p. up text x (inr p)) (λ text x p. wide text x (inr p)) ((parses_stencil 0).sound s)
+leaf_sound open_level R W up wide s opens (start.Opening o) e = opens o e
+leaf_sound open_level R W up wide s opens start.Nothing e = refuse_sound R W (has_within leaf R up leaf_has) s
+
+stop_deep : (s : At) (o : Opening) → start_at (head s.rest) ≡ start.Opening o → Sound (stop TooDeep) (Unary 0) (Unary 1) s (stop TooDeep s)
+stop_deep s o e =
+    let l = unary_has 0 in
+    record {
+      text = [];
+      last = s.rest;
+      counts = s.counts;
+      parts = refl;
+      left = refl;
+      few = refl;
+      again = λ more e'. refl;
+      more = l.text;
+      value = l.value;
+      begins = l.rule;
+      reaches = too_deep (head s.rest) o e;
+    }
+
+deep_all : (deep : Type 0) (R : Rule Node) → deep → All deep (stop TooDeep) NoOpen R
+deep_all deep R d = record { read_all = λ c text rest x p s. inl (refl, d) }
+
+zero_all : (m : ℕ) → All (0 < m) (unary_at 0) NoOpen (Unary m)
+unfolding unary_at Unary
+zero_all zero = leaf_all (0 < 0) (λ _. stop TooDeep)
+zero_all (suc m) =
+    let D = 0 < suc m in
+    let d : D = omega arith in
+    levels_all D (λ _. stop TooDeep) (Unary m) (g.sums (g.product (Unary m))) (deep_all D _ d) (deep_all D _ d) (deep_all D _ d) (deep_all D _ d) (deep_all D _ d) (deep_all D _ d) (deep_all D _ d)
+
+zero_wider : Within (Unary 0) (Unary 1)
+unfolding Unary
+zero_wider text x p = inl p
+
+zero_sound : (s : At) → Sound (unary_at 0) (Unary 0) (Unary 1) s (unary_at 0 s)
+unfolding unary_at
+zero_sound s = key_sound start_at (unary_by (λ _. stop TooDeep)) (Unary 0) (Unary 1) s (leaf_sound (λ _. stop TooDeep) (Unary 0) (Unary 1) (leaf_in_unary 0) (leaf_in_unary 1) s (stop_deep s) (start_at (head s.rest)) refl)
+
+zero_parses : Parses 0 (unary_at 0) NoOpen Unary
+zero_parses = record { sound = zero_sound; wider = zero_wider; has = unary_has 0; all = zero_all }
+
+module _ (n : ℕ) (reads : Parses n (unary_at n) NoOpen Unary) where
+  abbrev E : ℕ → Rule Node
+  E m = g.sums (g.product (Unary m))
+
+  abbrev u : Reader Node
+  u = unary_at n
+
+  abbrev e : Reader Node
+  e = sum_of (product_of (unary_at n))
+
+  inner : Parses n e NoOperator (λ m. g.sums (g.product (Unary m)))
+  inner = parses_sum n (product_of u) (λ m. g.product (Unary m)) (parses_product n u Unary reads)
+
+  open_sound : (s : At) (o : Opening) → Sound (opened u e o) (opened_rule (Unary n) (E n) o) (opened_rule (Unary (suc n)) (E (suc n)) o) s (opened u e o s)
+  open_sound s opening.Minus = (parses_negation n u Unary reads).sound s
+  open_sound s opening.Group = (parses_group n e E inner).sound s
+  open_sound s opening.Abs = (parses_absolute n e E inner).sound s
+  open_sound s opening.Clamp = (parses_clamped n e E inner).sound s
+  open_sound s opening.Select = (parses_selected n e E inner).sound s
+  open_sound s (opening.Pair op) = (parses_pair n e E inner op).sound s
+
+  open_within : (s : At) (o : Opening) → start_at (head s.rest) ≡ start.Opening o → Sound (opened u e o) (Unary (suc n)) (Unary (suc (suc n))) s (opened u e o s)
+  open_within s o is =
+      widen (opened u e o) (opened_rule (Unary n) (E n) o) (opened_rule (Unary (suc n)) (E (suc n)) o) (Unary (suc n)) (Unary (suc (suc n))) s (opened u e o s)
+      (λ text x p. level_in_unary n text x (opened_within (Unary n) (E n) (head s.rest) o is text x p))
+      (λ text x p. level_in_unary (suc n) text x (opened_within (Unary (suc n)) (E (suc n)) (head s.rest) o is text x p))
+      (open_sound s o)
+
+  next_sound : (s : At) → Sound (unary_at (suc n)) (Unary (suc n)) (Unary (suc (suc n))) s (unary_at (suc n) s)
+  unfolding unary_at
+  next_sound s =
+      key_sound start_at (unary_by (opened u e)) (Unary (suc n)) (Unary (suc (suc n))) s
+      (leaf_sound (opened u e) (Unary (suc n)) (Unary (suc (suc n))) (leaf_in_unary (suc n)) (leaf_in_unary (suc (suc n))) s (open_within s) (start_at (head s.rest)) refl)
+
+  next_wider : Within (Unary (suc n)) (Unary (suc (suc n)))
+  unfolding Unary
+  next_wider =
+      or_wider leaf _ leaf _ (λ text x p. p)
+      (or_wider _ _ _ _
+      (or_wider _ _ _ _
+      (or_wider _ _ _ _
+      (or_wider _ _ _ _
+      (or_wider _ _ _ _
+      (or_wider _ _ _ _
+      (parses_negation n u Unary reads).wider
+      (parses_group n e E inner).wider)
+      (parses_pair n e E inner Min).wider)
+      (parses_pair n e E inner Max).wider)
+      (parses_absolute n e E inner).wider)
+      (parses_clamped n e E inner).wider)
+      (parses_selected n e E inner).wider)
+
+  next_all : (m : ℕ) → All (suc n < m) (unary_at (suc n)) NoOpen (Unary m)
+  unfolding unary_at Unary
+  next_all zero = leaf_all (suc n < 0) (opened u e)
+  next_all (suc m) =
+      let D = suc n < suc m in
+      let up : n < m → D = λ less. omega (arith, less) in
+      let any = λ (r : Reader Node) (R : Rule Node) (p : All (n < m) r Any R). deeper (n < m) D r NoOpen R up (all_weaker (n < m) r Any NoOpen R (λ h s. tt) p) in
+      levels_all D (opened u e) (Unary m) (E m)
+      (deeper (n < m) D (negation u) NoOpen (g.negation (Unary m)) up ((parses_negation n u Unary reads).all m))
+      (any (group e) (g.group (E m)) ((parses_group n e E inner).all m))
+      (any (pair Min e) (g.pair words.Min Min (E m)) ((parses_pair n e E inner Min).all m))
+      (any (pair Max e) (g.pair words.Max Max (E m)) ((parses_pair n e E inner Max).all m))
+      (any (absolute e) (g.absolute (E m)) ((parses_absolute n e E inner).all m))
+      (any (clamped e) (g.clamped (E m)) ((parses_clamped n e E inner).all m))
+      (any (selected e) (g.selected (E m)) ((parses_selected n e E inner).all m))
+
+  next_parses : Parses (suc n) (unary_at (suc n)) NoOpen Unary
+  next_parses = record { sound = next_sound; wider = next_wider; has = unary_has (suc n); all = next_all }
+
+pub parses_unary : (n : ℕ) → Parses n (unary_at n) NoOpen Unary
+parses_unary zero = zero_parses
+parses_unary (suc n) = next_parses n (parses_unary n)
+
+pub parses_product_at : (n : ℕ) → Parses n (product_at n) NoFactor Product
+unfolding product_at Product
+parses_product_at n = parses_product n (unary_at n) Unary (parses_unary n)
+
+pub parses_expression : (n : ℕ) → Parses n (expression_at n) NoOperator Expression
+unfolding expression_at Expression
+parses_expression n = parses_sum n (product_at n) Product (parses_product_at n)
+
+-- ---- one turn of each loop
+
+pub product_at_unroll : (n : ℕ) (a : Node) (s : At) → while is_factor_at (product_more (unary_at n)) a s ≡ choose is_factor_at (product_more (unary_at n) a >>= while is_factor_at (product_more (unary_at n))) (gives a) s
+product_at_unroll n a s = product_unroll n (unary_at n) Unary (parses_unary n) a s
+
+pub expression_unroll : (n : ℕ) (a : Node) (s : At) → while is_sign_at (sum_more (product_at n)) a s ≡ choose is_sign_at (sum_more (product_at n) a >>= while is_sign_at (sum_more (product_at n))) (gives a) s
+expression_unroll n a s = sum_unroll n (product_at n) Product (parses_product_at n) a s

@@ -1,0 +1,13 @@
+pub mod AffineLaws
+pub mod Bytes
+pub mod ExpressionLaws
+pub mod Halts
+pub mod IndexLaws
+pub mod ItemLaws
+pub mod Laws
+pub mod LoopLaws
+pub mod ProgramLaws
+pub mod SizeLaws
+pub mod StartLaws
+pub mod Theorems
+pub mod TokenLaws

@@ -1,0 +1,118 @@
+-- A tree as plain data, without where its parts lie in memory. Names are their bytes, affine sums the lists of their
+-- terms, conditions the lists of their tests and kernels the lists of their rows.
+use Rattle.std.specs.Prelude.{ℕ, ℤ, List, map, Option}
+use Rattle.std.specs.Option.{option_map}
+use Rattle.pipe_tree.specs.declared.tree.Test.{Test}
+use Rattle.pipe_tree.specs.declared.tree.Index.{Index}
+use Rattle.domains.specs.declared.operators.BinaryOp.{BinaryOp}
+use Rattle.domains.specs.declared.operators.LiteralOp.{LiteralOp}
+use Rattle.domains.specs.declared.operators.Relation.{Relation}
+use Rattle.domains.specs.declared.operators.Fold.{Fold}
+use Rattle.pipe_tree.specs.declared.tree.AffineSpan.{AffineSpan}
+use Rattle.pipe_tree.specs.declared.tree.Variable.{Variable}
+use Rattle.pipe_tree.specs.declared.tree.Param.{Param}
+use Rattle.pipe_tree.specs.declared.tree.Image.{Image}
+use Rattle.pipe_tree.specs.declared.tree.Output.{Output}
+use Rattle.pipe_tree.specs.declared.tree.Case.{Case}
+use Rattle.pipe_tree.specs.declared.tree.Cases.{Cases}
+use Rattle.pipe_tree.specs.declared.tree.Func.{Func}
+use Rattle.pipe_tree.specs.declared.tree.Accum.{Accum}
+use Rattle.pipe_tree.specs.declared.tree.Item.{Item}
+use Rattle.pipe_tree.specs.declared.tree.Item.TheVariants as items
+use Rattle.pipe_tree.specs.declared.tree.Expr.{Expr}
+use Rattle.pipe_tree.specs.declared.tree.Expr.TheVariants.{Number, Name, Read, Neg', Binary', Literal', Abs', Clamp', Select', Stencil}
+use Rattle.pipe_tree.specs.declared.tree.Tree.{Tree}
+
+-- ---- the data
+
+-- an expression
+pub data Node : Type 0 where
+  number : ℕ → Node
+  variable : List ℕ → Node
+  read : List ℕ → Index → Index → Node
+  neg : Node → Node
+  binary : BinaryOp → Node → Node → Node
+  literal : LiteralOp → Node → ℕ → Node
+  abs : Node → Node
+  clamp : Node → Node → Node → Node
+  select : Node → Relation → Node → Node → Node → Node
+  stencil : List ℕ → ℕ → List (List ℤ) → Node
+
+-- a case of a function
+pub record Branch : Type 0 where
+  pub condition : List Test
+  pub value : Node
+
+pub record Function : Type 0 where
+  pub name : List ℕ
+  pub row : Variable
+  pub column : Variable
+  pub cases : List Branch
+  pub otherwise : Option Node
+
+pub record Accumulator : Type 0 where
+  pub name : List ℕ
+  pub bins : AffineSpan
+  pub row : Variable
+  pub column : Variable
+  pub fold : Fold
+  pub value : Node
+  pub bin : Node
+
+-- an item
+pub data Declaration : Type 0 where
+  param : Param → Declaration
+  image : Image → Declaration
+  function : Function → Declaration
+  accumulator : Accumulator → Declaration
+  output : Output → Declaration
+
+-- ---- what is seen of the tree in memory
+
+abbrev pub view : Expr → Node
+view (Number n) = number n
+view (Name x) = variable x
+view (Read x i j) = read x i j
+view (Neg' p a) = neg (view a)
+view (Binary' op p a q b) = binary op (view a) (view b)
+view (Literal' op p a n) = literal op (view a) n
+view (Abs' p a) = abs (view a)
+view (Clamp' p a q b r c) = clamp (view a) (view b) (view c)
+view (Select' p a relation q b r c s d) = select (view a) relation (view b) (view c) (view d)
+view (Stencil x d kernel) = stencil x d kernel
+
+abbrev pub branch : Case → Branch
+branch c = record { condition = c.condition; value = view c.value }
+
+-- the cases in the order of the text
+abbrev pub cases_of : Cases → List Case
+cases_of cs = cs.cases.items
+
+abbrev pub branches : List Case → List Branch
+branches cs = map branch cs
+
+abbrev pub function_of : Func → Function
+function_of f =
+    record { name = f.name; row = f.row; column = f.column; cases = branches (cases_of f.cases); otherwise = option_map view f.otherwise }
+
+abbrev pub accumulator_of : Accum → Accumulator
+accumulator_of a =
+    record { name = a.name; bins = a.bins; row = a.row; column = a.column; fold = a.fold; value = view a.value; bin = view a.bin }
+
+abbrev pub declaration : Item → Declaration
+declaration (items.Param p) = param p
+declaration (items.Image i) = image i
+declaration (items.Func f) = function (function_of f)
+declaration (items.Accum a) = accumulator (accumulator_of a)
+declaration (items.Output o) = output o
+
+abbrev pub declarations : List Item → List Declaration
+declarations is = map declaration is
+
+-- the items in the order of the text
+abbrev pub items_of : Tree → List Item
+items_of tree = tree.items.items
+
+-- all that a tree says
+abbrev pub content : Tree → List Declaration
+content tree = declarations (items_of tree)

@@ -1,0 +1,114 @@
+#![tactic(auto)]
+//! Why a text has no tree.
+
+ghost use Rattle.std.specs.Prelude.{◌≡◌, ◌≤◌, Option, Some, None, IfSome};
+ghost use Rattle.pipe_tree.specs.declared.fault.ParseFault.TheVariants as faults;
+ghost use Rattle.pipe_tree.specs.FaultLine.{number_of, name_of, offset_of};
+
+use std::alloc::AllocError;
+use thiserror::Error;
+
+/// Why a text has no tree, and where: the offset of a byte of the text, or its length.
+#[derive(Clone, Copy, Debug, PartialEq, Eq, Error)]
+pub enum ParseFault {
+    /// 1: a byte of 128 or more, in a comment too.
+    #[error("byte {0} is no ASCII character")]
+    NotAscii(usize),
+    /// 2: a byte that begins no token, a name of more than 32 bytes, or digits with a letter or `_` behind them.
+    #[error("no token begins at byte {0}")]
+    BadToken(usize),
+    /// 3: a token with which the tokens before it begin no program, or the end of a text that is none.
+    #[error("byte {0} is unexpected")]
+    Unexpected(usize),
+    /// 4: a number above 2147483647, where a number may stand.
+    #[error("the number at byte {0} is too big")]
+    NumberTooBig(usize),
+    /// 5: the token that opens a level too many.
+    #[error("level {max} is passed at byte {0}", max = crate::limits::MAX_LEVELS)]
+    TooDeep(usize),
+    /// 6: a text of more than 65536 bytes.
+    #[error("the text is longer than {0} bytes")]
+    TooLong(usize),
+    /// 7: one stage, parameter, case or expression node too many.
+    #[error("one too many at byte {0}")]
+    TooMany(usize),
+    /// 8: no memory was left.
+    #[error("out of memory")]
+    Memory,
+}
+
+impl ParseFault {
+    /// The fault's number.
+    pub fn number(&self) -> u8
+        ensures { result ≡ number_of self.now }
+    {
+        match self {
+            ParseFault::NotAscii(_) => 1,
+            ParseFault::BadToken(_) => 2,
+            ParseFault::Unexpected(_) => 3,
+            ParseFault::NumberTooBig(_) => 4,
+            ParseFault::TooDeep(_) => 5,
+            ParseFault::TooLong(_) => 6,
+            ParseFault::TooMany(_) => 7,
+            ParseFault::Memory => 8,
+        }
+    }
+
+    /// The fault's name.
+    pub fn name(&self) -> &'static str
+        ensures { result.now ≡ name_of self.now }
+    {
+        match self {
+            ParseFault::NotAscii(_) => "NotAscii",
+            ParseFault::BadToken(_) => "BadToken",
+            ParseFault::Unexpected(_) => "Unexpected",
+            ParseFault::NumberTooBig(_) => "NumberTooBig",
+            ParseFault::TooDeep(_) => "TooDeep",
+            ParseFault::TooLong(_) => "TooLong",
+            ParseFault::TooMany(_) => "TooMany",
+            ParseFault::Memory => "Memory",
+        }
+    }
+
+    /// Where the fault stands. Memory has no place.
+    pub fn offset(&self) -> Option<usize>
+        ensures { result ≡ offset_of self.now }
+    {
+        match self {
+            ParseFault::NotAscii(offset)
+            | ParseFault::BadToken(offset)
+            | ParseFault::Unexpected(offset)
+            | ParseFault::NumberTooBig(offset)
+            | ParseFault::TooDeep(offset)
+            | ParseFault::TooLong(offset)
+            | ParseFault::TooMany(offset) => Some(*offset),
+            ParseFault::Memory => None,
+        }
+    }
+}
+
+impl From<AllocError> for ParseFault {
+    ghost from_gives = { λ _ e. e ≡ faults.Memory };
+
+    fn from(_e: AllocError) -> ParseFault {
+        ParseFault::Memory
+    }
+}
+
+/// What is wrong with a list of tokens.
+#[derive(Clone, Copy)]
+pub enum Kind {
+    NotAscii,
+    BadToken,
+    Unexpected,
+    NumberTooBig,
+    TooDeep,
+    TooMany,
+}
+
+/// A fault, and how many tokens are left where it stands.
+#[derive(Clone, Copy)]
+pub struct Halt {
+    pub kind: Kind,
+    pub left: usize,
+}

@@ -1,8 +1,0 @@
-use Rattle.std.proofs.Common.{sym, ap, ◌∙◌, subst}
-use Rattle.pipe_lang.specs.Tree.{declarations, items_of}
-use Rattle.pipe_checks.specs.Checking.{IsFault}
-use Rattle.tilefarm.proofs.accepted.accept.Goals as goal
-
-pub refusal-requires : goal.refusal-requires
-refusal-requires c =
-    subst (λ is. IsFault (declarations is) c.in-Err.fault) (sym (c.items.ensures ∙ ap items_of c.in-Err.ensures.back)) c.in-Err.ensures.fault

@@ -1,6 +1,0 @@
-use Rattle.std.proofs.Common.{ℕ, ◌<◌, IsTrue}
-use Rattle.tilefarm.specs.Sections.{separates}
-use Rattle.tilefarm.proofs.sections.split_section.Given as goal
-
-abbrev pub invariant-loop-at : goal.invariant-loop-at
-invariant-loop-at l = (k : ℕ) → k < l.at → ¬ IsTrue (separates l.input k)
