@@ -1,6 +1,7 @@
 #![tactic(auto)]
 //! Tiles and sums of small cases that were worked by hand.
 
+use crate::wanted::{holds, tells};
 use domains::arithmetic::add_widened;
 use domains::{Area, Grid, Span, TileSides};
 use std::test::Fail;
@@ -11,6 +12,16 @@ fn area(rows: (i32, i32), cols: (i32, i32)) -> Option<Area> {
     Some(Area { rows, cols })
 }
 
+/// The first and the last row of an area, and its first and last column.
+pub(crate) fn ends(area: &Area) -> (i32, i32, i32, i32) {
+    (
+        area.rows.lo(),
+        area.rows.hi(),
+        area.cols.lo(),
+        area.cols.hi(),
+    )
+}
+
 fn grid(area: Area, height: u32, width: u32) -> Result<Grid, Fail> {
     let sides = TileSides::new(height, width).ok_or("no sides")?;
     Ok(Grid::new(area, sides))
@@ -19,23 +30,23 @@ fn grid(area: Area, height: u32, width: u32) -> Result<Grid, Fail> {
 // A function of two rows and two columns, in tiles of one point, is read as a whole.
 #[test]
 fn halves_then_doubles(rt: HostRuntime) -> Result<(), Fail> {
+    let alloc = rt.alloc();
     let domain = area((0, 1), (0, 1)).ok_or("no area")?;
-    let tiles = grid(domain, 1, 1)?.cover(rt.alloc(), &domain)?;
-    assert_eq!(rt;
-        tiles.as_slice(),
-        [(0, 0), (0, 1), (1, 0), (1, 1)].as_slice()
-    );
-    Ok(())
+    let tiles = grid(domain, 1, 1)?.cover(alloc, &domain)?;
+    tells(alloc, &tiles, "[(0, 0), (0, 1), (1, 0), (1, 1)]")
+}
+
+// The last tile of a grid of three by three, and the tile in which a point lies.
+fn has_tiles(grid: &Grid) -> Option<bool> {
+    let is_placed = grid.tile_of(-2, 1) == Some((1, 1));
+    Some(is_placed && grid.tiles() == 9 && ends(&grid.tile(2, 2)?) == (1, 2, 3, 3))
 }
 
 #[test]
-fn tiles_from_a_negative_origin(rt: HostRuntime) -> Result<(), Fail> {
+fn tiles_from_a_negative_origin() -> Result<(), Fail> {
     let domain = area((-5, 2), (-1, 3)).ok_or("no area")?;
     let grid = grid(domain, 3, 2)?;
-    assert_eq!(rt; grid.tiles(), 9);
-    assert_eq!(rt; grid.tile(2, 2), area((1, 2), (3, 3)));
-    assert_eq!(rt; grid.tile_of(-2, 1), Some((1, 1)));
-    Ok(())
+    holds(has_tiles(&grid), "tiles from a negative origin")
 }
 
 #[test]

@@ -2,8 +2,11 @@
 //! Schedules that the greedy rule chooses, and what they cost.
 
 ghost use Rattle.std.specs.Prelude.{◌≤◌};
+ghost use Rattle.job.specs.Kept.{pipeline_in};
+ghost use Rattle.job.specs.WellFormed.{IsJob};
 
-use crate::binding::job_of;
+use crate::bound_jobs::job_of;
+use crate::wanted::{holds, tells};
 use grouping::{Schedule, ScheduleFault};
 use job::Job;
 use std::alloc::Global;
@@ -21,61 +24,89 @@ const SIX: &[u8] =
 
 const ONE: &[u8] = b"P5 1 1 1\n\0";
 
-// What each stage costs, or that it is inlined; of a plane a dash.
-fn told(alloc: Global, job: &Job, schedule: &Schedule) -> Result<String, Fail> {
-    let mut words = String::new(alloc);
-    for number in 0..job.stages().len() {
-        let word = match schedule.cost(number) {
-            Some(cost) => format!(in alloc; " {cost}")?,
-            None if schedule.inlined(number) => format!(in alloc; " inlined")?,
-            None => format!(in alloc; "-")?,
-        };
-        words.push_str(word.as_str())?;
-    }
-    Ok(words)
+/// What a schedule does with a stage: nothing with a plane.
+#[derive(Clone, Copy, Debug)]
+enum Choice {
+    Plane,
+    Inlined,
+    Costs(u64),
 }
 
-// The greedy schedule of a program, as `told` has it.
+fn choice_at(schedule: &Schedule, stage: usize) -> Choice {
+    match schedule.cost(stage) {
+        Some(cost) => Choice::Costs(cost),
+        None if schedule.inlined(stage) => Choice::Inlined,
+        None => Choice::Plane,
+    }
+}
+
+fn makes(alloc: Global, job: &Job, schedule: &Schedule, wanted: &str) -> Result<(), Fail> {
+    let mut choices = Vec::new(alloc);
+    for stage in 0..job.stages().len() {
+        choices.push(choice_at(schedule, stage))?;
+    }
+    tells(alloc, &choices, wanted)
+}
+
+// Compares the choices of the greedy schedule of a job.
+fn chooses(alloc: Global, job: &Job, percent: u32, wanted: &str) -> Result<(), Fail>
+    requires job { IsJob (pipeline_in job.now) }
+    requires percent { percent ≤ 10000 }
+{
+    let schedule = Schedule::greedy(alloc, job, percent)?;
+    makes(alloc, job, &schedule, wanted)
+}
+
 fn greedy(
     alloc: Global,
     text: &str,
     picture: &[u8],
     side: u32,
     percent: u32,
-) -> Result<String, Fail>
+    wanted: &str,
+) -> Result<(), Fail>
     requires { percent ≤ 10000 }
 {
     let job = job_of(alloc, text, &[], picture, (side, side))?;
-    let schedule = Schedule::greedy(alloc, &job, percent)?;
-    told(alloc, &job, &schedule)
+    chooses(alloc, &job, percent, wanted)
 }
 
 // Small tiles compute the points around them too often.
 #[test]
 fn inlines_where_that_takes_few_points(rt: HostRuntime) -> Result<(), Fail> {
     let alloc = rt.alloc();
-    assert_eq!(rt; greedy(alloc, CHAIN, SIX, 2, 40)?.as_str(), "- inlined 20");
-    assert_eq!(rt; greedy(alloc, CHAIN, SIX, 1, 40)?.as_str(), "- 16 4");
-    assert_eq!(rt; greedy(alloc, CHAIN, SIX, 1, 100)?.as_str(), "- inlined 40");
-    Ok(())
+    greedy(alloc, CHAIN, SIX, 2, 40, "[Plane, Inlined, Costs(20)]")?;
+    greedy(alloc, CHAIN, SIX, 1, 40, "[Plane, Costs(16), Costs(4)]")?;
+    greedy(alloc, CHAIN, SIX, 1, 100, "[Plane, Inlined, Costs(40)]")
+}
+
+// Flags that inline the output are refused.
+fn refuses_to_inline(alloc: Global, job: &Job) -> Result<(), Fail>
+    requires { IsJob (pipeline_in job.now) }
+{
+    let all = [true, true, true];
+    if all.len() != job.stages().len() {
+        return Err(Fail::new("not as many flags as stages"));
+    }
+    let refused = match Schedule::of(alloc, job, &all) {
+        Ok(_) => None,
+        Err(fault) => Some(fault == ScheduleFault::OutputInlined(2)),
+    };
+    holds(refused, "the output is not inlined")
+}
+
+fn refuses_output(alloc: Global) -> Result<(), Fail> {
+    let job = job_of(alloc, CHAIN, &[], SIX, (2, 2))?;
+    refuses_to_inline(alloc, &job)
 }
 
 #[test]
 fn outputs_are_stored(rt: HostRuntime) -> Result<(), Fail> {
     let alloc = rt.alloc();
-    let job = job_of(alloc, CHAIN, &[], SIX, (2, 2))?;
-    let all = [true, true, true];
-    if all.len() != job.stages().len() {
-        return Err(Fail::new("not as many flags as stages"));
-    }
-    match Schedule::of(alloc, &job, &all) {
-        Ok(_) => return Err(Fail::new("a schedule")),
-        Err(fault) => assert_eq!(rt; fault, ScheduleFault::OutputInlined(2)),
-    }
+    refuses_output(alloc)?;
     let read =
         "image I(1,1); func f(x in [0..0], y in [0..0]) { else : 1; } func g(x in [0..0], y in [0..0]) { else : f(x,y); } output f max 1;";
-    assert_eq!(rt; greedy(alloc, read, ONE, 1, 40)?.as_str(), "- 1 1");
-    Ok(())
+    greedy(alloc, read, ONE, 1, 40, "[Plane, Costs(1), Costs(1)]")
 }
 
 #[test]
@@ -83,14 +114,24 @@ fn inlines_where_one_stage_has_all_readers(rt: HostRuntime) -> Result<(), Fail> 
     let alloc = rt.alloc();
     let diamond =
         "image I(1,1); func a(x in [0..0], y in [0..0]) { else : 1; } func b(x in [0..0], y in [0..0]) { else : a(x,y); } func c(x in [0..0], y in [0..0]) { else : a(x,y); } func d(x in [0..0], y in [0..0]) { else : b(x,y) + c(x,y); } output d max 1;";
-    assert_eq!(rt;
-        greedy(alloc, diamond, ONE, 1, 40)?.as_str(),
-        "- inlined inlined inlined 4"
-    );
+    greedy(
+        alloc,
+        diamond,
+        ONE,
+        1,
+        40,
+        "[Plane, Inlined, Inlined, Inlined, Costs(4)]",
+    )?;
     let parted =
         "image I(1,1); func a(x in [0..0], y in [0..0]) { else : 1; } func b(x in [0..0], y in [0..0]) { else : a(x,y); } accum h [0..0] over (x in [0..0], y in [0..0]) sum a(x,y) at 0; output b max 1;";
-    assert_eq!(rt; greedy(alloc, parted, ONE, 1, 40)?.as_str(), "- 1 1 1");
-    Ok(())
+    greedy(
+        alloc,
+        parted,
+        ONE,
+        1,
+        40,
+        "[Plane, Costs(1), Costs(1), Costs(1)]",
+    )
 }
 
 // A box of 8,192 by 8,192 points has room, and one of 8,193 by 8,193 has none.
@@ -99,17 +140,24 @@ fn inlines_where_there_is_room(rt: HostRuntime) -> Result<(), Fail> {
     let alloc = rt.alloc();
     let most =
         "image I(1,1); func a(x in [0..8192], y in [0..8192]) { else : 1; } func b(x in [0..1023], y in [0..1023]) { else : a(8*x, 8*y) + a(8*x+7, 8*y+7); } output b max 255;";
-    assert_eq!(rt;
-        greedy(alloc, most, ONE, 1024, 40)?.as_str(),
-        "- inlined 68157440"
-    );
+    greedy(
+        alloc,
+        most,
+        ONE,
+        1024,
+        40,
+        "[Plane, Inlined, Costs(68157440)]",
+    )?;
     let more =
         "image I(1,1); func a(x in [0..8192], y in [0..8192]) { else : 1; } func b(x in [0..1023], y in [0..1023]) { else : a(8*x, 8*y) + a(8*x+8, 8*y+8); } output b max 255;";
-    assert_eq!(rt;
-        greedy(alloc, more, ONE, 1024, 40)?.as_str(),
-        "- 67125249 1048576"
-    );
-    Ok(())
+    greedy(
+        alloc,
+        more,
+        ONE,
+        1024,
+        40,
+        "[Plane, Costs(67125249), Costs(1048576)]",
+    )
 }
 
 // Fifty functions over about 4,096 rows and columns, each a stencil of the one before it.
@@ -130,17 +178,26 @@ fn long_chain(alloc: Global) -> Result<String, Fail> {
     Ok(text)
 }
 
+// Whether a long chain's first function and the last that is read are inlined, and what the last function costs.
+fn has_ends(alloc: Global, job: &Job, wanted: &str) -> Result<(), Fail>
+    requires { IsJob (pipeline_in job.now) }
+{
+    let schedule = Schedule::greedy(alloc, job, 40)?;
+    let ends = (schedule.inlined(1), schedule.inlined(49), schedule.cost(50));
+    tells(alloc, &ends, wanted)
+}
+
+fn has_ends_at(alloc: Global, text: &str, side: u32, wanted: &str) -> Result<(), Fail> {
+    let job = job_of(alloc, text, &[], ONE, (side, side))?;
+    has_ends(alloc, &job, wanted)
+}
+
 // The costs are sums of squares: of the 3,998 rows and columns of the last function, and of so many more for each tile and
 // each function further back.
 #[test]
 fn long_chains_in_small_tiles(rt: HostRuntime) -> Result<(), Fail> {
     let alloc = rt.alloc();
     let text = long_chain(alloc)?;
-    for (side, cost) in [(128, 1591667400), (64, 2675170100)] {
-        let job = job_of(alloc, text.as_str(), &[], ONE, (side, side))?;
-        let schedule = Schedule::greedy(alloc, &job, 40)?;
-        assert_eq!(rt; schedule.cost(50), Some(cost));
-        assert_eq!(rt; (schedule.inlined(1), schedule.inlined(49)), (true, true));
-    }
-    Ok(())
+    has_ends_at(alloc, &text, 128, "(true, true, Some(1591667400))")?;
+    has_ends_at(alloc, &text, 64, "(true, true, Some(2675170100))")
 }

@@ -1,38 +1,68 @@
 #![tactic(auto)]
 //! The identities of jobs, beside digests that another program computed of the same bytes, and the keys of their tiles.
 
-use crate::binding::job_of;
-use job::{InputId, Key, ProgramId};
-use std::str;
+use crate::bound_jobs::job_of;
+use crate::wanted::{holds, reads, says, shows};
+use identity::{InputId, Key, ProgramId};
+use job::Job;
+use std::alloc::Global;
 use std::test::Fail;
 
 /// A program that copies a grey picture.
 const COPY: &str =
     "param R; param C; image I(R,C); func f(x in [0..R-1], y in [0..C-1]) { else : I(x,y); } output f max 255;";
 
+// The bytes of what a program is given, two digits of each.
+fn has_input(alloc: Global, job: &Job, wanted: &str) -> Result<(), Fail> {
+    let bytes = job.input_bytes(alloc)?;
+    says(&hex::encode(alloc, bytes.as_slice())?, wanted)
+}
+
+fn has_grey(alloc: Global, job: &Job) -> Result<(), Fail> {
+    has_input(
+        alloc,
+        job,
+        "505449310000000200000002000201520000000201430000000250350a3220320a3235350a01020304",
+    )?;
+    shows(
+        alloc,
+        &job.input_id(),
+        "fd17eda6718699f8da71d309eb34c2ee2e0220a4b9694dd8c3c44b40c42d07d9",
+    )?;
+    reads(
+        job.program_text(),
+        "param R;param C;image I(R,C);func f(x in[0..R-1],y in[0..C-1]){else:I(x,y);}output f max 255;",
+    )?;
+    shows(
+        alloc,
+        &job.program_id(),
+        "7609cadcb0ed4eaee5ebfe5f461d6a2841e6f0d0e0ee23c3dd1cd942a2385118",
+    )
+}
+
 #[test]
 fn bytes_of_a_grey_input(rt: HostRuntime) -> Result<(), Fail> {
     let alloc = rt.alloc();
     let job = job_of(alloc, COPY, &[], b"P2 2 2 255 1 2 3 4\n", (2, 2))?;
-    let bytes = job.input_bytes(alloc)?;
-    assert_eq!(rt; bytes.len(), 41);
-    assert_eq!(rt;
-        hex::encode(alloc, bytes.as_slice())?.as_str(),
-        "505449310000000200000002000201520000000201430000000250350a3220320a3235350a01020304"
-    );
-    assert_eq!(rt;
-        format!(in alloc; "{}", job.input_id())?.as_str(),
-        "fd17eda6718699f8da71d309eb34c2ee2e0220a4b9694dd8c3c44b40c42d07d9"
-    );
-    assert_eq!(rt;
-        str::from_utf8(job.program_text())?,
-        "param R;param C;image I(R,C);func f(x in[0..R-1],y in[0..C-1]){else:I(x,y);}output f max 255;"
-    );
-    assert_eq!(rt;
-        format!(in alloc; "{}", job.program_id())?.as_str(),
-        "7609cadcb0ed4eaee5ebfe5f461d6a2841e6f0d0e0ee23c3dd1cd942a2385118"
-    );
-    Ok(())
+    has_grey(alloc, &job)
+}
+
+fn has_colours(alloc: Global, job: &Job) -> Result<(), Fail> {
+    has_input(
+        alloc,
+        job,
+        "5054493100000003000004000002014efffffffe096c6f6e675f6e616d650000012c50360a3120310a3235360a000101000003",
+    )?;
+    shows(
+        alloc,
+        &job.input_id(),
+        "f115d67296cc102105aa0ad5d7603a20589441fed23c4cfa1b1e9fa2b141c52b",
+    )?;
+    shows(
+        alloc,
+        &job.program_id(),
+        "902fce8bccc9519eab9136ccd6bdeeefe2475d01905a7a71de27b871bc200a7f",
+    )
 }
 
 #[test]
@@ -42,40 +72,37 @@ fn bytes_of_a_coloured_input(rt: HostRuntime) -> Result<(), Fail> {
         "param N; param long_name; image r,g,b(1,1); func f(x in [0..0], y in [0..0]) { else : r(x,y); } output f max 1;";
     let values = [("long_name", 300), ("N", -2)];
     let job = job_of(alloc, text, &values, b"P3 1 1 256 1 256 3", (3, 1024))?;
-    assert_eq!(rt;
-        hex::encode(alloc, job.input_bytes(alloc)?.as_slice())?.as_str(),
-        "5054493100000003000004000002014efffffffe096c6f6e675f6e616d650000012c50360a3120310a3235360a000101000003"
-    );
-    assert_eq!(rt;
-        format!(in alloc; "{}", job.input_id())?.as_str(),
-        "f115d67296cc102105aa0ad5d7603a20589441fed23c4cfa1b1e9fa2b141c52b"
-    );
-    assert_eq!(rt;
-        format!(in alloc; "{}", job.program_id())?.as_str(),
-        "902fce8bccc9519eab9136ccd6bdeeefe2475d01905a7a71de27b871bc200a7f"
-    );
-    Ok(())
+    has_colours(alloc, &job)
+}
+
+// The key of the last tile has the job's identities and the tile's place.
+fn has_last_key(job: &Job) -> Option<bool> {
+    let last = job.key(1, 1, 1)?;
+    let is_of_job = last.program == job.program_id() && last.input == job.input_id();
+    Some(is_of_job && (last.stage, last.row, last.col) == (1, 1, 1))
+}
+
+fn has_keys_in_order(job: &Job) -> Option<bool> {
+    let (before, last) = (job.key(1, 1, 0)?, job.key(1, 1, 1)?);
+    Some(before < last)
+}
+
+// There is no key beyond the last row, beyond the last column, of a plane, and of what is no stage.
+fn has_no_other_keys(job: &Job) -> bool {
+    let is_beyond = job.key(1, 2, 0).is_none() && job.key(1, 0, 2).is_none();
+    is_beyond && job.key(0, 0, 0).is_none() && job.key(2, 0, 0).is_none()
+}
+
+fn has_keys(job: &Job) -> Result<(), Fail> {
+    holds(has_last_key(job), "the key of the last tile")?;
+    holds(has_keys_in_order(job), "keys in order")?;
+    holds(Some(has_no_other_keys(job)), "no other keys")
 }
 
 #[test]
 fn keys_of_tiles(rt: HostRuntime) -> Result<(), Fail> {
-    let alloc = rt.alloc();
-    let job = job_of(alloc, COPY, &[], b"P2 3 2 255 1 2 3 4 5 6", (1, 2))?;
-    let Some(last) = job.key(1, 1, 1) else {
-        return Err(Fail::new("no key"));
-    };
-    assert_eq!(rt; last.program, job.program_id());
-    assert_eq!(rt; last.input, job.input_id());
-    assert_eq!(rt; (last.stage, last.row, last.col), (1, 1, 1));
-    assert_eq!(rt; job.key(1, 2, 0), None);
-    assert_eq!(rt; job.key(1, 0, 2), None);
-    assert_eq!(rt; job.key(0, 0, 0), None);
-    assert_eq!(rt; job.key(2, 0, 0), None);
-    match job.key(1, 1, 0) {
-        Some(before) => assert!(rt; before < last),
-        None => return Err(Fail::new("no key")),
-    }
-    Ok(())
+    let job = job_of(rt.alloc(), COPY, &[], b"P2 3 2 255 1 2 3 4 5 6", (1, 2))?;
+    has_keys(&job)
 }
 
 // A key whose identities are these bytes, each 32 times.
@@ -102,6 +129,8 @@ fn fields_of_keys_in_order(rt: HostRuntime) -> Result<(), Fail> {
     for number in 1..6usize {
         assert!(rt; rising[number - 1] < rising[number]);
     }
-    assert_eq!(rt; key_of(1, 2, (3, 4, 5)), key_of(1, 2, (3, 4, 5)));
-    Ok(())
+    holds(
+        Some(key_of(1, 2, (3, 4, 5)) == key_of(1, 2, (3, 4, 5))),
+        "equal fields",
+    )
 }

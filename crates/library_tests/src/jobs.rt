@@ -1,9 +1,10 @@
 #![tactic(auto)]
 //! What is read of a program that is bound to a picture.
 
-use crate::binding::job_of;
-use job::{Body, Function, Job, StageKind};
-use pipe_lang::Fold;
+use crate::bound_jobs::job_of;
+use crate::wanted::{holds, tells};
+use domains::Fold;
+use job::{Body, Function, Job, Piece, StageKind};
 use std::alloc::Global;
 use std::test::Fail;
 
@@ -18,29 +19,31 @@ fn bound(alloc: Global) -> Result<Job, Fail> {
     job_of(alloc, PROGRAM, &[], b"P2 3 2 9 1 2 3 4 5 6", (1, 1))
 }
 
+fn has_stages(job: &Job) -> Option<bool> {
+    let (area, grid) = (job.domain(1)?, job.grid(1)?);
+    let is_counted = (job.stages().len(), area.points(), grid.tiles()) == (3, 2, 2);
+    let is_plane = job.kind(0) == Some(StageKind::Plane) && job.grid(0).is_none();
+    let is_told = is_plane && job.rank(2) == Some(2);
+    Some(is_counted && is_told && job.name(1)?.as_bytes() == b"f".as_slice())
+}
+
 #[test]
 fn stages_by_number(rt: HostRuntime) -> Result<(), Fail> {
     let job = bound(rt.alloc())?;
-    assert_eq!(rt; job.stages().len(), 3);
-    assert_eq!(rt; job.kind(0), Some(StageKind::Plane));
-    assert_eq!(rt; job.rank(2), Some(2));
-    let name = job.name(1).ok_or("no name")?;
-    assert_eq!(rt; name.as_bytes(), b"f".as_slice());
-    assert_eq!(rt; job.domain(1).map(|area| area.points()), Some(2));
-    assert_eq!(rt; job.grid(1).map(|grid| grid.tiles()), Some(2));
-    assert_eq!(rt; job.grid(0), None);
-    Ok(())
+    holds(has_stages(&job), "a plane, a function and an accumulator")
+}
+
+fn has_settings(job: &Job) -> Option<bool> {
+    let output = job.output().as_ref()?;
+    let is_written = output.stages() == [1].as_slice() && output.max() == 255;
+    let sizes = (job.picture().rows(), job.sides().height());
+    Some(is_written && job.params().first()?.value == 2 && sizes == (2, 1))
 }
 
 #[test]
 fn what_a_program_was_bound_to(rt: HostRuntime) -> Result<(), Fail> {
     let job = bound(rt.alloc())?;
-    let output = job.output().as_ref().ok_or("no output")?;
-    assert_eq!(rt; output.stages(), [1].as_slice());
-    assert_eq!(rt; output.max(), 255);
-    assert_eq!(rt; job.params().first().map(|param| param.value), Some(2));
-    assert_eq!(rt; (job.picture().rows(), job.sides().height()), (2, 1));
-    Ok(())
+    holds(has_settings(&job), "an output, a parameter and a picture")
 }
 
 fn function_of(job: &Job) -> Option<&Function> {
@@ -50,50 +53,64 @@ fn function_of(job: &Job) -> Option<&Function> {
     }
 }
 
+fn tells_of_piece(alloc: Global, piece: &Piece) -> Result<(), Fail> {
+    let area = piece.area().ok_or("no area")?;
+    holds(Some(area.points() == 1), "a piece of one point")?;
+    tells(
+        alloc,
+        &piece.tests(),
+        "[Compare(Row, AtLeast, 1), Remainder(Column, 2, 1)]",
+    )?;
+    tells(
+        alloc,
+        &piece.formula(),
+        "Stencil(0, 1, Kernel { rows: [Factors { factors: [1, 10, -100] }] })",
+    )
+}
+
+fn tells_of_function(alloc: Global, job: &Job) -> Result<(), Fail> {
+    let function = function_of(job).ok_or("no function")?;
+    tells_of_piece(alloc, function.pieces().first().ok_or("no piece")?)?;
+    tells(
+        alloc,
+        &function.otherwise(),
+        "Some(Read(0, Index { mul: 1, add: 0, div: 1 }, Index { mul: 1, add: -1, div: 1 }))",
+    )
+}
+
 #[test]
 fn names_of_a_function_become_numbers(rt: HostRuntime) -> Result<(), Fail> {
-    let alloc = rt.alloc();
-    let job = bound(alloc)?;
-    let function = function_of(&job).ok_or("no function")?;
-    let piece = function.pieces().first().ok_or("no piece")?;
-    assert_eq!(rt; piece.area().map(|area| area.points()), Some(1));
-    let tests = format!(in alloc; "{:?}", piece.tests())?;
-    assert_eq!(rt;
-        tests.as_str(),
-        "[Compare(Row, AtLeast, 1), Remainder(Column, 2, 1)]"
-    );
-    let formula = format!(in alloc; "{:?}", piece.formula())?;
-    assert_eq!(rt;
-        formula.as_str(),
-        "Stencil(0, 1, Kernel { rows: [Factors { factors: [1, 10, -100] }] })"
-    );
-    let otherwise = format!(in alloc; "{:?}", function.otherwise())?;
-    assert_eq!(rt;
-        otherwise.as_str(),
-        "Some(Read(0, Index { mul: 1, add: 0, div: 1 }, Index { mul: 1, add: -1, div: 1 }))"
-    );
-    Ok(())
+    let job = bound(rt.alloc())?;
+    tells_of_function(rt.alloc(), &job)
+}
+
+fn has_bins(job: &Job) -> Option<bool> {
+    let is_gathered = job.op(2) == Some(Fold::Max) && job.bins(2)?.hi() == 3;
+    Some(is_gathered && job.bins(1).is_none())
 }
 
 #[test]
 fn accumulators_have_bins(rt: HostRuntime) -> Result<(), Fail> {
     let job = bound(rt.alloc())?;
-    assert_eq!(rt; job.op(2), Some(Fold::Max));
-    assert_eq!(rt; job.bins(2).map(|bins| bins.hi()), Some(3));
-    assert_eq!(rt; job.bins(1), None);
-    Ok(())
+    holds(
+        has_bins(&job),
+        "an accumulator has bins, and a function none",
+    )
+}
+
+fn tells_of_reads(alloc: Global, job: &Job) -> Result<(), Fail> {
+    let stage = job.stage(2).ok_or("no stage")?;
+    let reads = stage.reads(alloc)?;
+    tells(
+        alloc,
+        &reads,
+        "[Point(1, Index { mul: 1, add: 0, div: 1 }, Index { mul: 1, add: 0, div: 1 }), Point(0, Index { mul: 1, add: 0, div: 1 }, Index { mul: 1, add: 1, div: 1 })]",
+    )
 }
 
 // The reads of an accumulator's number stand before those of its bin.
 #[test]
 fn reads_in_text_order(rt: HostRuntime) -> Result<(), Fail> {
-    let alloc = rt.alloc();
-    let job = bound(alloc)?;
-    let stage = job.stage(2).ok_or("no stage")?;
-    let reads = format!(in alloc; "{:?}", stage.reads(alloc)?.as_slice())?;
-    assert_eq!(rt;
-        reads.as_str(),
-        "[Point(1, Index { mul: 1, add: 0, div: 1 }, Index { mul: 1, add: 0, div: 1 }), Point(0, Index { mul: 1, add: 0, div: 1 }, Index { mul: 1, add: 1, div: 1 })]"
-    );
-    Ok(())
+    let job = bound(rt.alloc())?;
+    tells_of_reads(rt.alloc(), &job)
 }

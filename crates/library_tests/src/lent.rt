@@ -11,20 +11,20 @@ ghost use Rattle.tile_run.specs.Stored.{stored_tiles};
 ghost use Rattle.tile_run.specs.Work.{is_accumulator_at};
 ghost use Rattle.accumulators.specs.Partials.{IsAccumulatorPlan};
 
-use crate::plans::{CHAIN, CORNERS, POINTS_OF_SIXTEEN, bound, schedule_of};
+use crate::bound_jobs::job_of;
+use crate::plans::{CHAIN, CORNERS, ONES, SIXTEEN};
+use crate::runs::{chosen, has_few_stages, run, schedule_of};
 use crate::tiles::{PIPELINE, SAMPLES};
 use crate::totals::{ONE_TO_NINE, REMAINDERS};
+use crate::wanted::{holds, tells};
 use accumulators::partial;
 use grouping::Schedule;
-use job::{Job, Key, StageKind};
+use identity::Key;
+use job::{Job, StageKind};
 use overlap_tiles::TilePlan;
 use std::alloc::Global;
 use std::test::Fail;
-use tile_run::{EvalFault, Lender, Scratch, Stored, run_all, run_tile};
-
-/// Six rows of six samples that are 1.
-const ONES: &[u8] =
-    b"P2 6 6 1 1 1 1 1 1 1 1 1 1 1 1 1 1 1 1 1 1 1 1 1 1 1 1 1 1 1 1 1 1 1 1 1 1 1 1 1";
+use tile_run::{EvalFault, Lender, Scratch, Stored, run_tile};
 
 /// Lends no tile.
 struct Nothing;
@@ -108,19 +108,21 @@ fn numbers<K: Lender>(
     Ok(run_tile(alloc, job, schedule, &plan, &mut scratch, lender)?)
 }
 
-// What an accumulator gathers over a tile, by the tile's plan, where nothing is lent.
-fn bins(
+// Compares what an accumulator gathers over a tile, by the tile's plan, where nothing is lent.
+fn has_bins(
     alloc: Global,
     job: &Job,
     schedule: &Schedule,
     tile: (usize, u32, u32),
-) -> Result<Vec<i64>, Fail>
+    wanted: &str,
+) -> Result<(), Fail>
     requires job { IsJob (pipeline_in job.now) }
     requires few { length (pipeline_in job.now).stages ≤ 65536 }
 {
     let plan = plan_of_accumulator(alloc, job, schedule, tile.0, tile.1, tile.2)?;
     let mut scratch = Scratch::new(alloc);
-    Ok(partial(alloc, job, schedule, &plan, &mut scratch, &Nothing)?)
+    let bins = partial(alloc, job, schedule, &plan, &mut scratch, &Nothing)?;
+    tells(alloc, &bins, wanted)
 }
 
 // Compares each tile of a stage with the one that a run stored.
@@ -147,37 +149,53 @@ fn compare(
     Ok(())
 }
 
+// Compares the tiles of two stored functions, each of which reads an inlined one.
+fn compare_both(alloc: Global, job: &Job) -> Result<(), Fail>
+    requires { IsJob (pipeline_in job.now) }
+{
+    let schedule = schedule_of(alloc, job, &[false, true, false, true, false])?;
+    let stored = run(alloc, job, &schedule)?;
+    compare(alloc, job, &schedule, &stored, 2)?;
+    compare(alloc, job, &schedule, &stored, 4)
+}
+
 #[test]
 fn tiles_by_their_plans_are_those_of_a_run(rt: HostRuntime) -> Result<(), Fail> {
     let alloc = rt.alloc();
-    let job = bound(alloc, PIPELINE, SAMPLES, (2, 3))?;
-    let schedule = schedule_of(alloc, &job, &[false, true, false, true, false])?;
-    let stored = run_all(alloc, &job, &schedule)?;
-    compare(alloc, &job, &schedule, &stored, 2)?;
-    compare(alloc, &job, &schedule, &stored, 4)?;
-    Ok(())
+    let job = job_of(alloc, PIPELINE, &[], SAMPLES, (2, 3))?;
+    compare_both(alloc, &job)
+}
+
+fn are_gathered(alloc: Global, job: &Job) -> Result<(), Fail>
+    requires { IsJob (pipeline_in job.now) }
+{
+    has_few_stages(job)?;
+    let schedule = chosen(alloc, job, false)?;
+    has_bins(alloc, job, &schedule, (1, 0, 0), "[1, 2, 1, 0]")?;
+    has_bins(alloc, job, &schedule, (1, 1, 1), "[0, 1, 0, 0]")
 }
 
 #[test]
 fn partials_are_gathered_over_a_tile_alone(rt: HostRuntime) -> Result<(), Fail> {
     let alloc = rt.alloc();
-    let job = bound(alloc, REMAINDERS, ONE_TO_NINE, (2, 2))?;
-    let schedule = Schedule::stored(alloc, &job)?;
-    let first = bins(alloc, &job, &schedule, (1, 0, 0))?;
-    assert_eq!(rt; first.as_slice(), [1, 2, 1, 0].as_slice());
-    let last = bins(alloc, &job, &schedule, (1, 1, 1))?;
-    assert_eq!(rt; last.as_slice(), [0, 1, 0, 0].as_slice());
-    Ok(())
+    let job = job_of(alloc, REMAINDERS, &[], ONE_TO_NINE, (2, 2))?;
+    are_gathered(alloc, &job)
+}
+
+fn are_computed(alloc: Global, job: &Job) -> Result<(), Fail>
+    requires { IsJob (pipeline_in job.now) }
+{
+    has_few_stages(job)?;
+    let schedule = schedule_of(alloc, job, &[false, true, false])?;
+    let made = numbers(alloc, job, &schedule, (2, 0, 0), &Nothing)?;
+    tells(alloc, &made, "[81, 81, 81, 81]")
 }
 
 #[test]
 fn inlined_functions_are_computed_where_nothing_is_lent(rt: HostRuntime) -> Result<(), Fail> {
     let alloc = rt.alloc();
-    let job = bound(alloc, CHAIN, ONES, (2, 2))?;
-    let schedule = schedule_of(alloc, &job, &[false, true, false])?;
-    let made = numbers(alloc, &job, &schedule, (2, 0, 0), &Nothing)?;
-    assert_eq!(rt; made.as_slice(), [81, 81, 81, 81].as_slice());
-    Ok(())
+    let job = job_of(alloc, CHAIN, &[], ONES, (2, 2))?;
+    are_computed(alloc, &job)
 }
 
 // Which tile is missing, where one is.
@@ -188,17 +206,56 @@ fn missing<T>(made: &Result<T, EvalFault>) -> Option<Key> {
     }
 }
 
+// Which tile the first of a function misses where nothing is lent.
+fn missing_of_function(
+    alloc: Global,
+    job: &Job,
+    schedule: &Schedule,
+    stage: usize,
+) -> Result<Option<Key>, Fail>
+    requires job { IsJob (pipeline_in job.now) }
+    requires few { length (pipeline_in job.now).stages ≤ 65536 }
+{
+    let plan = plan_of_function(alloc, job, schedule, stage, 0, 0)?;
+    let mut scratch = Scratch::new(alloc);
+    let made = run_tile(alloc, job, schedule, &plan, &mut scratch, &Nothing);
+    Ok(missing(&made))
+}
+
+// Which tile the first of an accumulator misses where nothing is lent.
+fn missing_of_accumulator(
+    alloc: Global,
+    job: &Job,
+    schedule: &Schedule,
+    stage: usize,
+) -> Result<Option<Key>, Fail>
+    requires job { IsJob (pipeline_in job.now) }
+    requires few { length (pipeline_in job.now).stages ≤ 65536 }
+{
+    let plan = plan_of_accumulator(alloc, job, schedule, stage, 0, 0)?;
+    let mut scratch = Scratch::new(alloc);
+    let made = partial(alloc, job, schedule, &plan, &mut scratch, &Nothing);
+    Ok(missing(&made))
+}
+
+fn least_is_named(alloc: Global, job: &Job) -> Result<(), Fail>
+    requires { IsJob (pipeline_in job.now) }
+{
+    has_few_stages(job)?;
+    let schedule = schedule_of(alloc, job, &[false, false, false, false])?;
+    let of_function = missing_of_function(alloc, job, &schedule, 2)?;
+    let of_accumulator = missing_of_accumulator(alloc, job, &schedule, 3)?;
+    let least = job.key(1, 0, 0);
+    holds(Some(of_function == least), "a function names the least")?;
+    holds(
+        Some(of_accumulator == least),
+        "an accumulator names the least",
+    )
+}
+
 #[test]
 fn the_least_tile_that_is_not_lent_is_named(rt: HostRuntime) -> Result<(), Fail> {
     let alloc = rt.alloc();
-    let job = bound(alloc, CORNERS, POINTS_OF_SIXTEEN, (2, 2))?;
-    let schedule = schedule_of(alloc, &job, &[false, false, false, false])?;
-    let mut scratch = Scratch::new(alloc);
-    let plan = plan_of_function(alloc, &job, &schedule, 2, 0, 0)?;
-    let made = run_tile(alloc, &job, &schedule, &plan, &mut scratch, &Nothing);
-    assert_eq!(rt; missing(&made), job.key(1, 0, 0));
-    let plan = plan_of_accumulator(alloc, &job, &schedule, 3, 0, 0)?;
-    let made = partial(alloc, &job, &schedule, &plan, &mut scratch, &Nothing);
-    assert_eq!(rt; missing(&made), job.key(1, 0, 0));
-    Ok(())
+    let job = job_of(alloc, CORNERS, &[], SIXTEEN, (2, 2))?;
+    least_is_named(alloc, &job)
 }

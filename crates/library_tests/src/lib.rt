@@ -5,7 +5,7 @@
 #[cfg(test)]
 mod areas;
 #[cfg(test)]
-mod binding;
+mod bound_jobs;
 #[cfg(test)]
 mod greedy;
 #[cfg(test)]
@@ -19,6 +19,8 @@ mod pictures;
 #[cfg(test)]
 mod plans;
 #[cfg(test)]
+mod runs;
+#[cfg(test)]
 mod schedules;
 #[cfg(test)]
 mod texts;
@@ -28,3 +30,5 @@ mod tiles;
 mod totals;
 #[cfg(test)]
 mod values;
+#[cfg(test)]
+mod wanted;

@@ -1,10 +1,13 @@
 #![tactic(auto)]
 //! The spelling of pictures, and streams that fail.
 
-use netpbm::{Metered, raw, read, write_raw};
+use crate::wanted::holds;
+use netpbm::{Picture, raw, read, write_raw};
+use std::alloc::Global;
 use std::io;
 use std::io::Write;
 use std::test::Fail;
+use streams::Metered;
 
 #[test]
 fn picture_of_three_planes(rt: HostRuntime) -> Result<(), Fail> {
@@ -36,17 +39,25 @@ impl Write for Full {
     }
 }
 
+// Whether a picture is written but for what there is no room for, and one failure is counted where that is something.
+fn is_written(alloc: Global, picture: &Picture, whole: &[u8], room: usize) -> Option<bool> {
+    let taken = Vec::new(alloc);
+    let mut sink = Metered::new(Full { taken, room });
+    let is_written = write_raw(picture, &mut sink).is_ok();
+    let failures = if is_written { 0 } else { 1 };
+    let is_told = is_written == (room == whole.len()) && sink.failures == failures;
+    Some(is_told && sink.inner.taken.as_slice() == whole.get(..room)?)
+}
+
 #[test]
 fn part_before_a_failed_write(rt: HostRuntime) -> Result<(), Fail> {
     let picture = read(rt.alloc(), b"P2 2 1 7 1 2")?;
     let whole = b"P5\n2 1\n7\n\x01\x02".as_slice();
     for room in 0..=whole.len() {
-        let taken = Vec::new(rt.alloc());
-        let mut sink = Metered::new(Full { taken, room });
-        let is_written = write_raw(&picture, &mut sink).is_ok();
-        assert_eq!(rt; is_written, room == whole.len());
-        assert_eq!(rt; sink.failures, if is_written { 0 } else { 1 });
-        assert_eq!(rt; Some(sink.inner.taken.as_slice()), whole.get(..room));
+        holds(
+            is_written(rt.alloc(), &picture, whole, room),
+            "the part before a failure",
+        )?;
     }
     Ok(())
 }

@@ -1,16 +1,15 @@
 #![tactic(auto)]
 //! Plans of tiles.
 
-ghost use Rattle.std.specs.Prelude.{◌≡◌, ◌≤◌, length, IfOk};
 ghost use Rattle.job.specs.Kept.{pipeline_in};
 ghost use Rattle.job.specs.WellFormed.{IsJob};
-ghost use Rattle.grouping.specs.Inlining.{IsScheduleOf};
 
-use crate::binding::job_of;
-use domains::Area;
-use grouping::Schedule;
-use job::{Job, Key};
-use overlap_tiles::{PlanFault, TilePlan};
+use crate::areas::ends;
+use crate::bound_jobs::job_of;
+use crate::runs::{has_few_stages, schedule_of};
+use crate::wanted::tells;
+use job::Job;
+use overlap_tiles::{Step, TilePlan};
 use std::alloc::Global;
 use std::test::Fail;
 
@@ -51,159 +50,207 @@ func a(x in [0..8192], y in [0..8192]) { else : 1; }
 func b(x in [0..1023], y in [0..1023]) { else : a(8*x,8*y) + a(8*x+8,8*y+8); }
 output b max 255;";
 
-pub(crate) const POINTS_OF_SIXTEEN: &[u8] = b"P2 4 4 9 0 0 0 0 0 0 0 0 0 0 0 0 0 0 0 0";
+/// Pictures of one sample, of four, of sixteen, and of thirty-six that are 1.
+const ONE: &[u8] = b"P2 1 1 255 7";
 
-/// The job of a text, which has few stages.
-pub(crate) fn bound(alloc: Global, text: &str, file: &[u8], sides: (u32, u32)) -> Result<Job, Fail>
-    ensures job { IfOk result (λ job. IsJob (pipeline_in job)) }
-    ensures few { IfOk result (λ job. length (pipeline_in job).stages ≤ 64) }
-{
-    let job = job_of(alloc, text, &[], file, sides)?;
-    if job.stages().len() > 64 {
-        return Err(Fail::new("too many stages"));
-    }
-    Ok(job)
+const FOUR: &[u8] = b"P2 2 2 255 1 2 3 4";
+
+pub(crate) const SIXTEEN: &[u8] = b"P2 4 4 9 0 0 0 0 0 0 0 0 0 0 0 0 0 0 0 0";
+
+pub(crate) const ONES: &[u8] =
+    b"P2 6 6 1 1 1 1 1 1 1 1 1 1 1 1 1 1 1 1 1 1 1 1 1 1 1 1 1 1 1 1 1 1 1 1 1 1 1 1 1";
+
+/// A tile: its stage, its row and its column.
+type Tile = (usize, u32, u32);
+
+/// What a plan says: the tiles that it needs, and each stage that it computes, with the ends of its area.
+#[derive(Debug, Drop)]
+struct Parts<'a> {
+    needs: Vec<(u16, u32, u32)>,
+    steps: Vec<(usize, (i32, i32, i32, i32))>,
+    points: u64,
+    ranges: &'a [(usize, usize)],
+    scratch: usize,
 }
 
-// The schedule of these flags, one for each stage.
-pub(crate) fn schedule_of(alloc: Global, job: &Job, flags: &[bool]) -> Result<Schedule, Fail>
+/// A program and a picture, the sides of its tiles, and a flag for each stage that tells which functions are inlined.
+#[derive(Clone, Copy)]
+struct Case {
+    text: &'static str,
+    file: &'static [u8],
+    sides: (u32, u32),
+    flags: &'static [bool],
+}
+
+// What a plan needs: the stage, the row and the column of each tile, whose key is the job's.
+fn needs(alloc: Global, job: &Job, plan: &TilePlan) -> Result<Vec<(u16, u32, u32)>, Fail> {
+    let mut places = Vec::new(alloc);
+    for key in plan.needs() {
+        if job.key(key.stage, key.row, key.col) != Some(*key) {
+            return Err(Fail::new("a need that is no tile of the job"));
+        }
+        places.push((key.stage, key.row, key.col))?;
+    }
+    Ok(places)
+}
+
+// What a plan computes: each stage, and over which area.
+fn steps(alloc: Global, steps: &[Step]) -> Result<Vec<(usize, (i32, i32, i32, i32))>, Fail> {
+    let mut areas = Vec::new(alloc);
+    for step in steps {
+        areas.push((step.stage, ends(&step.area)))?;
+    }
+    Ok(areas)
+}
+
+// Compares the parts of a plan with those that were wanted.
+fn has_parts(alloc: Global, job: &Job, plan: &TilePlan, wanted: &str) -> Result<(), Fail> {
+    let parts = Parts {
+        needs: needs(alloc, job, plan)?,
+        steps: steps(alloc, plan.steps())?,
+        points: plan.points(),
+        ranges: plan.ranges(),
+        scratch: plan.scratch(),
+    };
+    tells(alloc, &parts, wanted)
+}
+
+// Compares the plan of a tile, or why there is none.
+fn is_planned(
+    alloc: Global,
+    job: &Job,
+    flags: &[bool],
+    tile: Tile,
+    wanted: &str,
+) -> Result<(), Fail>
     requires { IsJob (pipeline_in job.now) }
-    ensures { IfOk result (IsScheduleOf (pipeline_in job.now)) }
 {
-    if flags.len() != job.stages().len() {
-        return Err(Fail::new("not as many flags as stages"));
-    }
-    Ok(Schedule::of(alloc, job, flags)?)
-}
-
-fn ends(area: &Area) -> (i32, i32, i32, i32) {
-    (
-        area.rows.lo(),
-        area.rows.hi(),
-        area.cols.lo(),
-        area.cols.hi(),
-    )
-}
-
-fn place(key: &Key) -> (u16, u32, u32) {
-    (key.stage, key.row, key.col)
-}
-
-fn fault_of(plan: Result<TilePlan, PlanFault>) -> Option<PlanFault> {
-    match plan {
-        Ok(_) => None,
-        Err(fault) => Some(fault),
+    has_few_stages(job)?;
+    let schedule = schedule_of(alloc, job, flags)?;
+    match TilePlan::of(alloc, job, &schedule, tile.0, tile.1, tile.2) {
+        Ok(plan) => has_parts(alloc, job, &plan, wanted),
+        Err(fault) => tells(alloc, &fault, wanted),
     }
 }
+
+fn planned(alloc: Global, case: &Case, tile: Tile, wanted: &str) -> Result<(), Fail> {
+    let job = job_of(alloc, case.text, &[], case.file, case.sides)?;
+    is_planned(alloc, &job, case.flags, tile, wanted)
+}
+
+/// One tile of one point.
+const POINT: Case = Case {
+    text: COPY,
+    file: ONE,
+    sides: (1024, 1024),
+    flags: &[false, false],
+};
 
 #[test]
 fn a_stored_function_of_one_point(rt: HostRuntime) -> Result<(), Fail> {
-    let alloc = rt.alloc();
-    let job = bound(alloc, COPY, b"P2 1 1 255 7", (1024, 1024))?;
-    let schedule = schedule_of(alloc, &job, &[false, false])?;
-    let plan = TilePlan::of(alloc, &job, &schedule, 1, 0, 0)?;
-    assert_eq!(rt; (plan.steps().len(), plan.points()), (1, 1));
-    assert_eq!(rt;
-        (plan.needs().len(), plan.ranges().len(), plan.scratch()),
-        (0, 0, 0)
-    );
-    Ok(())
+    planned(
+        rt.alloc(),
+        &POINT,
+        (1, 0, 0),
+        "Parts { needs: [], steps: [(1, (0, 0, 0, 0))], points: 1, ranges: [], scratch: 0 }",
+    )
 }
 
 #[test]
 fn tiles_that_are_not_there(rt: HostRuntime) -> Result<(), Fail> {
-    let alloc = rt.alloc();
-    let job = bound(alloc, COPY, b"P2 1 1 255 7", (1024, 1024))?;
-    let schedule = schedule_of(alloc, &job, &[false, false])?;
-    for (stage, row, col) in [(1, 0, 1), (1, 1, 0), (0, 0, 0), (2, 0, 0)] {
-        let plan = TilePlan::of(alloc, &job, &schedule, stage, row, col);
-        assert_eq!(rt; fault_of(plan), Some(PlanFault::NoSuchTile));
+    for tile in [(1, 0, 1), (1, 1, 0), (0, 0, 0), (2, 0, 0)] {
+        planned(rt.alloc(), &POINT, tile, "NoSuchTile")?;
     }
     Ok(())
 }
 
 #[test]
 fn an_inlined_function_is_computed_before_its_reader(rt: HostRuntime) -> Result<(), Fail> {
-    let alloc = rt.alloc();
-    let job = bound(
-        alloc,
-        CHAIN,
-        b"P2 6 6 1 1 1 1 1 1 1 1 1 1 1 1 1 1 1 1 1 1 1 1 1 1 1 1 1 1 1 1 1 1 1 1 1 1 1 1 1",
-        (2, 2),
-    )?;
-    let schedule = schedule_of(alloc, &job, &[false, true, false])?;
-    let plan = TilePlan::of(alloc, &job, &schedule, 2, 0, 0)?;
-    assert_eq!(rt;
-        (plan.points(), plan.needs().len(), plan.scratch()),
-        (20, 0, 16)
-    );
-    assert_eq!(rt; plan.ranges(), [(0, 16)].as_slice());
-    let inner = plan.steps().first().ok_or("no step")?;
-    assert_eq!(rt; (inner.stage, ends(&inner.area)), (1, (1, 4, 1, 4)));
-    let last = plan.steps().last().ok_or("no step")?;
-    assert_eq!(rt; (last.stage, ends(&last.area)), (2, (2, 3, 2, 3)));
-    Ok(())
+    let chain = Case {
+        text: CHAIN,
+        file: ONES,
+        sides: (2, 2),
+        flags: &[false, true, false],
+    };
+    planned(
+        rt.alloc(),
+        &chain,
+        (2, 0, 0),
+        "Parts { needs: [], steps: [(1, (1, 4, 1, 4)), (2, (2, 3, 2, 3))], points: 20, ranges: [(0, 16)], scratch: 16 }",
+    )
 }
 
 #[test]
 fn ranges_of_a_chain(rt: HostRuntime) -> Result<(), Fail> {
-    let alloc = rt.alloc();
-    let job = bound(alloc, COPIES, b"P2 2 2 255 1 2 3 4", (2, 2))?;
-    let schedule = schedule_of(alloc, &job, &[false, true, true, true, false])?;
-    let plan = TilePlan::of(alloc, &job, &schedule, 4, 0, 0)?;
-    assert_eq!(rt; plan.points(), 16);
-    assert_eq!(rt; plan.ranges(), [(0, 4), (4, 4), (8, 4)].as_slice());
-    assert_eq!(rt; plan.scratch(), 12);
-    Ok(())
+    let copies = Case {
+        text: COPIES,
+        file: FOUR,
+        sides: (2, 2),
+        flags: &[false, true, true, true, false],
+    };
+    planned(
+        rt.alloc(),
+        &copies,
+        (4, 0, 0),
+        "Parts { needs: [], steps: [(1, (0, 1, 0, 1)), (2, (0, 1, 0, 1)), (3, (0, 1, 0, 1)), (4, (0, 1, 0, 1))], points: 16, ranges: [(0, 4), (4, 4), (8, 4)], scratch: 12 }",
+    )
 }
 
 #[test]
 fn a_box_over_four_tiles_needs_each(rt: HostRuntime) -> Result<(), Fail> {
-    let alloc = rt.alloc();
-    let job = bound(alloc, CORNERS, POINTS_OF_SIXTEEN, (2, 2))?;
-    let schedule = schedule_of(alloc, &job, &[false, false, false, false])?;
-    let plan = TilePlan::of(alloc, &job, &schedule, 2, 0, 0)?;
-    let mut places = Vec::new(alloc);
-    for key in plan.needs() {
-        places.push(place(key))?;
-    }
-    assert_eq!(rt;
-        places.as_slice(),
-        [(1, 0, 0), (1, 0, 1), (1, 1, 0), (1, 1, 1)].as_slice()
-    );
-    let first = plan.needs().first().ok_or("no need")?;
-    assert_eq!(rt; Some(*first), job.key(1, 0, 0));
-    Ok(())
+    let corners = Case {
+        text: CORNERS,
+        file: SIXTEEN,
+        sides: (2, 2),
+        flags: &[false, false, false, false],
+    };
+    planned(
+        rt.alloc(),
+        &corners,
+        (2, 0, 0),
+        "Parts { needs: [(1, 0, 0), (1, 0, 1), (1, 1, 0), (1, 1, 1)], steps: [(2, (0, 1, 0, 1))], points: 4, ranges: [], scratch: 0 }",
+    )
 }
 
 #[test]
 fn an_accumulator_is_planned_too(rt: HostRuntime) -> Result<(), Fail> {
-    let alloc = rt.alloc();
-    let job = bound(alloc, CORNERS, POINTS_OF_SIXTEEN, (2, 2))?;
-    let schedule = schedule_of(alloc, &job, &[false, true, false, false])?;
-    let plan = TilePlan::of(alloc, &job, &schedule, 3, 0, 0)?;
-    assert_eq!(rt; (plan.points(), plan.ranges().len()), (8, 1));
-    let need = plan.needs().first().ok_or("no need")?;
-    assert_eq!(rt; (plan.needs().len(), place(need)), (1, (2, 0, 0)));
-    Ok(())
+    let corners = Case {
+        text: CORNERS,
+        file: SIXTEEN,
+        sides: (2, 2),
+        flags: &[false, true, false, false],
+    };
+    planned(
+        rt.alloc(),
+        &corners,
+        (3, 0, 0),
+        "Parts { needs: [(2, 0, 0)], steps: [(1, (0, 1, 0, 1)), (3, (0, 1, 0, 1))], points: 8, ranges: [(0, 4)], scratch: 4 }",
+    )
 }
 
 #[test]
 fn as_much_scratch_memory_as_there_may_be(rt: HostRuntime) -> Result<(), Fail> {
-    let alloc = rt.alloc();
-    let job = bound(alloc, FULL, b"P2 1 1 1 0", (1024, 1024))?;
-    let schedule = schedule_of(alloc, &job, &[false, true, false])?;
-    let plan = TilePlan::of(alloc, &job, &schedule, 2, 0, 0)?;
-    assert_eq!(rt; (plan.points(), plan.scratch()), (68_157_440, 67_108_864));
-    Ok(())
+    let full = Case {
+        text: FULL,
+        file: ONE,
+        sides: (1024, 1024),
+        flags: &[false, true, false],
+    };
+    planned(
+        rt.alloc(),
+        &full,
+        (2, 0, 0),
+        "Parts { needs: [], steps: [(1, (0, 8191, 0, 8191)), (2, (0, 1023, 0, 1023))], points: 68157440, ranges: [(0, 67108864)], scratch: 67108864 }",
+    )
 }
 
 #[test]
 fn more_scratch_memory_than_there_may_be(rt: HostRuntime) -> Result<(), Fail> {
-    let alloc = rt.alloc();
-    let job = bound(alloc, TOO_BIG, b"P2 1 1 1 0", (1024, 1024))?;
-    let schedule = schedule_of(alloc, &job, &[false, true, false])?;
-    let plan = TilePlan::of(alloc, &job, &schedule, 2, 0, 0);
-    assert_eq!(rt; fault_of(plan), Some(PlanFault::ScratchTooBig));
-    Ok(())
+    let too_big = Case {
+        text: TOO_BIG,
+        file: ONE,
+        sides: (1024, 1024),
+        flags: &[false, true, false],
+    };
+    planned(rt.alloc(), &too_big, (2, 0, 0), "ScratchTooBig")
 }

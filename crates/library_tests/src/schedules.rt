@@ -4,7 +4,11 @@
 ghost use Rattle.job.specs.Kept.{pipeline_in};
 ghost use Rattle.job.specs.WellFormed.{IsJob};
 
-use crate::binding::job_of;
+use crate::areas::ends;
+use crate::bound_jobs::job_of;
+use crate::plans::ONES;
+use crate::runs::{chosen, schedule_of};
+use crate::wanted::tells;
 use domains::Area;
 use grouping::Schedule;
 use job::Job;
@@ -24,71 +28,61 @@ func b(x in [2..5], y in [2..5]) { else : stencil(a, 1, [[1,1,1],[1,1,1],[1,1,1]
 func a(x in [1..6], y in [1..6]) { else : stencil(I, 1, [[1,1,1],[1,1,1],[1,1,1]]); }
 output c max 65535;";
 
-fn inlining(alloc: Global, job: &Job, flags: &[bool]) -> Result<Schedule, Fail>
-    requires { IsJob (pipeline_in job.now) }
-{
-    if flags.len() == job.stages().len() {
-        Ok(Schedule::of(alloc, job, flags)?)
-    } else {
-        Err(Fail::new("not a flag for each stage"))
-    }
-}
-
-// The functions that the first tile of a stage needs, with their boxes.
+// Compares the functions that the first tile of a stage needs, with the ends of their boxes.
 #[tactic(auto, using(grouping::proofs::Tiles::tile_is_target))]
-fn first_boxes(
+fn has_boxes(
     alloc: Global,
     job: &Job,
     schedule: &Schedule,
     stage: usize,
-) -> Result<Vec<(usize, Area)>, Fail>
+    wanted: &str,
+) -> Result<(), Fail>
     requires { IsJob (pipeline_in job.now) }
 {
-    let Some(grid) = job.grid(stage) else {
-        return Err(Fail::new("no grid"));
-    };
-    let Some(tile) = grid.tile(0, 0) else {
-        return Err(Fail::new("no tile"));
-    };
-    Ok(schedule.boxes(alloc, job, stage, tile)?)
+    let grid = job.grid(stage).ok_or("no grid")?;
+    let tile = grid.tile(0, 0).ok_or("no tile")?;
+    let boxes = schedule.boxes(alloc, job, stage, tile)?;
+    are_boxes(alloc, &boxes, wanted)
 }
 
-fn ends(area: &Area) -> (i32, i32, i32, i32) {
-    (
-        area.rows.lo(),
-        area.rows.hi(),
-        area.cols.lo(),
-        area.cols.hi(),
-    )
+fn are_boxes(alloc: Global, boxes: &[(usize, Area)], wanted: &str) -> Result<(), Fail> {
+    let mut found = Vec::new(alloc);
+    for (number, area) in boxes {
+        found.push((*number, ends(area)))?;
+    }
+    tells(alloc, &found, wanted)
+}
+
+fn has_ring(alloc: Global, job: &Job) -> Result<(), Fail>
+    requires { IsJob (pipeline_in job.now) }
+{
+    let schedule = chosen(alloc, job, false)?;
+    has_boxes(alloc, job, &schedule, 1, "[(2, (1, 4, 1, 4))]")
 }
 
 #[test]
 fn a_tile_needs_a_ring_around_it(rt: HostRuntime) -> Result<(), Fail> {
-    let alloc = rt.alloc();
-    let samples =
-        b"P2 6 6 1 1 1 1 1 1 1 1 1 1 1 1 1 1 1 1 1 1 1 1 1 1 1 1 1 1 1 1 1 1 1 1 1 1 1 1 1";
-    let job = job_of(alloc, CHAIN, &[], samples, (2, 2))?;
-    let schedule = Schedule::stored(alloc, &job)?;
-    let boxes = first_boxes(alloc, &job, &schedule, 1)?;
-    assert_eq!(rt; boxes.len(), 1);
-    let (number, area) = boxes.first().ok_or("no box")?;
-    assert_eq!(rt; *number, 2);
-    assert_eq!(rt; ends(area), (1, 4, 1, 4));
-    Ok(())
+    let job = job_of(rt.alloc(), CHAIN, &[], ONES, (2, 2))?;
+    has_ring(rt.alloc(), &job)
+}
+
+fn has_rings(alloc: Global, job: &Job) -> Result<(), Fail>
+    requires { IsJob (pipeline_in job.now) }
+{
+    let schedule = schedule_of(alloc, job, &[false, false, true, true])?;
+    has_boxes(
+        alloc,
+        job,
+        &schedule,
+        1,
+        "[(3, (1, 6, 1, 6)), (2, (2, 5, 2, 5))]",
+    )
 }
 
 // Each inlined stencil widens what its reader needs by one more row and column.
 #[test]
 fn chains_widen_at_each_step(rt: HostRuntime) -> Result<(), Fail> {
-    let alloc = rt.alloc();
     let samples = b"P5 8 8 99 ................................................................";
-    let job = job_of(alloc, LONG_CHAIN, &[], samples, (2, 2))?;
-    let schedule = inlining(alloc, &job, &[false, false, true, true])?;
-    let boxes = first_boxes(alloc, &job, &schedule, 1)?;
-    assert_eq!(rt; boxes.len(), 2);
-    let (first, of_first) = boxes.first().ok_or("no box")?;
-    assert_eq!(rt; (*first, ends(of_first)), (3, (1, 6, 1, 6)));
-    let (last, of_last) = boxes.last().ok_or("no box")?;
-    assert_eq!(rt; (*last, ends(of_last)), (2, (2, 5, 2, 5)));
-    Ok(())
+    let job = job_of(rt.alloc(), LONG_CHAIN, &[], samples, (2, 2))?;
+    has_rings(rt.alloc(), &job)
 }

@@ -1,11 +1,13 @@
 #![tactic(auto)]
 //! Tiles beside whole stages.
 
-ghost use Rattle.std.specs.Prelude.{◌≤◌, length};
 ghost use Rattle.job.specs.Kept.{pipeline_in};
 ghost use Rattle.job.specs.WellFormed.{IsJob};
 
-use crate::plans::{TOO_BIG, bound, schedule_of};
+use crate::bound_jobs::job_of;
+use crate::plans::TOO_BIG;
+use crate::runs::{chosen, has_few_stages, run, schedule_of};
+use crate::wanted::{holds, tells};
 use grouping::Schedule;
 use job::{Job, StageKind};
 use std::alloc::Global;
@@ -32,6 +34,12 @@ pub(crate) const SAMPLES: &[u8] =
 /// The sides of tiles.
 const SIDES: [(u32, u32); 5] = [(1, 1), (1, 7), (2, 3), (5, 4), (64, 64)];
 
+// The tile in which a place along rows or columns lies, and how far behind the tile's start, where tiles have this side.
+fn in_tile(place: usize, side: usize) -> Option<(u32, usize)> {
+    let tile = u32::try_from(place.checked_div(side)?).ok()?;
+    Some((tile, place.checked_rem(side)?))
+}
+
 // The number of a point, by its row and its column, in the tile in which it lies: tiles have these sides, and so many columns are
 // parted into them.
 fn number_at(
@@ -41,10 +49,11 @@ fn number_at(
     columns: usize,
     point: (usize, usize),
 ) -> Option<i32> {
-    let (i, down) = (point.0.checked_div(sides.0)?, point.0.checked_rem(sides.0)?);
-    let (j, across) = (point.1.checked_div(sides.1)?, point.1.checked_rem(sides.1)?);
-    let tile = stored.tile(stage, u32::try_from(i).ok()?, u32::try_from(j).ok()?)?;
-    let width = columns.wrapping_sub(j.wrapping_mul(sides.1)).min(sides.1);
+    let (row, down) = in_tile(point.0, sides.0)?;
+    let (col, across) = in_tile(point.1, sides.1)?;
+    let tile = stored.tile(stage, row, col)?;
+    let first = point.1.wrapping_sub(across);
+    let width = columns.wrapping_sub(first).min(sides.1);
     tile.get(down.wrapping_mul(width).wrapping_add(across))
         .copied()
 }
@@ -66,45 +75,68 @@ fn have(
     Some(true)
 }
 
+// Whether the tiles of a stage are parts of the stage as a whole.
+fn are_parts(alloc: Global, job: &Job, stored: &Stored, stage: usize) -> Result<Option<bool>, Fail>
+    requires { IsJob (pipeline_in job.now) }
+{
+    let sides = (job.sides().height() as usize, job.sides().width() as usize);
+    let Some(domain) = job.domain(stage) else {
+        return Ok(None);
+    };
+    let whole = plain(alloc, job, stage)?;
+    if whole.is_empty() {
+        return Ok(None);
+    }
+    Ok(have(stored, stage, sides, domain.cols.len() as usize, &whole))
+}
+
 // Compares the tiles of each stored function with the function as a whole.
 fn compare(alloc: Global, job: &Job, schedule: &Schedule, stored: &Stored) -> Result<(), Fail>
     requires { IsJob (pipeline_in job.now) }
 {
-    let sides = (job.sides().height() as usize, job.sides().width() as usize);
-    for number in 0..job.stages().len() {
-        if job.kind(number) == Some(StageKind::Function) && !schedule.inlined(number) {
-            let domain = job.domain(number).ok_or("no domain")?;
-            let whole = plain(alloc, job, number)?;
-            let columns = domain.cols.len() as usize;
-            if whole.is_empty() || have(stored, number, sides, columns, &whole) != Some(true) {
-                return Err(Fail::new(format!(in alloc; "stage {number} in {sides:?}")?));
-            }
+    for stage in 0..job.stages().len() {
+        if job.kind(stage) == Some(StageKind::Function) && !schedule.inlined(stage) {
+            holds(
+                are_parts(alloc, job, stored, stage)?,
+                "tiles are parts of the whole stage",
+            )?;
         }
     }
     Ok(())
 }
 
+// Compares at the schedule that inlines the functions that are read, or that stores all.
+fn compare_at(alloc: Global, job: &Job, inline: bool) -> Result<(), Fail>
+    requires { IsJob (pipeline_in job.now) }
+{
+    let schedule = chosen(alloc, job, inline)?;
+    for stage in 1..4usize {
+        holds(
+            Some(schedule.inlined(stage) == inline),
+            "it inlines what is read",
+        )?;
+    }
+    let stored = run(alloc, job, &schedule)?;
+    compare(alloc, job, &schedule, &stored)
+}
+
+fn compare_with_sides(alloc: Global, sides: (u32, u32), inline: bool) -> Result<(), Fail> {
+    let job = job_of(alloc, PIPELINE, &[], SAMPLES, sides)?;
+    compare_at(alloc, &job, inline)
+}
+
 #[test]
 fn stored_tiles_are_parts_of_whole_stages(rt: HostRuntime) -> Result<(), Fail> {
-    let alloc = rt.alloc();
     for sides in SIDES {
-        let job = bound(alloc, PIPELINE, SAMPLES, sides)?;
-        let schedule = Schedule::stored(alloc, &job)?;
-        let stored = run_all(alloc, &job, &schedule)?;
-        compare(alloc, &job, &schedule, &stored)?;
+        compare_with_sides(rt.alloc(), sides, false)?;
     }
     Ok(())
 }
 
 #[test]
 fn tiles_with_inlined_functions_are_parts_of_whole_stages(rt: HostRuntime) -> Result<(), Fail> {
-    let alloc = rt.alloc();
     for sides in SIDES {
-        let job = bound(alloc, PIPELINE, SAMPLES, sides)?;
-        let schedule = Schedule::greedy(alloc, &job, 10000)?;
-        assert!(rt; schedule.inlined(1) && schedule.inlined(2) && schedule.inlined(3));
-        let stored = run_all(alloc, &job, &schedule)?;
-        compare(alloc, &job, &schedule, &stored)?;
+        compare_with_sides(rt.alloc(), sides, true)?;
     }
     Ok(())
 }
@@ -115,32 +147,73 @@ func f(x in [0..1], y in [0..1]) { else : I(2*x, 2*y); }
 func g(x in [0..3], y in [0..3]) { else : f(x/2, y/2); }
 output g max 255;";
 
+const DOUBLED: [i32; 16] = [0, 0, 2, 2, 0, 0, 2, 2, 8, 8, 10, 10, 8, 8, 10, 10];
+
+// The halves and the doubles as whole stages.
+fn have_whole(alloc: Global, job: &Job) -> Result<(), Fail>
+    requires { IsJob (pipeline_in job.now) }
+{
+    let (halves, doubles) = (plain(alloc, job, 1)?, plain(alloc, job, 2)?);
+    tells(alloc, &halves, "[0, 2, 8, 10]")?;
+    holds(
+        Some(doubles.as_slice() == DOUBLED.as_slice()),
+        "the whole is doubled",
+    )
+}
+
+// The doubles by tiles, where the halves are stored or inlined.
+fn have_tiles(alloc: Global, job: &Job, inlined: bool) -> Result<(), Fail>
+    requires { IsJob (pipeline_in job.now) }
+{
+    let schedule = schedule_of(alloc, job, &[false, inlined, false])?;
+    let stored = run(alloc, job, &schedule)?;
+    holds(
+        Some(stored.tile(1, 1, 1).is_some() != inlined),
+        "halves are stored or inlined",
+    )?;
+    holds(have(&stored, 2, (1, 1), 4, &DOUBLED), "tiles are doubled")
+}
+
+fn have_all(alloc: Global, job: &Job) -> Result<(), Fail>
+    requires { IsJob (pipeline_in job.now) }
+{
+    have_whole(alloc, job)?;
+    have_tiles(alloc, job, false)?;
+    have_tiles(alloc, job, true)
+}
+
 #[test]
 fn halves_then_doubles(rt: HostRuntime) -> Result<(), Fail> {
     let alloc = rt.alloc();
     let file = b"P2 4 4 255 0 1 2 3 4 5 6 7 8 9 10 11 12 13 14 15";
-    let doubled = [0, 0, 2, 2, 0, 0, 2, 2, 8, 8, 10, 10, 8, 8, 10, 10];
-    let job = bound(alloc, HALF_AND_DOUBLE, file, (1, 1))?;
-    assert_eq!(rt; plain(alloc, &job, 1)?.as_slice(), [0, 2, 8, 10].as_slice());
-    assert_eq!(rt; plain(alloc, &job, 2)?.as_slice(), doubled.as_slice());
-    for inlined in [false, true] {
-        let schedule = schedule_of(alloc, &job, &[false, inlined, false])?;
-        let stored = run_all(alloc, &job, &schedule)?;
-        assert_eq!(rt; stored.tile(1, 1, 1).is_some(), !inlined);
-        assert_eq!(rt; have(&stored, 2, (1, 1), 4, &doubled), Some(true));
+    let job = job_of(alloc, HALF_AND_DOUBLE, &[], file, (1, 1))?;
+    have_all(alloc, &job)
+}
+
+fn refusal(run: &Result<Stored, RunFault>) -> Option<RunFault> {
+    match run {
+        Err(fault) => Some(*fault),
+        Ok(_) => None,
     }
-    Ok(())
+}
+
+// Whether a run was refused since the first tile of the second function has no room.
+fn is_without_room(job: &Job, run: &Result<Stored, RunFault>) -> Option<bool> {
+    Some(refusal(run)? == RunFault::ScratchTooBig(job.key(2, 0, 0)?))
+}
+
+fn has_no_room(alloc: Global, job: &Job) -> Result<(), Fail>
+    requires { IsJob (pipeline_in job.now) }
+{
+    has_few_stages(job)?;
+    let schedule = schedule_of(alloc, job, &[false, true, false])?;
+    let run = run_all(alloc, job, &schedule);
+    holds(is_without_room(job, &run), "a tile has no room")
 }
 
 #[test]
 fn a_tile_without_room_is_told_before_any_is_computed(rt: HostRuntime) -> Result<(), Fail> {
     let alloc = rt.alloc();
-    let job = bound(alloc, TOO_BIG, b"P2 1 1 9 0", (1024, 1024))?;
-    let schedule = schedule_of(alloc, &job, &[false, true, false])?;
-    match run_all(alloc, &job, &schedule) {
-        Err(RunFault::ScratchTooBig(key)) => assert_eq!(rt; Some(key), job.key(2, 0, 0)),
-        Err(RunFault::Memory) => return Err(Fail::new("out of memory")),
-        Ok(_) => return Err(Fail::new("it has room")),
-    }
-    Ok(())
+    let job = job_of(alloc, TOO_BIG, &[], b"P2 1 1 9 0", (1024, 1024))?;
+    has_no_room(alloc, &job)
 }

@@ -1,13 +1,17 @@
 #![tactic(auto)]
 //! Accumulators over tiles, joined, and whole.
 
-use crate::plans::bound;
+ghost use Rattle.job.specs.Kept.{pipeline_in};
+ghost use Rattle.job.specs.WellFormed.{IsJob};
+
+use crate::bound_jobs::job_of;
+use crate::runs::{chosen, run};
+use crate::wanted::{holds, tells};
 use accumulators::{Answer, answer_of, join_into, whole};
-use grouping::Schedule;
-use pipe_lang::Fold;
+use domains::Fold;
+use job::Job;
 use std::alloc::Global;
 use std::test::Fail;
-use tile_run::run_all;
 
 /// How many samples leave each remainder by 4.
 pub(crate) const REMAINDERS: &str =
@@ -29,7 +33,15 @@ output b max 255;";
 
 const SIXTEEN: &[u8] = b"P2 4 4 15 0 1 2 3 4 5 6 7 8 9 10 11 15 13 12 14";
 
-// The answer of a job at a schedule.
+// The answer of a job at the schedule that inlines wherever it may, or that stores all.
+fn answer_by_tiles(alloc: Global, job: &Job, inline: bool) -> Result<Answer, Fail>
+    requires { IsJob (pipeline_in job.now) }
+{
+    let schedule = chosen(alloc, job, inline)?;
+    let stored = run(alloc, job, &schedule)?;
+    Ok(answer_of(alloc, job, &schedule, &stored)?)
+}
+
 fn answer(
     alloc: Global,
     text: &str,
@@ -37,82 +49,101 @@ fn answer(
     sides: (u32, u32),
     inline: bool,
 ) -> Result<Answer, Fail> {
-    let job = bound(alloc, text, file, sides)?;
-    let schedule = if inline {
-        Schedule::greedy(alloc, &job, 10000)?
-    } else {
-        Schedule::stored(alloc, &job)?
-    };
-    let stored = run_all(alloc, &job, &schedule)?;
-    Ok(answer_of(alloc, &job, &schedule, &stored)?)
+    let job = job_of(alloc, text, &[], file, sides)?;
+    answer_by_tiles(alloc, &job, inline)
+}
+
+fn has_whole(alloc: Global, job: &Job, wanted: &str) -> Result<(), Fail>
+    requires { IsJob (pipeline_in job.now) }
+{
+    let bins = whole(alloc, job, 1)?;
+    tells(alloc, &bins, wanted)
+}
+
+// Compares the bins of a program's first accumulator, over the whole picture.
+fn has_bins(alloc: Global, text: &str, file: &[u8], wanted: &str) -> Result<(), Fail> {
+    let job = job_of(alloc, text, &[], file, (2, 2))?;
+    has_whole(alloc, &job, wanted)
 }
 
 #[test]
 fn histogram_by_tiles(rt: HostRuntime) -> Result<(), Fail> {
     let alloc = rt.alloc();
-    let job = bound(alloc, REMAINDERS, ONE_TO_NINE, (2, 2))?;
-    let schedule = Schedule::stored(alloc, &job)?;
-    let stored = run_all(alloc, &job, &schedule)?;
-    let bins = whole(alloc, &job, 1)?;
-    assert_eq!(rt; bins.as_slice(), [2, 3, 2, 2].as_slice());
-    let answer = answer_of(alloc, &job, &schedule, &stored)?;
-    assert!(rt; answer.picture.is_none());
-    let total = answer.totals.first().ok_or("no total")?;
-    assert_eq!(rt; (total.stage, total.lo), (1, 0));
-    assert_eq!(rt; total.bins.as_slice(), [2, 3, 2, 2].as_slice());
-    let job = bound(alloc, REMAINDERS_OF_A_TILE, ONE_TO_NINE, (2, 2))?;
-    assert_eq!(rt; whole(alloc, &job, 1)?.as_slice(), [1, 2, 1, 0].as_slice());
-    Ok(())
+    has_bins(alloc, REMAINDERS, ONE_TO_NINE, "[2, 3, 2, 2]")?;
+    has_bins(alloc, REMAINDERS_OF_A_TILE, ONE_TO_NINE, "[1, 2, 1, 0]")?;
+    let answer = answer(alloc, REMAINDERS, ONE_TO_NINE, (2, 2), false)?;
+    tells(
+        alloc,
+        &answer,
+        "Answer { picture: None, totals: [Total { stage: 1, lo: 0, bins: [2, 3, 2, 2] }] }",
+    )
 }
 
+// A bin in which nothing lies keeps the greatest number of 64 bits.
 #[test]
 fn empty_bins_keep_start(rt: HostRuntime) -> Result<(), Fail> {
-    let alloc = rt.alloc();
     let text =
         "image I(1,1); accum m [0..2] over (x in [0..0], y in [0..0]) min I(x, y) at I(x, y);";
-    let job = bound(alloc, text, b"P2 1 1 9 9", (64, 64))?;
-    let bins = whole(alloc, &job, 1)?;
-    assert_eq!(rt; bins.as_slice(), [i64::MAX, i64::MAX, i64::MAX].as_slice());
-    Ok(())
+    has_bins(
+        rt.alloc(),
+        text,
+        b"P2 1 1 9 9",
+        "[9223372036854775807, 9223372036854775807, 9223372036854775807]",
+    )
 }
 
 #[test]
 fn sums_wrap_at_64_bits(rt: HostRuntime) -> Result<(), Fail> {
-    let mut bins = [i64::MAX, -1, 5];
-    join_into(Fold::Sum, &mut bins, &[1, -1, -7]);
-    assert_eq!(rt; bins, [i64::MIN, -2, -2]);
-    join_into(Fold::Min, &mut bins, &[0, 0, 0]);
-    assert_eq!(rt; bins, [i64::MIN, -2, -2]);
-    join_into(Fold::Max, &mut bins, &[0, -3, 3]);
-    assert_eq!(rt; bins, [0, -2, 3]);
+    let mut sums = [i64::MAX, -1, 5];
+    join_into(Fold::Sum, &mut sums, &[1, -1, -7]);
+    let mut least = sums;
+    join_into(Fold::Min, &mut least, &[0, 0, 0]);
+    let mut greatest = least;
+    join_into(Fold::Max, &mut greatest, &[0, -3, 3]);
+    let wanted = [[i64::MIN, -2, -2], [i64::MIN, -2, -2], [0, -2, 3]];
+    assert_eq!(rt; [sums, least, greatest], wanted);
     Ok(())
 }
 
+// The least of what lies in each bin: nothing does but in three.
+fn has_least(answer: &Answer) -> Option<bool> {
+    let low = answer.totals.first()?;
+    let bins = low.bins.get(2..6)?;
+    let is_placed = (low.stage, low.lo, low.bins.len()) == (2, -8, 17);
+    Some(is_placed && bins == [-11, i64::MAX, -8, -6].as_slice())
+}
+
+fn has_greatest(answer: &Answer) -> Option<bool> {
+    let high = answer.totals.get(1)?;
+    let is_placed = (high.stage, high.lo) == (4, 0);
+    Some(is_placed && high.bins.as_slice() == [121, 64, i64::MIN].as_slice())
+}
+
+fn has_squares(answer: &Answer) -> Option<bool> {
+    let plane = answer.picture.as_ref()?.planes().first()?;
+    Some(plane.as_slice() == [64, 64, 64, 64, 121, 64, 36, 49].as_slice())
+}
+
 // Differences of rows two apart are -8 -8 -8 -8 and -11 -8 -6 -7: half of that, rounded down, is -4 and -6 -4 -3 -4.
+fn has_extremes(answer: &Answer) -> Result<(), Fail> {
+    holds(has_least(answer), "the least of each bin")?;
+    holds(has_greatest(answer), "the greatest of each bin")?;
+    holds(
+        has_squares(answer),
+        "the picture has squares of differences",
+    )
+}
+
+fn has_extremes_at(alloc: Global, sides: (u32, u32), inline: bool) -> Result<(), Fail> {
+    let answer = answer(alloc, EXTREMES, SIXTEEN, sides, inline)?;
+    has_extremes(&answer)
+}
+
 #[test]
 fn extremes_at_every_schedule(rt: HostRuntime) -> Result<(), Fail> {
-    let alloc = rt.alloc();
     for sides in [(1, 1), (1, 3), (2, 2), (64, 64)] {
-        for inline in [false, true] {
-            let answer = answer(alloc, EXTREMES, SIXTEEN, sides, inline)?;
-            let (low, high) = (
-                answer.totals.first().ok_or("no least")?,
-                answer.totals.get(1).ok_or("no greatest")?,
-            );
-            assert_eq!(rt; (low.stage, low.lo, low.bins.len()), (2, -8, 17));
-            assert_eq!(rt;
-                low.bins.get(2..6).ok_or("few bins")?,
-                [-11, i64::MAX, -8, -6].as_slice()
-            );
-            assert_eq!(rt; (high.stage, high.lo), (4, 0));
-            assert_eq!(rt; high.bins.as_slice(), [121, 64, i64::MIN].as_slice());
-            let picture = answer.picture.as_ref().ok_or("no picture")?;
-            let plane = picture.planes().first().ok_or("no plane")?;
-            assert_eq!(rt;
-                plane.as_slice(),
-                [64, 64, 64, 64, 121, 64, 36, 49].as_slice()
-            );
-        }
+        has_extremes_at(rt.alloc(), sides, false)?;
+        has_extremes_at(rt.alloc(), sides, true)?;
     }
     Ok(())
 }

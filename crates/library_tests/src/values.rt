@@ -5,7 +5,8 @@ ghost use Rattle.std.specs.Prelude.{IfOk};
 ghost use Rattle.job.specs.Kept.{pipeline_in};
 ghost use Rattle.job.specs.WellFormed.{IsJob};
 
-use crate::binding::job_of;
+use crate::bound_jobs::job_of;
+use crate::wanted::tells;
 use job::Job;
 use std::alloc::Global;
 use std::test::Fail;
@@ -18,44 +19,63 @@ const HALVED: &str =
 /// The picture.
 const RISING: &[u8] = b"P2 4 4 255 0 1 2 3 4 5 6 7 8 9 10 11 12 13 14 15";
 
-/// The values of `f`.
-const SMALL: [i32; 4] = [0, 2, 8, 10];
-
-/// The values of `g`.
-const BIG: [i32; 16] = [0, 0, 2, 2, 0, 0, 2, 2, 8, 8, 10, 10, 8, 8, 10, 10];
-
 fn halved(alloc: Global) -> Result<Job, Fail>
     ensures { IfOk result (λ job. IsJob (pipeline_in job)) }
 {
     job_of(alloc, HALVED, &[], RISING, (1, 1))
 }
 
+fn has_stage(alloc: Global, job: &Job, stage: usize, wanted: &str) -> Result<(), Fail>
+    requires { IsJob (pipeline_in job.now) }
+{
+    let values = plain(alloc, job, stage)?;
+    tells(alloc, &values, wanted)
+}
+
+// Of an accumulator, and of what is no stage, there are no values.
+fn has_values(alloc: Global, job: &Job) -> Result<(), Fail>
+    requires { IsJob (pipeline_in job.now) }
+{
+    let samples = "[0, 1, 2, 3, 4, 5, 6, 7, 8, 9, 10, 11, 12, 13, 14, 15]";
+    has_stage(alloc, job, 0, samples)?;
+    has_stage(alloc, job, 1, "[0, 2, 8, 10]")?;
+    has_stage(
+        alloc,
+        job,
+        2,
+        "[0, 0, 2, 2, 0, 0, 2, 2, 8, 8, 10, 10, 8, 8, 10, 10]",
+    )?;
+    has_stage(alloc, job, 3, "[]")?;
+    has_stage(alloc, job, 4, "[]")
+}
+
 #[test]
 fn values_of_a_stage(rt: HostRuntime) -> Result<(), Fail> {
-    let alloc = rt.alloc();
-    let job = halved(alloc)?;
-    let samples = plain(alloc, &job, 0)?;
-    assert_eq!(rt;
-        (samples.len(), samples.first(), samples.last()),
-        (16, Some(&0), Some(&15))
-    );
-    assert_eq!(rt; plain(alloc, &job, 1)?.as_slice(), SMALL.as_slice());
-    assert_eq!(rt; plain(alloc, &job, 2)?.as_slice(), BIG.as_slice());
-    assert!(rt; plain(alloc, &job, 3)?.is_empty());
-    assert!(rt; plain(alloc, &job, 4)?.is_empty());
-    Ok(())
+    let job = halved(rt.alloc())?;
+    has_values(rt.alloc(), &job)
+}
+
+fn has_stages(alloc: Global, job: &Job, stages: &[usize], wanted: &str) -> Result<(), Fail>
+    requires { IsJob (pipeline_in job.now) }
+{
+    let values = plain_all(alloc, job, stages)?;
+    tells(alloc, &values, wanted)
+}
+
+fn has_all_values(alloc: Global, job: &Job) -> Result<(), Fail>
+    requires { IsJob (pipeline_in job.now) }
+{
+    has_stages(
+        alloc,
+        job,
+        &[2, 4, 1, 1, 3],
+        "[[0, 0, 2, 2, 0, 0, 2, 2, 8, 8, 10, 10, 8, 8, 10, 10], [], [0, 2, 8, 10], [0, 2, 8, 10], []]",
+    )?;
+    has_stages(alloc, job, &[], "[]")
 }
 
 #[test]
 fn values_of_several_stages(rt: HostRuntime) -> Result<(), Fail> {
-    let alloc = rt.alloc();
-    let job = halved(alloc)?;
-    let all = plain_all(alloc, &job, &[2, 4, 1, 1, 3])?;
-    let wanted: [&[i32]; 5] = [&BIG, &[], &SMALL, &SMALL, &[]];
-    assert_eq!(rt; all.len(), 5);
-    for (values, wanted) in all.iter().zip(wanted) {
-        assert_eq!(rt; values.as_slice(), wanted);
-    }
-    assert!(rt; plain_all(alloc, &job, &[])?.is_empty());
-    Ok(())
+    let job = halved(rt.alloc())?;
+    has_all_values(rt.alloc(), &job)
 }

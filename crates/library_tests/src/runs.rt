@@ -1,0 +1,60 @@
+#![tactic(auto)]
+//! Schedules, plans and runs of jobs, for the other tests.
+
+ghost use Rattle.std.specs.Prelude.{◌≡◌, ◌≤◌, length, IfOk};
+ghost use Rattle.grouping.specs.Inlining.{IsScheduleOf};
+ghost use Rattle.job.specs.Kept.{pipeline_in};
+ghost use Rattle.job.specs.WellFormed.{IsJob};
+ghost use Rattle.tile_run.specs.Lent.{AreTrue};
+ghost use Rattle.tile_run.specs.Stored.{stored_tiles, LendsAllTiles};
+
+use grouping::Schedule;
+use job::Job;
+use std::alloc::Global;
+use std::test::Fail;
+use tile_run::{Stored, run_all};
+
+/// Fails where a job has more stages than the tests' programs have.
+pub(crate) fn has_few_stages(job: &Job) -> Result<(), Fail>
+    ensures { IfOk result (λ _. length (pipeline_in job.now).stages ≤ 64) }
+{
+    if job.stages().len() > 64 {
+        return Err(Fail::new("too many stages"));
+    }
+    Ok(())
+}
+
+/// The schedule of these flags, one for each stage.
+pub(crate) fn schedule_of(alloc: Global, job: &Job, flags: &[bool]) -> Result<Schedule, Fail>
+    requires { IsJob (pipeline_in job.now) }
+    ensures { IfOk result (IsScheduleOf (pipeline_in job.now)) }
+{
+    if flags.len() != job.stages().len() {
+        return Err(Fail::new("not as many flags as stages"));
+    }
+    Ok(Schedule::of(alloc, job, flags)?)
+}
+
+/// The schedule that inlines wherever it may, or that stores all.
+pub(crate) fn chosen(alloc: Global, job: &Job, inline: bool) -> Result<Schedule, Fail>
+    requires { IsJob (pipeline_in job.now) }
+    ensures { IfOk result (IsScheduleOf (pipeline_in job.now)) }
+{
+    if inline {
+        Ok(Schedule::greedy(alloc, job, 10000)?)
+    } else {
+        Ok(Schedule::stored(alloc, job)?)
+    }
+}
+
+/// The tiles of a job's stored functions.
+pub(crate) fn run(alloc: Global, job: &Job, schedule: &Schedule) -> Result<Stored, Fail>
+    requires job { IsJob (pipeline_in job.now) }
+    requires schedule { IsScheduleOf (pipeline_in job.now) schedule.now }
+    ensures few { IfOk result (λ _. length (pipeline_in job.now).stages ≤ 64) }
+    ensures all { IfOk result (λ stored. LendsAllTiles (pipeline_in job.now) schedule.now.flags (stored_tiles stored.stages.items)) }
+    ensures values { IfOk result (λ stored. AreTrue (pipeline_in job.now) (stored_tiles stored.stages.items)) }
+{
+    has_few_stages(job)?;
+    Ok(run_all(alloc, job, schedule)?)
+}
