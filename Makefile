@@ -1,4 +1,5 @@
-.PHONY: demo test
+.PHONY: build cases check demo edits test
+program := crates/tilefarm/out/tilefarm
 
 # Evaluates the edge detector on its picture, without any proof, and shows the program, the picture and the result.
 demo:
@@ -8,6 +9,31 @@ demo:
 	@echo '(run without proofs, by rt try; "make test" checks the proofs and leaves the proved program in'
 	@echo ' crates/tilefarm/out/tilefarm)'
 
-# Every proof from nothing, every must-fail edit, every test, every stored run, and the conformance cases.
+# Every proof from nothing, every wrong body, every test, every stored run, the conformance cases and the examples.
 test:
 	@tests/gate
+
+# What changed, over kept work; and each wrong body that no longer applies.
+check:
+	@rt all check; status=$$?; tests/run_edits --read && exit $$status
+
+# The wrong bodies of the crates that are named, over kept work: make edits domains netpbm. All of them where none is named.
+edits:
+	@tests/run_edits --kept $(NAME)
+
+# The words behind `edits` name crates, and are no goals of their own.
+ifeq (edits,$(firstword $(MAKECMDGOALS)))
+NAME := $(wordlist 2,$(words $(MAKECMDGOALS)),$(MAKECMDGOALS))
+$(eval $(if $(NAME),$(NAME):;@:))
+endif
+
+# The proved program, over kept work, as fast as the machine allows, without any wrong body or test.
+build:
+	@tests/build
+
+# The conformance cases, on the program that stands built.
+cases: | $(program)
+	@tests/run_cases $(program)
+
+$(program):
+	@tests/build

@@ -1,0 +1,1 @@
+"""Judges wrong bodies: many edits of a crate by one check of one copy. See docs/GATE.md."""

@@ -1,0 +1,119 @@
+"""Reads what a check said, and judges edits by it.
+
+An edit is refused for itself alone: by an error in its functions' own lines or in their own proof files, or by their own
+verdict. That a function calls another which is not proved says nothing of it, nor does a proof file that names what the
+edit took away.
+"""
+import re
+from typing import NamedTuple, Optional
+
+from .edit import Edit
+from .functions import Function
+from .toolchain import rt, rtlib
+
+REFUSED, NOT_REFUSED, NOT_CLEAR, BAD_EDIT = "refused", "NOT REFUSED", "NOT CLEAR", "BAD EDIT"
+# A line that tells of a place: an error, or a note that something is not proved there.
+PLACED = re.compile(r"(note: )?(?:\./)?((?:src|specs|proofs)/\S+?):(\d+):\d+: (.*)")
+TOLD = re.compile(r"error\b|it is not proved")
+# What follows from another error, and what a proof file says where it names what the edit took away.
+FOLLOWS = re.compile(r"that depends? on `")
+NAMES = re.compile(r"has no field|is not in scope|has no `|was not admitted")
+# What is said where no function, or more than one, has the name that was asked for.
+MISNAMED = re.compile(r"(?:functions are named|has no function) `([^`]+)`")
+
+
+class Outcome(NamedTuple):
+    word: str
+    why: str
+
+
+class Trouble(NamedTuple):
+    """A line of a check that tells of something wrong at a place."""
+
+    file: str
+    line: int
+    text: str
+
+    def is_of(self, function: Function, printed: list[str]) -> bool:
+        """Whether it stands in the function's own lines, or in its own proof files or those of its cycle."""
+        if self.file == function.file:
+            return self.line in function.lines
+        folders = ["/".join(it.split("::")[1:]) for it in printed]
+        own = any(self.file.startswith(f"proofs/{it}/") for it in folders)
+        return own or bool(function.cycle) and self.file.startswith("proofs/") and f"/+{function.cycle}/" in self.file
+
+    def counts(self) -> bool:
+        """Whether a refusal may rest on it."""
+        return not FOLLOWS.search(self.text) and not (self.file.startswith("proofs/") and NAMES.search(self.text))
+
+
+class Said:
+    """What a check said, its status, and what it took."""
+
+    def __init__(self, text: str, status: int, processor: float = 0.0, clock: float = 0.0):
+        self.text, self.status, self.processor, self.clock = text, status, processor, clock
+        self.lines = text.rstrip("\n").split("\n")
+        self.last = self.lines[-1]
+        self.reached_prover = self.last.startswith(("only=", "logic=")) and not rtlib.STALE.search(text)
+        self.verdicts = dict(re.findall(r"(?m)^fn (\S+): (.*)$", text))
+        placed = [it for it in map(PLACED.match, self.lines) if it and TOLD.match(it[4])]
+        self.troubles = [Trouble(it[2], int(it[3]), it[0]) for it in placed]
+
+    def unread(self, changed: set[str]) -> list[str]:
+        """The lines that say that a text could not be read, so that no proof was tried over it."""
+        return [it for it in self.lines if rt.unread(it, changed)]
+
+
+def files_of(edits: list[Edit]) -> set[str]:
+    return {file for edit in edits for file, _, _ in edit.pairs}
+
+
+def suspects(edits: list[Edit], said: Said) -> list[Edit]:
+    """The edits in whose lines a text could not be read, or whose functions' names do not tell one function."""
+    misnamed = {*MISNAMED.findall(said.text)} if not said.reached_prover else set()
+    lines = "\n".join(said.unread(files_of(edits))) if said.reached_prover else said.text
+    troubles = Said(lines, 1).troubles
+    is_bad = lambda f: f.path in misnamed or any(it.is_of(f, []) for it in troubles)
+    return [it for it in edits if any(map(is_bad, it.functions))]
+
+
+def judged_by_functions(edit: Edit, said: Said) -> Optional[Outcome]:
+    """What a check of the edit's functions says of it, beside others or alone, where that is clear."""
+    proved = []
+    for function in edit.functions:
+        own = {name: verdict for name, verdict in said.verdicts.items() if function.names(name)}
+        refused = {name: verdict for name, verdict in own.items() if verdict.startswith(("not proved", "no proof"))}
+        proved.append(bool(own) and all(it == "proved" for it in own.values()))
+        if not refused:
+            continue
+        for trouble in said.troubles:
+            if trouble.counts() and trouble.is_of(function, [*own]):
+                return Outcome(REFUSED, trouble.text)
+        for name, verdict in refused.items():
+            if "did not prove `" in verdict:
+                return Outcome(REFUSED, f"{name}: {verdict}")
+    if edit.functions and all(proved):
+        return Outcome(NOT_REFUSED, f"{', '.join(it.path for it in edit.functions)}: proved with this edit")
+    return None
+
+
+def judged_whole(edit: Edit, said: Said) -> Outcome:
+    """What a check of the whole crate with this edit alone says of it."""
+    unread = said.unread(files_of([edit]))
+    if unread:
+        return Outcome(BAD_EDIT, f"the prover cannot read the edited text, so no contract was tried: {unread[0]}")
+    if rtlib.STALE.search(said.text):
+        return Outcome(NOT_CLEAR, "the work of a library below could not be used")
+    if said.status == 0:
+        return Outcome(NOT_REFUSED, "the crate is proved with this edit")
+    if said.status != 1 or not said.last.startswith("logic=not-proved"):
+        first = next((it.text for it in said.troubles), said.last)
+        return Outcome(BAD_EDIT if said.troubles else NOT_CLEAR, f"it did not reach the prover: {first}")
+    clear = judged_by_functions(edit, said)
+    counting = [it.text for it in said.troubles if it.counts()]
+    if clear and clear.word == REFUSED:
+        return clear
+    if counting and not edit.only:
+        return Outcome(REFUSED, counting[0])
+    why = "only a proof file that names what the edit took away tells of it: change a value and keep the names"
+    return clear or Outcome(NOT_CLEAR, f"no error in its own text: {said.last}" if counting or not said.troubles else why)

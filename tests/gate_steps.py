@@ -1,0 +1,168 @@
+"""The steps of the gate, which tests/gate starts: each in turn in a clone of HEAD, with its lines, its time and its count.
+
+`rt ci` ends by putting older work back into the folder that it ran in, so a folder that has been worked in loses what the gate
+has just proved. A clone has no older work: the wrong bodies are judged over the libraries that this very run proved.
+"""
+import os
+import re
+import shutil
+import signal
+import subprocess
+import sys
+import tempfile
+import threading
+import time
+from typing import Callable, NamedTuple
+
+TOP = os.path.dirname(os.path.dirname(os.path.realpath(__file__)))
+BUILT = "crates/tilefarm/out/tilefarm"
+PROGRAMS = (BUILT, f"{BUILT}.by-rattle")
+COUNT = re.compile(r"(\d+) passed, (\d+) failed$")
+PROVED = re.compile(r"rt: (\w+)(: its tests are)? proved$")
+JUDGED = re.compile(r"edits: (\w+): (\d+) of (\d+) refused, (\d+) checks, ([\d.]+) s of processor, ([\d.]+) s by the clock$")
+
+
+class Step(NamedTuple):
+    name: str
+    passed: int
+    failed: int
+    processor: float
+    clock: float
+
+    def line(self) -> str:
+        took = f"{minutes(self.processor)} of processor, {minutes(self.clock)} by the clock"
+        return f"gate: {self.name}: {self.passed} passed, {self.failed} failed ({took})"
+
+
+class Times:
+    """When each crate's proof began and ended, and what its wrong bodies took."""
+
+    def __init__(self, clone: str):
+        self.clone, self.began, self.proof, self.tests, self.edits = clone, {}, {}, {}, {}
+
+    def look(self) -> None:
+        """A proof begins by making the crate's folder out."""
+        for name in os.listdir(f"{self.clone}/crates"):
+            if name not in self.began and os.path.isdir(f"{self.clone}/crates/{name}/out"):
+                self.began[name] = time.monotonic()
+
+    def watch(self, ended: threading.Event) -> None:
+        while not ended.wait(0.5):
+            self.look()
+
+    def hear(self, line: str) -> None:
+        proved, judged = PROVED.match(line), JUDGED.match(line)
+        if proved and proved[1] in self.began:
+            (self.tests if proved[2] else self.proof)[proved[1]] = time.monotonic() - self.began[proved[1]]
+        elif judged:
+            self.edits[judged[1]] = (judged[2], judged[3], judged[4], float(judged[5]), float(judged[6]))
+
+    def table(self) -> list[str]:
+        rows = [("crate", "proof", "its tests", "wrong bodies refused", "checks", "processor", "clock")]
+        for name in sorted({*self.proof, *self.tests, *self.edits}, key=lambda it: self.proof.get(it, 0)):
+            refused, count, checks, processor, clock = self.edits.get(name, ("", "", "", 0.0, 0.0))
+            of_edits = (f"{refused} of {count}", checks, minutes(processor), minutes(clock)) if count else ("", "", "", "")
+            rows.append((name, minutes(self.proof.get(name, 0)), minutes(self.tests.get(name, 0)), *of_edits))
+        widths = [max(map(len, column)) for column in zip(*rows)]
+        return ["  ".join(cell.ljust(width) for cell, width in zip(row, widths)).rstrip() for row in rows]
+
+
+def minutes(seconds: float) -> str:
+    """Whole minutes and seconds, or nothing for no time."""
+    whole = round(seconds)
+    return f"{whole // 60}:{whole % 60:02}" if seconds else ""
+
+
+def tell(*lines: str) -> None:
+    for line in lines:
+        print(line, flush=True)
+
+
+def run(name: str, folder: str, words: list[str], hear: Callable[[str], None] = lambda line: None) -> Step:
+    """Runs a command with its lines as they come. Its last line counts what it tried; a command that counts nothing is one."""
+    tell(f"== gate: {name}: {' '.join(words)}")
+    began, last = time.monotonic(), ""
+    how = {"stdin": subprocess.DEVNULL, "stdout": subprocess.PIPE, "stderr": subprocess.STDOUT, "errors": "replace"}
+    ran = subprocess.Popen(words, cwd=folder, **how)
+    try:
+        for line in ran.stdout:
+            last = line.rstrip("\n")
+            tell(last)
+            hear(last)
+    except BaseException:
+        ran.terminate()
+        raise
+    ran.stdout.close()
+    _, status, used = os.wait4(ran.pid, 0)
+    ran.returncode = os.waitstatus_to_exitcode(status)
+    counted = COUNT.match(last)
+    passed, failed = (int(counted[1]), int(counted[2])) if counted else (int(ran.returncode == 0), 0)
+    step = Step(name, passed, failed or int(ran.returncode != 0), used.ru_utime + used.ru_stime, time.monotonic() - began)
+    tell(step.line())
+    return step
+
+
+def prove(clone: str, times: Times) -> Step:
+    ended = threading.Event()
+    watching = threading.Thread(target=times.watch, args=(ended,), daemon=True)
+    watching.start()
+    try:
+        return run("proofs", clone, ["rt", "ci"], times.hear)
+    finally:
+        ended.set()
+        watching.join()
+
+
+def steps(clone: str, times: Times) -> list[Step]:
+    """Runs each step. Without the proofs there is nothing to judge edits over, and no proved program."""
+    done = [prove(clone, times)]
+    if not done[0].failed:
+        done.append(run("wrong bodies", clone, ["tests/run_edits", "--as-built"], times.hear))
+    done.append(run("tests of the runner", clone, ["tests/test_run_edits.py"]))
+    done.append(run("tests of the gate", clone, ["tests/test_gate.py"]))
+    if not done[0].failed:
+        done.append(run("conformance cases", clone, ["tests/run_cases", *PROGRAMS]))
+        done.append(run("results of the examples", clone, ["examples/expected"]))
+        done.append(run("page of the examples", clone, ["examples/show", "--check", BUILT]))
+    return done
+
+
+def leave_programs(clone: str) -> None:
+    """Puts the proved programs where those who called the gate look for them."""
+    os.makedirs(os.path.dirname(f"{TOP}/{BUILT}"), exist_ok=True)
+    for program in PROGRAMS:
+        if os.path.isfile(f"{clone}/{program}"):
+            shutil.copy2(f"{clone}/{program}", f"{TOP}/{program}")
+
+
+def changed() -> str:
+    """What differs from HEAD, which the gate does not judge."""
+    return subprocess.run(["git", "status", "--short"], cwd=TOP, capture_output=True, text=True).stdout.rstrip("\n")
+
+
+def main() -> int:
+    # (so that the clone is removed where the gate is ended from outside)
+    signal.signal(signal.SIGTERM, lambda *_: sys.exit(143))
+    if changed():
+        tell("gate: HEAD is judged, and not these changes, which are not committed:", changed())
+    began = time.monotonic()
+    with tempfile.TemporaryDirectory(prefix="gate-") as room:
+        clone = f"{room}/clone"
+        if subprocess.run(["git", "clone", "--quiet", "--local", TOP, clone]).returncode:
+            tell("gate: no clone could be made", "0 passed, 1 failed")
+            return 2
+        times = Times(clone)
+        done = steps(clone, times)
+        if not done[0].failed:
+            leave_programs(clone)
+    tell("== gate: crate by crate, in minutes and seconds (proofs run side by side)", *times.table())
+    tell("== gate: step by step", *(it.line() for it in done), f"gate: {minutes(time.monotonic() - began)} by the clock in all")
+    failed = sum(it.failed for it in done)
+    if done[0].failed:
+        tell("gate: not tried, since a proof failed: wrong bodies, conformance cases, examples")
+    tell(f"{sum(it.passed for it in done)} passed, {failed} failed")
+    return 1 if failed else 0
+
+
+if __name__ == "__main__":
+    sys.exit(main())
