@@ -1,0 +1,3 @@
+pub mod LeaseLists
+pub mod LegalHistories
+pub mod StandingDesks

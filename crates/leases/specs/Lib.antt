@@ -1,0 +1,4 @@
+pub mod Leases
+pub mod Rules
+pub mod Standing
+pub mod Books

@@ -1,0 +1,114 @@
+//! The desk: a clock, and the latest lease of each key.
+
+ghost use Rattle.std.specs.Prelude.{◌≡◌, ◌≢◌, ◌+◌, ◌^◌, ◌<◌, ◌≤◌, ℕ, Option, Some, None, List, [], max};
+ghost use Rattle.leases.specs.declared.answer.Claim.{Claim};
+ghost use Rattle.leases.specs.declared.answer.Release.{Release};
+ghost use Rattle.leases.specs.declared.entry.Entry.{Entry};
+
+use crate::answer::{Claim, Release};
+use crate::entry::Lease;
+use identity::Key;
+use std::alloc::Global;
+use std::collections::BTreeMap;
+
+/// Leases by a clock. The time of a call is the greatest `now` of all calls so far, its own included; a claim that is answered
+/// `Memory` counts for nothing.
+#[derive(Drop)]
+pub struct Desk {
+    clock: u64,
+    leases: BTreeMap<Key, Lease>,
+}
+
+impl Desk {
+    ghost use Rattle.leases.specs.Leases.{in_force};
+    ghost use Rattle.leases.specs.Rules.{claim_answer, release_answer, holder_of, recorded, claim_entry, release_entry, time_after};
+    ghost use Rattle.leases.specs.Standing.{StandsFor, shown_at, kept_by};
+
+    /// A desk with no leases, at time 0.
+    pub fn new(alloc: Global) -> Desk
+        ensures stands { StandsFor result [] 0 }
+        ensures kept { kept_by result ≡ 0 }
+    {
+        Desk {
+            clock: 0,
+            leases: BTreeMap::new(alloc),
+        }
+    }
+
+    // The lease of a key, if it is not over at the time.
+    fn lease_at(&self, key: &Key, time: u64) -> Option<Lease>
+        ensures { result ≡ shown_at time self.now key.now }
+    {
+        let lease = *self.leases.get(key)?;
+        if time < lease.until {
+            Some(lease)
+        } else {
+            None
+        }
+    }
+
+    /// Claims a key for a node, for `ttl` from the time of the call on, at most until the greatest number of 64 bits. A claim
+    /// by the node that has the key renews its lease. With `Memory` the desk stands as before, at its time; it comes in place of
+    /// `Granted` alone.
+    pub fn claim(&mut self, now: u64, node: u8, key: Key, ttl: u64) -> Claim
+        ensures answer { (h : List Entry) (t : ℕ) → StandsFor self.old h t → result ≢ Claim.Memory
+            → result ≡ claim_answer h (max t now) node key ttl }
+        ensures memory { (h : List Entry) (t : ℕ) → StandsFor self.old h t → result ≡ Claim.Memory
+            → in_force key (max t now) h ≡ None }
+        ensures stands { (h : List Entry) (t : ℕ) → StandsFor self.old h t
+            → StandsFor self.new (recorded h (claim_entry (max t now) node key result)) (time_after t now result) }
+        ensures kept { kept_by self.new ≤ kept_by self.old + 1 }
+    {
+        let time = self.clock.max(now);
+        let claim = Claim::by_rules(self.lease_at(&key, time), time, node, ttl);
+        if let Some(lease) = claim.lease(time, node) {
+            let Ok(_) = self.leases.insert(key, lease) else {
+                return Claim::Memory;
+            };
+        }
+        self.clock = time;
+        claim
+    }
+
+    /// Ends the lease of a node, if it is in force.
+    pub fn release(&mut self, now: u64, node: u8, key: &Key) -> Release
+        ensures answer { (h : List Entry) (t : ℕ) → StandsFor self.old h t
+            → result ≡ release_answer h (max t now) node key.now }
+        ensures stands { (h : List Entry) (t : ℕ) → StandsFor self.old h t
+            → StandsFor self.new (recorded h (release_entry (max t now) node key.now result)) (max t now) }
+        ensures kept { kept_by self.new ≤ kept_by self.old }
+        ensures fewer { result ≡ Release.Released → kept_by self.new + 1 ≤ kept_by self.old }
+    {
+        self.clock = self.clock.max(now);
+        let release = Release::by_rules(self.lease_at(key, self.clock), node);
+        if let Release::Released = release {
+            self.leases.remove(key);
+        }
+        release
+    }
+
+    /// The node whose lease of a key is in force. The question moves the time.
+    pub fn holder(&mut self, now: u64, key: &Key) -> Option<u8>
+        ensures answer { (h : List Entry) (t : ℕ) → StandsFor self.old h t → result ≡ holder_of h (max t now) key.now }
+        ensures stands { (h : List Entry) (t : ℕ) → StandsFor self.old h t → StandsFor self.new h (max t now) }
+        ensures kept { kept_by self.new ≡ kept_by self.old }
+    {
+        self.clock = self.clock.max(now);
+        self.lease_at(key, self.clock).map(|lease| lease.node)
+    }
+
+    // The time of a call.
+    pub(crate) fn time_of_call(&self, now: u64) -> u64
+        ensures { (h : List Entry) (t : ℕ) → StandsFor self.now h t → result ≡ max t now }
+    {
+        self.clock.max(now)
+    }
+
+    // How many leases it keeps.
+    pub(crate) fn kept(&self) -> usize
+        ensures kept { result ≡ kept_by self.now }
+        ensures small { result < 2 ^ 63 }
+    {
+        self.leases.len()
+    }
+}

@@ -1,0 +1,15 @@
+//! Leases of keys: for each key one holder at a time, by a clock that the callers bring.
+#![tactic(auto)]
+
+mod answer;
+mod book;
+mod desk;
+mod entry;
+pub mod laws;
+mod live;
+
+pub use answer::{Claim, Release};
+pub use book::DeskBook;
+pub use desk::Desk;
+pub use entry::{Entry, Lease};
+pub use live::LiveDesk;
