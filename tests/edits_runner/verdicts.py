@@ -38,7 +38,9 @@ class Trouble(NamedTuple):
         """Whether it stands in the function's own lines, or in its own proof files or those of its cycle."""
         if self.file == function.file:
             return self.line in function.lines
-        folders = ["/".join(it.split("::")[1:]) for it in printed]
+        # (the folder of a function that calls itself begins with a plus, as that of a cycle)
+        paths = [it.split("::")[1:] for it in printed]
+        folders = ["/".join([*it[:-1], plus + it[-1]]) for it in paths for plus in ("", "+")]
         own = any(self.file.startswith(f"proofs/{it}/") for it in folders)
         return own or bool(function.cycle) and self.file.startswith("proofs/") and f"/+{function.cycle}/" in self.file
 
