@@ -5,7 +5,8 @@ use Rattle.std.proofs.lemmas.Bool.{cases_lt, false≢true}
 use Rattle.std.proofs.lemmas.Option.{same_Some}
 use Rattle.std.proofs.lemmas.Grind.{same_number_lists}
 use Rattle.pipe_tree.specs.declared.tree.Tree.{Tree}
-use Rattle.pipe_tree.specs.Tree.{Declaration, content}
+use Rattle.pipe_tree.specs.Tree.{Declaration}
+use Rattle.pipe_tree.specs.Content.{content}
 use Rattle.pipe_checks.specs.declared.declared.Declared.{Declared}
 use Rattle.pipe_checks.specs.declared.fault.Misuse.{Misuse}
 use Rattle.pipe_checks.specs.declared.fault.Misuse.TheVariants as misuse

@@ -1,6 +1,6 @@
 use Rattle.std.proofs.Common.{subst, sym, ap, ◌∙◌, List}
 use Rattle.std.specs.Prelude.{map}
-use Rattle.pipe_tree.specs.Tree.{content}
+use Rattle.pipe_tree.specs.Content.{content}
 use Rattle.pipe_checks.specs.declared.declared.Declared.{Declared}
 use Rattle.pipe_checks.specs.Checking.{tree_in}
 use Rattle.job.specs.WellFormed.{IsJob}
