@@ -10,7 +10,7 @@ use Rattle.job.specs.Answers.{grid_of, has_tiles}
 
 abbrev pub body_kind : Body → StageKind
 body_kind (plane n) = Plane
-body_kind (function pieces otherwise) = Function
+body_kind (function cases otherwise) = Function
 body_kind (accumulator fold bins value bin) = Accumulator
 
 abbrev pub kind_of : Stage → StageKind
@@ -19,12 +19,12 @@ kind_of s = body_kind s.body
 -- how an accumulator joins what bins
 abbrev pub fold_of : Body → Option Fold
 fold_of (plane n) = None
-fold_of (function pieces otherwise) = None
+fold_of (function cases otherwise) = None
 fold_of (accumulator fold bins value bin) = Some fold
 
 abbrev pub bins_of : Body → Option Ends
 bins_of (plane n) = None
-bins_of (function pieces otherwise) = None
+bins_of (function cases otherwise) = None
 bins_of (accumulator fold bins value bin) = Some bins
 
 -- functions and accumulators have tiles

@@ -8,7 +8,7 @@ use Rattle.pipe_lang.specs.declared.parse_error.ParseError.TheVariants as errors
 use Rattle.pipe_tree.specs.declared.tree.Item.{Item}
 use Rattle.pipe_tree.specs.Tokens.{head}
 use Rattle.pipe_tree.specs.Grammar.{is_output}
-use Rattle.pipe_tokens.specs.declared.token.Word.TheVariants as words
+use Rattle.pipe_tokens.specs.declared.token.Keyword.TheVariants as words
 use Rattle.pipe_tree.specs.declared.limits.Role.TheVariants as roles
 use Rattle.pipe_tree.specs.declared.tree.Test.{Test}
 use Rattle.pipe_tree.specs.Limits.{most_levels}

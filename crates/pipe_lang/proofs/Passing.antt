@@ -1,18 +1,18 @@
 -- What is ahead is a token, so passing it leaves fewer.
 use Rattle.std.proofs.Common.{Bool, true, ◌≡◌, ◌<◌, List, [], ◌∷◌, length, Some, arith}
 use Rattle.pipe_tokens.specs.declared.token.Token.{Token}
-use Rattle.pipe_tokens.specs.declared.token.Mark.{Mark}
-use Rattle.pipe_tokens.specs.declared.token.Word.{Word}
+use Rattle.pipe_tokens.specs.declared.token.Punct.{Punct}
+use Rattle.pipe_tokens.specs.declared.token.Keyword.{Keyword}
 use Rattle.pipe_tree.specs.declared.ahead.Factor.{Factor}
 use Rattle.pipe_tree.specs.Tokens.{head, tail}
 use Rattle.pipe_tree.specs.Operators.{sign_at, factor_at}
 use Rattle.pipe_tree.specs.Lookahead.{is_mark_at, is_word_at}
 
-pub mark_passes : (m : Mark) (rest : List Token) → is_mark_at m (head rest) ≡ true → length (tail rest) < length rest
+pub mark_passes : (m : Punct) (rest : List Token) → is_mark_at m (head rest) ≡ true → length (tail rest) < length rest
 mark_passes m [] e = absurd cc
 mark_passes m (t ∷ ts) e = omega arith
 
-pub word_passes : (w : Word) (rest : List Token) → is_word_at w (head rest) ≡ true → length (tail rest) < length rest
+pub word_passes : (w : Keyword) (rest : List Token) → is_word_at w (head rest) ≡ true → length (tail rest) < length rest
 word_passes w [] e = absurd cc
 word_passes w (t ∷ ts) e = omega arith
 

@@ -8,7 +8,7 @@ ghost use Rattle.pipe_lang.specs.Answers.{at, Reads};
 use crate::lookahead::{is_number, sign_of};
 use crate::parse_error::ParseError;
 use crate::parser::Parser;
-use pipe_tokens::{Mark, Name, Word};
+use pipe_tokens::{Keyword, Name, Punct};
 use pipe_tree::{Affine, AffineSpan, Role, Term, Variable};
 
 impl Parser<'_> {
@@ -17,8 +17,8 @@ impl Parser<'_> {
         ensures exact { Reads (λ b. (b, at self.new)) result (reading.minus (at self.old)) }
         ensures shorter { length self.new.rest.now ≤ length self.old.rest.now }
     {
-        if self.is_mark(Mark::Minus) {
-            self.mark(Mark::Minus, Role::Plain)?;
+        if self.is_mark(Punct::Minus) {
+            self.mark(Punct::Minus, Role::Plain)?;
             return Ok(true);
         }
         Ok(false)
@@ -34,10 +34,10 @@ impl Parser<'_> {
             return Ok((1, Some(self.name(Role::Plain)?)));
         }
         let factor = self.int(Role::Plain)?;
-        if !self.is_mark(Mark::Star) {
+        if !self.is_mark(Punct::Star) {
             return Ok((factor, None));
         }
-        self.mark(Mark::Star, Role::Plain)?;
+        self.mark(Punct::Star, Role::Plain)?;
         Ok((factor, Some(self.name(Role::Plain)?)))
     }
 
@@ -76,11 +76,11 @@ impl Parser<'_> {
         ensures exact { Reads (λ s. (s, at self.new)) result (reading.span (at self.old)) }
         ensures shorter { length self.new.rest.now ≤ length self.old.rest.now }
     {
-        self.mark(Mark::OpenSquare, Role::Plain)?;
+        self.mark(Punct::OpenSquare, Role::Plain)?;
         let first = self.affine()?;
-        self.mark(Mark::DotDot, Role::Plain)?;
+        self.mark(Punct::DotDot, Role::Plain)?;
         let last = self.affine()?;
-        self.mark(Mark::CloseSquare, Role::Plain)?;
+        self.mark(Punct::CloseSquare, Role::Plain)?;
         Ok(AffineSpan { first, last })
     }
 
@@ -90,7 +90,7 @@ impl Parser<'_> {
         ensures shorter { length self.new.rest.now ≤ length self.old.rest.now }
     {
         let name = self.name(Role::Plain)?;
-        self.word(Word::In, Role::Plain)?;
+        self.word(Keyword::In, Role::Plain)?;
         let span = self.span()?;
         Ok(Variable { name, span })
     }

@@ -11,16 +11,16 @@ use crate::lookahead::{factor_of, sign_of, start_of};
 use crate::parse_error::ParseError;
 use crate::parser::Parser;
 use domains::BinaryOp;
-use pipe_tokens::{Mark, Word};
+use pipe_tokens::{Keyword, Punct};
 use pipe_tree::{Expr, Factor, Kind, Opening, Role, Start};
 
 // The word of `min`, and of `max` else.
-fn word_of(op: BinaryOp) -> Word
+fn word_of(op: BinaryOp) -> Keyword
     ensures { result ≡ reading.word_of op }
 {
     match op {
-        BinaryOp::Min => Word::Min,
-        _ => Word::Max,
+        BinaryOp::Min => Keyword::Min,
+        _ => Keyword::Max,
     }
 }
 
@@ -113,20 +113,20 @@ impl Parser<'_> {
     {
         match opening {
             Opening::Minus => {
-                self.mark(Mark::Minus, Role::Node)?;
+                self.mark(Punct::Minus, Role::Node)?;
                 let operand = self.unary(levels)?;
                 Ok(Expr::Neg(Box::new(self.alloc, operand)?))
             }
             Opening::Group => {
-                self.mark(Mark::OpenRound, Role::Plain)?;
+                self.mark(Punct::OpenRound, Role::Plain)?;
                 let inner = self.expression(levels)?;
-                Ok(self.ended(inner, Mark::CloseRound)?)
+                Ok(self.ended(inner, Punct::CloseRound)?)
             }
             Opening::Abs => {
-                self.word(Word::Abs, Role::Node)?;
-                self.mark(Mark::OpenRound, Role::Plain)?;
+                self.word(Keyword::Abs, Role::Node)?;
+                self.mark(Punct::OpenRound, Role::Plain)?;
                 let operand = self.operand(levels)?;
-                self.mark(Mark::CloseRound, Role::Plain)?;
+                self.mark(Punct::CloseRound, Role::Plain)?;
                 Ok(Expr::Abs(operand))
             }
             Opening::Clamp => self.clamp(levels),
@@ -143,11 +143,11 @@ impl Parser<'_> {
         ensures shorter { length self.new.rest.now ≤ length self.old.rest.now }
     {
         self.word(word_of(op), Role::Node)?;
-        self.mark(Mark::OpenRound, Role::Plain)?;
+        self.mark(Punct::OpenRound, Role::Plain)?;
         let left = self.operand(levels)?;
-        self.mark(Mark::Comma, Role::Plain)?;
+        self.mark(Punct::Comma, Role::Plain)?;
         let right = self.operand(levels)?;
-        self.mark(Mark::CloseRound, Role::Plain)?;
+        self.mark(Punct::CloseRound, Role::Plain)?;
         Ok(Expr::Binary(op, left, right))
     }
 
@@ -157,14 +157,14 @@ impl Parser<'_> {
             (reading.clamped (expression_at levels) (at self.old)) }
         ensures shorter { length self.new.rest.now ≤ length self.old.rest.now }
     {
-        self.word(Word::Clamp, Role::Node)?;
-        self.mark(Mark::OpenRound, Role::Plain)?;
+        self.word(Keyword::Clamp, Role::Node)?;
+        self.mark(Punct::OpenRound, Role::Plain)?;
         let value = self.operand(levels)?;
-        self.mark(Mark::Comma, Role::Plain)?;
+        self.mark(Punct::Comma, Role::Plain)?;
         let least = self.operand(levels)?;
-        self.mark(Mark::Comma, Role::Plain)?;
+        self.mark(Punct::Comma, Role::Plain)?;
         let greatest = self.operand(levels)?;
-        self.mark(Mark::CloseRound, Role::Plain)?;
+        self.mark(Punct::CloseRound, Role::Plain)?;
         Ok(Expr::Clamp(value, least, greatest))
     }
 
@@ -174,16 +174,16 @@ impl Parser<'_> {
             (reading.selected (expression_at levels) (at self.old)) }
         ensures shorter { length self.new.rest.now ≤ length self.old.rest.now }
     {
-        self.word(Word::Select, Role::Node)?;
-        self.mark(Mark::OpenRound, Role::Plain)?;
+        self.word(Keyword::Select, Role::Node)?;
+        self.mark(Punct::OpenRound, Role::Plain)?;
         let left = self.operand(levels)?;
         let relation = self.relation()?;
         let right = self.operand(levels)?;
-        self.mark(Mark::Comma, Role::Plain)?;
+        self.mark(Punct::Comma, Role::Plain)?;
         let then = self.operand(levels)?;
-        self.mark(Mark::Comma, Role::Plain)?;
+        self.mark(Punct::Comma, Role::Plain)?;
         let otherwise = self.operand(levels)?;
-        self.mark(Mark::CloseRound, Role::Plain)?;
+        self.mark(Punct::CloseRound, Role::Plain)?;
         Ok(Expr::Select(left, relation, right, then, otherwise))
     }
 }

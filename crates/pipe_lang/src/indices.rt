@@ -11,7 +11,7 @@ ghost use Rattle.pipe_lang.specs.declared.parser.TheConstants.{MAX_NUMBER};
 use crate::lookahead::{is_number, sign_of};
 use crate::parse_error::ParseError;
 use crate::parser::{MAX_NUMBER, Parser};
-use pipe_tokens::{Mark, Name, Word};
+use pipe_tokens::{Keyword, Name, Punct};
 use pipe_tree::{Expr, Index, Kernel, Role, Row};
 
 // A number with its sign.
@@ -37,7 +37,7 @@ impl Parser<'_> {
             return Ok((1, self.name(Role::Plain)?));
         }
         let mul = self.int(Role::Plain)?;
-        self.mark(Mark::Star, Role::Plain)?;
+        self.mark(Punct::Star, Role::Plain)?;
         Ok((mul, self.name(Role::Plain)?))
     }
 
@@ -60,7 +60,7 @@ impl Parser<'_> {
         ensures exact { Reads (λ d. (d, at self.new)) result (reading.divisor (at self.old)) }
         ensures shorter { length self.new.rest.now ≤ length self.old.rest.now }
     {
-        self.mark(Mark::Slash, Role::Plain)?;
+        self.mark(Punct::Slash, Role::Plain)?;
         self.int(Role::Plain)
     }
 
@@ -69,11 +69,11 @@ impl Parser<'_> {
         ensures exact { Reads (λ i. (i, at self.new)) result (reading.index (at self.old)) }
         ensures shorter { length self.new.rest.now ≤ length self.old.rest.now }
     {
-        if self.is_mark(Mark::OpenRound) {
+        if self.is_mark(Punct::OpenRound) {
             return self.grouped_index();
         }
         let (mul, name) = self.scaled()?;
-        if self.is_mark(Mark::Slash) {
+        if self.is_mark(Punct::Slash) {
             let div = self.divisor()?;
             return Ok(Index {
                 mul,
@@ -96,10 +96,10 @@ impl Parser<'_> {
         ensures exact { Reads (λ i. (i, at self.new)) result (reading.grouped_index (at self.old)) }
         ensures shorter { length self.new.rest.now ≤ length self.old.rest.now }
     {
-        self.mark(Mark::OpenRound, Role::Plain)?;
+        self.mark(Punct::OpenRound, Role::Plain)?;
         let (mul, name) = self.scaled()?;
         let add = self.addend()?;
-        self.mark(Mark::CloseRound, Role::Plain)?;
+        self.mark(Punct::CloseRound, Role::Plain)?;
         let div = self.divisor()?;
         Ok(Index {
             mul,
@@ -116,14 +116,14 @@ impl Parser<'_> {
         ensures shorter { length self.new.rest.now ≤ length self.old.rest.now }
     {
         let name = self.name(Role::Node)?;
-        if !self.is_mark(Mark::OpenRound) {
+        if !self.is_mark(Punct::OpenRound) {
             return Ok(Expr::Name(name));
         }
-        self.mark(Mark::OpenRound, Role::Plain)?;
+        self.mark(Punct::OpenRound, Role::Plain)?;
         let row = self.index()?;
-        self.mark(Mark::Comma, Role::Plain)?;
+        self.mark(Punct::Comma, Role::Plain)?;
         let column = self.index()?;
-        self.mark(Mark::CloseRound, Role::Plain)?;
+        self.mark(Punct::CloseRound, Role::Plain)?;
         Ok(Expr::Read(name, row, column))
     }
 
@@ -132,14 +132,14 @@ impl Parser<'_> {
         ensures exact { Reads (λ e. (view e, at self.new)) result (reading.a_stencil (at self.old)) }
         ensures shorter { length self.new.rest.now ≤ length self.old.rest.now }
     {
-        self.word(Word::Stencil, Role::Node)?;
-        self.mark(Mark::OpenRound, Role::Plain)?;
+        self.word(Keyword::Stencil, Role::Node)?;
+        self.mark(Punct::OpenRound, Role::Plain)?;
         let name = self.name(Role::Plain)?;
-        self.mark(Mark::Comma, Role::Plain)?;
+        self.mark(Punct::Comma, Role::Plain)?;
         let divisor = self.int(Role::Plain)?;
-        self.mark(Mark::Comma, Role::Plain)?;
+        self.mark(Punct::Comma, Role::Plain)?;
         let kernel = self.kernel()?;
-        self.mark(Mark::CloseRound, Role::Plain)?;
+        self.mark(Punct::CloseRound, Role::Plain)?;
         Ok(Expr::Stencil(name, divisor, kernel))
     }
 
@@ -148,16 +148,16 @@ impl Parser<'_> {
         ensures exact { Reads (λ k. (k, at self.new)) result (reading.kernel (at self.old)) }
         ensures shorter { length self.new.rest.now ≤ length self.old.rest.now }
     {
-        self.mark(Mark::OpenSquare, Role::Plain)?;
+        self.mark(Punct::OpenSquare, Role::Plain)?;
         let first = self.row()?;
         let mut rows = Vec::new(self.alloc);
         rows.push(first)?;
-        while self.is_mark(Mark::Comma) {
-            self.mark(Mark::Comma, Role::Plain)?;
+        while self.is_mark(Punct::Comma) {
+            self.mark(Punct::Comma, Role::Plain)?;
             let row = self.row()?;
             rows.push(row)?;
         }
-        self.mark(Mark::CloseSquare, Role::Plain)?;
+        self.mark(Punct::CloseSquare, Role::Plain)?;
         Ok(Kernel::new(rows))
     }
 
@@ -166,16 +166,16 @@ impl Parser<'_> {
         ensures exact { Reads (λ r. (r, at self.new)) result (reading.row (at self.old)) }
         ensures shorter { length self.new.rest.now ≤ length self.old.rest.now }
     {
-        self.mark(Mark::OpenSquare, Role::Plain)?;
+        self.mark(Punct::OpenSquare, Role::Plain)?;
         let first = self.entry()?;
         let mut entries = Vec::new(self.alloc);
         entries.push(first)?;
-        while self.is_mark(Mark::Comma) {
-            self.mark(Mark::Comma, Role::Plain)?;
+        while self.is_mark(Punct::Comma) {
+            self.mark(Punct::Comma, Role::Plain)?;
             let entry = self.entry()?;
             entries.push(entry)?;
         }
-        self.mark(Mark::CloseSquare, Role::Plain)?;
+        self.mark(Punct::CloseSquare, Role::Plain)?;
         Ok(Row::new(entries))
     }
 

@@ -14,7 +14,7 @@ ghost use Rattle.pipe_lang.specs.Answers.{at, Reads};
 use crate::lookahead::item_of;
 use crate::parse_error::ParseError;
 use crate::parser::Parser;
-use pipe_tokens::{Mark, Token, Word};
+use pipe_tokens::{Keyword, Punct, Token};
 use pipe_tree::{
     Accum, Case, Cases, Condition, Expr, Func, Image, Item, ItemStart, MAX_LEVELS, Names, Output,
     Param, Role, Test, Variable,
@@ -28,9 +28,9 @@ impl Parser<'_> {
         ensures shorter { length self.new.rest.now ≤ length self.old.rest.now }
         ensures passes { OnOk result (length self.new.rest.now < length self.old.rest.now) }
     {
-        self.word(Word::Param, Role::Plain)?;
+        self.word(Keyword::Param, Role::Plain)?;
         let name = self.name(Role::Param)?;
-        self.mark(Mark::Semicolon, Role::Plain)?;
+        self.mark(Punct::Semicolon, Role::Plain)?;
         Ok(Param { name })
     }
 
@@ -41,12 +41,12 @@ impl Parser<'_> {
         ensures shorter { length self.new.rest.now ≤ length self.old.rest.now }
     {
         let first = self.name(role)?;
-        if !self.is_mark(Mark::Comma) {
+        if !self.is_mark(Punct::Comma) {
             return Ok(Names::One(first));
         }
-        self.mark(Mark::Comma, Role::Plain)?;
+        self.mark(Punct::Comma, Role::Plain)?;
         let second = self.name(role)?;
-        self.mark(Mark::Comma, Role::Plain)?;
+        self.mark(Punct::Comma, Role::Plain)?;
         let third = self.name(role)?;
         Ok(Names::Three(first, second, third))
     }
@@ -56,14 +56,14 @@ impl Parser<'_> {
         ensures exact { Reads (λ i. (i, at self.new)) result (reading.an_image (at self.old)) }
         ensures shorter { length self.new.rest.now ≤ length self.old.rest.now }
     {
-        self.word(Word::Image, Role::Plain)?;
+        self.word(Keyword::Image, Role::Plain)?;
         let names = self.names(Role::Stage)?;
-        self.mark(Mark::OpenRound, Role::Plain)?;
+        self.mark(Punct::OpenRound, Role::Plain)?;
         let rows = self.affine()?;
-        self.mark(Mark::Comma, Role::Plain)?;
+        self.mark(Punct::Comma, Role::Plain)?;
         let columns = self.affine()?;
-        self.mark(Mark::CloseRound, Role::Plain)?;
-        self.mark(Mark::Semicolon, Role::Plain)?;
+        self.mark(Punct::CloseRound, Role::Plain)?;
+        self.mark(Punct::Semicolon, Role::Plain)?;
         Ok(Image {
             names,
             rows,
@@ -77,11 +77,11 @@ impl Parser<'_> {
         ensures exact { Reads (λ vs. (vs, at self.new)) result (reading.variables (at self.old)) }
         ensures shorter { length self.new.rest.now ≤ length self.old.rest.now }
     {
-        self.mark(Mark::OpenRound, Role::Plain)?;
+        self.mark(Punct::OpenRound, Role::Plain)?;
         let row = self.variable()?;
-        self.mark(Mark::Comma, Role::Plain)?;
+        self.mark(Punct::Comma, Role::Plain)?;
         let column = self.variable()?;
-        self.mark(Mark::CloseRound, Role::Plain)?;
+        self.mark(Punct::CloseRound, Role::Plain)?;
         Ok((row, column))
     }
 
@@ -91,13 +91,13 @@ impl Parser<'_> {
         ensures shorter { length self.new.rest.now ≤ length self.old.rest.now }
     {
         let name = self.name(Role::Plain)?;
-        if !self.is_mark(Mark::Percent) {
+        if !self.is_mark(Punct::Percent) {
             let relation = self.relation()?;
             return Ok(Test::Compare(name, relation, self.affine()?));
         }
-        self.mark(Mark::Percent, Role::Plain)?;
+        self.mark(Punct::Percent, Role::Plain)?;
         let modulus = self.int(Role::Plain)?;
-        self.mark(Mark::Equals, Role::Plain)?;
+        self.mark(Punct::Equals, Role::Plain)?;
         let remainder = self.int(Role::Plain)?;
         Ok(Test::Remainder(name, modulus, remainder))
     }
@@ -110,8 +110,8 @@ impl Parser<'_> {
         let first = self.test()?;
         let mut tests = Vec::new(self.alloc);
         tests.push(first)?;
-        while self.is_word(Word::And) {
-            self.word(Word::And, Role::Plain)?;
+        while self.is_word(Keyword::And) {
+            self.word(Keyword::And, Role::Plain)?;
             let test = self.test()?;
             tests.push(test)?;
         }
@@ -125,9 +125,9 @@ impl Parser<'_> {
             (reading.value most_levels (at self.old)) }
         ensures shorter { length self.new.rest.now ≤ length self.old.rest.now }
     {
-        self.mark(Mark::Colon, Role::Plain)?;
+        self.mark(Punct::Colon, Role::Plain)?;
         let value = self.expression(MAX_LEVELS)?;
-        Ok(self.ended(value, Mark::Semicolon)?)
+        Ok(self.ended(value, Punct::Semicolon)?)
     }
 
     #[tactic(auto, using(crate::proofs::ItemUnrolled::next_case), unfolding(pipe_tree::specs::Reading::cases_at))]
@@ -137,8 +137,8 @@ impl Parser<'_> {
         ensures shorter { length self.new.rest.now ≤ length self.old.rest.now }
     {
         let mut cases = Vec::new(self.alloc);
-        while self.is_word(Word::Case) {
-            self.word(Word::Case, Role::Case)?;
+        while self.is_word(Keyword::Case) {
+            self.word(Keyword::Case, Role::Case)?;
             let condition = self.condition()?;
             let value = self.value()?;
             cases.push(Case { condition, value })?;
@@ -152,10 +152,10 @@ impl Parser<'_> {
             (reading.otherwise most_levels (at self.old)) }
         ensures shorter { length self.new.rest.now ≤ length self.old.rest.now }
     {
-        if !self.is_word(Word::Else) {
+        if !self.is_word(Keyword::Else) {
             return Ok(None);
         }
-        self.word(Word::Else, Role::Plain)?;
+        self.word(Keyword::Else, Role::Plain)?;
         Ok(Some(self.value()?))
     }
 
@@ -166,10 +166,10 @@ impl Parser<'_> {
         ensures shorter { length self.new.rest.now ≤ length self.old.rest.now }
         ensures passes { OnOk result (length self.new.rest.now < length self.old.rest.now) }
     {
-        self.word(Word::Func, Role::Function)?;
+        self.word(Keyword::Func, Role::Function)?;
         let name = self.name(Role::Stage)?;
         let (row, column) = self.variables()?;
-        self.mark(Mark::OpenCurly, Role::Plain)?;
+        self.mark(Punct::OpenCurly, Role::Plain)?;
         let cases = self.cases()?;
         let otherwise = self.otherwise()?;
         let func = Func {
@@ -179,7 +179,7 @@ impl Parser<'_> {
             cases,
             otherwise,
         };
-        Ok(self.ended(func, Mark::CloseCurly)?)
+        Ok(self.ended(func, Punct::CloseCurly)?)
     }
 
     #[tactic(auto, unfolding(pipe_tree::specs::Reading::an_accumulator))]
@@ -189,14 +189,14 @@ impl Parser<'_> {
         ensures shorter { length self.new.rest.now ≤ length self.old.rest.now }
         ensures passes { OnOk result (length self.new.rest.now < length self.old.rest.now) }
     {
-        self.word(Word::Accum, Role::Plain)?;
+        self.word(Keyword::Accum, Role::Plain)?;
         let name = self.name(Role::Stage)?;
         let bins = self.span()?;
-        self.word(Word::Over, Role::Plain)?;
+        self.word(Keyword::Over, Role::Plain)?;
         let (row, column) = self.variables()?;
         let fold = self.fold()?;
         let value = self.expression(MAX_LEVELS)?;
-        self.word(Word::At, Role::Plain)?;
+        self.word(Keyword::At, Role::Plain)?;
         let bin = self.expression(MAX_LEVELS)?;
         let accum = Accum {
             name,
@@ -207,7 +207,7 @@ impl Parser<'_> {
             value,
             bin,
         };
-        Ok(self.ended(accum, Mark::Semicolon)?)
+        Ok(self.ended(accum, Punct::Semicolon)?)
     }
 
     #[tactic(auto, unfolding(pipe_tree::specs::Reading::an_output))]
@@ -216,11 +216,11 @@ impl Parser<'_> {
         ensures shorter { length self.new.rest.now ≤ length self.old.rest.now }
         ensures passes { OnOk result (length self.new.rest.now < length self.old.rest.now) }
     {
-        self.word(Word::Output, Role::Plain)?;
+        self.word(Keyword::Output, Role::Plain)?;
         let names = self.names(Role::Plain)?;
-        self.word(Word::Max, Role::Plain)?;
+        self.word(Keyword::Max, Role::Plain)?;
         let max = self.int(Role::Plain)?;
-        self.mark(Mark::Semicolon, Role::Plain)?;
+        self.mark(Punct::Semicolon, Role::Plain)?;
         Ok(Output { names, max })
     }
 

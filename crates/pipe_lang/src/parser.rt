@@ -14,7 +14,7 @@ ghost use Rattle.pipe_tree.specs.Lookahead.{is_mark_at, is_word_at};
 use crate::lookahead::{factor_of, fold_of, is_mark, is_word, relation_of, sign_of};
 use crate::parse_error::ParseError;
 use domains::{Fold, Relation};
-use pipe_tokens::{Mark, Name, Token, Word};
+use pipe_tokens::{Keyword, Name, Punct, Token};
 use pipe_tree::{Counts, Factor, Halt, Kind, Role};
 use std::alloc::Global;
 
@@ -61,13 +61,13 @@ impl Parser<'_> {
         }
     }
 
-    pub fn is_mark(&self, mark: Mark) -> bool
+    pub fn is_mark(&self, mark: Punct) -> bool
         ensures { result ≡ is_mark_at mark (head self.now.rest.now) }
     {
         is_mark(self.ahead(), mark)
     }
 
-    pub fn is_word(&self, word: Word) -> bool
+    pub fn is_word(&self, word: Keyword) -> bool
         ensures { result ≡ is_word_at word (head self.now.rest.now) }
     {
         is_word(self.ahead(), word)
@@ -110,7 +110,7 @@ impl Parser<'_> {
     }
 
     #[tactic(auto, using(crate::proofs::Passing::mark_passes))]
-    pub fn mark(&mut self, mark: Mark, role: Role) -> Result<(), ParseError>
+    pub fn mark(&mut self, mark: Punct, role: Role) -> Result<(), ParseError>
         ensures exact { Reads (λ _. (tt, at self.new)) result (reading.mark mark role (at self.old)) }
         ensures shorter { length self.new.rest.now ≤ length self.old.rest.now }
         ensures passes { OnOk result (length self.new.rest.now < length self.old.rest.now) }
@@ -123,7 +123,7 @@ impl Parser<'_> {
     }
 
     // Gives back what was read, if the mark stands behind it.
-    pub fn ended<T: Drop>(&mut self, value: T, mark: Mark) -> Result<T, ParseError>
+    pub fn ended<T: Drop>(&mut self, value: T, mark: Punct) -> Result<T, ParseError>
         ensures exact { Reads (λ _. (tt, at self.new)) result (reading.mark mark Role.Plain (at self.old)) }
         ensures shorter { length self.new.rest.now ≤ length self.old.rest.now }
         ensures same { IfOk result (λ x. x ≡ value) }
@@ -133,7 +133,7 @@ impl Parser<'_> {
     }
 
     #[tactic(auto, using(crate::proofs::Passing::word_passes))]
-    pub fn word(&mut self, word: Word, role: Role) -> Result<(), ParseError>
+    pub fn word(&mut self, word: Keyword, role: Role) -> Result<(), ParseError>
         ensures exact { Reads (λ _. (tt, at self.new)) result (reading.word word role (at self.old)) }
         ensures shorter { length self.new.rest.now ≤ length self.old.rest.now }
         ensures passes { OnOk result (length self.new.rest.now < length self.old.rest.now) }

@@ -1,5 +1,5 @@
 use Rattle.std.proofs.Common.{◌≡◌, ◌≤◌, length}
-use Rattle.pipe_tokens.specs.declared.token.Word.TheVariants as words
+use Rattle.pipe_tokens.specs.declared.token.Keyword.TheVariants as words
 use Rattle.pipe_tree.specs.Limits.{most_levels}
 use Rattle.pipe_tree.specs.Lookahead.{is_word_at}
 use Rattle.pipe_tree.specs.Tree.{branches}

@@ -1,5 +1,5 @@
 use Rattle.std.proofs.Common.{◌≡◌, ◌≤◌, length}
-use Rattle.pipe_tokens.specs.declared.token.Word.TheVariants.{And}
+use Rattle.pipe_tokens.specs.declared.token.Keyword.TheVariants.{And}
 use Rattle.pipe_tree.specs.declared.limits.Role.TheVariants.{Plain}
 use Rattle.pipe_tree.specs.Lookahead.{is_word_at}
 use Rattle.pipe_tree.specs.Reading.{while, next_behind, word, a_test, condition}

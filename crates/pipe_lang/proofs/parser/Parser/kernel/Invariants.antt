@@ -1,5 +1,5 @@
 use Rattle.std.proofs.Common.{◌≡◌, ◌≤◌, length}
-use Rattle.pipe_tokens.specs.declared.token.Mark.TheVariants.{Comma, CloseSquare}
+use Rattle.pipe_tokens.specs.declared.token.Punct.TheVariants.{Comma, CloseSquare}
 use Rattle.pipe_tree.specs.declared.limits.Role.TheVariants.{Plain}
 use Rattle.pipe_tree.specs.Lookahead.{is_mark_at}
 use Rattle.pipe_tree.specs.Reading.{◌>>=◌, gives, while, next_behind, mark, row, kernel}
