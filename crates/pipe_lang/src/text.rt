@@ -3,7 +3,8 @@
 
 ghost use Rattle.std.specs.Prelude.{◌≡◌, ◌-◌, ◌<◌, length, List, slice_get, unwrap_or, IfOk, IfErr, MatchResult};
 ghost use Rattle.pipe_tree.specs.Limits.{most_bytes};
-ghost use Rattle.pipe_tree.specs.Tree.{Declaration, content};
+ghost use Rattle.pipe_tree.specs.Tree.{Declaration};
+ghost use Rattle.pipe_tree.specs.Content.{content};
 ghost use Rattle.pipe_tree.specs.Faults.{IsText, IsFault};
 ghost use Rattle.pipe_tree.specs.FaultOf.{fault_of};
 

@@ -13,7 +13,8 @@ use Rattle.pipe_tree.specs.declared.fault.ParseFault.{ParseFault}
 use Rattle.pipe_tree.specs.declared.fault.ParseFault.TheVariants as faults
 use Rattle.pipe_tree.specs.declared.tree.Tree.{Tree}
 use Rattle.pipe_tree.specs.Limits.{most_bytes, untagged}
-use Rattle.pipe_tree.specs.Tree.{Declaration, content}
+use Rattle.pipe_tree.specs.Tree.{Declaration}
+use Rattle.pipe_tree.specs.Content.{content}
 use Rattle.pipe_tree.specs.Faults.{Text, IsText, IsHalt, IsFaultAt, IsFault}
 use Rattle.pipe_tree.specs.FaultOf.{fault_of}
 use Rattle.pipe_tree.specs.Reading.{program_of}
