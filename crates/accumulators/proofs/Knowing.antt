@@ -13,8 +13,8 @@ use Rattle.job.specs.Values.{Valuation, value}
 use Rattle.job.specs.Views.{formula_view, body_view}
 use Rattle.job.specs.WellFormed.{IsFormula, IsStage, IsJob}
 use Rattle.job.proofs.TotalLaws.{body_totals-agrees}
-use Rattle.tile_eval.specs.Whole.{sample_in, AreKnown}
-use Rattle.tile_eval.specs.declared.wholes.Whole.{Whole}
+use Rattle.tile_eval.specs.Buffer.{sample_in, AreKnown}
+use Rattle.tile_eval.specs.declared.buffers.Buffer.{Buffer}
 use Rattle.tile_eval.proofs.Knowing.{sample_is, reads_below}
 use Rattle.accumulators.specs.Accumulating.{HasFormulas}
 
@@ -26,12 +26,12 @@ pub domain_is_area : (job : Pipeline) → IsJob job → (g : ℕ) (s : Stage) �
 domain_is_area job is g s there = let h = is.stages g s there in record { rows = h.rows.span; cols = h.cols.span }
 
 -- where all stages of lower ranks are known, an accumulator gathers its totals
-pub whole_totals : (job : Pipeline) (wholes : List (Option Whole)) (g : ℕ) (s : Stage) → IsJob job → slice_get job.stages g ≡ Some s → AreKnown job (rank_of job.stages g) wholes
-    → body_totals (λ h i j. sample_in (slice_get wholes h) i j) s.domain s.body ≡ totals job g
-whole_totals job wholes g s is there known =
-    let env : Valuation = λ h i j. sample_in (slice_get wholes h) i j in
+pub whole_totals : (job : Pipeline) (buffers : List (Option Buffer)) (g : ℕ) (s : Stage) → IsJob job → slice_get job.stages g ≡ Some s → AreKnown job (rank_of job.stages g) buffers
+    → body_totals (λ h i j. sample_in (slice_get buffers h) i j) s.domain s.body ≡ totals job g
+whole_totals job buffers g s is there known =
+    let env : Valuation = λ h i j. sample_in (slice_get buffers h) i j in
     body_totals-agrees env (value job) s.domain (domain_is_area job is g s there) s.body (λ r c inside.
-    reads_below job is (SameAt env (value job)) g s there (sample_is job (rank_of job.stages g) wholes known) r c inside)
+    reads_below job is (SameAt env (value job)) g s there (sample_is job (rank_of job.stages g) buffers known) r c inside)
     ∙ sym (totals_is job g s there)
 
 -- the formulas of an accumulator are those of its stage

@@ -81,17 +81,17 @@ any_of (x ∷ xs) g h = elim (Contains-cases x xs g h) [ inl e ↦ first (eqb x 
 
 a_function : (b : Body) → IsFunction b → is_function_body b ≡ true
 a_function (plane n) is = absurd is
-a_function (function pieces otherwise) is = refl
+a_function (function cases otherwise) is = refl
 a_function (accumulator fold bins value bin) is = absurd is
 
 not_inlined : (b : Bool) → (b ≡ true → ⊥) → b ≡ false
 not_inlined true h = absurd (h refl)
 not_inlined false h = refl
 
-pub outputs_stored : (job : Pipeline) (flags : List Bool) (o : Output) → IsSchedule job flags → job.output ≡ Some o → IsOutput job o → All (IsStoredStage job flags) o.stages
-outputs_stored job flags o schedule there is = All-from_contains (IsStoredStage job flags) o.stages stored
+pub outputs_stored : (job : Pipeline) (inlining : List Bool) (o : Output) → IsSchedule job inlining → job.output ≡ Some o → IsOutput job o → All (IsStoredStage job inlining) o.stages
+outputs_stored job inlining o schedule there is = All-from_contains (IsStoredStage job inlining) o.stages stored
   where
-    stored : (g : ℕ) → Contains o.stages g → IsStoredStage job flags g
+    stored : (g : ℕ) → Contains o.stages g → IsStoredStage job inlining g
     stored g has =
         let own = All-contains (IsOutputPlane job (height_of job (slice_index o.stages 0)) (width_of job (slice_index o.stages 0))) o.stages g is.equal_sides has in
         let output : is_output job g ≡ true = ap (λ (x : Option Output). option_map_or (λ y. list_any (λ h. eqb h g) y.stages) x false) there ∙ any_of o.stages g has in (
@@ -99,6 +99,6 @@ outputs_stored job flags o schedule there is = All-from_contains (IsStoredStage 
           record {
             there = own.there;
             function = a_function own.stage.body own.function;
-            stored = not_inlined (is_inlined flags g) (λ inlined. true≢false (sym output ∙ schedule.inner g inlined));
+            stored = not_inlined (is_inlined inlining g) (λ inlined. true≢false (sym output ∙ schedule.inner g inlined));
           },
         )

@@ -14,11 +14,11 @@ use Rattle.domains.specs.Area.{HoldsPoint, points_of}
 use Rattle.domains.specs.declared.area.Area.{Area}
 use Rattle.job.specs.Answers.{samples}
 use Rattle.job.specs.Pipeline.{Pipeline, Stage}
-use Rattle.job.specs.WellFormed.{IsJob, IsNear}
+use Rattle.job.specs.WellFormed.{IsJob, InDomainRange}
 use Rattle.tile_eval.proofs.Rasters.{nth_held}
 use Rattle.tile_eval.specs.Rows.{EachPlace, at}
-use Rattle.tile_run.specs.Lent.{Lending}
-use Rattle.tile_run.specs.Stored.{IsStoredLine, LendsAllTiles}
+use Rattle.tile_run.specs.KnownTiles.{KnownTiles}
+use Rattle.tile_run.specs.Stored.{IsStoredLine, GivesAllTiles}
 use Rattle.accumulators.specs.Making.{IsStoredStage}
 use Rattle.accumulators.proofs.Pictures.{sample_at, samples_are}
 
@@ -70,19 +70,19 @@ all_made h area count made whole so =
 -- ---- rows of stored tiles
 
 -- a span that is near has few numbers
-pub few_numbers : (s : Ends) → IsNear s → len_of s ≤ 100000
+pub few_numbers : (s : Ends) → InDomainRange s → len_of s ≤ 100000
 few_numbers s near = let least = near.least in let most = near.most in let ends = len_is s near.span in omega (arith, ints)
 
-module _ (job : Pipeline) (flags : List Bool) (g : ℕ) (domain : Area) (stored : IsStoredStage job flags g) (there : option_map (λ (s : Stage). s.domain) (slice_get job.stages g) ≡ Some domain) where
+module _ (job : Pipeline) (inlining : List Bool) (g : ℕ) (domain : Area) (stored : IsStoredStage job inlining g) (there : option_map (λ (s : Stage). s.domain) (slice_get job.stages g) ≡ Some domain) where
   own_domain : stored.0.domain ≡ domain
   own_domain = same_Some stored.0.domain domain (sym (ap (option_map (λ (s : Stage). s.domain)) stored.1.there) ∙ there)
 
-  pub near_columns : IsJob job → IsNear domain.cols
-  near_columns good = subst (λ (a : Area). IsNear a.cols) own_domain (good.stages g stored.0 stored.1.there).cols
+  pub near_columns : IsJob job → InDomainRange domain.cols
+  near_columns good = subst (λ (a : Area). InDomainRange a.cols) own_domain (good.stages g stored.0 stored.1.there).cols
 
   -- the points of a row of the domain
-  pub row_stored : (lent : Lending) → LendsAllTiles job flags lent → (row first : ℤ) (place count : ℕ) → place < len_of domain.rows → row ≡ domain.rows.lo +ℤ pos place → first ≡ domain.cols.lo → count ≡ len_of domain.cols → IsStoredLine job lent g row first count
-  row_stored lent all row first place count within at_row at_first long = record {
+  pub row_stored : (given : KnownTiles) → GivesAllTiles job inlining given → (row first : ℤ) (place count : ℕ) → place < len_of domain.rows → row ≡ domain.rows.lo +ℤ pos place → first ≡ domain.cols.lo → count ≡ len_of domain.cols → IsStoredLine job given g row first count
+  row_stored given all row first place count within at_row at_first long = record {
     stage = stored.0;
     there = stored.1.there;
     tiles = all g stored.0 stored.1;
@@ -97,5 +97,5 @@ module _ (job : Pipeline) (flags : List Bool) (g : ℕ) (domain : Area) (stored 
   pub plane_is : (max : ℕ) → map (sample_at job max g) (points_of domain) ≡ samples job max g
   plane_is max = ap (λ (a : Area). map (sample_at job max g) (points_of a)) (sym own_domain) ∙ sym (samples_are job max g stored.0 stored.1.there)
 
-pub no_plane : (job : Pipeline) (flags : List Bool) (max g : ℕ) → IsStoredStage job flags g → option_map (λ (s : Stage). s.domain) (slice_get job.stages g) ≡ None → [] ≡ samples job max g
-no_plane job flags max g stored none = absurd (none-some stored.0.domain (sym none ∙ ap (option_map (λ (s : Stage). s.domain)) stored.1.there))
+pub no_plane : (job : Pipeline) (inlining : List Bool) (max g : ℕ) → IsStoredStage job inlining g → option_map (λ (s : Stage). s.domain) (slice_get job.stages g) ≡ None → [] ≡ samples job max g
+no_plane job inlining max g stored none = absurd (none-some stored.0.domain (sym none ∙ ap (option_map (λ (s : Stage). s.domain)) stored.1.there))

@@ -32,7 +32,7 @@ module _ (job : Pipeline) (g : ℕ) where
     where
       by_body : (b : Body) → fold_of b ≡ None → body_gathered job g b ≡ []
       by_body (plane n) e = refl
-      by_body (function pieces otherwise) e = refl
+      by_body (function cases otherwise) e = refl
       by_body (accumulator way bins v b) e = absurd (none-some way (sym e))
 
       by : (o : Option Stage) → stage_fold o ≡ None → option_map_or (λ s. body_gathered job g s.body) o [] ≡ []
@@ -44,7 +44,7 @@ module _ (job : Pipeline) (g : ℕ) where
     where
       by_body : (b : Body) → bins_of b ≡ None → body_gathered job g b ≡ []
       by_body (plane n) e = refl
-      by_body (function pieces otherwise) e = refl
+      by_body (function cases otherwise) e = refl
       by_body (accumulator way bins v b) e = absurd (none-some bins (sym e))
 
       by : (o : Option Stage) → stage_bins o ≡ None → option_map_or (λ s. body_gathered job g s.body) o [] ≡ []
@@ -56,7 +56,7 @@ module _ (job : Pipeline) (g : ℕ) where
     where
       by_body : (s : Stage) (b : Body) → (if has_tiles b then Some (grid_of job s) else None) ≡ None → body_gathered job g b ≡ []
       by_body s (plane n) e = refl
-      by_body s (function pieces otherwise) e = refl
+      by_body s (function cases otherwise) e = refl
       by_body s (accumulator way bins v b) e = absurd (none-some (grid_of job s) (sym e))
 
       by : (o : Option Stage) → stage_grid job o ≡ None → option_map_or (λ s. body_gathered job g s.body) o [] ≡ []
@@ -69,7 +69,7 @@ module _ (job : Pipeline) (g : ℕ) where
     where
       by_body : (s : Stage) (b : Body) → slice_get job.stages g ≡ Some s → s.body ≡ b → fold_of b ≡ Some way → bins_of b ≡ Some bins → (if has_tiles b then Some (grid_of job s) else None) ≡ Some grid → IsGathered job g way bins grid
       by_body s (plane n) there is e f h = absurd (none-some way e)
-      by_body s (function pieces otherwise) there is e f h = absurd (none-some way e)
+      by_body s (function cases otherwise) there is e f h = absurd (none-some way e)
       by_body s (accumulator w l v b) there is e f h = record {
         stage = s;
         there = there;

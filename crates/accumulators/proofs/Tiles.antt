@@ -23,9 +23,9 @@ last_made f xs inner y e =
     ∙ slice_get-get_or (inner ++ y ∷ []) (length inner) y within
     ∙ ap Some (get_or-append_seam inner y [] y)
 
-module _ {X : Type 0} (f : X → ℕ × Area) (steps : List X) (job : Pipeline) (flags : List Bool) (g i j : ℕ) (l : Layout) (is : IsTileLayout job flags g i j l) (same : map f steps ≡ l.steps) where
+module _ {X : Type 0} (f : X → ℕ × Area) (steps : List X) (job : Pipeline) (inlining : List Bool) (g i j : ℕ) (l : Layout) (is : IsTileLayout job inlining g i j l) (same : map f steps ≡ l.steps) where
   end : option_map f (slice_get steps (length steps - 1)) ≡ Some (g, is.area)
-  end = last_made f steps (inner_steps (target_over job flags g is.area)) (g, is.area) (same ∙ is.layout.layout.steps)
+  end = last_made f steps (inner_steps (target_over job inlining g is.area)) (g, is.area) (same ∙ is.layout.layout.steps)
 
   pub last_is : (x : X) → Some x ≡ slice_get steps (length steps - 1) → f x ≡ (g, is.area)
   last_is x last = same_Some (f x) (g, is.area) (ap (option_map f) last ∙ end)

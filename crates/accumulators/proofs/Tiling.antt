@@ -24,9 +24,9 @@ use Rattle.overlap_tiles.specs.declared.fault.PlanFault.TheVariants.{ScratchTooB
 use Rattle.overlap_tiles.proofs.Needing.{from_needs}
 use Rattle.overlap_tiles.proofs.Tiling.{has_grid}
 use Rattle.tile_eval.proofs.Rasters.{raster_len}
-use Rattle.tile_run.specs.Lent.{Lending, AreTrue, AreWhole}
-use Rattle.tile_run.specs.Runs.{AreLent}
-use Rattle.tile_run.specs.Stored.{IsStoredFunction, LendsAllTiles}
+use Rattle.tile_run.specs.KnownTiles.{KnownTiles, AreTrue, AreWhole}
+use Rattle.tile_run.specs.Runs.{AreGiven}
+use Rattle.tile_run.specs.Stored.{IsStoredFunction, GivesAllTiles}
 use Rattle.tile_run.specs.Work.{first_too_big, is_accumulator_at}
 use Rattle.tile_run.proofs.Fitting.{none_too_big}
 use Rattle.accumulators.specs.Making.{IsGathered}
@@ -35,8 +35,8 @@ use Rattle.accumulators.proofs.Tallying.{grid_there, is_wanted}
 use Rattle.accumulators.proofs.Truths.{layout_totals_true}
 
 -- true tiles have as many numbers as points
-pub whole : (job : Pipeline) (lent : Lending) → AreTrue job lent → AreWhole job lent
-whole job lent right g s there i j xs tile found = ap length (right g s there i j xs tile found) ∙ raster_len (tile_area (grid_of job s) i j) (value job g)
+pub whole : (job : Pipeline) (given : KnownTiles) → AreTrue job given → AreWhole job given
+whole job given right g s there i j xs tile found = ap length (right g s there i j xs tile found) ∙ raster_len (tile_area (grid_of job s) i j) (value job g)
 
 module _ (job : Pipeline) (g : ℕ) (way : Fold) (bins : Ends) (grid : Grid) (is : IsGathered job g way bins grid) (i j : ℕ) where
   -- ---- a tile of the grid
@@ -48,38 +48,38 @@ module _ (job : Pipeline) (g : ℕ) (way : Fold) (bins : Ends) (grid : Grid) (is
   same_area area at = at.is ∙ ap (λ (d : Grid). tile_area d i j) (same_Some at.grid grid (sym at.there ∙ grid_there job g way bins grid is))
 
   -- has room where none is too big
-  has_room : (flags : List Bool) (area : Area) → first_too_big job flags (is_accumulator_at job) ≡ None → HasTile grid i j → IsTileAt job g i j area → scratch (target_over job flags g area) ≤ most_scratch
-  has_room flags area none tile at =
+  has_room : (inlining : List Bool) (area : Area) → first_too_big job inlining (is_accumulator_at job) ≡ None → HasTile grid i j → IsTileAt job g i j area → scratch (target_over job inlining g area) ≤ most_scratch
+  has_room inlining area none tile at =
       let has : has_tiles is.stage.body ≡ true = ap has_tiles is.body in
       let here : tile_area (grid_of job is.stage) i j ≡ area = ap (λ (d : Grid). tile_area d i j) (sym is.parted) ∙ sym (same_area area at) in
-      subst (λ (a : Area). scratch (target_over job flags g a) ≤ most_scratch) here
-      (none_too_big job flags (is_accumulator_at job) none g is.stage is.there has (is_wanted job g way bins grid is) i j (subst (λ (d : Grid). HasTile d i j) is.parted tile))
+      subst (λ (a : Area). scratch (target_over job inlining g a) ≤ most_scratch) here
+      (none_too_big job inlining (is_accumulator_at job) none g is.stage is.there has (is_wanted job g way bins grid is) i j (subst (λ (d : Grid). HasTile d i j) is.parted tile))
 
-  pub not_too_big : (flags : List Bool) → first_too_big job flags (is_accumulator_at job) ≡ None → HasTile grid i j → ¬ (IsTileFault job flags g i j ScratchTooBig)
-  not_too_big flags none tile fault = let room = has_room flags fault.area none tile fault.tile in let over = fault.reason in omega arith
+  pub not_too_big : (inlining : List Bool) → first_too_big job inlining (is_accumulator_at job) ≡ None → HasTile grid i j → ¬ (IsTileFault job inlining g i j ScratchTooBig)
+  not_too_big inlining none tile fault = let room = has_room inlining fault.area none tile fault.tile in let over = fault.reason in omega arith
 
-  module _ (flags : List Bool) (lent : Lending) (good : IsJob job) (all : LendsAllTiles job flags lent) (l : Layout) (layout : IsTileLayout job flags g i j l) where
+  module _ (inlining : List Bool) (given : KnownTiles) (good : IsJob job) (all : GivesAllTiles job inlining given) (l : Layout) (layout : IsTileLayout job inlining g i j l) where
     abbrev of_tile : Target
-    of_tile = target_over job flags g layout.area
+    of_tile = target_over job inlining g layout.area
 
-    lends : (n : Tile) → IsNeeded of_tile n → (xs : List ℤ) × (lent n.stage n.row n.col ≡ Some xs)
-    lends n needed =
+    gives : (n : Tile) → IsNeeded of_tile n → (xs : List ℤ) × (given n.stage n.row n.col ≡ Some xs)
+    gives n needed =
         let at = has_grid job n.stage needed.grid needed.there in
-        let both = and_parts (is_boxed of_tile n.stage) (not (is_inlined flags n.stage)) needed.stored in
+        let both = and_parts (is_boxed of_tile n.stage) (not (is_inlined inlining n.stage)) needed.stored in
         let boxed = and_parts (is_function job n.stage) (not (eqb n.stage g)) both.0 in
-        let stored : IsStoredFunction job flags n.stage at.stage = record {
+        let stored : IsStoredFunction job inlining n.stage at.stage = record {
           there = at.there;
           function = sym (ap (λ (o : Option Stage). option_map_or (λ s. is_function_body s.body) o false) at.there) ∙ boxed.0;
-          stored = not-true (is_inlined flags n.stage) both.1;
+          stored = not-true (is_inlined inlining n.stage) both.1;
         } in
         (_, all n.stage at.stage stored n.row n.col (subst (λ (d : Grid). HasTile d n.row n.col) (sym at.is) needed.meets.there))
 
-    -- each tile that it needs is lent
-    pub all_lent : AreLent lent l.needs
-    all_lent n k = lends n (from_needs of_tile n good (subst (λ (ns : List Tile). Contains ns n) layout.layout.layout.needs k))
+    -- each tile that it needs is given
+    pub all_given : AreGiven given l.needs
+    all_given n k = gives n (from_needs of_tile n good (subst (λ (ns : List Tile). Contains ns n) layout.layout.layout.needs k))
 
     -- and what is gathered from true tiles is what the job gathers
-    pub totals_are : AreTrue job lent → (xs : List ℤ) → AreLocalTotals job flags lent g i j xs → xs ≡ totals_over job (tile_area grid i j) g
+    pub totals_are : AreTrue job given → (xs : List ℤ) → AreLocalTotals job inlining given g i j xs → xs ≡ totals_over job (tile_area grid i j) g
     totals_are right xs local =
-        layout_totals_true job flags lent l g i j layout good all_lent right xs local layout.area layout.tile
+        layout_totals_true job inlining given l g i j layout good all_given right xs local layout.area layout.tile
         ∙ ap (λ (a : Area). totals_over job a g) (same_area layout.area layout.tile)

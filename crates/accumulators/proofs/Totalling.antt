@@ -15,11 +15,11 @@ use Rattle.job.specs.Pipeline.{Body, plane, function, accumulator, Stage, Pipeli
 use Rattle.job.specs.Reads.{SameAt, BodyReads}
 use Rattle.job.specs.Totals.{start_of, total_of, joined, values_in_bin, body_totals, totals, totals_over}
 use Rattle.job.specs.Values.{Valuation, formula_value, value}
-use Rattle.job.specs.WellFormed.{IsNear, IsJob}
+use Rattle.job.specs.WellFormed.{InDomainRange, IsJob}
 use Rattle.job.proofs.TotalLaws.{map_same, body_totals-agrees}
-use Rattle.tile_eval.specs.Whole.{sample_in, IsKnownAt}
-use Rattle.tile_eval.specs.declared.wholes.Whole.{Whole}
-use Rattle.tile_run.specs.Lent.{Lending, AreTrue}
+use Rattle.tile_eval.specs.Buffer.{sample_in, IsKnownAt}
+use Rattle.tile_eval.specs.declared.buffers.Buffer.{Buffer}
+use Rattle.tile_run.specs.KnownTiles.{KnownTiles, AreTrue}
 use Rattle.tile_run.specs.Local.{read_from, local_value, IsAtHand, IsClosed}
 use Rattle.tile_run.specs.Steps.{AreLocal, IsReadyOver}
 use Rattle.tile_run.proofs.Computing.{same_stage, near_inside}
@@ -32,49 +32,49 @@ use Rattle.accumulators.proofs.Parting.{tiles_join}
 
 -- ---- a stage that is there
 
-pub local_totals_is : (job : Pipeline) (flags : List Bool) (lent : Lending) (area : Area) (g : ℕ) (s : Stage) → slice_get job.stages g ≡ Some s → local_totals job flags lent area g ≡ body_totals (read_from job flags lent (local_value job flags lent)) area s.body
-local_totals_is job flags lent area g s there =
-    ap (λ (o : Option Stage). option_map_or (λ t. body_totals (read_from job flags lent (local_value job flags lent)) area t.body) o []) there
+pub local_totals_is : (job : Pipeline) (inlining : List Bool) (given : KnownTiles) (area : Area) (g : ℕ) (s : Stage) → slice_get job.stages g ≡ Some s → local_totals job inlining given area g ≡ body_totals (read_from job inlining given (local_value job inlining given)) area s.body
+local_totals_is job inlining given area g s there =
+    ap (λ (o : Option Stage). option_map_or (λ t. body_totals (read_from job inlining given (local_value job inlining given)) area t.body) o []) there
 
 totals_over_is : (job : Pipeline) (area : Area) (g : ℕ) (s : Stage) → slice_get job.stages g ≡ Some s → totals_over job area g ≡ body_totals (value job) area s.body
 totals_over_is job area g s there = ap (λ (o : Option Stage). option_map_or (λ t. body_totals (value job) area t.body) o []) there
 
 -- ---- where all that is read is at hand
 
-module _ (job : Pipeline) (flags : List Bool) (lent : Lending) (wholes : List (Option Whole)) (g : ℕ) (s : Stage) (there : slice_get job.stages g ≡ Some s) (area : Area) (ready : IsReadyOver job flags lent wholes g area) where
+module _ (job : Pipeline) (inlining : List Bool) (given : KnownTiles) (buffers : List (Option Buffer)) (g : ℕ) (s : Stage) (there : slice_get job.stages g ≡ Some s) (area : Area) (ready : IsReadyOver job inlining given buffers g area) where
   within : IsSubarea area s.domain
   within r c inside = let p = ready r c inside in subst (λ (t : Stage). HoldsPoint t.domain r c) (same_stage job.stages g p.stage s p.there there) p.inside
 
-  pub ready_near : IsJob job → IsArea area → IsNear area.rows × IsNear area.cols
+  pub ready_near : IsJob job → IsArea area → InDomainRange area.rows × InDomainRange area.cols
   ready_near is h = let stage = is.stages g s there in near_inside area s.domain h within stage.rows stage.cols
 
-  pub ready_reads : (r c : ℤ) → HoldsPoint area r c → BodyReads (IsAtHand job flags lent (IsKnownAt wholes)) s.body r c
+  pub ready_reads : (r c : ℤ) → HoldsPoint area r c → BodyReads (IsAtHand job inlining given (IsKnownAt buffers)) s.body r c
   ready_reads r c inside =
       let p = ready r c inside in
-      subst (λ (t : Stage). BodyReads (IsAtHand job flags lent (IsKnownAt wholes)) t.body r c) (same_stage job.stages g p.stage s p.there there) p.reads
+      subst (λ (t : Stage). BodyReads (IsAtHand job inlining given (IsKnownAt buffers)) t.body r c) (same_stage job.stages g p.stage s p.there there) p.reads
 
 -- what is computed before is local, so what is gathered from it is
-pub totals_at_hand : (job : Pipeline) (flags : List Bool) (lent : Lending) (wholes : List (Option Whole)) (g : ℕ) (s : Stage) (area : Area) → IsArea area → slice_get job.stages g ≡ Some s
-    → AreLocal job flags lent wholes → IsReadyOver job flags lent wholes g area
-    → body_totals (read_from job flags lent (λ h i j. sample_in (slice_get wholes h) i j)) area s.body ≡ local_totals job flags lent area g
-totals_at_hand job flags lent wholes g s area is there local ready =
-    let e : Valuation = λ h i j. sample_in (slice_get wholes h) i j in
-    let h : Valuation = local_value job flags lent in
-    body_totals-agrees (read_from job flags lent e) (read_from job flags lent h) area is s.body (λ r c inside.
-    reads_weaker (IsAtHand job flags lent (IsKnownAt wholes)) (SameAt (read_from job flags lent e) (read_from job flags lent h))
-    (λ k i j hand. hand_decides job flags lent (IsKnownAt wholes) e h k i j (local k i j) hand) s.body r c
-    (ready_reads job flags lent wholes g s there area ready r c inside))
-    ∙ sym (local_totals_is job flags lent area g s there)
+pub totals_at_hand : (job : Pipeline) (inlining : List Bool) (given : KnownTiles) (buffers : List (Option Buffer)) (g : ℕ) (s : Stage) (area : Area) → IsArea area → slice_get job.stages g ≡ Some s
+    → AreLocal job inlining given buffers → IsReadyOver job inlining given buffers g area
+    → body_totals (read_from job inlining given (λ h i j. sample_in (slice_get buffers h) i j)) area s.body ≡ local_totals job inlining given area g
+totals_at_hand job inlining given buffers g s area is there local ready =
+    let e : Valuation = λ h i j. sample_in (slice_get buffers h) i j in
+    let h : Valuation = local_value job inlining given in
+    body_totals-agrees (read_from job inlining given e) (read_from job inlining given h) area is s.body (λ r c inside.
+    reads_weaker (IsAtHand job inlining given (IsKnownAt buffers)) (SameAt (read_from job inlining given e) (read_from job inlining given h))
+    (λ k i j hand. hand_decides job inlining given (IsKnownAt buffers) e h k i j (local k i j) hand) s.body r c
+    (ready_reads job inlining given buffers g s there area ready r c inside))
+    ∙ sym (local_totals_is job inlining given area g s there)
 
--- where what is lent is true, what is gathered from it is what the stage gathers there
-pub true_totals : (job : Pipeline) (flags : List Bool) (lent : Lending) (Inner : ℕ → ℤ → ℤ → Type 0) (g : ℕ) (s : Stage) (area : Area) → IsJob job → slice_get job.stages g ≡ Some s → IsArea area → AreTrue job lent
-    → IsClosed job flags lent Inner → ((r c : ℤ) → HoldsPoint area r c → BodyReads (IsAtHand job flags lent Inner) s.body r c) → local_totals job flags lent area g ≡ totals_over job area g
-true_totals job flags lent Inner g s area is there within true_tiles closed reads =
-    let e : Valuation = read_from job flags lent (local_value job flags lent) in
-    local_totals_is job flags lent area g s there
+-- where what is given is true, what is gathered from it is what the stage gathers there
+pub true_totals : (job : Pipeline) (inlining : List Bool) (given : KnownTiles) (Inner : ℕ → ℤ → ℤ → Type 0) (g : ℕ) (s : Stage) (area : Area) → IsJob job → slice_get job.stages g ≡ Some s → IsArea area → AreTrue job given
+    → IsClosed job inlining given Inner → ((r c : ℤ) → HoldsPoint area r c → BodyReads (IsAtHand job inlining given Inner) s.body r c) → local_totals job inlining given area g ≡ totals_over job area g
+true_totals job inlining given Inner g s area is there within true_tiles closed reads =
+    let e : Valuation = read_from job inlining given (local_value job inlining given) in
+    local_totals_is job inlining given area g s there
     ∙ body_totals-agrees e (value job) area within s.body (λ r c inside.
-    reads_weaker (IsAtHand job flags lent Inner) (SameAt e (value job))
-    (λ k i j hand. read_true job is flags lent true_tiles Inner k i j (local_is_value job is flags lent true_tiles Inner closed k i j) hand) s.body r c (reads r c inside))
+    reads_weaker (IsAtHand job inlining given Inner) (SameAt e (value job))
+    (λ k i j hand. read_true job is inlining given true_tiles Inner k i j (local_is_value job is inlining given true_tiles Inner closed k i j) hand) s.body r c (reads r c inside))
     ∙ sym (totals_over_is job area g s there)
 
 -- ---- over all tiles
@@ -102,7 +102,7 @@ partials_join job g s tiles is there moved =
 
     by_body : (b : Body) → s.body ≡ b → body_joined job g grid tiles b ≡ body_totals (value job) s.domain b
     by_body (plane n) e = refl
-    by_body (function pieces otherwise) e = refl
+    by_body (function cases otherwise) e = refl
     by_body (accumulator way bins v bin) e =
         let over : (t : ℕ × ℕ) → totals_over job (tile_area grid t.0 t.1) g ≡ body_totals (value job) (tile_area grid t.0 t.1) (accumulator way bins v bin) =
         λ t. totals_over_is job (tile_area grid t.0 t.1) g s there ∙ ap (body_totals (value job) (tile_area grid t.0 t.1)) e in

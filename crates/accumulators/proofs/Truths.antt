@@ -12,39 +12,39 @@ use Rattle.grouping.specs.Schedules.{is_inlined}
 use Rattle.grouping.specs.Targets.{Target, IsTarget, box}
 use Rattle.overlap_tiles.specs.Plans.{Layout, IsTileLayout, target_over}
 use Rattle.overlap_tiles.proofs.Tiling.{tile_is_target}
-use Rattle.tile_run.specs.Lent.{Lending, AreTrue}
+use Rattle.tile_run.specs.KnownTiles.{KnownTiles, AreTrue}
 use Rattle.tile_run.specs.Local.{IsAtHand}
-use Rattle.tile_run.specs.Runs.{AreLent}
+use Rattle.tile_run.specs.Runs.{AreGiven}
 use Rattle.tile_run.proofs.Closing.{IsInTarget, closed}
 use Rattle.tile_run.proofs.Computing.{same_stage}
 use Rattle.tile_run.proofs.Planned.{only_area}
-use Rattle.tile_run.proofs.Truths.{lends}
+use Rattle.tile_run.proofs.Truths.{gives}
 use Rattle.accumulators.specs.Partials.{AreLocalTotals, AreTotalsOn}
 use Rattle.accumulators.proofs.Totalling.{true_totals}
 
-module _ (job : Pipeline) (flags : List Bool) (lent : Lending) (l : Layout) (g i j : ℕ) (is : IsTileLayout job flags g i j l) (good : IsJob job) (given : AreLent lent l.needs) where
+module _ (job : Pipeline) (inlining : List Bool) (given : KnownTiles) (l : Layout) (g i j : ℕ) (is : IsTileLayout job inlining g i j l) (good : IsJob job) (are_given : AreGiven given l.needs) where
   abbrev of_tile : Target
-  of_tile = target_over job flags g is.area
+  of_tile = target_over job inlining g is.area
 
   target : IsTarget of_tile
-  target = tile_is_target job flags g i j is.area good is.tile
+  target = tile_is_target job inlining g i j is.area good is.tile
 
   in_target : (r c : ℤ) → HoldsPoint is.area r c → IsInTarget of_tile g r c
   in_target r c holds = record {
     stage = target.owner;
     there = target.there;
     area = is.area;
-    is = λ k. if eq-eqb g g refl k then Some is.area else (if is_inlined flags g then box of_tile g else None);
+    is = λ k. if eq-eqb g g refl k then Some is.area else (if is_inlined inlining g then box of_tile g else None);
     holds = holds;
   }
 
-  reads : (r c : ℤ) → HoldsPoint is.area r c → BodyReads (IsAtHand job flags lent (IsInTarget of_tile)) target.owner.body r c
+  reads : (r c : ℤ) → HoldsPoint is.area r c → BodyReads (IsAtHand job inlining given (IsInTarget of_tile)) target.owner.body r c
   reads r c holds =
-      let p = closed of_tile good target lent (lends job flags lent l g i j is good given) g r c (in_target r c holds) in
-      subst (λ (s : Stage). BodyReads (IsAtHand job flags lent (IsInTarget of_tile)) s.body r c) (same_stage job.stages g p.stage target.owner p.there target.there) p.reads
+      let p = closed of_tile good target given (gives job inlining given l g i j is good are_given) g r c (in_target r c holds) in
+      subst (λ (s : Stage). BodyReads (IsAtHand job inlining given (IsInTarget of_tile)) s.body r c) (same_stage job.stages g p.stage target.owner p.there target.there) p.reads
 
-  pub layout_totals_true : AreTrue job lent → (bins : List ℤ) → AreLocalTotals job flags lent g i j bins → AreTotalsOn job g i j bins
+  pub layout_totals_true : AreTrue job given → (bins : List ℤ) → AreLocalTotals job inlining given g i j bins → AreTotalsOn job g i j bins
   layout_totals_true right bins local area at =
       local is.area is.tile
-      ∙ true_totals job flags lent (IsInTarget of_tile) g target.owner is.area good target.there target.area right (closed of_tile good target lent (lends job flags lent l g i j is good given)) reads
-      ∙ ap (λ (a : Area). totals_over job a g) (only_area job flags lent l g i j is area at)
+      ∙ true_totals job inlining given (IsInTarget of_tile) g target.owner is.area good target.there target.area right (closed of_tile good target given (gives job inlining given l g i j is good are_given)) reads
+      ∙ ap (λ (a : Area). totals_over job a g) (only_area job inlining given l g i j is area at)

@@ -21,7 +21,7 @@ gathered t = record { stage = t.stage; lo = t.lo; bins = t.bins.items }
 abbrev pub body_gathered : Pipeline → ℕ → Body → List Gathered
 body_gathered job g (accumulator way bins value bin) = record { stage = g; lo = bins.lo; bins = totals job g } ∷ []
 body_gathered job g (plane n) = []
-body_gathered job g (function pieces otherwise) = []
+body_gathered job g (function cases otherwise) = []
 
 abbrev pub gathered_at : Pipeline → ℕ → List Gathered
 gathered_at job g = option_map_or (λ s. body_gathered job g s.body) (slice_get job.stages g) []

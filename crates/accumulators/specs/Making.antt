@@ -11,29 +11,29 @@ use Rattle.job.specs.Kept.{pipeline_in}
 use Rattle.job.specs.Pipeline.{accumulator, Stage, Pipeline}
 use Rattle.job.specs.Totals.{totals_over}
 use Rattle.job.specs.WellFormed.{IsJob}
-use Rattle.tile_run.specs.Lent.{AreTrue}
-use Rattle.tile_run.specs.Stored.{stored_tiles, IsStoredFunction, LendsAllTiles}
+use Rattle.tile_run.specs.KnownTiles.{AreTrue}
+use Rattle.tile_run.specs.Stored.{stored_tiles, IsStoredFunction, GivesAllTiles}
 use Rattle.tile_run.specs.Work.{first_too_big, is_accumulator_at}
 use Rattle.accumulators.specs.declared.computed.Computed.{Computed}
-use Rattle.accumulators.specs.declared.totals.Tally.{Tally}
+use Rattle.accumulators.specs.declared.totals.Accumulation.{Accumulation}
 use Rattle.accumulators.specs.Bins.{joined_bins}
 
 -- all tiles of the stored functions of the job are there, with its values
 pub record IsComputed (c : Computed) : Type 0 where
   pub is_job : IsJob (pipeline_in c.job.now)
   pub scheduled : IsScheduleOf (pipeline_in c.job.now) c.schedule.now
-  pub all : LendsAllTiles (pipeline_in c.job.now) c.schedule.now.flags (stored_tiles c.stored.now.stages.items)
+  pub all : GivesAllTiles (pipeline_in c.job.now) c.schedule.now.inlining (stored_tiles c.stored.now.stages.items)
   pub values : AreTrue (pipeline_in c.job.now) (stored_tiles c.stored.now.stages.items)
 
 -- stage g is a function whose tiles are stored
 abbrev pub IsStoredStage : Pipeline → List Bool → ℕ → Type 0
-IsStoredStage job flags g = (s : Stage) × IsStoredFunction job flags g s
+IsStoredStage job inlining g = (s : Stage) × IsStoredFunction job inlining g s
 
 -- ---- totals
 
 -- the tiles of all accumulators have room in scratch memory
 abbrev pub TotalsFit : Computed → Type 0
-TotalsFit c = first_too_big (pipeline_in c.job.now) c.schedule.now.flags (is_accumulator_at (pipeline_in c.job.now)) ≡ None
+TotalsFit c = first_too_big (pipeline_in c.job.now) c.schedule.now.inlining (is_accumulator_at (pipeline_in c.job.now)) ≡ None
 
 -- stage g is an accumulator with this operation, these bins and this grid
 pub record IsGathered (job : Pipeline) (g : ℕ) (way : Fold) (bins : Ends) (grid : Grid) : Type 0 where
@@ -45,7 +45,7 @@ pub record IsGathered (job : Pipeline) (g : ℕ) (way : Fold) (bins : Ends) (gri
   pub parted : grid ≡ grid_of job stage
 
 -- an accumulator of a job whose stored functions are computed, and whose accumulators' tiles have room
-pub record IsTally (t : Tally) : Type 0 where
+pub record IsTally (t : Accumulation) : Type 0 where
   pub computed : IsComputed t.of
   pub fits : TotalsFit t.of
   pub gathered : IsGathered (pipeline_in t.of.job.now) t.stage t.op t.bins t.grid

@@ -1,4 +1,4 @@
--- What an accumulator gathers over a tile from the numbers that are lent, and how that is joined.
+-- What an accumulator gathers over a tile from the numbers that are given, and how that is joined.
 use Rattle.std.specs.Prelude.{ℕ, ℤ, ◌≡◌, Bool, true, List, [], fold, slice_get}
 use Rattle.std.specs.Option.{option_map_or}
 use Rattle.domains.specs.Tiles.{tile_area}
@@ -7,32 +7,32 @@ use Rattle.domains.specs.declared.grid.Grid.{Grid}
 use Rattle.job.specs.Pipeline.{Body, plane, function, accumulator, Pipeline}
 use Rattle.job.specs.Totals.{body_totals, totals_over}
 use Rattle.overlap_tiles.specs.Plans.{Plan, IsTileAt, IsTilePlan}
-use Rattle.tile_run.specs.Lent.{Lending}
+use Rattle.tile_run.specs.KnownTiles.{KnownTiles}
 use Rattle.tile_run.specs.Local.{read_from, local_value}
 use Rattle.tile_run.specs.Work.{is_accumulator_at}
 use Rattle.accumulators.specs.Bins.{starts, joined_bins}
 
 -- ---- over a tile
 
--- the totals of accumulator g over an area, where reads of stored functions take the numbers that are lent, and reads of inlined
+-- the totals of accumulator g over an area, where reads of stored functions take the numbers that are given, and reads of inlined
 -- functions their local values
-abbrev pub local_totals : Pipeline → List Bool → Lending → Area → ℕ → List ℤ
-local_totals job flags lent area g = option_map_or (λ s. body_totals (read_from job flags lent (local_value job flags lent)) area s.body) (slice_get job.stages g) []
+abbrev pub local_totals : Pipeline → List Bool → KnownTiles → Area → ℕ → List ℤ
+local_totals job inlining given area g = option_map_or (λ s. body_totals (read_from job inlining given (local_value job inlining given)) area s.body) (slice_get job.stages g) []
 
 -- the numbers are those of the tile in row i and column j
-abbrev pub AreLocalTotals : Pipeline → List Bool → Lending → ℕ → ℕ → ℕ → List ℤ → Type 0
-AreLocalTotals job flags lent g i j bins = (area : Area) → IsTileAt job g i j area → bins ≡ local_totals job flags lent area g
+abbrev pub AreLocalTotals : Pipeline → List Bool → KnownTiles → ℕ → ℕ → ℕ → List ℤ → Type 0
+AreLocalTotals job inlining given g i j bins = (area : Area) → IsTileAt job g i j area → bins ≡ local_totals job inlining given area g
 
 -- the numbers are the totals of the job there
 abbrev pub AreTotalsOn : Pipeline → ℕ → ℕ → ℕ → List ℤ → Type 0
 AreTotalsOn job g i j bins = (area : Area) → IsTileAt job g i j area → bins ≡ totals_over job area g
 
 -- the plan is that of a tile of an accumulator
-pub record IsAccumulatorPlan (program : List ℕ) (job : Pipeline) (flags : List Bool) (p : Plan) : Type 0 where
+pub record IsAccumulatorPlan (program : List ℕ) (job : Pipeline) (inlining : List Bool) (p : Plan) : Type 0 where
   pub stage : ℕ
   pub row : ℕ
   pub col : ℕ
-  pub plan : IsTilePlan program job flags stage row col p
+  pub plan : IsTilePlan program job inlining stage row col p
   pub accumulator : is_accumulator_at job stage ≡ true
 
 -- ---- joined
@@ -42,7 +42,7 @@ abbrev pub body_joined : Pipeline → ℕ → Grid → List (ℕ × ℕ) → Bod
 body_joined job g grid tiles (accumulator way bins value bin) =
     fold (λ xs t. joined_bins way xs (totals_over job (tile_area grid t.0 t.1) g)) (starts way bins) tiles
 body_joined job g grid tiles (plane n) = []
-body_joined job g grid tiles (function pieces otherwise) = []
+body_joined job g grid tiles (function cases otherwise) = []
 
 abbrev pub joined_over : Pipeline → ℕ → Grid → List (ℕ × ℕ) → List ℤ
 joined_over job g grid tiles = option_map_or (λ s. body_joined job g grid tiles s.body) (slice_get job.stages g) []

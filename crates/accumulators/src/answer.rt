@@ -7,8 +7,8 @@ ghost use Rattle.grouping.specs.Inlining.{IsScheduleOf};
 ghost use Rattle.job.specs.Kept.{pipeline_in, program_id_in};
 ghost use Rattle.job.specs.WellFormed.{IsJob};
 ghost use Rattle.netpbm.specs.Image.{IsImage};
-ghost use Rattle.tile_run.specs.Lent.{AreTrue};
-ghost use Rattle.tile_run.specs.Stored.{stored_tiles, LendsAllTiles};
+ghost use Rattle.tile_run.specs.KnownTiles.{AreTrue};
+ghost use Rattle.tile_run.specs.Stored.{stored_tiles, GivesAllTiles};
 ghost use Rattle.tile_run.specs.Work.{first_too_big, is_accumulator_at, IsRunFault};
 ghost use Rattle.accumulators.specs.Answers.{IsAnswer};
 
@@ -50,12 +50,12 @@ pub fn answer_of(
     requires job { IsJob (pipeline_in job.now) }
     requires few { length (pipeline_in job.now).stages ≤ 65536 }
     requires schedule { IsScheduleOf (pipeline_in job.now) schedule.now }
-    requires all { LendsAllTiles (pipeline_in job.now) schedule.now.flags (stored_tiles stored.now.stages.items) }
+    requires all { GivesAllTiles (pipeline_in job.now) schedule.now.inlining (stored_tiles stored.now.stages.items) }
     requires values { AreTrue (pipeline_in job.now) (stored_tiles stored.now.stages.items) }
     ensures answer { IfOk result (IsAnswer (pipeline_in job.now)) }
     ensures image { IfOk result (λ answer. ForSome answer.picture IsImage) }
-    ensures fits { IfOk result (λ answer. first_too_big (pipeline_in job.now) schedule.now.flags (is_accumulator_at (pipeline_in job.now)) ≡ None) }
-    ensures fault { IfErr result (IsRunFault (program_id_in job.now) (pipeline_in job.now) schedule.now.flags (is_accumulator_at (pipeline_in job.now))) }
+    ensures fits { IfOk result (λ answer. first_too_big (pipeline_in job.now) schedule.now.inlining (is_accumulator_at (pipeline_in job.now)) ≡ None) }
+    ensures fault { IfErr result (IsRunFault (program_id_in job.now) (pipeline_in job.now) schedule.now.inlining (is_accumulator_at (pipeline_in job.now))) }
 {
     if let Some(key) = first_too_big(alloc, job, schedule, Work::Accumulators)? {
         return Err(RunFault::ScratchTooBig(key));

@@ -1,5 +1,5 @@
 #![tactic(auto)]
-//! What an accumulator gathers over an area, from whatever lends the samples that are read.
+//! What an accumulator gathers over an area, from whatever gives the samples that are read.
 
 ghost use Rattle.std.specs.Prelude.{◌≡◌, ◌<◌, ◌+ℤ◌, ◌≤ℤ◌, ℤ, pos, length, IfSome, IfOk};
 ghost use Rattle.domains.specs.Area.{HoldsPoint, points_of};
@@ -7,7 +7,7 @@ ghost use Rattle.domains.specs.Span.{len_of};
 ghost use Rattle.job.specs.Pipeline.{accumulator as accumulator_by};
 ghost use Rattle.job.specs.Totals.{body_totals};
 ghost use Rattle.job.specs.Views.{formula_view};
-ghost use Rattle.job.specs.WellFormed.{IsNear};
+ghost use Rattle.job.specs.WellFormed.{InDomainRange};
 ghost use Rattle.tile_eval.specs.Rows.{EachPlace};
 ghost use Rattle.accumulators.specs.Accumulating.{HasFormulas, ReadsAt, HasRoomAlong, TookPoints};
 ghost use Rattle.accumulators.specs.Gathering.{points_along};
@@ -17,7 +17,7 @@ use crate::starts::starts;
 use domains::Area;
 use job::Accumulator;
 use std::alloc::{AllocError, Global};
-use tile_eval::{Source, Start, formula_room, formula_row};
+use tile_eval::{RowSource, RowStart, formula_room, formula_row};
 
 // Room for the operands of both formulas at `n` points, if that many numbers can be counted.
 fn room_along(accumulator: &Accumulator, n: usize) -> Option<usize>
@@ -29,10 +29,10 @@ fn room_along(accumulator: &Accumulator, n: usize) -> Option<usize>
 }
 
 // Takes a row of points into the bins.
-fn gather_row<S: Source>(
+fn gather_row<S: RowSource>(
     source: &S,
     accumulator: &Accumulator,
-    start: &Start,
+    start: &RowStart,
     bins: &mut [i64],
     values: &mut [i32],
     bins_of: &mut [i32],
@@ -45,7 +45,7 @@ fn gather_row<S: Source>(
     requires formulas { HasFormulas accumulator.now }
     requires reads { EachPlace (length values.old) (λ k. ReadsAt (S.has source.now) accumulator.now start.now.row (start.now.col +ℤ pos k)) }
     requires room { HasRoomAlong accumulator.now (length values.old) (length temps.old) }
-    ensures { TookPoints (S.sample source.now) accumulator.now (points_along start.now.row start.now.col (length values.old)) bins.old bins.new }
+    ensures { TookPoints (S.samples source.now) accumulator.now (points_along start.now.row start.now.col (length values.old)) bins.old bins.new }
 {
     formula_row(source, accumulator.value(), start, values, temps);
     formula_row(source, accumulator.bin(), start, bins_of, temps);
@@ -59,7 +59,7 @@ fn gather_row<S: Source>(
 }
 
 // Takes the points of an area into the bins, row by row.
-fn gather_rows<S: Source>(
+fn gather_rows<S: RowSource>(
     source: &S,
     accumulator: &Accumulator,
     area: &Area,
@@ -68,18 +68,18 @@ fn gather_rows<S: Source>(
     bins_of: &mut [i32],
     temps: &mut [i32],
 )
-    requires rows { IsNear area.now.rows }
-    requires cols { IsNear area.now.cols }
+    requires rows { InDomainRange area.now.rows }
+    requires cols { InDomainRange area.now.cols }
     requires width { length values.old ≡ len_of area.now.cols }
     requires one_length { length bins_of.old ≡ length values.old }
     requires bins { length bins.old ≡ len_of accumulator.now.bins }
     requires formulas { HasFormulas accumulator.now }
     requires reads { (r c : ℤ) → HoldsPoint area.now r c → ReadsAt (S.has source.now) accumulator.now r c }
     requires room { HasRoomAlong accumulator.now (length values.old) (length temps.old) }
-    ensures { TookPoints (S.sample source.now) accumulator.now (points_of area.now) bins.old bins.new }
+    ensures { TookPoints (S.samples source.now) accumulator.now (points_of area.now) bins.old bins.new }
 {
     for i in 0..area.rows.len() as usize {
-        let start = Start::at(area, i);
+        let start = RowStart::at(area, i);
         gather_row(source, accumulator, &start, bins, values, bins_of, temps);
     }
 }
@@ -89,17 +89,17 @@ fn gather_rows<S: Source>(
 /// # Errors
 ///
 /// Fails only where memory is refused.
-pub(crate) fn gather<S: Source>(
+pub(crate) fn gather<S: RowSource>(
     alloc: Global,
     source: &S,
     accumulator: &Accumulator,
     area: &Area,
 ) -> Result<Vec<i64>, AllocError>
-    requires rows { IsNear area.now.rows }
-    requires cols { IsNear area.now.cols }
+    requires rows { InDomainRange area.now.rows }
+    requires cols { InDomainRange area.now.cols }
     requires formulas { HasFormulas accumulator.now }
     requires reads { (r c : ℤ) → HoldsPoint area.now r c → ReadsAt (S.has source.now) accumulator.now r c }
-    ensures { IfOk result (λ bins. bins.items ≡ body_totals (S.sample source.now) area.now (accumulator_by accumulator.now.fold accumulator.now.bins (formula_view accumulator.now.value) (formula_view accumulator.now.bin))) }
+    ensures { IfOk result (λ bins. bins.items ≡ body_totals (S.samples source.now) area.now (accumulator_by accumulator.now.fold accumulator.now.bins (formula_view accumulator.now.value) (formula_view accumulator.now.bin))) }
 {
     let n = area.cols.len() as usize;
     let room = room_along(accumulator, n).ok_or(AllocError)?;

@@ -9,9 +9,9 @@ ghost use Rattle.job.specs.Pipeline.{Stage, Pipeline};
 ghost use Rattle.job.specs.Reads.{BodyReads};
 ghost use Rattle.job.specs.Totals.{totals, totals_over};
 ghost use Rattle.job.specs.WellFormed.{IsJob};
-ghost use Rattle.tile_run.specs.Lent.{Lending, AreTrue};
+ghost use Rattle.tile_run.specs.KnownTiles.{KnownTiles, AreTrue};
 ghost use Rattle.tile_run.specs.Local.{IsAtHand, IsClosed};
-ghost use Rattle.tile_eval.specs.Pieces.{InBox};
+ghost use Rattle.tile_eval.specs.Cases.{InBox};
 ghost use Rattle.accumulators.specs.Partials.{local_totals, joined_over};
 
 /// The totals over the tiles of an accumulator, joined in any order, are its totals.
@@ -19,8 +19,8 @@ pub fn partials_join()
     ensures { (job : Pipeline) (g : ℕ) (s : Stage) (tiles : List (ℕ × ℕ)) → IsJob job → slice_get job.stages g ≡ Some s → IsPermutation (tiles_of (grid_of job s)) tiles → joined_over job g (grid_of job s) tiles ≡ totals job g }
 {}
 
-/// Where what is lent is true, what an accumulator gathers from it is what it gathers over the area: where all that it reads there is
+/// Where what is given is true, what an accumulator gathers from it is what it gathers over the area: where all that it reads there is
 /// at hand, and so on with what is inlined.
 pub fn true_tiles_give_totals()
-    ensures { (job : Pipeline) (flags : List Bool) (lent : Lending) (boxes : ℕ → Option Area) (g : ℕ) (s : Stage) (area : Area) → IsJob job → slice_get job.stages g ≡ Some s → IsArea area → AreTrue job lent → IsClosed job flags lent (λ h. InBox (boxes h)) → ((r c : ℤ) → HoldsPoint area r c → BodyReads (IsAtHand job flags lent (λ h. InBox (boxes h))) s.body r c) → local_totals job flags lent area g ≡ totals_over job area g }
+    ensures { (job : Pipeline) (inlining : List Bool) (given : KnownTiles) (boxes : ℕ → Option Area) (g : ℕ) (s : Stage) (area : Area) → IsJob job → slice_get job.stages g ≡ Some s → IsArea area → AreTrue job given → IsClosed job inlining given (λ h. InBox (boxes h)) → ((r c : ℤ) → HoldsPoint area r c → BodyReads (IsAtHand job inlining given (λ h. InBox (boxes h))) s.body r c) → local_totals job inlining given area g ≡ totals_over job area g }
 {}

@@ -3,6 +3,7 @@
 
 mod answer;
 mod bins;
+mod buffers;
 mod computed;
 mod gather;
 mod join;
@@ -11,9 +12,8 @@ mod partials;
 mod picture;
 mod starts;
 mod totals;
-mod wholes;
 
 pub use answer::{Answer, Total, answer_of};
+pub use buffers::whole;
 pub use join::join_into;
 pub use partials::partial;
-pub use wholes::whole;

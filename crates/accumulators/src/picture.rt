@@ -39,7 +39,7 @@ impl Computed<'_> {
     pub(crate) fn picture(&self, alloc: Global, output: &Output) -> Result<Picture, AllocError>
         requires computed { IsComputed self.now }
         requires output { IsOutput (pipeline_in self.now.job.now) (output_view output.now) }
-        requires stored { All (IsStoredStage (pipeline_in self.now.job.now) self.now.schedule.now.flags) (output_view output.now).stages }
+        requires stored { All (IsStoredStage (pipeline_in self.now.job.now) self.now.schedule.now.inlining) (output_view output.now).stages }
         ensures answer { IfOk result (λ picture. picture ≡ picture_of (pipeline_in self.now.job.now) (output_view output.now)) }
         ensures image { IfOk result IsImage }
     {
@@ -57,7 +57,7 @@ impl Computed<'_> {
     // The planes of functions.
     fn planes(&self, alloc: Global, stages: &[usize], max: u16) -> Result<Vec<Vec<u16>>, AllocError>
         requires computed { IsComputed self.now }
-        requires stored { All (IsStoredStage (pipeline_in self.now.job.now) self.now.schedule.now.flags) stages.now }
+        requires stored { All (IsStoredStage (pipeline_in self.now.job.now) self.now.schedule.now.inlining) stages.now }
         ensures { IfOk result (λ planes. samples_of planes.items ≡ map (samples (pipeline_in self.now.job.now) max) stages.now) }
     {
         let mut planes = Vec::with_capacity(alloc, stages.len())?;
@@ -70,7 +70,7 @@ impl Computed<'_> {
     // The values of a function, row by row, cut to 0 and the greatest sample.
     fn plane(&self, alloc: Global, stage: usize, max: u16) -> Result<Vec<u16>, AllocError>
         requires computed { IsComputed self.now }
-        requires stored { IsStoredStage (pipeline_in self.now.job.now) self.now.schedule.now.flags stage }
+        requires stored { IsStoredStage (pipeline_in self.now.job.now) self.now.schedule.now.inlining stage }
         ensures { IfOk result (λ plane. plane.items ≡ samples (pipeline_in self.now.job.now) max stage) }
     {
         match self.job.domain(stage) {
@@ -88,7 +88,7 @@ impl Computed<'_> {
         max: u16,
     ) -> Result<Vec<u16>, AllocError>
         requires computed { IsComputed self.now }
-        requires stored { IsStoredStage (pipeline_in self.now.job.now) self.now.schedule.now.flags stage }
+        requires stored { IsStoredStage (pipeline_in self.now.job.now) self.now.schedule.now.inlining stage }
         requires domain { option_map (λ s. s.domain) (slice_get (pipeline_in self.now.job.now).stages stage) ≡ Some domain.now }
         ensures { IfOk result (λ plane. plane.items ≡ map (λ p. sample_of max (value (pipeline_in self.now.job.now) stage p.0 p.1)) (points_of domain.now)) }
     {
@@ -118,7 +118,7 @@ impl Computed<'_> {
         requires stored { IsStoredLine (pipeline_in self.now.job.now) (stored_tiles self.now.stored.now.stages.items) stage row first (length line.old) }
         ensures { OnOk result (plane.new.items ≡ plane.old.items ++ map (λ c. sample_of max (value (pipeline_in self.now.job.now) stage row c)) (numbers_from first (length line.old))) }
     {
-        self.stored.line(self.job, stage, row, first, line);
+        self.stored.read_row(self.job, stage, row, first, line);
         push_cut(plane, line, max)
     }
 }

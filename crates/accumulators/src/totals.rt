@@ -23,7 +23,7 @@ use tile_run::Scratch;
 
 /// An accumulator of a job, whose totals are put together.
 #[derive(Clone, Copy)]
-pub(crate) struct Tally<'a> {
+pub(crate) struct Accumulation<'a> {
     of: Computed<'a>,
     stage: usize,
     op: Fold,
@@ -68,7 +68,7 @@ impl Computed<'_> {
     }
 
     // The stage of this number, if it is an accumulator.
-    fn tally(&self, stage: usize) -> Option<Tally<'_>>
+    fn tally(&self, stage: usize) -> Option<Accumulation<'_>>
         requires computed { IsComputed self.now }
         requires fits { TotalsFit self.now }
         ensures stage { IfSome result (λ tally. tally.stage ≡ stage) }
@@ -79,7 +79,7 @@ impl Computed<'_> {
         let op = self.job.op(stage)?;
         let bins = self.job.bins(stage)?;
         let grid = self.job.grid(stage)?;
-        Some(Tally {
+        Some(Accumulation {
             of: *self,
             stage,
             op,
@@ -89,7 +89,7 @@ impl Computed<'_> {
     }
 }
 
-impl Tally<'_> {
+impl Accumulation<'_> {
     // What it gathered.
     fn total(&self, alloc: Global, scratch: &mut Scratch) -> Result<Total, AllocError>
         requires { IsTally self.now }
@@ -156,7 +156,7 @@ impl Tally<'_> {
     fn layout(&self, alloc: Global, row: u32, col: u32) -> Result<Layout, AllocError>
         requires tally { IsTally self.now }
         requires tile { HasTile self.now.grid row col }
-        ensures { IfOk result (IsTileLayout (pipeline_in self.now.of.job.now) self.now.of.schedule.now.flags self.now.stage row col) }
+        ensures { IfOk result (IsTileLayout (pipeline_in self.now.of.job.now) self.now.of.schedule.now.inlining self.now.stage row col) }
     {
         let of = &self.of;
         match Layout::of(alloc, of.job, of.schedule, self.stage, row, col) {

@@ -9,7 +9,7 @@ use Rattle.pipe_tree.specs.Tree.{Declaration}
 use Rattle.binding.specs.declared.bound.Parts.{Parts}
 use Rattle.binding.specs.declared.fault.BindFault.{BindFault}
 use Rattle.job.specs.Pipeline.{Stage, Output, Parameter, Pipeline}
-use Rattle.pipe_checks.specs.declared.declared.Declared.{Declared}
+use Rattle.pipe_checks.specs.declared.symbol.Symbol.{Symbol}
 use Rattle.pipe_checks.specs.Names.{params_of, stages_of}
 use Rattle.pipe_checks.specs.Graph.{IsRanking}
 use Rattle.pipe_checks.specs.Sites.{graph_of}
@@ -57,7 +57,7 @@ module _ (items : List Declaration) (p : Program) (picture : Picture) (sides : S
     ranking = ranking;
     is =
         job_from_is (settled_program p h.image picture) items picture sides parts h.are
-        ∙ ap (λ (ss : List Declared). let q : Program = record { stages = ss; ranks = p.ranks; settings = settings_for h.image picture p.settings } in job_of q items picture sides) own;
+        ∙ ap (λ (ss : List Symbol). let q : Program = record { stages = ss; ranks = p.ranks; settings = settings_for h.image picture p.settings } in job_of q items picture sides) own;
   }
 
 -- a fault of the sizes comes when nothing else is amiss

@@ -17,7 +17,7 @@ use Rattle.pipe_tree.specs.declared.tree.Test.{Test}
 use Rattle.pipe_tree.specs.declared.tree.Test.TheVariants.{Compare, Remainder}
 use Rattle.pipe_tree.specs.Tree as tree
 use Rattle.pipe_tree.specs.Tree.{Node, Branch, Function, Accumulator, Declaration}
-use Rattle.pipe_checks.specs.declared.declared.Declared.{Declared}
+use Rattle.pipe_checks.specs.declared.symbol.Symbol.{Symbol}
 use Rattle.pipe_checks.specs.declared.site.Site.{Site}
 use Rattle.pipe_checks.specs.declared.site.Site.TheVariants as site
 use Rattle.pipe_bounds.specs.Settings.{affine_value}
@@ -34,10 +34,10 @@ use Rattle.pipe_checks.proofs.Accepted.{IsReadableKind, IsSound, IsSoundBranch, 
 use Rattle.job.specs.Formula.{row, column}
 use Rattle.job.specs.Pipeline.{Stage}
 use Rattle.job.specs.Values.{along, factors, kernel_row, kernel_column}
-use Rattle.job.specs.Reads.{Read, point, window, reads_in, EachTaken, EachRead, PieceReads, BodyReads}
+use Rattle.job.specs.Reads.{Read, point, window, reads_in, EachTaken, EachRead, CaseReads, BodyReads}
 use Rattle.job.specs.Boxes.{Relates, BoundsHold}
-use Rattle.binding.specs.Binding.{Program, Variables, variables_of, axis_of, scale_of, formula_of, test_of, piece_of, area_of, item_stages, function_stage, accumulator_stage}
-use Rattle.job.specs.WellFormed.{IsValued, IsReadable, IsNear}
+use Rattle.binding.specs.Binding.{Program, Variables, variables_of, axis_of, scale_of, formula_of, test_of, case_of, area_of, item_stages, function_stage, accumulator_stage}
+use Rattle.job.specs.WellFormed.{IsValued, IsReadable, InDomainRange}
 use Rattle.job.proofs.Agreeing.{All-left, All-right}
 use Rattle.job.proofs.BoxLaws.{box_is_cut}
 use Rattle.binding.proofs.JudgedFormulas.{width_is}
@@ -52,7 +52,7 @@ ends_are first last e h =
     let high : ℤ → Ends = λ v. record { lo = e.lo; hi = v } in
     ap low (sym h.lo) ∙ ap high (sym h.hi)
 
-pub span_near : (first last : ℤ) (e : Ends) → IsSpanFrom first last e → IsNear e
+pub span_near : (first last : ℤ) (e : Ends) → IsSpanFrom first last e → InDomainRange e
 span_near first last e h =
     let lo = h.lo in let hi = h.hi in let ordered = h.ordered in let least = h.least in let most = h.most in
     record {
@@ -70,7 +70,7 @@ sides_are side e h =
     let high : ℤ → Ends = λ v. record { lo = e.lo; hi = v } in
     ap low (sym h.lo) ∙ ap high (last_is side e h)
 
-sides_near : (side : ℤ) (e : Ends) → IsSides side e → IsNear e
+sides_near : (side : ℤ) (e : Ends) → IsSides side e → InDomainRange e
 sides_near side e h =
     let lo = h.lo in let hi = h.hi in let least = h.least in let most = h.most in
     record {
@@ -87,10 +87,10 @@ area_is rows cols a r c =
 
 pub record HasDomain (s : Stage) (a : Area) : Type 0 where
   pub domain : s.domain ≡ a
-  pub rows : IsNear a.rows
-  pub cols : IsNear a.cols
+  pub rows : InDomainRange a.rows
+  pub cols : InDomainRange a.cols
 
-domain_of : (p : Program) (d : Declaration) (x : Declared) (s : Stage) (a : Area) → IsStageOf p d x s → IsDomain p.settings d (Ok a) → HasDomain s a
+domain_of : (p : Program) (d : Declaration) (x : Symbol) (s : Stage) (a : Area) → IsStageOf p d x s → IsDomain p.settings d (Ok a) → HasDomain s a
 domain_of p (tree.param y) x s a is h = absurd is
 domain_of p (tree.image i) x s a is h = record {
   domain = ap (λ (t : Stage). t.domain) is.1 ∙ area_is _ _ a (sides_are _ a.rows h.0) (sides_are _ a.cols h.1);
@@ -152,7 +152,7 @@ module _ (ds : List Declaration) (p : Program) (own : p.stages ≡ stages_of ds)
   pub domain_at : (g : ℕ) (s : Stage) → IsAt ds p g s → (a : Area) × (slice_get areas g ≡ Some a) × HasDomain s a
   domain_at g s at = let r = item_domain g s at in (r.0, r.1, domain_of p at.item at.declared s r.0 at.is r.2)
 
-  valued : (d : Declaration) (x : Declared) (s : Stage) → IsStageOf p d x s → IsReadableKind x.kind → IsValued s.body
+  valued : (d : Declaration) (x : Symbol) (s : Stage) → IsStageOf p d x s → IsReadableKind x.kind → IsValued s.body
   valued (tree.param y) x s is k = absurd is
   valued (tree.image i) x s is k = subst (λ (t : Stage). IsValued t.body) (sym is.1) tt
   valued (tree.function f) x s is k = subst (λ (t : Stage). IsValued t.body) (sym is.2) tt
@@ -168,7 +168,7 @@ module _ (ds : List Declaration) (p : Program) (own : p.stages ≡ stages_of ds)
       record {
         stage = r.0;
         there = r.1;
-        valued = valued r.2.item r.2.declared r.0 r.2.is (subst (λ (d : Declared). IsReadableKind d.kind) same is.kind);
+        valued = valued r.2.item r.2.declared r.0 r.2.is (subst (λ (d : Symbol). IsReadableKind d.kind) same is.kind);
         within = subst (λ (a : Area). HoldsPoint a u v) area w.holds;
       }
 
@@ -203,20 +203,20 @@ module _ (ds : List Declaration) (p : Program) (own : p.stages ≡ stages_of ds)
   -- ---- of functions
 
   module _ (vars : Variables) (domain : Area) (r c : ℤ) (inside : HoldsPoint domain r c) where
-    piece_reads : (b : Branch) → IsSound (declared_names ds) b.value → AllStay areas (IsInBox p.settings domain (branch_case (stages_of ds) vars.row_name b)) (sites_of (stages_of ds) b.value) → PieceReads (IsReadable (flat_map (item_stages p) ds)) (piece_of p vars domain b) r c
-    piece_reads b sound stays = λ box is within.
+    case_reads : (b : Branch) → IsSound (declared_names ds) b.value → AllStay areas (IsInBox p.settings domain (branch_case (stages_of ds) vars.row_name b)) (sites_of (stages_of ds) b.value) → CaseReads (IsReadable (flat_map (item_stages p) ds)) (case_of p vars domain b) r c
+    case_reads b sound stays = λ box is within.
         let tests = map (test_of p vars) b.condition in
         let cut : IsCutArea (BoundsHold tests) domain (Some box) = subst (IsCutArea (BoundsHold tests) domain) is (box_is_cut domain tests) in
         let here = (cut r c).0 within in
         all_taken (reads_in (formula_of p vars b.value)) (sites_of (stages_of ds) b.value) (reads_same ds p own vars b.value sound) r c
         (λ m y there. stays m y there r c (here.0, bounds_hold p vars b.condition r c here.1))
 
-    pieces_read : (bs : List Branch) (rest : List ReadCase) → All (IsSoundBranch (declared_names ds)) bs → StageStays p.settings areas domain (map (branch_case (stages_of ds) vars.row_name) bs ++ rest) → All (λ q. PieceReads (IsReadable (flat_map (item_stages p) ds)) q r c) (map (piece_of p vars domain) bs)
-    pieces_read [] rest sound stays = All-nil (λ q. PieceReads (IsReadable (flat_map (item_stages p) ds)) q r c)
-    pieces_read (b ∷ bs) rest sound stays =
-        All-cons (λ q. PieceReads (IsReadable (flat_map (item_stages p) ds)) q r c) (piece_of p vars domain b) (map (piece_of p vars domain) bs)
-        (piece_reads b (All-head (IsSoundBranch (declared_names ds)) b bs sound).value (stays 0 (branch_case (stages_of ds) vars.row_name b) refl))
-        (pieces_read bs rest (All-tail (IsSoundBranch (declared_names ds)) b bs sound) (λ n x there. stays (suc n) x there))
+    cases_read : (bs : List Branch) (rest : List ReadCase) → All (IsSoundBranch (declared_names ds)) bs → StageStays p.settings areas domain (map (branch_case (stages_of ds) vars.row_name) bs ++ rest) → All (λ q. CaseReads (IsReadable (flat_map (item_stages p) ds)) q r c) (map (case_of p vars domain) bs)
+    cases_read [] rest sound stays = All-nil (λ q. CaseReads (IsReadable (flat_map (item_stages p) ds)) q r c)
+    cases_read (b ∷ bs) rest sound stays =
+        All-cons (λ q. CaseReads (IsReadable (flat_map (item_stages p) ds)) q r c) (case_of p vars domain b) (map (case_of p vars domain) bs)
+        (case_reads b (All-head (IsSoundBranch (declared_names ds)) b bs sound).value (stays 0 (branch_case (stages_of ds) vars.row_name b) refl))
+        (cases_read bs rest (All-tail (IsSoundBranch (declared_names ds)) b bs sound) (λ n x there. stays (suc n) x there))
 
     rest_stays : (bs : List Branch) (rest : List ReadCase) → StageStays p.settings areas domain (map (branch_case (stages_of ds) vars.row_name) bs ++ rest) → StageStays p.settings areas domain rest
     rest_stays [] rest stays = stays
@@ -237,7 +237,7 @@ module _ (ds : List Declaration) (p : Program) (own : p.stages ≡ stages_of ds)
       let vars : Variables = variables_of f.row f.column in
       let domain : Area = area_of p f.row f.column in
       let others = otherwise_cases (stages_of ds) f.row.name f.otherwise in
-      (pieces_read vars domain r c inside f.cases others sound.0 stays, otherwise_reads vars domain r c inside f.otherwise sound.1 (rest_stays vars domain r c inside f.cases others stays))
+      (cases_read vars domain r c inside f.cases others sound.0 stays, otherwise_reads vars domain r c inside f.otherwise sound.1 (rest_stays vars domain r c inside f.cases others stays))
 
   accumulator_reads : (a : Accumulator) → IsSoundItem (declared_names ds) (tree.accumulator a) → StageStays p.settings areas (accumulator_stage p a).domain (item_cases (stages_of ds) (tree.accumulator a)) → (r c : ℤ) → HoldsPoint (accumulator_stage p a).domain r c → BodyReads (IsReadable (flat_map (item_stages p) ds)) (accumulator_stage p a).body r c
   accumulator_reads a sound stays r c inside =
@@ -255,7 +255,7 @@ module _ (ds : List Declaration) (p : Program) (own : p.stages ≡ stages_of ds)
   Stays d s =
       StageStays p.settings areas s.domain (item_cases (stages_of ds) d) → (r c : ℤ) → HoldsPoint s.domain r c → BodyReads (IsReadable (flat_map (item_stages p) ds)) s.body r c
 
-  body_reads : (d : Declaration) (x : Declared) (s : Stage) → IsStageOf p d x s → IsSoundItem (declared_names ds) d → Stays d s
+  body_reads : (d : Declaration) (x : Symbol) (s : Stage) → IsStageOf p d x s → IsSoundItem (declared_names ds) d → Stays d s
   body_reads (tree.param y) x s is sound = absurd is
   body_reads (tree.image i) x s is sound = subst (Stays (tree.image i)) (sym is.1) (λ stays r c inside. tt)
   body_reads (tree.function f) x s is sound = subst (Stays (tree.function f)) (sym is.2) (function_reads f sound)

@@ -22,9 +22,9 @@ use Rattle.pipe_tree.specs.declared.tree.Output.{Output as OutputText}
 use Rattle.pipe_tree.specs.Sizes.{KeepsLimits}
 use Rattle.pipe_tree.specs.Tree as tree
 use Rattle.pipe_tree.specs.Tree.{Node, Branch, Declaration}
-use Rattle.pipe_checks.specs.declared.declared.Declared.{Declared}
-use Rattle.pipe_checks.specs.declared.declared.NameKind.{NameKind}
-use Rattle.pipe_checks.specs.declared.declared.NameKind.TheVariants.{Param, Plane, Func, Accum}
+use Rattle.pipe_checks.specs.declared.symbol.Symbol.{Symbol}
+use Rattle.pipe_checks.specs.declared.symbol.NameKind.{NameKind}
+use Rattle.pipe_checks.specs.declared.symbol.NameKind.TheVariants.{Param, Plane, Func, Accum}
 use Rattle.pipe_bounds.specs.declared.params.Setting.{Setting}
 use Rattle.pipe_bounds.specs.Settings.{affine_value}
 use Rattle.pipe_bounds.specs.Domains.{IsSpanFrom, IsDomain}
@@ -40,9 +40,9 @@ use Rattle.job.specs.Pipeline.{Stage, Output, Pipeline}
 use Rattle.job.specs.Reads.{other_formula, formulas_of}
 use Rattle.job.specs.Boxes.{box_of, AreBoxed}
 use Rattle.job.specs.Answers.{grid_of, has_tiles, height_of, width_of}
-use Rattle.binding.specs.Binding.{Program, Variables, variables_of, stage_number, plane_number, formula_of, piece_of, area_of, plane_stage, names_in, item_stages, item_outputs, item_images, parameter_of, job_of, AreSmall}
+use Rattle.binding.specs.Binding.{Program, Variables, variables_of, stage_number, plane_number, formula_of, case_of, area_of, plane_stage, names_in, item_stages, item_outputs, item_images, parameter_of, job_of, AreSmall}
 use Rattle.binding.specs.Fits.{PlanesFit, ExtentsFit, HasSides, IsShaped, ShapesFit, TilesFit}
-use Rattle.job.specs.WellFormed.{IsFormula, IsTest, IsFunction, IsNear, picture_area, IsBody, IsStage, IsOutputPlane, IsOutput, IsJob}
+use Rattle.job.specs.WellFormed.{IsFormula, IsTest, IsFunction, InDomainRange, picture_area, IsBody, IsStage, IsOutputPlane, IsOutput, IsJob}
 use Rattle.job.proofs.Agreeing.{All-left, All-right}
 use Rattle.job.proofs.Steps.{All-both}
 use Rattle.binding.proofs.NumberLaws.{stage_named}
@@ -55,10 +55,10 @@ use Rattle.binding.proofs.BoundLaws.{ends_are, span_near, item_domain, domain_at
 
 -- ---- the planes of a program
 
-abbrev keeps : Declared → Bool
+abbrev keeps : Symbol → Bool
 keeps d = not (is_param d.kind)
 
-abbrev planar : Declared → Bool
+abbrev planar : Symbol → Bool
 planar d = is_plane d.kind
 
 abbrev plane_names : List Image → List (List ℕ)
@@ -81,8 +81,8 @@ planes_from n (d ∷ ds) =
     let here = filter keeps (item_names n d) in
     let others = filter keeps (names_from (n + 1) ds) in
     let left : length (filter planar (filter keeps (names_from n (d ∷ ds)))) ≡ length (filter planar here) + length (filter planar others) =
-    ap (λ (xs : List Declared). length (filter planar xs)) (filter-append keeps (item_names n d) (names_from (n + 1) ds))
-    ∙ ap (λ (xs : List Declared). length xs) (filter-append planar here others)
+    ap (λ (xs : List Symbol). length (filter planar xs)) (filter-append keeps (item_names n d) (names_from (n + 1) ds))
+    ∙ ap (λ (xs : List Symbol). length xs) (filter-append planar here others)
     ∙ length-append (filter planar here) (filter planar others) in
     let right : length (plane_names (flat_map item_images (d ∷ ds))) ≡ length (plane_names (item_images d)) + length (plane_names (flat_map item_images ds)) =
     ap (λ (xs : List (List ℕ)). length xs) (flat_map-append (λ (i : Image). names_in i.names) (item_images d) (flat_map item_images ds))
@@ -141,7 +141,7 @@ All-made_each : {X Y : Type 0} (P : Y → Type 0) (f : X → Y) → ((x : X) →
 All-made_each P f step [] = All-nil P
 All-made_each P f step (x ∷ xs) = All-cons P (f x) (map f xs) (step x) (All-made_each P f step xs)
 
-near_long : (s : Ends) → IsNear s → 1 ≤ len_of s
+near_long : (s : Ends) → InDomainRange s → 1 ≤ len_of s
 near_long s h = let len = len_is s h.span in let ordered = h.span.ordered in omega (arith, ints)
 
 func_kept : (k : NameKind) → IsFuncKind k → not (is_param k) ≡ true
@@ -154,7 +154,7 @@ one_or_three : (ns : Names) (f : List ℕ → ℕ) → (length (map f (names_in 
 one_or_three (One x) f = inl refl
 one_or_three (Three x y z) f = inr refl
 
-all_funcs : (names : List Declared) (ns : Names) → AreFuncs names ns → All (IsNameOf IsFuncKind names) (names_in ns)
+all_funcs : (names : List Symbol) (ns : Names) → AreFuncs names ns → All (IsNameOf IsFuncKind names) (names_in ns)
 all_funcs names (One x) h = All-cons (IsNameOf IsFuncKind names) x [] h (All-nil (IsNameOf IsFuncKind names))
 all_funcs names (Three x y z) h =
     All-cons (IsNameOf IsFuncKind names) x (y ∷ z ∷ []) h.0 (All-cons (IsNameOf IsFuncKind names) y (z ∷ []) h.1 (All-cons (IsNameOf IsFuncKind names) z [] h.2 (All-nil (IsNameOf IsFuncKind names))))
@@ -168,20 +168,20 @@ module _ (ds : List Declaration) (named : IsNamed ds) (p : Program) (own : p.sta
   sound_at : (g : ℕ) (s : Stage) (at : IsAt ds p g s) → IsSoundItem (declared_names ds) at.item
   sound_at g s at = sound_item (declared_names ds) at.item (named.good at.declared.item at.item at.there)
 
-  near_at : (g : ℕ) (s : Stage) → slice_get stages g ≡ Some s → IsNear s.domain.rows × IsNear s.domain.cols
+  near_at : (g : ℕ) (s : Stage) → slice_get stages g ≡ Some s → InDomainRange s.domain.rows × InDomainRange s.domain.cols
   near_at g s there =
       let d = domain_at ds p own bounds.areas bounds.domains g s (stage_at ds p g s there) in
-      (subst (λ (a : Area). IsNear a.rows) (sym d.2.domain) d.2.rows, subst (λ (a : Area). IsNear a.cols) (sym d.2.domain) d.2.cols)
+      (subst (λ (a : Area). InDomainRange a.rows) (sym d.2.domain) d.2.rows, subst (λ (a : Area). InDomainRange a.cols) (sym d.2.domain) d.2.cols)
 
   -- ---- boxes and formulas
 
-  boxed : (d : Declaration) (x : Declared) (s : Stage) → IsStageOf p d x s → AreBoxed s.domain s.body
+  boxed : (d : Declaration) (x : Symbol) (s : Stage) → IsStageOf p d x s → AreBoxed s.domain s.body
   boxed (tree.param y) x s is = absurd is
   boxed (tree.image i) x s is = subst (λ (t : Stage). AreBoxed t.domain t.body) (sym is.1) tt
   boxed (tree.function f) x s is =
       let domain : Area = area_of p f.row f.column in
       subst (λ (t : Stage). AreBoxed t.domain t.body) (sym is.2)
-      (All-made_each (λ q. q.box ≡ box_of domain q.tests) (piece_of p (variables_of f.row f.column) domain) (λ b. refl) f.cases)
+      (All-made_each (λ q. q.box ≡ box_of domain q.tests) (case_of p (variables_of f.row f.column) domain) (λ b. refl) f.cases)
   boxed (tree.accumulator a) x s is = subst (λ (t : Stage). AreBoxed t.domain t.body) (sym is.2) tt
   boxed (tree.output o) x s is = absurd is
 
@@ -189,21 +189,21 @@ module _ (ds : List Declaration) (named : IsNamed ds) (p : Program) (own : p.sta
   other_is vars None sound = All-nil IsFormula
   other_is vars (Some a) sound = All-cons IsFormula (formula_of p vars a) [] (formula_is p vars small (declared_names ds) a (sound a refl)) (All-nil IsFormula)
 
-  pieces_are : (vars : Variables) (domain : Area) (bs : List Branch) → All (IsSoundBranch (declared_names ds)) bs → All IsFormula (map (λ q. q.formula) (map (piece_of p vars domain) bs))
-  pieces_are vars domain [] sound = All-nil IsFormula
-  pieces_are vars domain (b ∷ bs) sound =
-      All-cons IsFormula (formula_of p vars b.value) (map (λ q. q.formula) (map (piece_of p vars domain) bs))
+  cases_are : (vars : Variables) (domain : Area) (bs : List Branch) → All (IsSoundBranch (declared_names ds)) bs → All IsFormula (map (λ q. q.formula) (map (case_of p vars domain) bs))
+  cases_are vars domain [] sound = All-nil IsFormula
+  cases_are vars domain (b ∷ bs) sound =
+      All-cons IsFormula (formula_of p vars b.value) (map (λ q. q.formula) (map (case_of p vars domain) bs))
       (formula_is p vars small (declared_names ds) b.value (All-head (IsSoundBranch (declared_names ds)) b bs sound).value)
-      (pieces_are vars domain bs (All-tail (IsSoundBranch (declared_names ds)) b bs sound))
+      (cases_are vars domain bs (All-tail (IsSoundBranch (declared_names ds)) b bs sound))
 
-  formulas_are : (d : Declaration) (x : Declared) (s : Stage) → IsStageOf p d x s → IsSoundItem (declared_names ds) d → All IsFormula (formulas_of s.body)
+  formulas_are : (d : Declaration) (x : Symbol) (s : Stage) → IsStageOf p d x s → IsSoundItem (declared_names ds) d → All IsFormula (formulas_of s.body)
   formulas_are (tree.param y) x s is sound = absurd is
   formulas_are (tree.image i) x s is sound = subst (λ (t : Stage). All IsFormula (formulas_of t.body)) (sym is.1) (All-nil IsFormula)
   formulas_are (tree.function f) x s is sound =
       let vars : Variables = variables_of f.row f.column in
       let domain : Area = area_of p f.row f.column in
       subst (λ (t : Stage). All IsFormula (formulas_of t.body)) (sym is.2)
-      (All-append IsFormula (map (λ q. q.formula) (map (piece_of p vars domain) f.cases)) (other_formula (option_map (formula_of p vars) f.otherwise)) (pieces_are vars domain f.cases sound.0) (other_is vars f.otherwise sound.1))
+      (All-append IsFormula (map (λ q. q.formula) (map (case_of p vars domain) f.cases)) (other_formula (option_map (formula_of p vars) f.otherwise)) (cases_are vars domain f.cases sound.0) (other_is vars f.otherwise sound.1))
   formulas_are (tree.accumulator a) x s is sound =
       let vars : Variables = variables_of a.row a.column in
       subst (λ (t : Stage). All IsFormula (formulas_of t.body)) (sym is.2)
@@ -213,9 +213,9 @@ module _ (ds : List Declaration) (named : IsNamed ds) (p : Program) (own : p.sta
 
   -- ---- bodies
 
-  bins_fit : (first last : ℤ) (e : Ends) → IsSpanFrom first last e → (last -ℤ first) ≤ℤ pos 4095 → IsNear (record { lo = first; hi = last }) × (len_of (record { lo = first; hi = last }) ≤ 4096)
+  bins_fit : (first last : ℤ) (e : Ends) → IsSpanFrom first last e → (last -ℤ first) ≤ℤ pos 4095 → InDomainRange (record { lo = first; hi = last }) × (len_of (record { lo = first; hi = last }) ≤ 4096)
   bins_fit first last e h few =
-      let near : IsNear (record { lo = first; hi = last }) = subst IsNear (sym (ends_are first last e h)) (span_near first last e h) in
+      let near : InDomainRange (record { lo = first; hi = last }) = subst InDomainRange (sym (ends_are first last e h)) (span_near first last e h) in
       let len = len_is (record { lo = first; hi = last }) near.span in
       (near, omega (arith, ints))
 
@@ -231,7 +231,7 @@ module _ (ds : List Declaration) (named : IsNamed ds) (p : Program) (own : p.sta
         by None is = let some = some_name i.names in omega (arith, planes)
         by (Some k) is =
             let within = position_within (λ d. bytes_eq d.name x) (filter planar p.stages) k is in
-            let same = ap (λ (xs : List Declared). length (filter planar xs)) own in
+            let same = ap (λ (xs : List Symbol). length (filter planar xs)) own in
             let all = planes_are ds i declared in
             omega (arith, planes)
 
@@ -257,7 +257,7 @@ module _ (ds : List Declaration) (named : IsNamed ds) (p : Program) (own : p.sta
             let vars : Variables = variables_of f.row f.column in
             let domain : Area = area_of p f.row f.column in
             subst (λ (t : Stage). IsBody picture t.domain t.body) (sym is.2)
-            (All-made (λ q. All IsTest q.tests) (piece_of p vars domain) (IsSoundBranch (declared_names ds)) (λ b good. tests_are p vars b.condition good.tests) f.cases sound.0)
+            (All-made (λ q. All IsTest q.tests) (case_of p vars domain) (IsSoundBranch (declared_names ds)) (λ b good. tests_are p vars b.condition good.tests) f.cases sound.0)
         by (tree.accumulator a) is there sound h =
             let first : ℤ = affine_value p.settings a.bins.first in
             let last : ℤ = affine_value p.settings a.bins.last in
@@ -303,7 +303,7 @@ module _ (ds : List Declaration) (named : IsNamed ds) (p : Program) (own : p.sta
         rows : 1 ≤ len_of stage.domain.rows
         cols : 1 ≤ len_of stage.domain.cols
 
-      function_body : (d : Declaration) (x : Declared) (s : Stage) → IsStageOf p d x s → IsFuncKind x.kind → IsFunction s.body
+      function_body : (d : Declaration) (x : Symbol) (s : Stage) → IsStageOf p d x s → IsFuncKind x.kind → IsFunction s.body
       function_body (tree.param y) x s is k = absurd is
       function_body (tree.image j) x s is k = absurd (subst IsFuncKind is.0 k)
       function_body (tree.function f) x s is k = subst (λ (t : Stage). IsFunction t.body) (sym is.2) tt
@@ -313,14 +313,14 @@ module _ (ds : List Declaration) (named : IsNamed ds) (p : Program) (own : p.sta
       function_named : (x : List ℕ) → IsNameOf IsFuncKind (declared_names ds) x → IsFunctionAt (stage_number p x)
       function_named x n =
           let r = stage_named ds x n.declared n.found (func_kept n.declared.kind n.kind) in
-          let number : r.0 ≡ stage_number p x = sym (ap (λ (xs : List Declared). unwrap_or (number_of xs x) 0) own ∙ ap (λ (o : Option ℕ). unwrap_or o 0) r.1) in
+          let number : r.0 ≡ stage_number p x = sym (ap (λ (xs : List Symbol). unwrap_or (number_of xs x) 0) own ∙ ap (λ (o : Option ℕ). unwrap_or o 0) r.1) in
           let s = stage_there ds p r.0 n.declared r.2 in
           let same : n.declared ≡ s.2.declared = same_Some n.declared s.2.declared (sym r.2 ∙ s.2.numbered) in
           let near = near_at r.0 s.0 s.1 in
           record {
             stage = s.0;
             there = ap (slice_get stages) (sym number) ∙ s.1;
-            function = function_body s.2.item s.2.declared s.0 s.2.is (subst (λ (d : Declared). IsFuncKind d.kind) same n.kind);
+            function = function_body s.2.item s.2.declared s.0 s.2.is (subst (λ (d : Symbol). IsFuncKind d.kind) same n.kind);
             rows = near_long s.0.domain.rows near.0;
             cols = near_long s.0.domain.cols near.1;
           }

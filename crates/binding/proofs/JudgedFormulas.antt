@@ -12,7 +12,7 @@ use Rattle.pipe_tree.specs.declared.tree.Test.{Test}
 use Rattle.pipe_tree.specs.declared.tree.Test.TheVariants.{Compare, Remainder}
 use Rattle.pipe_tree.specs.Tree as tree
 use Rattle.pipe_tree.specs.Tree.{Node}
-use Rattle.pipe_checks.specs.declared.declared.Declared.{Declared}
+use Rattle.pipe_checks.specs.declared.symbol.Symbol.{Symbol}
 use Rattle.pipe_bounds.specs.declared.params.Setting.{Setting}
 use Rattle.pipe_bounds.specs.Settings.{place_in, value_at, value_in, param_value}
 use Rattle.pipe_checks.specs.Sites.{width_of}
@@ -96,7 +96,7 @@ module _ (p : Program) (vars : Variables) where
       by false true = tt
       by false false = param_fits p.settings small x
 
-  pub formula_is : AreSmall p.settings → (names : List Declared) (a : Node) → IsSound names a → IsFormula (formula_of p vars a)
+  pub formula_is : AreSmall p.settings → (names : List Symbol) (a : Node) → IsSound names a → IsFormula (formula_of p vars a)
   formula_is small names (tree.number n) h = number_fits n h
   formula_is small names (tree.variable x) h = name_is small x
   formula_is small names (tree.read x i j) h = (index_is i h.1, index_is j h.2)

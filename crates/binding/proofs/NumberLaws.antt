@@ -13,7 +13,7 @@ use Rattle.pipe_tree.specs.declared.tree.Names.{Names}
 use Rattle.pipe_tree.specs.declared.tree.Names.TheVariants.{One, Three}
 use Rattle.pipe_tree.specs.Tree as tree
 use Rattle.pipe_tree.specs.Tree.{Declaration}
-use Rattle.pipe_checks.specs.declared.declared.Declared.{Declared}
+use Rattle.pipe_checks.specs.declared.symbol.Symbol.{Symbol}
 use Rattle.pipe_checks.specs.Names.{names_of, item_names, names_from, is_param, declared_names, stages_of, number_of, place_of, declared_at}
 use Rattle.pipe_checks.specs.Checking.{NoneTwice}
 use Rattle.domains.proofs.Places.{all_at}
@@ -93,7 +93,7 @@ module _ {X : Type 0} (p : X → Bool) where
 
 -- ---- names that stand once
 
-abbrev AreApart : Declared → Declared → Type 0
+abbrev AreApart : Symbol → Symbol → Type 0
 AreApart d e = bytes_eq d.name e.name ≡ false
 
 taken_at : {X : Type 0} (xs : List X) (n k : ℕ) (x : X) → k < n → k < length xs → slice_get xs k ≡ Some x → slice_get (take n xs) k ≡ Some x
@@ -107,7 +107,7 @@ is_false true h = absurd (h refl)
 is_false false h = refl
 
 -- where the items begin with number n, the name comes from one of them
-abbrev Comes : ℕ → List Declaration → Declared → Type 0
+abbrev Comes : ℕ → List Declaration → Symbol → Type 0
 Comes n ds x = (k : ℕ) × (x.item ≡ n + k) × (d : Declaration) × (slice_get ds k ≡ Some d)
 
 planes_come : (n : ℕ) (ns : Names) → All (λ x. x.item ≡ n) (names_of n ns)
@@ -129,7 +129,7 @@ names_come n (d ∷ ds) =
     (All-weaker (Comes (n + 1) ds) (Comes n (d ∷ ds)) (λ x c. (suc c.0, c.1 ∙ omega arith, c.2, c.3)) (names_from (n + 1) ds) (names_come (n + 1) ds))
 
 module _ (ds : List Declaration) (once : NoneTwice (declared_names ds) ds) where
-  not_again : (i j : ℕ) (x y : Declared) → i < j → slice_get (declared_names ds) i ≡ Some y → slice_get (declared_names ds) j ≡ Some x → bytes_eq y.name x.name ≡ true → ⊥
+  not_again : (i j : ℕ) (x y : Symbol) → i < j → slice_get (declared_names ds) i ≡ Some y → slice_get (declared_names ds) j ≡ Some x → bytes_eq y.name x.name ≡ true → ⊥
   not_again i j x y l first later same =
       let c : Comes 0 ds x = all_at (Comes 0 ds) (declared_names ds) j x (names_come 0 ds) later in
       once c.0 c.2 c.3 (inl (record {
@@ -150,14 +150,14 @@ module _ (ds : List Declaration) (once : NoneTwice (declared_names ds) ds) where
   stages_apart = AllPairs-filter AreApart (λ d. not (is_param d.kind)) (declared_names ds) names_apart
 
   -- the number of a stage's name is its place
-  pub number_at : (g : ℕ) (x : Declared) → slice_get (stages_of ds) g ≡ Some x → number_of (stages_of ds) x.name ≡ Some g
+  pub number_at : (g : ℕ) (x : Symbol) → slice_get (stages_of ds) g ≡ Some x → number_of (stages_of ds) x.name ≡ Some g
   number_at g x there =
       position_at (λ d. bytes_eq d.name x.name) (stages_of ds) g x there ((bytes_eq-Decides x.name x.name).1 refl) (λ k y l at.
-      subst (λ (z : Declared). bytes_eq y.name z.name ≡ false) (get_or_from_slice_get (stages_of ds) g x x there)
-      (subst (λ (z : Declared). bytes_eq z.name (get_or (stages_of ds) g x).name ≡ false) (get_or_from_slice_get (stages_of ds) k y x at)
+      subst (λ (z : Symbol). bytes_eq y.name z.name ≡ false) (get_or_from_slice_get (stages_of ds) g x x there)
+      (subst (λ (z : Symbol). bytes_eq z.name (get_or (stages_of ds) g x).name ≡ false) (get_or_from_slice_get (stages_of ds) k y x at)
       (stages_apart k g x l (slice_get_within (stages_of ds) g x there))))
 
-declared_found : (names : List Declared) (x : List ℕ) (d : Declared) → declared_at names x ≡ Some d → find (λ e. bytes_eq e.name x) names ≡ Some d
+declared_found : (names : List Symbol) (x : List ℕ) (d : Symbol) → declared_at names x ≡ Some d → find (λ e. bytes_eq e.name x) names ≡ Some d
 declared_found names x d = by (number_of names x) refl
   where
     by : (o : Option ℕ) → number_of names x ≡ o → place_of names o ≡ Some d → find (λ e. bytes_eq e.name x) names ≡ Some d
@@ -165,7 +165,7 @@ declared_found names x d = by (number_of names x) refl
     by (Some j) e there = let r = found (λ e. bytes_eq e.name x) names j e in r.3 ∙ sym r.1 ∙ there
 
 -- a name that is declared as a stage is the name of this stage
-pub stage_named : (ds : List Declaration) (x : List ℕ) (d : Declared) → declared_at (declared_names ds) x ≡ Some d → not (is_param d.kind) ≡ true → (h : ℕ) × (number_of (stages_of ds) x ≡ Some h) × (slice_get (stages_of ds) h ≡ Some d)
+pub stage_named : (ds : List Declaration) (x : List ℕ) (d : Symbol) → declared_at (declared_names ds) x ≡ Some d → not (is_param d.kind) ≡ true → (h : ℕ) × (number_of (stages_of ds) x ≡ Some h) × (slice_get (stages_of ds) h ≡ Some d)
 stage_named ds x d there kept =
     let first : find (λ e. bytes_eq e.name x) (stages_of ds) ≡ Some d = find-filter (λ e. bytes_eq e.name x) (λ e. not (is_param e.kind)) (declared_names ds) d (declared_found (declared_names ds) x d there) kept in
     let place = find_place (λ e. bytes_eq e.name x) (stages_of ds) d first in

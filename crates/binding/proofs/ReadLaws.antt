@@ -9,9 +9,9 @@ use Rattle.std.proofs.lemmas.Grind.{flat_map-append}
 use Rattle.std.proofs.lemmas.List.Elements.{All-head, All-tail}
 use Rattle.pipe_tree.specs.Tree as tree
 use Rattle.pipe_tree.specs.Tree.{Node, Branch, Declaration}
-use Rattle.pipe_checks.specs.declared.declared.Declared.{Declared}
-use Rattle.pipe_checks.specs.declared.declared.NameKind.{NameKind}
-use Rattle.pipe_checks.specs.declared.declared.NameKind.TheVariants.{Param, Plane, Func, Accum}
+use Rattle.pipe_checks.specs.declared.symbol.Symbol.{Symbol}
+use Rattle.pipe_checks.specs.declared.symbol.NameKind.{NameKind}
+use Rattle.pipe_checks.specs.declared.symbol.NameKind.TheVariants.{Param, Plane, Func, Accum}
 use Rattle.pipe_checks.specs.declared.site.Site.{Site}
 use Rattle.pipe_checks.specs.declared.site.Site.TheVariants as site
 use Rattle.pipe_checks.specs.Graph.{links_at}
@@ -26,7 +26,7 @@ use Rattle.pipe_bounds.specs.Settings.{param_value}
 use Rattle.job.specs.Formula.{row, column, number, coordinate}
 use Rattle.job.specs.Pipeline.{Stage, rank_of}
 use Rattle.job.specs.Reads.{Read, point, window, stage_read, reads_in, other_formula, reads_of, rank_by}
-use Rattle.binding.specs.Binding.{Program, Variables, variables_of, stage_number, scale_of, formula_of, piece_of, item_stages}
+use Rattle.binding.specs.Binding.{Program, Variables, variables_of, stage_number, scale_of, formula_of, case_of, item_stages}
 use Rattle.domains.specs.declared.area.Area.{Area}
 use Rattle.binding.proofs.NumberLaws.{stage_named}
 use Rattle.binding.proofs.StageLaws.{zip_append, IsStageOf, IsAt, rank_at, rank_of_is, links_are}
@@ -35,7 +35,7 @@ use Rattle.binding.proofs.StageLaws.{zip_append, IsStageOf, IsAt, rank_at, rank_
 
 -- stage h is a plane or a function
 pub record IsReadStage (ds : List Declaration) (h : ℕ) : Type 0 where
-  pub declared : Declared
+  pub declared : Symbol
   pub there : slice_get (stages_of ds) h ≡ Some declared
   pub kind : IsReadableKind declared.kind
 
@@ -61,7 +61,7 @@ module _ (ds : List Declaration) (p : Program) (own : p.stages ≡ stages_of ds)
   named : (x : List ℕ) → IsNameOf IsReadableKind (declared_names ds) x → (h : ℕ) × (number_of (stages_of ds) x ≡ Some h) × (stage_number p x ≡ h) × IsReadStage ds h
   named x n =
       let r = stage_named ds x n.declared n.found (kept n.declared.kind n.kind) in
-      (r.0, r.1, ap (λ (xs : List Declared). unwrap_or (number_of xs x) 0) own ∙ ap (λ (o : Option ℕ). unwrap_or o 0) r.1, record { declared = n.declared; there = r.2; kind = n.kind })
+      (r.0, r.1, ap (λ (xs : List Symbol). unwrap_or (number_of xs x) 0) own ∙ ap (λ (o : Option ℕ). unwrap_or o 0) r.1, record { declared = n.declared; there = r.2; kind = n.kind })
 
   abbrev AreSame : List Read → List Site → Type 0
   AreSame xs ys = AllZip (IsSame ds) xs ys
@@ -101,27 +101,27 @@ module _ (ds : List Declaration) (p : Program) (own : p.stages ≡ stages_of ds)
 
   -- ---- those of a stage
 
-  pieces_same : (vars : Variables) (domain : Area) (bs : List Branch) → All (IsSoundBranch (declared_names ds)) bs → AreSame (flat_map reads_in (map (λ q. q.formula) (map (piece_of p vars domain) bs))) (branch_sites (stages_of ds) bs)
-  pieces_same vars domain [] h = tt
-  pieces_same vars domain (b ∷ bs) h =
-      both (reads_in (formula_of p vars b.value)) (flat_map reads_in (map (λ q. q.formula) (map (piece_of p vars domain) bs))) (sites_of (stages_of ds) b.value) (branch_sites (stages_of ds) bs)
+  cases_same : (vars : Variables) (domain : Area) (bs : List Branch) → All (IsSoundBranch (declared_names ds)) bs → AreSame (flat_map reads_in (map (λ q. q.formula) (map (case_of p vars domain) bs))) (branch_sites (stages_of ds) bs)
+  cases_same vars domain [] h = tt
+  cases_same vars domain (b ∷ bs) h =
+      both (reads_in (formula_of p vars b.value)) (flat_map reads_in (map (λ q. q.formula) (map (case_of p vars domain) bs))) (sites_of (stages_of ds) b.value) (branch_sites (stages_of ds) bs)
       (reads_same vars b.value (All-head (IsSoundBranch (declared_names ds)) b bs h).value)
-      (pieces_same vars domain bs (All-tail (IsSoundBranch (declared_names ds)) b bs h))
+      (cases_same vars domain bs (All-tail (IsSoundBranch (declared_names ds)) b bs h))
 
   otherwise_same : (vars : Variables) (o : Option Node) → ForSome o (IsSound (declared_names ds)) → AreSame (flat_map reads_in (other_formula (option_map (formula_of p vars) o))) (otherwise_sites (stages_of ds) o)
   otherwise_same vars None h = tt
   otherwise_same vars (Some a) h =
       subst (λ (xs : List Read). AreSame xs (sites_of (stages_of ds) a)) (sym (append-nil (reads_in (formula_of p vars a)))) (reads_same vars a (h a refl))
 
-  pub body_same : (d : Declaration) (x : Declared) (s : Stage) → IsStageOf p d x s → IsSoundItem (declared_names ds) d → AreSame (reads_of s.body) (item_sites (stages_of ds) d)
+  pub body_same : (d : Declaration) (x : Symbol) (s : Stage) → IsStageOf p d x s → IsSoundItem (declared_names ds) d → AreSame (reads_of s.body) (item_sites (stages_of ds) d)
   body_same (tree.param y) x s is h = absurd is
   body_same (tree.image i) x s is h = subst (λ (t : Stage). AreSame (reads_of t.body) []) (sym is.1) tt
   body_same (tree.function f) x s is h =
       let own_names : Variables = variables_of f.row f.column in
       subst (λ (t : Stage). AreSame (reads_of t.body) (item_sites (stages_of ds) (tree.function f))) (sym is.2)
-      (subst (λ (xs : List Read). AreSame xs (branch_sites (stages_of ds) f.cases ++ otherwise_sites (stages_of ds) f.otherwise)) (sym (flat_map-append reads_in (map (λ q. q.formula) (map (piece_of p own_names _) f.cases)) (other_formula (option_map (formula_of p own_names) f.otherwise))))
-      (both (flat_map reads_in (map (λ q. q.formula) (map (piece_of p own_names _) f.cases))) (flat_map reads_in (other_formula (option_map (formula_of p own_names) f.otherwise))) (branch_sites (stages_of ds) f.cases) (otherwise_sites (stages_of ds) f.otherwise)
-      (pieces_same own_names _ f.cases h.0) (otherwise_same own_names f.otherwise h.1)))
+      (subst (λ (xs : List Read). AreSame xs (branch_sites (stages_of ds) f.cases ++ otherwise_sites (stages_of ds) f.otherwise)) (sym (flat_map-append reads_in (map (λ q. q.formula) (map (case_of p own_names _) f.cases)) (other_formula (option_map (formula_of p own_names) f.otherwise))))
+      (both (flat_map reads_in (map (λ q. q.formula) (map (case_of p own_names _) f.cases))) (flat_map reads_in (other_formula (option_map (formula_of p own_names) f.otherwise))) (branch_sites (stages_of ds) f.cases) (otherwise_sites (stages_of ds) f.otherwise)
+      (cases_same own_names _ f.cases h.0) (otherwise_same own_names f.otherwise h.1)))
   body_same (tree.accumulator a) x s is h =
       let own_names : Variables = variables_of a.row a.column in
       subst (λ (t : Stage). AreSame (reads_of t.body) (item_sites (stages_of ds) (tree.accumulator a))) (sym is.2)
@@ -147,7 +147,7 @@ module _ (ds : List Declaration) (p : Program) (own : p.stages ≡ stages_of ds)
         ap (λ b. cond b 0 (greatest (map (slice_index p.ranks) (sites.reads_of (stages_of ds) o)) + 1)) e
         ∙ ap (λ (q : Option Declaration). greatest (map (slice_index p.ranks) (sites.reads_of (stages_of ds) q)) + 1) there
 
-    rank_is : (d : Declaration) (x : Declared) (s : Stage) → IsStageOf p d x s → IsSoundItem (declared_names ds) d → slice_get ds x.item ≡ Some d → rank_over (slice_index p.ranks) (links_of ds (stages_of ds) x) ≡ rank_by (flat_map (item_stages p) ds) s.body
+    rank_is : (d : Declaration) (x : Symbol) (s : Stage) → IsStageOf p d x s → IsSoundItem (declared_names ds) d → slice_get ds x.item ≡ Some d → rank_over (slice_index p.ranks) (links_of ds (stages_of ds) x) ≡ rank_by (flat_map (item_stages p) ds) s.body
     rank_is (tree.param y) x s is h there = absurd is
     rank_is (tree.image i) x s is h there =
         ap (λ b. cond b 0 (greatest (map (slice_index p.ranks) (links_of ds (stages_of ds) x).reads) + 1)) (ap is_plane is.0)

@@ -8,7 +8,7 @@ use Rattle.pipe_tree.specs.declared.tree.Names.{Names}
 use Rattle.pipe_tree.specs.declared.tree.Names.TheVariants.{One, Three}
 use Rattle.pipe_tree.specs.Tree as tree
 use Rattle.pipe_tree.specs.Tree.{Node, Branch, Declaration}
-use Rattle.pipe_checks.specs.declared.declared.Declared.{Declared}
+use Rattle.pipe_checks.specs.declared.symbol.Symbol.{Symbol}
 use Rattle.pipe_bounds.specs.declared.params.Setting.{Setting}
 use Rattle.pipe_checks.specs.Names.{names_of, item_names, names_from, is_param, declared_names, stages_of}
 use Rattle.pipe_bounds.specs.Domains.{IsDomain}
@@ -22,7 +22,7 @@ use Rattle.binding.proofs.JudgedFormulas.{index_is}
 
 -- ---- numbers
 
-ranged : (names : List Declared) (a : Node) → IsSound names a → IsRanged a
+ranged : (names : List Symbol) (a : Node) → IsSound names a → IsRanged a
 ranged names (tree.number n) h = omega arith
 ranged names (tree.variable x) h = tt
 ranged names (tree.read x i j) h = (index_is i h.1, index_is j h.2)
@@ -34,7 +34,7 @@ ranged names (tree.clamp a b c) h = (ranged names a h.0, ranged names b h.1, ran
 ranged names (tree.select a r b c d) h = (ranged names a h.0, ranged names b h.1, ranged names c h.2, ranged names d h.3)
 ranged names (tree.stencil x d k) h = tt
 
-ranged_item : (names : List Declared) (d : Declaration) → IsSoundItem names d → IsRangedItem d
+ranged_item : (names : List Symbol) (d : Declaration) → IsSoundItem names d → IsRangedItem d
 ranged_item names (tree.param p) h = tt
 ranged_item names (tree.image i) h = tt
 ranged_item names (tree.function f) h =
@@ -49,21 +49,21 @@ ranged_items ds named = λ k d l.
 
 -- ---- domains
 
-abbrev keeps : Declared → Bool
+abbrev keeps : Symbol → Bool
 keeps d = not (is_param d.kind)
 
 -- where the items begin with number n, item k is that of a stage
 pub record IsStaged (n : ℕ) (ds : List Declaration) (k : ℕ) : Type 0 where
   pub stage : ℕ
-  pub declared : Declared
+  pub declared : Symbol
   pub there : slice_get (filter keeps (names_from n ds)) stage ≡ Some declared
   pub item : declared.item ≡ n + k
 
-planes_staged : (n : ℕ) (ns : Names) (others : List Declared) → (s : Declared) × (slice_get (filter keeps (names_of n ns ++ others)) 0 ≡ Some s) × (s.item ≡ n)
+planes_staged : (n : ℕ) (ns : Names) (others : List Symbol) → (s : Symbol) × (slice_get (filter keeps (names_of n ns ++ others)) 0 ≡ Some s) × (s.item ≡ n)
 planes_staged n (One x) others = (_, refl, refl)
 planes_staged n (Three x y z) others = (_, refl, refl)
 
-first_staged : (n : ℕ) (d : Declaration) (others : List Declared) → IsStageItem d → (s : Declared) × (slice_get (filter keeps (item_names n d ++ others)) 0 ≡ Some s) × (s.item ≡ n)
+first_staged : (n : ℕ) (d : Declaration) (others : List Symbol) → IsStageItem d → (s : Symbol) × (slice_get (filter keeps (item_names n d ++ others)) 0 ≡ Some s) × (s.item ≡ n)
 first_staged n (tree.param x) others is = absurd is
 first_staged n (tree.image i) others is = planes_staged n i.names others
 first_staged n (tree.function f) others is = (_, refl, refl)
@@ -88,7 +88,7 @@ staged n (e ∷ ds) (suc k) d there is =
     record {
       stage = length here + r.stage;
       declared = r.declared;
-      there = ap (λ (xs : List Declared). slice_get xs (length here + r.stage)) (filter-append keeps (item_names n e) (names_from (n + 1) ds)) ∙ behind here others r.stage (length here + r.stage) refl ∙ r.there;
+      there = ap (λ (xs : List Symbol). slice_get xs (length here + r.stage)) (filter-append keeps (item_names n e) (names_from (n + 1) ds)) ∙ behind here others r.stage (length here + r.stage) refl ∙ r.there;
       item = omega arith;
     }
 

@@ -13,12 +13,12 @@ use Rattle.pipe_tree.specs.declared.tree.Names.TheVariants.{One, Three}
 use Rattle.pipe_tree.specs.Sizes.{stages, params, cases, node_size, optional_size, names_size, item_size, size, KeepsLimits}
 use Rattle.pipe_tree.specs.Tree as tree
 use Rattle.pipe_tree.specs.Tree.{Node, Branch, Declaration}
-use Rattle.pipe_checks.specs.declared.declared.Declared.{Declared}
+use Rattle.pipe_checks.specs.declared.symbol.Symbol.{Symbol}
 use Rattle.pipe_bounds.specs.declared.params.Setting.{Setting}
 use Rattle.pipe_checks.specs.Names.{names_of, item_names, names_from, is_param, params_of, stages_of}
 use Rattle.job.specs.Pipeline.{Stage, Pipeline}
-use Rattle.binding.specs.Binding.{Program, variables_of, area_of, piece_of, function_stage, plane_stage, names_in, item_stages, settings_for, parameter_of, IsJobOf}
-use Rattle.job.specs.WellFormed.{piece_count, IsSmall}
+use Rattle.binding.specs.Binding.{Program, variables_of, area_of, case_of, function_stage, plane_stage, names_in, item_stages, settings_for, parameter_of, IsJobOf}
+use Rattle.job.specs.WellFormed.{case_count, IsSmall}
 use Rattle.domains.proofs.Places.{all_at}
 use Rattle.binding.proofs.StageLaws.{IsStageOf, stage_at}
 
@@ -74,7 +74,7 @@ stages_counted p (d ∷ ds) =
 
 -- ---- parameters
 
-abbrev is_a_param : Declared → Bool
+abbrev is_a_param : Symbol → Bool
 is_a_param d = is_param d.kind
 
 no_params : (n : ℕ) (ns : Names) → length (filter is_a_param (names_of n ns)) ≡ names_size 0 ns
@@ -91,22 +91,22 @@ params_in_item n (tree.output o) = refl
 params_counted : (n : ℕ) (ds : List Declaration) → length (filter is_a_param (names_from n ds)) ≡ size params ds
 params_counted n [] = refl
 params_counted n (d ∷ ds) =
-    ap (λ (xs : List Declared). length xs) (filter-append is_a_param (item_names n d) (names_from (n + 1) ds))
+    ap (λ (xs : List Symbol). length xs) (filter-append is_a_param (item_names n d) (names_from (n + 1) ds))
     ∙ omega (arith, length-append (filter is_a_param (item_names n d)) (filter is_a_param (names_from (n + 1) ds)), sum_by-cons (item_size params) d ds, params_in_item n d, params_counted (n + 1) ds)
 
--- ---- pieces
+-- ---- job_cases
 
-abbrev FewPieces : Stage → Type 0
-FewPieces s = piece_count s.body ≤ 16
+abbrev FewCases : Stage → Type 0
+FewCases s = case_count s.body ≤ 16
 
-few_pieces : (p : Program) (d : Declaration) (x : Declared) (s : Stage) → IsStageOf p d x s → item_size cases d ≤ 16 → FewPieces s
-few_pieces p (tree.param y) x s is few = absurd is
-few_pieces p (tree.image i) x s is few = subst FewPieces (sym is.1) (omega arith)
-few_pieces p (tree.function f) x s is few =
-    let count : piece_count (function_stage p f).body ≡ length f.cases = length-map f.cases (piece_of p (variables_of f.row f.column) (area_of p f.row f.column)) in
-    subst FewPieces (sym is.2) (omega (arith, few, count, cases_weigh 1 f.cases, each_weighs f.cases))
-few_pieces p (tree.accumulator a) x s is few = subst FewPieces (sym is.2) (omega arith)
-few_pieces p (tree.output o) x s is few = absurd is
+few_cases : (p : Program) (d : Declaration) (x : Symbol) (s : Stage) → IsStageOf p d x s → item_size cases d ≤ 16 → FewCases s
+few_cases p (tree.param y) x s is few = absurd is
+few_cases p (tree.image i) x s is few = subst FewCases (sym is.1) (omega arith)
+few_cases p (tree.function f) x s is few =
+    let count : case_count (function_stage p f).body ≡ length f.cases = length-map f.cases (case_of p (variables_of f.row f.column) (area_of p f.row f.column)) in
+    subst FewCases (sym is.2) (omega (arith, few, count, cases_weigh 1 f.cases, each_weighs f.cases))
+few_cases p (tree.accumulator a) x s is few = subst FewCases (sym is.2) (omega arith)
+few_cases p (tree.output o) x s is few = absurd is
 
 -- ---- the whole
 
@@ -115,7 +115,7 @@ few_settings items i picture given named =
     length-map (settings_for i picture given) parameter_of ∙ length-map given _
     ∙ sym (length-map given (λ (s : Setting). s.name))
     ∙ ap (λ (xs : List (List ℕ)). length xs) named
-    ∙ length-map (params_of items) (λ (d : Declared). d.name)
+    ∙ length-map (params_of items) (λ (d : Symbol). d.name)
     ∙ params_counted 0 items
 
 pub small_job : (items : List Declaration) (given : List Setting) (picture : Picture) (sides : Sides) (job : Pipeline) → KeepsLimits items → IsJobOf items given picture sides job → IsSmall job
@@ -124,7 +124,7 @@ small_job items given picture sides job limits h =
     subst IsSmall (sym h.is) (record {
       few_stages = omega (arith, stages_counted p items, limits.few_stages);
       few_params = omega (arith, few_settings items h.image picture given h.params, limits.few_params);
-      few_pieces = λ g s there.
+      few_cases = λ g s there.
           let at = stage_at items p g s there in
-          few_pieces p at.item at.declared s at.is (all_at (λ d. item_size cases d ≤ 16) items at.declared.item at.item limits.few_cases at.there);
+          few_cases p at.item at.declared s at.is (all_at (λ d. item_size cases d ≤ 16) items at.declared.item at.item limits.few_cases at.there);
     })

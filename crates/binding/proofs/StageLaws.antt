@@ -12,8 +12,8 @@ use Rattle.pipe_tree.specs.declared.tree.Names.{Names}
 use Rattle.pipe_tree.specs.declared.tree.Names.TheVariants.{One, Three}
 use Rattle.pipe_tree.specs.Tree as tree
 use Rattle.pipe_tree.specs.Tree.{Declaration}
-use Rattle.pipe_checks.specs.declared.declared.Declared.{Declared}
-use Rattle.pipe_checks.specs.declared.declared.NameKind.TheVariants.{Plane, Func, Accum}
+use Rattle.pipe_checks.specs.declared.symbol.Symbol.{Symbol}
+use Rattle.pipe_checks.specs.declared.symbol.NameKind.TheVariants.{Plane, Func, Accum}
 use Rattle.pipe_checks.specs.Graph.{links_at}
 use Rattle.pipe_checks.specs.Names.{names_of, item_names, names_from, is_param, declared_names, stages_of, number_of}
 use Rattle.pipe_checks.specs.Sites.{links_of, graph_of}
@@ -51,7 +51,7 @@ zip_weaker R Q f (x ∷ xs) (y ∷ ys) h = (f x y h.0, zip_weaker R Q f xs ys h.
 
 -- ---- each stage is what an item makes of a name
 
-abbrev pub IsStageOf : Program → Declaration → Declared → Stage → Type 0
+abbrev pub IsStageOf : Program → Declaration → Symbol → Stage → Type 0
 IsStageOf p (tree.param y) x s = ⊥
 IsStageOf p (tree.image i) x s = (x.kind ≡ Plane) × (s ≡ plane_stage p i x.name)
 IsStageOf p (tree.function f) x s = (x.kind ≡ Func) × (x.name ≡ f.name) × (s ≡ function_stage p f)
@@ -59,7 +59,7 @@ IsStageOf p (tree.accumulator a) x s = (x.kind ≡ Accum) × (x.name ≡ a.name)
 IsStageOf p (tree.output o) x s = ⊥
 
 -- where the items begin with number n
-pub record IsMade (p : Program) (n : ℕ) (ds : List Declaration) (s : Stage) (x : Declared) : Type 0 where
+pub record IsMade (p : Program) (n : ℕ) (ds : List Declaration) (s : Stage) (x : Symbol) : Type 0 where
   pub place : ℕ
   pub number : x.item ≡ n + place
   pub item : Declaration
@@ -67,10 +67,10 @@ pub record IsMade (p : Program) (n : ℕ) (ds : List Declaration) (s : Stage) (x
   pub is : IsStageOf p item x s
 
 module _ (p : Program) where
-  made_later : (n : ℕ) (d : Declaration) (ds : List Declaration) (s : Stage) (x : Declared) → IsMade p (n + 1) ds s x → IsMade p n (d ∷ ds) s x
+  made_later : (n : ℕ) (d : Declaration) (ds : List Declaration) (s : Stage) (x : Symbol) → IsMade p (n + 1) ds s x → IsMade p n (d ∷ ds) s x
   made_later n d ds s x h = record { place = suc h.place; number = h.number ∙ omega arith; item = h.item; there = h.there; is = h.is }
 
-  made_here : (n : ℕ) (d : Declaration) (ds : List Declaration) (s : Stage) (x : Declared) → x.item ≡ n → IsStageOf p d x s → IsMade p n (d ∷ ds) s x
+  made_here : (n : ℕ) (d : Declaration) (ds : List Declaration) (s : Stage) (x : Symbol) → x.item ≡ n → IsStageOf p d x s → IsMade p n (d ∷ ds) s x
   made_here n d ds s x e is = record { place = 0; number = e ∙ omega arith; item = d; there = refl; is = is }
 
   made_planes : (n : ℕ) (i : Image) (ds : List Declaration) (ns : Names) → AllZip (IsMade p n (tree.image i ∷ ds)) (map (plane_stage p i) (names_in ns)) (filter (λ d. not (is_param d.kind)) (names_of n ns))
@@ -88,11 +88,11 @@ module _ (p : Program) where
   made : (n : ℕ) (ds : List Declaration) → AllZip (IsMade p n ds) (flat_map (item_stages p) ds) (filter (λ d. not (is_param d.kind)) (names_from n ds))
   made n [] = tt
   made n (d ∷ ds) =
-      subst (AllZip (IsMade p n (d ∷ ds)) (item_stages p d ++ flat_map (item_stages p) ds)) (sym (filter-append (λ (d : Declared). not (is_param d.kind)) (item_names n d) (names_from (n + 1) ds)))
+      subst (AllZip (IsMade p n (d ∷ ds)) (item_stages p d ++ flat_map (item_stages p) ds)) (sym (filter-append (λ (d : Symbol). not (is_param d.kind)) (item_names n d) (names_from (n + 1) ds)))
       (zip_append (IsMade p n (d ∷ ds)) (item_stages p d) (flat_map (item_stages p) ds) (filter (λ d. not (is_param d.kind)) (item_names n d)) (filter (λ d. not (is_param d.kind)) (names_from (n + 1) ds)) (made_item n d ds)
       (zip_weaker (IsMade p (n + 1) ds) (IsMade p n (d ∷ ds)) (made_later n d ds) (flat_map (item_stages p) ds) (filter (λ d. not (is_param d.kind)) (names_from (n + 1) ds)) (made (n + 1) ds)))
 
-  rank_is_named : (d : Declaration) (x : Declared) (s : Stage) → IsStageOf p d x s → s.rank ≡ rank_named p x.name
+  rank_is_named : (d : Declaration) (x : Symbol) (s : Stage) → IsStageOf p d x s → s.rank ≡ rank_named p x.name
   rank_is_named (tree.param y) x s h = absurd h
   rank_is_named (tree.image i) x s h = ap (λ (t : Stage). t.rank) h.1
   rank_is_named (tree.function f) x s h = ap (λ (t : Stage). t.rank) h.2 ∙ ap (rank_named p) (sym h.1)
@@ -102,14 +102,14 @@ module _ (p : Program) where
 -- ---- the stages of a program, by their numbers
 
 pub record IsAt (ds : List Declaration) (p : Program) (g : ℕ) (s : Stage) : Type 0 where
-  pub declared : Declared
+  pub declared : Symbol
   pub numbered : slice_get (stages_of ds) g ≡ Some declared
   pub item : Declaration
   pub there : slice_get ds declared.item ≡ Some item
   pub is : IsStageOf p item declared s
 
 module _ (ds : List Declaration) (p : Program) where
-  at_of : (g : ℕ) (s : Stage) (x : Declared) → slice_get (stages_of ds) g ≡ Some x → IsMade p 0 ds s x → IsAt ds p g s
+  at_of : (g : ℕ) (s : Stage) (x : Symbol) → slice_get (stages_of ds) g ≡ Some x → IsMade p 0 ds s x → IsAt ds p g s
   at_of g s x numbered m = record {
     declared = x;
     numbered = numbered;
@@ -123,7 +123,7 @@ module _ (ds : List Declaration) (p : Program) where
       let r = zip_left (IsMade p 0 ds) (flat_map (item_stages p) ds) (stages_of ds) g s (made p 0 ds) there in
       at_of g s r.0 r.1 r.2
 
-  pub stage_there : (g : ℕ) (x : Declared) → slice_get (stages_of ds) g ≡ Some x → (s : Stage) × (slice_get (flat_map (item_stages p) ds) g ≡ Some s) × IsAt ds p g s
+  pub stage_there : (g : ℕ) (x : Symbol) → slice_get (stages_of ds) g ≡ Some x → (s : Stage) × (slice_get (flat_map (item_stages p) ds) g ≡ Some s) × IsAt ds p g s
   stage_there g x numbered =
       let r = zip_right (IsMade p 0 ds) (flat_map (item_stages p) ds) (stages_of ds) g x (made p 0 ds) numbered in
       (r.0, r.1, at_of g r.0 x numbered r.2)
@@ -134,8 +134,8 @@ module _ (ds : List Declaration) (p : Program) where
   -- ---- ranks
 
   module _ (own : p.stages ≡ stages_of ds) (once : NoneTwice (declared_names ds) ds) where
-    pub number_is : (g : ℕ) (x : Declared) → slice_get (stages_of ds) g ≡ Some x → number_of p.stages x.name ≡ Some g
-    number_is g x there = ap (λ (xs : List Declared). number_of xs x.name) own ∙ number_at ds once g x there
+    pub number_is : (g : ℕ) (x : Symbol) → slice_get (stages_of ds) g ≡ Some x → number_of p.stages x.name ≡ Some g
+    number_is g x there = ap (λ (xs : List Symbol). number_of xs x.name) own ∙ number_at ds once g x there
 
     pub rank_at : (g : ℕ) (s : Stage) → IsAt ds p g s → s.rank ≡ slice_index p.ranks g
     rank_at g s h =
@@ -158,7 +158,7 @@ module _ (ds : List Declaration) (p : Program) where
 pub each_links : (ds : List Declaration) → length (graph_of ds) ≡ length (stages_of ds)
 each_links ds = length-map (stages_of ds) (links_of ds (stages_of ds))
 
-pub links_are : (ds : List Declaration) (g : ℕ) (x : Declared) → slice_get (stages_of ds) g ≡ Some x → links_at (graph_of ds) g ≡ links_of ds (stages_of ds) x
+pub links_are : (ds : List Declaration) (g : ℕ) (x : Symbol) → slice_get (stages_of ds) g ≡ Some x → links_at (graph_of ds) g ≡ links_of ds (stages_of ds) x
 links_are ds g x there =
     get_or_from_slice_get (graph_of ds) g (links_of ds (stages_of ds) x) _
-    (slice_get-map (links_of ds (stages_of ds)) (stages_of ds) g ∙ ap (λ (o : Option Declared). option_map (links_of ds (stages_of ds)) o) there)
+    (slice_get-map (links_of ds (stages_of ds)) (stages_of ds) g ∙ ap (λ (o : Option Symbol). option_map (links_of ds (stages_of ds)) o) there)

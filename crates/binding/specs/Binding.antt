@@ -20,7 +20,7 @@ use Rattle.pipe_tree.specs.declared.tree.Names.TheVariants.{One, Three}
 use Rattle.pipe_tree.specs.declared.tree.Image.{Image}
 use Rattle.pipe_tree.specs.Tree as tree
 use Rattle.pipe_tree.specs.Tree.{Node, Branch, Function, Accumulator, Declaration}
-use Rattle.pipe_checks.specs.declared.declared.Declared.{Declared}
+use Rattle.pipe_checks.specs.declared.symbol.Symbol.{Symbol}
 use Rattle.pipe_bounds.specs.declared.params.Setting.{Setting}
 use Rattle.pipe_bounds.specs.Settings.{affine_value, param_value}
 use Rattle.pipe_checks.specs.Names.{params_of, stages_of, number_of}
@@ -29,7 +29,7 @@ use Rattle.pipe_bounds.specs.Within.{AllSet}
 use Rattle.pipe_checks.specs.Graph.{IsRanking}
 use Rattle.pipe_checks.specs.Sites.{graph_of, is_plane}
 use Rattle.job.specs.Formula.{Axis, row, column, Formula, number, coordinate, read, neg, binary, literal, abs, clamp, select, stencil, Test, compare, remainder}
-use Rattle.job.specs.Pipeline.{Piece, plane, function, accumulator, Stage, Output, Parameter, Pipeline}
+use Rattle.job.specs.Pipeline.{JobCase, plane, function, accumulator, Stage, Output, Parameter, Pipeline}
 use Rattle.job.specs.Boxes.{box_of}
 
 -- ---- parameters that are not given
@@ -62,7 +62,7 @@ AreSmall settings = (k : ℕ) (s : Setting) (v : ℤ) → slice_get settings k �
 
 -- in a program: its stages, their ranks, and the values of its parameters
 pub record Program : Type 0 where
-  pub stages : List Declared
+  pub stages : List Symbol
   pub ranks : List ℕ
   pub settings : List Setting
 
@@ -115,8 +115,8 @@ abbrev pub test_of : Program → Variables → TestText → Test
 test_of p own (Compare x relation bound) = compare (axis_of own x) relation (affine_value p.settings bound)
 test_of p own (Remainder x modulus rest) = remainder (axis_of own x) modulus rest
 
-abbrev pub piece_of : Program → Variables → Area → Branch → Piece
-piece_of p own domain b =
+abbrev pub case_of : Program → Variables → Area → Branch → JobCase
+case_of p own domain b =
     let tests = map (test_of p own) b.condition in
     record { box = box_of domain tests; tests = tests; formula = formula_of p own b.value }
 
@@ -142,7 +142,7 @@ function_stage p f =
       name = f.name;
       rank = rank_named p f.name;
       domain = domain;
-      body = function (map (piece_of p own domain) f.cases) (option_map (formula_of p own) f.otherwise);
+      body = function (map (case_of p own domain) f.cases) (option_map (formula_of p own) f.otherwise);
     }
 
 abbrev pub accumulator_stage : Program → Accumulator → Stage

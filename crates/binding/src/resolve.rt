@@ -13,7 +13,7 @@ ghost use Rattle.binding.specs.Resolving.{program_in, variables_in};
 use domains::Index;
 use job::{Axis, Factors, Formula, Kernel, Test};
 use pipe_bounds::{Params, affine_value};
-use pipe_checks::{Checked, Declared, NameKind, is_same, number_of};
+use pipe_checks::{Checked, NameKind, Symbol, is_same, number_of};
 use pipe_tokens::Name;
 use pipe_tree::Expr;
 use std::alloc::{AllocError, Global};
@@ -34,7 +34,7 @@ fn is_plane(kind: NameKind) -> bool
     }
 }
 
-fn planes_of(alloc: Global, stages: &[Declared]) -> Result<Vec<Declared>, AllocError>
+fn planes_of(alloc: Global, stages: &[Symbol]) -> Result<Vec<Symbol>, AllocError>
     ensures { IfOk result (λ v. v.items ≡ filter (λ d. is_plane d.kind) stages.now) }
 {
     stages

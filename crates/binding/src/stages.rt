@@ -7,14 +7,14 @@ ghost use Rattle.std.specs.Option.{option_map, ForSome};
 ghost use Rattle.pipe_tree.specs.Tree.{function, accumulator, view, branch, branches, function_of, accumulator_of, declaration, declarations};
 ghost use Rattle.domains.specs.Area.{IsArea};
 ghost use Rattle.job.specs.Boxes.{box_of};
-ghost use Rattle.binding.specs.Binding.{formula_of, test_of, piece_of, ends_of, area_of, plane_stage, function_stage, accumulator_stage, names_in, item_stages};
+ghost use Rattle.binding.specs.Binding.{formula_of, test_of, case_of, ends_of, area_of, plane_stage, function_stage, accumulator_stage, names_in, item_stages};
 ghost use Rattle.binding.specs.Ranges.{IsRanged, IsRangedBranch, IsRangedItem, HasDomain, AreReady};
-ghost use Rattle.job.specs.Views.{formula_view, piece_view, stage_view};
+ghost use Rattle.job.specs.Views.{formula_view, case_view, stage_view};
 ghost use Rattle.binding.specs.Resolving.{program_in, variables_in, plane_area, IsStageItem, IsItemDomain};
 
 use crate::resolve::{Resolver, Variables};
 use domains::{Area, Span};
-use job::{Accumulator, Body, Formula, Function, Piece, Stage};
+use job::{Accumulator, Body, Formula, Function, JobCase, Stage};
 use pipe_bounds::{bins, case_box, stage_domain};
 use pipe_tokens::Name;
 use pipe_tree::{Accum, Case, Expr, Func, Image, Item, Names, Test};
@@ -38,32 +38,32 @@ impl Resolver<'_> {
         Some(left)
     }
 
-    fn piece(&self, own: &Variables, domain: &Area, case: &Case) -> Result<Piece, AllocError>
+    fn piece(&self, own: &Variables, domain: &Area, case: &Case) -> Result<JobCase, AllocError>
         requires { IsRangedBranch (branch case.now) }
-        ensures { IfOk result (λ p. piece_view p ≡ piece_of (program_in self.now) (variables_in own.now) domain.now (branch case.now)) }
+        ensures { IfOk result (λ p. case_view p ≡ case_of (program_in self.now) (variables_in own.now) domain.now (branch case.now)) }
     {
         let tests = case.condition.tests();
-        Ok(Piece::new(
+        Ok(JobCase::new(
             self.part(own, domain, tests),
             self.tests(own, tests)?,
             self.formula(own, &case.value)?,
         ))
     }
 
-    fn pieces(
+    fn job_cases(
         &self,
         own: &Variables,
         domain: &Area,
         cases: &[Case],
-    ) -> Result<Vec<Piece>, AllocError>
+    ) -> Result<Vec<JobCase>, AllocError>
         requires { All IsRangedBranch (branches cases.now) }
-        ensures { IfOk result (λ v. map piece_view v.items ≡ map (piece_of (program_in self.now) (variables_in own.now) domain.now) (branches cases.now)) }
+        ensures { IfOk result (λ v. map case_view v.items ≡ map (case_of (program_in self.now) (variables_in own.now) domain.now) (branches cases.now)) }
     {
-        let mut pieces = Vec::new(self.alloc);
+        let mut job_cases = Vec::new(self.alloc);
         for case in cases {
-            pieces.push(self.piece(own, domain, case)?)?;
+            job_cases.push(self.piece(own, domain, case)?)?;
         }
-        Ok(pieces)
+        Ok(job_cases)
     }
 
     fn otherwise(
@@ -123,13 +123,13 @@ impl Resolver<'_> {
             row: func.row.name,
             column: func.column.name,
         };
-        let pieces = self.pieces(&own, domain, func.cases.list())?;
+        let job_cases = self.job_cases(&own, domain, func.cases.list())?;
         let otherwise = self.otherwise(&own, &func.otherwise)?;
         Ok(Stage::new(
             func.name,
             self.rank(&func.name),
             *domain,
-            Body::Function(Function::new(pieces, otherwise)),
+            Body::Function(Function::new(job_cases, otherwise)),
         ))
     }
 

@@ -7,7 +7,7 @@ use Rattle.pipe_tree.specs.Tree.{Declaration}
 use Rattle.job.specs.Answers.{has_tiles}
 use Rattle.job.specs.Pipeline.{Stage, Pipeline}
 use Rattle.grouping.specs.Costs.{cost}
-use Rattle.grouping.specs.Greedy.{greedy_flags}
+use Rattle.grouping.specs.Greedy.{greedy_inlining}
 use Rattle.grouping.specs.Inlining.{AllFitScratch}
 use Rattle.grouping.specs.Schedules.{all_stored, IsSchedule}
 
@@ -20,27 +20,27 @@ plan_line name (Some points) = codes "stored " ++ name ++ codes " cost " ++ deci
 
 -- the line of a function or an accumulator
 abbrev pub stage_plan : Pipeline → List Bool → ℕ → Stage → List ℕ
-stage_plan job flags g s = if has_tiles s.body then plan_line s.name (cost job flags g) else []
+stage_plan job inlining g s = if has_tiles s.body then plan_line s.name (cost job inlining g) else []
 
 abbrev pub plan_line_at : Pipeline → List Bool → ℕ → List ℕ
-plan_line_at job flags g = option_map_or (stage_plan job flags g) (slice_get job.stages g) []
+plan_line_at job inlining g = option_map_or (stage_plan job inlining g) (slice_get job.stages g) []
 
 -- ---- the whole
 
 -- the functions and accumulators in the order of the stages
 abbrev pub plan_bytes : Pipeline → List Bool → List ℕ
-plan_bytes job flags = flat_map (plan_line_at job flags) (range_with_len 0 (length job.stages))
+plan_bytes job inlining = flat_map (plan_line_at job inlining) (range_with_len 0 (length job.stages))
 
 -- which functions are inlined: none where all are to be stored, else those that the greedy rule inlines
-abbrev pub flags_asked : Bool → ℕ → Pipeline → List Bool
-flags_asked stored percent job = if stored then all_stored job else greedy_flags job percent
+abbrev pub inlining_asked : Bool → ℕ → Pipeline → List Bool
+inlining_asked stored percent job = if stored then all_stored job else greedy_inlining job percent
 
--- the bytes tell these flags, which are a schedule of the job by which each tile has room in scratch memory
-pub record IsPlan (job : Pipeline) (flags : List Bool) (bytes : List ℕ) : Type 0 where
-  pub schedule : IsSchedule job flags
-  pub fits : AllFitScratch job flags
-  pub tells : bytes ≡ plan_bytes job flags
+-- the bytes tell these inlining, which are a schedule of the job by which each tile has room in scratch memory
+pub record IsPlan (job : Pipeline) (inlining : List Bool) (bytes : List ℕ) : Type 0 where
+  pub schedule : IsSchedule job inlining
+  pub fits : AllFitScratch job inlining
+  pub tells : bytes ≡ plan_bytes job inlining
 
 -- what `plan` says of a job: the schedule that is asked for
 abbrev pub SaysPlan : Bool → ℕ → List Declaration → Pipeline → List ℕ → Type 0
-SaysPlan stored percent tree job bytes = IsPlan job (flags_asked stored percent job) bytes
+SaysPlan stored percent tree job bytes = IsPlan job (inlining_asked stored percent job) bytes

@@ -5,8 +5,8 @@ ghost use Rattle.accumulators.specs.Answers.{IsAnswer};
 ghost use Rattle.grouping.specs.Inlining.{AllFitScratch, IsScheduleOf};
 ghost use Rattle.job.specs.Kept.{pipeline_in};
 ghost use Rattle.job.specs.WellFormed.{IsJob};
-ghost use Rattle.tile_run.specs.Lent.{AreTrue};
-ghost use Rattle.tile_run.specs.Stored.{stored_tiles, LendsAllTiles};
+ghost use Rattle.tile_run.specs.KnownTiles.{AreTrue};
+ghost use Rattle.tile_run.specs.Stored.{stored_tiles, GivesAllTiles};
 ghost use Rattle.commands.specs.Replies.{reply_bytes};
 ghost use Rattle.commands.specs.Results.{result_bytes};
 
@@ -37,7 +37,7 @@ fn answer(alloc: Global, job: &Job, schedule: &Schedule) -> Result<Answer, Alloc
     requires job { IsJob (pipeline_in job.now) }
     requires few { length (pipeline_in job.now).stages ≤ 65536 }
     requires schedule { IsScheduleOf (pipeline_in job.now) schedule.now }
-    requires fit { AllFitScratch (pipeline_in job.now) schedule.now.flags }
+    requires fit { AllFitScratch (pipeline_in job.now) schedule.now.inlining }
     ensures { IfOk result (IsAnswer (pipeline_in job.now)) }
 {
     let stored = run(alloc, job, schedule)?;
@@ -53,8 +53,8 @@ fn run(alloc: Global, job: &Job, schedule: &Schedule) -> Result<Stored, AllocErr
     requires job { IsJob (pipeline_in job.now) }
     requires few { length (pipeline_in job.now).stages ≤ 65536 }
     requires schedule { IsScheduleOf (pipeline_in job.now) schedule.now }
-    requires fit { AllFitScratch (pipeline_in job.now) schedule.now.flags }
-    ensures all { IfOk result (λ stored. LendsAllTiles (pipeline_in job.now) schedule.now.flags (stored_tiles stored.stages.items)) }
+    requires fit { AllFitScratch (pipeline_in job.now) schedule.now.inlining }
+    ensures all { IfOk result (λ stored. GivesAllTiles (pipeline_in job.now) schedule.now.inlining (stored_tiles stored.stages.items)) }
     ensures values { IfOk result (λ stored. AreTrue (pipeline_in job.now) (stored_tiles stored.stages.items)) }
 {
     match run_all(alloc, job, schedule) {

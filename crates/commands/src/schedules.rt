@@ -4,7 +4,7 @@ ghost use Rattle.std.specs.Prelude.{◌≡◌, IfOk};
 ghost use Rattle.grouping.specs.Inlining.{AllFitScratch, IsScheduleOf};
 ghost use Rattle.job.specs.Kept.{pipeline_in};
 ghost use Rattle.job.specs.WellFormed.{IsJob};
-ghost use Rattle.commands.specs.Planning.{flags_asked};
+ghost use Rattle.commands.specs.Planning.{inlining_asked};
 
 use command_line::Options;
 use grouping::Schedule;
@@ -15,8 +15,8 @@ use std::alloc::{AllocError, Global};
 pub fn schedule_of(alloc: Global, job: &Job, options: &Options) -> Result<Schedule, AllocError>
     requires { IsJob (pipeline_in job.now) }
     ensures schedule { IfOk result (IsScheduleOf (pipeline_in job.now)) }
-    ensures fits { IfOk result (λ s. AllFitScratch (pipeline_in job.now) s.flags) }
-    ensures flags { IfOk result (λ s. s.flags ≡ flags_asked options.now.stored options.now.percent (pipeline_in job.now)) }
+    ensures fits { IfOk result (λ s. AllFitScratch (pipeline_in job.now) s.inlining) }
+    ensures inlining { IfOk result (λ s. s.inlining ≡ inlining_asked options.now.stored options.now.percent (pipeline_in job.now)) }
 {
     if options.stored {
         Schedule::stored(alloc, job)

@@ -7,9 +7,9 @@ use Rattle.domains.specs.Span.{Ends, IsSpan, AreApart, meet_of}
 use Rattle.domains.specs.Area.{IsArea, IsSubarea, common_of}
 use Rattle.domains.specs.declared.area.Area.{Area}
 use Rattle.job.specs.Boxes.{if_some}
-use Rattle.job.specs.WellFormed.{IsNear}
+use Rattle.job.specs.WellFormed.{InDomainRange}
 use Rattle.grouping.specs.Demands.{meet_of_areas}
-use Rattle.grouping.specs.Walks.{IsNearArea}
+use Rattle.grouping.specs.Walks.{InDomainRanges}
 
 le_from : (a b : ℤ) → int_le a b ≡ true → a ≤ℤ b
 le_from a b t = omega (arith, ints)
@@ -69,7 +69,7 @@ spans_meet a b rows cols down across is_rows is_cols =
 
 -- ---- within 16,384 of 0
 
-near_span : (s t : Ends) → IsNear t → (meet_of s t).lo ≤ℤ (meet_of s t).hi → IsNear (meet_of s t)
+near_span : (s t : Ends) → InDomainRange t → (meet_of s t).lo ≤ℤ (meet_of s t).hi → InDomainRange (meet_of s t)
 near_span s t h ordered =
     let least = h.least in let most = h.most in
     record {
@@ -79,18 +79,18 @@ near_span s t h ordered =
     }
 
 -- what an area has in common with one that is near is near
-pub near_meet : (a b m : Area) → IsNearArea b → meet_of_areas a b ≡ Some m → IsNearArea m
+pub near_meet : (a b m : Area) → InDomainRanges b → meet_of_areas a b ≡ Some m → InDomainRanges m
 near_meet a b m h is =
     let meet = if_some-is (common_of a b) m is in
-    subst IsNearArea meet.0 (record { rows = near_span a.rows b.rows h.rows meet.1; cols = near_span a.cols b.cols h.cols meet.2 })
+    subst InDomainRanges meet.0 (record { rows = near_span a.rows b.rows h.rows meet.1; cols = near_span a.cols b.cols h.cols meet.2 })
 
-near_part : (s t : Ends) → IsNear t → IsSpan s → t.lo ≤ℤ s.lo → s.hi ≤ℤ t.hi → IsNear s
+near_part : (s t : Ends) → InDomainRange t → IsSpan s → t.lo ≤ℤ s.lo → s.hi ≤ℤ t.hi → InDomainRange s
 near_part s t h span low high =
     let least = h.least in let most = h.most in
     record { span = span; least = omega (arith, ints); most = omega (arith, ints) }
 
 -- and so is a part of one
-pub near_subarea : (a b : Area) → IsNearArea b → IsArea a → IsSubarea a b → IsNearArea a
+pub near_subarea : (a b : Area) → InDomainRanges b → IsArea a → IsSubarea a b → InDomainRanges a
 near_subarea a b h area inside =
     let down = area.rows.ordered in let across = area.cols.ordered in
     let first = inside a.rows.lo a.cols.lo ((omega (arith, ints), down), (omega (arith, ints), across)) in
@@ -98,8 +98,8 @@ near_subarea a b h area inside =
     record { rows = near_part a.rows b.rows h.rows area.rows first.0.0 last.0.1; cols = near_part a.cols b.cols h.cols area.cols first.1.0 last.1.1 }
 
 -- the same, by the spans
-pub near_spans : (a b : Area) (rows cols : Ends) → IsNearArea b → IsSpan rows → IsSpan cols → rows ≡ meet_of a.rows b.rows → cols ≡ meet_of a.cols b.cols → IsNearArea (record { rows = rows; cols = cols })
+pub near_spans : (a b : Area) (rows cols : Ends) → InDomainRanges b → IsSpan rows → IsSpan cols → rows ≡ meet_of a.rows b.rows → cols ≡ meet_of a.cols b.cols → InDomainRanges (record { rows = rows; cols = cols })
 near_spans a b rows cols h down across is_rows is_cols = record {
-  rows = subst IsNear (sym is_rows) (near_span a.rows b.rows h.rows (subst (λ (s : Ends). s.lo ≤ℤ s.hi) is_rows down.ordered));
-  cols = subst IsNear (sym is_cols) (near_span a.cols b.cols h.cols (subst (λ (s : Ends). s.lo ≤ℤ s.hi) is_cols across.ordered));
+  rows = subst InDomainRange (sym is_rows) (near_span a.rows b.rows h.rows (subst (λ (s : Ends). s.lo ≤ℤ s.hi) is_rows down.ordered));
+  cols = subst InDomainRange (sym is_cols) (near_span a.cols b.cols h.cols (subst (λ (s : Ends). s.lo ≤ℤ s.hi) is_cols across.ordered));
 }

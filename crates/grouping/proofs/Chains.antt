@@ -15,135 +15,135 @@ use Rattle.job.specs.Reads.{stage_read, reads_of}
 use Rattle.job.specs.WellFormed.{IsJob}
 use Rattle.grouping.specs.Order.{greatest_rank, in_order, backward}
 use Rattle.grouping.specs.Schedules.{is_inlined, is_function}
-use Rattle.grouping.specs.Greedy.{does_read, readers, Choice, nothing_chosen, home, common_home, with_inlined, pays, has_room, inlined_if, visited, greedy_choice, greedy_flags}
+use Rattle.grouping.specs.Greedy.{does_read, readers, Grouping, nothing_chosen, group, common_group, with_inlined, pays, has_room, inlined_if, visited, greedy_choice, greedy_inlining}
 use Rattle.grouping.specs.Standings.{LiesBehind}
 use Rattle.grouping.specs.Chains.{ChainLeads, itself, on, chosen_after}
 use Rattle.grouping.proofs.Rule.{rank_below, enough_left, all_enough}
 use Rattle.grouping.proofs.Needs.{ordered, Contains-reverse}
 use Rattle.grouping.proofs.Scheduling.{stored_is}
 use Rattle.grouping.proofs.Keeping.{le_lt, le_self}
-use Rattle.grouping.proofs.Reading.{reader_is_behind, readers_read, home_shared}
-use Rattle.grouping.proofs.Choosing.{Falls, IsBehind, backward_falls, backward_there, home_at_first, stored_at_first}
+use Rattle.grouping.proofs.Reading.{reader_is_behind, readers_read, group_shared}
+use Rattle.grouping.proofs.Choosing.{Falls, IsBehind, backward_falls, backward_there, group_at_first, stored_at_first}
 use Rattle.grouping.proofs.Steps.{ranks_differ}
 use Rattle.grouping.proofs.Visits.{IsFree, free_at_first, all_free_still}
 
 -- ---- what holds of each choice
 
--- a stored stage is its own home, and an inlined function has the one home of its readers
-pub record HomesFollow (job : Pipeline) (c : Choice) : Type 0 where
-  pub flags : length c.flags ≡ length job.stages
-  pub homes : length c.homes ≡ length job.stages
-  pub own : (x : ℕ) → is_inlined c.flags x ≡ false → home c x ≡ x
-  pub shared : (x : ℕ) → is_inlined c.flags x ≡ true → common_home c (readers job x) ≡ Some (home c x)
+-- a stored stage is its own group, and an inlined function has the one group of its readers
+pub record GroupsFollow (job : Pipeline) (c : Grouping) : Type 0 where
+  pub inlining : length c.inlining ≡ length job.stages
+  pub groups : length c.groups ≡ length job.stages
+  pub own : (x : ℕ) → is_inlined c.inlining x ≡ false → group c x ≡ x
+  pub shared : (x : ℕ) → is_inlined c.inlining x ≡ true → common_group c (readers job x) ≡ Some (group c x)
 
--- ---- stages of which each has the same home by two choices
+-- ---- stages of which each has the same group by two choices
 
-tests_same : (c d : Choice) (h : ℕ) (rs : List ℕ) → All (λ r. home d r ≡ home c r) rs → list_all (λ q. nat_eq (home d q) h) rs ≡ list_all (λ q. nat_eq (home c q) h) rs
+tests_same : (c d : Grouping) (h : ℕ) (rs : List ℕ) → All (λ r. group d r ≡ group c r) rs → list_all (λ q. nat_eq (group d q) h) rs ≡ list_all (λ q. nat_eq (group c q) h) rs
 tests_same c d h [] same = refl
 tests_same c d h (r ∷ rs) same =
-    let first = All-head (λ r. home d r ≡ home c r) r rs same in
-    let rest = tests_same c d h rs (All-tail (λ r. home d r ≡ home c r) r rs same) in
+    let first = All-head (λ r. group d r ≡ group c r) r rs same in
+    let rest = tests_same c d h rs (All-tail (λ r. group d r ≡ group c r) r rs same) in
     λ i. nat_eq (first i) h && rest i
 
-common_home_same : (c d : Choice) (rs : List ℕ) → All (λ r. home d r ≡ home c r) rs → common_home d rs ≡ common_home c rs
-common_home_same c d [] same = refl
-common_home_same c d (r ∷ rs) same =
-    let first = All-head (λ r. home d r ≡ home c r) r rs same in
-    let rest = All-tail (λ r. home d r ≡ home c r) r rs same in
-    ap (λ h. if list_all (λ q. nat_eq (home d q) h) rs then Some h else None) first
-    ∙ ap (λ b. if b then Some (home c r) else None) (tests_same c d (home c r) rs rest)
+common_group_same : (c d : Grouping) (rs : List ℕ) → All (λ r. group d r ≡ group c r) rs → common_group d rs ≡ common_group c rs
+common_group_same c d [] same = refl
+common_group_same c d (r ∷ rs) same =
+    let first = All-head (λ r. group d r ≡ group c r) r rs same in
+    let rest = All-tail (λ r. group d r ≡ group c r) r rs same in
+    ap (λ h. if list_all (λ q. nat_eq (group d q) h) rs then Some h else None) first
+    ∙ ap (λ b. if b then Some (group c r) else None) (tests_same c d (group c r) rs rest)
 
 -- ---- one function more
 
--- a function g with the one home h of its readers, and the functions inlined so far behind it
-record IsNext (job : Pipeline) (c : Choice) (g h : ℕ) : Type 0 where
+-- a function g with the one group h of its readers, and the functions inlined so far behind it
+record IsNext (job : Pipeline) (c : Grouping) (g h : ℕ) : Type 0 where
   valid : IsJob job
-  follow : HomesFollow job c
+  follow : GroupsFollow job c
   there : g < length job.stages
-  behind : LiesBehind job c.flags g
-  one_home : common_home c (readers job g) ≡ Some h
+  behind : LiesBehind job c.inlining g
+  one_group : common_group c (readers job g) ≡ Some h
 
-module _ {job : Pipeline} {c : Choice} {g h : ℕ} (next : IsNext job c g h) where
-  flag_is_set : is_inlined (slice_set c.flags g true) g ≡ true
-  flag_is_set = get_or-set_same c.flags g true false (let same = next.follow.flags in let there = next.there in omega arith)
+module _ {job : Pipeline} {c : Grouping} {g h : ℕ} (next : IsNext job c g h) where
+  flag_is_set : is_inlined (slice_set c.inlining g true) g ≡ true
+  flag_is_set = get_or-set_same c.inlining g true false (let same = next.follow.inlining in let there = next.there in omega arith)
 
-  new_home : home (with_inlined c g h) g ≡ h
-  new_home = get_or-set_same c.homes g h g (let same = next.follow.homes in let there = next.there in omega arith)
+  new_group : group (with_inlined c g h) g ≡ h
+  new_group = get_or-set_same c.groups g h g (let same = next.follow.groups in let there = next.there in omega arith)
 
-  flag_stays : (x : ℕ) → x ≢ g → is_inlined (slice_set c.flags g true) x ≡ is_inlined c.flags x
-  flag_stays x other = get_or-set_other c.flags g x true false other
+  flag_stays : (x : ℕ) → x ≢ g → is_inlined (slice_set c.inlining g true) x ≡ is_inlined c.inlining x
+  flag_stays x other = get_or-set_other c.inlining g x true false other
 
-  home_stays : (x : ℕ) → x ≢ g → home (with_inlined c g h) x ≡ home c x
-  home_stays x other = get_or-set_other c.homes g x h x other
+  group_stays : (x : ℕ) → x ≢ g → group (with_inlined c g h) x ≡ group c x
+  group_stays x other = get_or-set_other c.groups g x h x other
 
-  -- g is no reader of a stage of no lower rank, so that its readers have the homes that they had
-  readers_stay : (x : ℕ) → rank_of job.stages g ≤ rank_of job.stages x → common_home (with_inlined c g h) (readers job x) ≡ common_home c (readers job x)
-  readers_stay x low = common_home_same c (with_inlined c g h) (readers job x) (
-      All-weaker (λ r. does_read job x r ≡ true) (λ r. home (with_inlined c g h) r ≡ home c r)
-      (λ r reads. home_stays r (ranks_differ job.stages g r (le_lt (rank_of job.stages g) (rank_of job.stages x) (rank_of job.stages r) low (reader_is_behind job x r next.valid reads))))
+  -- g is no reader of a stage of no lower rank, so that its readers have the groups that they had
+  readers_stay : (x : ℕ) → rank_of job.stages g ≤ rank_of job.stages x → common_group (with_inlined c g h) (readers job x) ≡ common_group c (readers job x)
+  readers_stay x low = common_group_same c (with_inlined c g h) (readers job x) (
+      All-weaker (λ r. does_read job x r ≡ true) (λ r. group (with_inlined c g h) r ≡ group c r)
+      (λ r reads. group_stays r (ranks_differ job.stages g r (le_lt (rank_of job.stages g) (rank_of job.stages x) (rank_of job.stages r) low (reader_is_behind job x r next.valid reads))))
       (readers job x) (readers_read job x))
 
-  own_still : (x : ℕ) → is_inlined (slice_set c.flags g true) x ≡ false → home (with_inlined c g h) x ≡ x
+  own_still : (x : ℕ) → is_inlined (slice_set c.inlining g true) x ≡ false → group (with_inlined c g h) x ≡ x
   own_still x off = by (cases_eq x g)
     where
-      by : (x ≡ g) ⊎ (x ≡ g → ⊥) → home (with_inlined c g h) x ≡ x
-      by (inl e) = absurd (false≢true (sym off ∙ ap (is_inlined (slice_set c.flags g true)) e ∙ flag_is_set))
-      by (inr other) = home_stays x other ∙ next.follow.own x (sym (flag_stays x other) ∙ off)
+      by : (x ≡ g) ⊎ (x ≡ g → ⊥) → group (with_inlined c g h) x ≡ x
+      by (inl e) = absurd (false≢true (sym off ∙ ap (is_inlined (slice_set c.inlining g true)) e ∙ flag_is_set))
+      by (inr other) = group_stays x other ∙ next.follow.own x (sym (flag_stays x other) ∙ off)
 
-  shared_now : common_home (with_inlined c g h) (readers job g) ≡ Some (home (with_inlined c g h) g)
-  shared_now = readers_stay g (le_self (rank_of job.stages g)) ∙ next.one_home ∙ ap Some (sym new_home)
+  shared_now : common_group (with_inlined c g h) (readers job g) ≡ Some (group (with_inlined c g h) g)
+  shared_now = readers_stay g (le_self (rank_of job.stages g)) ∙ next.one_group ∙ ap Some (sym new_group)
 
-  shared_still : (x : ℕ) → is_inlined (slice_set c.flags g true) x ≡ true → common_home (with_inlined c g h) (readers job x) ≡ Some (home (with_inlined c g h) x)
+  shared_still : (x : ℕ) → is_inlined (slice_set c.inlining g true) x ≡ true → common_group (with_inlined c g h) (readers job x) ≡ Some (group (with_inlined c g h) x)
   shared_still x inlined = by (cases_eq x g)
     where
-      by : (x ≡ g) ⊎ (x ≡ g → ⊥) → common_home (with_inlined c g h) (readers job x) ≡ Some (home (with_inlined c g h) x)
-      by (inl e) = subst (λ y. common_home (with_inlined c g h) (readers job y) ≡ Some (home (with_inlined c g h) y)) (sym e) shared_now
+      by : (x ≡ g) ⊎ (x ≡ g → ⊥) → common_group (with_inlined c g h) (readers job x) ≡ Some (group (with_inlined c g h) x)
+      by (inl e) = subst (λ y. common_group (with_inlined c g h) (readers job y) ≡ Some (group (with_inlined c g h) y)) (sym e) shared_now
       by (inr other) =
           let was = sym (flag_stays x other) ∙ inlined in
-          readers_stay x (next.behind x was) ∙ next.follow.shared x was ∙ ap Some (sym (home_stays x other))
+          readers_stay x (next.behind x was) ∙ next.follow.shared x was ∙ ap Some (sym (group_stays x other))
 
-  homes_follow_next : HomesFollow job (with_inlined c g h)
-  homes_follow_next = record {
-    flags = length-set c.flags g true ∙ next.follow.flags;
-    homes = length-set c.homes g h ∙ next.follow.homes;
+  groups_follow_next : GroupsFollow job (with_inlined c g h)
+  groups_follow_next = record {
+    inlining = length-set c.inlining g true ∙ next.follow.inlining;
+    groups = length-set c.groups g h ∙ next.follow.groups;
     own = own_still;
     shared = shared_still;
   }
 
 -- ---- a visit
 
--- a visit leaves the choice, or inlines the stage in the one home of its readers
-visited_with : (Q : Choice → Type 0) (job : Pipeline) (percent : ℕ) (c : Choice) (g : ℕ) → Q c → ((h : ℕ) → common_home c (readers job g) ≡ Some h → Q (with_inlined c g h)) → Q (visited job percent c g)
-visited_with Q job percent c g same one = by (is_function job g && not (is_output job g)) (common_home c (readers job g)) refl
+-- a visit leaves the choice, or inlines the stage in the one group of its readers
+visited_with : (Q : Grouping → Type 0) (job : Pipeline) (percent : ℕ) (c : Grouping) (g : ℕ) → Q c → ((h : ℕ) → common_group c (readers job g) ≡ Some h → Q (with_inlined c g h)) → Q (visited job percent c g)
+visited_with Q job percent c g same one = by (is_function job g && not (is_output job g)) (common_group c (readers job g)) refl
   where
     if_pays : (b : Bool) (h : ℕ) → Q (with_inlined c g h) → Q (if b then with_inlined c g h else c)
     if_pays true h k = k
     if_pays false h k = same
 
-    by : (b : Bool) (o : Option ℕ) → common_home c (readers job g) ≡ o → Q (if b then inlined_if job percent c g o else c)
+    by : (b : Bool) (o : Option ℕ) → common_group c (readers job g) ≡ o → Q (if b then inlined_if job percent c g o else c)
     by true None e = same
-    by true (Some h) e = if_pays (pays job percent c.flags g h && has_room job c.flags g h) h (one h e)
+    by true (Some h) e = if_pays (pays job percent c.inlining g h && has_room job c.inlining g h) h (one h e)
     by false o e = same
 
-follow_visited : (job : Pipeline) (percent : ℕ) (c : Choice) (g : ℕ) → IsJob job → HomesFollow job c → g < length job.stages → LiesBehind job c.flags g → HomesFollow job (visited job percent c g)
+follow_visited : (job : Pipeline) (percent : ℕ) (c : Grouping) (g : ℕ) → IsJob job → GroupsFollow job c → g < length job.stages → LiesBehind job c.inlining g → GroupsFollow job (visited job percent c g)
 follow_visited job percent c g valid follow there behind =
-    visited_with (HomesFollow job) job percent c g follow
-    (λ h shared. homes_follow_next (record { valid = valid; follow = follow; there = there; behind = behind; one_home = shared }))
+    visited_with (GroupsFollow job) job percent c g follow
+    (λ h shared. groups_follow_next (record { valid = valid; follow = follow; there = there; behind = behind; one_group = shared }))
 
-follow_all : (job : Pipeline) (percent : ℕ) (c : Choice) (gs : List ℕ) → IsJob job → HomesFollow job c → Falls job.stages gs → All (λ g. g < length job.stages) gs → All (IsFree job c.flags) gs
-    → HomesFollow job (fold (visited job percent) c gs)
+follow_all : (job : Pipeline) (percent : ℕ) (c : Grouping) (gs : List ℕ) → IsJob job → GroupsFollow job c → Falls job.stages gs → All (λ g. g < length job.stages) gs → All (IsFree job c.inlining) gs
+    → GroupsFollow job (fold (visited job percent) c gs)
 follow_all job percent c [] valid follow falls there free = follow
 follow_all job percent c (g ∷ gs) valid follow falls there free =
     follow_all job percent (visited job percent c g) gs valid
-    (follow_visited job percent c g valid follow (All-head (λ g. g < length job.stages) g gs there) (All-head (IsFree job c.flags) g gs free).1)
+    (follow_visited job percent c g valid follow (All-head (λ g. g < length job.stages) g gs there) (All-head (IsFree job c.inlining) g gs free).1)
     falls.1 (All-tail (λ g. g < length job.stages) g gs there)
-    (all_free_still job percent c g gs falls.0 (All-tail (IsFree job c.flags) g gs free))
+    (all_free_still job percent c g gs falls.0 (All-tail (IsFree job c.inlining) g gs free))
 
-follow_at_first : (job : Pipeline) → HomesFollow job (nothing_chosen job)
+follow_at_first : (job : Pipeline) → GroupsFollow job (nothing_chosen job)
 follow_at_first job = record {
-  flags = (stored_is job).each;
-  homes = length-range_with_len 0 (length job.stages);
-  own = λ x off. home_at_first job x;
+  inlining = (stored_is job).each;
+  groups = length-range_with_len 0 (length job.stages);
+  own = λ x off. group_at_first job x;
   shared = λ x inlined. absurd (false≢true (sym (stored_at_first job x) ∙ inlined));
 }
 
@@ -152,13 +152,13 @@ Falls-take stages zero xs falls = tt
 Falls-take stages (suc k) [] falls = tt
 Falls-take stages (suc k) (x ∷ xs) falls = (All-take (IsBehind stages x) k xs falls.0, Falls-take stages k xs falls.1)
 
-pub follow_after : (job : Pipeline) (percent k : ℕ) → IsJob job → HomesFollow job (chosen_after job percent k)
+pub follow_after : (job : Pipeline) (percent k : ℕ) → IsJob job → GroupsFollow job (chosen_after job percent k)
 follow_after job percent k valid =
     let first = take k (backward job.stages) in
     follow_all job percent (nothing_chosen job) first valid (follow_at_first job) (Falls-take job.stages k (backward job.stages) (backward_falls job.stages))
     (All-take (λ g. g < length job.stages) k (backward job.stages) (backward_there job.stages)) (free_at_first job first)
 
-pub follow_at_last : (job : Pipeline) (percent : ℕ) → IsJob job → HomesFollow job (greedy_choice job percent)
+pub follow_at_last : (job : Pipeline) (percent : ℕ) → IsJob job → GroupsFollow job (greedy_choice job percent)
 follow_at_last job percent valid = follow_all job percent (nothing_chosen job) (backward job.stages) valid (follow_at_first job) (backward_falls job.stages) (backward_there job.stages) (free_at_first job (backward job.stages))
 
 -- ---- readers
@@ -174,21 +174,21 @@ is_reader : (job : Pipeline) (x r : ℕ) → does_read job x r ≡ true → Cont
 is_reader job x r reads =
     Contains-filter (does_read job x) (backward job.stages) r (Contains-reverse (in_order job.stages) r (ordered job.stages r (reader_there job x r reads))) reads
 
--- ---- from homes back
+-- ---- from groups back
 
-module _ (job : Pipeline) (c : Choice) (valid : IsJob job) (follow : HomesFollow job c) where
-  -- what holds of each stored stage, and of each inlined function where it holds of a reader with the same home, holds of all
-  module _ (Q : ℕ → Type 0) (first : (x : ℕ) → is_inlined c.flags x ≡ false → Q x)
-      (further : (x r : ℕ) → is_inlined c.flags x ≡ true → does_read job x r ≡ true → home c r ≡ home c x → Q r → Q x) where
-    by_readers : (x : ℕ) (rs : List ℕ) → is_inlined c.flags x ≡ true → common_home c rs ≡ Some (home c x) → All (λ r. does_read job x r ≡ true) rs
+module _ (job : Pipeline) (c : Grouping) (valid : IsJob job) (follow : GroupsFollow job c) where
+  -- what holds of each stored stage, and of each inlined function where it holds of a reader with the same group, holds of all
+  module _ (Q : ℕ → Type 0) (first : (x : ℕ) → is_inlined c.inlining x ≡ false → Q x)
+      (further : (x r : ℕ) → is_inlined c.inlining x ≡ true → does_read job x r ≡ true → group c r ≡ group c x → Q r → Q x) where
+    by_readers : (x : ℕ) (rs : List ℕ) → is_inlined c.inlining x ≡ true → common_group c rs ≡ Some (group c x) → All (λ r. does_read job x r ≡ true) rs
         → ((r : ℕ) → rank_of job.stages x < rank_of job.stages r → Q r) → Q x
     by_readers x [] inlined shared read higher = absurd (cc)
     by_readers x (r ∷ rs) inlined shared read higher =
         let reads = All-head (λ r. does_read job x r ≡ true) r rs read in
-        let same = All-head (λ r. home c r ≡ home c x) r rs (home_shared c (r ∷ rs) (home c x) shared) in
+        let same = All-head (λ r. group c r ≡ group c x) r rs (group_shared c (r ∷ rs) (group c x) shared) in
         further x r inlined reads same (higher r (reader_is_behind job x r valid reads))
 
-    by_flag : (b : Bool) (x : ℕ) → is_inlined c.flags x ≡ b → ((r : ℕ) → rank_of job.stages x < rank_of job.stages r → Q r) → Q x
+    by_flag : (b : Bool) (x : ℕ) → is_inlined c.inlining x ≡ b → ((r : ℕ) → rank_of job.stages x < rank_of job.stages r → Q r) → Q x
     by_flag false x off higher = first x off
     by_flag true x inlined higher = by_readers x (readers job x) inlined (follow.shared x inlined) (readers_read job x) higher
 
@@ -196,48 +196,48 @@ module _ (job : Pipeline) (c : Choice) (valid : IsJob job) (follow : HomesFollow
     in_steps : (n x : ℕ) → greatest_rank job.stages < n + rank_of job.stages x → Q x
     in_steps zero x enough = absurd (let low = rank_below job.stages x in omega arith)
     in_steps (suc n) x enough =
-        by_flag (is_inlined c.flags x) x refl (λ r high. in_steps n r (enough_left (greatest_rank job.stages) n (rank_of job.stages x) (rank_of job.stages r) enough high))
+        by_flag (is_inlined c.inlining x) x refl (λ r high. in_steps n r (enough_left (greatest_rank job.stages) n (rank_of job.stages x) (rank_of job.stages r) enough high))
 
     of_each : (x : ℕ) → Q x
     of_each x = in_steps (suc (greatest_rank job.stages)) x (all_enough (greatest_rank job.stages) (rank_of job.stages x))
 
-  -- a chain leads from the home of each stage to it
-  chain_from_home : (x : ℕ) → ChainLeads job c.flags (home c x) x
-  chain_from_home = of_each (λ x. ChainLeads job c.flags (home c x) x)
-      (λ x off. subst (λ t. ChainLeads job c.flags t x) (sym (follow.own x off)) itself)
-      (λ x r inlined reads same chain. on r x (subst (λ t. ChainLeads job c.flags t r) same chain) reads inlined)
+  -- a chain leads from the group of each stage to it
+  chain_from_group : (x : ℕ) → ChainLeads job c.inlining (group c x) x
+  chain_from_group = of_each (λ x. ChainLeads job c.inlining (group c x) x)
+      (λ x off. subst (λ t. ChainLeads job c.inlining t x) (sym (follow.own x off)) itself)
+      (λ x r inlined reads same chain. on r x (subst (λ t. ChainLeads job c.inlining t r) same chain) reads inlined)
 
-  home_is_stored : (x : ℕ) → is_inlined c.flags (home c x) ≡ false
-  home_is_stored = of_each (λ x. is_inlined c.flags (home c x) ≡ false)
-      (λ x off. ap (is_inlined c.flags) (follow.own x off) ∙ off)
-      (λ x r inlined reads same stored. ap (is_inlined c.flags) (sym same) ∙ stored)
+  group_is_stored : (x : ℕ) → is_inlined c.inlining (group c x) ≡ false
+  group_is_stored = of_each (λ x. is_inlined c.inlining (group c x) ≡ false)
+      (λ x off. ap (is_inlined c.inlining) (follow.own x off) ∙ off)
+      (λ x r inlined reads same stored. ap (is_inlined c.inlining) (sym same) ∙ stored)
 
 -- ---- chains
 
--- a chain from a stored stage leads to stages that have it as their home
-home_of_chain : (job : Pipeline) (c : Choice) (t x : ℕ) → HomesFollow job c → is_inlined c.flags t ≡ false → ChainLeads job c.flags t x → home c x ≡ t
-home_of_chain job c t _ follow stored itself = follow.own t stored
-home_of_chain job c t _ follow stored (on r x chain reads inlined) =
-    let same = All-contains (λ r. home c r ≡ home c x) (readers job x) r (home_shared c (readers job x) (home c x) (follow.shared x inlined)) (is_reader job x r reads) in
-    sym same ∙ home_of_chain job c t r follow stored chain
+-- a chain from a stored stage leads to stages that have it as their group
+group_of_chain : (job : Pipeline) (c : Grouping) (t x : ℕ) → GroupsFollow job c → is_inlined c.inlining t ≡ false → ChainLeads job c.inlining t x → group c x ≡ t
+group_of_chain job c t _ follow stored itself = follow.own t stored
+group_of_chain job c t _ follow stored (on r x chain reads inlined) =
+    let same = All-contains (λ r. group c r ≡ group c x) (readers job x) r (group_shared c (readers job x) (group c x) (follow.shared x inlined)) (is_reader job x r reads) in
+    sym same ∙ group_of_chain job c t r follow stored chain
 
-chains_are_homes : (job : Pipeline) (c : Choice) (t x : ℕ) → IsJob job → HomesFollow job c → is_inlined c.flags t ≡ false → ChainLeads job c.flags t x ↔ (home c x ≡ t)
-chains_are_homes job c t x valid follow stored = (
-  home_of_chain job c t x follow stored,
-  (λ is. subst (λ y. ChainLeads job c.flags y x) is (chain_from_home job c valid follow x)),
+chains_are_groups : (job : Pipeline) (c : Grouping) (t x : ℕ) → IsJob job → GroupsFollow job c → is_inlined c.inlining t ≡ false → ChainLeads job c.inlining t x ↔ (group c x ≡ t)
+chains_are_groups job c t x valid follow stored = (
+  group_of_chain job c t x follow stored,
+  (λ is. subst (λ y. ChainLeads job c.inlining y x) is (chain_from_group job c valid follow x)),
 )
 
 -- ---- the law
 
-pub homes_after : (job : Pipeline) (percent k t x : ℕ) → IsJob job → is_inlined (chosen_after job percent k).flags t ≡ false
-    → ChainLeads job (chosen_after job percent k).flags t x ↔ (home (chosen_after job percent k) x ≡ t)
-homes_after job percent k t x valid stored = chains_are_homes job (chosen_after job percent k) t x valid (follow_after job percent k valid) stored
+pub groups_after : (job : Pipeline) (percent k t x : ℕ) → IsJob job → is_inlined (chosen_after job percent k).inlining t ≡ false
+    → ChainLeads job (chosen_after job percent k).inlining t x ↔ (group (chosen_after job percent k) x ≡ t)
+groups_after job percent k t x valid stored = chains_are_groups job (chosen_after job percent k) t x valid (follow_after job percent k valid) stored
 
-pub homes_at_last : (job : Pipeline) (percent t x : ℕ) → IsJob job → is_inlined (greedy_flags job percent) t ≡ false
-    → ChainLeads job (greedy_flags job percent) t x ↔ (home (greedy_choice job percent) x ≡ t)
-unfolding greedy_flags
-homes_at_last job percent t x valid stored = chains_are_homes job (greedy_choice job percent) t x valid (follow_at_last job percent valid) stored
+pub groups_at_last : (job : Pipeline) (percent t x : ℕ) → IsJob job → is_inlined (greedy_inlining job percent) t ≡ false
+    → ChainLeads job (greedy_inlining job percent) t x ↔ (group (greedy_choice job percent) x ≡ t)
+unfolding greedy_inlining
+groups_at_last job percent t x valid stored = chains_are_groups job (greedy_choice job percent) t x valid (follow_at_last job percent valid) stored
 
-pub homes_are_stored : (job : Pipeline) (percent x : ℕ) → IsJob job → is_inlined (greedy_flags job percent) (home (greedy_choice job percent) x) ≡ false
-unfolding greedy_flags
-homes_are_stored job percent x valid = home_is_stored job (greedy_choice job percent) valid (follow_at_last job percent valid) x
+pub groups_are_stored : (job : Pipeline) (percent x : ℕ) → IsJob job → is_inlined (greedy_inlining job percent) (group (greedy_choice job percent) x) ≡ false
+unfolding greedy_inlining
+groups_are_stored job percent x valid = group_is_stored job (greedy_choice job percent) valid (follow_at_last job percent valid) x

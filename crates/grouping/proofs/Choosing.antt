@@ -18,7 +18,7 @@ use Rattle.grouping.specs.Targets.{Target}
 use Rattle.grouping.specs.Costs.{scratch, most_scratch, stage_cost, cost}
 use Rattle.grouping.specs.Inlining.{costs_of, AllFitScratch}
 use Rattle.grouping.specs.Tallies.{areas_of_tiles, over, has_scratch, all_have_scratch, whole, has_cost, stage_fits}
-use Rattle.grouping.specs.Greedy.{Choice, nothing_chosen, home, readers, common_home, with_inlined, pays, has_room, inlined_if, visited}
+use Rattle.grouping.specs.Greedy.{Grouping, nothing_chosen, group, readers, common_group, with_inlined, pays, has_room, inlined_if, visited}
 use Rattle.grouping.specs.Standings.{target_at, areas_at, tile_scratch}
 use Rattle.grouping.proofs.Lists.{not_eq_from}
 use Rattle.grouping.proofs.Sorting.{All-reverse}
@@ -75,7 +75,7 @@ backward_there stages =
 -- ---- visits
 
 -- a visit leaves the choice, or inlines the stage, which then is a function and no output
-pub visited_by : (Q : Choice → Type 0) (job : Pipeline) (percent : ℕ) (c : Choice) (g : ℕ) → Q c
+pub visited_by : (Q : Grouping → Type 0) (job : Pipeline) (percent : ℕ) (c : Grouping) (g : ℕ) → Q c
     → (is_function job g ≡ true → is_output job g ≡ false → (h : ℕ) → Q (with_inlined c g h)) → Q (visited job percent c g)
 visited_by Q job percent c g same one = by (is_function job g) refl (is_output job g) refl
   where
@@ -83,47 +83,47 @@ visited_by Q job percent c g same one = by (is_function job g) refl (is_output j
     if_pays true h k = k
     if_pays false h k = same
 
-    if_home : (o : Option ℕ) → ((h : ℕ) → Q (with_inlined c g h)) → Q (inlined_if job percent c g o)
-    if_home None k = same
-    if_home (Some h) k = if_pays (pays job percent c.flags g h && has_room job c.flags g h) h (k h)
+    if_group : (o : Option ℕ) → ((h : ℕ) → Q (with_inlined c g h)) → Q (inlined_if job percent c g o)
+    if_group None k = same
+    if_group (Some h) k = if_pays (pays job percent c.inlining g h && has_room job c.inlining g h) h (k h)
 
-    by : (a : Bool) → is_function job g ≡ a → (b : Bool) → is_output job g ≡ b → Q (if a && not b then inlined_if job percent c g (common_home c (readers job g)) else c)
-    by true e false f = if_home (common_home c (readers job g)) (one e f)
+    by : (a : Bool) → is_function job g ≡ a → (b : Bool) → is_output job g ≡ b → Q (if a && not b then inlined_if job percent c g (common_group c (readers job g)) else c)
+    by true e false f = if_group (common_group c (readers job g)) (one e f)
     by true e true f = same
     by false e b f = same
 
 -- what holds of g and of all that was inlined holds of all that is inlined with g
-of_inlined : (P : ℕ → Type 0) (flags : List Bool) (g k : ℕ) → P g → ((x : ℕ) → is_inlined flags x ≡ true → P x) → is_inlined (slice_set flags g true) k ≡ true → P k
-of_inlined P flags g k here was inlined = by (nat_eq k g) refl
+of_inlined : (P : ℕ → Type 0) (inlining : List Bool) (g k : ℕ) → P g → ((x : ℕ) → is_inlined inlining x ≡ true → P x) → is_inlined (slice_set inlining g true) k ≡ true → P k
+of_inlined P inlining g k here was inlined = by (nat_eq k g) refl
   where
     by : (b : Bool) → nat_eq k g ≡ b → P k
     by true e = let same : g ≡ k = grind (arith, nat_tests) in subst P same here
-    by false e = let other : k ≢ g = grind (arith, nat_tests) in was k (sym (get_or-set_other flags g k true false other) ∙ inlined)
+    by false e = let other : k ≢ g = grind (arith, nat_tests) in was k (sym (get_or-set_other inlining g k true false other) ∙ inlined)
 
-one_more_is : (job : Pipeline) (flags : List Bool) (g : ℕ) → IsSchedule job flags → is_function job g ≡ true → is_output job g ≡ false → IsSchedule job (slice_set flags g true)
-one_more_is job flags g h function inner =
+one_more_is : (job : Pipeline) (inlining : List Bool) (g : ℕ) → IsSchedule job inlining → is_function job g ≡ true → is_output job g ≡ false → IsSchedule job (slice_set inlining g true)
+one_more_is job inlining g h function inner =
     record {
-      each = length-set flags g true ∙ h.each;
-      functions = λ k inlined. of_inlined (λ x. is_function job x ≡ true) flags g k function h.functions inlined;
-      inner = λ k inlined. of_inlined (λ x. is_output job x ≡ false) flags g k inner h.inner inlined;
+      each = length-set inlining g true ∙ h.each;
+      functions = λ k inlined. of_inlined (λ x. is_function job x ≡ true) inlining g k function h.functions inlined;
+      inner = λ k inlined. of_inlined (λ x. is_output job x ≡ false) inlining g k inner h.inner inlined;
     }
 
--- a visit keeps flags that make a schedule
-pub visited_is : (job : Pipeline) (percent : ℕ) (c : Choice) (g : ℕ) → IsSchedule job c.flags → IsSchedule job (visited job percent c g).flags
-visited_is job percent c g h = visited_by (λ (d : Choice). IsSchedule job d.flags) job percent c g h (λ function inner k. one_more_is job c.flags g h function inner)
+-- a visit keeps inlining that make a schedule
+pub visited_is : (job : Pipeline) (percent : ℕ) (c : Grouping) (g : ℕ) → IsSchedule job c.inlining → IsSchedule job (visited job percent c g).inlining
+visited_is job percent c g h = visited_by (λ (d : Grouping). IsSchedule job d.inlining) job percent c g h (λ function inner k. one_more_is job c.inlining g h function inner)
 
 -- it changes the flag of g alone
-pub not_yet : (job : Pipeline) (c : Choice) (percent g x : ℕ) → nat_eq x g ≡ false → is_inlined (visited job percent c g).flags x ≡ is_inlined c.flags x
+pub not_yet : (job : Pipeline) (c : Grouping) (percent g x : ℕ) → nat_eq x g ≡ false → is_inlined (visited job percent c g).inlining x ≡ is_inlined c.inlining x
 not_yet job c percent g x e =
     let other : x ≢ g = grind (arith, nat_tests) in
-    visited_by (λ (d : Choice). is_inlined d.flags x ≡ is_inlined c.flags x) job percent c g refl (λ function inner k. get_or-set_other c.flags g x true false other)
+    visited_by (λ (d : Grouping). is_inlined d.inlining x ≡ is_inlined c.inlining x) job percent c g refl (λ function inner k. get_or-set_other c.inlining g x true false other)
 
 -- and the lengths stay
-pub visited_length : (job : Pipeline) (percent : ℕ) (c : Choice) (g : ℕ) → length (visited job percent c g).flags ≡ length c.flags
-visited_length job percent c g = visited_by (λ (d : Choice). length d.flags ≡ length c.flags) job percent c g refl (λ function inner k. length-set c.flags g true)
+pub visited_length : (job : Pipeline) (percent : ℕ) (c : Grouping) (g : ℕ) → length (visited job percent c g).inlining ≡ length c.inlining
+visited_length job percent c g = visited_by (λ (d : Grouping). length d.inlining ≡ length c.inlining) job percent c g refl (λ function inner k. length-set c.inlining g true)
 
-pub visited_homes_length : (job : Pipeline) (percent : ℕ) (c : Choice) (g : ℕ) → length (visited job percent c g).homes ≡ length c.homes
-visited_homes_length job percent c g = visited_by (λ (d : Choice). length d.homes ≡ length c.homes) job percent c g refl (λ function inner k. length-set c.homes g k)
+pub visited_groups_length : (job : Pipeline) (percent : ℕ) (c : Grouping) (g : ℕ) → length (visited job percent c g).groups ≡ length c.groups
+visited_groups_length job percent c g = visited_by (λ (d : Grouping). length d.groups ≡ length c.groups) job percent c g refl (λ function inner k. length-set c.groups g k)
 
 -- ---- at first
 
@@ -134,8 +134,8 @@ number_at n g = by (cases_lt g n)
     by (inl below) = get_or-range_with_len 0 n g g below ∙ (let e : 0 + g ≡ g = omega arith in e)
     by (inr past) = get_or_past (range_with_len 0 n) g g (subst (λ (k : ℕ). k ≤ g) (sym (length-range_with_len 0 n)) past)
 
-pub home_at_first : (job : Pipeline) (g : ℕ) → home (nothing_chosen job) g ≡ g
-home_at_first job g = number_at (length job.stages) g
+pub group_at_first : (job : Pipeline) (g : ℕ) → group (nothing_chosen job) g ≡ g
+group_at_first job g = number_at (length job.stages) g
 
 pub stored_at_first : (job : Pipeline) (g : ℕ) → is_inlined (all_stored job) g ≡ false
 stored_at_first job g = none_inlined job.stages g
@@ -162,14 +162,14 @@ pub room_at_first : (job : Pipeline) (g : ℕ) → stage_fits job (all_stored jo
 room_at_first job g = room_of job g (slice_get job.stages g)
 
 -- the costs of a job have the cost of each stage, whatever is inlined
-pub cost_at : (job : Pipeline) (flags : List Bool) (g : ℕ) → slice_index_or (costs_of job flags) g None ≡ cost job flags g
-cost_at job flags g = by (cases_lt g (length job.stages))
+pub cost_at : (job : Pipeline) (inlining : List Bool) (g : ℕ) → slice_index_or (costs_of job inlining) g None ≡ cost job inlining g
+cost_at job inlining g = by (cases_lt g (length job.stages))
   where
-    by : (g < length job.stages) ⊎ (length job.stages ≤ g) → slice_index_or (costs_of job flags) g None ≡ cost job flags g
-    by (inl below) = get_or-map-range_with_len (cost job flags) 0 (length job.stages) g g None below (let e : 0 + g ≡ g = omega arith in e)
+    by : (g < length job.stages) ⊎ (length job.stages ≤ g) → slice_index_or (costs_of job inlining) g None ≡ cost job inlining g
+    by (inl below) = get_or-map-range_with_len (cost job inlining) 0 (length job.stages) g g None below (let e : 0 + g ≡ g = omega arith in e)
     by (inr past) =
-        get_or_past (costs_of job flags) g None (subst (λ (k : ℕ). k ≤ g) (sym (length-map-range_with_len (cost job flags) 0 (length job.stages))) past)
-        ∙ sym (ap (stage_cost job flags g) (slice_get_past job.stages g past))
+        get_or_past (costs_of job inlining) g None (subst (λ (k : ℕ). k ≤ g) (sym (length-map-range_with_len (cost job inlining) 0 (length job.stages))) past)
+        ∙ sym (ap (stage_cost job inlining g) (slice_get_past job.stages g past))
 
 pub cost_at_first : (job : Pipeline) (g : ℕ) → slice_index_or (costs_of job (all_stored job)) g None ≡ cost job (all_stored job) g
 cost_at_first job g = cost_at job (all_stored job) g
@@ -177,10 +177,10 @@ cost_at_first job g = cost_at job (all_stored job) g
 -- ---- at last
 
 -- rooms of all stages are room of the schedule
-pub all_have_room : (job : Pipeline) (flags : List Bool) → ((g : ℕ) → g < length job.stages → stage_fits job flags g (slice_get job.stages g) ≡ true) → AllFitScratch job flags
-all_have_room job flags room =
-    all_fit job flags (all_pass (λ g. stage_fits job flags g (slice_get job.stages g)) (range_with_len 0 (length job.stages)) (λ g. by g (cases_lt g (length job.stages))))
+pub all_have_room : (job : Pipeline) (inlining : List Bool) → ((g : ℕ) → g < length job.stages → stage_fits job inlining g (slice_get job.stages g) ≡ true) → AllFitScratch job inlining
+all_have_room job inlining room =
+    all_fit job inlining (all_pass (λ g. stage_fits job inlining g (slice_get job.stages g)) (range_with_len 0 (length job.stages)) (λ g. by g (cases_lt g (length job.stages))))
   where
-    by : (g : ℕ) → (g < length job.stages) ⊎ (length job.stages ≤ g) → stage_fits job flags g (slice_get job.stages g) ≡ true
+    by : (g : ℕ) → (g < length job.stages) ⊎ (length job.stages ≤ g) → stage_fits job inlining g (slice_get job.stages g) ≡ true
     by g (inl below) = room g below
-    by g (inr past) = ap (stage_fits job flags g) (slice_get_past job.stages g past)
+    by g (inr past) = ap (stage_fits job inlining g) (slice_get_past job.stages g past)

@@ -76,13 +76,13 @@ inner_by p g true (Some a) = by (p g)
 pub sum_cons : (f : ℕ → ℕ) (g : ℕ) (gs : List ℕ) → sum (map f (g ∷ gs)) ≡ f g + sum (map f gs)
 sum_cons f g gs = sum-map f (g ∷ gs) ∙ sum_by-cons f g gs ∙ sym (ap (λ n. f g + n) (sum-map f gs))
 
-sum_inner : (t : Target) (gs : List ℕ) → points_in (filter (λ s. is_inlined t.flags s.0) (flat_map (numbered_box t) gs)) ≡ sum (map (inner_points t) gs)
+sum_inner : (t : Target) (gs : List ℕ) → points_in (filter (λ s. is_inlined t.inlining s.0) (flat_map (numbered_box t) gs)) ≡ sum (map (inner_points t) gs)
 sum_inner t [] = refl
 sum_inner t (g ∷ gs) =
-    let p : ℕ × Area → Bool = λ s. is_inlined t.flags s.0 in
+    let p : ℕ × Area → Bool = λ s. is_inlined t.inlining s.0 in
     ap points_in (filter-append p (numbered_box t g) (flat_map (numbered_box t) gs))
     ∙ points_append (filter p (numbered_box t g)) (filter p (flat_map (numbered_box t) gs))
-    ∙ (λ i. inner_by (is_inlined t.flags) g (is_boxed t g) (box t g) i + sum_inner t gs i)
+    ∙ (λ i. inner_by (is_inlined t.inlining) g (is_boxed t g) (box t g) i + sum_inner t gs i)
     ∙ sym (sum_cons (inner_points t) g gs)
 
 -- the points in scratch memory, stage by stage
@@ -113,9 +113,9 @@ areas_are : (g : Grid) → map (λ t. tile_area g t.0 t.1) (tiles_of g) ≡ area
 areas_are g = map_pairs (λ t. tile_area g t.0 t.1) (range_with_len 0 (tile_rows g)) (range_with_len 0 (tile_cols g))
 
 -- the points of a stage's tiles, area by area
-pub cost_is : (job : Pipeline) (flags : List Bool) (g : ℕ) (s : Stage) → cost_of job flags g s ≡ points_over (whole job flags g s) (areas_of_tiles (grid_of job s))
-cost_is job flags g s =
-    let t : Target = whole job flags g s in
+pub cost_is : (job : Pipeline) (inlining : List Bool) (g : ℕ) (s : Stage) → cost_of job inlining g s ≡ points_over (whole job inlining g s) (areas_of_tiles (grid_of job s))
+cost_is job inlining g s =
+    let t : Target = whole job inlining g s in
     let tiles : List (ℕ × ℕ) = tiles_of (grid_of job s) in
     let f : ℕ × ℕ → Area = λ x. tile_area (grid_of job s) x.0 x.1 in
     ap sum (map_map points (λ x. over t (f x)) tiles ∙ sym (map_map (λ a. points (over t a)) f tiles) ∙ ap (map (λ a. points (over t a))) (areas_are (grid_of job s)))
@@ -126,8 +126,8 @@ grid_is job g s h there =
     let stage = h.stages g s there in
     record { area = record { rows = stage.rows.span; cols = stage.cols.span }; sides = h.sides }
 
-tile_is_target : (job : Pipeline) (flags : List Bool) (g : ℕ) (s : Stage) (i j : ℕ) → IsJob job → slice_get job.stages g ≡ Some s → HasTile (grid_of job s) i j → IsTarget (over (whole job flags g s) (tile_area (grid_of job s) i j))
-tile_is_target job flags g s i j h there has =
+tile_is_target : (job : Pipeline) (inlining : List Bool) (g : ℕ) (s : Stage) (i j : ℕ) → IsJob job → slice_get job.stages g ≡ Some s → HasTile (grid_of job s) i j → IsTarget (over (whole job inlining g s) (tile_area (grid_of job s) i j))
+tile_is_target job inlining g s i j h there has =
     record { owner = s; there = there; area = tile_fits (grid_of job s) i j (grid_is job g s h there) has; inside = tile_inside (grid_of job s) i j }
 
 has_tile : (g : Grid) (t : ℕ × ℕ) → Contains (range_with_len 0 (tile_rows g)) t.0 × Contains (range_with_len 0 (tile_cols g)) t.1 → HasTile g t.0 t.1
@@ -137,14 +137,14 @@ has_tile g t both =
     let below = row.1 in let before = col.1 in
     (omega arith, omega arith)
 
-pub tiles_are_targets : (job : Pipeline) (flags : List Bool) (g : ℕ) (s : Stage) → IsJob job → slice_get job.stages g ≡ Some s → All (λ a. IsTarget (over (whole job flags g s) a)) (areas_of_tiles (grid_of job s))
-tiles_are_targets job flags g s h there =
+pub tiles_are_targets : (job : Pipeline) (inlining : List Bool) (g : ℕ) (s : Stage) → IsJob job → slice_get job.stages g ≡ Some s → All (λ a. IsTarget (over (whole job inlining g s) a)) (areas_of_tiles (grid_of job s))
+tiles_are_targets job inlining g s h there =
     let grid : Grid = grid_of job s in
-    let t : Target = whole job flags g s in
+    let t : Target = whole job inlining g s in
     let f : ℕ × ℕ → Area = λ x. tile_area grid x.0 x.1 in
     let listed = All-pairs (range_with_len 0 (tile_rows grid)) (range_with_len 0 (tile_cols grid)) in
     let each : All (λ (x : ℕ × ℕ). IsTarget (over t (f x))) (tiles_of grid) =
-    λ k d below. let x : ℕ × ℕ = get_or (tiles_of grid) k d in tile_is_target job flags g s x.0 x.1 h there (has_tile grid x (listed k d below)) in
+    λ k d below. let x : ℕ × ℕ = get_or (tiles_of grid) k d in tile_is_target job inlining g s x.0 x.1 h there (has_tile grid x (listed k d below)) in
     subst (λ (areas : List Area). All (λ a. IsTarget (over t a)) areas) (areas_are grid) (All-map (λ a. IsTarget (over t a)) f (tiles_of grid) each)
 
 -- a stage that has a grid
@@ -165,22 +165,22 @@ gridded job n grid = by (slice_get job.stages n) refl
     by None there is = absurd (cc)
     by (Some s) there is = pick s (has_tiles s.body) there refl is
 
-pub targets_from : (job : Pipeline) (flags : List Bool) (n : ℕ) (grid : Grid) (areas : List Area) → IsJob job → grid_at job n ≡ Some grid → areas ≡ areas_of_tiles grid
-    → All (λ a. IsTarget (over (record { job = job; flags = flags; stage = n; region = grid.area }) a)) areas
-targets_from job flags n grid areas h at are =
+pub targets_from : (job : Pipeline) (inlining : List Bool) (n : ℕ) (grid : Grid) (areas : List Area) → IsJob job → grid_at job n ≡ Some grid → areas ≡ areas_of_tiles grid
+    → All (λ a. IsTarget (over (record { job = job; inlining = inlining; stage = n; region = grid.area }) a)) areas
+targets_from job inlining n grid areas h at are =
     let g = gridded job n grid at in
-    let all = tiles_are_targets job flags n g.stage h g.there in
+    let all = tiles_are_targets job inlining n g.stage h g.there in
     let same : areas_of_tiles (grid_of job g.stage) ≡ areas = ap areas_of_tiles g.is ∙ sym are in
-    subst (λ (xs : List Area). All (λ a. IsTarget (record { job = job; flags = flags; stage = n; region = a })) xs) same all
+    subst (λ (xs : List Area). All (λ a. IsTarget (record { job = job; inlining = inlining; stage = n; region = a })) xs) same all
 
-pub cost_from : (job : Pipeline) (flags : List Bool) (n : ℕ) (grid : Grid) (k : ℕ) → grid_at job n ≡ Some grid → is_inlined flags n ≡ false
-    → k ≡ points_over (record { job = job; flags = flags; stage = n; region = grid.area }) (areas_of_tiles grid) → Some k ≡ cost job flags n
-cost_from job flags n grid k at stored is =
+pub cost_from : (job : Pipeline) (inlining : List Bool) (n : ℕ) (grid : Grid) (k : ℕ) → grid_at job n ≡ Some grid → is_inlined inlining n ≡ false
+    → k ≡ points_over (record { job = job; inlining = inlining; stage = n; region = grid.area }) (areas_of_tiles grid) → Some k ≡ cost job inlining n
+cost_from job inlining n grid k at stored is =
     let g = gridded job n grid at in
-    let t : Target = whole job flags n g.stage in
-    let sum_is : k ≡ cost_of job flags n g.stage = is ∙ ap (λ (x : Grid). points_over t (areas_of_tiles x)) (sym g.is) ∙ sym (cost_is job flags n g.stage) in
-    let has : (has_tiles g.stage.body && not (is_inlined flags n)) ≡ true = (λ i. g.tiles i && not (stored i)) in
-    ap Some sum_is ∙ sym (ap (stage_cost job flags n) g.there ∙ ap (λ b. if b then Some (cost_of job flags n g.stage) else None) has)
+    let t : Target = whole job inlining n g.stage in
+    let sum_is : k ≡ cost_of job inlining n g.stage = is ∙ ap (λ (x : Grid). points_over t (areas_of_tiles x)) (sym g.is) ∙ sym (cost_is job inlining n g.stage) in
+    let has : (has_tiles g.stage.body && not (is_inlined inlining n)) ≡ true = (λ i. g.tiles i && not (stored i)) in
+    ap Some sum_is ∙ sym (ap (stage_cost job inlining n) g.there ∙ ap (λ b. if b then Some (cost_of job inlining n g.stage) else None) has)
 
 -- ---- room in scratch memory
 
@@ -199,9 +199,9 @@ below_all p n g all below =
     subst (λ (k : ℕ). p k ≡ true) (get_or-range_with_len 0 n g 0 below ∙ (let e : 0 + g ≡ g = omega arith in e)) (AllPass-from_list_all p (range_with_len 0 n) all g 0 size)
 
 -- room for each area is room for each tile
-tiles_fit : (job : Pipeline) (flags : List Bool) (g : ℕ) (s : Stage) → all_have_scratch (whole job flags g s) (areas_of_tiles (grid_of job s)) ≡ true → FitsScratch job flags g s
-tiles_fit job flags g s all =
-    let t : Target = whole job flags g s in
+tiles_fit : (job : Pipeline) (inlining : List Bool) (g : ℕ) (s : Stage) → all_have_scratch (whole job inlining g s) (areas_of_tiles (grid_of job s)) ≡ true → FitsScratch job inlining g s
+tiles_fit job inlining g s all =
+    let t : Target = whole job inlining g s in
     let tiles : List (ℕ × ℕ) = tiles_of (grid_of job s) in
     let f : ℕ × ℕ → Area = λ x. tile_area (grid_of job s) x.0 x.1 in
     let each : list_all (λ x. has_scratch (over t (f x))) tiles ≡ true =
@@ -209,9 +209,9 @@ tiles_fit job flags g s all =
     let passed = AllPass-from_list_all (λ x. has_scratch (over t (f x))) tiles each in
     All-map (λ u. scratch u ≤ most_scratch) (λ x. over t (f x)) tiles (λ k d below. leb-true (scratch (over t (f (get_or tiles k d)))) most_scratch (passed k d below))
 
-pub all_fit : (job : Pipeline) (flags : List Bool) → all_stages_fit job flags (range_with_len 0 (length job.stages)) ≡ true → AllFitScratch job flags
-all_fit job flags all g s there has =
-    let test = below_all (λ k. stage_fits job flags k (slice_get job.stages k)) (length job.stages) g all (slice_get_within job.stages g s there) in
-    let room : stage_fits job flags g (Some s) ≡ true = sym (ap (stage_fits job flags g) there) ∙ test in
-    let t : Target = whole job flags g s in
-    tiles_fit job flags g s (sym (ap (λ b. if b then all_have_scratch t (areas_of_tiles (grid_of job s)) else true) has) ∙ room)
+pub all_fit : (job : Pipeline) (inlining : List Bool) → all_stages_fit job inlining (range_with_len 0 (length job.stages)) ≡ true → AllFitScratch job inlining
+all_fit job inlining all g s there has =
+    let test = below_all (λ k. stage_fits job inlining k (slice_get job.stages k)) (length job.stages) g all (slice_get_within job.stages g s there) in
+    let room : stage_fits job inlining g (Some s) ≡ true = sym (ap (stage_fits job inlining g) there) ∙ test in
+    let t : Target = whole job inlining g s in
+    tiles_fit job inlining g s (sym (ap (λ b. if b then all_have_scratch t (areas_of_tiles (grid_of job s)) else true) has) ∙ room)

@@ -7,11 +7,11 @@ use Rattle.std.proofs.lemmas.Bool.Decides.{nat_tests}
 use Rattle.std.proofs.lemmas.Grind.{flat_map-append}
 use Rattle.domains.specs.declared.area.Area.{Area}
 use Rattle.job.specs.Formula.{Formula}
-use Rattle.job.specs.Pipeline.{Piece, Body, plane, function, accumulator, Stage, rank_of}
+use Rattle.job.specs.Pipeline.{JobCase, Body, plane, function, accumulator, Stage, rank_of}
 use Rattle.job.specs.Reads.{Read, stage_read, reads_in, reads_of, other_formula, IsRanked}
 use Rattle.job.proofs.Agreeing.{All-left, All-right}
 use Rattle.job.proofs.Unrolling.{reads_fall}
-use Rattle.grouping.specs.Demands.{Demand, meet_of_box, read_demand, formula_demands, demands_if, piece_demands, other_demands, body_demands, areas_of}
+use Rattle.grouping.specs.Demands.{Demand, meet_of_box, read_demand, formula_demands, demands_if, case_demands, other_demands, body_demands, areas_of}
 use Rattle.grouping.specs.Targets.{Target, region_by, stage_demands, demands_by}
 
 -- ---- what holds of the stages that are read holds of those of which something is demanded
@@ -29,12 +29,12 @@ of_some : (P : ℕ → Type 0) (f : Formula) (o : Option Area) → OfReads P (re
 of_some P f None h = All-nil (λ d. P d.stage)
 of_some P f (Some a) h = of_formula P f a h
 
-of_pieces : (P : ℕ → Type 0) (ps : List Piece) (a : Area) → OfReads P (flat_map reads_in (map (λ p. p.formula) ps)) → OfDemands P (flat_map (piece_demands a) ps)
-of_pieces P [] a h = All-nil (λ d. P d.stage)
-of_pieces P (p ∷ ps) a h =
-    All-append (λ d. P d.stage) (piece_demands a p) (flat_map (piece_demands a) ps)
+of_cases : (P : ℕ → Type 0) (ps : List JobCase) (a : Area) → OfReads P (flat_map reads_in (map (λ p. p.formula) ps)) → OfDemands P (flat_map (case_demands a) ps)
+of_cases P [] a h = All-nil (λ d. P d.stage)
+of_cases P (p ∷ ps) a h =
+    All-append (λ d. P d.stage) (case_demands a p) (flat_map (case_demands a) ps)
     (of_some P p.formula (meet_of_box p.box a) (All-left (λ x. P (stage_read x)) (reads_in p.formula) (flat_map reads_in (map (λ p. p.formula) ps)) h))
-    (of_pieces P ps a (All-right (λ x. P (stage_read x)) (reads_in p.formula) (flat_map reads_in (map (λ p. p.formula) ps)) h))
+    (of_cases P ps a (All-right (λ x. P (stage_read x)) (reads_in p.formula) (flat_map reads_in (map (λ p. p.formula) ps)) h))
 
 of_other : (P : ℕ → Type 0) (o : Option Formula) (a : Area) → OfReads P (flat_map reads_in (other_formula o)) → OfDemands P (other_demands o a)
 of_other P None a h = All-nil (λ d. P d.stage)
@@ -42,16 +42,16 @@ of_other P (Some f) a h = of_formula P f a (All-left (λ x. P (stage_read x)) (r
 
 pub of_body : (P : ℕ → Type 0) (body : Body) (a : Area) → OfReads P (reads_of body) → OfDemands P (body_demands body a)
 of_body P (plane n) a h = All-nil (λ d. P d.stage)
-of_body P (function pieces otherwise) a h =
-    let parts = both (flat_map-append reads_in (map (λ p. p.formula) pieces) (other_formula otherwise)) h in
-    All-append (λ d. P d.stage) (flat_map (piece_demands a) pieces) (other_demands otherwise a) (of_pieces P pieces a parts.0) (of_other P otherwise a parts.1)
+of_body P (function cases otherwise) a h =
+    let parts = both (flat_map-append reads_in (map (λ p. p.formula) cases) (other_formula otherwise)) h in
+    All-append (λ d. P d.stage) (flat_map (case_demands a) cases) (other_demands otherwise a) (of_cases P cases a parts.0) (of_other P otherwise a parts.1)
   where
-    both : reads_of (function pieces otherwise) ≡ flat_map reads_in (map (λ p. p.formula) pieces) ++ flat_map reads_in (other_formula otherwise) → OfReads P (reads_of (function pieces otherwise))
-        → OfReads P (flat_map reads_in (map (λ p. p.formula) pieces)) × OfReads P (flat_map reads_in (other_formula otherwise))
+    both : reads_of (function cases otherwise) ≡ flat_map reads_in (map (λ p. p.formula) cases) ++ flat_map reads_in (other_formula otherwise) → OfReads P (reads_of (function cases otherwise))
+        → OfReads P (flat_map reads_in (map (λ p. p.formula) cases)) × OfReads P (flat_map reads_in (other_formula otherwise))
     both e k =
-        let all : OfReads P (flat_map reads_in (map (λ p. p.formula) pieces) ++ flat_map reads_in (other_formula otherwise)) = subst (OfReads P) e k in (
-          All-left (λ x. P (stage_read x)) (flat_map reads_in (map (λ p. p.formula) pieces)) (flat_map reads_in (other_formula otherwise)) all,
-          All-right (λ x. P (stage_read x)) (flat_map reads_in (map (λ p. p.formula) pieces)) (flat_map reads_in (other_formula otherwise)) all,
+        let all : OfReads P (flat_map reads_in (map (λ p. p.formula) cases) ++ flat_map reads_in (other_formula otherwise)) = subst (OfReads P) e k in (
+          All-left (λ x. P (stage_read x)) (flat_map reads_in (map (λ p. p.formula) cases)) (flat_map reads_in (other_formula otherwise)) all,
+          All-right (λ x. P (stage_read x)) (flat_map reads_in (map (λ p. p.formula) cases)) (flat_map reads_in (other_formula otherwise)) all,
         )
 of_body P (accumulator fold bins value bin) a h =
     All-append (λ d. P d.stage) (formula_demands value a) (formula_demands bin a)

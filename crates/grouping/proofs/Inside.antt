@@ -15,7 +15,7 @@ use Rattle.grouping.specs.Schedules.{is_inlined, is_function_body, is_function, 
 use Rattle.grouping.specs.Demands.{hull_of_all, areas_of}
 use Rattle.grouping.specs.Targets.{Target, IsTarget, IsListed, all_demands_by, cut_to, box, region, with_number, is_boxed, numbered_box, boxes}
 use Rattle.grouping.specs.Costs.{points_in, inner_steps, scratch, points}
-use Rattle.grouping.specs.Walks.{IsNearArea}
+use Rattle.grouping.specs.Walks.{InDomainRanges}
 use Rattle.grouping.proofs.Areas.{near_meet}
 use Rattle.grouping.proofs.Needs.{cut_inside, region_inside}
 use Rattle.grouping.proofs.Rule.{box_follows}
@@ -23,12 +23,12 @@ use Rattle.grouping.proofs.Rule.{box_follows}
 abbrev pub InDomain : Stage → Area → Type 0
 InDomain s a = IsArea a × IsSubarea a s.domain
 
-cut_near : (o : Option Stage) (s : Stage) (hull : Option Area) (a : Area) → IsNearArea s.domain → o ≡ Some s → cut_to o hull ≡ Some a → IsNearArea a
+cut_near : (o : Option Stage) (s : Stage) (hull : Option Area) (a : Area) → InDomainRanges s.domain → o ≡ Some s → cut_to o hull ≡ Some a → InDomainRanges a
 cut_near None s hull a near is cut = absurd (cc)
 cut_near (Some p) s None a near is cut = absurd (cc)
 cut_near (Some p) s (Some b) a near is cut =
     let domain : s ≡ p = cc in
-    near_meet b p.domain a (subst (λ (x : Stage). IsNearArea x.domain) domain near) cut
+    near_meet b p.domain a (subst (λ (x : Stage). InDomainRanges x.domain) domain near) cut
 
 pub box_inside : (t : Target) (g : ℕ) (s : Stage) (a : Area) → IsJob t.job → slice_get t.job.stages g ≡ Some s → box t g ≡ Some a → InDomain s a
 box_inside t g s a job is there =
@@ -47,9 +47,9 @@ region_in_domain t g s a job target is there = (by (nat_eq g t.stage) there, λ 
     inlined true k = (box_inside t g s a job is k).0
     inlined false k = absurd (cc)
 
-    by : (b : Bool) → (if b then Some t.region else (if is_inlined t.flags g then box t g else None)) ≡ Some a → IsArea a
+    by : (b : Bool) → (if b then Some t.region else (if is_inlined t.inlining g then box t g else None)) ≡ Some a → IsArea a
     by true k = let whole : t.region ≡ a = cc in subst IsArea whole target.area
-    by false k = inlined (is_inlined t.flags g) k
+    by false k = inlined (is_inlined t.inlining g) k
 
 -- ---- what is listed
 
@@ -92,14 +92,14 @@ none_pass : {X : Type 0} → (p : X → Bool) (xs : List X) → ((x : X) → p x
 none_pass p [] fails = refl
 none_pass p (x ∷ xs) fails = ap (λ b. if b then x ∷ filter p xs else filter p xs) (fails x) ∙ none_pass p xs fails
 
-no_steps : (t : Target) → t.flags ≡ all_stored t.job → inner_steps t ≡ []
-no_steps t is = none_pass (λ s. is_inlined t.flags s.0) (boxes t) (λ s. ap (λ flags. is_inlined flags s.0) is ∙ not_flagged t.job.stages s.0)
+no_steps : (t : Target) → t.inlining ≡ all_stored t.job → inner_steps t ≡ []
+no_steps t is = none_pass (λ s. is_inlined t.inlining s.0) (boxes t) (λ s. ap (λ inlining. is_inlined inlining s.0) is ∙ not_flagged t.job.stages s.0)
 
-pub no_scratch : (t : Target) → t.flags ≡ all_stored t.job → scratch t ≡ 0
+pub no_scratch : (t : Target) → t.inlining ≡ all_stored t.job → scratch t ≡ 0
 no_scratch t is = ap (λ steps. points_in steps) (no_steps t is)
 
 one_step : (g : ℕ) (a : Area) → points_in ((g, a) ∷ []) ≡ point_count a
 one_step g a = omega arith
 
-pub own_points : (t : Target) → t.flags ≡ all_stored t.job → points t ≡ point_count t.region
+pub own_points : (t : Target) → t.inlining ≡ all_stored t.job → points t ≡ point_count t.region
 own_points t is = ap (λ inner. points_in (inner ++ (t.stage, t.region) ∷ [])) (no_steps t is) ∙ one_step t.stage t.region

@@ -36,12 +36,12 @@ use Rattle.grouping.proofs.Costing.{sum_cons, scratch_is, points_is, cost_is, ti
 
 -- with_one t g is the target t where g is inlined besides
 abbrev pub with_one : Target → ℕ → Target
-with_one t g = record { job = t.job; flags = slice_set t.flags g true; stage = t.stage; region = t.region }
+with_one t g = record { job = t.job; inlining = slice_set t.inlining g true; stage = t.stage; region = t.region }
 
--- ---- flags and ranks
+-- ---- inlining and ranks
 
-pub other_flag : (flags : List Bool) (g x : ℕ) → nat_eq x g ≡ false → is_inlined (slice_set flags g true) x ≡ is_inlined flags x
-other_flag flags g x other = get_or-set_other flags g x true false (grind (arith, nat_tests))
+pub other_flag : (inlining : List Bool) (g x : ℕ) → nat_eq x g ≡ false → is_inlined (slice_set inlining g true) x ≡ is_inlined inlining x
+other_flag inlining g x other = get_or-set_other inlining g x true false (grind (arith, nat_tests))
 
 apart : (stages : List Stage) (g r : ℕ) → rank_of stages g < rank_of stages r → nat_eq r g ≡ false
 apart stages g r falls = by (nat_eq r g) refl
@@ -67,7 +67,7 @@ one_step t g x b c ranked low same =
     from r (inl below) = none_of_higher (with_one t g) b r x ranked below ∙ sym (none_of_higher t c r x ranked below)
     from r (inr high) =
         let other = apart t.job.stages g r (le_lt (rank_of t.job.stages g) (rank_of t.job.stages x) (rank_of t.job.stages r) low high) in
-        let flag = other_flag t.flags g r other in
+        let flag = other_flag t.inlining g r other in
         let there = same r high in
         ap (λ o. areas_of x (stage_demands (slice_get t.job.stages r) o)) (λ i. if nat_eq r t.stage then Some t.region else (if flag i then there i else None))
 
@@ -127,16 +127,16 @@ first_of : (a b : Bool) → (a && b) ≡ true → a ≡ true
 first_of true b e = refl
 first_of false b e = e
 
-inner_stays : (t : Target) (g x : ℕ) → IsJob t.job → LiesBehind t.job t.flags g → nat_eq x g ≡ false → inner_points (with_one t g) x ≡ inner_points t x
-inner_stays t g x h behind other = by (is_inlined t.flags x) refl
+inner_stays : (t : Target) (g x : ℕ) → IsJob t.job → LiesBehind t.job t.inlining g → nat_eq x g ≡ false → inner_points (with_one t g) x ≡ inner_points t x
+inner_stays t g x h behind other = by (is_inlined t.inlining x) refl
   where
-    flag : is_inlined (slice_set t.flags g true) x ≡ is_inlined t.flags x
-    flag = other_flag t.flags g x other
+    flag : is_inlined (slice_set t.inlining g true) x ≡ is_inlined t.inlining x
+    flag = other_flag t.inlining g x other
 
-    by : (b : Bool) → is_inlined t.flags x ≡ b → inner_points (with_one t g) x ≡ inner_points t x
+    by : (b : Bool) → is_inlined t.inlining x ≡ b → inner_points (with_one t g) x ≡ inner_points t x
     by true e = let stays = box_stays t g x h (behind x e) in (λ i. if flag i && is_boxed t x then points_of_box (stays i) else 0)
     by false e =
-        let off : is_inlined (slice_set t.flags g true) x ≡ false = flag ∙ e in
+        let off : is_inlined (slice_set t.inlining g true) x ≡ false = flag ∙ e in
         (λ i. if off i && is_boxed t x then points_of_box (box (with_one t g) x) else 0) ∙ sym (λ i. if e i && is_boxed t x then points_of_box (box t x) else 0)
 
 from_none : (p : ℕ) → p ≡ 0 + p
@@ -145,15 +145,15 @@ from_none p = omega arith
 pub le_self : (n : ℕ) → n ≤ n
 le_self n = omega arith
 
-inner_grows : (t : Target) (g : ℕ) → IsJob t.job → is_boxed t g ≡ true → is_inlined t.flags g ≡ false → g < length t.flags
+inner_grows : (t : Target) (g : ℕ) → IsJob t.job → is_boxed t g ≡ true → is_inlined t.inlining g ≡ false → g < length t.inlining
     → inner_points (with_one t g) g ≡ inner_points t g + points_of_box (box t g)
 inner_grows t g h boxed stored below =
-    let on : is_inlined (slice_set t.flags g true) g ≡ true = get_or-set_same t.flags g true false below in
+    let on : is_inlined (slice_set t.inlining g true) g ≡ true = get_or-set_same t.inlining g true false below in
     let stays = box_stays t g g h (le_self (rank_of t.job.stages g)) in
     let p : ℕ = points_of_box (box t g) in
     (λ i. if on i && boxed i then points_of_box (stays i) else 0) ∙ from_none p ∙ sym (λ i. (if stored i && is_boxed t g then p else 0) + p)
 
-pub scratch_grows : (t : Target) (g : ℕ) → IsJob t.job → is_boxed t g ≡ true → is_inlined t.flags g ≡ false → g < length t.flags → LiesBehind t.job t.flags g
+pub scratch_grows : (t : Target) (g : ℕ) → IsJob t.job → is_boxed t g ≡ true → is_inlined t.inlining g ≡ false → g < length t.inlining → LiesBehind t.job t.inlining g
     → scratch (with_one t g) ≡ scratch t + points_of_box (box t g)
 scratch_grows t g h boxed stored below behind =
     let stages = t.job.stages in
@@ -165,7 +165,7 @@ scratch_grows t g h boxed stored below behind =
     ∙ ap (λ n. n + points_of_box (box t g)) (scratch_is t)
 
 -- and so do the points of a target and of all tiles of a stage
-pub points_grow : (t : Target) (g : ℕ) → IsJob t.job → is_boxed t g ≡ true → is_inlined t.flags g ≡ false → g < length t.flags → LiesBehind t.job t.flags g
+pub points_grow : (t : Target) (g : ℕ) → IsJob t.job → is_boxed t g ≡ true → is_inlined t.inlining g ≡ false → g < length t.inlining → LiesBehind t.job t.inlining g
     → points (with_one t g) ≡ points t + points_of_box (box t g)
 points_grow t g h boxed stored below behind =
     let p : ℕ = points_of_box (box t g) in
@@ -186,72 +186,72 @@ sum_grows f h p b (x ∷ xs) more =
     sum_one h x xs ∙ (λ i. more x i + sum_grows f h p b xs more i) ∙ pairwise (f x) (p (b x)) (sum (map f xs)) (sum (map p (map b xs)))
     ∙ sym (λ i. sum_one f x xs i + sum_one p (b x) (map b xs) i)
 
-points_by : (job : Pipeline) (flags : List Bool) (h : ℕ) → is_inlined flags h ≡ false → (o : Option Stage)
-    → option_map_or (λ n. n) (stage_cost job flags h o) 0 ≡ sum (map (λ a. points (target_at job flags h a)) (option_map_or areas_of_tiles (stage_grid job o) []))
-points_by job flags h stored None = refl
-points_by job flags h stored (Some s) = by (has_tiles s.body)
+points_by : (job : Pipeline) (inlining : List Bool) (h : ℕ) → is_inlined inlining h ≡ false → (o : Option Stage)
+    → option_map_or (λ n. n) (stage_cost job inlining h o) 0 ≡ sum (map (λ a. points (target_at job inlining h a)) (option_map_or areas_of_tiles (stage_grid job o) []))
+points_by job inlining h stored None = refl
+points_by job inlining h stored (Some s) = by (has_tiles s.body)
   where
-    by : (b : Bool) → option_map_or (λ n. n) (if b && not (is_inlined flags h) then Some (cost_of job flags h s) else None) 0
-        ≡ sum (map (λ a. points (target_at job flags h a)) (option_map_or areas_of_tiles (if b then Some (grid_of job s) else None) []))
+    by : (b : Bool) → option_map_or (λ n. n) (if b && not (is_inlined inlining h) then Some (cost_of job inlining h s) else None) 0
+        ≡ sum (map (λ a. points (target_at job inlining h a)) (option_map_or areas_of_tiles (if b then Some (grid_of job s) else None) []))
     by false = refl
-    by true = ap (λ c. option_map_or (λ n. n) (if not c then Some (cost_of job flags h s) else None) 0) stored ∙ cost_is job flags h s
+    by true = ap (λ c. option_map_or (λ n. n) (if not c then Some (cost_of job inlining h s) else None) 0) stored ∙ cost_is job inlining h s
 
 -- the points of a stored stage, tile by tile
-pub points_are : (job : Pipeline) (flags : List Bool) (h : ℕ) → is_inlined flags h ≡ false → points_of job flags h ≡ sum (map (λ a. points (target_at job flags h a)) (areas_at job h))
-points_are job flags h stored = points_by job flags h stored (slice_get job.stages h)
+pub points_are : (job : Pipeline) (inlining : List Bool) (h : ℕ) → is_inlined inlining h ≡ false → points_of job inlining h ≡ sum (map (λ a. points (target_at job inlining h a)) (areas_at job h))
+points_are job inlining h stored = points_by job inlining h stored (slice_get job.stages h)
 
-boxed_in : (job : Pipeline) (flags : List Bool) (g h : ℕ) (a : Area) → is_function job g ≡ true → nat_eq g h ≡ false → is_boxed (target_at job flags h a) g ≡ true
-boxed_in job flags g h a function other = λ i. function i && not (other i)
+boxed_in : (job : Pipeline) (inlining : List Bool) (g h : ℕ) (a : Area) → is_function job g ≡ true → nat_eq g h ≡ false → is_boxed (target_at job inlining h a) g ≡ true
+boxed_in job inlining g h a function other = λ i. function i && not (other i)
 
-pub cost_grows : (job : Pipeline) (flags : List Bool) (g h : ℕ) → IsJob job → is_function job g ≡ true → nat_eq g h ≡ false → is_inlined flags g ≡ false → g < length flags → LiesBehind job flags g → is_inlined flags h ≡ false
-    → points_of job (slice_set flags g true) h ≡ points_of job flags h + sum (map points_of_box (tile_boxes job flags h g))
-cost_grows job flags g h is function other stored below behind home =
-    points_are job (slice_set flags g true) h (other_flag flags g h (turned g h other) ∙ home)
-    ∙ sum_grows (λ a. points (target_at job flags h a)) (λ a. points (target_at job (slice_set flags g true) h a)) points_of_box (λ a. box (target_at job flags h a) g) (areas_at job h)
-    (λ a. points_grow (target_at job flags h a) g is (boxed_in job flags g h a function other) stored below behind)
-    ∙ sym (ap (λ n. n + sum (map points_of_box (tile_boxes job flags h g))) (points_are job flags h home))
+pub cost_grows : (job : Pipeline) (inlining : List Bool) (g h : ℕ) → IsJob job → is_function job g ≡ true → nat_eq g h ≡ false → is_inlined inlining g ≡ false → g < length inlining → LiesBehind job inlining g → is_inlined inlining h ≡ false
+    → points_of job (slice_set inlining g true) h ≡ points_of job inlining h + sum (map points_of_box (tile_boxes job inlining h g))
+cost_grows job inlining g h is function other stored below behind group =
+    points_are job (slice_set inlining g true) h (other_flag inlining g h (turned g h other) ∙ group)
+    ∙ sum_grows (λ a. points (target_at job inlining h a)) (λ a. points (target_at job (slice_set inlining g true) h a)) points_of_box (λ a. box (target_at job inlining h a) g) (areas_at job h)
+    (λ a. points_grow (target_at job inlining h a) g is (boxed_in job inlining g h a function other) stored below behind)
+    ∙ sym (ap (λ n. n + sum (map points_of_box (tile_boxes job inlining h g))) (points_are job inlining h group))
 
-pub scratch_rises : (job : Pipeline) (flags : List Bool) (g h : ℕ) → IsJob job → is_function job g ≡ true → nat_eq g h ≡ false → is_inlined flags g ≡ false → g < length flags → LiesBehind job flags g → is_inlined flags h ≡ false
-    → tile_scratch job (slice_set flags g true) h ≡ map (λ a. scratch (target_at job flags h a) + points_of_box (box (target_at job flags h a) g)) (areas_at job h)
-scratch_rises job flags g h is function other stored below behind home =
-    map_same (λ a. scratch (target_at job (slice_set flags g true) h a)) (λ a. scratch (target_at job flags h a) + points_of_box (box (target_at job flags h a) g)) (areas_at job h)
-    (λ a. scratch_grows (target_at job flags h a) g is (boxed_in job flags g h a function other) stored below behind)
+pub scratch_rises : (job : Pipeline) (inlining : List Bool) (g h : ℕ) → IsJob job → is_function job g ≡ true → nat_eq g h ≡ false → is_inlined inlining g ≡ false → g < length inlining → LiesBehind job inlining g → is_inlined inlining h ≡ false
+    → tile_scratch job (slice_set inlining g true) h ≡ map (λ a. scratch (target_at job inlining h a) + points_of_box (box (target_at job inlining h a) g)) (areas_at job h)
+scratch_rises job inlining g h is function other stored below behind group =
+    map_same (λ a. scratch (target_at job (slice_set inlining g true) h a)) (λ a. scratch (target_at job inlining h a) + points_of_box (box (target_at job inlining h a) g)) (areas_at job h)
+    (λ a. scratch_grows (target_at job inlining h a) g is (boxed_in job inlining g h a function other) stored below behind)
 
 -- ---- room
 
-room_by : (job : Pipeline) (flags : List Bool) (h : ℕ) → is_inlined flags h ≡ false → (o : Option Stage)
-    → stage_fits job flags h o ≡ list_all (λ n. nat_le n most_scratch) (map (λ a. scratch (target_at job flags h a)) (option_map_or areas_of_tiles (stage_grid job o) []))
-room_by job flags h stored None = refl
-room_by job flags h stored (Some s) = by (has_tiles s.body)
+room_by : (job : Pipeline) (inlining : List Bool) (h : ℕ) → is_inlined inlining h ≡ false → (o : Option Stage)
+    → stage_fits job inlining h o ≡ list_all (λ n. nat_le n most_scratch) (map (λ a. scratch (target_at job inlining h a)) (option_map_or areas_of_tiles (stage_grid job o) []))
+room_by job inlining h stored None = refl
+room_by job inlining h stored (Some s) = by (has_tiles s.body)
   where
     fits : Bool
-    fits = all_have_scratch (whole job flags h s) (areas_of_tiles (grid_of job s))
+    fits = all_have_scratch (whole job inlining h s) (areas_of_tiles (grid_of job s))
 
-    by : (b : Bool) → (if b && not (is_inlined flags h) then fits else true)
-        ≡ list_all (λ n. nat_le n most_scratch) (map (λ a. scratch (target_at job flags h a)) (option_map_or areas_of_tiles (if b then Some (grid_of job s) else None) []))
+    by : (b : Bool) → (if b && not (is_inlined inlining h) then fits else true)
+        ≡ list_all (λ n. nat_le n most_scratch) (map (λ a. scratch (target_at job inlining h a)) (option_map_or areas_of_tiles (if b then Some (grid_of job s) else None) []))
     by false = refl
     by true =
         ap (λ c. if not c then fits else true) stored
-        ∙ sym (list_all-map (λ n. nat_le n most_scratch) (λ a. scratch (target_at job flags h a)) (areas_of_tiles (grid_of job s)))
+        ∙ sym (list_all-map (λ n. nat_le n most_scratch) (λ a. scratch (target_at job inlining h a)) (areas_of_tiles (grid_of job s)))
 
 -- a stored stage has room where each of its tiles has (a plane has no tiles)
-pub room_is : (job : Pipeline) (flags : List Bool) (h : ℕ) → is_inlined flags h ≡ false → stage_fits job flags h (slice_get job.stages h) ≡ list_all (λ n. nat_le n most_scratch) (tile_scratch job flags h)
-room_is job flags h stored = room_by job flags h stored (slice_get job.stages h)
+pub room_is : (job : Pipeline) (inlining : List Bool) (h : ℕ) → is_inlined inlining h ≡ false → stage_fits job inlining h (slice_get job.stages h) ≡ list_all (λ n. nat_le n most_scratch) (tile_scratch job inlining h)
+room_is job inlining h stored = room_by job inlining h stored (slice_get job.stages h)
 
 -- each tile of a stage is a target
-pub areas_are_targets : (job : Pipeline) (flags : List Bool) (h : ℕ) → IsJob job → All (λ a. IsTarget (target_at job flags h a)) (areas_at job h)
-areas_are_targets job flags h is = by (slice_get job.stages h) refl
+pub areas_are_targets : (job : Pipeline) (inlining : List Bool) (h : ℕ) → IsJob job → All (λ a. IsTarget (target_at job inlining h a)) (areas_at job h)
+areas_are_targets job inlining h is = by (slice_get job.stages h) refl
   where
-    pick : (s : Stage) (b : Bool) → slice_get job.stages h ≡ Some s → All (λ a. IsTarget (target_at job flags h a)) (option_map_or areas_of_tiles (if b then Some (grid_of job s) else None) [])
-    pick s true there = tiles_are_targets job flags h s is there
-    pick s false there = All-nil (λ a. IsTarget (target_at job flags h a))
+    pick : (s : Stage) (b : Bool) → slice_get job.stages h ≡ Some s → All (λ a. IsTarget (target_at job inlining h a)) (option_map_or areas_of_tiles (if b then Some (grid_of job s) else None) [])
+    pick s true there = tiles_are_targets job inlining h s is there
+    pick s false there = All-nil (λ a. IsTarget (target_at job inlining h a))
 
-    from : (o : Option Stage) → slice_get job.stages h ≡ o → All (λ a. IsTarget (target_at job flags h a)) (option_map_or areas_of_tiles (stage_grid job o) [])
-    from None there = All-nil (λ a. IsTarget (target_at job flags h a))
+    from : (o : Option Stage) → slice_get job.stages h ≡ o → All (λ a. IsTarget (target_at job inlining h a)) (option_map_or areas_of_tiles (stage_grid job o) [])
+    from None there = All-nil (λ a. IsTarget (target_at job inlining h a))
     from (Some s) there = pick s (has_tiles s.body) there
 
-    by : (o : Option Stage) → slice_get job.stages h ≡ o → All (λ a. IsTarget (target_at job flags h a)) (areas_at job h)
-    by o there = subst (λ (x : Option Stage). All (λ a. IsTarget (target_at job flags h a)) (option_map_or areas_of_tiles (stage_grid job x) [])) (sym there) (from o there)
+    by : (o : Option Stage) → slice_get job.stages h ≡ o → All (λ a. IsTarget (target_at job inlining h a)) (areas_at job h)
+    by o there = subst (λ (x : Option Stage). All (λ a. IsTarget (target_at job inlining h a)) (option_map_or areas_of_tiles (stage_grid job x) [])) (sym there) (from o there)
 
 -- ---- where g has no box in h, neither the points of h nor its room change
 
@@ -262,22 +262,22 @@ none_sum : {X Y : Type 0} (p : Y → ℕ) (b : X → Y) (xs : List X) → ((x : 
 none_sum p b [] none = refl
 none_sum p b (x ∷ xs) none = sum_one p (b x) (map b xs) ∙ (λ i. none x i + none_sum p b xs none i)
 
-pub cost_stays : (job : Pipeline) (flags : List Bool) (g h : ℕ) → IsJob job → is_function job g ≡ true → nat_eq g h ≡ false → is_inlined flags g ≡ false → g < length flags → LiesBehind job flags g → is_inlined flags h ≡ false
-    → ((a : Area) → box (target_at job flags h a) g ≡ None) → points_of job (slice_set flags g true) h ≡ points_of job flags h
-cost_stays job flags g h is function other stored below behind home none =
-    let no_points = none_sum points_of_box (λ a. box (target_at job flags h a) g) (areas_at job h) (λ a. ap points_of_box (none a)) in
-    cost_grows job flags g h is function other stored below behind home ∙ and_none (points_of job flags h) (sum (map points_of_box (tile_boxes job flags h g))) no_points
+pub cost_stays : (job : Pipeline) (inlining : List Bool) (g h : ℕ) → IsJob job → is_function job g ≡ true → nat_eq g h ≡ false → is_inlined inlining g ≡ false → g < length inlining → LiesBehind job inlining g → is_inlined inlining h ≡ false
+    → ((a : Area) → box (target_at job inlining h a) g ≡ None) → points_of job (slice_set inlining g true) h ≡ points_of job inlining h
+cost_stays job inlining g h is function other stored below behind group none =
+    let no_points = none_sum points_of_box (λ a. box (target_at job inlining h a) g) (areas_at job h) (λ a. ap points_of_box (none a)) in
+    cost_grows job inlining g h is function other stored below behind group ∙ and_none (points_of job inlining h) (sum (map points_of_box (tile_boxes job inlining h g))) no_points
 
-pub scratch_stays : (job : Pipeline) (flags : List Bool) (g h : ℕ) → IsJob job → is_function job g ≡ true → nat_eq g h ≡ false → is_inlined flags g ≡ false → g < length flags → LiesBehind job flags g → is_inlined flags h ≡ false
-    → ((a : Area) → box (target_at job flags h a) g ≡ None) → tile_scratch job (slice_set flags g true) h ≡ tile_scratch job flags h
-scratch_stays job flags g h is function other stored below behind home none =
-    scratch_rises job flags g h is function other stored below behind home
-    ∙ map_same (λ a. scratch (target_at job flags h a) + points_of_box (box (target_at job flags h a) g)) (λ a. scratch (target_at job flags h a)) (areas_at job h)
-    (λ a. and_none (scratch (target_at job flags h a)) (points_of_box (box (target_at job flags h a) g)) (ap points_of_box (none a)))
+pub scratch_stays : (job : Pipeline) (inlining : List Bool) (g h : ℕ) → IsJob job → is_function job g ≡ true → nat_eq g h ≡ false → is_inlined inlining g ≡ false → g < length inlining → LiesBehind job inlining g → is_inlined inlining h ≡ false
+    → ((a : Area) → box (target_at job inlining h a) g ≡ None) → tile_scratch job (slice_set inlining g true) h ≡ tile_scratch job inlining h
+scratch_stays job inlining g h is function other stored below behind group none =
+    scratch_rises job inlining g h is function other stored below behind group
+    ∙ map_same (λ a. scratch (target_at job inlining h a) + points_of_box (box (target_at job inlining h a) g)) (λ a. scratch (target_at job inlining h a)) (areas_at job h)
+    (λ a. and_none (scratch (target_at job inlining h a)) (points_of_box (box (target_at job inlining h a) g)) (ap points_of_box (none a)))
 
-pub room_stays : (job : Pipeline) (flags : List Bool) (g h : ℕ) → IsJob job → is_function job g ≡ true → nat_eq g h ≡ false → is_inlined flags g ≡ false → g < length flags → LiesBehind job flags g → is_inlined flags h ≡ false
-    → ((a : Area) → box (target_at job flags h a) g ≡ None) → stage_fits job (slice_set flags g true) h (slice_get job.stages h) ≡ stage_fits job flags h (slice_get job.stages h)
-room_stays job flags g h is function other stored below behind home none =
-    room_is job (slice_set flags g true) h (other_flag flags g h (turned g h other) ∙ home)
-    ∙ ap (list_all (λ n. nat_le n most_scratch)) (scratch_stays job flags g h is function other stored below behind home none)
-    ∙ sym (room_is job flags h home)
+pub room_stays : (job : Pipeline) (inlining : List Bool) (g h : ℕ) → IsJob job → is_function job g ≡ true → nat_eq g h ≡ false → is_inlined inlining g ≡ false → g < length inlining → LiesBehind job inlining g → is_inlined inlining h ≡ false
+    → ((a : Area) → box (target_at job inlining h a) g ≡ None) → stage_fits job (slice_set inlining g true) h (slice_get job.stages h) ≡ stage_fits job inlining h (slice_get job.stages h)
+room_stays job inlining g h is function other stored below behind group none =
+    room_is job (slice_set inlining g true) h (other_flag inlining g h (turned g h other) ∙ group)
+    ∙ ap (list_all (λ n. nat_le n most_scratch)) (scratch_stays job inlining g h is function other stored below behind group none)
+    ∙ sym (room_is job inlining h group)

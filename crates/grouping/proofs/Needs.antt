@@ -12,15 +12,15 @@ use Rattle.domains.specs.declared.area.Area.{Area}
 use Rattle.domains.proofs.Areas.{common_is}
 use Rattle.domains.proofs.PairLists.{Contains-filter, Contains-range}
 use Rattle.job.specs.Formula.{Formula}
-use Rattle.job.specs.Pipeline.{Piece, Body, plane, function, accumulator, Stage, rank_of}
-use Rattle.job.specs.Reads.{Read, point, window, reads_in, EachTaken, EachRead, PieceReads, BodyReads, other_formula, formulas_of, IsRanked}
+use Rattle.job.specs.Pipeline.{JobCase, Body, plane, function, accumulator, Stage, rank_of}
+use Rattle.job.specs.Reads.{Read, point, window, reads_in, EachTaken, EachRead, CaseReads, BodyReads, other_formula, formulas_of, IsRanked}
 use Rattle.job.specs.WellFormed.{IsFormula, IsReadable, IsStage, IsJob}
 use Rattle.job.proofs.Agreeing.{All-left, All-right}
 use Rattle.job.proofs.Steps.{All-from_map, All-both}
 use Rattle.job.proofs.Solving.{ranked_is}
 use Rattle.grouping.specs.Order.{greatest_rank, with_rank, in_order, backward}
 use Rattle.grouping.specs.Schedules.{is_inlined}
-use Rattle.grouping.specs.Demands.{Demand, meet_of_box, read_demand, hull_of_all, formula_demands, demands_if, piece_demands, other_demands, body_demands, areas_of}
+use Rattle.grouping.specs.Demands.{Demand, meet_of_box, read_demand, hull_of_all, formula_demands, demands_if, case_demands, other_demands, body_demands, areas_of}
 use Rattle.grouping.specs.Targets.{Target, IsTarget, stage_demands, demands_by, all_demands_by, cut_to, box, region, IsInBox, HasWhatItReads}
 use Rattle.grouping.proofs.Areas.{if_some-is}
 use Rattle.grouping.proofs.Hulls.{InHull, Contains-flat_map, demand_in_hull, meet_holds}
@@ -95,18 +95,18 @@ module _ (t : Target) (a : Area) (r c : ℤ) where
       (All-from_map (IsCovered t) (read_demand b) (reads_in f) cover)
       (All-both IsRead (λ x. EachTaken Readable x r c) (λ x. IsRead x × EachTaken Readable x r c) (λ x one two. (one, two)) (reads_in f) (reads_are f is) taken)
 
-  piece_lies : (p : Piece) → HoldsPoint a r c → All (IsCovered t) (piece_demands a p) → IsFormula p.formula → PieceReads Readable p r c → PieceReads (IsInBox t) p r c
-  piece_lies p h cover is taken = λ b there inside.
+  case_lies : (p : JobCase) → HoldsPoint a r c → All (IsCovered t) (case_demands a p) → IsFormula p.formula → CaseReads Readable p r c → CaseReads (IsInBox t) p r c
+  case_lies p h cover is taken = λ b there inside.
       let meet = meet_holds b a r c inside h in
       let region : meet_of_box p.box a ≡ Some meet.hull = ap (λ o. meet_of_box o a) there ∙ meet.there in
       formula_lies meet.hull p.formula meet.holds (subst (λ (o : Option Area). All (IsCovered t) (demands_if p.formula o)) region cover) is (taken b there inside)
 
-  pieces_lie : (ps : List Piece) → HoldsPoint a r c → All (IsCovered t) (flat_map (piece_demands a) ps) → All IsFormula (map (λ p. p.formula) ps) → All (λ p. PieceReads Readable p r c) ps → All (λ p. PieceReads (IsInBox t) p r c) ps
-  pieces_lie [] h cover is taken = All-nil (λ p. PieceReads (IsInBox t) p r c)
-  pieces_lie (p ∷ ps) h cover is taken =
-      All-cons (λ p. PieceReads (IsInBox t) p r c) p ps
-      (piece_lies p h (All-left (IsCovered t) (piece_demands a p) (flat_map (piece_demands a) ps) cover) (All-head IsFormula p.formula (map (λ p. p.formula) ps) is) (All-head (λ p. PieceReads Readable p r c) p ps taken))
-      (pieces_lie ps h (All-right (IsCovered t) (piece_demands a p) (flat_map (piece_demands a) ps) cover) (All-tail IsFormula p.formula (map (λ p. p.formula) ps) is) (All-tail (λ p. PieceReads Readable p r c) p ps taken))
+  cases_lie : (ps : List JobCase) → HoldsPoint a r c → All (IsCovered t) (flat_map (case_demands a) ps) → All IsFormula (map (λ p. p.formula) ps) → All (λ p. CaseReads Readable p r c) ps → All (λ p. CaseReads (IsInBox t) p r c) ps
+  cases_lie [] h cover is taken = All-nil (λ p. CaseReads (IsInBox t) p r c)
+  cases_lie (p ∷ ps) h cover is taken =
+      All-cons (λ p. CaseReads (IsInBox t) p r c) p ps
+      (case_lies p h (All-left (IsCovered t) (case_demands a p) (flat_map (case_demands a) ps) cover) (All-head IsFormula p.formula (map (λ p. p.formula) ps) is) (All-head (λ p. CaseReads Readable p r c) p ps taken))
+      (cases_lie ps h (All-right (IsCovered t) (case_demands a p) (flat_map (case_demands a) ps) cover) (All-tail IsFormula p.formula (map (λ p. p.formula) ps) is) (All-tail (λ p. CaseReads Readable p r c) p ps taken))
 
   other_lies : (o : Option Formula) → HoldsPoint a r c → All (IsCovered t) (other_demands o a) → All IsFormula (other_formula o) → ForSome o (λ f. EachRead Readable f r c) → ForSome o (λ f. EachRead (IsInBox t) f r c)
   other_lies None h cover is taken = λ f there. absurd (cc)
@@ -114,9 +114,9 @@ module _ (t : Target) (a : Area) (r c : ℤ) where
 
   body_lies : (body : Body) → HoldsPoint a r c → All (IsCovered t) (body_demands body a) → All IsFormula (formulas_of body) → BodyReads Readable body r c → BodyReads (IsInBox t) body r c
   body_lies (plane n) h cover is taken = tt
-  body_lies (function pieces otherwise) h cover is taken = (
-    pieces_lie pieces h (All-left (IsCovered t) (flat_map (piece_demands a) pieces) (other_demands otherwise a) cover) (All-left IsFormula (map (λ p. p.formula) pieces) (other_formula otherwise) is) taken.0,
-    other_lies otherwise h (All-right (IsCovered t) (flat_map (piece_demands a) pieces) (other_demands otherwise a) cover) (All-right IsFormula (map (λ p. p.formula) pieces) (other_formula otherwise) is) taken.1,
+  body_lies (function cases otherwise) h cover is taken = (
+    cases_lie cases h (All-left (IsCovered t) (flat_map (case_demands a) cases) (other_demands otherwise a) cover) (All-left IsFormula (map (λ p. p.formula) cases) (other_formula otherwise) is) taken.0,
+    other_lies otherwise h (All-right (IsCovered t) (flat_map (case_demands a) cases) (other_demands otherwise a) cover) (All-right IsFormula (map (λ p. p.formula) cases) (other_formula otherwise) is) taken.1,
   )
   body_lies (accumulator fold bins value bin) h cover is taken = (
     formula_lies a value h (All-left (IsCovered t) (formula_demands value a) (formula_demands bin a) cover) (All-head IsFormula value (bin ∷ []) is) taken.0,
@@ -141,7 +141,7 @@ region_inside t g s a r c ranked target is there h = by (nat_eq g t.stage) refl 
     inlined o true e k = sym e ∙ k
     inlined o false e k = absurd (cc)
 
-    by : (b : Bool) → nat_eq g t.stage ≡ b → (if b then Some t.region else (if is_inlined t.flags g then box t g else None)) ≡ Some a → HoldsPoint s.domain r c
+    by : (b : Bool) → nat_eq g t.stage ≡ b → (if b then Some t.region else (if is_inlined t.inlining g then box t g else None)) ≡ Some a → HoldsPoint s.domain r c
     by true e k =
         let same : g ≡ t.stage = grind (arith, nat_tests) in
         let owner : Some target.owner ≡ Some s = sym target.there ∙ ap (slice_get t.job.stages) (sym same) ∙ is in
@@ -149,7 +149,7 @@ region_inside t g s a r c ranked target is there h = by (nat_eq g t.stage) refl 
         let whole : a ≡ t.region = cc in
         subst (λ (x : Stage). HoldsPoint x.domain r c) one (target.inside r c (subst (λ (x : Area). HoldsPoint x r c) whole h))
     by false e k =
-        cut_inside (slice_get t.job.stages g) s (hull_of_all (areas_of g (all_demands_by t (box t)))) a r c is (sym (box_follows t g ranked) ∙ inlined (box t g) (is_inlined t.flags g) refl k) h
+        cut_inside (slice_get t.job.stages g) s (hull_of_all (areas_of g (all_demands_by t (box t)))) a r c is (sym (box_follows t g ranked) ∙ inlined (box t g) (is_inlined t.inlining g) refl k) h
 
 demands_there : (t : Target) (g : ℕ) (s : Stage) (a : Area) → slice_get t.job.stages g ≡ Some s → region t g ≡ Some a → demands_by t (box t) g ≡ body_demands s.body a
 demands_there t g s a is there = ap (λ o. stage_demands o (region t g)) is ∙ ap (stage_demands (Some s)) there

@@ -11,8 +11,8 @@ use Rattle.job.specs.WellFormed.{IsJob}
 use Rattle.grouping.specs.Schedules.{is_inlined}
 use Rattle.grouping.specs.Costs.{scratch}
 use Rattle.grouping.specs.Targets.{Target, IsTarget, box, region}
-use Rattle.grouping.specs.Walks.{IsNearArea}
-use Rattle.grouping.specs.Greedy.{Choice, home, common_home}
+use Rattle.grouping.specs.Walks.{InDomainRanges}
+use Rattle.grouping.specs.Greedy.{Grouping, group, common_group}
 use Rattle.grouping.specs.Standings.{target_at, areas_at, tile_boxes, Stands, AllStand}
 use Rattle.grouping.specs.Trials.{box_at, scratch_at}
 use Rattle.grouping.specs.declared.standing.Standing.{Standing}
@@ -34,52 +34,52 @@ map_at f xs k x d is = get_or_from_slice_get (map f xs) k (f x) d (slice_get-map
 
 -- ---- what is kept of a tile
 
-region_kept : (job : Pipeline) (c : Choice) (h r place : ℕ) (a : Area) (s : Standing) → Stands job c r s → home c r ≡ h → nat_eq r h ≡ false → slice_get (areas_at job h) place ≡ Some a
-    → box_at (Some s) place ≡ region (target_at job c.flags h a) r
+region_kept : (job : Pipeline) (c : Grouping) (h r place : ℕ) (a : Area) (s : Standing) → Stands job c r s → group c r ≡ h → nat_eq r h ≡ false → slice_get (areas_at job h) place ≡ Some a
+    → box_at (Some s) place ≡ region (target_at job c.inlining h a) r
 region_kept job c h r place a (Stored n tiles) stands at other is = absurd (let own = stands.own in let same : r ≡ h = cc in grind (arith, nat_tests))
 region_kept job c h r place a (Inlined tiles) stands at other is =
-    let t : Target = target_at job c.flags h a in
-    let kept : tiles.items ≡ tile_boxes job c.flags h r = stands.boxes ∙ ap (λ k. tile_boxes job c.flags k r) at in
+    let t : Target = target_at job c.inlining h a in
+    let kept : tiles.items ≡ tile_boxes job c.inlining h r = stands.boxes ∙ ap (λ k. tile_boxes job c.inlining k r) at in
     ap (λ xs. slice_index_or xs place None) kept
-    ∙ map_at (λ b. box (target_at job c.flags h b) r) (areas_at job h) place a None is
+    ∙ map_at (λ b. box (target_at job c.inlining h b) r) (areas_at job h) place a None is
     ∙ sym (λ i. if other i then Some a else (if stands.inlined i then box t r else None))
 
 -- the box that is kept of a reader is its region in the tile
-pub kept_is_region : (job : Pipeline) (c : Choice) (standings : List Standing) (h r place : ℕ) (a : Area) → AllStand job c standings → r < length job.stages → home c r ≡ h → nat_eq r h ≡ false
-    → slice_get (areas_at job h) place ≡ Some a → box_at (slice_get standings r) place ≡ region (target_at job c.flags h a) r
+pub kept_is_region : (job : Pipeline) (c : Grouping) (standings : List Standing) (h r place : ℕ) (a : Area) → AllStand job c standings → r < length job.stages → group c r ≡ h → nat_eq r h ≡ false
+    → slice_get (areas_at job h) place ≡ Some a → box_at (slice_get standings r) place ≡ region (target_at job c.inlining h a) r
 kept_is_region job c standings h r place a stand there at other is =
     let found = standing_there standings r (length job.stages) stand.all there in
     ap (λ o. box_at o place) found.1 ∙ region_kept job c h r place a found.0 (stand.each r found.0 found.1) at other is
 
-near_if : (t : Target) (g : ℕ) (o : Option Area) → IsJob t.job → IsTarget t → o ≡ region t g → IfSome o IsNearArea
+near_if : (t : Target) (g : ℕ) (o : Option Area) → IsJob t.job → IsTarget t → o ≡ region t g → IfSome o InDomainRanges
 near_if t g None job target is = tt
 near_if t g (Some a) job target is = near_region t g a job target (sym is)
 
-pub kept_is_near : (t : Target) (g : ℕ) (o : Option Area) → IsJob t.job → IsTarget t → o ≡ region t g → IfSome o IsNearArea
+pub kept_is_near : (t : Target) (g : ℕ) (o : Option Area) → IsJob t.job → IsTarget t → o ≡ region t g → IfSome o InDomainRanges
 kept_is_near t g o job target is = near_if t g o job target is
 
-scratch_kept : (job : Pipeline) (c : Choice) (h place : ℕ) (a : Area) (s : Standing) → Stands job c h s → is_inlined c.flags h ≡ false → slice_get (areas_at job h) place ≡ Some a
-    → scratch_at (Some s) place ≡ scratch (target_at job c.flags h a)
+scratch_kept : (job : Pipeline) (c : Grouping) (h place : ℕ) (a : Area) (s : Standing) → Stands job c h s → is_inlined c.inlining h ≡ false → slice_get (areas_at job h) place ≡ Some a
+    → scratch_at (Some s) place ≡ scratch (target_at job c.inlining h a)
 scratch_kept job c h place a (Stored n tiles) stands stored is =
-    ap (λ xs. slice_index_or xs place 0) stands.in_scratch ∙ map_at (λ b. scratch (target_at job c.flags h b)) (areas_at job h) place a 0 is
+    ap (λ xs. slice_index_or xs place 0) stands.in_scratch ∙ map_at (λ b. scratch (target_at job c.inlining h b)) (areas_at job h) place a 0 is
 scratch_kept job c h place a (Inlined tiles) stands stored is = absurd (let inlined = stands.inlined in cc)
 
 -- the number that is kept of a stored stage's tile is what it has in scratch memory
-pub kept_is_scratch : (job : Pipeline) (c : Choice) (standings : List Standing) (h place : ℕ) (a : Area) → AllStand job c standings → h < length job.stages → is_inlined c.flags h ≡ false
-    → slice_get (areas_at job h) place ≡ Some a → scratch_at (slice_get standings h) place ≡ scratch (target_at job c.flags h a)
+pub kept_is_scratch : (job : Pipeline) (c : Grouping) (standings : List Standing) (h place : ℕ) (a : Area) → AllStand job c standings → h < length job.stages → is_inlined c.inlining h ≡ false
+    → slice_get (areas_at job h) place ≡ Some a → scratch_at (slice_get standings h) place ≡ scratch (target_at job c.inlining h a)
 kept_is_scratch job c standings h place a stand there stored is =
     let found = standing_there standings h (length job.stages) stand.all there in
     ap (λ o. scratch_at o place) found.1 ∙ scratch_kept job c h place a found.0 (stand.each h found.0 found.1) stored is
 
--- ---- homes
+-- ---- groups
 
 itself : (n : ℕ) → nat_eq n n ≡ true
 itself n = grind (arith, nat_tests)
 
 -- the first stage may be tested with the others
-pub common_is : (c : Choice) (rs : List ℕ) (r : ℕ) → slice_get rs 0 ≡ Some r → common_home c rs ≡ (if list_all (λ g. nat_eq (home c g) (home c r)) rs then Some (home c r) else None)
+pub common_is : (c : Grouping) (rs : List ℕ) (r : ℕ) → slice_get rs 0 ≡ Some r → common_group c rs ≡ (if list_all (λ g. nat_eq (group c g) (group c r)) rs then Some (group c r) else None)
 common_is c [] r first = absurd (cc)
 common_is c (x ∷ xs) r first =
     let same : x ≡ r = cc in
-    subst (λ (y : ℕ). common_home c (x ∷ xs) ≡ (if list_all (λ g. nat_eq (home c g) (home c y)) (x ∷ xs) then Some (home c y) else None)) same
-    (sym (ap (λ b. if b && list_all (λ g. nat_eq (home c g) (home c x)) xs then Some (home c x) else None) (itself (home c x))))
+    subst (λ (y : ℕ). common_group c (x ∷ xs) ≡ (if list_all (λ g. nat_eq (group c g) (group c y)) (x ∷ xs) then Some (group c y) else None)) same
+    (sym (ap (λ b. if b && list_all (λ g. nat_eq (group c g) (group c x)) xs then Some (group c x) else None) (itself (group c x))))

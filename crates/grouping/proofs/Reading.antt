@@ -17,8 +17,8 @@ use Rattle.grouping.specs.Order.{backward}
 use Rattle.grouping.specs.Schedules.{is_inlined}
 use Rattle.grouping.specs.Demands.{Demand, grown_by, hull_of_all, areas_of}
 use Rattle.grouping.specs.Targets.{Target, IsTarget, region_by, demands_by, cut_to, box, region}
-use Rattle.grouping.specs.Walks.{IsNearArea, demanded_all, cut_hull}
-use Rattle.grouping.specs.Greedy.{does_read, readers, Choice, home, common_home}
+use Rattle.grouping.specs.Walks.{InDomainRanges, demanded_all, cut_hull}
+use Rattle.grouping.specs.Greedy.{does_read, readers, Grouping, group, common_group}
 use Rattle.grouping.proofs.Areas.{near_subarea}
 use Rattle.grouping.proofs.Inside.{box_inside}
 use Rattle.grouping.proofs.Falling.{OfReads, none_of, of_stage}
@@ -111,46 +111,46 @@ readers_read job g = filter_passes (does_read job g) (backward job.stages)
 
 -- ---- boxes and regions lie near 0
 
-near_domain : (t : Target) (g : ℕ) (s : Stage) → IsJob t.job → slice_get t.job.stages g ≡ Some s → IsNearArea s.domain
+near_domain : (t : Target) (g : ℕ) (s : Stage) → IsJob t.job → slice_get t.job.stages g ≡ Some s → InDomainRanges s.domain
 near_domain t g s job is = let stage : IsStage t.job s = job.stages g s is in record { rows = stage.rows; cols = stage.cols }
 
-pub near_box : (t : Target) (g : ℕ) (s : Stage) (a : Area) → IsJob t.job → slice_get t.job.stages g ≡ Some s → box t g ≡ Some a → IsNearArea a
+pub near_box : (t : Target) (g : ℕ) (s : Stage) (a : Area) → IsJob t.job → slice_get t.job.stages g ≡ Some s → box t g ≡ Some a → InDomainRanges a
 near_box t g s a job is there = let inside = box_inside t g s a job is there in near_subarea a s.domain (near_domain t g s job is) inside.0 inside.1
 
 -- what has a box is there
-near_any_box : (t : Target) (g : ℕ) (a : Area) → IsJob t.job → box t g ≡ Some a → IsNearArea a
+near_any_box : (t : Target) (g : ℕ) (a : Area) → IsJob t.job → box t g ≡ Some a → InDomainRanges a
 near_any_box t g a job there = by (slice_get t.job.stages g) refl
   where
     hull : Option Area
     hull = hull_of_all (areas_of g (flat_map (demands_by t (box t)) (readers t.job g)))
 
-    by : (o : Option Stage) → slice_get t.job.stages g ≡ o → IsNearArea a
+    by : (o : Option Stage) → slice_get t.job.stages g ≡ o → InDomainRanges a
     by None is = let none : None ≡ Some a = sym (box_of_readers t g job ∙ ap (λ o. cut_to o hull) is) ∙ there in absurd (cc)
     by (Some s) is = near_box t g s a job is there
 
-pub near_region : (t : Target) (g : ℕ) (a : Area) → IsJob t.job → IsTarget t → region t g ≡ Some a → IsNearArea a
+pub near_region : (t : Target) (g : ℕ) (a : Area) → IsJob t.job → IsTarget t → region t g ≡ Some a → InDomainRanges a
 near_region t g a job target there = by (nat_eq g t.stage) there
   where
-    inlined : (b : Bool) → (if b then box t g else None) ≡ Some a → IsNearArea a
+    inlined : (b : Bool) → (if b then box t g else None) ≡ Some a → InDomainRanges a
     inlined true k = near_any_box t g a job k
     inlined false k = absurd (cc)
 
-    by : (b : Bool) → (if b then Some t.region else (if is_inlined t.flags g then box t g else None)) ≡ Some a → IsNearArea a
+    by : (b : Bool) → (if b then Some t.region else (if is_inlined t.inlining g then box t g else None)) ≡ Some a → InDomainRanges a
     by true k =
         let whole : t.region ≡ a = cc in
-        subst IsNearArea whole (near_subarea t.region target.owner.domain (near_domain t t.stage target.owner job target.there) target.area target.inside)
-    by false k = inlined (is_inlined t.flags g) k
+        subst InDomainRanges whole (near_subarea t.region target.owner.domain (near_domain t t.stage target.owner job target.there) target.area target.inside)
+    by false k = inlined (is_inlined t.inlining g) k
 
--- ---- homes
+-- ---- groups
 
--- stages with a common home have that home
-pub home_shared : (c : Choice) (rs : List ℕ) (h : ℕ) → common_home c rs ≡ Some h → All (λ r. home c r ≡ h) rs
-home_shared c [] h e = All-nil (λ r. home c r ≡ h)
-home_shared c (r ∷ rs) h e = by (list_all (λ q. nat_eq (home c q) (home c r)) rs) refl e
+-- stages with a common group have that group
+pub group_shared : (c : Grouping) (rs : List ℕ) (h : ℕ) → common_group c rs ≡ Some h → All (λ r. group c r ≡ h) rs
+group_shared c [] h e = All-nil (λ r. group c r ≡ h)
+group_shared c (r ∷ rs) h e = by (list_all (λ q. nat_eq (group c q) (group c r)) rs) refl e
   where
-    by : (b : Bool) → list_all (λ q. nat_eq (home c q) (home c r)) rs ≡ b → (if b then Some (home c r) else None) ≡ Some h → All (λ r. home c r ≡ h) (r ∷ rs)
+    by : (b : Bool) → list_all (λ q. nat_eq (group c q) (group c r)) rs ≡ b → (if b then Some (group c r) else None) ≡ Some h → All (λ r. group c r ≡ h) (r ∷ rs)
     by true same k =
-        let first : home c r ≡ h = cc in
-        All-cons (λ r. home c r ≡ h) r rs first
-        (All-weaker (λ q. nat_eq (home c q) (home c r) ≡ true) (λ r. home c r ≡ h) (λ q e. same_number (home c q) (home c r) e ∙ first) rs (AllPass-from_list_all (λ q. nat_eq (home c q) (home c r)) rs same))
+        let first : group c r ≡ h = cc in
+        All-cons (λ r. group c r ≡ h) r rs first
+        (All-weaker (λ q. nat_eq (group c q) (group c r) ≡ true) (λ r. group c r ≡ h) (λ q e. same_number (group c q) (group c r) e ∙ first) rs (AllPass-from_list_all (λ q. nat_eq (group c q) (group c r)) rs same))
     by false same k = absurd (cc)

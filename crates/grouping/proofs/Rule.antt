@@ -36,7 +36,7 @@ same_areas D E g (r ∷ rs) same =
 
 -- boxes count only for stages of greater rank
 same_region : (t : Target) (b c : ℕ → Option Area) (r : ℕ) → b r ≡ c r → region_by t b r ≡ region_by t c r
-same_region t b c r e = ap (λ o. if nat_eq r t.stage then Some t.region else (if is_inlined t.flags r then o else None)) e
+same_region t b c r e = ap (λ o. if nat_eq r t.stage then Some t.region else (if is_inlined t.inlining r then o else None)) e
 
 pub same_demands : (t : Target) (b c : ℕ → Option Area) (r : ℕ) → b r ≡ c r → demands_by t b r ≡ demands_by t c r
 same_demands t b c r e = ap (stage_demands (slice_get t.job.stages r)) (same_region t b c r e)

@@ -1,11 +1,11 @@
--- Flags that make a schedule.
+-- InlinedStages that make a schedule.
 use Rattle.std.proofs.Common.{ℕ, ◌+◌, ◌<◌, ◌≤◌, arith, ◌≡◌, ◌⊎◌, inl, inr, Bool, true, false, ◌&&◌, List, [], ◌∷◌, cond, filter, get_or, map, length, refl, ap, sym, subst, ◌∙◌}
 use Rattle.std.proofs.lemmas.Bool.{false≢true, and_parts, cases_lt}
 use Rattle.std.proofs.Math.ListN as lists
 use Rattle.std.proofs.lemmas.List.{length-map, get_or_past}
 use Rattle.std.proofs.lemmas.List.FromFn.{get_or-map-range_with_len, length-map-range_with_len}
 use Rattle.job.specs.Pipeline.{Stage, Pipeline}
-use Rattle.grouping.specs.Schedules.{is_inlined, is_function, IsSchedule, flags_for, all_stored}
+use Rattle.grouping.specs.Schedules.{is_inlined, is_function, IsSchedule, inlining_for, all_stored}
 use Rattle.std.proofs.lemmas.List.Elements.{All-map}
 use Rattle.domains.specs.Tiles.{tile_area, tiles_of}
 use Rattle.job.specs.Answers.{grid_of}
@@ -27,20 +27,20 @@ stored_is job =
     }
 
 -- only functions are inlined
-functions_alone : (job : Pipeline) (asked : List Bool) (g : ℕ) → is_inlined (flags_for job asked) g ≡ true → is_function job g ≡ true
+functions_alone : (job : Pipeline) (asked : List Bool) (g : ℕ) → is_inlined (inlining_for job asked) g ≡ true → is_function job g ≡ true
 functions_alone job asked g inlined = by (cases_lt g (length job.stages))
   where
     by : (g < length job.stages) ⊎ (length job.stages ≤ g) → is_function job g ≡ true
     by (inl below) =
         let f : ℕ → Bool = λ k. is_inlined asked k && is_function job k in
-        let at : is_inlined (flags_for job asked) g ≡ f g = get_or-map-range_with_len f 0 (length job.stages) g g false below (let e : 0 + g ≡ g = omega arith in e) in
+        let at : is_inlined (inlining_for job asked) g ≡ f g = get_or-map-range_with_len f 0 (length job.stages) g g false below (let e : 0 + g ≡ g = omega arith in e) in
         (and_parts (is_inlined asked g) (is_function job g) (sym at ∙ inlined)).1
     by (inr past) =
         let f : ℕ → Bool = λ k. is_inlined asked k && is_function job k in
-        let few : length (flags_for job asked) ≤ g = subst (λ (n : ℕ). n ≤ g) (sym (length-map-range_with_len f 0 (length job.stages))) past in
-        absurd (false≢true (sym (get_or_past (flags_for job asked) g false few) ∙ inlined))
+        let few : length (inlining_for job asked) ≤ g = subst (λ (n : ℕ). n ≤ g) (sym (length-map-range_with_len f 0 (length job.stages))) past in
+        absurd (false≢true (sym (get_or_past (inlining_for job asked) g false few) ∙ inlined))
 
-pub asked_is : (job : Pipeline) (asked : List Bool) → StoresOutputs job (flags_for job asked) → IsSchedule job (flags_for job asked)
+pub asked_is : (job : Pipeline) (asked : List Bool) → StoresOutputs job (inlining_for job asked) → IsSchedule job (inlining_for job asked)
 asked_is job asked inner =
     record {
       each = length-map-range_with_len (λ k. is_inlined asked k && is_function job k) 0 (length job.stages);
@@ -55,12 +55,12 @@ filter_none p [] h = refl
 filter_none p (x ∷ xs) h = ap (λ b. cond b (x ∷ filter p xs) (filter p xs)) (h x) ∙ filter_none p xs h
 
 -- where nothing is inlined nothing lies in scratch memory
-no_scratch : (t : Target) → ((g : ℕ) → is_inlined t.flags g ≡ false) → scratch t ≡ 0
-no_scratch t none = ap points_in (filter_none (λ s. is_inlined t.flags s.0) (boxes t) (λ s. none s.0))
+no_scratch : (t : Target) → ((g : ℕ) → is_inlined t.inlining g ≡ false) → scratch t ≡ 0
+no_scratch t none = ap points_in (filter_none (λ s. is_inlined t.inlining s.0) (boxes t) (λ s. none s.0))
 
 pub stored_fits : (job : Pipeline) → AllFitScratch job (all_stored job)
 stored_fits job g s there has =
-    let make : ℕ × ℕ → Target = λ x. record { job = job; flags = all_stored job; stage = g; region = tile_area (grid_of job s) x.0 x.1 } in
+    let make : ℕ × ℕ → Target = λ x. record { job = job; inlining = all_stored job; stage = g; region = tile_area (grid_of job s) x.0 x.1 } in
     All-map (λ t. scratch t ≤ most_scratch) make (tiles_of (grid_of job s))
     (λ k d below. let e : scratch (make (get_or (tiles_of (grid_of job s)) k d)) ≡ 0 = no_scratch (make (get_or (tiles_of (grid_of job s)) k d)) (none_inlined job.stages) in
     subst (λ (n : ℕ). n ≤ most_scratch) (sym e) (omega arith))

@@ -15,14 +15,14 @@ use Rattle.job.proofs.TotalLaws.{map_same}
 use Rattle.grouping.specs.Schedules.{is_inlined, is_function}
 use Rattle.grouping.specs.Targets.{Target, box, region}
 use Rattle.grouping.specs.Costs.{scratch, most_scratch}
-use Rattle.grouping.specs.Greedy.{does_read, readers, Choice, home, common_home, with_inlined, points_of, pays, has_room}
+use Rattle.grouping.specs.Greedy.{does_read, readers, Grouping, group, common_group, with_inlined, points_of, pays, has_room}
 use Rattle.grouping.specs.Standings.{target_at, areas_at, tile_boxes, StandsStored, StandsInlined, Stands, AllStand, LiesBehind}
 use Rattle.grouping.specs.Trials.{points_of_box, points_at}
 use Rattle.grouping.specs.declared.standing.Standing.{Standing}
 use Rattle.grouping.specs.declared.standing.Standing.TheVariants.{Stored, Inlined}
 use Rattle.grouping.proofs.Lists.{not_eq_from}
 use Rattle.grouping.proofs.Keeping.{other_flag, le_self, le_lt, box_stays, cost_grows, scratch_rises, room_is, cost_stays, scratch_stays, room_stays}
-use Rattle.grouping.proofs.Reading.{no_box, reader_is_behind, readers_read, home_shared}
+use Rattle.grouping.proofs.Reading.{no_box, reader_is_behind, readers_read, group_shared}
 
 -- ---- the standing of a stage
 
@@ -35,7 +35,7 @@ beyond stages n r low = by (slice_get stages r) refl low
     by (Some s) e k = slice_get_within stages r s e
 
 -- what follows for stored stages and for inlined ones follows for each that is there
-with_standing : (P : Type 0) (job : Pipeline) (c : Choice) (standings : List Standing) (r : ℕ) → AllStand job c standings → r < length job.stages
+with_standing : (P : Type 0) (job : Pipeline) (c : Grouping) (standings : List Standing) (r : ℕ) → AllStand job c standings → r < length job.stages
     → ((n : ℕ) (tiles : List ℕ) → StandsStored job c r n tiles → P) → ((boxes : List (Option Area)) → StandsInlined job c r boxes → P) → P
 with_standing P job c standings r stand there stored inlined = by (slice_get_cases standings r).1
   where
@@ -47,47 +47,47 @@ with_standing P job c standings r stand there stored inlined = by (slice_get_cas
     by (inl (s, below, is, same)) = from s (stand.each r s is)
     by (inr (past, none)) = let all = stand.all in absurd (omega (arith, past, there, all))
 
--- ---- the home of a function's readers
+-- ---- the group of a function's readers
 
-abbrev IsHome : Pipeline → Choice → ℕ → ℕ → Type 0
-IsHome job c g h = (is_inlined c.flags h ≡ false) × (rank_of job.stages g < rank_of job.stages h) × (h < length job.stages)
+abbrev IsGroup : Pipeline → Grouping → ℕ → ℕ → Type 0
+IsGroup job c g h = (is_inlined c.inlining h ≡ false) × (rank_of job.stages g < rank_of job.stages h) × (h < length job.stages)
 
 lt_lt : (a b c : ℕ) → a < b → b < c → a < c
 lt_lt a b c low high = omega arith
 
-home_of_reader : (job : Pipeline) (c : Choice) (standings : List Standing) (g r : ℕ) → AllStand job c standings → rank_of job.stages g < rank_of job.stages r → IsHome job c g (home c r)
-home_of_reader job c standings g r stand low = with_standing (IsHome job c g (home c r)) job c standings r stand there stored inlined
+group_of_reader : (job : Pipeline) (c : Grouping) (standings : List Standing) (g r : ℕ) → AllStand job c standings → rank_of job.stages g < rank_of job.stages r → IsGroup job c g (group c r)
+group_of_reader job c standings g r stand low = with_standing (IsGroup job c g (group c r)) job c standings r stand there stored inlined
   where
     there : r < length job.stages
     there = beyond job.stages (rank_of job.stages g) r low
 
-    stored : (n : ℕ) (tiles : List ℕ) → StandsStored job c r n tiles → IsHome job c g (home c r)
-    stored n tiles s = subst (IsHome job c g) (sym s.own) (s.stored, low, there)
+    stored : (n : ℕ) (tiles : List ℕ) → StandsStored job c r n tiles → IsGroup job c g (group c r)
+    stored n tiles s = subst (IsGroup job c g) (sym s.own) (s.stored, low, there)
 
-    inlined : (boxes : List (Option Area)) → StandsInlined job c r boxes → IsHome job c g (home c r)
+    inlined : (boxes : List (Option Area)) → StandsInlined job c r boxes → IsGroup job c g (group c r)
     inlined boxes s =
-        let high = lt_lt (rank_of job.stages g) (rank_of job.stages r) (rank_of job.stages (home c r)) low s.before in
-        (s.at_home, high, beyond job.stages (rank_of job.stages g) (home c r) high)
+        let high = lt_lt (rank_of job.stages g) (rank_of job.stages r) (rank_of job.stages (group c r)) low s.before in
+        (s.at_group, high, beyond job.stages (rank_of job.stages g) (group c r) high)
 
-home_of_readers : (job : Pipeline) (c : Choice) (standings : List Standing) (g h : ℕ) (rs : List ℕ) → IsJob job → AllStand job c standings → All (λ r. does_read job g r ≡ true) rs → common_home c rs ≡ Some h → IsHome job c g h
-home_of_readers job c standings g h [] is stand read shared = absurd (cc)
-home_of_readers job c standings g h (r ∷ rs) is stand read shared =
+group_of_readers : (job : Pipeline) (c : Grouping) (standings : List Standing) (g h : ℕ) (rs : List ℕ) → IsJob job → AllStand job c standings → All (λ r. does_read job g r ≡ true) rs → common_group c rs ≡ Some h → IsGroup job c g h
+group_of_readers job c standings g h [] is stand read shared = absurd (cc)
+group_of_readers job c standings g h (r ∷ rs) is stand read shared =
     let behind = reader_is_behind job g r is (All-head (λ r. does_read job g r ≡ true) r rs read) in
-    subst (IsHome job c g) (All-head (λ r. home c r ≡ h) r rs (home_shared c (r ∷ rs) h shared)) (home_of_reader job c standings g r stand behind)
+    subst (IsGroup job c g) (All-head (λ r. group c r ≡ h) r rs (group_shared c (r ∷ rs) h shared)) (group_of_reader job c standings g r stand behind)
 
--- the one home of a function's readers is stored, is there, and has a greater rank
-pub home_is : (job : Pipeline) (c : Choice) (standings : List Standing) (g h : ℕ) → IsJob job → AllStand job c standings → common_home c (readers job g) ≡ Some h
-    → (is_inlined c.flags h ≡ false) × (rank_of job.stages g < rank_of job.stages h) × (h < length job.stages)
-home_is job c standings g h is stand shared = home_of_readers job c standings g h (readers job g) is stand (readers_read job g) shared
+-- the one group of a function's readers is stored, is there, and has a greater rank
+pub group_is : (job : Pipeline) (c : Grouping) (standings : List Standing) (g h : ℕ) → IsJob job → AllStand job c standings → common_group c (readers job g) ≡ Some h
+    → (is_inlined c.inlining h ≡ false) × (rank_of job.stages g < rank_of job.stages h) × (h < length job.stages)
+group_is job c standings g h is stand shared = group_of_readers job c standings g h (readers job g) is stand (readers_read job g) shared
 
 -- ---- elsewhere the function has no box
 
-out_of : (job : Pipeline) (c : Choice) (standings : List Standing) (g r k : ℕ) (a : Area) → AllStand job c standings → rank_of job.stages g < rank_of job.stages r
-    → is_inlined c.flags k ≡ false → k ≢ home c r → region (target_at job c.flags k a) r ≡ None
+out_of : (job : Pipeline) (c : Grouping) (standings : List Standing) (g r k : ℕ) (a : Area) → AllStand job c standings → rank_of job.stages g < rank_of job.stages r
+    → is_inlined c.inlining k ≡ false → k ≢ group c r → region (target_at job c.inlining k a) r ≡ None
 out_of job c standings g r k a stand low off apart = with_standing (region t r ≡ None) job c standings r stand (beyond job.stages (rank_of job.stages g) r low) stored inlined
   where
     t : Target
-    t = target_at job c.flags k a
+    t = target_at job c.inlining k a
 
     stored : (n : ℕ) (tiles : List ℕ) → StandsStored job c r n tiles → region t r ≡ None
     stored n tiles s =
@@ -96,35 +96,35 @@ out_of job c standings g r k a stand low off apart = with_standing (region t r �
 
     inlined : (boxes : List (Option Area)) → StandsInlined job c r boxes → region t r ≡ None
     inlined boxes s =
-        let other : nat_eq r k ≡ false = not_eq_from r r k refl (λ e. false≢true (sym off ∙ ap (is_inlined c.flags) (sym e) ∙ s.inlined)) in
+        let other : nat_eq r k ≡ false = not_eq_from r r k refl (λ e. false≢true (sym off ∙ ap (is_inlined c.inlining) (sym e) ∙ s.inlined)) in
         (λ i. if other i then Some a else (if s.inlined i then s.elsewhere k a off apart i else None))
 
-out_of_all : (job : Pipeline) (c : Choice) (standings : List Standing) (g h k : ℕ) (a : Area) (rs : List ℕ) → IsJob job → AllStand job c standings → is_inlined c.flags k ≡ false → k ≢ h
-    → All (λ r. does_read job g r ≡ true) rs → All (λ r. home c r ≡ h) rs → All (λ r. region (target_at job c.flags k a) r ≡ None) rs
-out_of_all job c standings g h k a [] is stand off apart read shared = All-nil (λ r. region (target_at job c.flags k a) r ≡ None)
+out_of_all : (job : Pipeline) (c : Grouping) (standings : List Standing) (g h k : ℕ) (a : Area) (rs : List ℕ) → IsJob job → AllStand job c standings → is_inlined c.inlining k ≡ false → k ≢ h
+    → All (λ r. does_read job g r ≡ true) rs → All (λ r. group c r ≡ h) rs → All (λ r. region (target_at job c.inlining k a) r ≡ None) rs
+out_of_all job c standings g h k a [] is stand off apart read shared = All-nil (λ r. region (target_at job c.inlining k a) r ≡ None)
 out_of_all job c standings g h k a (r ∷ rs) is stand off apart read shared =
     let behind = reader_is_behind job g r is (All-head (λ r. does_read job g r ≡ true) r rs read) in
-    let here = All-head (λ r. home c r ≡ h) r rs shared in
-    All-cons (λ r. region (target_at job c.flags k a) r ≡ None) r rs (out_of job c standings g r k a stand behind off (λ e. apart (e ∙ here)))
-    (out_of_all job c standings g h k a rs is stand off apart (All-tail (λ r. does_read job g r ≡ true) r rs read) (All-tail (λ r. home c r ≡ h) r rs shared))
+    let here = All-head (λ r. group c r ≡ h) r rs shared in
+    All-cons (λ r. region (target_at job c.inlining k a) r ≡ None) r rs (out_of job c standings g r k a stand behind off (λ e. apart (e ∙ here)))
+    (out_of_all job c standings g h k a rs is stand off apart (All-tail (λ r. does_read job g r ≡ true) r rs read) (All-tail (λ r. group c r ≡ h) r rs shared))
 
--- a function has no box in the tiles of stored stages other than the one home of its readers
-pub none_elsewhere : (job : Pipeline) (c : Choice) (standings : List Standing) (g h : ℕ) → IsJob job → AllStand job c standings → common_home c (readers job g) ≡ Some h
-    → (k : ℕ) (a : Area) → is_inlined c.flags k ≡ false → (k ≡ h → ⊥) → box (target_at job c.flags k a) g ≡ None
+-- a function has no box in the tiles of stored stages other than the one group of its readers
+pub none_elsewhere : (job : Pipeline) (c : Grouping) (standings : List Standing) (g h : ℕ) → IsJob job → AllStand job c standings → common_group c (readers job g) ≡ Some h
+    → (k : ℕ) (a : Area) → is_inlined c.inlining k ≡ false → (k ≡ h → ⊥) → box (target_at job c.inlining k a) g ≡ None
 none_elsewhere job c standings g h is stand shared k a off apart =
-    no_box (target_at job c.flags k a) g is (out_of_all job c standings g h k a (readers job g) is stand off apart (readers_read job g) (home_shared c (readers job g) h shared))
+    no_box (target_at job c.inlining k a) g is (out_of_all job c standings g h k a (readers job g) is stand off apart (readers_read job g) (group_shared c (readers job g) h shared))
 
 -- ---- one function more
 
--- a stored function g, with the functions inlined so far behind it, whose readers have the one home h
-pub record IsStep (job : Pipeline) (c : Choice) (standings : List Standing) (g h : ℕ) : Type 0 where
+-- a stored function g, with the functions inlined so far behind it, whose readers have the one group h
+pub record IsStep (job : Pipeline) (c : Grouping) (standings : List Standing) (g h : ℕ) : Type 0 where
   pub valid : IsJob job
   pub stand : AllStand job c standings
   pub there : g < length job.stages
   pub function : is_function job g ≡ true
-  pub stored : is_inlined c.flags g ≡ false
-  pub behind : LiesBehind job c.flags g
-  pub shared : common_home c (readers job g) ≡ Some h
+  pub stored : is_inlined c.inlining g ≡ false
+  pub behind : LiesBehind job c.inlining g
+  pub shared : common_group c (readers job g) ≡ Some h
 
 pub ranks_differ : (stages : List Stage) (g h : ℕ) → rank_of stages g < rank_of stages h → h ≢ g
 ranks_differ stages g h low e = let same : rank_of stages h ≡ rank_of stages g = ap (rank_of stages) e in absurd (omega arith)
@@ -148,87 +148,87 @@ set_twice {X} xs g h x s s' y below below' is = second (cases_eq x h)
         inl (e, some_same s' y (sym last ∙ ap (slice_get (slice_set (slice_set xs g s) h s')) (sym e) ∙ is))
     second (inr apart) = first apart (sym (slice_get-set_other (slice_set xs g s) h x s' apart) ∙ is) (cases_eq x g)
 
-module _ {job : Pipeline} {c : Choice} {standings : List Standing} {g h : ℕ} (step : IsStep job c standings g h) where
-  step_home : IsHome job c g h
-  step_home = home_is job c standings g h step.valid step.stand step.shared
+module _ {job : Pipeline} {c : Grouping} {standings : List Standing} {g h : ℕ} (step : IsStep job c standings g h) where
+  step_group : IsGroup job c g h
+  step_group = group_is job c standings g h step.valid step.stand step.shared
 
-  home_differs : h ≢ g
-  home_differs = ranks_differ job.stages g h step_home.1
+  group_differs : h ≢ g
+  group_differs = ranks_differ job.stages g h step_group.1
 
   -- g and h as the lemmas on what grows compare them
   other_stage : nat_eq g h ≡ false
-  other_stage = not_eq_from g g h refl (λ e. home_differs (sym e))
+  other_stage = not_eq_from g g h refl (λ e. group_differs (sym e))
 
-  flag_there : g < length c.flags
-  flag_there = let same = step.stand.flags in let there = step.there in omega arith
+  flag_there : g < length c.inlining
+  flag_there = let same = step.stand.inlining in let there = step.there in omega arith
 
-  home_there : g < length c.homes
-  home_there = let same = step.stand.homes in let there = step.there in omega arith
+  group_there : g < length c.groups
+  group_there = let same = step.stand.groups in let there = step.there in omega arith
 
-  -- ---- flags, homes and boxes afterwards
+  -- ---- inlining, groups and boxes afterwards
 
-  flag_stays : (x : ℕ) → x ≢ g → is_inlined (slice_set c.flags g true) x ≡ is_inlined c.flags x
-  flag_stays x other = other_flag c.flags g x (not_eq_from x x g refl other)
+  flag_stays : (x : ℕ) → x ≢ g → is_inlined (slice_set c.inlining g true) x ≡ is_inlined c.inlining x
+  flag_stays x other = other_flag c.inlining g x (not_eq_from x x g refl other)
 
-  flag_is_set : is_inlined (slice_set c.flags g true) g ≡ true
-  flag_is_set = get_or-set_same c.flags g true false flag_there
+  flag_is_set : is_inlined (slice_set c.inlining g true) g ≡ true
+  flag_is_set = get_or-set_same c.inlining g true false flag_there
 
-  new_home : home (with_inlined c g h) g ≡ h
-  new_home = get_or-set_same c.homes g h g home_there
+  new_group : group (with_inlined c g h) g ≡ h
+  new_group = get_or-set_same c.groups g h g group_there
 
-  home_stays : (x : ℕ) → x ≢ g → home (with_inlined c g h) x ≡ home c x
-  home_stays x other = get_or-set_other c.homes g x h x other
+  group_stays : (x : ℕ) → x ≢ g → group (with_inlined c g h) x ≡ group c x
+  group_stays x other = get_or-set_other c.groups g x h x other
 
-  stored_differs : (k : ℕ) → is_inlined (slice_set c.flags g true) k ≡ false → k ≢ g
-  stored_differs k off e = false≢true (sym off ∙ ap (is_inlined (slice_set c.flags g true)) e ∙ flag_is_set)
+  stored_differs : (k : ℕ) → is_inlined (slice_set c.inlining g true) k ≡ false → k ≢ g
+  stored_differs k off e = false≢true (sym off ∙ ap (is_inlined (slice_set c.inlining g true)) e ∙ flag_is_set)
 
-  boxes_stay : (k x : ℕ) → rank_of job.stages g ≤ rank_of job.stages x → tile_boxes job (slice_set c.flags g true) k x ≡ tile_boxes job c.flags k x
+  boxes_stay : (k x : ℕ) → rank_of job.stages g ≤ rank_of job.stages x → tile_boxes job (slice_set c.inlining g true) k x ≡ tile_boxes job c.inlining k x
   boxes_stay k x low =
-      map_same (λ a. box (target_at job (slice_set c.flags g true) k a) x) (λ a. box (target_at job c.flags k a) x) (areas_at job k)
-      (λ a. box_stays (target_at job c.flags k a) g x step.valid low)
+      map_same (λ a. box (target_at job (slice_set c.inlining g true) k a) x) (λ a. box (target_at job c.inlining k a) x) (areas_at job k)
+      (λ a. box_stays (target_at job c.inlining k a) g x step.valid low)
 
   -- a stage has no box where it had none
-  still_elsewhere : (x z : ℕ) → rank_of job.stages g ≤ rank_of job.stages x → ((k : ℕ) (a : Area) → is_inlined c.flags k ≡ false → (k ≡ z → ⊥) → box (target_at job c.flags k a) x ≡ None)
-      → (k : ℕ) (a : Area) → is_inlined (slice_set c.flags g true) k ≡ false → (k ≡ z → ⊥) → box (target_at job (slice_set c.flags g true) k a) x ≡ None
+  still_elsewhere : (x z : ℕ) → rank_of job.stages g ≤ rank_of job.stages x → ((k : ℕ) (a : Area) → is_inlined c.inlining k ≡ false → (k ≡ z → ⊥) → box (target_at job c.inlining k a) x ≡ None)
+      → (k : ℕ) (a : Area) → is_inlined (slice_set c.inlining g true) k ≡ false → (k ≡ z → ⊥) → box (target_at job (slice_set c.inlining g true) k a) x ≡ None
   still_elsewhere x z low none k a off apart =
-      box_stays (target_at job c.flags k a) g x step.valid low ∙ none k a (sym (flag_stays k (stored_differs k off)) ∙ off) apart
+      box_stays (target_at job c.inlining k a) g x step.valid low ∙ none k a (sym (flag_stays k (stored_differs k off)) ∙ off) apart
 
-  -- an inlined stage stands so with its home z
-  inlined_by : (x z : ℕ) (boxes : List (Option Area)) → rank_of job.stages g ≤ rank_of job.stages x → z ≢ g → home (with_inlined c g h) x ≡ z → is_inlined (slice_set c.flags g true) x ≡ true → is_inlined c.flags z ≡ false
-      → rank_of job.stages x < rank_of job.stages z → boxes ≡ tile_boxes job c.flags z x
-      → ((k : ℕ) (a : Area) → is_inlined c.flags k ≡ false → (k ≡ z → ⊥) → box (target_at job c.flags k a) x ≡ None)
+  -- an inlined stage stands so with its group z
+  inlined_by : (x z : ℕ) (boxes : List (Option Area)) → rank_of job.stages g ≤ rank_of job.stages x → z ≢ g → group (with_inlined c g h) x ≡ z → is_inlined (slice_set c.inlining g true) x ≡ true → is_inlined c.inlining z ≡ false
+      → rank_of job.stages x < rank_of job.stages z → boxes ≡ tile_boxes job c.inlining z x
+      → ((k : ℕ) (a : Area) → is_inlined c.inlining k ≡ false → (k ≡ z → ⊥) → box (target_at job c.inlining k a) x ≡ None)
       → StandsInlined job (with_inlined c g h) x boxes
   inlined_by x z boxes low other same on off before are none = record {
     inlined = on;
-    at_home = ap (is_inlined (slice_set c.flags g true)) same ∙ flag_stays z other ∙ off;
+    at_group = ap (is_inlined (slice_set c.inlining g true)) same ∙ flag_stays z other ∙ off;
     before = subst (λ y. rank_of job.stages x < rank_of job.stages y) (sym same) before;
-    boxes = are ∙ sym (boxes_stay z x low) ∙ ap (λ y. tile_boxes job (slice_set c.flags g true) y x) (sym same);
+    boxes = are ∙ sym (boxes_stay z x low) ∙ ap (λ y. tile_boxes job (slice_set c.inlining g true) y x) (sym same);
     elsewhere = λ k a stored apart. still_elsewhere x z low none k a stored (λ e. apart (e ∙ sym same));
   }
 
-  -- ---- the function and its home
+  -- ---- the function and its group
 
   -- with its boxes in the tiles of h, g stands inlined
-  pub function_stands : (boxes : List (Option Area)) → boxes ≡ tile_boxes job c.flags h g → StandsInlined job (with_inlined c g h) g boxes
+  pub function_stands : (boxes : List (Option Area)) → boxes ≡ tile_boxes job c.inlining h g → StandsInlined job (with_inlined c g h) g boxes
   function_stands boxes are =
-      inlined_by g h boxes (le_self (rank_of job.stages g)) home_differs new_home flag_is_set step_home.0 step_home.1 are (none_elsewhere job c standings g h step.valid step.stand step.shared)
+      inlined_by g h boxes (le_self (rank_of job.stages g)) group_differs new_group flag_is_set step_group.0 step_group.1 are (none_elsewhere job c standings g h step.valid step.stand step.shared)
 
-  home_is_own : home c h ≡ h
-  home_is_own = with_standing (home c h ≡ h) job c standings h step.stand step_home.2 (λ n tiles s. s.own) (λ boxes s. absurd (false≢true (sym step_home.0 ∙ s.inlined)))
+  group_is_own : group c h ≡ h
+  group_is_own = with_standing (group c h ≡ h) job c standings h step.stand step_group.2 (λ n tiles s. s.own) (λ boxes s. absurd (false≢true (sym step_group.0 ∙ s.inlined)))
 
   -- with the points of those boxes added, h stands stored
-  pub home_stands : (n : ℕ) (tiles : List ℕ) → n ≡ points_of job c.flags h + sum (map points_of_box (tile_boxes job c.flags h g))
-      → tiles ≡ map (λ a. scratch (target_at job c.flags h a) + points_of_box (box (target_at job c.flags h a) g)) (areas_at job h)
+  pub group_stands : (n : ℕ) (tiles : List ℕ) → n ≡ points_of job c.inlining h + sum (map points_of_box (tile_boxes job c.inlining h g))
+      → tiles ≡ map (λ a. scratch (target_at job c.inlining h a) + points_of_box (box (target_at job c.inlining h a) g)) (areas_at job h)
       → list_all (λ n. nat_le n most_scratch) tiles ≡ true → StandsStored job (with_inlined c g h) h n tiles
-  home_stands n tiles points scratches room =
-      let off : is_inlined (slice_set c.flags g true) h ≡ false = flag_stays h home_differs ∙ step_home.0 in
-      let rises = scratch_rises job c.flags g h step.valid step.function other_stage step.stored flag_there step.behind step_home.0 in
+  group_stands n tiles points scratches room =
+      let off : is_inlined (slice_set c.inlining g true) h ≡ false = flag_stays h group_differs ∙ step_group.0 in
+      let rises = scratch_rises job c.inlining g h step.valid step.function other_stage step.stored flag_there step.behind step_group.0 in
       record {
         stored = off;
-        own = home_stays h home_differs ∙ home_is_own;
-        costs = points ∙ sym (cost_grows job c.flags g h step.valid step.function other_stage step.stored flag_there step.behind step_home.0);
+        own = group_stays h group_differs ∙ group_is_own;
+        costs = points ∙ sym (cost_grows job c.inlining g h step.valid step.function other_stage step.stored flag_there step.behind step_group.0);
         in_scratch = scratches ∙ sym rises;
-        room = room_is job (slice_set c.flags g true) h off ∙ ap (list_all (λ n. nat_le n most_scratch)) (rises ∙ sym scratches) ∙ room;
+        room = room_is job (slice_set c.inlining g true) h off ∙ ap (list_all (λ n. nat_le n most_scratch)) (rises ∙ sym scratches) ∙ room;
       }
 
   -- ---- all other stages
@@ -239,17 +239,17 @@ module _ {job : Pipeline} {c : Choice} {standings : List Standing} {g h : ℕ} (
       let none = λ (a : Area). none_elsewhere job c standings g h step.valid step.stand step.shared x a s.stored apart in
       record {
         stored = flag_stays x other ∙ s.stored;
-        own = home_stays x other ∙ s.own;
-        costs = s.costs ∙ sym (cost_stays job c.flags g x step.valid step.function differ step.stored flag_there step.behind s.stored none);
-        in_scratch = s.in_scratch ∙ sym (scratch_stays job c.flags g x step.valid step.function differ step.stored flag_there step.behind s.stored none);
-        room = room_stays job c.flags g x step.valid step.function differ step.stored flag_there step.behind s.stored none ∙ s.room;
+        own = group_stays x other ∙ s.own;
+        costs = s.costs ∙ sym (cost_stays job c.inlining g x step.valid step.function differ step.stored flag_there step.behind s.stored none);
+        in_scratch = s.in_scratch ∙ sym (scratch_stays job c.inlining g x step.valid step.function differ step.stored flag_there step.behind s.stored none);
+        room = room_stays job c.inlining g x step.valid step.function differ step.stored flag_there step.behind s.stored none ∙ s.room;
       }
 
   other_inlined : (x : ℕ) (boxes : List (Option Area)) → x ≢ g → StandsInlined job c x boxes → StandsInlined job (with_inlined c g h) x boxes
   other_inlined x boxes other s =
       let low = step.behind x s.inlined in
-      let high = le_lt (rank_of job.stages g) (rank_of job.stages x) (rank_of job.stages (home c x)) low s.before in
-      inlined_by x (home c x) boxes low (ranks_differ job.stages g (home c x) high) (home_stays x other) (flag_stays x other ∙ s.inlined) s.at_home s.before s.boxes s.elsewhere
+      let high = le_lt (rank_of job.stages g) (rank_of job.stages x) (rank_of job.stages (group c x)) low s.before in
+      inlined_by x (group c x) boxes low (ranks_differ job.stages g (group c x) high) (group_stays x other) (flag_stays x other ∙ s.inlined) s.at_group s.before s.boxes s.elsewhere
 
   other_stands : (x : ℕ) (y : Standing) → x ≢ g → x ≢ h → Stands job c x y → Stands job (with_inlined c g h) x y
   other_stands x (Stored n tiles) other apart k = other_stored x n tiles.items other apart k
@@ -258,7 +258,7 @@ module _ {job : Pipeline} {c : Choice} {standings : List Standing} {g h : ℕ} (
   each_stands : (s s' : Standing) → Stands job (with_inlined c g h) g s → Stands job (with_inlined c g h) h s'
       → (x : ℕ) (y : Standing) → slice_get (slice_set (slice_set standings g s) h s') x ≡ Some y → Stands job (with_inlined c g h) x y
   each_stands s s' here there x y is =
-      by (set_twice standings g h x s s' y (let all = step.stand.all in let there = step.there in omega arith) (let all = step.stand.all in let there = step_home.2 in omega arith) is)
+      by (set_twice standings g h x s s' y (let all = step.stand.all in let there = step.there in omega arith) (let all = step.stand.all in let there = step_group.2 in omega arith) is)
     where
       by : ((x ≡ h) × (s' ≡ y)) ⊎ (((x ≡ g) × (s ≡ y)) ⊎ ((x ≢ h) × (x ≢ g) × (slice_get standings x ≡ Some y))) → Stands job (with_inlined c g h) x y
       by (inl (e, same)) = subst (λ z. Stands job (with_inlined c g h) z y) (sym e) (subst (Stands job (with_inlined c g h) h) same there)
@@ -268,8 +268,8 @@ module _ {job : Pipeline} {c : Choice} {standings : List Standing} {g h : ℕ} (
   -- all stages stand as they should when g is inlined in h; s and s' are the standings of g and h then
   pub all_stand : (s s' : Standing) → Stands job (with_inlined c g h) g s → Stands job (with_inlined c g h) h s' → AllStand job (with_inlined c g h) (slice_set (slice_set standings g s) h s')
   all_stand s s' here there = record {
-    flags = length-set c.flags g true ∙ step.stand.flags;
-    homes = length-set c.homes g h ∙ step.stand.homes;
+    inlining = length-set c.inlining g true ∙ step.stand.inlining;
+    groups = length-set c.groups g h ∙ step.stand.groups;
     all = length-set (slice_set standings g s) h s' ∙ length-set standings g s ∙ step.stand.all;
     each = each_stands s s' here there;
   }
@@ -277,30 +277,30 @@ module _ {job : Pipeline} {c : Choice} {standings : List Standing} {g h : ℕ} (
   -- ---- what the code compares is the rule
 
   -- by their points
-  pub pays_is : (percent own apart added : ℕ) → own ≡ points_of job c.flags h → apart ≡ points_of job c.flags g → added ≡ sum (map points_of_box (tile_boxes job c.flags h g))
-      → nat_le (100 * (own + added)) ((100 + percent) * (own + apart)) ≡ pays job percent c.flags g h
+  pub pays_is : (percent own apart added : ℕ) → own ≡ points_of job c.inlining h → apart ≡ points_of job c.inlining g → added ≡ sum (map points_of_box (tile_boxes job c.inlining h g))
+      → nat_le (100 * (own + added)) ((100 + percent) * (own + apart)) ≡ pays job percent c.inlining g h
   pays_is percent own apart added owns aparts adds =
-      let more = cost_grows job c.flags g h step.valid step.function other_stage step.stored flag_there step.behind step_home.0 in
+      let more = cost_grows job c.inlining g h step.valid step.function other_stage step.stored flag_there step.behind step_group.0 in
       (λ i. nat_le (100 * (owns i + adds i)) ((100 + percent) * (owns i + aparts i)))
-      ∙ ap (λ n. nat_le (100 * n) ((100 + percent) * (points_of job c.flags h + points_of job c.flags g))) (sym more)
+      ∙ ap (λ n. nat_le (100 * n) ((100 + percent) * (points_of job c.inlining h + points_of job c.inlining g))) (sym more)
 
   -- and by the room in each tile
-  pub fits_is : (tiles : List ℕ) → tiles ≡ map (λ a. scratch (target_at job c.flags h a) + points_of_box (box (target_at job c.flags h a) g)) (areas_at job h)
-      → list_all (λ n. nat_le n most_scratch) tiles ≡ has_room job c.flags g h
+  pub fits_is : (tiles : List ℕ) → tiles ≡ map (λ a. scratch (target_at job c.inlining h a) + points_of_box (box (target_at job c.inlining h a) g)) (areas_at job h)
+      → list_all (λ n. nat_le n most_scratch) tiles ≡ has_room job c.inlining g h
   fits_is tiles are =
-      ap (list_all (λ n. nat_le n most_scratch)) (are ∙ sym (scratch_rises job c.flags g h step.valid step.function other_stage step.stored flag_there step.behind step_home.0))
-      ∙ sym (room_is job (slice_set c.flags g true) h (flag_stays h home_differs ∙ step_home.0))
+      ap (list_all (λ n. nat_le n most_scratch)) (are ∙ sym (scratch_rises job c.inlining g h step.valid step.function other_stage step.stored flag_there step.behind step_group.0))
+      ∙ sym (room_is job (slice_set c.inlining g true) h (flag_stays h group_differs ∙ step_group.0))
 
 -- ---- what is kept
 
 -- the points that are kept of a stored stage are those of the definition
-pub points_kept : (job : Pipeline) (c : Choice) (standings : List Standing) (g : ℕ) → AllStand job c standings → g < length job.stages → is_inlined c.flags g ≡ false → points_at (slice_get standings g) ≡ points_of job c.flags g
+pub points_kept : (job : Pipeline) (c : Grouping) (standings : List Standing) (g : ℕ) → AllStand job c standings → g < length job.stages → is_inlined c.inlining g ≡ false → points_at (slice_get standings g) ≡ points_of job c.inlining g
 points_kept job c standings g stand there off = by (slice_get_cases standings g).1
   where
-    from : (s : Standing) → Stands job c g s → points_at (Some s) ≡ points_of job c.flags g
+    from : (s : Standing) → Stands job c g s → points_at (Some s) ≡ points_of job c.inlining g
     from (Stored n tiles) k = k.costs
     from (Inlined boxes) k = absurd (false≢true (sym off ∙ k.inlined))
 
-    by : ((s : Standing) × (g < length standings) × (slice_get standings g ≡ Some s) × (slice_index_or standings g s ≡ s)) ⊎ ((length standings ≤ g) × (slice_get standings g ≡ None)) → points_at (slice_get standings g) ≡ points_of job c.flags g
+    by : ((s : Standing) × (g < length standings) × (slice_get standings g ≡ Some s) × (slice_index_or standings g s ≡ s)) ⊎ ((length standings ≤ g) × (slice_get standings g ≡ None)) → points_at (slice_get standings g) ≡ points_of job c.inlining g
     by (inl (s, below, is, same)) = ap points_at is ∙ from s (stand.each g s is)
     by (inr (past, none)) = let all = stand.all in absurd (omega (arith, past, there, all))

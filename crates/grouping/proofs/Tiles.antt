@@ -28,8 +28,8 @@ has_grid job g grid = by (slice_get job.stages g) refl
     by None is e = absurd (cc)
     by (Some s) is e = tiled s (has_tiles s.body) is e
 
-pub tile_is_target : (job : Pipeline) (flags : List Bool) (g i j : ℕ) (grid : Grid) → IsJob job → grid_at job g ≡ Some grid → HasTile grid i j → IsTarget (record { job = job; flags = flags; stage = g; region = tile_area grid i j })
-tile_is_target job flags g i j grid h e there =
+pub tile_is_target : (job : Pipeline) (inlining : List Bool) (g i j : ℕ) (grid : Grid) → IsJob job → grid_at job g ≡ Some grid → HasTile grid i j → IsTarget (record { job = job; inlining = inlining; stage = g; region = tile_area grid i j })
+tile_is_target job inlining g i j grid h e there =
     let has = has_grid job g grid e in
     let stage : IsStage job has.stage = h.stages g has.stage has.there in
     let of_stage : IsGrid (grid_of job has.stage) = record { area = record { rows = stage.rows.span; cols = stage.cols.span }; sides = h.sides } in

@@ -14,13 +14,13 @@ use Rattle.grouping.specs.Order.{backward}
 use Rattle.grouping.specs.Schedules.{is_inlined, all_stored, IsSchedule}
 use Rattle.grouping.specs.Inlining.{costs_of, AllFitScratch}
 use Rattle.grouping.specs.Tallies.{all_have_scratch, areas_of_tiles, whole, stage_fits}
-use Rattle.grouping.specs.Greedy.{Choice, nothing_chosen, readers, does_read, visited, greedy_choice, greedy_flags}
+use Rattle.grouping.specs.Greedy.{Grouping, nothing_chosen, readers, does_read, visited, greedy_choice, greedy_inlining}
 use Rattle.grouping.specs.Standings.{areas_at, StandsStored, Stands, AllStand, LiesBehind}
 use Rattle.grouping.specs.declared.standing.Standing.{Standing}
 use Rattle.grouping.specs.declared.standing.Standing.TheVariants.{Stored, Inlined}
 use Rattle.grouping.proofs.Scheduling.{stored_is}
 use Rattle.grouping.proofs.Places.{standing_there}
-use Rattle.grouping.proofs.Choosing.{Falls, IsBehind, backward_falls, backward_there, visited_is, not_yet, home_at_first, stored_at_first, scratch_at_first, room_at_first, cost_at_first, all_have_room}
+use Rattle.grouping.proofs.Choosing.{Falls, IsBehind, backward_falls, backward_there, visited_is, not_yet, group_at_first, stored_at_first, scratch_at_first, room_at_first, cost_at_first, all_have_room}
 
 pub readers_there : (job : Pipeline) (g : ℕ) → All (λ r. r < length job.stages) (readers job g)
 readers_there job g = All-filter (does_read job g) (λ r. r < length job.stages) (backward job.stages) (backward_there job.stages)
@@ -31,7 +31,7 @@ pub stands_at_first : (job : Pipeline) (g n : ℕ) (tiles : List ℕ) → n ≡ 
     → StandsStored job (nothing_chosen job) g n tiles
 stands_at_first job g n tiles points none = record {
   stored = stored_at_first job g;
-  own = home_at_first job g;
+  own = group_at_first job g;
   costs = points ∙ ap (λ o. option_map_or (λ n. n) o 0) (cost_at_first job g);
   in_scratch = none ∙ sym (scratch_at_first job g);
   room = room_at_first job g;
@@ -48,10 +48,10 @@ last_or_before (x ∷ xs) y z (suc g) is = from (last_or_before xs y z g is)
     from (inl before) = inl before
     from (inr last) = inr (ap suc last.0, last.1)
 
-abbrev pub EachStands : Pipeline → Choice → List Standing → Type 0
+abbrev pub EachStands : Pipeline → Grouping → List Standing → Type 0
 EachStands job c standings = (g : ℕ) (s : Standing) → slice_get standings g ≡ Some s → Stands job c g s
 
-pub one_stands_more : (job : Pipeline) (c : Choice) (standings : List Standing) (s : Standing) → EachStands job c standings → Stands job c (length standings) s → EachStands job c (standings ++ s ∷ [])
+pub one_stands_more : (job : Pipeline) (c : Grouping) (standings : List Standing) (s : Standing) → EachStands job c standings → Stands job c (length standings) s → EachStands job c (standings ++ s ∷ [])
 one_stands_more job c standings s each stands g z is = from (last_or_before standings s z g is)
   where
     from : (slice_get standings g ≡ Some z) ⊎ ((g ≡ length standings) × (z ≡ s)) → Stands job c g z
@@ -60,8 +60,8 @@ one_stands_more job c standings s each stands g z is = from (last_or_before stan
 
 pub all_at_first : (job : Pipeline) (standings : List Standing) → length standings ≡ length job.stages → EachStands job (nothing_chosen job) standings → AllStand job (nothing_chosen job) standings
 all_at_first job standings all each = record {
-  flags = length-map job.stages (λ s. false);
-  homes = length-range_with_len 0 (length job.stages);
+  inlining = length-map job.stages (λ s. false);
+  groups = length-range_with_len 0 (length job.stages);
   all = all;
   each = each;
 }
@@ -70,31 +70,31 @@ all_at_first job standings all each = record {
 
 -- the stage is stored, and what is inlined lies behind it
 abbrev pub IsFree : Pipeline → List Bool → ℕ → Type 0
-IsFree job flags g = (is_inlined flags g ≡ false) × LiesBehind job flags g
+IsFree job inlining g = (is_inlined inlining g ≡ false) × LiesBehind job inlining g
 
 -- what holds where these stages are left to visit
-pub record Left (job : Pipeline) (percent : ℕ) (c : Choice) (standings : List Standing) (rest : List ℕ) : Type 0 where
+pub record Left (job : Pipeline) (percent : ℕ) (c : Grouping) (standings : List Standing) (rest : List ℕ) : Type 0 where
   pub choice : fold (visited job percent) c rest ≡ greedy_choice job percent
   pub stand : AllStand job c standings
-  pub schedule : IsSchedule job c.flags
+  pub schedule : IsSchedule job c.inlining
   pub falls : Falls job.stages rest
   pub there : All (λ g. g < length job.stages) rest
-  pub free : All (IsFree job c.flags) rest
+  pub free : All (IsFree job c.inlining) rest
 
 pub free_at_first : (job : Pipeline) (gs : List ℕ) → All (IsFree job (all_stored job)) gs
 free_at_first job [] = All-nil (IsFree job (all_stored job))
 free_at_first job (g ∷ gs) = All-cons (IsFree job (all_stored job)) g gs (stored_at_first job g, (λ x inlined. absurd (let stored = stored_at_first job x in cc))) (free_at_first job gs)
 
-pub all_left : (job : Pipeline) (percent : ℕ) (c : Choice) (standings : List Standing) → c ≡ nothing_chosen job → AllStand job c standings → Left job percent c standings (backward job.stages)
+pub all_left : (job : Pipeline) (percent : ℕ) (c : Grouping) (standings : List Standing) → c ≡ nothing_chosen job → AllStand job c standings → Left job percent c standings (backward job.stages)
 all_left job percent c standings is stand =
-    let flags : all_stored job ≡ c.flags = ap (λ (d : Choice). d.flags) (sym is) in
+    let inlining : all_stored job ≡ c.inlining = ap (λ (d : Grouping). d.inlining) (sym is) in
     record {
-      choice = ap (λ (d : Choice). fold (visited job percent) d (backward job.stages)) is;
+      choice = ap (λ (d : Grouping). fold (visited job percent) d (backward job.stages)) is;
       stand = stand;
-      schedule = subst (IsSchedule job) flags (stored_is job);
+      schedule = subst (IsSchedule job) inlining (stored_is job);
       falls = backward_falls job.stages;
       there = backward_there job.stages;
-      free = subst (λ (fs : List Bool). All (IsFree job fs) (backward job.stages)) flags (free_at_first job (backward job.stages));
+      free = subst (λ (fs : List Bool). All (IsFree job fs) (backward job.stages)) inlining (free_at_first job (backward job.stages));
     }
 
 -- ---- a visit
@@ -106,31 +106,31 @@ same_or_other x g = by (nat_eq x g) refl
     by true e = inl (grind (arith, nat_tests))
     by false e = inr e
 
-free_still : (job : Pipeline) (percent : ℕ) (c : Choice) (g y : ℕ) → IsBehind job.stages g y → IsFree job c.flags y → IsFree job (visited job percent c g).flags y
+free_still : (job : Pipeline) (percent : ℕ) (c : Grouping) (g y : ℕ) → IsBehind job.stages g y → IsFree job c.inlining y → IsFree job (visited job percent c g).inlining y
 free_still job percent c g y behind free = (not_yet job c percent g y behind.1 ∙ free.0, (λ x inlined. from x inlined (same_or_other x g)))
   where
-    from : (x : ℕ) → is_inlined (visited job percent c g).flags x ≡ true → (x ≡ g) ⊎ (nat_eq x g ≡ false) → rank_of job.stages y ≤ rank_of job.stages x
+    from : (x : ℕ) → is_inlined (visited job percent c g).inlining x ≡ true → (x ≡ g) ⊎ (nat_eq x g ≡ false) → rank_of job.stages y ≤ rank_of job.stages x
     from x inlined (inl same) = subst (λ (k : ℕ). rank_of job.stages y ≤ rank_of job.stages k) (sym same) behind.0
     from x inlined (inr other) = free.1 x (sym (not_yet job c percent g x other) ∙ inlined)
 
-pub all_free_still : (job : Pipeline) (percent : ℕ) (c : Choice) (g : ℕ) (ys : List ℕ) → All (IsBehind job.stages g) ys → All (IsFree job c.flags) ys → All (IsFree job (visited job percent c g).flags) ys
-all_free_still job percent c g [] behind free = All-nil (IsFree job (visited job percent c g).flags)
+pub all_free_still : (job : Pipeline) (percent : ℕ) (c : Grouping) (g : ℕ) (ys : List ℕ) → All (IsBehind job.stages g) ys → All (IsFree job c.inlining) ys → All (IsFree job (visited job percent c g).inlining) ys
+all_free_still job percent c g [] behind free = All-nil (IsFree job (visited job percent c g).inlining)
 all_free_still job percent c g (y ∷ ys) behind free =
-    All-cons (IsFree job (visited job percent c g).flags) y ys
-    (free_still job percent c g y (All-head (IsBehind job.stages g) y ys behind) (All-head (IsFree job c.flags) y ys free))
-    (all_free_still job percent c g ys (All-tail (IsBehind job.stages g) y ys behind) (All-tail (IsFree job c.flags) y ys free))
+    All-cons (IsFree job (visited job percent c g).inlining) y ys
+    (free_still job percent c g y (All-head (IsBehind job.stages g) y ys behind) (All-head (IsFree job c.inlining) y ys free))
+    (all_free_still job percent c g ys (All-tail (IsBehind job.stages g) y ys behind) (All-tail (IsFree job c.inlining) y ys free))
 
-pub one_left_less : (job : Pipeline) (percent : ℕ) (c d : Choice) (standings after : List Standing) (g : ℕ) (rest : List ℕ) → Left job percent c standings (g ∷ rest)
+pub one_left_less : (job : Pipeline) (percent : ℕ) (c d : Grouping) (standings after : List Standing) (g : ℕ) (rest : List ℕ) → Left job percent c standings (g ∷ rest)
     → d ≡ visited job percent c g → AllStand job d after → Left job percent d after rest
 one_left_less job percent c d standings after g rest left is stand =
-    let flags : (visited job percent c g).flags ≡ d.flags = ap (λ (e : Choice). e.flags) (sym is) in
+    let inlining : (visited job percent c g).inlining ≡ d.inlining = ap (λ (e : Grouping). e.inlining) (sym is) in
     record {
-      choice = ap (λ (e : Choice). fold (visited job percent) e rest) is ∙ left.choice;
+      choice = ap (λ (e : Grouping). fold (visited job percent) e rest) is ∙ left.choice;
       stand = stand;
-      schedule = subst (IsSchedule job) flags (visited_is job percent c g left.schedule);
+      schedule = subst (IsSchedule job) inlining (visited_is job percent c g left.schedule);
       falls = left.falls.1;
       there = All-tail (λ x. x < length job.stages) g rest left.there;
-      free = subst (λ (fs : List Bool). All (IsFree job fs) rest) flags (all_free_still job percent c g rest left.falls.0 (All-tail (IsFree job c.flags) g rest left.free));
+      free = subst (λ (fs : List Bool). All (IsFree job fs) rest) inlining (all_free_still job percent c g rest left.falls.0 (All-tail (IsFree job c.inlining) g rest left.free));
     }
 
 -- the next stage, and those behind it
@@ -139,23 +139,23 @@ next_of gs k g low is = drop-cons gs k g low ∙ ap (λ x. x ∷ drop (suc k) gs
 
 -- ---- at last
 
-pub chosen_flags : (job : Pipeline) (percent : ℕ) (c : Choice) (standings : List Standing) → Left job percent c standings [] → c.flags ≡ greedy_flags job percent
-unfolding greedy_flags
-chosen_flags job percent c standings left = ap (λ (d : Choice). d.flags) left.choice
+pub chosen_inlining : (job : Pipeline) (percent : ℕ) (c : Grouping) (standings : List Standing) → Left job percent c standings [] → c.inlining ≡ greedy_inlining job percent
+unfolding greedy_inlining
+chosen_inlining job percent c standings left = ap (λ (d : Grouping). d.inlining) left.choice
 
-room_of_inlined : (job : Pipeline) (flags : List Bool) (g : ℕ) (o : Option Stage) → is_inlined flags g ≡ true → stage_fits job flags g o ≡ true
-room_of_inlined job flags g None inlined = refl
-room_of_inlined job flags g (Some s) inlined = ap (λ b. if b then all_have_scratch (whole job flags g s) (areas_of_tiles (grid_of job s)) else true) (no_cost (has_tiles s.body))
+room_of_inlined : (job : Pipeline) (inlining : List Bool) (g : ℕ) (o : Option Stage) → is_inlined inlining g ≡ true → stage_fits job inlining g o ≡ true
+room_of_inlined job inlining g None inlined = refl
+room_of_inlined job inlining g (Some s) inlined = ap (λ b. if b then all_have_scratch (whole job inlining g s) (areas_of_tiles (grid_of job s)) else true) (no_cost (has_tiles s.body))
   where
-    no_cost : (b : Bool) → (b && not (is_inlined flags g)) ≡ false
+    no_cost : (b : Bool) → (b && not (is_inlined inlining g)) ≡ false
     no_cost true = ap not inlined
     no_cost false = refl
 
-room_of : (job : Pipeline) (c : Choice) (g : ℕ) (s : Standing) → Stands job c g s → stage_fits job c.flags g (slice_get job.stages g) ≡ true
+room_of : (job : Pipeline) (c : Grouping) (g : ℕ) (s : Standing) → Stands job c g s → stage_fits job c.inlining g (slice_get job.stages g) ≡ true
 room_of job c g (Stored n tiles) stands = stands.room
-room_of job c g (Inlined tiles) stands = room_of_inlined job c.flags g (slice_get job.stages g) stands.inlined
+room_of job c g (Inlined tiles) stands = room_of_inlined job c.inlining g (slice_get job.stages g) stands.inlined
 
-pub rooms_of : (job : Pipeline) (c : Choice) (standings : List Standing) → AllStand job c standings → AllFitScratch job c.flags
-rooms_of job c standings stand = all_have_room job c.flags (λ g there.
+pub rooms_of : (job : Pipeline) (c : Grouping) (standings : List Standing) → AllStand job c standings → AllFitScratch job c.inlining
+rooms_of job c standings stand = all_have_room job c.inlining (λ g there.
     let found = standing_there standings g (length job.stages) stand.all there in
     room_of job c g found.0 (stand.each g found.0 found.1))

@@ -14,7 +14,7 @@ points_in steps = sum (map (λ s. point_count s.1) steps)
 
 -- the inlined functions with their boxes, in dependence order
 abbrev pub inner_steps : Target → List (ℕ × Area)
-inner_steps t = filter (λ s. is_inlined t.flags s.0) (boxes t)
+inner_steps t = filter (λ s. is_inlined t.inlining s.0) (boxes t)
 
 -- what is computed for a target: those, then the target itself
 abbrev pub steps : Target → List (ℕ × Area)
@@ -35,21 +35,21 @@ points t = points_in (steps t)
 
 -- a stage over each of its tiles, row by row
 abbrev pub tile_targets : Pipeline → List Bool → ℕ → Stage → List Target
-tile_targets job flags g s =
-    map (λ tile. record { job = job; flags = flags; stage = g; region = tile_area (grid_of job s) tile.0 tile.1 }) (tiles_of (grid_of job s))
+tile_targets job inlining g s =
+    map (λ tile. record { job = job; inlining = inlining; stage = g; region = tile_area (grid_of job s) tile.0 tile.1 }) (tiles_of (grid_of job s))
 
 -- the points of a stage's tiles together
 abbrev pub cost_of : Pipeline → List Bool → ℕ → Stage → ℕ
-cost_of job flags g s = sum (map points (tile_targets job flags g s))
+cost_of job inlining g s = sum (map points (tile_targets job inlining g s))
 
 -- functions that are stored and accumulators have a cost; planes and inlined functions have none
 abbrev pub stage_cost : Pipeline → List Bool → ℕ → Option Stage → Option ℕ
-stage_cost job flags g None = None
-stage_cost job flags g (Some s) = if has_tiles s.body && not (is_inlined flags g) then Some (cost_of job flags g s) else None
+stage_cost job inlining g None = None
+stage_cost job inlining g (Some s) = if has_tiles s.body && not (is_inlined inlining g) then Some (cost_of job inlining g s) else None
 
 abbrev pub cost : Pipeline → List Bool → ℕ → Option ℕ
-cost job flags g = stage_cost job flags g (slice_get job.stages g)
+cost job inlining g = stage_cost job inlining g (slice_get job.stages g)
 
 -- no tile of the stage has more in scratch memory than there may be
 abbrev pub FitsScratch : Pipeline → List Bool → ℕ → Stage → Type 0
-FitsScratch job flags g s = All (λ t. scratch t ≤ most_scratch) (tile_targets job flags g s)
+FitsScratch job inlining g s = All (λ t. scratch t ≤ most_scratch) (tile_targets job inlining g s)

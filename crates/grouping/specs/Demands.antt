@@ -6,7 +6,7 @@ use Rattle.domains.specs.Area.{IsSubarea, common_of, area_hull}
 use Rattle.domains.specs.Index.{image_of}
 use Rattle.domains.specs.declared.area.Area.{Area}
 use Rattle.job.specs.Formula.{Formula}
-use Rattle.job.specs.Pipeline.{Piece, Body, plane, function, accumulator}
+use Rattle.job.specs.Pipeline.{JobCase, Body, plane, function, accumulator}
 use Rattle.job.specs.Values.{factors}
 use Rattle.job.specs.Reads.{Read, point, window, stage_read, reads_in}
 use Rattle.job.specs.Boxes.{if_some}
@@ -63,13 +63,13 @@ abbrev pub demands_if : Formula → Option Area → List Demand
 demands_if f None = []
 demands_if f (Some region) = formula_demands f region
 
--- a piece demands what it reads where its box meets the region
+-- a case demands what it reads where its box meets the region
 abbrev pub meet_of_box : Option Area → Area → Option Area
 meet_of_box None region = None
 meet_of_box (Some box) region = meet_of_areas box region
 
-abbrev pub piece_demands : Area → Piece → List Demand
-piece_demands region p = demands_if p.formula (meet_of_box p.box region)
+abbrev pub case_demands : Area → JobCase → List Demand
+case_demands region p = demands_if p.formula (meet_of_box p.box region)
 
 abbrev pub other_demands : Option Formula → Area → List Demand
 other_demands None region = []
@@ -78,7 +78,7 @@ other_demands (Some f) region = formula_demands f region
 -- what holds elsewhere, and an accumulator, demand over all of the region
 abbrev pub body_demands : Body → Area → List Demand
 body_demands (plane n) region = []
-body_demands (function pieces otherwise) region = flat_map (piece_demands region) pieces ++ other_demands otherwise region
+body_demands (function cases otherwise) region = flat_map (case_demands region) cases ++ other_demands otherwise region
 body_demands (accumulator fold bins value bin) region = formula_demands value region ++ formula_demands bin region
 
 -- what is demanded of stage g

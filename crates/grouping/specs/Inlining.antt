@@ -4,44 +4,44 @@ use Rattle.std.specs.Prelude.{ℕ, ◌<◌, ◌≡◌, Bool, true, false, ◌&&�
 use Rattle.std.specs.List.{range_with_len}
 use Rattle.job.specs.Pipeline.{Stage, Pipeline}
 use Rattle.job.specs.Answers.{has_tiles, is_output}
-use Rattle.grouping.specs.Schedules.{is_inlined, IsSchedule, flags_for}
+use Rattle.grouping.specs.Schedules.{is_inlined, IsSchedule, inlining_for}
 use Rattle.grouping.specs.Costs.{cost, FitsScratch}
 use Rattle.grouping.specs.declared.fault.ScheduleFault.{ScheduleFault}
 use Rattle.grouping.specs.declared.fault.ScheduleFault.TheVariants.{OutputInlined, Memory}
 
 pub record Inlining : Type 0 where
-  pub flags : List Bool
+  pub inlining : List Bool
   pub costs : List (Option ℕ)
   pub fits : Bool
 
 -- what each stage of the job costs
 abbrev pub costs_of : Pipeline → List Bool → List (Option ℕ)
-costs_of job flags = map (cost job flags) (range_with_len 0 (length job.stages))
+costs_of job inlining = map (cost job inlining) (range_with_len 0 (length job.stages))
 
 -- no tile of a stage that has a cost has more in scratch memory than there may be
 abbrev pub AllFitScratch : Pipeline → List Bool → Type 0
-AllFitScratch job flags =
-    (g : ℕ) (s : Stage) → slice_get job.stages g ≡ Some s → (has_tiles s.body && not (is_inlined flags g)) ≡ true → FitsScratch job flags g s
+AllFitScratch job inlining =
+    (g : ℕ) (s : Stage) → slice_get job.stages g ≡ Some s → (has_tiles s.body && not (is_inlined inlining g)) ≡ true → FitsScratch job inlining g s
 
--- its flags are a schedule of the job, and its costs are the job's. If it says so, each tile has room
+-- its inlining are a schedule of the job, and its costs are the job's. If it says so, each tile has room
 pub record IsScheduleOf (job : Pipeline) (s : Inlining) : Type 0 where
-  pub flags : IsSchedule job s.flags
-  pub costs : s.costs ≡ costs_of job s.flags
-  pub fits : s.fits ≡ true → AllFitScratch job s.flags
+  pub inlining : IsSchedule job s.inlining
+  pub costs : s.costs ≡ costs_of job s.inlining
+  pub fits : s.fits ≡ true → AllFitScratch job s.inlining
 
 -- ---- outputs
 
 -- no output is inlined
 abbrev pub StoresOutputs : Pipeline → List Bool → Type 0
-StoresOutputs job flags = (g : ℕ) → is_inlined flags g ≡ true → is_output job g ≡ false
+StoresOutputs job inlining = (g : ℕ) → is_inlined inlining g ≡ true → is_output job g ≡ false
 
 -- stage g is the least output that is inlined
-pub record IsInlinedOutput (job : Pipeline) (flags : List Bool) (g : ℕ) : Type 0 where
-  pub inlined : is_inlined flags g ≡ true
+pub record IsInlinedOutput (job : Pipeline) (inlining : List Bool) (g : ℕ) : Type 0 where
+  pub inlined : is_inlined inlining g ≡ true
   pub output : is_output job g ≡ true
-  pub least : (k : ℕ) → k < g → is_inlined flags k ≡ true → is_output job k ≡ false
+  pub least : (k : ℕ) → k < g → is_inlined inlining k ≡ true → is_output job k ≡ false
 
--- why the flags that are asked for make no schedule
+-- why the inlining that are asked for make no schedule
 abbrev pub IsScheduleFault : Pipeline → List Bool → ScheduleFault → Type 0
-IsScheduleFault job asked (OutputInlined g) = IsInlinedOutput job (flags_for job asked) g
+IsScheduleFault job asked (OutputInlined g) = IsInlinedOutput job (inlining_for job asked) g
 IsScheduleFault job asked Memory = Unit {0}

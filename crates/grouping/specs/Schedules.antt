@@ -6,25 +6,25 @@ use Rattle.job.specs.Pipeline.{Body, plane, function, accumulator, Pipeline}
 use Rattle.job.specs.Answers.{is_output}
 
 abbrev pub is_inlined : List Bool → ℕ → Bool
-is_inlined flags g = slice_index_or flags g false
+is_inlined inlining g = slice_index_or inlining g false
 
 abbrev pub is_function_body : Body → Bool
 is_function_body (plane n) = false
-is_function_body (function pieces otherwise) = true
+is_function_body (function cases otherwise) = true
 is_function_body (accumulator fold bins value bin) = false
 
 abbrev pub is_function : Pipeline → ℕ → Bool
 is_function job g = option_map_or (λ s. is_function_body s.body) (slice_get job.stages g) false
 
 -- a flag for each stage; only functions are inlined, and no output
-pub record IsSchedule (job : Pipeline) (flags : List Bool) : Type 0 where
-  pub each : length flags ≡ length job.stages
-  pub functions : (g : ℕ) → is_inlined flags g ≡ true → is_function job g ≡ true
-  pub inner : (g : ℕ) → is_inlined flags g ≡ true → is_output job g ≡ false
+pub record IsSchedule (job : Pipeline) (inlining : List Bool) : Type 0 where
+  pub each : length inlining ≡ length job.stages
+  pub functions : (g : ℕ) → is_inlined inlining g ≡ true → is_function job g ≡ true
+  pub inner : (g : ℕ) → is_inlined inlining g ≡ true → is_output job g ≡ false
 
--- flags as they count: those of planes and accumulators are read as false
-abbrev pub flags_for : Pipeline → List Bool → List Bool
-flags_for job asked = map (λ g. is_inlined asked g && is_function job g) (range_with_len 0 (length job.stages))
+-- inlining as they count: those of planes and accumulators are read as false
+abbrev pub inlining_for : Pipeline → List Bool → List Bool
+inlining_for job asked = map (λ g. is_inlined asked g && is_function job g) (range_with_len 0 (length job.stages))
 
 -- each stage is stored
 abbrev pub all_stored : Pipeline → List Bool

@@ -22,11 +22,11 @@ areas_of_tiles g = flat_map (λ i. row_areas g i (tile_cols g)) (range_with_len 
 
 -- the same stage over another region
 abbrev pub over : Target → Area → Target
-over t a = record { job = t.job; flags = t.flags; stage = t.stage; region = a }
+over t a = record { job = t.job; inlining = t.inlining; stage = t.stage; region = a }
 
 -- the points of a stage's box that lie in scratch memory
 abbrev pub inner_points : Target → ℕ → ℕ
-inner_points t g = if is_inlined t.flags g && is_boxed t g then option_map_or point_count (box t g) 0 else 0
+inner_points t g = if is_inlined t.inlining g && is_boxed t g then option_map_or point_count (box t g) 0 else 0
 
 -- the points over several regions, and whether there is room in scratch memory for each
 abbrev pub points_over : Target → List Area → ℕ
@@ -42,20 +42,20 @@ all_have_scratch t areas = list_all (λ a. has_scratch (over t a)) areas
 
 -- a stage over its domain
 abbrev pub whole : Pipeline → List Bool → ℕ → Stage → Target
-whole job flags g s = record { job = job; flags = flags; stage = g; region = s.domain }
+whole job inlining g s = record { job = job; inlining = inlining; stage = g; region = s.domain }
 
 -- whether a stage has a cost
 abbrev pub has_cost : List Bool → ℕ → Stage → Bool
-has_cost flags g s = has_tiles s.body && not (is_inlined flags g)
+has_cost inlining g s = has_tiles s.body && not (is_inlined inlining g)
 
 -- whether there is room for each tile of a stage, if it has a cost
 abbrev pub stage_fits : Pipeline → List Bool → ℕ → Option Stage → Bool
-stage_fits job flags g s =
-    option_map_or (λ s. if has_cost flags g s then all_have_scratch (whole job flags g s) (areas_of_tiles (grid_of job s)) else true) s true
+stage_fits job inlining g s =
+    option_map_or (λ s. if has_cost inlining g s then all_have_scratch (whole job inlining g s) (areas_of_tiles (grid_of job s)) else true) s true
 
 abbrev pub all_stages_fit : Pipeline → List Bool → List ℕ → Bool
-all_stages_fit job flags gs = list_all (λ g. stage_fits job flags g (slice_get job.stages g)) gs
+all_stages_fit job inlining gs = list_all (λ g. stage_fits job inlining g (slice_get job.stages g)) gs
 
 -- whether none of what is read is inlined
 abbrev pub reads_stored : List Bool → List Read → Bool
-reads_stored flags reads = list_all (λ x. not (is_inlined flags (stage_read x))) reads
+reads_stored inlining reads = list_all (λ x. not (is_inlined inlining (stage_read x))) reads

@@ -12,7 +12,7 @@ use Rattle.grouping.specs.Demands.{Demand, meet_of_areas, hull_of_all, body_dema
 -- a stage of a job over a region, where these functions are inlined
 pub record Target : Type 0 where
   pub job : Pipeline
-  pub flags : List Bool
+  pub inlining : List Bool
   pub stage : ℕ
   pub region : Area
 
@@ -28,7 +28,7 @@ pub record IsTarget (t : Target) : Type 0 where
 -- the region of a stage in the target, by the boxes: that of the target itself, and the box of an inlined function. Other
 -- stages are not in the target
 abbrev pub region_by : Target → (ℕ → Option Area) → ℕ → Option Area
-region_by t boxes g = if g == t.stage then Some t.region else (if is_inlined t.flags g then boxes g else None)
+region_by t boxes g = if g == t.stage then Some t.region else (if is_inlined t.inlining g then boxes g else None)
 
 abbrev pub stage_demands : Option Stage → Option Area → List Demand
 stage_demands None region = []

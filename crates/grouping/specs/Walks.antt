@@ -3,20 +3,20 @@ use Rattle.std.specs.Prelude.{ℕ, Option, None, List, slice_get, slice_set, sli
 use Rattle.std.specs.List.{fold}
 use Rattle.domains.specs.declared.area.Area.{Area}
 use Rattle.job.specs.Pipeline.{Stage}
-use Rattle.job.specs.WellFormed.{IsNear}
+use Rattle.job.specs.WellFormed.{InDomainRange}
 use Rattle.job.specs.Kept.{pipeline_in}
-use Rattle.grouping.specs.declared.target.Site.{Site}
+use Rattle.grouping.specs.declared.target.TargetWalk.{TargetWalk}
 use Rattle.grouping.specs.Demands.{Demand, grown_by}
 use Rattle.grouping.specs.Targets.{Target, cut_to, demands_by, with_number, is_boxed}
 
 -- an area within 16,384 of 0
-pub record IsNearArea (a : Area) : Type 0 where
-  pub rows : IsNear a.rows
-  pub cols : IsNear a.cols
+pub record InDomainRanges (a : Area) : Type 0 where
+  pub rows : InDomainRange a.rows
+  pub cols : InDomainRange a.cols
 
 -- how contracts see a target
-abbrev pub target_of : Site → Target
-target_of s = record { job = pipeline_in s.job.now; flags = s.schedule.now; stage = s.stage; region = s.region }
+abbrev pub target_of : TargetWalk → Target
+target_of s = record { job = pipeline_in s.job.now; inlining = s.schedule.now; stage = s.stage; region = s.region }
 
 -- a hull for each stage, and one more demand
 abbrev pub demanded : List (Option Area) → Demand → List (Option Area)

@@ -17,9 +17,9 @@ ghost use Rattle.grouping.specs.Costs.{scratch, most_scratch, cost};
 ghost use Rattle.grouping.specs.Inlining.{AllFitScratch, costs_of};
 ghost use Rattle.grouping.specs.Tallies.{row_areas, areas_of_tiles, over, inner_points, points_over, all_have_scratch, stage_fits, reads_stored};
 
-use crate::flags::Flags;
+use crate::inlining::InlinedStages;
 use crate::order::in_order;
-use crate::target::Site;
+use crate::target::TargetWalk;
 use domains::{Area, Grid};
 use job::{Job, Read, Stage};
 use std::alloc::{AllocError, Global};
@@ -73,12 +73,12 @@ impl Tally {
     }
 }
 
-impl<'a> Site<'a> {
+impl<'a> TargetWalk<'a> {
     // The same stage over another region.
-    fn over(&self, region: Area) -> Site<'a>
+    fn over(&self, region: Area) -> TargetWalk<'a>
         ensures { target_of result ≡ over (target_of self.now) region }
     {
-        Site {
+        TargetWalk {
             job: self.job,
             schedule: self.schedule,
             stage: self.stage,
@@ -87,7 +87,7 @@ impl<'a> Site<'a> {
     }
 }
 
-impl Site<'_> {
+impl TargetWalk<'_> {
     fn inner_points(&self, hulls: &[Option<Area>], number: usize) -> u64
         requires job { IsJob (pipeline_in self.now.job.now) }
         requires boxes { (g : ℕ) → cut_hull (pipeline_in self.now.job.now).stages hulls.now g ≡ box (target_of self.now) g }
@@ -168,8 +168,8 @@ impl Site<'_> {
             fits: true,
         };
         for area in areas {
-            let site = self.over(*area);
-            let scratch = site.scratch_unless(alloc, order, is_alone)?;
+            let walk = self.over(*area);
+            let scratch = walk.scratch_unless(alloc, order, is_alone)?;
             tally = tally.with(scratch, area.points())?;
         }
         Ok(tally)
@@ -177,12 +177,12 @@ impl Site<'_> {
 }
 
 // Whether a stage reads nothing that is inlined.
-fn reads_stored(alloc: Global, flags: &Flags, stage: &Stage) -> Result<bool, AllocError>
-    ensures { IfOk result (λ b. b ≡ reads_stored flags.now (reads_of (stage_view stage.now).body)) }
+fn reads_stored(alloc: Global, inlining: &InlinedStages, stage: &Stage) -> Result<bool, AllocError>
+    ensures { IfOk result (λ b. b ≡ reads_stored inlining.now (reads_of (stage_view stage.now).body)) }
 {
     let reads = stage.reads(alloc)?;
     for read in reads.iter() {
-        if flags.inlined(stage_of(read)) {
+        if inlining.inlined(stage_of(read)) {
             return Ok(false);
         }
     }
@@ -202,16 +202,16 @@ pub(crate) fn stage_of(read: &Read) -> usize
 pub(crate) fn tally_of(
     alloc: Global,
     job: &Job,
-    flags: &Flags,
+    inlining: &InlinedStages,
     order: &[usize],
     number: usize,
 ) -> Result<Option<Tally>, AllocError>
     requires job { IsJob (pipeline_in job.now) }
     requires order { order.now ≡ in_order (pipeline_in job.now).stages }
-    ensures cost { IfOk result (λ t. option_map (λ t. t.points) t ≡ cost (pipeline_in job.now) flags.now number) }
-    ensures fits { IfOk result (λ t. option_map_or (λ t. t.fits) t true ≡ stage_fits (pipeline_in job.now) flags.now number (slice_get (pipeline_in job.now).stages number)) }
+    ensures cost { IfOk result (λ t. option_map (λ t. t.points) t ≡ cost (pipeline_in job.now) inlining.now number) }
+    ensures fits { IfOk result (λ t. option_map_or (λ t. t.fits) t true ≡ stage_fits (pipeline_in job.now) inlining.now number (slice_get (pipeline_in job.now).stages number)) }
 {
-    if flags.inlined(number) {
+    if inlining.inlined(number) {
         return Ok(None);
     }
     let Some(grid) = job.grid(number) else {
@@ -220,15 +220,15 @@ pub(crate) fn tally_of(
     let Some(stage) = job.stage(number) else {
         return Ok(None);
     };
-    let is_alone = reads_stored(alloc, flags, stage)?;
+    let is_alone = reads_stored(alloc, inlining, stage)?;
     let areas = areas_of_tiles(alloc, &grid)?;
-    let site = Site {
+    let walk = TargetWalk {
         job,
-        schedule: flags,
+        schedule: inlining,
         stage: number,
         region: grid.area,
     };
-    Ok(Some(site.tally(alloc, order, &areas, is_alone)?))
+    Ok(Some(walk.tally(alloc, order, &areas, is_alone)?))
 }
 
 /// What the stages of a job cost, and whether each of their tiles has room in scratch memory.
@@ -255,10 +255,14 @@ impl Survey {
 }
 
 /// What each stage costs.
-pub(crate) fn costs_of(alloc: Global, job: &Job, flags: &Flags) -> Result<Survey, AllocError>
+pub(crate) fn costs_of(
+    alloc: Global,
+    job: &Job,
+    inlining: &InlinedStages,
+) -> Result<Survey, AllocError>
     requires { IsJob (pipeline_in job.now) }
-    ensures costs { IfOk result (λ s. s.costs.items ≡ costs_of (pipeline_in job.now) flags.now) }
-    ensures fits { IfOk result (λ s. s.fits ≡ true → AllFitScratch (pipeline_in job.now) flags.now) }
+    ensures costs { IfOk result (λ s. s.costs.items ≡ costs_of (pipeline_in job.now) inlining.now) }
+    ensures fits { IfOk result (λ s. s.fits ≡ true → AllFitScratch (pipeline_in job.now) inlining.now) }
 {
     let order = in_order(alloc, job.stages())?;
     let mut survey = Survey {
@@ -266,7 +270,7 @@ pub(crate) fn costs_of(alloc: Global, job: &Job, flags: &Flags) -> Result<Survey
         fits: true,
     };
     for number in 0..job.stages().len() {
-        survey.add(tally_of(alloc, job, flags, &order, number)?)?;
+        survey.add(tally_of(alloc, job, inlining, &order, number)?)?;
     }
     Ok(survey)
 }

@@ -7,18 +7,18 @@ ghost use Rattle.std.specs.Option.{option_map, ForSome};
 ghost use Rattle.domains.specs.Index.{image_of};
 ghost use Rattle.job.specs.Reads.{window, formulas_of};
 ghost use Rattle.job.specs.Values.{factors};
-ghost use Rattle.job.specs.Views.{formula_view, piece_view, body_view};
-ghost use Rattle.job.specs.WellFormed.{IsNear, IsKernel, IsFormula};
-ghost use Rattle.grouping.specs.Demands.{meet_of_areas, widened, image_under, grown_by, formula_demands, piece_demands, other_demands, body_demands};
-ghost use Rattle.grouping.specs.Walks.{IsNearArea, demanded, demanded_all};
+ghost use Rattle.job.specs.Views.{formula_view, case_view, body_view};
+ghost use Rattle.job.specs.WellFormed.{InDomainRange, IsKernel, IsFormula};
+ghost use Rattle.grouping.specs.Demands.{meet_of_areas, widened, image_under, grown_by, formula_demands, case_demands, other_demands, body_demands};
+ghost use Rattle.grouping.specs.Walks.{InDomainRanges, demanded, demanded_all};
 
 use domains::{Area, Index, Span};
-use job::{Body, Formula, Function, Kernel, Piece};
+use job::{Body, Formula, Function, JobCase, Kernel};
 
 /// What two areas have in common, if they meet.
 pub(crate) fn common(one: &Area, other: &Area) -> Option<Area>
     ensures is { result ≡ meet_of_areas one.now other.now }
-    ensures near { IsNearArea other.now → IfSome result IsNearArea }
+    ensures near { InDomainRanges other.now → IfSome result InDomainRanges }
 {
     let rows = one.rows.meet(&other.rows)?;
     let cols = one.cols.meet(&other.cols)?;
@@ -49,7 +49,7 @@ fn above(v: i32, by: usize) -> i32
 
 // So many numbers more on each side.
 fn widened(span: &Span, by: usize) -> Span
-    requires near { IsNear span.now }
+    requires near { InDomainRange span.now }
     requires few { by ≤ 7 }
     ensures { result ≡ widened by span.now }
 {
@@ -60,7 +60,7 @@ fn widened(span: &Span, by: usize) -> Span
 }
 
 fn image_of_point(row: &Index, column: &Index, region: &Area) -> Area
-    requires { IsNearArea region.now }
+    requires { InDomainRanges region.now }
     ensures { result ≡ record { rows = image_of row.now region.now.rows; cols = image_of column.now region.now.cols } }
 {
     Area {
@@ -81,7 +81,7 @@ fn width(kernel: &Kernel) -> usize
 
 fn image_of_kernel(kernel: &Kernel, region: &Area) -> Area
     requires kernel { IsKernel kernel.now }
-    requires near { IsNearArea region.now }
+    requires near { InDomainRanges region.now }
     ensures { result ≡ image_under (window 0 kernel.now) region.now }
 {
     Area {
@@ -111,7 +111,7 @@ fn demand(hulls: &mut [Option<Area>], stage: usize, area: Area)
 /// Each read of a formula demands its image.
 fn demand_reads(hulls: &mut [Option<Area>], formula: &Formula, region: &Area)
     requires formula { IsFormula (formula_view formula.now) }
-    requires near { IsNearArea region.now }
+    requires near { InDomainRanges region.now }
     ensures { hulls.new ≡ demanded_all hulls.old (formula_demands (formula_view formula.now) region.now) }
 {
     match formula {
@@ -143,32 +143,32 @@ fn demand_reads(hulls: &mut [Option<Area>], formula: &Formula, region: &Area)
     }
 }
 
-// A piece demands what it reads where its box meets the region.
-fn demand_piece(hulls: &mut [Option<Area>], piece: &Piece, region: &Area)
-    requires formula { IsFormula (formula_view piece.now.formula) }
-    requires near { IsNearArea region.now }
-    ensures { hulls.new ≡ demanded_all hulls.old (piece_demands region.now (piece_view piece.now)) }
+// A case demands what it reads where its box meets the region.
+fn demand_case(hulls: &mut [Option<Area>], case: &JobCase, region: &Area)
+    requires formula { IsFormula (formula_view case.now.formula) }
+    requires near { InDomainRanges region.now }
+    ensures { hulls.new ≡ demanded_all hulls.old (case_demands region.now (case_view case.now)) }
 {
-    if let Some(area) = piece.area() {
+    if let Some(area) = case.area() {
         if let Some(meet) = common(area, region) {
-            demand_reads(hulls, piece.formula(), &meet);
+            demand_reads(hulls, case.formula(), &meet);
         }
     }
 }
 
-fn demand_pieces(hulls: &mut [Option<Area>], pieces: &[Piece], region: &Area)
-    requires formulas { All IsFormula (map (λ p. p.formula) (map piece_view pieces.now)) }
-    requires near { IsNearArea region.now }
-    ensures { hulls.new ≡ demanded_all hulls.old (flat_map (piece_demands region.now) (map piece_view pieces.now)) }
+fn demand_cases(hulls: &mut [Option<Area>], cases: &[JobCase], region: &Area)
+    requires formulas { All IsFormula (map (λ p. p.formula) (map case_view cases.now)) }
+    requires near { InDomainRanges region.now }
+    ensures { hulls.new ≡ demanded_all hulls.old (flat_map (case_demands region.now) (map case_view cases.now)) }
 {
-    for piece in pieces {
-        demand_piece(hulls, piece, region);
+    for case in cases {
+        demand_case(hulls, case, region);
     }
 }
 
 fn demand_other(hulls: &mut [Option<Area>], otherwise: &Option<Formula>, region: &Area)
     requires formula { ForSome (option_map formula_view otherwise.now) IsFormula }
-    requires near { IsNearArea region.now }
+    requires near { InDomainRanges region.now }
     ensures { hulls.new ≡ demanded_all hulls.old (other_demands (option_map formula_view otherwise.now) region.now) }
 {
     if let Some(formula) = otherwise {
@@ -179,13 +179,13 @@ fn demand_other(hulls: &mut [Option<Area>], otherwise: &Option<Formula>, region:
 /// What a stage demands over a region comes in.
 pub(crate) fn demand_all(hulls: &mut [Option<Area>], body: &Body, region: &Area)
     requires formulas { All IsFormula (formulas_of (body_view body.now)) }
-    requires near { IsNearArea region.now }
+    requires near { InDomainRanges region.now }
     ensures { hulls.new ≡ demanded_all hulls.old (body_demands (body_view body.now) region.now) }
 {
     match body {
         Body::Plane(_) => {}
         Body::Function(function) => {
-            demand_pieces(hulls, function.pieces(), region);
+            demand_cases(hulls, function.cases(), region);
             demand_other(hulls, function.otherwise(), region);
         }
         Body::Accumulator(accumulator) => {

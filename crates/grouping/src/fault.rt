@@ -1,12 +1,12 @@
 #![tactic(auto)]
-//! Why flags make no schedule.
+//! Why inlining make no schedule.
 
 ghost use Rattle.std.specs.Prelude.{◌≡◌};
 
 use std::alloc::AllocError;
 use thiserror::Error;
 
-/// Why flags make no schedule of a job.
+/// Why inlining make no schedule of a job.
 #[derive(Clone, Copy, Debug, PartialEq, Eq, Error)]
 pub enum ScheduleFault {
     /// 1: the least output that is flagged. Outputs are stored.

@@ -9,13 +9,13 @@ ghost use Rattle.job.specs.WellFormed.{IsJob};
 ghost use Rattle.grouping.specs.Order.{backward};
 ghost use Rattle.grouping.specs.Schedules.{is_inlined, all_stored, IsSchedule};
 ghost use Rattle.grouping.specs.Inlining.{costs_of, AllFitScratch};
-ghost use Rattle.grouping.specs.Greedy.{nothing_chosen, common_home, home, visited, inlined_if, with_inlined, greedy_flags};
+ghost use Rattle.grouping.specs.Greedy.{nothing_chosen, common_group, group, visited, inlined_if, with_inlined, greedy_inlining};
 ghost use Rattle.grouping.specs.Standings.{areas_at, Stands, AllStand, LiesBehind};
 ghost use Rattle.grouping.specs.Trials.{choice_of, points_at, IsCandidate};
 ghost use Rattle.grouping.specs.declared.standing.Standing.TheVariants.{Stored, Inlined};
 
 use crate::costs::costs_of;
-use crate::flags::{Flags, is_function, is_output};
+use crate::inlining::{InlinedStages, is_function, is_output};
 use crate::order::in_order;
 use crate::readers::readers_of;
 use crate::standing::Standing;
@@ -23,49 +23,53 @@ use crate::trial::{Candidate, Trial, tiles_of};
 use job::Job;
 use std::alloc::{AllocError, Global};
 
-/// What is chosen so far: which functions are inlined, the home of each stage, and how each stage stands.
+/// What is chosen so far: which functions are inlined, the group of each stage, and how each stage stands.
 #[derive(Drop)]
-pub(crate) struct Choice {
-    pub(crate) flags: Flags,
-    pub(crate) homes: Vec<usize>,
+pub(crate) struct Grouping {
+    pub(crate) inlining: InlinedStages,
+    pub(crate) groups: Vec<usize>,
     pub(crate) standings: Vec<Standing>,
 }
 
 /// The functions that the greedy rule inlines.
-pub(crate) fn greedy_flags(alloc: Global, job: &Job, percent: u32) -> Result<Flags, AllocError>
+pub(crate) fn greedy_inlining(
+    alloc: Global,
+    job: &Job,
+    percent: u32,
+) -> Result<InlinedStages, AllocError>
     requires job { IsJob (pipeline_in job.now) }
     requires percent { percent ≤ 10000 }
-    ensures flags { IfOk result (λ f. f ≡ greedy_flags (pipeline_in job.now) percent) }
+    ensures inlining { IfOk result (λ f. f ≡ greedy_inlining (pipeline_in job.now) percent) }
     ensures schedule { IfOk result (IsSchedule (pipeline_in job.now)) }
     ensures fits { IfOk result (AllFitScratch (pipeline_in job.now)) }
 {
     let mut order = in_order(alloc, job.stages())?;
     order.reverse();
-    let mut choice = Choice::none(alloc, job)?;
+    let mut choice = Grouping::none(alloc, job)?;
     for number in &order {
         choice.visit(alloc, job, &order, *number, percent)?;
     }
-    Ok(choice.flags)
+    Ok(choice.inlining)
 }
 
-impl Choice {
+impl Grouping {
     // Each stage is stored.
-    fn none(alloc: Global, job: &Job) -> Result<Choice, AllocError>
+    fn none(alloc: Global, job: &Job) -> Result<Grouping, AllocError>
         requires { IsJob (pipeline_in job.now) }
         ensures choice { IfOk result (λ c. choice_of c ≡ nothing_chosen (pipeline_in job.now)) }
         ensures stand { IfOk result (λ c. AllStand (pipeline_in job.now) (choice_of c) c.standings.items) }
     {
-        let flags = Flags::all_stored(alloc, job)?;
-        let survey = costs_of(alloc, job, &flags)?;
-        let mut homes = Vec::new(alloc);
+        let inlining = InlinedStages::all_stored(alloc, job)?;
+        let survey = costs_of(alloc, job, &inlining)?;
+        let mut groups = Vec::new(alloc);
         let mut standings = Vec::new(alloc);
         for number in 0..job.stages().len() {
-            homes.push(number)?;
+            groups.push(number)?;
             standings.push(stored(alloc, job, &survey.costs, number)?)?;
         }
-        Ok(Choice {
-            flags,
-            homes,
+        Ok(Grouping {
+            inlining,
+            groups,
             standings,
         })
     }
@@ -84,8 +88,8 @@ impl Choice {
         requires order { order.now ≡ backward (pipeline_in job.now).stages }
         requires stand { AllStand (pipeline_in job.now) (choice_of self.old) self.old.standings.items }
         requires there { number < length (pipeline_in job.now).stages }
-        requires stored { is_inlined self.old.flags number ≡ false }
-        requires behind { LiesBehind (pipeline_in job.now) self.old.flags number }
+        requires stored { is_inlined self.old.inlining number ≡ false }
+        requires behind { LiesBehind (pipeline_in job.now) self.old.inlining number }
         ensures choice { OnOk result (choice_of self.new ≡ visited (pipeline_in job.now) percent (choice_of self.old) number) }
         ensures stand { OnOk result (AllStand (pipeline_in job.now) (choice_of self.new) self.new.standings.items) }
     {
@@ -93,18 +97,18 @@ impl Choice {
             return Ok(());
         }
         let readers = readers_of(alloc, job, order, number)?;
-        let Some(home) = self.common_home(&readers) else {
+        let Some(group) = self.common_group(&readers) else {
             return Ok(());
         };
         let candidate = Candidate {
             number,
             readers,
-            home,
+            group,
         };
         self.try_inline(alloc, job, &candidate, percent)
     }
 
-    // Inlines the function if that pays and its home has room.
+    // Inlines the function if that pays and its group has room.
     fn try_inline(
         &mut self,
         alloc: Global,
@@ -116,11 +120,11 @@ impl Choice {
         requires percent { percent ≤ 10000 }
         requires stand { AllStand (pipeline_in job.now) (choice_of self.old) self.old.standings.items }
         requires candidate { IsCandidate (pipeline_in job.now) (choice_of self.old) candidate.now }
-        ensures choice { OnOk result (choice_of self.new ≡ inlined_if (pipeline_in job.now) percent (choice_of self.old) candidate.now.number (Some candidate.now.home)) }
+        ensures choice { OnOk result (choice_of self.new ≡ inlined_if (pipeline_in job.now) percent (choice_of self.old) candidate.now.number (Some candidate.now.group)) }
         ensures stand { OnOk result (AllStand (pipeline_in job.now) (choice_of self.new) self.new.standings.items) }
     {
         let trial = self.trial(alloc, job, candidate)?;
-        let own = self.points(candidate.home);
+        let own = self.points(candidate.group);
         let apart = self.points(candidate.number);
         if pays(own, apart, trial.added, percent) && trial.fits() {
             let points = sum_of(own, trial.added)?;
@@ -129,18 +133,18 @@ impl Choice {
         Ok(())
     }
 
-    // The function is computed in the tiles of its home.
+    // The function is computed in the tiles of its group.
     fn inline(&mut self, candidate: &Candidate, trial: Trial, points: u64)
         requires number { candidate.now.number < length self.old.standings.items }
-        requires home { candidate.now.home < length self.old.standings.items }
-        requires homes { candidate.now.number < length self.old.homes.items }
-        ensures choice { choice_of self.new ≡ with_inlined (choice_of self.old) candidate.now.number candidate.now.home }
-        ensures standings { self.new.standings.items ≡ slice_set (slice_set self.old.standings.items candidate.now.number (Inlined trial.boxes)) candidate.now.home (Stored points trial.scratch) }
+        requires group { candidate.now.group < length self.old.standings.items }
+        requires groups { candidate.now.number < length self.old.groups.items }
+        ensures choice { choice_of self.new ≡ with_inlined (choice_of self.old) candidate.now.number candidate.now.group }
+        ensures standings { self.new.standings.items ≡ slice_set (slice_set self.old.standings.items candidate.now.number (Inlined trial.boxes)) candidate.now.group (Stored points trial.scratch) }
     {
-        self.flags.set(candidate.number, true);
-        self.homes[candidate.number] = candidate.home;
+        self.inlining.set(candidate.number, true);
+        self.groups[candidate.number] = candidate.group;
         self.standings[candidate.number] = Standing::Inlined(trial.boxes);
-        self.standings[candidate.home] = Standing::Stored(points, trial.scratch);
+        self.standings[candidate.group] = Standing::Stored(points, trial.scratch);
     }
 
     // What the tiles of a stored stage take together.
@@ -154,20 +158,20 @@ impl Choice {
     }
 
     // The stored stage in whose tiles a stage is computed.
-    fn home(&self, number: usize) -> usize
-        ensures { result ≡ home (choice_of self.now) number }
+    fn group(&self, number: usize) -> usize
+        ensures { result ≡ group (choice_of self.now) number }
     {
-        match self.homes.get(number) {
-            Some(home) => *home,
+        match self.groups.get(number) {
+            Some(group) => *group,
             None => number,
         }
     }
 
-    // The one home of all these stages, if there are any and they have one.
-    fn common_home(&self, readers: &[usize]) -> Option<usize>
-        ensures { result ≡ common_home (choice_of self.now) readers.now }
+    // The one group of all these stages, if there are any and they have one.
+    fn common_group(&self, readers: &[usize]) -> Option<usize>
+        ensures { result ≡ common_group (choice_of self.now) readers.now }
     {
-        let first = self.home(*readers.first()?);
+        let first = self.group(*readers.first()?);
         if self.all_at(first, readers) {
             Some(first)
         } else {
@@ -176,9 +180,9 @@ impl Choice {
     }
 
     fn all_at(&self, place: usize, stages: &[usize]) -> bool
-        ensures { result ≡ list_all (λ g. home (choice_of self.now) g == place) stages.now }
+        ensures { result ≡ list_all (λ g. group (choice_of self.now) g == place) stages.now }
     {
-        stages.iter().all(|stage| self.home(*stage) == place)
+        stages.iter().all(|stage| self.group(*stage) == place)
     }
 }
 
@@ -188,7 +192,7 @@ fn sum_of(own: u64, added: u64) -> Result<u64, AllocError>
     own.checked_add(added).ok_or(AllocError)
 }
 
-// Whether the home takes few enough points with so many more.
+// Whether the group takes few enough points with so many more.
 fn pays(own: u64, apart: u64, added: u64, percent: u32) -> bool
     requires { percent ≤ 10000 }
     ensures { result ≡ nat_le (100 * (own + added)) ((100 + percent) * (own + apart)) }

@@ -12,7 +12,7 @@ ghost use Rattle.job.specs.WellFormed.{IsJob};
 ghost use Rattle.grouping.specs.Chains.{ChainLeads, chosen_after};
 ghost use Rattle.grouping.specs.Costs.{scratch, points};
 ghost use Rattle.grouping.specs.Demands.{IsHullOfAll, hull_of_all};
-ghost use Rattle.grouping.specs.Greedy.{greedy_choice, greedy_flags, home};
+ghost use Rattle.grouping.specs.Greedy.{greedy_choice, greedy_inlining, group};
 ghost use Rattle.grouping.specs.Order.{ComesBefore, in_order};
 ghost use Rattle.grouping.specs.Schedules.{all_stored, is_inlined};
 ghost use Rattle.grouping.specs.Targets.{Target, IsTarget, IsListed, HasWhatItReads, box_by, box, region, boxes};
@@ -42,7 +42,7 @@ pub fn hulls_are_least()
 
 /// Each tile of a stage is a target.
 pub fn tiles_are_targets()
-    ensures { (job : Pipeline) (flags : List Bool) (g i j : ℕ) (grid : Grid) → IsJob job → grid_at job g ≡ Some grid → HasTile grid i j → IsTarget (record { job = job; flags = flags; stage = g; region = tile_area grid i j }) }
+    ensures { (job : Pipeline) (inlining : List Bool) (g i j : ℕ) (grid : Grid) → IsJob job → grid_at job g ≡ Some grid → HasTile grid i j → IsTarget (record { job = job; inlining = inlining; stage = g; region = tile_area grid i j }) }
 {}
 
 /// Boxes, and the regions of all that is in a target, are areas that lie in the domains. What is listed are functions with
@@ -55,14 +55,14 @@ pub fn boxes_lie_in_domains()
 
 /// Where nothing is inlined a target takes no scratch memory, and its own points alone.
 pub fn stored_stages_take_no_scratch()
-    ensures scratch { (t : Target) → t.flags ≡ all_stored t.job → scratch t ≡ 0 }
-    ensures points { (t : Target) → t.flags ≡ all_stored t.job → points t ≡ point_count t.region }
+    ensures scratch { (t : Target) → t.inlining ≡ all_stored t.job → scratch t ≡ 0 }
+    ensures points { (t : Target) → t.inlining ≡ all_stored t.job → points t ≡ point_count t.region }
 {}
 
-/// The greedy choice has each stage at home in a stored stage: the one from which a chain of reads leads to it through inlined
+/// The greedy choice has each stage at group in a stored stage: the one from which a chain of reads leads to it through inlined
 /// functions alone. Homes follow chains so on the way, too, when some stages have been visited.
-pub fn homes_follow_chains()
-    ensures stored { (job : Pipeline) (percent x : ℕ) → IsJob job → is_inlined (greedy_flags job percent) (home (greedy_choice job percent) x) ≡ false }
-    ensures chains { (job : Pipeline) (percent t x : ℕ) → IsJob job → is_inlined (greedy_flags job percent) t ≡ false → ChainLeads job (greedy_flags job percent) t x ↔ (home (greedy_choice job percent) x ≡ t) }
-    ensures on_the_way { (job : Pipeline) (percent k t x : ℕ) → IsJob job → is_inlined (chosen_after job percent k).flags t ≡ false → ChainLeads job (chosen_after job percent k).flags t x ↔ (home (chosen_after job percent k) x ≡ t) }
+pub fn groups_follow_chains()
+    ensures stored { (job : Pipeline) (percent x : ℕ) → IsJob job → is_inlined (greedy_inlining job percent) (group (greedy_choice job percent) x) ≡ false }
+    ensures chains { (job : Pipeline) (percent t x : ℕ) → IsJob job → is_inlined (greedy_inlining job percent) t ≡ false → ChainLeads job (greedy_inlining job percent) t x ↔ (group (greedy_choice job percent) x ≡ t) }
+    ensures on_the_way { (job : Pipeline) (percent k t x : ℕ) → IsJob job → is_inlined (chosen_after job percent k).inlining t ≡ false → ChainLeads job (chosen_after job percent k).inlining t x ↔ (group (chosen_after job percent k) x ≡ t) }
 {}

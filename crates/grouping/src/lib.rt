@@ -4,8 +4,8 @@
 mod costs;
 mod demands;
 mod fault;
-mod flags;
 mod greedy;
+mod inlining;
 pub mod laws;
 mod order;
 mod readers;

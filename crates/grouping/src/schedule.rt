@@ -5,20 +5,20 @@ ghost use Rattle.std.specs.Prelude.{◌≡◌, ◌≤◌, None, IfOk, IfErr, len
 
 use crate::costs::costs_of;
 use crate::fault::ScheduleFault;
-use crate::flags::Flags;
-use crate::greedy::greedy_flags;
+use crate::greedy::greedy_inlining;
+use crate::inlining::InlinedStages;
 use crate::order::in_order;
-use crate::target::Site;
+use crate::target::TargetWalk;
 use domains::Area;
 use job::Job;
 use std::alloc::{AllocError, Global};
 use std::marker::Model;
 
 /// Which functions are inlined, what the other functions and the accumulators cost, and whether each of their tiles is known to
-/// have room in scratch memory. Contracts see flags and costs as lists.
+/// have room in scratch memory. Contracts see inlining and costs as lists.
 #[derive(Debug, Drop)]
 pub struct Schedule {
-    flags: Flags,
+    inlining: InlinedStages,
     costs: Vec<Option<u64>>,
     fits: bool,
 }
@@ -28,16 +28,16 @@ impl Model for Schedule {
 
     ghost Value = { Inlining };
 
-    ghost view = { λ s. record { flags = s.flags; costs = s.costs.items; fits = s.fits } };
+    ghost view = { λ s. record { inlining = s.inlining; costs = s.costs.items; fits = s.fits } };
 }
 
 impl Schedule {
     ghost use Rattle.job.specs.Kept.{pipeline_in};
     ghost use Rattle.job.specs.WellFormed.{IsJob};
-    ghost use Rattle.grouping.specs.Schedules.{is_inlined, flags_for, all_stored, IsSchedule};
+    ghost use Rattle.grouping.specs.Schedules.{is_inlined, inlining_for, all_stored, IsSchedule};
     ghost use Rattle.grouping.specs.Targets.{IsTarget, boxes};
     ghost use Rattle.grouping.specs.Costs.{scratch};
-    ghost use Rattle.grouping.specs.Greedy.{greedy_flags};
+    ghost use Rattle.grouping.specs.Greedy.{greedy_inlining};
     ghost use Rattle.grouping.specs.Inlining.{IsScheduleOf, IsScheduleFault, AllFitScratch};
 
     /// The schedule that inlines nothing.
@@ -47,12 +47,12 @@ impl Schedule {
     /// Fails only where memory is refused, or where a cost has more than 64 bits; no program of 64 stages has such a cost.
     pub fn stored(alloc: Global, job: &Job) -> Result<Schedule, AllocError>
         requires { IsJob (pipeline_in job.now) }
-        ensures stored { IfOk result (λ s. s.flags ≡ all_stored (pipeline_in job.now)) }
-        ensures fits { IfOk result (λ s. AllFitScratch (pipeline_in job.now) s.flags) }
+        ensures stored { IfOk result (λ s. s.inlining ≡ all_stored (pipeline_in job.now)) }
+        ensures fits { IfOk result (λ s. AllFitScratch (pipeline_in job.now) s.inlining) }
         ensures schedule { IfOk result (IsScheduleOf (pipeline_in job.now)) }
     {
-        let flags = Flags::all_stored(alloc, job)?;
-        let schedule = Schedule::with_costs(alloc, job, flags)?;
+        let inlining = InlinedStages::all_stored(alloc, job)?;
+        let schedule = Schedule::with_costs(alloc, job, inlining)?;
         Ok(schedule)
     }
 
@@ -63,14 +63,14 @@ impl Schedule {
     ///
     /// Names the least output that is flagged. Else fails only where memory is refused, or where a cost has more than 64
     /// bits; no program of 64 stages has such a cost.
-    pub fn of(alloc: Global, job: &Job, flags: &[bool]) -> Result<Schedule, ScheduleFault>
+    pub fn of(alloc: Global, job: &Job, inlining: &[bool]) -> Result<Schedule, ScheduleFault>
         requires job { IsJob (pipeline_in job.now) }
-        requires each { length flags.now ≡ length (pipeline_in job.now).stages }
-        ensures flags { IfOk result (λ s. s.flags ≡ flags_for (pipeline_in job.now) flags.now) }
+        requires each { length inlining.now ≡ length (pipeline_in job.now).stages }
+        ensures inlining { IfOk result (λ s. s.inlining ≡ inlining_for (pipeline_in job.now) inlining.now) }
         ensures schedule { IfOk result (IsScheduleOf (pipeline_in job.now)) }
-        ensures fault { IfErr result (IsScheduleFault (pipeline_in job.now) flags.now) }
+        ensures fault { IfErr result (IsScheduleFault (pipeline_in job.now) inlining.now) }
     {
-        let asked = Flags::asked(alloc, job, flags)?;
+        let asked = InlinedStages::asked(alloc, job, inlining)?;
         match asked.first_output(job) {
             Some(stage) => Err(ScheduleFault::OutputInlined(stage)),
             None => Ok(Schedule::with_costs(alloc, job, asked)?),
@@ -87,24 +87,24 @@ impl Schedule {
     pub fn greedy(alloc: Global, job: &Job, percent: u32) -> Result<Schedule, AllocError>
         requires job { IsJob (pipeline_in job.now) }
         requires percent { percent ≤ 10000 }
-        ensures greedy { IfOk result (λ s. s.flags ≡ greedy_flags (pipeline_in job.now) percent) }
+        ensures greedy { IfOk result (λ s. s.inlining ≡ greedy_inlining (pipeline_in job.now) percent) }
         ensures schedule { IfOk result (IsScheduleOf (pipeline_in job.now)) }
-        ensures fits { IfOk result (λ s. AllFitScratch (pipeline_in job.now) s.flags) }
+        ensures fits { IfOk result (λ s. AllFitScratch (pipeline_in job.now) s.inlining) }
     {
-        let flags = greedy_flags(alloc, job, percent)?;
-        let schedule = Schedule::with_costs(alloc, job, flags)?;
+        let inlining = greedy_inlining(alloc, job, percent)?;
+        let schedule = Schedule::with_costs(alloc, job, inlining)?;
         Ok(schedule)
     }
 
-    fn with_costs(alloc: Global, job: &Job, flags: Flags) -> Result<Schedule, AllocError>
+    fn with_costs(alloc: Global, job: &Job, inlining: InlinedStages) -> Result<Schedule, AllocError>
         requires job { IsJob (pipeline_in job.now) }
-        requires schedule { IsSchedule (pipeline_in job.now) flags }
-        ensures flags { IfOk result (λ s. s.flags ≡ flags) }
+        requires schedule { IsSchedule (pipeline_in job.now) inlining }
+        ensures inlining { IfOk result (λ s. s.inlining ≡ inlining) }
         ensures schedule { IfOk result (IsScheduleOf (pipeline_in job.now)) }
     {
-        let survey = costs_of(alloc, job, &flags)?;
+        let survey = costs_of(alloc, job, &inlining)?;
         Ok(Schedule {
-            flags,
+            inlining,
             costs: survey.costs,
             fits: survey.fits,
         })
@@ -112,9 +112,9 @@ impl Schedule {
 
     /// Whether the stage of this number is inlined.
     pub fn inlined(&self, stage: usize) -> bool
-        ensures { result ≡ is_inlined self.now.flags stage }
+        ensures { result ≡ is_inlined self.now.inlining stage }
     {
-        self.flags.inlined(stage)
+        self.inlining.inlined(stage)
     }
 
     /// How many points the tiles of a stored function or of an accumulator take together, with those of what is inlined in
@@ -149,16 +149,16 @@ impl Schedule {
         region: Area,
     ) -> Result<Vec<(usize, Area)>, AllocError>
         requires job { IsJob (pipeline_in job.now) }
-        requires target { IsTarget (record { job = pipeline_in job.now; flags = self.now.flags; stage = target; region = region }) }
-        ensures { IfOk result (λ found. found.items ≡ boxes (record { job = pipeline_in job.now; flags = self.now.flags; stage = target; region = region })) }
+        requires target { IsTarget (record { job = pipeline_in job.now; inlining = self.now.inlining; stage = target; region = region }) }
+        ensures { IfOk result (λ found. found.items ≡ boxes (record { job = pipeline_in job.now; inlining = self.now.inlining; stage = target; region = region })) }
     {
-        let site = Site {
+        let walk = TargetWalk {
             job,
-            schedule: &self.flags,
+            schedule: &self.inlining,
             stage: target,
             region,
         };
-        site.boxes(alloc)
+        walk.boxes(alloc)
     }
     /// How many points the boxes of what is inlined have together, for a target over a region of its domain.
     ///
@@ -173,15 +173,15 @@ impl Schedule {
         region: Area,
     ) -> Result<u64, AllocError>
         requires job { IsJob (pipeline_in job.now) }
-        requires target { IsTarget (record { job = pipeline_in job.now; flags = self.now.flags; stage = target; region = region }) }
-        ensures { IfOk result (λ n. n ≡ scratch (record { job = pipeline_in job.now; flags = self.now.flags; stage = target; region = region })) }
+        requires target { IsTarget (record { job = pipeline_in job.now; inlining = self.now.inlining; stage = target; region = region }) }
+        ensures { IfOk result (λ n. n ≡ scratch (record { job = pipeline_in job.now; inlining = self.now.inlining; stage = target; region = region })) }
     {
-        let site = Site {
+        let walk = TargetWalk {
             job,
-            schedule: &self.flags,
+            schedule: &self.inlining,
             stage: target,
             region,
         };
-        site.scratch(alloc, &in_order(alloc, job.stages())?)
+        walk.scratch(alloc, &in_order(alloc, job.stages())?)
     }
 }

@@ -8,6 +8,6 @@ use domains::Area;
 pub(crate) enum Standing {
     /// Stored: how many points its tiles take together, and how many each of them has in scratch memory.
     Stored(u64, Vec<u64>),
-    /// Inlined: its box in each tile of its home.
+    /// Inlined: its box in each tile of its group.
     Inlined(Vec<Option<Area>>),
 }

@@ -5,7 +5,7 @@ ghost use Rattle.std.specs.Prelude.{◌≡◌, IfOk, IfSome, reverse, slice_get}
 ghost use Rattle.std.specs.List.{flat_map};
 
 use crate::demands::{common, demand_all};
-use crate::flags::Flags;
+use crate::inlining::InlinedStages;
 use crate::order::in_order;
 use domains::Area;
 use job::{Job, StageKind};
@@ -13,23 +13,23 @@ use std::alloc::{AllocError, Global};
 
 /// A stage of a job over a region of its domain.
 #[derive(Clone, Copy)]
-pub(crate) struct Site<'a> {
+pub(crate) struct TargetWalk<'a> {
     pub(crate) job: &'a Job,
-    pub(crate) schedule: &'a Flags,
+    pub(crate) schedule: &'a InlinedStages,
     pub(crate) stage: usize,
     pub(crate) region: Area,
 }
 
-impl Site<'_> {
+impl TargetWalk<'_> {
     ghost use Rattle.job.specs.Kept.{pipeline_in};
     ghost use Rattle.job.specs.WellFormed.{IsJob};
     ghost use Rattle.grouping.specs.Targets.{IsTarget, region_by, stage_demands, with_number, is_boxed, boxes};
-    ghost use Rattle.grouping.specs.Walks.{IsNearArea, target_of, demanded_all, no_hulls, cut_hull, walked_one, walked, numbered_hull};
+    ghost use Rattle.grouping.specs.Walks.{InDomainRanges, target_of, demanded_all, no_hulls, cut_hull, walked_one, walked, numbered_hull};
 
     // The hull of what is demanded of a stage, cut to its domain.
     pub(crate) fn box_of(&self, hulls: &[Option<Area>], number: usize) -> Option<Area>
         ensures is { result ≡ cut_hull (pipeline_in self.now.job.now).stages hulls.now number }
-        ensures near { IfSome result IsNearArea }
+        ensures near { IfSome result InDomainRanges }
     {
         match (self.job.stage(number), hulls.get(number)) {
             (Some(stage), Some(Some(hull))) => common(hull, stage.domain()),
@@ -41,7 +41,7 @@ impl Site<'_> {
     fn region_of(&self, hulls: &[Option<Area>], number: usize) -> Option<Area>
         requires target { IsTarget (target_of self.now) }
         ensures is { result ≡ region_by (target_of self.now) (cut_hull (pipeline_in self.now.job.now).stages hulls.now) number }
-        ensures near { IfSome result IsNearArea }
+        ensures near { IfSome result InDomainRanges }
     {
         if number == self.stage {
             Some(self.region)
@@ -65,7 +65,7 @@ impl Site<'_> {
     // What a stage demands over a region, if it has one, comes in.
     pub(crate) fn demand(&self, hulls: &mut [Option<Area>], number: usize, region: Option<Area>)
         requires job { IsJob (pipeline_in self.now.job.now) }
-        requires near { IfSome region IsNearArea }
+        requires near { IfSome region InDomainRanges }
         ensures { hulls.new ≡ demanded_all hulls.old (stage_demands (slice_get (pipeline_in self.now.job.now).stages number) region) }
     {
         if let Some(region) = region {

@@ -6,16 +6,16 @@ ghost use Rattle.std.specs.List.{flat_map, list_all};
 ghost use Rattle.job.specs.Kept.{pipeline_in};
 ghost use Rattle.job.specs.WellFormed.{IsJob};
 ghost use Rattle.grouping.specs.Costs.{most_scratch};
-ghost use Rattle.grouping.specs.Greedy.{home};
+ghost use Rattle.grouping.specs.Greedy.{group};
 ghost use Rattle.grouping.specs.Standings.{target_at, areas_at, AllStand};
 ghost use Rattle.grouping.specs.Targets.{IsTarget, region, box, demands_by};
 ghost use Rattle.grouping.specs.Trials.{choice_of, box_at, scratch_at, points_of_box, IsCandidate, IsTrialOf};
-ghost use Rattle.grouping.specs.Walks.{IsNearArea, demanded_all, target_of};
+ghost use Rattle.grouping.specs.Walks.{InDomainRanges, demanded_all, target_of};
 
 use crate::costs::{MOST_SCRATCH, areas_of_tiles};
-use crate::greedy::Choice;
+use crate::greedy::Grouping;
 use crate::standing::Standing;
-use crate::target::Site;
+use crate::target::TargetWalk;
 use domains::Area;
 use job::Job;
 use std::alloc::{AllocError, Global};
@@ -26,10 +26,10 @@ use std::alloc::{AllocError, Global};
 pub(crate) struct Candidate {
     pub(crate) number: usize,
     pub(crate) readers: Vec<usize>,
-    pub(crate) home: usize,
+    pub(crate) group: usize,
 }
 
-/// The boxes of a function in the tiles of its home, how many points they have together, and how many each tile then has in
+/// The boxes of a function in the tiles of its group, how many points they have together, and how many each tile then has in
 /// scratch memory.
 #[derive(Drop)]
 pub(crate) struct Trial {
@@ -82,7 +82,7 @@ fn points_of(area: &Option<Area>) -> u64
     }
 }
 
-impl Choice {
+impl Grouping {
     /// What inlining a function would take.
     pub(crate) fn trial(
         &self,
@@ -93,14 +93,14 @@ impl Choice {
         requires job { IsJob (pipeline_in job.now) }
         requires stand { AllStand (pipeline_in job.now) (choice_of self.now) self.now.standings.items }
         requires candidate { IsCandidate (pipeline_in job.now) (choice_of self.now) candidate.now }
-        ensures { IfOk result (IsTrialOf (pipeline_in job.now) self.now.flags candidate.now.home candidate.now.number) }
+        ensures { IfOk result (IsTrialOf (pipeline_in job.now) self.now.inlining candidate.now.group candidate.now.number) }
     {
-        let tiles = tiles_of(alloc, job, candidate.home)?;
+        let tiles = tiles_of(alloc, job, candidate.group)?;
         let mut hulls = no_hulls(alloc, job)?;
         self.trial_over(alloc, job, candidate, &tiles, &mut hulls)
     }
 
-    // The same over the tiles of its home. The hulls are room to work in.
+    // The same over the tiles of its group. The hulls are room to work in.
     fn trial_over(
         &self,
         alloc: Global,
@@ -112,19 +112,19 @@ impl Choice {
         requires job { IsJob (pipeline_in job.now) }
         requires stand { AllStand (pipeline_in job.now) (choice_of self.now) self.now.standings.items }
         requires candidate { IsCandidate (pipeline_in job.now) (choice_of self.now) candidate.now }
-        requires tiles { tiles.now ≡ areas_at (pipeline_in job.now) candidate.now.home }
+        requires tiles { tiles.now ≡ areas_at (pipeline_in job.now) candidate.now.group }
         requires hulls { length hulls.old ≡ length (pipeline_in job.now).stages }
-        ensures { IfOk result (IsTrialOf (pipeline_in job.now) self.now.flags candidate.now.home candidate.now.number) }
+        ensures { IfOk result (IsTrialOf (pipeline_in job.now) self.now.inlining candidate.now.group candidate.now.number) }
     {
         let mut trial = Trial::none(alloc);
         for (place, tile) in tiles.iter().enumerate() {
             let area = self.box_in(job, candidate, place, tile, hulls);
-            trial.add(area, self.scratch_in(candidate.home, place))?;
+            trial.add(area, self.scratch_in(candidate.group, place))?;
         }
         Ok(trial)
     }
 
-    // The box of the function in a tile of its home.
+    // The box of the function in a tile of its group.
     fn box_in(
         &self,
         job: &Job,
@@ -136,64 +136,64 @@ impl Choice {
         requires job { IsJob (pipeline_in job.now) }
         requires stand { AllStand (pipeline_in job.now) (choice_of self.now) self.now.standings.items }
         requires candidate { IsCandidate (pipeline_in job.now) (choice_of self.now) candidate.now }
-        requires tile { slice_get (areas_at (pipeline_in job.now) candidate.now.home) place ≡ Some tile.now }
+        requires tile { slice_get (areas_at (pipeline_in job.now) candidate.now.group) place ≡ Some tile.now }
         requires hulls { length hulls.old ≡ length (pipeline_in job.now).stages }
-        ensures is { result ≡ box (target_at (pipeline_in job.now) self.now.flags candidate.now.home tile.now) candidate.now.number }
+        ensures is { result ≡ box (target_at (pipeline_in job.now) self.now.inlining candidate.now.group tile.now) candidate.now.number }
         ensures room { length hulls.new ≡ length hulls.old }
     {
-        let site = Site {
+        let walk = TargetWalk {
             job,
-            schedule: &self.flags,
-            stage: candidate.home,
+            schedule: &self.inlining,
+            stage: candidate.group,
             region: *tile,
         };
         forget(hulls, candidate.number);
-        self.demand_all(hulls, &site, &candidate.readers, place);
-        site.box_of(hulls, candidate.number)
+        self.demand_all(hulls, &walk, &candidate.readers, place);
+        walk.box_of(hulls, candidate.number)
     }
 
-    // What these stages demand in a tile of their home.
+    // What these stages demand in a tile of their group.
     fn demand_all(
         &self,
         hulls: &mut [Option<Area>],
-        site: &Site<'_>,
+        walk: &TargetWalk<'_>,
         readers: &[usize],
         place: usize,
     )
-        requires job { IsJob (pipeline_in site.now.job.now) }
-        requires target { IsTarget (target_of site.now) }
-        requires flags { site.now.schedule.now ≡ self.now.flags }
-        requires stand { AllStand (pipeline_in site.now.job.now) (choice_of self.now) self.now.standings.items }
-        requires tile { slice_get (areas_at (pipeline_in site.now.job.now) site.now.stage) place ≡ Some site.now.region }
-        requires readers { All (λ r. r < length (pipeline_in site.now.job.now).stages) readers.now }
-        requires homes { All (λ r. home (choice_of self.now) r ≡ site.now.stage) readers.now }
-        ensures { hulls.new ≡ demanded_all hulls.old (flat_map (demands_by (target_of site.now) (box (target_of site.now))) readers.now) }
+        requires job { IsJob (pipeline_in walk.now.job.now) }
+        requires target { IsTarget (target_of walk.now) }
+        requires inlining { walk.now.schedule.now ≡ self.now.inlining }
+        requires stand { AllStand (pipeline_in walk.now.job.now) (choice_of self.now) self.now.standings.items }
+        requires tile { slice_get (areas_at (pipeline_in walk.now.job.now) walk.now.stage) place ≡ Some walk.now.region }
+        requires readers { All (λ r. r < length (pipeline_in walk.now.job.now).stages) readers.now }
+        requires groups { All (λ r. group (choice_of self.now) r ≡ walk.now.stage) readers.now }
+        ensures { hulls.new ≡ demanded_all hulls.old (flat_map (demands_by (target_of walk.now) (box (target_of walk.now))) readers.now) }
     {
         for reader in readers {
-            site.demand(hulls, *reader, self.region_in(site, *reader, place));
+            walk.demand(hulls, *reader, self.region_in(walk, *reader, place));
         }
     }
 
-    // The region of a stage in a tile of its home.
-    fn region_in(&self, site: &Site<'_>, reader: usize, place: usize) -> Option<Area>
-        requires job { IsJob (pipeline_in site.now.job.now) }
-        requires target { IsTarget (target_of site.now) }
-        requires flags { site.now.schedule.now ≡ self.now.flags }
-        requires stand { AllStand (pipeline_in site.now.job.now) (choice_of self.now) self.now.standings.items }
-        requires tile { slice_get (areas_at (pipeline_in site.now.job.now) site.now.stage) place ≡ Some site.now.region }
-        requires there { reader < length (pipeline_in site.now.job.now).stages }
-        requires home { home (choice_of self.now) reader ≡ site.now.stage }
-        ensures is { result ≡ region (target_of site.now) reader }
-        ensures near { IfSome result IsNearArea }
+    // The region of a stage in a tile of its group.
+    fn region_in(&self, walk: &TargetWalk<'_>, reader: usize, place: usize) -> Option<Area>
+        requires job { IsJob (pipeline_in walk.now.job.now) }
+        requires target { IsTarget (target_of walk.now) }
+        requires inlining { walk.now.schedule.now ≡ self.now.inlining }
+        requires stand { AllStand (pipeline_in walk.now.job.now) (choice_of self.now) self.now.standings.items }
+        requires tile { slice_get (areas_at (pipeline_in walk.now.job.now) walk.now.stage) place ≡ Some walk.now.region }
+        requires there { reader < length (pipeline_in walk.now.job.now).stages }
+        requires group { group (choice_of self.now) reader ≡ walk.now.stage }
+        ensures is { result ≡ region (target_of walk.now) reader }
+        ensures near { IfSome result InDomainRanges }
     {
-        if reader == site.stage {
-            Some(site.region)
+        if reader == walk.stage {
+            Some(walk.region)
         } else {
             self.box_at(reader, place)
         }
     }
 
-    // The box of a function that was inlined, in a tile of its home.
+    // The box of a function that was inlined, in a tile of its group.
     fn box_at(&self, number: usize, place: usize) -> Option<Area>
         ensures { result ≡ box_at (slice_get self.now.standings.items number) place }
     {
@@ -204,10 +204,10 @@ impl Choice {
     }
 
     // What a tile of a stored stage has in scratch memory.
-    fn scratch_in(&self, home: usize, place: usize) -> u64
-        ensures { result ≡ scratch_at (slice_get self.now.standings.items home) place }
+    fn scratch_in(&self, group: usize, place: usize) -> u64
+        ensures { result ≡ scratch_at (slice_get self.now.standings.items group) place }
     {
-        match self.standings.get(home) {
+        match self.standings.get(group) {
             Some(Standing::Stored(_, scratch)) => scratch.get(place).copied().unwrap_or(0),
             _ => 0,
         }

@@ -4,7 +4,7 @@ use Rattle.std.proofs.Math.Seq.{map-set_same, take-suc}
 use Rattle.std.proofs.lemmas.Option.{get_or_from_slice_get}
 use Rattle.std.proofs.lemmas.Simd.{map-map}
 use Rattle.std.specs.Prelude.{◌↔◌, string_bytes}
-use Rattle.pipe_checks.specs.declared.declared.Declared.{Declared}
+use Rattle.pipe_checks.specs.declared.symbol.Symbol.{Symbol}
 use Rattle.pipe_bounds.specs.declared.params.Setting.{Setting}
 use Rattle.pipe_bounds.specs.declared.fault.ParamFault.{ParamFault}
 use Rattle.pipe_bounds.specs.declared.fault.ParamFault.TheVariants.{NoSuchParam, SetTwice}
@@ -39,8 +39,8 @@ given_named : (old : List Setting) (xs : List Given) (new : List Setting) → Ar
 given_named old [] new e = ap (map (λ (s : Setting). s.name)) e
 given_named old ((name, value) ∷ xs) new (next, first, rest) = given_named next xs new rest ∙ set_named old next (string_bytes name) value first
 
-pub params_named : (ps : List Declared) (xs : List Given) (new : List Setting) → AreGiven (map unset ps) xs new
-    → map (λ (s : Setting). s.name) new ≡ map (λ (d : Declared). d.name) ps
+pub params_named : (ps : List Symbol) (xs : List Given) (new : List Setting) → AreGiven (map unset ps) xs new
+    → map (λ (s : Setting). s.name) new ≡ map (λ (d : Symbol). d.name) ps
 params_named ps xs new given = given_named (map unset ps) xs new given ∙ map-map (λ (s : Setting). s.name) unset ps
 
 -- ---- refusals

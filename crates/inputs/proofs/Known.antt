@@ -21,7 +21,7 @@ use Rattle.pipe_checks.specs.Graph.{IsRanking}
 use Rattle.pipe_checks.specs.Names.{params_of, stages_of}
 use Rattle.pipe_checks.specs.Sites.{graph_of}
 use Rattle.pipe_bounds.specs.Unset.{unset}
-use Rattle.pipe_checks.specs.declared.declared.Declared.{Declared}
+use Rattle.pipe_checks.specs.declared.symbol.Symbol.{Symbol}
 use Rattle.pipe_bounds.specs.declared.params.Setting.{Setting}
 use Rattle.binding.specs.BindFaults.{IsBindFault, IsBound}
 use Rattle.binding.specs.Binding.{IsJobOf}
@@ -103,7 +103,7 @@ bind_fault input given sides tree source chosen ranks fault faults.Write read me
 pub input_job : (input : List ℕ) (given : List Given) (sides : Sides) (tree : Tree) (source : Image) (checked : CheckedProgram) (chosen : List Setting) (job : Pipeline)
     → IsInput input (content tree) source → IsCheckedOf tree checked → AreGiven (map unset (params_in checked)) given chosen
     → IsBound (content (tree_in checked)) (program_of checked chosen) source sides job
-    → (map (λ (s : Setting). s.name) chosen ≡ map (λ (d : Declared). d.name) (params_in checked) → IsJobOf (content (tree_in checked)) chosen source sides job)
+    → (map (λ (s : Setting). s.name) chosen ≡ map (λ (d : Symbol). d.name) (params_in checked) → IsJobOf (content (tree_in checked)) chosen source sides job)
     → IsInputJob input given sides (content tree) job
 input_job input given sides tree source checked chosen job read ok are_given bound says =
     record {
@@ -128,7 +128,7 @@ input_small input given sides tree job is = small_job tree is.chosen is.source s
 pub read_job : (input : List ℕ) (given : List Given) (sides : Sides) (tree : Tree) (source : Image) (checked : CheckedProgram) (chosen : List Setting) (job : Job)
     → IsInput input (content tree) source → IsCheckedOf tree checked → AreGiven (map unset (params_in checked)) given chosen
     → IsBound (content (tree_in checked)) (program_of checked chosen) source sides (pipeline_in job)
-    → (map (λ (s : Setting). s.name) chosen ≡ map (λ (d : Declared). d.name) (params_in checked) → IsJobOf (content (tree_in checked)) chosen source sides (pipeline_in job))
+    → (map (λ (s : Setting). s.name) chosen ≡ map (λ (d : Symbol). d.name) (params_in checked) → IsJobOf (content (tree_in checked)) chosen source sides (pipeline_in job))
     → program_text_in job ≡ canonical (content (tree_in checked)) → IsReadJob input given sides job
 read_job input given sides tree source checked chosen job read ok are_given bound says text =
     record {

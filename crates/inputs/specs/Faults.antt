@@ -12,7 +12,7 @@ use Rattle.pipe_checks.specs.Checking.{IsFault as IsProgramFault}
 use Rattle.pipe_checks.specs.Graph.{IsRanking}
 use Rattle.pipe_checks.specs.Names.{params_of, stages_of}
 use Rattle.pipe_checks.specs.Sites.{graph_of}
-use Rattle.pipe_checks.specs.declared.declared.Declared.{Declared}
+use Rattle.pipe_checks.specs.declared.symbol.Symbol.{Symbol}
 use Rattle.pipe_bounds.specs.declared.fault.BoundFault.{BoundFault}
 use Rattle.pipe_bounds.specs.declared.fault.BoundFault.TheVariants as bounds
 use Rattle.pipe_checks.specs.declared.fault.CheckFault.TheVariants as checks
@@ -30,13 +30,13 @@ use Rattle.inputs.specs.declared.lines.CheckLine.{CheckLine}
 use Rattle.inputs.specs.declared.lines.CheckLine.TheVariants as lines
 
 -- the name of the stage, or of the parameter, of this number
-abbrev pub name_at : List Declared → ℕ → Option (List ℕ)
-name_at declared n = option_map (λ (d : Declared). d.name) (slice_get declared n)
+abbrev pub name_at : List Symbol → ℕ → Option (List ℕ)
+name_at declared n = option_map (λ (d : Symbol). d.name) (slice_get declared n)
 
 -- ---- faults of a program
 
 -- the names of the stages of these numbers
-abbrev pub names_of : List Declared → List ℕ → List (List ℕ)
+abbrev pub names_of : List Symbol → List ℕ → List (List ℕ)
 names_of stages numbers = filter_map (name_at stages) numbers
 
 -- the fault of a program, told by the names of its stages
@@ -49,14 +49,14 @@ IsCheckLine tree (lines.Fault fault) = IsProgramFault tree fault
 -- ---- faults of a program and a picture
 
 -- the name of the parameter or the stage that a fault blames, if it blames one
-abbrev pub blamed_in_bounds : List Declared → List Declared → BoundFault → Option (List ℕ)
+abbrev pub blamed_in_bounds : List Symbol → List Symbol → BoundFault → Option (List ℕ)
 blamed_in_bounds params stages (bounds.ParamUnset n) = name_at params n
 blamed_in_bounds params stages (bounds.EmptyDomain n) = name_at stages n
 blamed_in_bounds params stages (bounds.DomainTooWide n) = name_at stages n
 blamed_in_bounds params stages (bounds.OutOfBounds n case read axis least greatest) = name_at stages n
 blamed_in_bounds params stages bounds.Memory = None
 
-abbrev pub blamed : List Declared → List Declared → BindFault → Option (List ℕ)
+abbrev pub blamed : List Symbol → List Symbol → BindFault → Option (List ℕ)
 blamed params stages (binding.Bounds fault) = blamed_in_bounds params stages fault
 blamed params stages binding.Planes = None
 blamed params stages binding.ExtentMismatch = None

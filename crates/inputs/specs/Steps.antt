@@ -3,7 +3,7 @@ use Rattle.std.specs.Prelude.{◌≡◌, ◌≢◌, ℕ, ◌<◌, Option, IfSome
 use Rattle.domains.specs.Sides.{Sides}
 use Rattle.pipe_tree.specs.Tree.{Declaration}
 use Rattle.pipe_print.specs.Canonical.{canonical}
-use Rattle.pipe_checks.specs.declared.declared.Declared.{Declared}
+use Rattle.pipe_checks.specs.declared.symbol.Symbol.{Symbol}
 use Rattle.pipe_bounds.specs.declared.fault.ParamFault.{ParamFault}
 use Rattle.pipe_bounds.specs.declared.params.Setting.{Setting}
 use Rattle.job.specs.Kept.{pipeline_in, program_text_in}
@@ -51,7 +51,7 @@ IsParamRefusal ss given faults.Memory = Unit {0}
 IsParamRefusal ss given _ = ⊥
 
 -- how a fault of binding is told by the names of these parameters and stages
-abbrev pub TellsBind : List Declared → List Declared → BindFault → StreamFault → Type 0
+abbrev pub TellsBind : List Symbol → List Symbol → BindFault → StreamFault → Type 0
 TellsBind params stages fault (faults.Bind line) = (line.fault ≡ fault) × (fault ≢ binding.Memory) × (line.blamed ≡ blamed params stages fault)
 TellsBind params stages fault faults.Memory = Unit {0}
 TellsBind params stages fault _ = ⊥

@@ -10,7 +10,7 @@ ghost use Rattle.inputs.specs.Faults.{name_at, names_of};
 
 use crate::faults::StreamFault;
 use crate::lines::{CheckLine, StageNames};
-use pipe_checks::{CheckFault, Checked, Cycle, Declared, check, declared_stages};
+use pipe_checks::{CheckFault, Checked, Cycle, Symbol, check, declared_stages};
 use pipe_tokens::Name;
 use pipe_tree::{Item, Tree};
 use std::alloc::{AllocError, Global};
@@ -49,7 +49,7 @@ fn names_along(alloc: Global, items: &[Item], cycle: &Cycle) -> Result<StageName
     names_of(alloc, &stages, cycle.stages())
 }
 
-fn names_of(alloc: Global, stages: &[Declared], numbers: &[usize]) -> Result<StageNames, AllocError>
+fn names_of(alloc: Global, stages: &[Symbol], numbers: &[usize]) -> Result<StageNames, AllocError>
     ensures { IfOk result (λ names. names ≡ names_of stages.now numbers.now) }
 {
     let mut names = Vec::new(alloc);
@@ -62,7 +62,7 @@ fn names_of(alloc: Global, stages: &[Declared], numbers: &[usize]) -> Result<Sta
 }
 
 /// The name of the stage, or of the parameter, of this number.
-pub fn name_at(declared: &[Declared], number: usize) -> Option<Name>
+pub fn name_at(declared: &[Symbol], number: usize) -> Option<Name>
     ensures { result ≡ name_at declared.now number }
 {
     Some(declared.get(number)?.name)

@@ -4,7 +4,7 @@ use Rattle.std.specs.Prelude.{All, if◌then◌else◌}
 use Rattle.std.specs.Option.{option_map_or, ForSome}
 use Rattle.std.proofs.lemmas.List.Elements.{All-head, All-tail}
 use Rattle.job.specs.Formula.{Formula}
-use Rattle.job.specs.Pipeline.{Piece}
+use Rattle.job.specs.Pipeline.{JobCase}
 use Rattle.job.specs.Values.{Valuation, formula_value, all_passed, chosen}
 
 module _ (e h : Valuation) (r c : ℤ) where
@@ -16,7 +16,7 @@ module _ (e h : Valuation) (r c : ℤ) where
   abbrev pub AreAlike : Option Formula → Type 0
   AreAlike o = option_map_or (λ f. formula_value e f r c) o (pos 0) ≡ option_map_or (λ f. formula_value h f r c) o (pos 0)
 
-  abbrev pub AlikeWhere : Piece → Type 0
+  abbrev pub AlikeWhere : JobCase → Type 0
   AlikeWhere p = all_passed p.tests r c ≡ true → IsAlike p.formula
 
   some_alike : (o : Option Formula) → ForSome o IsAlike → AreAlike o
@@ -27,7 +27,7 @@ module _ (e h : Valuation) (r c : ℤ) where
   first_alike true f o alike others = alike refl
   first_alike false f o alike others = others
 
-  pub chosen_alike : (ps : List Piece) (otherwise : Option Formula) → All AlikeWhere ps → ForSome otherwise IsAlike → AreAlike (chosen ps otherwise r c)
+  pub chosen_alike : (ps : List JobCase) (otherwise : Option Formula) → All AlikeWhere ps → ForSome otherwise IsAlike → AreAlike (chosen ps otherwise r c)
   chosen_alike [] otherwise alike other = some_alike otherwise other
   chosen_alike (p ∷ ps) otherwise alike other =
       first_alike (all_passed p.tests r c) p.formula (chosen ps otherwise r c) (All-head AlikeWhere p ps alike) (chosen_alike ps otherwise (All-tail AlikeWhere p ps alike) other)

@@ -10,9 +10,9 @@ use Rattle.job.specs.Formula.{row, column, stencil, compare}
 use Rattle.job.specs.Pipeline.{Stage}
 use Rattle.domains.specs.declared.area.Area.{Area}
 use Rattle.job.specs.Values.{factors, kernel_row, kernel_column}
-use Rattle.job.specs.Reads.{window, EachTaken, PieceReads}
+use Rattle.job.specs.Reads.{window, EachTaken, CaseReads}
 use Rattle.job.specs.Boxes.{box_of}
-use Rattle.job.specs.WellFormed.{IsReadable, IsNear, IsStage, IsOutput, IsOutputPlane, IsJob, IsFormula, IsTest, IsKernel}
+use Rattle.job.specs.WellFormed.{IsReadable, InDomainRange, IsStage, IsOutput, IsOutputPlane, IsJob, IsFormula, IsTest, IsKernel}
 use Rattle.job.specs.Worked.{ends, area, ones, middle, plane_stage, blurred, blur}
 
 -- ---- literal lists
@@ -55,12 +55,12 @@ taken r c inside a b la lb =
 
 -- ---- the stages
 
-middle_reads : (r c : ℤ) → PieceReads (IsReadable blur.stages) middle r c
+middle_reads : (r c : ℤ) → CaseReads (IsReadable blur.stages) middle r c
 middle_reads r c box is inside =
     let same : record { rows = ends (pos 1) (pos 1); cols = ends (pos 1) (pos 1) } ≡ box = cc in
     one_of_one (λ x. EachTaken (IsReadable blur.stages) x r c) (window 0 ones) (taken r c (subst (λ (b : Area). HoldsPoint b r c) (sym same) inside))
 
-three_numbers : IsNear (ends (pos 0) (pos 2))
+three_numbers : InDomainRange (ends (pos 0) (pos 2))
 three_numbers = record {
   span = record { least = omega (arith, ints); ordered = omega (arith, ints); most = omega (arith, ints) };
   least = omega (arith, ints);
@@ -87,7 +87,7 @@ blur_is_a_stage = record {
   body = one_of_one (λ p. All IsTest p.tests) middle (All-cons IsTest (compare row Equals (pos 1)) (compare column Equals (pos 1) ∷ []) tt (one_of_one IsTest (compare column Equals (pos 1)) tt));
   boxes = one_of_one (λ p. p.box ≡ box_of (area (pos 2) (pos 2)) p.tests) middle refl;
   formulas = one_of_one IsFormula (stencil 0 9 ones) ((omega arith, omega arith), kernel_is);
-  reads = λ r c inside. (one_of_one (λ p. PieceReads (IsReadable blur.stages) p r c) middle (middle_reads r c), (λ f is. absurd (cc)));
+  reads = λ r c inside. (one_of_one (λ p. CaseReads (IsReadable blur.stages) p r c) middle (middle_reads r c), (λ f is. absurd (cc)));
   tiles = λ some. omega arith;
 }
 

@@ -16,9 +16,9 @@ use Rattle.std.proofs.lemmas.Nat.{pow_pos}
 use Rattle.domains.specs.Area.{HoldsPoint}
 use Rattle.domains.specs.declared.area.Area.{Area}
 use Rattle.job.specs.Formula.{Axis, row, column, Formula, number, coordinate, read, neg, binary, literal, abs, clamp, select, stencil}
-use Rattle.job.specs.Pipeline.{Piece, Body, plane, function, accumulator}
+use Rattle.job.specs.Pipeline.{JobCase, Body, plane, function, accumulator}
 use Rattle.job.specs.Values.{Valuation, binary_value, literal_value, is_related, along, weighted_sum, formula_value, all_passed, chosen, sample_at, body_value}
-use Rattle.job.specs.Reads.{Read, point, reads_in, EachTaken, EachRead, PieceReads, BodyReads, other_formula, formulas_of}
+use Rattle.job.specs.Reads.{Read, point, reads_in, EachTaken, EachRead, CaseReads, BodyReads, other_formula, formulas_of}
 use Rattle.job.specs.Boxes.{box_of, AreBoxed}
 use Rattle.job.specs.WellFormed.{IsDivisor, IsLiteral, IsFormula}
 use Rattle.job.proofs.Agreeing.{All-left, All-right}
@@ -152,24 +152,24 @@ module _ (env : Valuation) (r c : ℤ) (row_fits : FitsSigned w32 r) (column_fit
   first_fits true f o here others = here refl
   first_fits false f o here others = others
 
-  abbrev pub FitsWhere : Piece → Type 0
+  abbrev pub FitsWhere : JobCase → Type 0
   FitsWhere p = all_passed p.tests r c ≡ true → FitsSigned w32 (formula_value env p.formula r c)
 
-  chosen_fits : (ps : List Piece) (otherwise : Option Formula) → All FitsWhere ps → ForSome otherwise (λ f. FitsSigned w32 (formula_value env f r c)) → FitsSigned w32 (option_map_or (λ f. formula_value env f r c) (chosen ps otherwise r c) (pos 0))
+  chosen_fits : (ps : List JobCase) (otherwise : Option Formula) → All FitsWhere ps → ForSome otherwise (λ f. FitsSigned w32 (formula_value env f r c)) → FitsSigned w32 (option_map_or (λ f. formula_value env f r c) (chosen ps otherwise r c) (pos 0))
   chosen_fits [] otherwise each other = some_fits otherwise other
   chosen_fits (p ∷ ps) otherwise each other =
       first_fits (all_passed p.tests r c) p.formula (chosen ps otherwise r c) (All-head FitsWhere p ps each) (chosen_fits ps otherwise (All-tail FitsWhere p ps each) other)
 
   pub body_fits : (picture : Image) (domain : Area) (body : Body) → IsImage picture → AreBoxed domain body → All IsFormula (formulas_of body) → HoldsPoint domain r c → BodyReads (λ g i j. FitsSigned w32 (env g i j)) body r c → FitsSigned w32 (body_value picture env body r c)
   body_fits picture domain (plane n) is boxed formulas inside reads = sample_fits picture n r c is
-  body_fits picture domain (function pieces otherwise) is boxed formulas inside reads =
-      let front : All (λ p. IsFormula p.formula) pieces = All-from_map IsFormula (λ p. p.formula) pieces (All-left IsFormula (map (λ p. p.formula) pieces) (other_formula otherwise) formulas) in
-      let back : ForSome otherwise IsFormula = other_each IsFormula otherwise (All-right IsFormula (map (λ p. p.formula) pieces) (other_formula otherwise) formulas) in
-      let both : All (λ p. IsFormula p.formula × PieceReads (λ g i j. FitsSigned w32 (env g i j)) p r c) pieces =
-      All-both (λ p. IsFormula p.formula) (λ p. PieceReads (λ g i j. FitsSigned w32 (env g i j)) p r c) (λ p. IsFormula p.formula × PieceReads (λ g i j. FitsSigned w32 (env g i j)) p r c) (λ p a b. (a, b)) pieces front reads.0 in
-      chosen_fits pieces otherwise
-      (All-both (λ p. p.box ≡ box_of domain p.tests) (λ p. IsFormula p.formula × PieceReads (λ g i j. FitsSigned w32 (env g i j)) p r c) FitsWhere
+  body_fits picture domain (function cases otherwise) is boxed formulas inside reads =
+      let front : All (λ p. IsFormula p.formula) cases = All-from_map IsFormula (λ p. p.formula) cases (All-left IsFormula (map (λ p. p.formula) cases) (other_formula otherwise) formulas) in
+      let back : ForSome otherwise IsFormula = other_each IsFormula otherwise (All-right IsFormula (map (λ p. p.formula) cases) (other_formula otherwise) formulas) in
+      let both : All (λ p. IsFormula p.formula × CaseReads (λ g i j. FitsSigned w32 (env g i j)) p r c) cases =
+      All-both (λ p. IsFormula p.formula) (λ p. CaseReads (λ g i j. FitsSigned w32 (env g i j)) p r c) (λ p. IsFormula p.formula × CaseReads (λ g i j. FitsSigned w32 (env g i j)) p r c) (λ p a b. (a, b)) cases front reads.0 in
+      chosen_fits cases otherwise
+      (All-both (λ p. p.box ≡ box_of domain p.tests) (λ p. IsFormula p.formula × CaseReads (λ g i j. FitsSigned w32 (env g i j)) p r c) FitsWhere
       (λ p box parts passed. let there = passed_in_box domain p.tests r c inside passed in formula_fits p.formula parts.0 (parts.1 there.0 (box ∙ there.1) there.2))
-      pieces boxed both)
+      cases boxed both)
       (λ f there. formula_fits f (back f there) (reads.1 f there))
   body_fits picture domain (accumulator fold bins value bin) is boxed formulas inside reads = from_bounds (pos 0) (omega (arith, ints)) (omega (arith, ints))

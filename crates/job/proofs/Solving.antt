@@ -10,9 +10,9 @@ use Rattle.domains.specs.Index.{index_at}
 use Rattle.job.specs.Formula.{Formula}
 use Rattle.job.specs.Pipeline.{Body, plane, function, accumulator, Stage, Pipeline, rank_of}
 use Rattle.job.specs.Values.{Valuation, kernel_row, kernel_column, body_value, stage_value, value}
-use Rattle.job.specs.Reads.{Read, point, window, stage_read, reads_in, EachTaken, SameAt, PieceReads, BodyReads, other_formula, reads_of, IsRanked}
+use Rattle.job.specs.Reads.{Read, point, window, stage_read, reads_in, EachTaken, SameAt, CaseReads, BodyReads, other_formula, reads_of, IsRanked}
 use Rattle.job.specs.Boxes.{box_of, AreBoxed}
-use Rattle.job.specs.WellFormed.{IsReadable, IsNear, IsStage, IsJob, Solves}
+use Rattle.job.specs.WellFormed.{IsReadable, InDomainRange, IsStage, IsJob, Solves}
 use Rattle.job.proofs.Agreeing.{All-left, All-right, formula_value-agrees}
 use Rattle.job.proofs.Choosing.{AlikeWhere, chosen_alike}
 use Rattle.job.proofs.Steps.{All-from_map, All-from_flat_map, All-both, other_each}
@@ -25,25 +25,25 @@ use Rattle.job.proofs.BoxLaws.{passed_in_box}
 -- a stage has one value at a point where all that it reads there has
 pub body_value-agrees_there : (picture : Image) (e h : Valuation) (domain : Area) (body : Body) (r c : ℤ) → AreBoxed domain body → HoldsPoint domain r c → BodyReads (SameAt e h) body r c → body_value picture e body r c ≡ body_value picture h body r c
 body_value-agrees_there picture e h domain (plane n) r c boxed inside reads = refl
-body_value-agrees_there picture e h domain (function pieces otherwise) r c boxed inside reads =
-    chosen_alike e h r c pieces otherwise
-    (All-both (λ p. p.box ≡ box_of domain p.tests) (λ p. PieceReads (SameAt e h) p r c) (AlikeWhere e h r c)
+body_value-agrees_there picture e h domain (function cases otherwise) r c boxed inside reads =
+    chosen_alike e h r c cases otherwise
+    (All-both (λ p. p.box ≡ box_of domain p.tests) (λ p. CaseReads (SameAt e h) p r c) (AlikeWhere e h r c)
     (λ p is same passed. let there = passed_in_box domain p.tests r c inside passed in formula_value-agrees e h r c p.formula (same there.0 (is ∙ there.1) there.2))
-    pieces boxed reads.0)
+    cases boxed reads.0)
     (λ f is. formula_value-agrees e h r c f (reads.1 f is))
 body_value-agrees_there picture e h domain (accumulator fold bins value bin) r c boxed inside reads = refl
 
 -- what follows at each read follows for a stage
 pub BodyReads-both : (P Q : ℕ → ℤ → ℤ → Type 0) (R : Read → Type 0) (body : Body) (r c : ℤ) → ((x : Read) → R x → EachTaken P x r c → EachTaken Q x r c) → All R (reads_of body) → BodyReads P body r c → BodyReads Q body r c
 BodyReads-both P Q R (plane n) r c f each reads = tt
-BodyReads-both P Q R (function pieces otherwise) r c f each reads =
+BodyReads-both P Q R (function cases otherwise) r c f each reads =
     let E : Formula → Type 0 = λ a. All R (reads_in a) in
-    let all : All E (map (λ p. p.formula) pieces ++ other_formula otherwise) = All-from_flat_map R reads_in (map (λ p. p.formula) pieces ++ other_formula otherwise) each in
-    let front : All (λ p. E p.formula) pieces = All-from_map E (λ p. p.formula) pieces (All-left E (map (λ p. p.formula) pieces) (other_formula otherwise) all) in
-    let back : ForSome otherwise E = other_each E otherwise (All-right E (map (λ p. p.formula) pieces) (other_formula otherwise) all) in (
-      All-both (λ p. E p.formula) (λ p. PieceReads P p r c) (λ p. PieceReads Q p r c)
+    let all : All E (map (λ p. p.formula) cases ++ other_formula otherwise) = All-from_flat_map R reads_in (map (λ p. p.formula) cases ++ other_formula otherwise) each in
+    let front : All (λ p. E p.formula) cases = All-from_map E (λ p. p.formula) cases (All-left E (map (λ p. p.formula) cases) (other_formula otherwise) all) in
+    let back : ForSome otherwise E = other_each E otherwise (All-right E (map (λ p. p.formula) cases) (other_formula otherwise) all) in (
+      All-both (λ p. E p.formula) (λ p. CaseReads P p r c) (λ p. CaseReads Q p r c)
           (λ p static taken. λ box is inside. All-both R (λ x. EachTaken P x r c) (λ x. EachTaken Q x r c) f (reads_in p.formula) static (taken box is inside))
-          pieces front reads.0,
+          cases front reads.0,
       (λ a is. All-both R (λ x. EachTaken P x r c) (λ x. EachTaken Q x r c) f (reads_in a) (back a is) (reads.1 a is)),
     )
 BodyReads-both P Q R (accumulator fold bins value bin) r c f each reads =
@@ -97,7 +97,7 @@ one_solution job h env solves =
     ∙ body_value-agrees_there job.picture env (value job) x.stage.domain x.stage.body r c (h.stages g x.stage x.there).boxes x.within reads
     ∙ sym (value_solves job (ranked_is job h) g x.stage x.there x.valued r c x.within))
 
-pub near_fits : (s : Ends) (v : ℤ) → IsNear s → Holds s v → FitsSigned w32 v
+pub near_fits : (s : Ends) (v : ℤ) → InDomainRange s → Holds s v → FitsSigned w32 v
 near_fits s v is holds =
     let low = holds.0 in let high = holds.1 in let least = is.least in let most = is.most in
     from_bounds v (omega (arith, ints)) (omega (arith, ints))

@@ -50,7 +50,7 @@ rank_read stages x = rank_of stages (stage_read x)
 
 pub rank_falls : (stages : List Stage) (body : Body) → All (λ x. rank_of stages (stage_read x) < rank_by stages body) (reads_of body)
 rank_falls stages (plane n) = All-nil (λ x. rank_of stages (stage_read x) < 0)
-rank_falls stages (function pieces otherwise) = each_at_most (λ x. rank_of stages (stage_read x)) (reads_of (function pieces otherwise)) _ (le_same _)
+rank_falls stages (function cases otherwise) = each_at_most (λ x. rank_of stages (stage_read x)) (reads_of (function cases otherwise)) _ (le_same _)
 rank_falls stages (accumulator fold bins value bin) = each_at_most (λ x. rank_of stages (stage_read x)) (reads_of (accumulator fold bins value bin)) _ (le_same _)
 
 -- ---- one value for all stages that are read
@@ -70,11 +70,11 @@ module _ (e h : Valuation) where
 
   pub body_value-agrees : (picture : Image) (body : Body) → All (λ x. IsSame (stage_read x)) (reads_of body) → (r c : ℤ) → body_value picture e body r c ≡ body_value picture h body r c
   body_value-agrees picture (plane n) same r c = refl
-  body_value-agrees picture (function pieces otherwise) same r c =
+  body_value-agrees picture (function cases otherwise) same r c =
       let P : Formula → Type 0 = IsAlike e h r c in
-      let alike : All P (map (λ p. p.formula) pieces ++ other_formula otherwise) =
-      All-weaker (λ f. All (λ x. IsSame (stage_read x)) (reads_in f)) P (read_alike r c) _ (All-from_flat_map (λ x. IsSame (stage_read x)) reads_in (map (λ p. p.formula) pieces ++ other_formula otherwise) same) in
-      chosen_alike e h r c pieces otherwise
-      (All-weaker (λ p. P p.formula) (AlikeWhere e h r c) (λ p alike passed. alike) pieces (All-from_map P (λ p. p.formula) pieces (All-left P (map (λ p. p.formula) pieces) (other_formula otherwise) alike)))
-      (other_each P otherwise (All-right P (map (λ p. p.formula) pieces) (other_formula otherwise) alike))
+      let alike : All P (map (λ p. p.formula) cases ++ other_formula otherwise) =
+      All-weaker (λ f. All (λ x. IsSame (stage_read x)) (reads_in f)) P (read_alike r c) _ (All-from_flat_map (λ x. IsSame (stage_read x)) reads_in (map (λ p. p.formula) cases ++ other_formula otherwise) same) in
+      chosen_alike e h r c cases otherwise
+      (All-weaker (λ p. P p.formula) (AlikeWhere e h r c) (λ p alike passed. alike) cases (All-from_map P (λ p. p.formula) cases (All-left P (map (λ p. p.formula) cases) (other_formula otherwise) alike)))
+      (other_each P otherwise (All-right P (map (λ p. p.formula) cases) (other_formula otherwise) alike))
   body_value-agrees picture (accumulator fold bins value bin) same r c = refl

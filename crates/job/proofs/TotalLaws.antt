@@ -49,6 +49,6 @@ module _ (e h : Valuation) (area : Area) (is : IsArea area) where
 
   pub body_totals-agrees : (body : Body) → ((r c : ℤ) → HoldsPoint area r c → BodyReads (SameAt e h) body r c) → body_totals e area body ≡ body_totals h area body
   body_totals-agrees (plane n) same = refl
-  body_totals-agrees (function pieces otherwise) same = refl
+  body_totals-agrees (function cases otherwise) same = refl
   body_totals-agrees (accumulator way bins value bin) same =
       map_same (λ b. total_of way (values_in_bin e value bin area b)) (λ b. total_of way (values_in_bin h value bin area b)) (numbers_of bins) (λ b. ap (total_of way) (values_in_bin-agrees value bin same b))

@@ -58,7 +58,7 @@ module _ (job : Pipeline) (is : IsJob job) where
 
   body_totals_fit : (s : Stage) (area : Area) (body : Body) → IsStage job s → s.body ≡ body → IsArea area → IsSubarea area s.domain → All (FitsSigned w64) (body_totals (value job) area body)
   body_totals_fit s area (plane n) h b within inside = All-nil (FitsSigned w64)
-  body_totals_fit s area (function pieces otherwise) h b within inside = All-nil (FitsSigned w64)
+  body_totals_fit s area (function cases otherwise) h b within inside = All-nil (FitsSigned w64)
   body_totals_fit s area (accumulator way bins v bin) h b within inside =
       let reads : (r c : ℤ) → HoldsPoint s.domain r c → BodyReads (IsReadable job.stages) (accumulator way bins v bin) r c = subst (λ (x : Body). (r c : ℤ) → HoldsPoint s.domain r c → BodyReads (IsReadable job.stages) x r c) b h.reads in
       let good : IsFormula v = All-head IsFormula v (bin ∷ []) (subst (λ (x : Body). All IsFormula (formulas_of x)) b h.formulas) in

@@ -55,12 +55,12 @@ grid_of job s = record { area = s.domain; sides = job.sides }
 -- functions have tiles, and so have accumulators, of the area that they reduce; planes have none
 abbrev pub has_tiles : Body → Bool
 has_tiles (plane n) = false
-has_tiles (function pieces otherwise) = true
+has_tiles (function cases otherwise) = true
 has_tiles (accumulator fold bins value bin) = true
 
 abbrev pub is_accumulator : Body → Bool
 is_accumulator (plane n) = false
-is_accumulator (function pieces otherwise) = false
+is_accumulator (function cases otherwise) = false
 is_accumulator (accumulator fold bins value bin) = true
 
 -- the tiles of a stage, row by row

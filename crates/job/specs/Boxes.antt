@@ -49,8 +49,8 @@ if_some a = if int_le a.rows.lo a.rows.hi && int_le a.cols.lo a.cols.hi then Som
 abbrev pub box_of : Area → List Test → Option Area
 box_of domain tests = if_some (cut_by_all tests domain)
 
--- the box of each piece of a stage is that of its tests
+-- the box of each case of a stage is that of its tests
 abbrev pub AreBoxed : Area → Body → Type 0
 AreBoxed domain (plane n) = Unit {0}
-AreBoxed domain (function pieces otherwise) = All (λ p. p.box ≡ box_of domain p.tests) pieces
+AreBoxed domain (function cases otherwise) = All (λ p. p.box ≡ box_of domain p.tests) cases
 AreBoxed domain (accumulator fold bins value bin) = Unit {0}

@@ -10,16 +10,16 @@ use Rattle.domains.specs.declared.operators.Fold.{Fold}
 use Rattle.job.specs.Formula.{Formula, Test}
 
 -- a formula where all tests hold. The box has the points of the domain at which the tests of bounds hold, if there are any
-pub record Piece : Type 0 where
+pub record JobCase : Type 0 where
   pub box : Option Area
   pub tests : List Test
   pub formula : Formula
 
--- what stands at each point: a plane of the picture, by its number; pieces, and what holds elsewhere; or, of an
+-- what stands at each point: a plane of the picture, by its number; cases, and what holds elsewhere; or, of an
 -- accumulator, how it joins what bins, and of each point the value and the bin
 pub data Body : Type 0 where
   plane : ℕ → Body
-  function : List Piece → Option Formula → Body
+  function : List JobCase → Option Formula → Body
   accumulator : Fold → Ends → Formula → Formula → Body
 
 -- the domain of an accumulator is the area that it reduces

@@ -5,12 +5,12 @@ use Rattle.domains.specs.declared.grid.Grid.{Grid}
 use Rattle.domains.specs.declared.operators.Fold.{Fold}
 use Rattle.job.specs.declared.job.StageKind.{StageKind}
 use Rattle.job.specs.declared.job.StageKind.TheVariants.{Plane, Function, Accumulator}
-use Rattle.job.specs.Pipeline.{Piece, Body, plane, function, accumulator, Stage, Pipeline}
+use Rattle.job.specs.Pipeline.{JobCase, Body, plane, function, accumulator, Stage, Pipeline}
 use Rattle.job.specs.Answers.{grid_of, has_tiles}
 
 abbrev pub body_kind : Body → StageKind
 body_kind (plane n) = Plane
-body_kind (function pieces otherwise) = Function
+body_kind (function cases otherwise) = Function
 body_kind (accumulator fold bins value bin) = Accumulator
 
 abbrev pub kind_of : Stage → StageKind
@@ -19,18 +19,18 @@ kind_of s = body_kind s.body
 -- how an accumulator joins what bins
 abbrev pub fold_of : Body → Option Fold
 fold_of (plane n) = None
-fold_of (function pieces otherwise) = None
+fold_of (function cases otherwise) = None
 fold_of (accumulator fold bins value bin) = Some fold
 
 abbrev pub bins_of : Body → Option Ends
 bins_of (plane n) = None
-bins_of (function pieces otherwise) = None
+bins_of (function cases otherwise) = None
 bins_of (accumulator fold bins value bin) = Some bins
 
 -- the cases of a function
-abbrev pub cases_of : Body → Option (List Piece)
+abbrev pub cases_of : Body → Option (List JobCase)
 cases_of (plane n) = None
-cases_of (function pieces otherwise) = Some pieces
+cases_of (function cases otherwise) = Some cases
 cases_of (accumulator fold bins value bin) = None
 
 -- functions and accumulators have tiles
@@ -49,6 +49,6 @@ abbrev pub stage_bins : Option Stage → Option Ends
 stage_bins None = None
 stage_bins (Some s) = bins_of s.body
 
-abbrev pub stage_cases : Option Stage → Option (List Piece)
+abbrev pub stage_cases : Option Stage → Option (List JobCase)
 stage_cases None = None
 stage_cases (Some s) = cases_of s.body

@@ -7,7 +7,7 @@ use Rattle.domains.specs.Area.{HoldsPoint}
 use Rattle.domains.specs.declared.area.Area.{Area}
 use Rattle.domains.specs.Greatest.{greatest}
 use Rattle.job.specs.Formula.{Formula, number, coordinate, read, neg, binary, literal, abs, clamp, select, stencil}
-use Rattle.job.specs.Pipeline.{Piece, Body, plane, function, accumulator, Stage, rank_of}
+use Rattle.job.specs.Pipeline.{JobCase, Body, plane, function, accumulator, Stage, rank_of}
 use Rattle.job.specs.Values.{Valuation, factors, kernel_row, kernel_column}
 
 -- a stage at one point, or at the points under a kernel
@@ -54,14 +54,14 @@ AgreeOver e h region f = (r c : ℤ) → HoldsPoint region r c → EachRead (Sam
 
 -- ---- stages
 
--- P holds of all that a piece reads at a point, if this lies in its box
-abbrev pub PieceReads : (ℕ → ℤ → ℤ → Type 0) → Piece → ℤ → ℤ → Type 0
-PieceReads P p r c = ForSome p.box (λ box. HoldsPoint box r c → EachRead P p.formula r c)
+-- P holds of all that a case reads at a point, if this lies in its box
+abbrev pub CaseReads : (ℕ → ℤ → ℤ → Type 0) → JobCase → ℤ → ℤ → Type 0
+CaseReads P p r c = ForSome p.box (λ box. HoldsPoint box r c → EachRead P p.formula r c)
 
--- P holds of all that a stage reads at a point. What stands elsewhere than in the pieces counts at each point
+-- P holds of all that a stage reads at a point. What stands elsewhere than in the cases counts at each point
 abbrev pub BodyReads : (ℕ → ℤ → ℤ → Type 0) → Body → ℤ → ℤ → Type 0
 BodyReads P (plane n) r c = Unit {0}
-BodyReads P (function pieces otherwise) r c = All (λ p. PieceReads P p r c) pieces × ForSome otherwise (λ f. EachRead P f r c)
+BodyReads P (function cases otherwise) r c = All (λ p. CaseReads P p r c) cases × ForSome otherwise (λ f. EachRead P f r c)
 BodyReads P (accumulator fold bins value bin) r c = EachRead P value r c × EachRead P bin r c
 
 abbrev pub other_formula : Option Formula → List Formula
@@ -71,7 +71,7 @@ other_formula (Some f) = f ∷ []
 -- the formulas of a stage, in the order of the text
 abbrev pub formulas_of : Body → List Formula
 formulas_of (plane n) = []
-formulas_of (function pieces otherwise) = map (λ p. p.formula) pieces ++ other_formula otherwise
+formulas_of (function cases otherwise) = map (λ p. p.formula) cases ++ other_formula otherwise
 formulas_of (accumulator fold bins value bin) = value ∷ bin ∷ []
 
 abbrev pub reads_of : Body → List Read
@@ -80,7 +80,7 @@ reads_of body = flat_map reads_in (formulas_of body)
 -- the rank of a stage by the ranks of those that it reads: 0 of a plane, else 1 more than the greatest, or 1
 abbrev pub rank_by : List Stage → Body → ℕ
 rank_by stages (plane n) = 0
-rank_by stages (function pieces otherwise) = greatest (map (λ x. rank_of stages (stage_read x)) (reads_of (function pieces otherwise))) + 1
+rank_by stages (function cases otherwise) = greatest (map (λ x. rank_of stages (stage_read x)) (reads_of (function cases otherwise))) + 1
 rank_by stages (accumulator fold bins value bin) = greatest (map (λ x. rank_of stages (stage_read x)) (reads_of (accumulator fold bins value bin))) + 1
 
 -- each stage has its rank

@@ -40,7 +40,7 @@ values_in_bin env value bin area b =
 abbrev pub body_totals : Valuation → Area → Body → List ℤ
 body_totals env area (accumulator way bins value bin) = map (λ b. total_of way (values_in_bin env value bin area b)) (numbers_of bins)
 body_totals env area (plane n) = []
-body_totals env area (function pieces otherwise) = []
+body_totals env area (function cases otherwise) = []
 
 -- ---- the totals of a job
 

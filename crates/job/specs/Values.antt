@@ -13,7 +13,7 @@ use Rattle.domains.specs.declared.operators.LiteralOp.TheVariants.{Div, Rem, Shl
 use Rattle.domains.specs.declared.operators.Relation.{Relation}
 use Rattle.domains.specs.declared.operators.Relation.TheVariants.{AtMost, AtLeast, Equals}
 use Rattle.job.specs.Formula.{Axis, row, column, Formula, number, coordinate, read, neg, binary, literal, abs, clamp, select, stencil, Test, compare, remainder}
-use Rattle.job.specs.Pipeline.{Piece, Body, plane, function, accumulator, Stage, Pipeline, rank_of}
+use Rattle.job.specs.Pipeline.{JobCase, Body, plane, function, accumulator, Stage, Pipeline, rank_of}
 
 -- a number for each stage, row and column
 abbrev pub Valuation : Type 0
@@ -99,8 +99,8 @@ abbrev pub all_passed : List Test → ℤ → ℤ → Bool
 all_passed [] r c = true
 all_passed (t ∷ ts) r c = is_passed t r c && all_passed ts r c
 
--- the formula of the first piece whose tests hold at the point, else the other formula, if there is one
-abbrev pub chosen : List Piece → Option Formula → ℤ → ℤ → Option Formula
+-- the formula of the first case whose tests hold at the point, else the other formula, if there is one
+abbrev pub chosen : List JobCase → Option Formula → ℤ → ℤ → Option Formula
 chosen [] otherwise r c = otherwise
 chosen (p ∷ ps) otherwise r c = if all_passed p.tests r c then Some p.formula else chosen ps otherwise r c
 
@@ -111,7 +111,7 @@ sample_at picture n r c = pos (slice_index (slice_index_or picture.planes n []) 
 -- what a stage is at a point of its domain, where env gives the values of the stages that it reads
 abbrev pub body_value : Image → Valuation → Body → ℤ → ℤ → ℤ
 body_value picture env (plane n) r c = sample_at picture n r c
-body_value picture env (function pieces otherwise) r c = option_map_or (λ f. formula_value env f r c) (chosen pieces otherwise r c) (pos 0)
+body_value picture env (function cases otherwise) r c = option_map_or (λ f. formula_value env f r c) (chosen cases otherwise r c) (pos 0)
 body_value picture env (accumulator fold bins value bin) r c = pos 0
 
 abbrev pub stage_value : Pipeline → Valuation → Option Stage → ℤ → ℤ → ℤ

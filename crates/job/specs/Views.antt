@@ -8,7 +8,7 @@ use Rattle.job.specs.declared.formula.Formula.{Formula as KeptFormula}
 use Rattle.job.specs.declared.formula.Formula.TheVariants.{Number, Coordinate, Read, Neg', Binary', Literal', Abs', Clamp', Select', Stencil}
 use Rattle.job.specs.declared.formula.Test.{Test as KeptTest}
 use Rattle.job.specs.declared.formula.Test.TheVariants.{Compare, Remainder}
-use Rattle.job.specs.declared.stage.Piece.{Piece as KeptPiece}
+use Rattle.job.specs.declared.stage.JobCase.{JobCase as KeptCase}
 use Rattle.job.specs.declared.stage.Body.{Body as KeptBody}
 use Rattle.job.specs.declared.stage.Body.TheVariants.{Plane, Function, Accumulator}
 use Rattle.job.specs.declared.stage.Stage.{Stage as KeptStage}
@@ -16,7 +16,7 @@ use Rattle.job.specs.declared.outputs.Output.{Output as KeptOutput}
 use Rattle.job.specs.declared.outputs.Parameter.{Parameter as KeptParameter}
 use Rattle.job.specs.declared.bound_pipeline.BoundPipeline.{BoundPipeline}
 use Rattle.job.specs.Formula.{Axis, row, column, Formula, number, coordinate, read, neg, binary, literal, abs, clamp, select, stencil, Test, compare, remainder}
-use Rattle.job.specs.Pipeline.{Piece, Body, plane, function, accumulator, Stage, Output, Parameter, Pipeline}
+use Rattle.job.specs.Pipeline.{JobCase, Body, plane, function, accumulator, Stage, Output, Parameter, Pipeline}
 
 abbrev pub axis_view : KeptAxis → Axis
 axis_view Row = row
@@ -40,12 +40,12 @@ test_view (Remainder x modulus rest) = remainder (axis_view x) modulus rest
 
 -- ---- stages and outputs
 
-abbrev pub piece_view : KeptPiece → Piece
-piece_view p = record { box = p.area; tests = map test_view p.tests.items; formula = formula_view p.formula }
+abbrev pub case_view : KeptCase → JobCase
+case_view p = record { box = p.area; tests = map test_view p.tests.items; formula = formula_view p.formula }
 
 abbrev pub body_view : KeptBody → Body
 body_view (Plane n) = plane n
-body_view (Function f) = function (map piece_view f.pieces.items) (option_map formula_view f.otherwise)
+body_view (Function f) = function (map case_view f.cases.items) (option_map formula_view f.otherwise)
 body_view (Accumulator a) = accumulator a.fold a.bins (formula_view a.value) (formula_view a.bin)
 
 abbrev pub stage_view : KeptStage → Stage

@@ -61,12 +61,12 @@ IsTest (remainder x modulus rest) = IsDivisor modulus × (rest < modulus)
 -- each point of its domain has a value
 abbrev pub IsValued : Body → Type 0
 IsValued (plane n) = Unit {0}
-IsValued (function pieces otherwise) = Unit {0}
+IsValued (function cases otherwise) = Unit {0}
 IsValued (accumulator fold bins value bin) = ⊥
 
 abbrev pub IsFunction : Body → Type 0
 IsFunction (plane n) = ⊥
-IsFunction (function pieces otherwise) = Unit {0}
+IsFunction (function cases otherwise) = Unit {0}
 IsFunction (accumulator fold bins value bin) = ⊥
 
 -- the stage of this number has a value at this point
@@ -76,7 +76,7 @@ pub record IsReadable (stages : List Stage) (g : ℕ) (r c : ℤ) : Type 0 where
   pub valued : IsValued stage.body
   pub within : HoldsPoint stage.domain r c
 
-pub record IsNear (s : Ends) : Type 0 where
+pub record InDomainRange (s : Ends) : Type 0 where
   pub span : IsSpan s
   pub least : negsuc 16383 ≤ℤ s.lo
   pub most : s.hi ≤ℤ pos 16384
@@ -88,13 +88,13 @@ picture_area p = record { rows = record { lo = pos 0; hi = pos p.rows -ℤ pos 1
 -- a plane is one of the picture and has its sides; there are at most 4,096 bins
 abbrev pub IsBody : Image → Area → Body → Type 0
 IsBody picture domain (plane n) = (n < length picture.planes) × (domain ≡ picture_area picture)
-IsBody picture domain (function pieces otherwise) = All (λ p. All IsTest p.tests) pieces
-IsBody picture domain (accumulator fold bins value bin) = IsNear bins × (len_of bins ≤ 4096)
+IsBody picture domain (function cases otherwise) = All (λ p. All IsTest p.tests) cases
+IsBody picture domain (accumulator fold bins value bin) = InDomainRange bins × (len_of bins ≤ 4096)
 
 pub record IsStage (job : Pipeline) (s : Stage) : Type 0 where
   pub rank : s.rank ≡ rank_by job.stages s.body
-  pub rows : IsNear s.domain.rows
-  pub cols : IsNear s.domain.cols
+  pub rows : InDomainRange s.domain.rows
+  pub cols : InDomainRange s.domain.cols
   pub body : IsBody job.picture s.domain s.body
   pub boxes : AreBoxed s.domain s.body
   pub formulas : All IsFormula (formulas_of s.body)
@@ -129,16 +129,16 @@ pub record IsJob (job : Pipeline) : Type 0 where
 
 -- ---- limits of a text
 
-abbrev pub piece_count : Body → ℕ
-piece_count (plane n) = 0
-piece_count (function pieces otherwise) = length pieces
-piece_count (accumulator fold bins value bin) = 0
+abbrev pub case_count : Body → ℕ
+case_count (plane n) = 0
+case_count (function cases otherwise) = length cases
+case_count (accumulator fold bins value bin) = 0
 
 -- what holds besides of a job whose program was parsed
 pub record IsSmall (job : Pipeline) : Type 0 where
   pub few_stages : length job.stages ≤ 64
   pub few_params : length job.params ≤ 64
-  pub few_pieces : (g : ℕ) (s : Stage) → slice_get job.stages g ≡ Some s → piece_count s.body ≤ 16
+  pub few_cases : (g : ℕ) (s : Stage) → slice_get job.stages g ≡ Some s → case_count s.body ≤ 16
 
 -- ---- valuations
 

@@ -73,12 +73,12 @@ IsTest-prop (remainder x modulus rest) = hlevel props
 
 IsValued-prop : (body : Body) → IsProp (IsValued body)
 IsValued-prop (plane n) = hlevel props
-IsValued-prop (function pieces otherwise) = hlevel props
+IsValued-prop (function cases otherwise) = hlevel props
 IsValued-prop (accumulator fold bins value bin) = hlevel props
 
 IsFunction-prop : (body : Body) → IsProp (IsFunction body)
 IsFunction-prop (plane n) = hlevel props
-IsFunction-prop (function pieces otherwise) = hlevel props
+IsFunction-prop (function cases otherwise) = hlevel props
 IsFunction-prop (accumulator fold bins value bin) = hlevel props
 
 valued_there-prop : (s : Stage) (r c : ℤ) → IsProp (IsValued s.body × HoldsPoint s.domain r c)
@@ -96,17 +96,17 @@ EachTaken-prop stages (window g kernel) r c = hlevel (IsReadable-prop, props)
 
 BodyReads-prop : (stages : List Stage) (body : Body) (r c : ℤ) → IsProp (BodyReads (IsReadable stages) body r c)
 BodyReads-prop stages (plane n) r c = hlevel props
-BodyReads-prop stages (function pieces otherwise) r c = hlevel (EachTaken-prop, props)
+BodyReads-prop stages (function cases otherwise) r c = hlevel (EachTaken-prop, props)
 BodyReads-prop stages (accumulator fold bins value bin) r c = hlevel (EachTaken-prop, props)
 
 IsBody-prop : (picture : Image) (domain : Area) (body : Body) → IsProp (IsBody picture domain body)
 IsBody-prop picture domain (plane n) = hlevel props
-IsBody-prop picture domain (function pieces otherwise) = hlevel (IsTest-prop, props)
+IsBody-prop picture domain (function cases otherwise) = hlevel (IsTest-prop, props)
 IsBody-prop picture domain (accumulator fold bins value bin) = hlevel props
 
 AreBoxed-prop : (domain : Area) (body : Body) → IsProp (AreBoxed domain body)
 AreBoxed-prop domain (plane n) = hlevel props
-AreBoxed-prop domain (function pieces otherwise) = hlevel props
+AreBoxed-prop domain (function cases otherwise) = hlevel props
 AreBoxed-prop domain (accumulator fold bins value bin) = hlevel props
 
 IsStage-prop : (job : Pipeline) (s : Stage) → IsProp (IsStage job s)

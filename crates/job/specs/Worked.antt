@@ -11,7 +11,7 @@ use Rattle.domains.specs.declared.operators.Relation.TheVariants.{Equals}
 use Rattle.domains.specs.declared.operators.Fold.TheVariants.{Sum, Min}
 use Rattle.job.specs.Formula.{row, column, Formula, number, read, neg, binary, literal, abs, stencil, compare}
 use Rattle.job.specs.Answers.{Tile}
-use Rattle.job.specs.Pipeline.{Piece, plane, function, accumulator, Stage, Pipeline}
+use Rattle.job.specs.Pipeline.{JobCase, plane, function, accumulator, Stage, Pipeline}
 
 abbrev pub ends : ℤ → ℤ → Ends
 ends lo hi = record { lo = lo; hi = hi }
@@ -56,7 +56,7 @@ job_of stages outputs max picture sides =
 abbrev pub ones : List (List ℤ)
 ones = (pos 1 ∷ pos 1 ∷ pos 1 ∷ []) ∷ (pos 1 ∷ pos 1 ∷ pos 1 ∷ []) ∷ (pos 1 ∷ pos 1 ∷ pos 1 ∷ []) ∷ []
 
-abbrev pub middle : Piece
+abbrev pub middle : JobCase
 middle = record {
   box = Some (record { rows = ends (pos 1) (pos 1); cols = ends (pos 1) (pos 1) });
   tests = compare row Equals (pos 1) ∷ compare column Equals (pos 1) ∷ [];

@@ -22,7 +22,7 @@ pub(crate) fn program_id(text: &[u8]) -> ProgramId
     ProgramId::new(Sha256::digest(text))
 }
 
-/// The identity of what a program is given. All is hashed piece by piece, without memory.
+/// The identity of what a program is given. All is hashed case by case, without memory.
 pub(crate) fn input_id(parts: &BoundPipeline) -> InputId
     ensures { result ≡ input_id (pipeline_of parts.now) }
 {

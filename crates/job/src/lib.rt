@@ -18,4 +18,4 @@ pub use formula::{Axis, Factors, Formula, Kernel, Test};
 pub use job::{Job, StageKind};
 pub use outputs::{Output, Parameter};
 pub use reads::Read;
-pub use stage::{Accumulator, Body, Function, Piece, Stage};
+pub use stage::{Accumulator, Body, Function, JobCase, Stage};

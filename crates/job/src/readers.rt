@@ -7,11 +7,11 @@ ghost use Rattle.job.specs.Kept.{pipeline_in};
 ghost use Rattle.job.specs.Reads.{reads_of};
 ghost use Rattle.job.specs.Readers.{stage_cases};
 ghost use Rattle.job.specs.ReadViews.{read_view};
-ghost use Rattle.job.specs.Views.{piece_view};
+ghost use Rattle.job.specs.Views.{case_view};
 
 use crate::job::Job;
 use crate::reads::Read;
-use crate::stage::{Body, Piece};
+use crate::stage::{Body, JobCase};
 use std::alloc::{AllocError, Global};
 
 impl Job {
@@ -46,11 +46,11 @@ impl Job {
     }
 
     /// The cases of the function of this number, in the order of the text; none of other stages.
-    pub fn cases(&self, number: usize) -> Option<&[Piece]>
-        ensures { option_map (λ cases. map piece_view cases.now) result ≡ stage_cases (slice_get (pipeline_in self.now).stages number) }
+    pub fn cases(&self, number: usize) -> Option<&[JobCase]>
+        ensures { option_map (λ cases. map case_view cases.now) result ≡ stage_cases (slice_get (pipeline_in self.now).stages number) }
     {
         match self.stage(number)?.body() {
-            Body::Function(function) => Some(function.pieces()),
+            Body::Function(function) => Some(function.cases()),
             Body::Plane(_) | Body::Accumulator(_) => None,
         }
     }

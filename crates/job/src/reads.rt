@@ -5,12 +5,12 @@ ghost use Rattle.std.specs.Prelude.{◌≡◌, ◌++◌, OnOk, IfOk, map};
 ghost use Rattle.std.specs.List.{flat_map};
 ghost use Rattle.std.specs.Option.{option_map};
 ghost use Rattle.job.specs.Pipeline.{function, accumulator};
-ghost use Rattle.job.specs.Views.{formula_view, piece_view, stage_view};
+ghost use Rattle.job.specs.Views.{formula_view, case_view, stage_view};
 ghost use Rattle.job.specs.Reads.{reads_in, reads_of, other_formula};
 ghost use Rattle.job.specs.ReadViews.{read_view};
 
 use crate::formula::{Formula, Kernel};
-use crate::stage::{Accumulator, Body, Function, Piece, Stage};
+use crate::stage::{Accumulator, Body, Function, JobCase, Stage};
 use domains::Index;
 use std::alloc::{AllocError, Global};
 
@@ -58,11 +58,11 @@ fn add_reads(alloc: Global, found: &mut Vec<Read>, formula: &Formula) -> Result<
     }
 }
 
-fn add_pieces(alloc: Global, found: &mut Vec<Read>, pieces: &[Piece]) -> Result<(), AllocError>
-    ensures { OnOk result (map read_view found.new.items ≡ map read_view found.old.items ++ flat_map reads_in (map (λ p. p.formula) (map piece_view pieces.now))) }
+fn add_cases(alloc: Global, found: &mut Vec<Read>, cases: &[JobCase]) -> Result<(), AllocError>
+    ensures { OnOk result (map read_view found.new.items ≡ map read_view found.old.items ++ flat_map reads_in (map (λ p. p.formula) (map case_view cases.now))) }
 {
-    for piece in pieces {
-        add_reads(alloc, found, piece.formula())?;
+    for case in cases {
+        add_reads(alloc, found, case.formula())?;
     }
     Ok(())
 }
@@ -81,11 +81,11 @@ fn add_other(
 }
 
 impl Function {
-    // Puts the reads of the pieces, and then those of what holds elsewhere, behind those that were found.
+    // Puts the reads of the cases, and then those of what holds elsewhere, behind those that were found.
     fn add_reads(&self, alloc: Global, found: &mut Vec<Read>) -> Result<(), AllocError>
-        ensures { OnOk result (map read_view found.new.items ≡ map read_view found.old.items ++ reads_of (function (map piece_view self.now.pieces.items) (option_map formula_view self.now.otherwise))) }
+        ensures { OnOk result (map read_view found.new.items ≡ map read_view found.old.items ++ reads_of (function (map case_view self.now.cases.items) (option_map formula_view self.now.otherwise))) }
     {
-        add_pieces(alloc, found, self.pieces())?;
+        add_cases(alloc, found, self.cases())?;
         add_other(alloc, found, self.otherwise())
     }
 }

@@ -13,16 +13,16 @@ use pipe_tokens::Name;
 
 /// A formula where all tests hold.
 #[derive(Debug, Drop)]
-pub struct Piece {
+pub struct JobCase {
     area: Option<Area>,
     tests: Vec<Test>,
     formula: Formula,
 }
 
-/// A function: the first piece whose tests hold at a point gives its value there, else `otherwise`, else it is 0.
+/// A function: the first case whose tests hold at a point gives its value there, else `otherwise`, else it is 0.
 #[derive(Debug, Drop)]
 pub struct Function {
-    pieces: Vec<Piece>,
+    cases: Vec<JobCase>,
     otherwise: Option<Formula>,
 }
 
@@ -136,12 +136,12 @@ impl Stage {
     }
 }
 
-impl Piece {
+impl JobCase {
     /// The formula that stands in this area where these tests hold.
     pub fn new(area: Option<Area>, tests: Vec<Test>, formula: Formula) -> Self
         ensures { result ≡ record { area = area; tests = tests; formula = formula } }
     {
-        Piece {
+        JobCase {
             area,
             tests,
             formula,
@@ -171,21 +171,21 @@ impl Piece {
 }
 
 impl Function {
-    /// The function of these pieces, with what stands elsewhere.
-    pub fn new(pieces: Vec<Piece>, otherwise: Option<Formula>) -> Self
-        ensures { result ≡ record { pieces = pieces; otherwise = otherwise } }
+    /// The function of these cases, with what stands elsewhere.
+    pub fn new(cases: Vec<JobCase>, otherwise: Option<Formula>) -> Self
+        ensures { result ≡ record { cases = cases; otherwise = otherwise } }
     {
-        Function { pieces, otherwise }
+        Function { cases, otherwise }
     }
 
-    /// The pieces, in the order of the text.
-    pub fn pieces(&self) -> &[Piece]
-        ensures { result.now ≡ self.now.pieces.items }
+    /// The cases, in the order of the text.
+    pub fn cases(&self) -> &[JobCase]
+        ensures { result.now ≡ self.now.cases.items }
     {
-        &self.pieces
+        &self.cases
     }
 
-    /// What stands where no piece holds.
+    /// What stands where no case holds.
     pub fn otherwise(&self) -> &Option<Formula>
         ensures { result.now ≡ self.now.otherwise }
     {

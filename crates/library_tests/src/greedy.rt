@@ -80,13 +80,13 @@ fn inlines_where_that_takes_few_points(rt: HostRuntime) -> Result<(), Fail> {
     greedy(alloc, CHAIN, SIX, 1, 100, "[Plane, Inlined, Costs(40)]")
 }
 
-// Flags that inline the output are refused.
+// InlinedStages that inline the output are refused.
 fn refuses_to_inline(alloc: Global, job: &Job) -> Result<(), Fail>
     requires { IsJob (pipeline_in job.now) }
 {
     let all = [true, true, true];
     if all.len() != job.stages().len() {
-        return Err(Fail::new("not as many flags as stages"));
+        return Err(Fail::new("not as many inlining as stages"));
     }
     let refused = match Schedule::of(alloc, job, &all) {
         Ok(_) => None,

@@ -4,7 +4,7 @@
 use crate::bound_jobs::job_of;
 use crate::wanted::{holds, tells};
 use domains::Fold;
-use job::{Body, Function, Job, Piece, StageKind};
+use job::{Body, Function, Job, JobCase, StageKind};
 use std::alloc::Global;
 use std::test::Fail;
 
@@ -53,24 +53,24 @@ fn function_of(job: &Job) -> Option<&Function> {
     }
 }
 
-fn tells_of_piece(alloc: Global, piece: &Piece) -> Result<(), Fail> {
-    let area = piece.area().ok_or("no area")?;
-    holds(Some(area.points() == 1), "a piece of one point")?;
+fn tells_of_case(alloc: Global, case: &JobCase) -> Result<(), Fail> {
+    let area = case.area().ok_or("no area")?;
+    holds(Some(area.points() == 1), "a case of one point")?;
     tells(
         alloc,
-        &piece.tests(),
+        &case.tests(),
         "[Compare(Row, AtLeast, 1), Remainder(Column, 2, 1)]",
     )?;
     tells(
         alloc,
-        &piece.formula(),
+        &case.formula(),
         "Stencil(0, 1, Kernel { rows: [Factors { factors: [1, 10, -100] }] })",
     )
 }
 
 fn tells_of_function(alloc: Global, job: &Job) -> Result<(), Fail> {
     let function = function_of(job).ok_or("no function")?;
-    tells_of_piece(alloc, function.pieces().first().ok_or("no piece")?)?;
+    tells_of_case(alloc, function.cases().first().ok_or("no case")?)?;
     tells(
         alloc,
         &function.otherwise(),

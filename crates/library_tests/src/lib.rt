@@ -7,13 +7,13 @@ mod areas;
 #[cfg(test)]
 mod bound_jobs;
 #[cfg(test)]
+mod given;
+#[cfg(test)]
 mod greedy;
 #[cfg(test)]
 mod identities;
 #[cfg(test)]
 mod jobs;
-#[cfg(test)]
-mod lent;
 #[cfg(test)]
 mod pictures;
 #[cfg(test)]

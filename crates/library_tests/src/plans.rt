@@ -79,7 +79,7 @@ struct Case {
     text: &'static str,
     file: &'static [u8],
     sides: (u32, u32),
-    flags: &'static [bool],
+    inlining: &'static [bool],
 }
 
 // What a plan needs: the stage, the row and the column of each tile, whose key is the job's.
@@ -119,14 +119,14 @@ fn has_parts(alloc: Global, job: &Job, plan: &TilePlan, wanted: &str) -> Result<
 fn is_planned(
     alloc: Global,
     job: &Job,
-    flags: &[bool],
+    inlining: &[bool],
     tile: Tile,
     wanted: &str,
 ) -> Result<(), Fail>
     requires { IsJob (pipeline_in job.now) }
 {
     has_few_stages(job)?;
-    let schedule = schedule_of(alloc, job, flags)?;
+    let schedule = schedule_of(alloc, job, inlining)?;
     match TilePlan::of(alloc, job, &schedule, tile.0, tile.1, tile.2) {
         Ok(plan) => has_parts(alloc, job, &plan, wanted),
         Err(fault) => tells(alloc, &fault, wanted),
@@ -135,7 +135,7 @@ fn is_planned(
 
 fn planned(alloc: Global, case: &Case, tile: Tile, wanted: &str) -> Result<(), Fail> {
     let job = job_of(alloc, case.text, &[], case.file, case.sides)?;
-    is_planned(alloc, &job, case.flags, tile, wanted)
+    is_planned(alloc, &job, case.inlining, tile, wanted)
 }
 
 /// One tile of one point.
@@ -143,7 +143,7 @@ const POINT: Case = Case {
     text: COPY,
     file: ONE,
     sides: (1024, 1024),
-    flags: &[false, false],
+    inlining: &[false, false],
 };
 
 #[test]
@@ -170,7 +170,7 @@ fn an_inlined_function_is_computed_before_its_reader(rt: HostRuntime) -> Result<
         text: CHAIN,
         file: ONES,
         sides: (2, 2),
-        flags: &[false, true, false],
+        inlining: &[false, true, false],
     };
     planned(
         rt.alloc(),
@@ -186,7 +186,7 @@ fn ranges_of_a_chain(rt: HostRuntime) -> Result<(), Fail> {
         text: COPIES,
         file: FOUR,
         sides: (2, 2),
-        flags: &[false, true, true, true, false],
+        inlining: &[false, true, true, true, false],
     };
     planned(
         rt.alloc(),
@@ -202,7 +202,7 @@ fn a_box_over_four_tiles_needs_each(rt: HostRuntime) -> Result<(), Fail> {
         text: CORNERS,
         file: SIXTEEN,
         sides: (2, 2),
-        flags: &[false, false, false, false],
+        inlining: &[false, false, false, false],
     };
     planned(
         rt.alloc(),
@@ -218,7 +218,7 @@ fn an_accumulator_is_planned_too(rt: HostRuntime) -> Result<(), Fail> {
         text: CORNERS,
         file: SIXTEEN,
         sides: (2, 2),
-        flags: &[false, true, false, false],
+        inlining: &[false, true, false, false],
     };
     planned(
         rt.alloc(),
@@ -234,7 +234,7 @@ fn as_much_scratch_memory_as_there_may_be(rt: HostRuntime) -> Result<(), Fail> {
         text: FULL,
         file: ONE,
         sides: (1024, 1024),
-        flags: &[false, true, false],
+        inlining: &[false, true, false],
     };
     planned(
         rt.alloc(),
@@ -250,7 +250,7 @@ fn more_scratch_memory_than_there_may_be(rt: HostRuntime) -> Result<(), Fail> {
         text: TOO_BIG,
         file: ONE,
         sides: (1024, 1024),
-        flags: &[false, true, false],
+        inlining: &[false, true, false],
     };
     planned(rt.alloc(), &too_big, (2, 0, 0), "ScratchTooBig")
 }

@@ -5,8 +5,8 @@ ghost use Rattle.std.specs.Prelude.{◌≡◌, ◌≤◌, length, IfOk};
 ghost use Rattle.grouping.specs.Inlining.{IsScheduleOf};
 ghost use Rattle.job.specs.Kept.{pipeline_in};
 ghost use Rattle.job.specs.WellFormed.{IsJob};
-ghost use Rattle.tile_run.specs.Lent.{AreTrue};
-ghost use Rattle.tile_run.specs.Stored.{stored_tiles, LendsAllTiles};
+ghost use Rattle.tile_run.specs.KnownTiles.{AreTrue};
+ghost use Rattle.tile_run.specs.Stored.{stored_tiles, GivesAllTiles};
 
 use grouping::Schedule;
 use job::Job;
@@ -24,15 +24,15 @@ pub(crate) fn has_few_stages(job: &Job) -> Result<(), Fail>
     Ok(())
 }
 
-/// The schedule of these flags, one for each stage.
-pub(crate) fn schedule_of(alloc: Global, job: &Job, flags: &[bool]) -> Result<Schedule, Fail>
+/// The schedule of these inlining, one for each stage.
+pub(crate) fn schedule_of(alloc: Global, job: &Job, inlining: &[bool]) -> Result<Schedule, Fail>
     requires { IsJob (pipeline_in job.now) }
     ensures { IfOk result (IsScheduleOf (pipeline_in job.now)) }
 {
-    if flags.len() != job.stages().len() {
-        return Err(Fail::new("not as many flags as stages"));
+    if inlining.len() != job.stages().len() {
+        return Err(Fail::new("not as many inlining as stages"));
     }
-    Ok(Schedule::of(alloc, job, flags)?)
+    Ok(Schedule::of(alloc, job, inlining)?)
 }
 
 /// The schedule that inlines wherever it may, or that stores all.
@@ -52,7 +52,7 @@ pub(crate) fn run(alloc: Global, job: &Job, schedule: &Schedule) -> Result<Store
     requires job { IsJob (pipeline_in job.now) }
     requires schedule { IsScheduleOf (pipeline_in job.now) schedule.now }
     ensures few { IfOk result (λ _. length (pipeline_in job.now).stages ≤ 64) }
-    ensures all { IfOk result (λ stored. LendsAllTiles (pipeline_in job.now) schedule.now.flags (stored_tiles stored.stages.items)) }
+    ensures all { IfOk result (λ stored. GivesAllTiles (pipeline_in job.now) schedule.now.inlining (stored_tiles stored.stages.items)) }
     ensures values { IfOk result (λ stored. AreTrue (pipeline_in job.now) (stored_tiles stored.stages.items)) }
 {
     has_few_stages(job)?;

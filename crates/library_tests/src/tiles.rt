@@ -13,7 +13,7 @@ use job::{Job, StageKind};
 use std::alloc::Global;
 use std::test::Fail;
 use tile_eval::plain;
-use tile_run::{Lender, RunFault, Stored, run_all};
+use tile_run::{Known, RunFault, Stored, run_all};
 
 /// Stencils, cases, halves and doubles, one function after the other.
 pub(crate) const PIPELINE: &str = "image I(7,9);

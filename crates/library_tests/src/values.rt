@@ -1,5 +1,5 @@
 #![tactic(auto)]
-//! Whole stages of jobs.
+//! Buffer stages of jobs.
 
 ghost use Rattle.std.specs.Prelude.{IfOk};
 ghost use Rattle.job.specs.Kept.{pipeline_in};

@@ -30,7 +30,7 @@ module _ (t : Target) (ranked : IsRanked t.job.stages) where
   IsLower g = rank_of t.job.stages g < rank_of t.job.stages t.stage
 
   region_low : (boxes : ℕ → Option Area) (g : ℕ) (a : Area) → ((b : Area) → boxes g ≡ Some b → IsLower g) → region_by t boxes g ≡ Some a → rank_of t.job.stages g ≤ rank_of t.job.stages t.stage
-  region_low boxes g a low e = by (eqb g t.stage) refl (is_inlined t.flags g) e
+  region_low boxes g a low e = by (eqb g t.stage) refl (is_inlined t.inlining g) e
     where
       by : (b : Bool) → eqb g t.stage ≡ b → (i : Bool) → (if b then Some t.region else (if i then boxes g else None)) ≡ Some a → rank_of t.job.stages g ≤ rank_of t.job.stages t.stage
       by true same i e = let ranks : rank_of t.job.stages g ≡ rank_of t.job.stages t.stage = ap (rank_of t.job.stages) (eqb-true g t.stage same) in omega arith

@@ -42,20 +42,20 @@ past_needs g one other true false = refl
 past_needs g one other false true = refl
 past_needs g one other false false = refl
 
-stage_needs_is : (t : Target) (g : ℕ) → stage_needs t.job t.flags (boxes t) g ≡ needs_of t g
+stage_needs_is : (t : Target) (g : ℕ) → stage_needs t.job t.inlining (boxes t) g ≡ needs_of t g
 stage_needs_is t g = elim (cases_lt g (length t.job.stages)) [
   | inl there ↦
-      ap (λ (o : Option Area). if is_inlined t.flags g then [] else tiles_over g (grid_at t.job g) o) (area_in-boxes t g there)
-      ∙ chosen_needs g (grid_at t.job g) (box t g) (is_inlined t.flags g) (is_boxed t g)
+      ap (λ (o : Option Area). if is_inlined t.inlining g then [] else tiles_over g (grid_at t.job g) o) (area_in-boxes t g there)
+      ∙ chosen_needs g (grid_at t.job g) (box t g) (is_inlined t.inlining g) (is_boxed t g)
   | inr past ↦
       (let none : grid_at t.job g ≡ None = ap (stage_grid t.job) (slice_get_past t.job.stages g past) in
-      ap (λ (o : Option Grid). if is_inlined t.flags g then [] else tiles_over g o (area_in (boxes t) g)) none
-      ∙ past_needs g (area_in (boxes t) g) (box t g) (is_inlined t.flags g) (is_stored t g)
+      ap (λ (o : Option Grid). if is_inlined t.inlining g then [] else tiles_over g o (area_in (boxes t) g)) none
+      ∙ past_needs g (area_in (boxes t) g) (box t g) (is_inlined t.inlining g) (is_stored t g)
       ∙ sym (ap (λ (o : Option Grid). if is_stored t g then tiles_over g o (box t g) else []) none))
 ]
 
-pub needs_made : (t : Target) → flat_map (stage_needs t.job t.flags (boxes t)) (range_with_len 0 (length t.job.stages)) ≡ needs t
-needs_made t = flat_map-same (stage_needs t.job t.flags (boxes t)) (needs_of t) (range_with_len 0 (length t.job.stages)) (stage_needs_is t)
+pub needs_made : (t : Target) → flat_map (stage_needs t.job t.inlining (boxes t)) (range_with_len 0 (length t.job.stages)) ≡ needs t
+needs_made t = flat_map-same (stage_needs t.job t.inlining (boxes t)) (needs_of t) (range_with_len 0 (length t.job.stages)) (stage_needs_is t)
 
 -- ---- what is in it
 

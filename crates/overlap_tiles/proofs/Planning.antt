@@ -31,8 +31,8 @@ points_in-push inner s = ap sum (map_push (λ (x : ℕ × Area). point_count x.1
 -- how a layout is put together
 pub record IsMade (t : Target) (p : Layout) : Type 0 where
   pub inner : List (ℕ × Area)
-  pub kept : inner ≡ filter (λ s. is_inlined t.flags s.0) (boxes t)
-  pub needs : p.needs ≡ flat_map (stage_needs t.job t.flags (boxes t)) (range_with_len 0 (length t.job.stages))
+  pub kept : inner ≡ filter (λ s. is_inlined t.inlining s.0) (boxes t)
+  pub needs : p.needs ≡ flat_map (stage_needs t.job t.inlining (boxes t)) (range_with_len 0 (length t.job.stages))
   pub steps : p.steps ≡ inner ++ (t.stage, t.region) ∷ []
   pub scratch : p.scratch ≡ points_in inner
   pub points : p.points ≡ points_in inner + point_count t.region
@@ -58,14 +58,14 @@ tiles_back program job [] = refl
 tiles_back program job (n ∷ ns) = ap (λ (ms : List Tile). n ∷ ms) (tiles_back program job ns)
 
 -- the layout of a plan of a tile is that of the tile
-pub layout_in : (program : List ℕ) (job : Pipeline) (flags : List Bool) (g i j : ℕ) (p : Plan) → IsTilePlan program job flags g i j p → IsTileLayout job flags g i j (layout_of p)
-layout_in program job flags g i j p is =
+pub layout_in : (program : List ℕ) (job : Pipeline) (inlining : List Bool) (g i j : ℕ) (p : Plan) → IsTilePlan program job inlining g i j p → IsTileLayout job inlining g i j (layout_of p)
+layout_in program job inlining g i j p is =
     let made = is.plan.plan in
     record {
       area = is.area;
       tile = is.tile;
       layout = record {
-        layout = record { needs = ap (map key_tile) made.needs ∙ tiles_back program job (needs (target_over job flags g is.area)); steps = made.steps; points = made.points; ranges = made.ranges };
+        layout = record { needs = ap (map key_tile) made.needs ∙ tiles_back program job (needs (target_over job inlining g is.area)); steps = made.steps; points = made.points; ranges = made.ranges };
         fits = is.plan.fits;
       };
     }

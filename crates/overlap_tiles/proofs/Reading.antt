@@ -12,9 +12,9 @@ use Rattle.domains.specs.declared.area.Area.{Area}
 use Rattle.domains.proofs.PairLists.{Contains-here, Contains-filter}
 use Rattle.domains.proofs.Covers.{tile_is}
 use Rattle.job.specs.Formula.{Formula}
-use Rattle.job.specs.Pipeline.{Pipeline, Piece, Body, plane, function, accumulator, Stage, rank_of}
+use Rattle.job.specs.Pipeline.{Pipeline, JobCase, Body, plane, function, accumulator, Stage, rank_of}
 use Rattle.job.specs.Values.{kernel_row, kernel_column}
-use Rattle.job.specs.Reads.{Read, point, window, stage_read, reads_in, EachTaken, EachRead, PieceReads, BodyReads, reads_of}
+use Rattle.job.specs.Reads.{Read, point, window, stage_read, reads_in, EachTaken, EachRead, CaseReads, BodyReads, reads_of}
 use Rattle.job.specs.Answers.{grid_of, has_tiles}
 use Rattle.job.specs.Readers.{stage_grid, grid_at}
 use Rattle.job.specs.WellFormed.{IsValued, IsReadable, IsJob}
@@ -31,7 +31,7 @@ use Rattle.grouping.proofs.Needs.{has_what_it_reads}
 use Rattle.grouping.proofs.Inside.{InDomain, region_in_domain}
 use Rattle.overlap_tiles.specs.Lives.{DoesRead, IsReadAt, LivesMeet}
 use Rattle.overlap_tiles.proofs.Lists.{Contains-map}
-use Rattle.overlap_tiles.specs.AtHand.{IsComputedBefore, IsInNeededTile, IsAtHand, HasAtHand}
+use Rattle.overlap_tiles.specs.Available.{IsComputedBefore, IsInNeededTile, IsAvailable, ReadsAvailable}
 use Rattle.overlap_tiles.proofs.Tiling.{grid_fits}
 use Rattle.overlap_tiles.proofs.Needing.{to_needs}
 use Rattle.overlap_tiles.proofs.Lower.{box_low}
@@ -50,14 +50,14 @@ module _ (P Q : ℕ → ℤ → ℤ → Type 0) (r c : ℤ) where
   both_read : (f : Formula) → EachRead P f r c → EachRead Q f r c → EachRead (Both P Q) f r c
   both_read f p q = All-both (λ x. EachTaken P x r c) (λ x. EachTaken Q x r c) (λ x. EachTaken (Both P Q) x r c) both_taken (reads_in f) p q
 
-  both_pieces : (ps : List Piece) → All (λ p. PieceReads P p r c) ps → All (λ p. PieceReads Q p r c) ps → All (λ p. PieceReads (Both P Q) p r c) ps
-  both_pieces ps p q =
-      All-both (λ p. PieceReads P p r c) (λ p. PieceReads Q p r c) (λ p. PieceReads (Both P Q) p r c)
-      (λ piece one other. λ b there inside. both_read piece.formula (one b there inside) (other b there inside)) ps p q
+  both_cases : (ps : List JobCase) → All (λ p. CaseReads P p r c) ps → All (λ p. CaseReads Q p r c) ps → All (λ p. CaseReads (Both P Q) p r c) ps
+  both_cases ps p q =
+      All-both (λ p. CaseReads P p r c) (λ p. CaseReads Q p r c) (λ p. CaseReads (Both P Q) p r c)
+      (λ case one other. λ b there inside. both_read case.formula (one b there inside) (other b there inside)) ps p q
 
   pub both_body : (body : Body) → BodyReads P body r c → BodyReads Q body r c → BodyReads (Both P Q) body r c
   both_body (plane n) p q = tt
-  both_body (function pieces otherwise) p q = (both_pieces pieces p.0 q.0, (λ f there. both_read f (p.1 f there) (q.1 f there)))
+  both_body (function cases otherwise) p q = (both_cases cases p.0 q.0, (λ f there. both_read f (p.1 f there) (q.1 f there)))
   both_body (accumulator fold bins value bin) p q = (both_read value p.0 q.0, both_read bin p.1 q.1)
 
 -- ---- where a stage is found
@@ -109,14 +109,14 @@ module _ (t : Target) (job : IsJob t.job) where
         (ap (λ (o : Option Stage). option_map_or (λ x. is_function_body x.body) o false) there ∙ e)
         (ap not other)
 
-    in_a_step : (k g : ℕ) (b : Area) → is_function_body s.body ≡ true → is_inlined t.flags h ≡ true → slice_get (steps t) k ≡ Some (g, b) → DoesRead t.job g h → rank_of t.job.stages h < rank_of t.job.stages g → IsComputedBefore t k h r c
+    in_a_step : (k g : ℕ) (b : Area) → is_function_body s.body ≡ true → is_inlined t.inlining h ≡ true → slice_get (steps t) k ≡ Some (g, b) → DoesRead t.job g h → rank_of t.job.stages h < rank_of t.job.stages g → IsComputedBefore t k h r c
     in_a_step k g b e inlined here does lower =
         before k g h b a r c here
         (Contains-append_left (inner_steps t) ((t.stage, t.region) ∷ []) (h, a)
-        (Contains-filter (λ x. is_inlined t.flags x.0) (boxes t) (h, a) (function_listed h a (slice_get_within t.job.stages h s there) (boxed e) is) inlined))
+        (Contains-filter (λ x. is_inlined t.inlining x.0) (boxes t) (h, a) (function_listed h a (slice_get_within t.job.stages h s there) (boxed e) is) inlined))
         does lower holds
 
-    in_a_tile : is_function_body s.body ≡ true → has_tiles s.body ≡ true → is_inlined t.flags h ≡ false → HoldsPoint s.domain r c → IsInNeededTile t h r c
+    in_a_tile : is_function_body s.body ≡ true → has_tiles s.body ≡ true → is_inlined t.inlining h ≡ false → HoldsPoint s.domain r c → IsInNeededTile t h r c
     in_a_tile e has stored inside =
         let grid = grid_of t.job s in
         let at : grid_at t.job h ≡ Some grid = ap (stage_grid t.job) there ∙ (λ i. if has i then Some grid else None) in
@@ -129,7 +129,7 @@ module _ (t : Target) (job : IsJob t.job) where
           needed = to_needs t (record { stage = h; row = (tile_at grid r c).0; col = (tile_at grid r c).1 }) job (record {
             grid = grid;
             there = at;
-            stored = and_from (is_boxed t h) (not (is_inlined t.flags h)) (boxed e) (ap not stored);
+            stored = and_from (is_boxed t h) (not (is_inlined t.inlining h)) (boxed e) (ap not stored);
             area = a;
             boxed = is;
             meets = record { there = tile.there; row = r; col = c; in_tile = tile.holds; in_area = holds };
@@ -137,13 +137,13 @@ module _ (t : Target) (job : IsJob t.job) where
           holds = tile.holds;
         }
 
-  at_hand : (k g : ℕ) (a : Area) → slice_get (steps t) k ≡ Some (g, a) → (h : ℕ) (r c : ℤ) → DoesRead t.job g h → rank_of t.job.stages h < rank_of t.job.stages g → Both (IsInBox t) (IsReadable t.job.stages) h r c → IsAtHand t k h r c
-  at_hand k g a here h r c does lower both = by both.1.stage.body refl (is_inlined t.flags h) refl
+  at_hand : (k g : ℕ) (a : Area) → slice_get (steps t) k ≡ Some (g, a) → (h : ℕ) (r c : ℤ) → DoesRead t.job g h → rank_of t.job.stages h < rank_of t.job.stages g → Both (IsInBox t) (IsReadable t.job.stages) h r c → IsAvailable t k h r c
+  at_hand k g a here h r c does lower both = by both.1.stage.body refl (is_inlined t.inlining h) refl
     where
-      by : (body : Body) → both.1.stage.body ≡ body → (i : Bool) → is_inlined t.flags h ≡ i → IsAtHand t k h r c
+      by : (body : Body) → both.1.stage.body ≡ body → (i : Bool) → is_inlined t.inlining h ≡ i → IsAvailable t k h r c
       by (plane n) e i inlined = inl (record { stage = both.1.stage; there = both.1.there; number = n; plane = e })
-      by (function pieces otherwise) e true inlined = inr (inl (in_a_step h both.1.stage both.1.there both.0.area both.0.there r c both.0.holds k g a (ap is_function_body e) inlined here does lower))
-      by (function pieces otherwise) e false inlined = inr (inr (in_a_tile h both.1.stage both.1.there both.0.area both.0.there r c both.0.holds (ap is_function_body e) (ap has_tiles e) inlined both.1.within))
+      by (function cases otherwise) e true inlined = inr (inl (in_a_step h both.1.stage both.1.there both.0.area both.0.there r c both.0.holds k g a (ap is_function_body e) inlined here does lower))
+      by (function cases otherwise) e false inlined = inr (inr (in_a_tile h both.1.stage both.1.there both.0.area both.0.there r c both.0.holds (ap is_function_body e) (ap has_tiles e) inlined both.1.within))
       by (accumulator fold bins value bin) e i inlined = absurd (subst IsValued e both.1.valued)
 
   -- a read of stage g, which leads to a lower rank
@@ -156,7 +156,7 @@ module _ (t : Target) (job : IsJob t.job) where
       (λ x falls inside. (falls, record { stage = s; there = is; reads = Contains-map stage_read (reads_of s.body) x inside }))
       (reads_of s.body) (reads_fall t.job.stages (ranked_is t.job job) g s is) (All-contains_itself (reads_of s.body))
 
-  taken_at_hand : (k g : ℕ) (a : Area) → slice_get (steps t) k ≡ Some (g, a) → (r c : ℤ) (x : Read) → IsReadOf g x → EachTaken (Both (IsInBox t) (IsReadable t.job.stages)) x r c → EachTaken (IsAtHand t k) x r c
+  taken_at_hand : (k g : ℕ) (a : Area) → slice_get (steps t) k ≡ Some (g, a) → (r c : ℤ) (x : Read) → IsReadOf g x → EachTaken (Both (IsInBox t) (IsReadable t.job.stages)) x r c → EachTaken (IsAvailable t k) x r c
   taken_at_hand k g a here r c (point h i j) is taken = at_hand k g a here h (index_at i r) (index_at j c) is.1 is.0 taken
   taken_at_hand k g a here r c (window h kernel) is taken = λ m n lm ln. at_hand k g a here h (kernel_row kernel r m) (kernel_column kernel c n) is.1 is.0 (taken m n lm ln)
 
@@ -166,10 +166,10 @@ step_region t k g a here = region_of_step t (g, a) (k, slice_get_within (steps t
 pub step_in_domain : (t : Target) (k g : ℕ) (s : Stage) (a : Area) → IsJob t.job → IsTarget t → slice_get (steps t) k ≡ Some (g, a) → slice_get t.job.stages g ≡ Some s → InDomain s a
 step_in_domain t k g s a job target here is = region_in_domain t g s a job target is (step_region t k g a here)
 
-pub has_at_hand : (t : Target) → IsJob t.job → IsTarget t → HasAtHand t
-has_at_hand t job target = λ k g s a here is r c holds.
+pub reads_available : (t : Target) → IsJob t.job → IsTarget t → ReadsAvailable t
+reads_available t job target = λ k g s a here is r c holds.
     let inside = (step_in_domain t k g s a job target here is).1 r c holds in
-    BodyReads-both (Both (IsInBox t) (IsReadable t.job.stages)) (IsAtHand t k) (IsReadOf t job g) s.body r c (taken_at_hand t job k g a here r c) (reads_of_stage t job g s is)
+    BodyReads-both (Both (IsInBox t) (IsReadable t.job.stages)) (IsAvailable t k) (IsReadOf t job g) s.body r c (taken_at_hand t job k g a here r c) (reads_of_stage t job g s is)
     (both_body (IsInBox t) (IsReadable t.job.stages) r c s.body (has_what_it_reads t job target g s a is (step_region t k g a here) r c holds) ((job.stages g s is).reads r c inside))
 
 -- what is read is alive at each step up to the one that reads it

@@ -59,9 +59,9 @@ boxes_rise t =
 
 pub steps_rise : (t : Target) → IsRanked t.job.stages → AllPairs (IsBelow t) (steps t)
 steps_rise t ranked =
-    AllPairs-append (IsBelow t) (inner_steps t) ((t.stage, t.region) ∷ []) (AllPairs-filter (IsBelow t) (λ s. is_inlined t.flags s.0) (boxes t) (boxes_rise t)) (λ i j d p q. absurd (omega (arith, p, q)))
+    AllPairs-append (IsBelow t) (inner_steps t) ((t.stage, t.region) ∷ []) (AllPairs-filter (IsBelow t) (λ s. is_inlined t.inlining s.0) (boxes t) (boxes_rise t)) (λ i j d p q. absurd (omega (arith, p, q)))
     (λ x y here last.
-    let inner = Contains-from_filter (λ s. is_inlined t.flags s.0) (boxes t) x here in
+    let inner = Contains-from_filter (λ s. is_inlined t.inlining s.0) (boxes t) x here in
     let low = box_low t ranked x.0 x.1 (box_listed t x inner.0).there in
     elim (Contains-cases (t.stage, t.region) [] y last) [
       | inl e ↦ (let ranks = ap (λ (z : ℕ × Area). rank_of t.job.stages z.0) e in omega arith)
@@ -70,16 +70,16 @@ steps_rise t ranked =
 
 -- ---- the region of a step
 
-region_of_inner : (t : Target) (g : ℕ) → eqb g t.stage ≡ false → is_inlined t.flags g ≡ true → region t g ≡ box t g
+region_of_inner : (t : Target) (g : ℕ) → eqb g t.stage ≡ false → is_inlined t.inlining g ≡ true → region t g ≡ box t g
 region_of_inner t g other inlined = λ i. if other i then Some t.region else (if inlined i then box t g else None)
 
 region_of_target : (t : Target) (g : ℕ) → eqb g t.stage ≡ true → region t g ≡ Some t.region
-region_of_target t g same = λ i. if same i then Some t.region else (if is_inlined t.flags g then box t g else None)
+region_of_target t g same = λ i. if same i then Some t.region else (if is_inlined t.inlining g then box t g else None)
 
 pub region_of_step : (t : Target) (s : ℕ × Area) → Contains (steps t) s → region t s.0 ≡ Some s.1
 region_of_step t s h = elim (Contains-append_cases (inner_steps t) ((t.stage, t.region) ∷ []) s h) [
   | inl k ↦
-      (let inner = Contains-from_filter (λ x. is_inlined t.flags x.0) (boxes t) s k in
+      (let inner = Contains-from_filter (λ x. is_inlined t.inlining x.0) (boxes t) s k in
       let listed = box_listed t s inner.0 in
       let other = not-true (eqb s.0 t.stage) (and_parts (is_function t.job s.0) (not (eqb s.0 t.stage)) listed.boxed).1 in
       region_of_inner t s.0 other inner.1 ∙ listed.there)

@@ -33,6 +33,6 @@ grid_fits job g grid good e =
     subst IsGrid at.is (record { area = record { rows = stage.rows.span; cols = stage.cols.span }; sides = good.sides })
 
 -- a tile is a target
-pub tile_is_target : (job : Pipeline) (flags : List Bool) (g i j : ℕ) (area : Area) → IsJob job → IsTileAt job g i j area → IsTarget (target_over job flags g area)
-tile_is_target job flags g i j area good tile =
-    subst (λ (x : Area). IsTarget (target_over job flags g x)) (sym tile.is) (target_of_tile job flags g i j tile.grid good tile.there tile.tile)
+pub tile_is_target : (job : Pipeline) (inlining : List Bool) (g i j : ℕ) (area : Area) → IsJob job → IsTileAt job g i j area → IsTarget (target_over job inlining g area)
+tile_is_target job inlining g i j area good tile =
+    subst (λ (x : Area). IsTarget (target_over job inlining g x)) (sym tile.is) (target_of_tile job inlining g i j tile.grid good tile.there tile.tile)

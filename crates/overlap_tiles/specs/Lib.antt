@@ -4,4 +4,4 @@ pub mod Made
 pub mod Lives
 pub mod Ranges
 pub mod Plans
-pub mod AtHand
+pub mod Available

@@ -14,7 +14,7 @@ area_in boxes g = option_map (λ b. b.1) (find (λ b. b.0 == g) boxes)
 
 -- the tiles that are needed of stage g
 abbrev pub stage_needs : Pipeline → List Bool → List (ℕ × Area) → ℕ → List Tile
-stage_needs job flags boxes g = if is_inlined flags g then [] else tiles_over g (grid_at job g) (area_in boxes g)
+stage_needs job inlining boxes g = if is_inlined inlining g then [] else tiles_over g (grid_at job g) (area_in boxes g)
 
 -- ranges of these lengths, each where the one before it ends
 abbrev pub end_to_end : ℕ → List ℕ → List (ℕ × ℕ)

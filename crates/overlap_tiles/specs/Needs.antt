@@ -16,7 +16,7 @@ use Rattle.grouping.specs.Targets.{Target, is_boxed, box}
 
 -- whether stage g is a function other than the target that is stored
 abbrev pub is_stored : Target → ℕ → Bool
-is_stored t g = is_boxed t g && not (is_inlined t.flags g)
+is_stored t g = is_boxed t g && not (is_inlined t.inlining g)
 
 -- ---- the list
 

@@ -74,28 +74,28 @@ pub record IsTileAt (job : Pipeline) (g i j : ℕ) (area : Area) : Type 0 where
   pub is : area ≡ tile_area grid i j
 
 abbrev pub target_over : Pipeline → List Bool → ℕ → Area → Target
-target_over job flags g area = record { job = job; flags = flags; stage = g; region = area }
+target_over job inlining g area = record { job = job; inlining = inlining; stage = g; region = area }
 
 -- the layout is that of this tile
-pub record IsTileLayout (job : Pipeline) (flags : List Bool) (g i j : ℕ) (l : Layout) : Type 0 where
+pub record IsTileLayout (job : Pipeline) (inlining : List Bool) (g i j : ℕ) (l : Layout) : Type 0 where
   pub area : Area
   pub tile : IsTileAt job g i j area
-  pub layout : IsFittingLayout (target_over job flags g area) l
+  pub layout : IsFittingLayout (target_over job inlining g area) l
 
 -- the plan is that of this tile
-pub record IsTilePlan (program : List ℕ) (job : Pipeline) (flags : List Bool) (g i j : ℕ) (p : Plan) : Type 0 where
+pub record IsTilePlan (program : List ℕ) (job : Pipeline) (inlining : List Bool) (g i j : ℕ) (p : Plan) : Type 0 where
   pub area : Area
   pub tile : IsTileAt job g i j area
-  pub plan : IsFittingPlan program (target_over job flags g area) p
+  pub plan : IsFittingPlan program (target_over job inlining g area) p
 
 -- there is this tile, and neither a layout nor a plan of it
-pub record IsTileFault (job : Pipeline) (flags : List Bool) (g i j : ℕ) (fault : PlanFault) : Type 0 where
+pub record IsTileFault (job : Pipeline) (inlining : List Bool) (g i j : ℕ) (fault : PlanFault) : Type 0 where
   pub area : Area
   pub tile : IsTileAt job g i j area
-  pub reason : IsTargetFault (target_over job flags g area) fault
+  pub reason : IsTargetFault (target_over job inlining g area) fault
 
 -- why there is neither a layout nor a plan of this tile
 abbrev pub IsPlanFault : Pipeline → List Bool → ℕ → ℕ → ℕ → PlanFault → Type 0
-IsPlanFault job flags g i j NoSuchTile = ¬ (HasTileAt job g i j)
-IsPlanFault job flags g i j ScratchTooBig = IsTileFault job flags g i j ScratchTooBig
-IsPlanFault job flags g i j Memory = IsTileFault job flags g i j Memory
+IsPlanFault job inlining g i j NoSuchTile = ¬ (HasTileAt job g i j)
+IsPlanFault job inlining g i j ScratchTooBig = IsTileFault job inlining g i j ScratchTooBig
+IsPlanFault job inlining g i j Memory = IsTileFault job inlining g i j Memory

@@ -10,7 +10,7 @@ ghost use Rattle.grouping.specs.Costs.{steps};
 ghost use Rattle.grouping.specs.Targets.{Target, IsTarget};
 ghost use Rattle.overlap_tiles.specs.Needs.{needs, needed_keys, IsNeeded, IsTileBefore, IsKeyBefore};
 ghost use Rattle.overlap_tiles.specs.Lives.{IsReadAt, LivesMeet};
-ghost use Rattle.overlap_tiles.specs.AtHand.{HasAtHand};
+ghost use Rattle.overlap_tiles.specs.Available.{ReadsAvailable};
 
 /// The list of what a target needs has exactly the tiles of stored functions that have a point of their function's box; they
 /// and their keys rise.
@@ -22,7 +22,7 @@ pub fn needs_are_exact()
 
 /// Each read that a step makes at a point of its area lies in a plane, in what an earlier step computes, or in a needed tile.
 pub fn steps_have_what_they_read()
-    ensures { (t : Target) → IsJob t.job → IsTarget t → HasAtHand t }
+    ensures { (t : Target) → IsJob t.job → IsTarget t → ReadsAvailable t }
 {}
 
 /// The area of a step lies in the domain of its stage.

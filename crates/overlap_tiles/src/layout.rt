@@ -66,8 +66,8 @@ impl Layout {
         col: u32,
     ) -> Result<Layout, PlanFault>
         requires { IsJob (pipeline_in job.now) }
-        ensures layout { IfOk result (IsTileLayout (pipeline_in job.now) schedule.now.flags stage row col) }
-        ensures fault { IfErr result (IsPlanFault (pipeline_in job.now) schedule.now.flags stage row col) }
+        ensures layout { IfOk result (IsTileLayout (pipeline_in job.now) schedule.now.inlining stage row col) }
+        ensures fault { IfErr result (IsPlanFault (pipeline_in job.now) schedule.now.inlining stage row col) }
     {
         let Some(area) = tile_area(job, stage, row, col) else {
             return Err(PlanFault::NoSuchTile);
@@ -86,9 +86,9 @@ impl Layout {
         found: &[(usize, Area)],
     ) -> Result<Layout, PlanFault>
         requires area { IsArea target.area }
-        requires boxes { found.now ≡ boxes (target_over (pipeline_in job.now) schedule.now.flags target.stage target.area) }
-        ensures layout { IfOk result (IsFittingLayout (target_over (pipeline_in job.now) schedule.now.flags target.stage target.area)) }
-        ensures fault { IfErr result (IsTargetFault (target_over (pipeline_in job.now) schedule.now.flags target.stage target.area)) }
+        requires boxes { found.now ≡ boxes (target_over (pipeline_in job.now) schedule.now.inlining target.stage target.area) }
+        ensures layout { IfOk result (IsFittingLayout (target_over (pipeline_in job.now) schedule.now.inlining target.stage target.area)) }
+        ensures fault { IfErr result (IsTargetFault (target_over (pipeline_in job.now) schedule.now.inlining target.stage target.area)) }
     {
         let mut steps = inner_steps(alloc, schedule, found)?;
         let Some(scratch) = scratch_points(&steps) else {

@@ -50,7 +50,7 @@ fn add_stage(
     boxes: &[(usize, Area)],
     stage: usize,
 ) -> Result<(), AllocError>
-    ensures { OnOk result (map need_view needs.new.items ≡ map need_view needs.old.items ++ stage_needs (pipeline_in job.now) schedule.now.flags boxes.now stage) }
+    ensures { OnOk result (map need_view needs.new.items ≡ map need_view needs.old.items ++ stage_needs (pipeline_in job.now) schedule.now.inlining boxes.now stage) }
 {
     if schedule.inlined(stage) {
         return Ok(());
@@ -69,7 +69,7 @@ pub(crate) fn needs(
     schedule: &Schedule,
     boxes: &[(usize, Area)],
 ) -> Result<Vec<Need>, AllocError>
-    ensures { IfOk result (λ needs. map need_view needs.items ≡ flat_map (stage_needs (pipeline_in job.now) schedule.now.flags boxes.now) (range_with_len 0 (length (pipeline_in job.now).stages))) }
+    ensures { IfOk result (λ needs. map need_view needs.items ≡ flat_map (stage_needs (pipeline_in job.now) schedule.now.inlining boxes.now) (range_with_len 0 (length (pipeline_in job.now).stages))) }
 {
     let mut needs = Vec::new(alloc);
     for stage in 0..job.stages().len() {

@@ -54,8 +54,8 @@ impl TilePlan {
     ) -> Result<TilePlan, PlanFault>
         requires job { IsJob (pipeline_in job.now) }
         requires few { length (pipeline_in job.now).stages ≤ 65536 }
-        ensures plan { IfOk result (IsTilePlan (program_id_in job.now) (pipeline_in job.now) schedule.now.flags stage row col) }
-        ensures fault { IfErr result (IsPlanFault (pipeline_in job.now) schedule.now.flags stage row col) }
+        ensures plan { IfOk result (IsTilePlan (program_id_in job.now) (pipeline_in job.now) schedule.now.inlining stage row col) }
+        ensures fault { IfErr result (IsPlanFault (pipeline_in job.now) schedule.now.inlining stage row col) }
     {
         let layout = Layout::of(alloc, job, schedule, stage, row, col)?;
         let needs = keys(alloc, job, layout.needs())?;
@@ -65,7 +65,7 @@ impl TilePlan {
     /// The same without identities. The plan of a tile has the tile's layout.
     pub fn layout(&self) -> &Layout
         ensures same { result.now ≡ layout_of self.now }
-        ensures tile { (program : List ℕ) (job : Pipeline) (flags : List Bool) (g i j : ℕ) → IsTilePlan program job flags g i j self.now → IsTileLayout job flags g i j result.now }
+        ensures tile { (program : List ℕ) (job : Pipeline) (inlining : List Bool) (g i j : ℕ) → IsTilePlan program job inlining g i j self.now → IsTileLayout job inlining g i j result.now }
     {
         &self.layout
     }

@@ -8,7 +8,7 @@ use Rattle.domains.specs.Area.{HoldsPoint}
 use Rattle.domains.specs.declared.area.Area.{Area}
 use Rattle.pipe_tree.specs.declared.tree.Case.{Case}
 use Rattle.pipe_tree.specs.Tree.{Declaration, branch, branches}
-use Rattle.pipe_checks.specs.declared.declared.Declared.{Declared}
+use Rattle.pipe_checks.specs.declared.symbol.Symbol.{Symbol}
 use Rattle.pipe_bounds.specs.declared.fault.Axis.{Axis}
 use Rattle.pipe_bounds.specs.declared.fault.Axis.TheVariants.{Rows, Columns}
 use Rattle.pipe_bounds.specs.declared.fault.BoundFault.{BoundFault}
@@ -29,7 +29,7 @@ pub first_case : (ss : List Setting) (areas : List Area) (domain : Area) (cases 
 first_case ss areas domain cases k n x f there before (inl e) = inl e
 first_case ss areas domain cases k n x f there before (inr read) = inr (record { number = n; place = x; there = there; before = before; read = read })
 
-pub first_stage : (ss : List Setting) (ds : List Declaration) (stages : List Declared) (areas : List Area) (k : ℕ) (s : Declared) (domain : Area) (f : BoundFault) → slice_get stages k ≡ Some s → slice_get areas k ≡ Some domain → ((i : ℕ) (y : Declared) → i < k → slice_get stages i ≡ Some y → StaysAt ss ds stages areas i y) → (f ≡ Memory) ⊎ IsFirstCase ss areas domain (stage_cases ds stages s) k f → (f ≡ Memory) ⊎ IsFirstStage ss ds stages areas f
+pub first_stage : (ss : List Setting) (ds : List Declaration) (stages : List Symbol) (areas : List Area) (k : ℕ) (s : Symbol) (domain : Area) (f : BoundFault) → slice_get stages k ≡ Some s → slice_get areas k ≡ Some domain → ((i : ℕ) (y : Symbol) → i < k → slice_get stages i ≡ Some y → StaysAt ss ds stages areas i y) → (f ≡ Memory) ⊎ IsFirstCase ss areas domain (stage_cases ds stages s) k f → (f ≡ Memory) ⊎ IsFirstStage ss ds stages areas f
 first_stage ss ds stages areas k s domain f there has before (inl e) = inl e
 first_stage ss ds stages areas k s domain f there has before (inr case) = inr (record { number = k; stage = s; there = there; domain = domain; has = has; before = before; case = case })
 
@@ -80,12 +80,12 @@ same_box areas P Q sites k n (Err f) same (inr h) = inr (record {
 
 -- ---- cases one behind the other
 
-pub case_at : (stages : List Declared) (row : List ℕ) (cases : List Case) (i : ℕ) (x : Case) → i < length cases → x ≡ get_or cases i x → slice_get (map (branch_case stages row) (branches cases)) i ≡ Some (branch_case stages row (branch x))
+pub case_at : (stages : List Symbol) (row : List ℕ) (cases : List Case) (i : ℕ) (x : Case) → i < length cases → x ≡ get_or cases i x → slice_get (map (branch_case stages row) (branches cases)) i ≡ Some (branch_case stages row (branch x))
 case_at stages row cases i x h e =
     slice_get-map (branch_case stages row) (branches cases) i
     ∙ ap (option_map (branch_case stages row)) (slice_get-map branch cases i ∙ ap (option_map branch) (slice_get-get_or cases i x h ∙ ap Some (sym e)))
 
-pub cases_end : (stages : List Declared) (row : List ℕ) (cases : List Case) → length (map (branch_case stages row) (branches cases)) ≡ length cases
+pub cases_end : (stages : List Symbol) (row : List ℕ) (cases : List Case) → length (map (branch_case stages row) (branches cases)) ≡ length cases
 cases_end stages row cases = length-map (branches cases) (branch_case stages row) ∙ length-map cases branch
 
 slice_get-append : {X : Type 0} (xs ys : List X) (i : ℕ) → i < length xs → slice_get (xs ++ ys) i ≡ slice_get xs i

@@ -5,7 +5,7 @@ use Rattle.std.proofs.lemmas.Option.{same_Some}
 use Rattle.domains.specs.Span.{Ends}
 use Rattle.domains.specs.declared.area.Area.{Area}
 use Rattle.pipe_tree.specs.Tree.{Declaration, param, image, function, accumulator, output}
-use Rattle.pipe_checks.specs.declared.declared.Declared.{Declared}
+use Rattle.pipe_checks.specs.declared.symbol.Symbol.{Symbol}
 use Rattle.pipe_bounds.specs.declared.domain.IntervalFault.{IntervalFault}
 use Rattle.pipe_bounds.specs.declared.domain.IntervalFault.TheVariants.{Empty, TooWide}
 use Rattle.pipe_bounds.specs.declared.params.Setting.{Setting}
@@ -103,15 +103,15 @@ one_domain ss (accumulator a) r q h g =
     one_after _ (IsArea (IsSpanOf ss a.row.span) (IsSpanOf ss a.column.span)) (one_bins (affine_value ss a.bins.first) (affine_value ss a.bins.last)) (one_area (IsSpanOf ss a.row.span) (IsSpanOf ss a.column.span) (one_interval _ _) (one_interval _ _)) r q h g
 one_domain ss (output o) r q h g = h ∙ sym g
 
-pub one_stage_domain : (ss : List Setting) (ds : List Declaration) (s : Declared) (r q : Result Area IntervalFault) → IsStageDomain ss ds s r → IsStageDomain ss ds s q → r ≡ q
+pub one_stage_domain : (ss : List Setting) (ds : List Declaration) (s : Symbol) (r q : Result Area IntervalFault) → IsStageDomain ss ds s r → IsStageDomain ss ds s q → r ≡ q
 one_stage_domain ss ds s r q h g =
     one_domain ss h.0 r q h.2 (subst (λ (d : Declaration). IsDomain ss d q) (same_Some g.0 h.0 (sym g.1 ∙ h.1)) g.2)
 
-pub not_ok_and_err : (ss : List Setting) (ds : List Declaration) (s : Declared) (a : Area) (f : IntervalFault) → IsStageDomain ss ds s (Ok a) → IsStageDomain ss ds s (Err f) → ⊥
+pub not_ok_and_err : (ss : List Setting) (ds : List Declaration) (s : Symbol) (a : Area) (f : IntervalFault) → IsStageDomain ss ds s (Ok a) → IsStageDomain ss ds s (Err f) → ⊥
 not_ok_and_err ss ds s a f ok err = not_both (IsStageDomain ss ds s) a f (one_stage_domain ss ds s) ok err
 
-pub same_area : (ss : List Setting) (ds : List Declaration) (s : Declared) (a b : Area) → IsStageDomain ss ds s (Ok a) → IsStageDomain ss ds s (Ok b) → a ≡ b
+pub same_area : (ss : List Setting) (ds : List Declaration) (s : Symbol) (a b : Area) → IsStageDomain ss ds s (Ok a) → IsStageDomain ss ds s (Ok b) → a ≡ b
 same_area ss ds s a b h g = same_ok (IsStageDomain ss ds s) a b (one_stage_domain ss ds s) h g
 
-pub same_fault : (ss : List Setting) (ds : List Declaration) (s : Declared) (f e : IntervalFault) → IsStageDomain ss ds s (Err f) → IsStageDomain ss ds s (Err e) → f ≡ e
+pub same_fault : (ss : List Setting) (ds : List Declaration) (s : Symbol) (f e : IntervalFault) → IsStageDomain ss ds s (Err f) → IsStageDomain ss ds s (Err e) → f ≡ e
 same_fault ss ds s f e h g = same_err (IsStageDomain ss ds s) f e (one_stage_domain ss ds s) h g

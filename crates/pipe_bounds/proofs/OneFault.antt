@@ -7,7 +7,7 @@ use Rattle.domains.specs.Span.{Holds}
 use Rattle.domains.specs.Index.{index_at}
 use Rattle.domains.specs.declared.area.Area.{Area}
 use Rattle.pipe_tree.specs.Tree.{Declaration}
-use Rattle.pipe_checks.specs.declared.declared.Declared.{Declared}
+use Rattle.pipe_checks.specs.declared.symbol.Symbol.{Symbol}
 use Rattle.pipe_bounds.specs.declared.domain.IntervalFault.{IntervalFault}
 use Rattle.pipe_bounds.specs.declared.domain.IntervalFault.TheVariants.{Empty, TooWide}
 use Rattle.pipe_bounds.specs.declared.fault.Axis.{Axis}
@@ -46,18 +46,18 @@ same_list (x ∷ xs) (y ∷ ys) e h = λ i. h 0 x y refl refl i ∷ same_list xs
 
 -- ---- domains
 
-same_areas : (ss : List Setting) (ds : List Declaration) (stages : List Declared) (xs ys : List Area) → HaveDomains ss ds stages xs → HaveDomains ss ds stages ys → xs ≡ ys
+same_areas : (ss : List Setting) (ds : List Declaration) (stages : List Symbol) (xs ys : List Area) → HaveDomains ss ds stages xs → HaveDomains ss ds stages ys → xs ≡ ys
 same_areas ss ds stages xs ys h g = same_list xs ys (h.each ∙ sym g.each) each
   where
     each : (i : ℕ) (x y : Area) → slice_get xs i ≡ Some x → slice_get ys i ≡ Some y → x ≡ y
     each i x y at_x at_y = by_stage (slice_get_cases stages i).1
       where
-        by_stage : ((s : Declared) × (i < length stages) × (slice_get stages i ≡ Some s) × (get_or stages i s ≡ s)) ⊎ ((length stages ≤ i) × (slice_get stages i ≡ None)) → x ≡ y
+        by_stage : ((s : Symbol) × (i < length stages) × (slice_get stages i ≡ Some s) × (get_or stages i s ≡ s)) ⊎ ((length stages ≤ i) × (slice_get stages i ≡ None)) → x ≡ y
         by_stage (inl s) = same_area ss ds s.0 x y (h.domain i s.0 x s.2 at_x) (g.domain i s.0 y s.2 at_y)
         by_stage (inr past) = absurd (omega (arith, past.0, slice_get_within xs i x at_x, h.each))
 
 -- a faulty stage has no domain
-no_domains : (ss : List Setting) (ds : List Declaration) (stages : List Declared) (areas : List Area) (fault : IntervalFault) (k : ℕ) → HaveDomains ss ds stages areas → IsFirstFaultyDomain ss ds stages fault k → ⊥
+no_domains : (ss : List Setting) (ds : List Declaration) (stages : List Symbol) (areas : List Area) (fault : IntervalFault) (k : ℕ) → HaveDomains ss ds stages areas → IsFirstFaultyDomain ss ds stages fault k → ⊥
 no_domains ss ds stages areas fault k h first = by_area (slice_get_cases areas k).1
   where
     by_area : ((a : Area) × (k < length areas) × (slice_get areas k ≡ Some a) × (get_or areas k a ≡ a)) ⊎ ((length areas ≤ k) × (slice_get areas k ≡ None)) → ⊥
@@ -131,19 +131,19 @@ one_case ss areas domain cases k f g h e =
 stage_not_stays : (ss : List Setting) (areas : List Area) (domain : Area) (cases : List ReadCase) (k : ℕ) (f : BoundFault) → IsFirstCase ss areas domain cases k f → StageStays ss areas domain cases → ⊥
 stage_not_stays ss areas domain cases k f h all = case_not_stays areas (IsInBox ss domain h.place) h.place.sites k h.number f h.read (all h.number h.place h.there)
 
-at_not_stays : (ss : List Setting) (ds : List Declaration) (stages : List Declared) (areas : List Area) (f : BoundFault) (h : IsFirstStage ss ds stages areas f) → StaysAt ss ds stages areas h.number h.stage → ⊥
+at_not_stays : (ss : List Setting) (ds : List Declaration) (stages : List Symbol) (areas : List Area) (f : BoundFault) (h : IsFirstStage ss ds stages areas f) → StaysAt ss ds stages areas h.number h.stage → ⊥
 at_not_stays ss ds stages areas f h all = stage_not_stays ss areas h.domain (stage_cases ds stages h.stage) h.number f h.case (all h.domain h.has)
 
-not_in_bounds : (ss : List Setting) (ds : List Declaration) (stages : List Declared) (areas : List Area) (f : BoundFault) → IsFirstStage ss ds stages areas f → AreInBounds ss ds stages areas → ⊥
+not_in_bounds : (ss : List Setting) (ds : List Declaration) (stages : List Symbol) (areas : List Area) (f : BoundFault) → IsFirstStage ss ds stages areas f → AreInBounds ss ds stages areas → ⊥
 not_in_bounds ss ds stages areas f h all = at_not_stays ss ds stages areas f h (all h.number h.stage h.there)
 
-one_stage : (ss : List Setting) (ds : List Declaration) (stages : List Declared) (areas : List Area) (f g : BoundFault) → IsFirstStage ss ds stages areas f → IsFirstStage ss ds stages areas g → f ≡ g
+one_stage : (ss : List Setting) (ds : List Declaration) (stages : List Symbol) (areas : List Area) (f g : BoundFault) → IsFirstStage ss ds stages areas f → IsFirstStage ss ds stages areas g → f ≡ g
 one_stage ss ds stages areas f g h e =
     let number = one_first (λ k s. StaysAt ss ds stages areas k s) stages h.number e.number h.stage e.stage h.there e.there h.before e.before (at_not_stays ss ds stages areas f h) (at_not_stays ss ds stages areas g e) in
     let stage = same_place stages h.number e.number h.stage e.stage h.there e.there number in
     let domain = same_place areas h.number e.number h.domain e.domain h.has e.has number in
     let at_number = subst (λ k. IsFirstCase ss areas e.domain (stage_cases ds stages e.stage) k g) (sym number) e.case in
-    let at_stage = subst (λ (s : Declared). IsFirstCase ss areas e.domain (stage_cases ds stages s) h.number g) (sym stage) at_number in
+    let at_stage = subst (λ (s : Symbol). IsFirstCase ss areas e.domain (stage_cases ds stages s) h.number g) (sym stage) at_number in
     let case = subst (λ (a : Area). IsFirstCase ss areas a (stage_cases ds stages h.stage) h.number g) (sym domain) at_stage in
     one_case ss areas h.domain (stage_cases ds stages h.stage) h.number f g h.case case
 
@@ -162,12 +162,12 @@ one_unset ss m n h g =
     one_first (λ k (s : Setting). (v : ℤ) × (s.value ≡ Some v)) ss m n h.setting g.setting h.there g.there h.first g.first
     (λ v. none-some v.0 (sym h.unset ∙ v.1)) (λ v. none-some v.0 (sym g.unset ∙ v.1))
 
-one_faulty : (ss : List Setting) (ds : List Declaration) (stages : List Declared) (f g : BoundFault) → TellsDomain ss ds stages f → TellsDomain ss ds stages g → f ≡ g
+one_faulty : (ss : List Setting) (ds : List Declaration) (stages : List Symbol) (f g : BoundFault) → TellsDomain ss ds stages f → TellsDomain ss ds stages g → f ≡ g
 one_faulty ss ds stages f g h e =
-    let number = one_first (λ k (s : Declared). (a : Area) × IsStageDomain ss ds s (Ok a)) stages h.stage e.stage h.first.stage e.first.stage h.first.there e.first.there h.first.before e.first.before
+    let number = one_first (λ k (s : Symbol). (a : Area) × IsStageDomain ss ds s (Ok a)) stages h.stage e.stage h.first.stage e.first.stage h.first.there e.first.there h.first.before e.first.before
     (λ a. not_ok_and_err ss ds h.first.stage a.0 h.fault a.1 h.first.faulty) (λ a. not_ok_and_err ss ds e.first.stage a.0 e.fault a.1 e.first.faulty) in
     let stage = same_place stages h.stage e.stage h.first.stage e.first.stage h.first.there e.first.there number in
-    let fault = same_fault ss ds h.first.stage h.fault e.fault h.first.faulty (subst (λ (s : Declared). IsStageDomain ss ds s (Err e.fault)) (sym stage) e.first.faulty) in
+    let fault = same_fault ss ds h.first.stage h.fault e.fault h.first.faulty (subst (λ (s : Symbol). IsStageDomain ss ds s (Err e.fault)) (sym stage) e.first.faulty) in
     h.told ∙ (λ i. domain_fault (fault i) (number i)) ∙ sym e.told
 
 -- ---- the whole

@@ -11,7 +11,7 @@ use Rattle.pipe_tree.specs.declared.tree.Index.{Index}
 use Rattle.pipe_tree.specs.Tree.{Node, number, variable, read, neg, binary, literal, abs, clamp, select, stencil, Branch, Declaration, param, image, function, accumulator, output}
 use Rattle.pipe_tree.specs.declared.tree.Names.{Names}
 use Rattle.pipe_tree.specs.declared.tree.Names.TheVariants.{One, Three}
-use Rattle.pipe_checks.specs.declared.declared.Declared.{Declared}
+use Rattle.pipe_checks.specs.declared.symbol.Symbol.{Symbol}
 use Rattle.pipe_checks.specs.declared.site.Site.{Site}
 use Rattle.pipe_checks.specs.Checking.{AllGood}
 use Rattle.pipe_checks.specs.Names.{names_of, item_names, names_from, declared_names, stages_of, number_of}
@@ -57,11 +57,11 @@ named_by m n (output o) h = tt
 
 named_from : (m n : ℕ) (ds : List Declaration) → n + length ds ≤ m → AllByRecursion (λ s. s.item < m) (names_from n ds)
 named_from m n [] h = tt
-named_from m n (d ∷ ds) h = all_both (λ (s : Declared). s.item < m) (item_names n d) (names_from (n + 1) ds) (named_by m n d (omega (arith, h))) (named_from m (n + 1) ds (omega (arith, h)))
+named_from m n (d ∷ ds) h = all_both (λ (s : Symbol). s.item < m) (item_names n d) (names_from (n + 1) ds) (named_by m n d (omega (arith, h))) (named_from m (n + 1) ds (omega (arith, h)))
 
 all_declared : (ds : List Declaration) → AreDeclared ds (stages_of ds)
 all_declared ds =
-    each_of (λ (s : Declared). s.item < length ds) (stages_of ds) (all_kept (λ (s : Declared). s.item < length ds) _ (declared_names ds) (named_from (length ds) 0 ds (omega arith)))
+    each_of (λ (s : Symbol). s.item < length ds) (stages_of ds) (all_kept (λ (s : Symbol). s.item < length ds) _ (declared_names ds) (named_from (length ds) 0 ds (omega arith)))
 
 -- ---- good places
 
@@ -85,7 +85,7 @@ in_range n least most e =
 int_le_holds : (a b : ℤ) → int_le a b ≡ true → a ≤ℤ b
 int_le_holds a b e = grind (arith, ints)
 
-index_sound : (names : List Declared) (own : OwnNames) (i : Index) (w : Want) → index_verdict names own i w ≡ Ok tt → IsIndex (scale_of i)
+index_sound : (names : List Symbol) (own : OwnNames) (i : Index) (w : Want) → index_verdict names own i w ≡ Ok tt → IsIndex (scale_of i)
 index_sound names own i w e =
     let p = both_good (range_verdict i.mul 1 16) _ e in
     let q = both_good (name_verdict names own i.name w) _ p.1 in
@@ -107,27 +107,27 @@ is_short n e = leb-true n 15 (both_hold (n % 2 == 1) (nat_le n 15) e).1
 
 -- ---- reads
 
-abbrev Sound : List Declared → List Site → Type 0
+abbrev Sound : List Symbol → List Site → Type 0
 Sound stages sites = AllByRecursion (IsSound (length stages)) sites
 
-read_sound : (stages : List Declared) (x : List ℕ) (i j : Index) → IsIndex (scale_of i) → IsIndex (scale_of j) → Sound stages (read_at (number_of stages x) i j)
+read_sound : (stages : List Symbol) (x : List ℕ) (i j : Index) → IsIndex (scale_of i) → IsIndex (scale_of j) → Sound stages (read_at (number_of stages x) i j)
 read_sound stages x i j first second = by_number (number_of stages x) refl
   where
     by_number : (o : Option ℕ) → number_of stages x ≡ o → Sound stages (read_at o i j)
     by_number None e = tt
-    by_number (Some g) e = ((position_within (λ (d : Declared). bytes_eq d.name x) stages g e, first, second), tt)
+    by_number (Some g) e = ((position_within (λ (d : Symbol). bytes_eq d.name x) stages g e, first, second), tt)
 
-stencil_sound : (stages : List Declared) (x : List ℕ) (k : List (List ℤ)) → length k ≤ 15 → width_of k ≤ 15 → Sound stages (stencil_at (number_of stages x) k)
+stencil_sound : (stages : List Symbol) (x : List ℕ) (k : List (List ℤ)) → length k ≤ 15 → width_of k ≤ 15 → Sound stages (stencil_at (number_of stages x) k)
 stencil_sound stages x k rows columns = by_number (number_of stages x) refl
   where
     by_number : (o : Option ℕ) → number_of stages x ≡ o → Sound stages (stencil_at o k)
     by_number None e = tt
-    by_number (Some g) e = ((position_within (λ (d : Declared). bytes_eq d.name x) stages g e, rows, columns), tt)
+    by_number (Some g) e = ((position_within (λ (d : Symbol). bytes_eq d.name x) stages g e, rows, columns), tt)
 
-both_sound : (stages : List Declared) (xs ys : List Site) → Sound stages xs → Sound stages ys → Sound stages (xs ++ ys)
+both_sound : (stages : List Symbol) (xs ys : List Site) → Sound stages xs → Sound stages ys → Sound stages (xs ++ ys)
 both_sound stages xs ys h g = all_both (IsSound (length stages)) xs ys h g
 
-node_sound : (names stages : List Declared) (own : OwnNames) (a : Node) → expr_verdict names own a ≡ Ok tt → Sound stages (sites_of stages a)
+node_sound : (names stages : List Symbol) (own : OwnNames) (a : Node) → expr_verdict names own a ≡ Ok tt → Sound stages (sites_of stages a)
 node_sound names stages own (number n) e = tt
 node_sound names stages own (variable x) e = tt
 node_sound names stages own (read x i j) e =
@@ -161,21 +161,21 @@ node_sound names stages own (stencil x d k) e =
 
 -- ---- items
 
-abbrev SoundCase : List Declared → ReadCase → Type 0
+abbrev SoundCase : List Symbol → ReadCase → Type 0
 SoundCase stages x = Sound stages x.sites
 
-branches_sound : (names stages : List Declared) (own : OwnNames) (row : List ℕ) (bs : List Branch) → branches_verdict names own bs ≡ Ok tt → AllByRecursion (SoundCase stages) (map (branch_case stages row) bs)
+branches_sound : (names stages : List Symbol) (own : OwnNames) (row : List ℕ) (bs : List Branch) → branches_verdict names own bs ≡ Ok tt → AllByRecursion (SoundCase stages) (map (branch_case stages row) bs)
 branches_sound names stages own row [] e = tt
 branches_sound names stages own row (b ∷ bs) e =
     let p = both_good (branch_verdict names own b) (branches_verdict names own bs) e in
     let q = both_good (tests_verdict names own b.condition) (expr_verdict names own b.value) p.0 in
     (node_sound names stages own b.value q.1, branches_sound names stages own row bs p.1)
 
-otherwise_sound : (names stages : List Declared) (own : OwnNames) (row : List ℕ) (o : Option Node) → otherwise_verdict names own o ≡ Ok tt → AllByRecursion (SoundCase stages) (otherwise_cases stages row o)
+otherwise_sound : (names stages : List Symbol) (own : OwnNames) (row : List ℕ) (o : Option Node) → otherwise_verdict names own o ≡ Ok tt → AllByRecursion (SoundCase stages) (otherwise_cases stages row o)
 otherwise_sound names stages own row None e = tt
 otherwise_sound names stages own row (Some a) e = (node_sound names stages own a e, tt)
 
-item_sound : (names stages : List Declared) (own : OwnNames) (d : Declaration) → item_verdict names own d ≡ Ok tt → AllByRecursion (SoundCase stages) (item_cases stages d)
+item_sound : (names stages : List Symbol) (own : OwnNames) (d : Declaration) → item_verdict names own d ≡ Ok tt → AllByRecursion (SoundCase stages) (item_cases stages d)
 item_sound names stages own (param p) e = tt
 item_sound names stages own (image i) e = tt
 item_sound names stages own (function f) e =
@@ -195,17 +195,17 @@ item_sound names stages own (accumulator a) e =
 item_sound names stages own (output o) e = tt
 
 -- each read of an accepted program can be taken
-all_sound : (names stages : List Declared) (ds : List Declaration) → AllGood names ds → AreSoundItems stages ds
+all_sound : (names stages : List Symbol) (ds : List Declaration) → AllGood names ds → AreSoundItems stages ds
 all_sound names stages ds good k d there n x at m site here =
     let cases = item_sound names stages (own_of d) d (good k d there) in
     each_of (IsSound (length stages)) x.sites (each_of (SoundCase stages) (item_cases stages d) cases n x at) m site here
 
 -- ---- the items and the stages of a checked program
 
-pub checked_declared : (ds items : List Declaration) (stages : List Declared) → items ≡ ds → stages ≡ stages_of ds → AreDeclared items stages
+pub checked_declared : (ds items : List Declaration) (stages : List Symbol) → items ≡ ds → stages ≡ stages_of ds → AreDeclared items stages
 checked_declared ds items stages same is =
     subst (λ xs. AreDeclared xs stages) (sym same) (subst (AreDeclared ds) (sym is) (all_declared ds))
 
-pub checked_sound : (ds items : List Declaration) (stages : List Declared) → items ≡ ds → AllGood (declared_names ds) ds → AreSoundItems stages items
+pub checked_sound : (ds items : List Declaration) (stages : List Symbol) → items ≡ ds → AllGood (declared_names ds) ds → AreSoundItems stages items
 checked_sound ds items stages same good =
     subst (AreSoundItems stages) (sym same) (all_sound (declared_names ds) stages ds good)

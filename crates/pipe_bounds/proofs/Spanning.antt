@@ -4,24 +4,24 @@ use Rattle.std.proofs.lemmas.Int.{ints}
 use Rattle.domains.specs.Span.{Ends}
 use Rattle.domains.specs.declared.area.Area.{Area}
 use Rattle.pipe_tree.specs.Tree.{Declaration, param, image, function, accumulator, output}
-use Rattle.pipe_checks.specs.declared.declared.Declared.{Declared}
+use Rattle.pipe_checks.specs.declared.symbol.Symbol.{Symbol}
 use Rattle.pipe_bounds.specs.declared.params.Setting.{Setting}
 use Rattle.pipe_bounds.specs.Domains.{IsSpanFrom, IsSides, IsDomain}
-use Rattle.pipe_bounds.specs.Taken.{IsNear, IsNearArea}
+use Rattle.pipe_bounds.specs.Taken.{InDomainRange, InDomainRanges}
 use Rattle.pipe_bounds.specs.Within.{IsStageDomain}
 
-near_span : (first last : ℤ) (e : Ends) → IsSpanFrom first last e → IsNear e
+near_span : (first last : ℤ) (e : Ends) → IsSpanFrom first last e → InDomainRange e
 near_span first last e h v holds = (omega (arith, ints, h.lo, h.least, holds), omega (arith, ints, h.hi, h.most, holds))
 
-near_sides : (side : ℤ) (e : Ends) → IsSides side e → IsNear e
+near_sides : (side : ℤ) (e : Ends) → IsSides side e → InDomainRange e
 near_sides side e h v holds = (omega (arith, ints, h.lo, holds), omega (arith, ints, h.hi, h.most, holds))
 
-near_domain : (ss : List Setting) (d : Declaration) (a : Area) → IsDomain ss d (Ok a) → IsNearArea a
+near_domain : (ss : List Setting) (d : Declaration) (a : Area) → IsDomain ss d (Ok a) → InDomainRanges a
 near_domain ss (param p) a h = let never : ⊥ = cc in absurd never
 near_domain ss (image i) a h = (near_sides _ a.rows h.0, near_sides _ a.cols h.1)
 near_domain ss (function f) a h = (near_span _ _ a.rows h.0, near_span _ _ a.cols h.1)
 near_domain ss (accumulator x) a h = (near_span _ _ a.rows h.2.0, near_span _ _ a.cols h.2.1)
 near_domain ss (output o) a h = let never : ⊥ = cc in absurd never
 
-pub near_stage : (ss : List Setting) (ds : List Declaration) (s : Declared) (a : Area) → IsStageDomain ss ds s (Ok a) → IsNearArea a
+pub near_stage : (ss : List Setting) (ds : List Declaration) (s : Symbol) (a : Area) → IsStageDomain ss ds s (Ok a) → InDomainRanges a
 near_stage ss ds s a h = near_domain ss h.0 a h.2

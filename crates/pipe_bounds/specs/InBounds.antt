@@ -7,7 +7,7 @@ use Rattle.domains.specs.declared.area.Area.{Area}
 use Rattle.pipe_tree.specs.declared.tree.Index.{Index}
 use Rattle.pipe_tree.specs.declared.tree.Test.{Test}
 use Rattle.pipe_tree.specs.Tree.{Node, Branch, Declaration, param, image, function, accumulator, output}
-use Rattle.pipe_checks.specs.declared.declared.Declared.{Declared}
+use Rattle.pipe_checks.specs.declared.symbol.Symbol.{Symbol}
 use Rattle.pipe_bounds.specs.declared.fault.Axis.{Axis}
 use Rattle.pipe_bounds.specs.declared.fault.Axis.TheVariants.{Rows, Columns}
 use Rattle.pipe_bounds.specs.declared.fault.BoundFault.{BoundFault}
@@ -29,31 +29,31 @@ pub record ReadCase : Type 0 where
   pub tests : List Test
   pub sites : List Site
 
-abbrev pub branch_case : List Declared → List ℕ → Branch → ReadCase
+abbrev pub branch_case : List Symbol → List ℕ → Branch → ReadCase
 branch_case stages row b = record { row = row; tests = b.condition; sites = sites_of stages b.value }
 
 -- what stands under no condition
 abbrev pub whole_case : List ℕ → List Site → ReadCase
 whole_case row sites = record { row = row; tests = []; sites = sites }
 
-abbrev pub otherwise_cases : List Declared → List ℕ → Option Node → List ReadCase
+abbrev pub otherwise_cases : List Symbol → List ℕ → Option Node → List ReadCase
 otherwise_cases stages row None = []
 otherwise_cases stages row (Some a) = whole_case row (sites_of stages a) ∷ []
 
 -- the cases of an item by their numbers: `else` stands behind the others, and an accumulator is one case
-abbrev pub item_cases : List Declared → Declaration → List ReadCase
+abbrev pub item_cases : List Symbol → Declaration → List ReadCase
 item_cases stages (param p) = []
 item_cases stages (image i) = []
 item_cases stages (function f) = map (branch_case stages f.row.name) f.cases ++ otherwise_cases stages f.row.name f.otherwise
 item_cases stages (accumulator a) = whole_case a.row.name (sites_of stages a.value ++ sites_of stages a.bin) ∷ []
 item_cases stages (output o) = []
 
-abbrev pub declared_cases : List Declared → Option Declaration → List ReadCase
+abbrev pub declared_cases : List Symbol → Option Declaration → List ReadCase
 declared_cases stages None = []
 declared_cases stages (Some d) = item_cases stages d
 
 -- those of the item that declares a stage
-abbrev pub stage_cases : List Declaration → List Declared → Declared → List ReadCase
+abbrev pub stage_cases : List Declaration → List Symbol → Symbol → List ReadCase
 stage_cases ds stages s = declared_cases stages (slice_get ds s.item)
 
 -- a point lies in the box of a case: in the domain, and the tests of bounds hold there
@@ -101,11 +101,11 @@ StageStays ss areas domain cases =
     (n : ℕ) (x : ReadCase) → slice_get cases n ≡ Some x → AllStay areas (IsInBox ss domain x) x.sites
 
 -- and so for stage k
-abbrev pub StaysAt : List Setting → List Declaration → List Declared → List Area → ℕ → Declared → Type 0
+abbrev pub StaysAt : List Setting → List Declaration → List Symbol → List Area → ℕ → Symbol → Type 0
 StaysAt ss ds stages areas k s = (domain : Area) → slice_get areas k ≡ Some domain → StageStays ss areas domain (stage_cases ds stages s)
 
-abbrev pub AreInBounds : List Setting → List Declaration → List Declared → List Area → Type 0
-AreInBounds ss ds stages areas = (k : ℕ) (s : Declared) → slice_get stages k ≡ Some s → StaysAt ss ds stages areas k s
+abbrev pub AreInBounds : List Setting → List Declaration → List Symbol → List Area → Type 0
+AreInBounds ss ds stages areas = (k : ℕ) (s : Symbol) → slice_get stages k ≡ Some s → StaysAt ss ds stages areas k s
 
 -- a program means something at the values of its parameters: all are set, each stage has its domain, and each read stays
 pub record IsInBounds (ss : List Setting) (ds : List Declaration) : Type 0 where
@@ -171,13 +171,13 @@ pub record IsFirstCase (ss : List Setting) (areas : List Area) (domain : Area) (
   pub read : IsFirstRead areas (IsInBox ss domain place) place.sites k number f
 
 -- of the stages
-pub record IsFirstStage (ss : List Setting) (ds : List Declaration) (stages : List Declared) (areas : List Area) (f : BoundFault) : Type 0 where
+pub record IsFirstStage (ss : List Setting) (ds : List Declaration) (stages : List Symbol) (areas : List Area) (f : BoundFault) : Type 0 where
   pub number : ℕ
-  pub stage : Declared
+  pub stage : Symbol
   pub there : slice_get stages number ≡ Some stage
   pub domain : Area
   pub has : slice_get areas number ≡ Some domain
-  pub before : (k : ℕ) (y : Declared) → k < number → slice_get stages k ≡ Some y → StaysAt ss ds stages areas k y
+  pub before : (k : ℕ) (y : Symbol) → k < number → slice_get stages k ≡ Some y → StaysAt ss ds stages areas k y
   pub case : IsFirstCase ss areas domain (stage_cases ds stages stage) number f
 
 -- f tells the first read that leaves what it reads, of a program whose stages have domains

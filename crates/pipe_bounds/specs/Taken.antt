@@ -4,7 +4,7 @@ use Rattle.domains.specs.Span.{Ends, Holds, IsSubspan}
 use Rattle.domains.specs.Index.{IsIndex, IsImage}
 use Rattle.domains.specs.declared.area.Area.{Area}
 use Rattle.pipe_tree.specs.Tree.{Declaration}
-use Rattle.pipe_checks.specs.declared.declared.Declared.{Declared}
+use Rattle.pipe_checks.specs.declared.symbol.Symbol.{Symbol}
 use Rattle.pipe_bounds.specs.declared.domain.IntervalFault.{IntervalFault}
 use Rattle.pipe_bounds.specs.declared.domain.IntervalFault.TheVariants.{Empty, TooWide}
 use Rattle.pipe_bounds.specs.declared.fault.Axis.{Axis}
@@ -52,11 +52,11 @@ IsDeparting t d (Some x) = IsDeparture t d x
 -- ---- what `check` and the domains leave to take
 
 -- each number lies within 16,384 of 0
-abbrev pub IsNear : Ends → Type 0
-IsNear s = (v : ℤ) → Holds s v → (negsuc 16383 ≤ℤ v) × (v ≤ℤ pos 16384)
+abbrev pub InDomainRange : Ends → Type 0
+InDomainRange s = (v : ℤ) → Holds s v → (negsuc 16383 ≤ℤ v) × (v ≤ℤ pos 16384)
 
-abbrev pub IsNearArea : Area → Type 0
-IsNearArea a = IsNear a.rows × IsNear a.cols
+abbrev pub InDomainRanges : Area → Type 0
+InDomainRanges a = InDomainRange a.rows × InDomainRange a.cols
 
 -- a read of one of so many stages at indices in their ranges, or a stencil with short sides
 abbrev pub IsSound : ℕ → Site → Type 0
@@ -69,12 +69,12 @@ AreSound count sites = (m : ℕ) (site : Site) → slice_get sites m ≡ Some si
 abbrev pub AreSoundCases : ℕ → List ReadCase → Type 0
 AreSoundCases count cases = (n : ℕ) (x : ReadCase) → slice_get cases n ≡ Some x → AreSound count x.sites
 
-abbrev pub AreSoundItems : List Declared → List Declaration → Type 0
+abbrev pub AreSoundItems : List Symbol → List Declaration → Type 0
 AreSoundItems stages ds = (k : ℕ) (d : Declaration) → slice_get ds k ≡ Some d → AreSoundCases (length stages) (item_cases stages d)
 
 -- each stage is declared by an item
-abbrev pub AreDeclared : List Declaration → List Declared → Type 0
-AreDeclared ds stages = (k : ℕ) (s : Declared) → slice_get stages k ≡ Some s → s.item < length ds
+abbrev pub AreDeclared : List Declaration → List Symbol → Type 0
+AreDeclared ds stages = (k : ℕ) (s : Symbol) → slice_get stages k ≡ Some s → s.item < length ds
 
 -- ---- what is answered
 
@@ -96,7 +96,7 @@ domain_fault Empty k = EmptyDomain k
 domain_fault TooWide k = DomainTooWide k
 
 -- f tells the first stage whose domain is faulty
-pub record TellsDomain (ss : List Setting) (ds : List Declaration) (stages : List Declared) (f : BoundFault) : Type 0 where
+pub record TellsDomain (ss : List Setting) (ds : List Declaration) (stages : List Symbol) (f : BoundFault) : Type 0 where
   pub fault : IntervalFault
   pub stage : ℕ
   pub told : f ≡ domain_fault fault stage

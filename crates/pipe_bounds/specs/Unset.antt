@@ -1,8 +1,8 @@
 -- A parameter at first.
 use Rattle.std.specs.Prelude.{None}
 use Rattle.pipe_bounds.specs.declared.params.Setting.{Setting}
-use Rattle.pipe_checks.specs.declared.declared.Declared.{Declared}
+use Rattle.pipe_checks.specs.declared.symbol.Symbol.{Symbol}
 
 -- a parameter without a value
-abbrev pub unset : Declared → Setting
+abbrev pub unset : Symbol → Setting
 unset d = record { name = d.name; value = None }

@@ -2,7 +2,7 @@
 use Rattle.std.specs.Prelude.{ℕ, ◌<◌, ℤ, ◌≡◌, Some, None, Result, Ok, Err, List, length, slice_get}
 use Rattle.domains.specs.declared.area.Area.{Area}
 use Rattle.pipe_tree.specs.Tree.{Declaration}
-use Rattle.pipe_checks.specs.declared.declared.Declared.{Declared}
+use Rattle.pipe_checks.specs.declared.symbol.Symbol.{Symbol}
 use Rattle.pipe_bounds.specs.declared.domain.IntervalFault.{IntervalFault}
 use Rattle.pipe_bounds.specs.declared.fault.BoundFault.{BoundFault}
 use Rattle.pipe_bounds.specs.declared.fault.BoundFault.TheVariants.{ParamUnset}
@@ -29,17 +29,17 @@ AreSet ss (Err f) = (n : ℕ) × (f ≡ ParamUnset n) × IsFirstUnset ss n
 -- ---- domains
 
 -- what a stage's domain is, by the item that declares it
-abbrev pub IsStageDomain : List Setting → List Declaration → Declared → Result Area IntervalFault → Type 0
+abbrev pub IsStageDomain : List Setting → List Declaration → Symbol → Result Area IntervalFault → Type 0
 IsStageDomain ss ds s r = (d : Declaration) × (slice_get ds s.item ≡ Some d) × IsDomain ss d r
 
 -- each stage has its domain in the list
-pub record HaveDomains (ss : List Setting) (ds : List Declaration) (stages : List Declared) (areas : List Area) : Type 0 where
+pub record HaveDomains (ss : List Setting) (ds : List Declaration) (stages : List Symbol) (areas : List Area) : Type 0 where
   pub each : length areas ≡ length stages
-  pub domain : (k : ℕ) (s : Declared) (a : Area) → slice_get stages k ≡ Some s → slice_get areas k ≡ Some a → IsStageDomain ss ds s (Ok a)
+  pub domain : (k : ℕ) (s : Symbol) (a : Area) → slice_get stages k ≡ Some s → slice_get areas k ≡ Some a → IsStageDomain ss ds s (Ok a)
 
 -- stage k is the first without a domain, for this fault of its intervals
-pub record IsFirstFaultyDomain (ss : List Setting) (ds : List Declaration) (stages : List Declared) (fault : IntervalFault) (k : ℕ) : Type 0 where
-  pub stage : Declared
+pub record IsFirstFaultyDomain (ss : List Setting) (ds : List Declaration) (stages : List Symbol) (fault : IntervalFault) (k : ℕ) : Type 0 where
+  pub stage : Symbol
   pub there : slice_get stages k ≡ Some stage
   pub faulty : IsStageDomain ss ds stage (Err fault)
-  pub before : (i : ℕ) (s : Declared) → i < k → slice_get stages i ≡ Some s → (a : Area) × IsStageDomain ss ds s (Ok a)
+  pub before : (i : ℕ) (s : Symbol) → i < k → slice_get stages i ≡ Some s → (a : Area) × IsStageDomain ss ds s (Ok a)

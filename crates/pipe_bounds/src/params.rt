@@ -2,7 +2,7 @@
 //! The values of a program's parameters.
 
 use crate::fault::ParamFault;
-use pipe_checks::{Checked, Declared};
+use pipe_checks::{Checked, Symbol};
 use pipe_tokens::Name;
 use std::alloc::{AllocError, Global};
 use std::marker::Model;
@@ -50,7 +50,7 @@ impl Params {
         Params { settings }
     }
 
-    fn unset(alloc: Global, params: &[Declared]) -> Result<Self, AllocError>
+    fn unset(alloc: Global, params: &[Symbol]) -> Result<Self, AllocError>
         ensures { IfOk result (λ p. p ≡ map unset params.now) }
     {
         let mut settings = Vec::new(alloc);

@@ -7,14 +7,14 @@ ghost use Rattle.domains.specs.Area.{HoldsPoint};
 ghost use Rattle.pipe_tree.specs.Tree.{view, branch, branches, declaration, function, function_of, accumulator, accumulator_of};
 ghost use Rattle.pipe_checks.specs.Sites.{sites_of};
 ghost use Rattle.pipe_bounds.specs.InBounds.{IsInBox, Stays, TellsRead, branch_case, item_cases};
-ghost use Rattle.pipe_bounds.specs.Taken.{AnswersCases, AnswersReads, AreSound, AreSoundCases, IsAnswer, IsNearArea, IsSound};
+ghost use Rattle.pipe_bounds.specs.Taken.{AnswersCases, AnswersReads, AreSound, AreSoundCases, IsAnswer, InDomainRanges, IsSound};
 
 use crate::boxes::case_box;
 use crate::fault::BoundFault;
 use crate::params::Params;
 use crate::taken::{departing, taken};
 use domains::Area;
-use pipe_checks::{Declared, Site, add_sites, sites, stage_read};
+use pipe_checks::{Site, Symbol, add_sites, sites, stage_read};
 use pipe_tokens::Name;
 use pipe_tree::{Accum, Case, Expr, Func, Item};
 use std::alloc::Global;
@@ -24,7 +24,7 @@ use std::alloc::Global;
 pub(crate) struct Reader<'a> {
     pub(crate) alloc: Global,
     pub(crate) params: &'a Params,
-    pub(crate) stages: &'a [Declared],
+    pub(crate) stages: &'a [Symbol],
     pub(crate) domains: &'a [Area],
     pub(crate) stage: usize,
     pub(crate) domain: &'a Area,
@@ -33,7 +33,7 @@ pub(crate) struct Reader<'a> {
 impl Reader<'_> {
     fn read(&self, case: usize, read: usize, site: &Site, area: &Area) -> Result<(), BoundFault>
         requires sound { IsSound (length self.now.domains.now) site.now }
-        requires near { IsNearArea area.now }
+        requires near { InDomainRanges area.now }
         ensures { IsAnswer (λ _. Stays self.now.domains.now (HoldsPoint area.now) site.now) (TellsRead self.now.domains.now (HoldsPoint area.now) site.now self.now.stage case read) result }
     {
         let taken = taken(site, area);
@@ -52,7 +52,7 @@ impl Reader<'_> {
 
     fn sites(&self, case: usize, sites: &[Site], area: &Area) -> Result<(), BoundFault>
         requires sound { AreSound (length self.now.domains.now) sites.now }
-        requires near { IsNearArea area.now }
+        requires near { InDomainRanges area.now }
         ensures { AnswersReads self.now.domains.now (HoldsPoint area.now) sites.now self.now.stage case result }
     {
         for (read, site) in sites.iter().enumerate() {
@@ -63,7 +63,7 @@ impl Reader<'_> {
 
     fn expr(&self, case: usize, value: &Expr, area: &Area) -> Result<(), BoundFault>
         requires sound { AreSound (length self.now.domains.now) (sites_of self.now.stages.now (view value.now)) }
-        requires near { IsNearArea area.now }
+        requires near { InDomainRanges area.now }
         ensures { AnswersReads self.now.domains.now (HoldsPoint area.now) (sites_of self.now.stages.now (view value.now)) self.now.stage case result }
     {
         let sites = sites(self.alloc, self.stages, value)?;
@@ -72,7 +72,7 @@ impl Reader<'_> {
 
     fn branch(&self, number: usize, row: &Name, case: &Case) -> Result<(), BoundFault>
         requires sound { AreSound (length self.now.domains.now) (sites_of self.now.stages.now (view case.now.value)) }
-        requires near { IsNearArea self.now.domain.now }
+        requires near { InDomainRanges self.now.domain.now }
         ensures { AnswersReads self.now.domains.now (IsInBox self.now.params.now self.now.domain.now (branch_case self.now.stages.now row.now (branch case.now))) (sites_of self.now.stages.now (view case.now.value)) self.now.stage number result }
     {
         match case_box(self.params, row, self.domain, case.condition.tests()) {
@@ -83,7 +83,7 @@ impl Reader<'_> {
 
     fn branches(&self, row: &Name, cases: &[Case]) -> Result<(), BoundFault>
         requires sound { AreSoundCases (length self.now.domains.now) (map (branch_case self.now.stages.now row.now) (branches cases.now)) }
-        requires near { IsNearArea self.now.domain.now }
+        requires near { InDomainRanges self.now.domain.now }
         ensures { AnswersCases self.now.params.now self.now.domains.now self.now.domain.now (map (branch_case self.now.stages.now row.now) (branches cases.now)) self.now.stage result }
     {
         for (number, case) in cases.iter().enumerate() {
@@ -94,7 +94,7 @@ impl Reader<'_> {
 
     fn func(&self, func: &Func) -> Result<(), BoundFault>
         requires sound { AreSoundCases (length self.now.domains.now) (item_cases self.now.stages.now (function (function_of func.now))) }
-        requires near { IsNearArea self.now.domain.now }
+        requires near { InDomainRanges self.now.domain.now }
         ensures { AnswersCases self.now.params.now self.now.domains.now self.now.domain.now (item_cases self.now.stages.now (function (function_of func.now))) self.now.stage result }
     {
         let cases = func.cases.list();
@@ -107,7 +107,7 @@ impl Reader<'_> {
 
     fn accum(&self, accum: &Accum) -> Result<(), BoundFault>
         requires sound { AreSoundCases (length self.now.domains.now) (item_cases self.now.stages.now (accumulator (accumulator_of accum.now))) }
-        requires near { IsNearArea self.now.domain.now }
+        requires near { InDomainRanges self.now.domain.now }
         ensures { AnswersCases self.now.params.now self.now.domains.now self.now.domain.now (item_cases self.now.stages.now (accumulator (accumulator_of accum.now))) self.now.stage result }
     {
         let mut found = Vec::new(self.alloc);
@@ -119,7 +119,7 @@ impl Reader<'_> {
     /// Judges the reads of the stage, which the item declares.
     pub(crate) fn item(&self, item: &Item) -> Result<(), BoundFault>
         requires sound { AreSoundCases (length self.now.domains.now) (item_cases self.now.stages.now (declaration item.now)) }
-        requires near { IsNearArea self.now.domain.now }
+        requires near { InDomainRanges self.now.domain.now }
         ensures { AnswersCases self.now.params.now self.now.domains.now self.now.domain.now (item_cases self.now.stages.now (declaration item.now)) self.now.stage result }
     {
         match item {

@@ -10,7 +10,7 @@ use crate::domain::{IntervalFault, stage_domain};
 use crate::fault::BoundFault;
 use crate::params::Params;
 use domains::Area;
-use pipe_checks::Declared;
+use pipe_checks::Symbol;
 use pipe_tree::Item;
 use std::alloc::Global;
 
@@ -23,7 +23,7 @@ fn domain_fault(fault: IntervalFault, stage: usize) -> BoundFault
     }
 }
 
-fn domain_of(params: &Params, items: &[Item], declared: &Declared) -> Result<Area, IntervalFault>
+fn domain_of(params: &Params, items: &[Item], declared: &Symbol) -> Result<Area, IntervalFault>
     requires { declared.now.item < length items.now }
     ensures { IsStageDomain params.now (declarations items.now) declared.now result }
 {
@@ -35,7 +35,7 @@ pub(crate) fn domains_of(
     alloc: Global,
     params: &Params,
     items: &[Item],
-    stages: &[Declared],
+    stages: &[Symbol],
 ) -> Result<Vec<Area>, BoundFault>
     requires { AreDeclared (declarations items.now) stages.now }
     ensures { IsAnswer (λ v. HaveDomains params.now (declarations items.now) stages.now v.items) (TellsDomain params.now (declarations items.now) stages.now) result }

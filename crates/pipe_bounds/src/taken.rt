@@ -6,7 +6,7 @@ ghost use Rattle.domains.specs.Span.{IsSpan};
 ghost use Rattle.domains.specs.Area.{IsArea};
 ghost use Rattle.domains.specs.Index.{IsIndex, IsImage};
 ghost use Rattle.pipe_bounds.specs.InBounds.{scale_of};
-ghost use Rattle.pipe_bounds.specs.Taken.{IsWidened, IsTaken, IsDeparting, IsNear, IsNearArea, IsSound};
+ghost use Rattle.pipe_bounds.specs.Taken.{IsWidened, IsTaken, IsDeparting, InDomainRange, InDomainRanges, IsSound};
 
 use crate::fault::Axis;
 use domains::{Area, Index, Span};
@@ -36,7 +36,7 @@ fn index_of(index: &pipe_tree::Index) -> Index
 // The numbers that an index takes over a span.
 fn image_of(index: &pipe_tree::Index, span: &Span) -> Span
     requires index { IsIndex (scale_of index.now) }
-    requires near { IsNear span.now }
+    requires near { InDomainRange span.now }
     ensures image { IsImage (scale_of index.now) span.now result }
     ensures within { IsSpan span.now }
 {
@@ -47,7 +47,7 @@ fn image_of(index: &pipe_tree::Index, span: &Span) -> Span
 
 // The numbers that a side of this length of a kernel takes about those of a span.
 fn widened(span: &Span, side: usize) -> Span
-    requires near { IsNear span.now }
+    requires near { InDomainRange span.now }
     requires side { side ≤ 15 }
     ensures widened { IsWidened (side / 2) span.now result }
     ensures within { IsSpan span.now }
@@ -64,7 +64,7 @@ fn widened(span: &Span, side: usize) -> Span
 /// The rows and columns that a read takes over the points of an area.
 pub(crate) fn taken(site: &Site, area: &Area) -> Area
     requires sound { (count : ℕ) × IsSound count site.now }
-    requires near { IsNearArea area.now }
+    requires near { InDomainRanges area.now }
     ensures taken { IsTaken site.now area.now result }
     ensures within { IsArea area.now }
 {

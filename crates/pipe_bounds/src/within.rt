@@ -15,7 +15,7 @@ use crate::params::Params;
 use crate::reader::Reader;
 use crate::stage_domains::domains_of;
 use domains::Area;
-use pipe_checks::{Checked, Declared};
+use pipe_checks::{Checked, Symbol};
 use pipe_tree::Item;
 use std::alloc::Global;
 
@@ -34,7 +34,7 @@ fn judge_reads(
     alloc: Global,
     params: &Params,
     items: &[Item],
-    stages: &[Declared],
+    stages: &[Symbol],
     domains: &[Area],
 ) -> Result<(), BoundFault>
     requires declared { AreDeclared (declarations items.now) stages.now }

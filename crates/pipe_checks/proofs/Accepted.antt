@@ -17,15 +17,15 @@ use Rattle.pipe_tree.specs.declared.tree.Test.{Test}
 use Rattle.pipe_tree.specs.declared.tree.Test.TheVariants.{Compare, Remainder}
 use Rattle.pipe_tree.specs.Tree as tree
 use Rattle.pipe_tree.specs.Tree.{Node, Branch, Declaration}
-use Rattle.pipe_checks.specs.declared.declared.Declared.{Declared}
-use Rattle.pipe_checks.specs.declared.declared.NameKind.{NameKind}
-use Rattle.pipe_checks.specs.declared.declared.NameKind.TheVariants.{Param, Plane, Func, Accum}
-use Rattle.pipe_checks.specs.declared.fault.Misuse.{Misuse}
-use Rattle.pipe_checks.specs.declared.fault.Misuse.TheVariants.{Kind, BadKernel, BadLiteral}
-use Rattle.pipe_checks.specs.declared.uses.Own.{Own}
-use Rattle.pipe_checks.specs.declared.uses.Standing.TheVariants as standing
-use Rattle.pipe_checks.specs.declared.uses.Wanted.{Wanted}
-use Rattle.pipe_checks.specs.declared.uses.Wanted.TheVariants as wanted
+use Rattle.pipe_checks.specs.declared.symbol.Symbol.{Symbol}
+use Rattle.pipe_checks.specs.declared.symbol.NameKind.{NameKind}
+use Rattle.pipe_checks.specs.declared.symbol.NameKind.TheVariants.{Param, Plane, Func, Accum}
+use Rattle.pipe_checks.specs.declared.fault.Violation.{Violation}
+use Rattle.pipe_checks.specs.declared.fault.Violation.TheVariants.{Kind, BadKernel, BadLiteral}
+use Rattle.pipe_checks.specs.declared.uses.Locals.{Locals}
+use Rattle.pipe_checks.specs.declared.uses.NameRole.TheVariants as standing
+use Rattle.pipe_checks.specs.declared.uses.Expected.{Expected}
+use Rattle.pipe_checks.specs.declared.uses.Expected.TheVariants as wanted
 use Rattle.pipe_checks.specs.Names.{declared_at}
 use Rattle.pipe_checks.specs.Sites.{width_of}
 use Rattle.pipe_checks.specs.Twice.{own_of}
@@ -47,8 +47,8 @@ IsFuncKind Func = Unit {0}
 IsFuncKind Accum = ⊥
 
 -- the name is declared, for something of this kind
-pub record IsNameOf (IsKind : NameKind → Type 0) (names : List Declared) (x : List ℕ) : Type 0 where
-  pub declared : Declared
+pub record IsNameOf (IsKind : NameKind → Type 0) (names : List Symbol) (x : List ℕ) : Type 0 where
+  pub declared : Symbol
   pub found : declared_at names x ≡ Some declared
   pub kind : IsKind declared.kind
 
@@ -71,7 +71,7 @@ IsSoundLiteral Rem n = IsWithin 1 greatest_number n
 IsSoundLiteral Shl n = n ≤ 31
 IsSoundLiteral Shr n = n ≤ 31
 
-abbrev pub IsSound : List Declared → Node → Type 0
+abbrev pub IsSound : List Symbol → Node → Type 0
 IsSound names (tree.number n) = n ≤ greatest_number
 IsSound names (tree.variable x) = Unit {0}
 IsSound names (tree.read x i j) = IsNameOf IsReadableKind names x × IsSoundIndex i × IsSoundIndex j
@@ -87,15 +87,15 @@ abbrev pub IsSoundTest : Test → Type 0
 IsSoundTest (Compare x relation bound) = Unit {0}
 IsSoundTest (Remainder x m r) = IsWithin 1 greatest_number m × (r < m)
 
-pub record IsSoundBranch (names : List Declared) (b : Branch) : Type 0 where
+pub record IsSoundBranch (names : List Symbol) (b : Branch) : Type 0 where
   pub tests : All IsSoundTest b.condition
   pub value : IsSound names b.value
 
-abbrev pub AreFuncs : List Declared → Names → Type 0
+abbrev pub AreFuncs : List Symbol → Names → Type 0
 AreFuncs names (One x) = IsNameOf IsFuncKind names x
 AreFuncs names (Three x y z) = IsNameOf IsFuncKind names x × IsNameOf IsFuncKind names y × IsNameOf IsFuncKind names z
 
-abbrev pub IsSoundItem : List Declared → Declaration → Type 0
+abbrev pub IsSoundItem : List Symbol → Declaration → Type 0
 IsSoundItem names (tree.param p) = Unit {0}
 IsSoundItem names (tree.image i) = Unit {0}
 IsSoundItem names (tree.function f) = All (IsSoundBranch names) f.cases × ForSome f.otherwise (IsSound names)
@@ -108,7 +108,7 @@ and_then_ok : (v w : Verdict) → and_then v w ≡ Ok tt → (v ≡ Ok tt) × (w
 and_then_ok (Ok u) w h = (refl, h)
 and_then_ok (Err e) w h = absurd (cc)
 
-if_ok : (b : Bool) (e : Misuse) → ◌≡◌ {A = Verdict} (if b then Ok tt else Err e) (Ok tt) → b ≡ true
+if_ok : (b : Bool) (e : Violation) → ◌≡◌ {A = Verdict} (if b then Ok tt else Err e) (Ok tt) → b ≡ true
 if_ok true e h = refl
 if_ok false e h = absurd (cc)
 
@@ -156,13 +156,13 @@ kernel_ok k h =
 -- ---- names
 
 -- what a place allows that takes no variable
-by_kind : (w : Wanted) (IsKind : NameKind → Type 0) → ((k : NameKind) → allows w (standing_of k) ≡ true → IsKind k) → allows w standing.Row ≡ false → allows w standing.Column ≡ false → (names : List Declared) (own : Own) (x : List ℕ) → name_verdict names own x w ≡ Ok tt → IsNameOf IsKind names x
+by_kind : (w : Expected) (IsKind : NameKind → Type 0) → ((k : NameKind) → allows w (standing_of k) ≡ true → IsKind k) → allows w standing.Row ≡ false → allows w standing.Column ≡ false → (names : List Symbol) (own : Locals) (x : List ℕ) → name_verdict names own x w ≡ Ok tt → IsNameOf IsKind names x
 by_kind w IsKind kinds no_row no_column names own x = by (is_it own.row x) (is_it own.column x) (declared_at names x) refl
   where
-    declared_by : (d : Declared) → declared_at names x ≡ Some d → kind_verdict w (Some (standing_of d.kind)) ≡ Ok tt → IsNameOf IsKind names x
+    declared_by : (d : Symbol) → declared_at names x ≡ Some d → kind_verdict w (Some (standing_of d.kind)) ≡ Ok tt → IsNameOf IsKind names x
     declared_by d found h = record { declared = d; found = found; kind = kinds d.kind (if_ok (allows w (standing_of d.kind)) Kind h) }
 
-    by : (b c : Bool) (o : Option Declared) → declared_at names x ≡ o → kind_verdict w (if b then Some standing.Row else (if c then Some standing.Column else declared_standing o)) ≡ Ok tt → IsNameOf IsKind names x
+    by : (b c : Bool) (o : Option Symbol) → declared_at names x ≡ o → kind_verdict w (if b then Some standing.Row else (if c then Some standing.Column else declared_standing o)) ≡ Ok tt → IsNameOf IsKind names x
     by true c o found h = let ok = if_ok (allows w standing.Row) Kind h in absurd (cc)
     by false true o found h = let ok = if_ok (allows w standing.Column) Kind h in absurd (cc)
     by false false None found h = absurd (cc)
@@ -180,14 +180,14 @@ func_kind Plane h = absurd (false≢true h)
 func_kind Func h = tt
 func_kind Accum h = absurd (false≢true h)
 
-module _ (names : List Declared) (own : Own) where
+module _ (names : List Symbol) (own : Locals) where
   readable_name : (x : List ℕ) → name_verdict names own x wanted.Readable ≡ Ok tt → IsNameOf IsReadableKind names x
   readable_name = by_kind wanted.Readable IsReadableKind readable_kind refl refl names own
 
   func_name : (x : List ℕ) → name_verdict names own x wanted.Func ≡ Ok tt → IsNameOf IsFuncKind names x
   func_name = by_kind wanted.Func IsFuncKind func_kind refl refl names own
 
-  index_ok : (i : Index) (w : Wanted) → index_verdict names own i w ≡ Ok tt → IsSoundIndex i
+  index_ok : (i : Index) (w : Expected) → index_verdict names own i w ≡ Ok tt → IsSoundIndex i
   index_ok i w h =
       let first = and_then_ok (range_verdict i.mul 1 16) (and_then (name_verdict names own i.name w) (and_then (add_verdict i.add) (range_verdict i.div 1 16))) h in
       let second = and_then_ok (name_verdict names own i.name w) (and_then (add_verdict i.add) (range_verdict i.div 1 16)) first.1 in
@@ -257,7 +257,7 @@ module _ (names : List Declared) (own : Own) where
 
 -- ---- items
 
-pub sound_item : (names : List Declared) (d : Declaration) → verdict_of names d ≡ Ok tt → IsSoundItem names d
+pub sound_item : (names : List Symbol) (d : Declaration) → verdict_of names d ≡ Ok tt → IsSoundItem names d
 sound_item names (tree.param p) h = tt
 sound_item names (tree.image i) h = tt
 sound_item names (tree.function f) h =

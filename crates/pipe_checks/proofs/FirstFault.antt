@@ -7,9 +7,9 @@ use Rattle.std.proofs.lemmas.Grind.{same_number_lists}
 use Rattle.pipe_tree.specs.declared.tree.Tree.{Tree}
 use Rattle.pipe_tree.specs.Tree.{Declaration}
 use Rattle.pipe_tree.specs.Content.{content}
-use Rattle.pipe_checks.specs.declared.declared.Declared.{Declared}
-use Rattle.pipe_checks.specs.declared.fault.Misuse.{Misuse}
-use Rattle.pipe_checks.specs.declared.fault.Misuse.TheVariants as misuse
+use Rattle.pipe_checks.specs.declared.symbol.Symbol.{Symbol}
+use Rattle.pipe_checks.specs.declared.fault.Violation.{Violation}
+use Rattle.pipe_checks.specs.declared.fault.Violation.TheVariants as misuse
 use Rattle.pipe_checks.specs.declared.fault.CheckFault.{CheckFault}
 use Rattle.pipe_checks.specs.declared.fault.CheckFault.TheVariants.{Unknown, Twice, Kind, BadKernel, BadLiteral, NoResult, Cycle, Memory}
 use Rattle.pipe_checks.specs.Links.{Links}
@@ -43,7 +43,7 @@ same_cycle g c d h k =
     let start : slice_index c 0 ≡ slice_index d 0 = omega (arith, h.least d k.from_start.cycle, k.least c h.from_start.cycle) in
     same_from g (slice_index d 0) c d (subst (λ s. IsShortestFrom g s c) start h.from_start) k.from_start
 
-same_twice : (names : List Declared) (ds : List Declaration) (m n : ℕ) → IsFirstTwice names ds m → IsFirstTwice names ds n → m ≡ n
+same_twice : (names : List Symbol) (ds : List Declaration) (m n : ℕ) → IsFirstTwice names ds m → IsFirstTwice names ds n → m ≡ n
 same_twice names ds m n h k = by_order (cases_lt m n) (cases_lt n m)
   where
     by_order : (m < n) ⊎ (n ≤ m) → (n < m) ⊎ (m ≤ n) → m ≡ n
@@ -51,10 +51,10 @@ same_twice names ds m n h k = by_order (cases_lt m n) (cases_lt n m)
     by_order (inr l) (inl p) = absurd (h.first n k.item p k.there k.twice)
     by_order (inr l) (inr p) = omega arith
 
-ok_or_err : (v : Verdict) (w : Misuse) → v ≡ Ok tt → v ≡ Err w → ⊥
+ok_or_err : (v : Verdict) (w : Violation) → v ≡ Ok tt → v ≡ Err w → ⊥
 ok_or_err v w a b = cc
 
-same_wrong : (names : List Declared) (ds : List Declaration) (v w : Misuse) (m n : ℕ) → IsFirstWrong names ds v m → IsFirstWrong names ds w n → (m ≡ n) × (v ≡ w)
+same_wrong : (names : List Symbol) (ds : List Declaration) (v w : Violation) (m n : ℕ) → IsFirstWrong names ds v m → IsFirstWrong names ds w n → (m ≡ n) × (v ≡ w)
 same_wrong names ds v w m n h k = by_order (cases_lt m n) (cases_lt n m)
   where
     by_order : (m < n) ⊎ (n ≤ m) → (n < m) ⊎ (m ≤ n) → (m ≡ n) × (v ≡ w)
@@ -77,7 +77,7 @@ same_wrong names ds v w m n h k = by_order (cases_lt m n) (cases_lt n m)
 
 data Told (ds : List Declaration) (f : CheckFault) : Type 0 where
   TwiceTold : (n : ℕ) → IsFirstTwice (declared_names ds) ds n → f ≡ Twice n → Told ds f
-  WrongTold : (w : Misuse) (n : ℕ) → NoneTwice (declared_names ds) ds → IsFirstWrong (declared_names ds) ds w n → f ≡ fault_of w n → Told ds f
+  WrongTold : (w : Violation) (n : ℕ) → NoneTwice (declared_names ds) ds → IsFirstWrong (declared_names ds) ds w n → f ≡ fault_of w n → Told ds f
   ResultTold : IsNamed ds → list_any is_result ds ≡ false → f ≡ NoResult → Told ds f
   CycleTold : (c : List ℕ) → IsNamed ds → list_any is_result ds ≡ true → IsShortestCycle (graph_of ds) c → f ≡ Cycle c → Told ds f
 
@@ -94,7 +94,7 @@ told ds Memory h m = absurd (m refl)
 not_twice : (ds : List Declaration) (n : ℕ) → NoneTwice (declared_names ds) ds → IsFirstTwice (declared_names ds) ds n → ⊥
 not_twice ds n none h = none n h.item h.there h.twice
 
-not_wrong : (ds : List Declaration) (w : Misuse) (n : ℕ) → IsNamed ds → IsFirstWrong (declared_names ds) ds w n → ⊥
+not_wrong : (ds : List Declaration) (w : Violation) (n : ℕ) → IsNamed ds → IsFirstWrong (declared_names ds) ds w n → ⊥
 not_wrong ds w n named h = ok_or_err (verdict_of (declared_names ds) h.item) w (named.good n h.item h.there) h.is
 
 same_told : (ds : List Declaration) (a b : CheckFault) → Told ds a → Told ds b → a ≡ b

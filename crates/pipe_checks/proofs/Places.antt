@@ -7,9 +7,9 @@ use Rattle.std.proofs.lemmas.List.{length-map}
 use Rattle.std.proofs.lemmas.Option.{cond_some, same_Some, slice_get_within, slice_get-get_or, slice_get-map}
 use Rattle.pipe_tree.specs.declared.tree.Item.{Item}
 use Rattle.pipe_tree.specs.Tree.{Declaration, declaration, declarations}
-use Rattle.pipe_checks.specs.declared.declared.Declared.{Declared}
+use Rattle.pipe_checks.specs.declared.symbol.Symbol.{Symbol}
 use Rattle.pipe_checks.specs.Checking.{IsTwice, IsFirstTwice}
-use Rattle.pipe_checks.specs.declared.fault.Misuse.{Misuse}
+use Rattle.pipe_checks.specs.declared.fault.Violation.{Violation}
 use Rattle.pipe_checks.specs.Uses.{Verdict, and_then}
 use Rattle.domains.proofs.Places.{next_of}
 use borrow.Author.Tests.{ltb-true}
@@ -33,16 +33,16 @@ declarations_end items i h = omega (arith, h, length-map items declaration)
 
 -- ---- a loop over verdicts
 
-pub turn_fails : {X : Type 0} (F : List X → Verdict) (g : X → Verdict) (xs : List X) (i : ℕ) (x : X) (e : Misuse) → ((y : X) (ys : List X) → F (y ∷ ys) ≡ and_then (g y) (F ys)) → i < length xs → x ≡ get_or xs i x → F (drop i xs) ≡ F xs → g x ≡ Err e → F xs ≡ Err e
+pub turn_fails : {X : Type 0} (F : List X → Verdict) (g : X → Verdict) (xs : List X) (i : ℕ) (x : X) (e : Violation) → ((y : X) (ys : List X) → F (y ∷ ys) ≡ and_then (g y) (F ys)) → i < length xs → x ≡ get_or xs i x → F (drop i xs) ≡ F xs → g x ≡ Err e → F xs ≡ Err e
 turn_fails F g xs i x e step h is inv fails =
     sym inv ∙ ap F (next_of xs i x h is) ∙ step x (drop (i + 1) xs) ∙ ap (λ v. and_then v (F (drop (i + 1) xs))) fails
 
-pub ok_of : (v : Verdict) → ((e : Misuse) → v ≡ Err e → ⊥) → v ≡ Ok tt
+pub ok_of : (v : Verdict) → ((e : Violation) → v ≡ Err e → ⊥) → v ≡ Ok tt
 ok_of (Ok u) h = refl
 ok_of (Err e) h = absurd (h e refl)
 
 -- item i is the first with a name that stands for two things
-pub first_twice_is : (names : List Declared) (items : List Item) (i : ℕ) (x : Item) → i < length items → x ≡ get_or items i x → IsTwice names i (declaration x) → ((k : ℕ) (d : Declaration) → k < i → slice_get (declarations items) k ≡ Some d → IsTwice names k d → ⊥) → IsFirstTwice names (declarations items) i
+pub first_twice_is : (names : List Symbol) (items : List Item) (i : ℕ) (x : Item) → i < length items → x ≡ get_or items i x → IsTwice names i (declaration x) → ((k : ℕ) (d : Declaration) → k < i → slice_get (declarations items) k ≡ Some d → IsTwice names k d → ⊥) → IsFirstTwice names (declarations items) i
 first_twice_is names items i x h e twice before = record { item = declaration x; there = declaration_at items i x h e; twice = twice; first = before }
 
 pub any_turn : (p : Declaration → Bool) (items : List Item) (i : ℕ) (x : Item) → i < length items → x ≡ get_or items i x → list_any p (declarations (drop i items)) ≡ (p (declaration x) || list_any p (declarations (drop (i + 1) items)))

@@ -10,7 +10,7 @@ use Rattle.std.proofs.lemmas.Option.{slice_get_within, slice_get-map, get_or_fro
 use Rattle.pipe_tree.specs.declared.tree.Names.{Names}
 use Rattle.pipe_tree.specs.declared.tree.Names.TheVariants.{One, Three}
 use Rattle.pipe_tree.specs.Tree.{Declaration, param, image, function, accumulator, output}
-use Rattle.pipe_checks.specs.declared.declared.Declared.{Declared}
+use Rattle.pipe_checks.specs.declared.symbol.Symbol.{Symbol}
 use Rattle.pipe_checks.specs.Links.{Links}
 use Rattle.pipe_checks.specs.Names.{names_of, item_names, names_from, declared_names, stages_of}
 use Rattle.pipe_checks.specs.Sites.{item_sites, stage_read, is_plane, reads_of, links_of, graph_of}
@@ -20,12 +20,12 @@ use Rattle.pipe_checks.proofs.Distances.{reads_within}
 -- ---- planes read nothing
 
 -- where x is a plane, the item that declares it has no reads; the items begin with number n
-abbrev Blank : ℕ → List Declaration → Declared → Type 0
-Blank n ds x = is_plane x.kind ≡ true → (k : ℕ) × (x.item ≡ n + k) × (d : Declaration) × (slice_get ds k ≡ Some d) × ((names : List Declared) → item_sites names d ≡ [])
+abbrev Blank : ℕ → List Declaration → Symbol → Type 0
+Blank n ds x = is_plane x.kind ≡ true → (k : ℕ) × (x.item ≡ n + k) × (d : Declaration) × (slice_get ds k ≡ Some d) × ((names : List Symbol) → item_sites names d ≡ [])
 
 -- the names of an item, by the item alone
-abbrev BlankHere : ℕ → Declaration → Declared → Type 0
-BlankHere n d x = is_plane x.kind ≡ true → (x.item ≡ n) × ((names : List Declared) → item_sites names d ≡ [])
+abbrev BlankHere : ℕ → Declaration → Symbol → Type 0
+BlankHere n d x = is_plane x.kind ≡ true → (x.item ≡ n) × ((names : List Symbol) → item_sites names d ≡ [])
 
 blank_here : (n : ℕ) (d : Declaration) → AllByRecursion (BlankHere n d) (item_names n d)
 blank_here n (param p) = ((λ e. absurd (false≢true e)), tt)
@@ -46,11 +46,11 @@ blank_from n (d ∷ ds) =
     (All-weaker (Blank (n + 1) ds) (Blank n (d ∷ ds)) (λ x h e. let b = h e in (suc b.0, b.1 ∙ omega arith, b.2, b.3, b.4)) (names_from (n + 1) ds) (blank_from (n + 1) ds))
 
 -- the stage of a number
-stage_is : (ds : List Declaration) (s : ℕ) (x : Declared) → slice_get (stages_of ds) s ≡ Some x → links_at (graph_of ds) s ≡ links_of ds (stages_of ds) x
+stage_is : (ds : List Declaration) (s : ℕ) (x : Symbol) → slice_get (stages_of ds) s ≡ Some x → links_at (graph_of ds) s ≡ links_of ds (stages_of ds) x
 stage_is ds s x there =
     get_or_from_slice_get (graph_of ds) s (links_of ds (stages_of ds) x) _ (slice_get-map (links_of ds (stages_of ds)) (stages_of ds) s ∙ ap (option_map (links_of ds (stages_of ds))) there)
 
-plane_is_blank : (ds : List Declaration) (s : ℕ) (x : Declared) → slice_get (stages_of ds) s ≡ Some x → IsPlane (graph_of ds) s → (links_at (graph_of ds) s).reads ≡ []
+plane_is_blank : (ds : List Declaration) (s : ℕ) (x : Symbol) → slice_get (stages_of ds) s ≡ Some x → IsPlane (graph_of ds) s → (links_at (graph_of ds) s).reads ≡ []
 plane_is_blank ds s x there plane =
     let all = All-filter _ (Blank 0 ds) (declared_names ds) (blank_from 0 ds) in
     let here : Blank 0 ds x = subst (Blank 0 ds) (get_or_from_slice_get (stages_of ds) s x x there) (all s x (slice_get_within (stages_of ds) s x there)) in
@@ -63,7 +63,7 @@ plane_is_blank ds s x there plane =
 pub no_plane_reads : (ds : List Declaration) (s t : ℕ) → Reads (graph_of ds) s t → IsPlane (graph_of ds) s → ⊥
 no_plane_reads ds s t r plane = by_stage (slice_get_cases (stages_of ds) s).1
   where
-    by_stage : ((x : Declared) × (s < length (stages_of ds)) × (slice_get (stages_of ds) s ≡ Some x) × (get_or (stages_of ds) s x ≡ x)) ⊎ ((length (stages_of ds) ≤ s) × (slice_get (stages_of ds) s ≡ None)) → ⊥
+    by_stage : ((x : Symbol) × (s < length (stages_of ds)) × (slice_get (stages_of ds) s ≡ Some x) × (get_or (stages_of ds) s x ≡ x)) ⊎ ((length (stages_of ds) ≤ s) × (slice_get (stages_of ds) s ≡ None)) → ⊥
     by_stage (inl f) =
         let none : Contains [] t = subst (λ (xs : List ℕ). Contains xs t) (plane_is_blank ds s f.0 f.2 plane) r in
         omega (arith, none.1)

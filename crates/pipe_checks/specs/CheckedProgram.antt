@@ -1,13 +1,13 @@
 -- What contracts see of a checked program.
 use Rattle.std.specs.Prelude.{ℕ, List}
 use Rattle.pipe_tree.specs.declared.tree.Tree.{Tree}
-use Rattle.pipe_checks.specs.declared.declared.Declared.{Declared}
+use Rattle.pipe_checks.specs.declared.symbol.Symbol.{Symbol}
 use Rattle.pipe_checks.specs.Links.{Links}
 
 -- a program, its stages and its parameters in the order of the text, and by the numbers of stages what each reads, and its rank
 pub record CheckedProgram : Type 0 where
   pub tree : Tree
-  pub stages : List Declared
-  pub params : List Declared
+  pub stages : List Symbol
+  pub params : List Symbol
   pub graph : List Links
   pub ranks : List ℕ

@@ -4,9 +4,9 @@ use Rattle.std.specs.List.{list_any}
 use Rattle.pipe_tree.specs.declared.tree.Tree.{Tree}
 use Rattle.pipe_tree.specs.Tree.{Declaration, param, image, function, accumulator, output}
 use Rattle.pipe_tree.specs.Content.{content}
-use Rattle.pipe_checks.specs.declared.declared.Declared.{Declared}
-use Rattle.pipe_checks.specs.declared.fault.Misuse.{Misuse}
-use Rattle.pipe_checks.specs.declared.fault.Misuse.TheVariants as misuse
+use Rattle.pipe_checks.specs.declared.symbol.Symbol.{Symbol}
+use Rattle.pipe_checks.specs.declared.fault.Violation.{Violation}
+use Rattle.pipe_checks.specs.declared.fault.Violation.TheVariants as misuse
 use Rattle.pipe_checks.specs.declared.fault.CheckFault.{CheckFault}
 use Rattle.pipe_checks.specs.declared.fault.CheckFault.TheVariants.{Unknown, Twice, Kind, BadKernel, BadLiteral, NoResult, Cycle, Memory}
 use Rattle.pipe_checks.specs.declared.checked.Checked.{Checked}
@@ -20,21 +20,21 @@ use Rattle.pipe_checks.specs.Uses.{Verdict, item_verdict}
 -- ---- names that stand for two things
 
 -- item n declares a name that was declared before
-pub record DeclaresAgain (names : List Declared) (n : ℕ) : Type 0 where
+pub record DeclaresAgain (names : List Symbol) (n : ℕ) : Type 0 where
   pub place : ℕ
-  pub again : Declared
+  pub again : Symbol
   pub there : slice_get names place ≡ Some again
   pub item : again.item ≡ n
   pub before : IsTrue (is_some (number_of (take place names) again.name))
 
-abbrev pub IsTwice : List Declared → ℕ → Declaration → Type 0
+abbrev pub IsTwice : List Symbol → ℕ → Declaration → Type 0
 IsTwice names n d = DeclaresAgain names n ⊎ IsTrue (varies_again names (own_of d))
 
-abbrev pub NoneTwice : List Declared → List Declaration → Type 0
+abbrev pub NoneTwice : List Symbol → List Declaration → Type 0
 NoneTwice names ds = (k : ℕ) (d : Declaration) → slice_get ds k ≡ Some d → ¬ (IsTwice names k d)
 
 -- item n is the first with a name that stands for two things
-pub record IsFirstTwice (names : List Declared) (ds : List Declaration) (n : ℕ) : Type 0 where
+pub record IsFirstTwice (names : List Symbol) (ds : List Declaration) (n : ℕ) : Type 0 where
   pub item : Declaration
   pub there : slice_get ds n ≡ Some item
   pub twice : IsTwice names n item
@@ -42,14 +42,14 @@ pub record IsFirstTwice (names : List Declared) (ds : List Declaration) (n : ℕ
 
 -- ---- places that do not hold what they want
 
-abbrev pub verdict_of : List Declared → Declaration → Verdict
+abbrev pub verdict_of : List Symbol → Declaration → Verdict
 verdict_of names d = item_verdict names (own_of d) d
 
-abbrev pub AllGood : List Declared → List Declaration → Type 0
+abbrev pub AllGood : List Symbol → List Declaration → Type 0
 AllGood names ds = (k : ℕ) (d : Declaration) → slice_get ds k ≡ Some d → verdict_of names d ≡ Ok tt
 
 -- item n is the first with a wrong place, and this is wrong at its first
-pub record IsFirstWrong (names : List Declared) (ds : List Declaration) (wrong : Misuse) (n : ℕ) : Type 0 where
+pub record IsFirstWrong (names : List Symbol) (ds : List Declaration) (wrong : Violation) (n : ℕ) : Type 0 where
   pub item : Declaration
   pub there : slice_get ds n ≡ Some item
   pub is : verdict_of names item ≡ Err wrong
@@ -89,10 +89,10 @@ reads_at (Some l) = Some l.reads
 abbrev pub tree_in : Checked → Tree
 tree_in c = c.tree
 
-abbrev pub stages_in : Checked → List Declared
+abbrev pub stages_in : Checked → List Symbol
 stages_in c = c.stages
 
-abbrev pub params_in : Checked → List Declared
+abbrev pub params_in : Checked → List Symbol
 params_in c = c.params
 
 abbrev pub graph_in : Checked → List Links

@@ -4,18 +4,18 @@ use Rattle.std.specs.Str.{bytes_eq}
 use Rattle.pipe_tree.specs.declared.tree.Names.{Names}
 use Rattle.pipe_tree.specs.declared.tree.Names.TheVariants.{One, Three}
 use Rattle.pipe_tree.specs.Tree.{Declaration, param, image, function, accumulator, output}
-use Rattle.pipe_checks.specs.declared.declared.NameKind.{NameKind}
-use Rattle.pipe_checks.specs.declared.declared.NameKind.TheVariants.{Param, Plane, Func, Accum}
-use Rattle.pipe_checks.specs.declared.declared.Declared.{Declared}
+use Rattle.pipe_checks.specs.declared.symbol.NameKind.{NameKind}
+use Rattle.pipe_checks.specs.declared.symbol.NameKind.TheVariants.{Param, Plane, Func, Accum}
+use Rattle.pipe_checks.specs.declared.symbol.Symbol.{Symbol}
 
 -- the planes that item n declares
-abbrev pub names_of : ℕ → Names → List Declared
+abbrev pub names_of : ℕ → Names → List Symbol
 names_of n (One x) = record { name = x; kind = Plane; item = n } ∷ []
 names_of n (Three x y z) =
     record { name = x; kind = Plane; item = n } ∷ record { name = y; kind = Plane; item = n } ∷ record { name = z; kind = Plane; item = n } ∷ []
 
 -- the names that item n declares
-abbrev pub item_names : ℕ → Declaration → List Declared
+abbrev pub item_names : ℕ → Declaration → List Symbol
 item_names n (param p) = record { name = p.name; kind = Param; item = n } ∷ []
 item_names n (image i) = names_of n i.names
 item_names n (function f) = record { name = f.name; kind = Func; item = n } ∷ []
@@ -23,11 +23,11 @@ item_names n (accumulator a) = record { name = a.name; kind = Accum; item = n } 
 item_names n (output o) = []
 
 -- the names that items declare, of which the first has the number n
-abbrev pub names_from : ℕ → List Declaration → List Declared
+abbrev pub names_from : ℕ → List Declaration → List Symbol
 names_from n [] = []
 names_from n (d ∷ ds) = item_names n d ++ names_from (n + 1) ds
 
-abbrev pub declared_names : List Declaration → List Declared
+abbrev pub declared_names : List Declaration → List Symbol
 declared_names ds = names_from 0 ds
 
 abbrev pub is_param : NameKind → Bool
@@ -37,20 +37,20 @@ is_param Func = false
 is_param Accum = false
 
 -- the parameters of a program, and its stages: a stage's number is its place here
-abbrev pub params_of : List Declaration → List Declared
+abbrev pub params_of : List Declaration → List Symbol
 params_of ds = filter (λ d. is_param d.kind) (declared_names ds)
 
-abbrev pub stages_of : List Declaration → List Declared
+abbrev pub stages_of : List Declaration → List Symbol
 stages_of ds = filter (λ d. not (is_param d.kind)) (declared_names ds)
 
 -- the number of the first of the names that is this one
-abbrev pub number_of : List Declared → List ℕ → Option ℕ
+abbrev pub number_of : List Symbol → List ℕ → Option ℕ
 number_of names x = position (λ d. bytes_eq d.name x) names
 
 -- the first of the names that is this one
-abbrev pub place_of : List Declared → Option ℕ → Option Declared
+abbrev pub place_of : List Symbol → Option ℕ → Option Symbol
 place_of names None = None
 place_of names (Some n) = slice_get names n
 
-abbrev pub declared_at : List Declared → List ℕ → Option Declared
+abbrev pub declared_at : List Symbol → List ℕ → Option Symbol
 declared_at names x = place_of names (number_of names x)

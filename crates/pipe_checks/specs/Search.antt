@@ -4,10 +4,10 @@ use Rattle.pipe_tree.specs.Tree.{Declaration}
 use Rattle.std.specs.List.{list_any}
 use Rattle.pipe_checks.specs.declared.fault.CheckFault.{CheckFault}
 use Rattle.pipe_checks.specs.declared.fault.CheckFault.TheVariants.{Unknown, Twice, Kind, BadKernel, BadLiteral, NoResult, Cycle, Memory}
-use Rattle.pipe_checks.specs.declared.declared.Declared.{Declared}
+use Rattle.pipe_checks.specs.declared.symbol.Symbol.{Symbol}
 use Rattle.pipe_checks.specs.declared.checked.Found.{Found}
-use Rattle.pipe_checks.specs.declared.fault.Misuse.{Misuse}
-use Rattle.pipe_checks.specs.declared.fault.Misuse.TheVariants as misuse
+use Rattle.pipe_checks.specs.declared.fault.Violation.{Violation}
+use Rattle.pipe_checks.specs.declared.fault.Violation.TheVariants as misuse
 use Rattle.pipe_checks.specs.Links.{Links}
 use Rattle.pipe_checks.specs.Names.{params_of, stages_of}
 use Rattle.pipe_checks.specs.Sites.{graph_of}
@@ -85,16 +85,16 @@ pub record IsWayBack (g : List Links) (start : ℕ) (far : List (Option ℕ)) (l
 
 -- ---- a whole program
 
-abbrev pub fault_of : Misuse → ℕ → CheckFault
+abbrev pub fault_of : Violation → ℕ → CheckFault
 fault_of misuse.Unknown n = Unknown n
 fault_of misuse.Kind n = Kind n
 fault_of misuse.BadKernel n = BadKernel n
 fault_of misuse.BadLiteral n = BadLiteral n
 
 -- all places are good, or this is the fault of the first that is not
-abbrev pub IsJudged : List Declared → List Declaration → Result (Unit {0}) CheckFault → Type 0
+abbrev pub IsJudged : List Symbol → List Declaration → Result (Unit {0}) CheckFault → Type 0
 IsJudged names ds (Ok u) = AllGood names ds
-IsJudged names ds (Err f) = (wrong : Misuse) × (n : ℕ) × (f ≡ fault_of wrong n) × IsFirstWrong names ds wrong n
+IsJudged names ds (Err f) = (wrong : Violation) × (n : ℕ) × (f ≡ fault_of wrong n) × IsFirstWrong names ds wrong n
 
 -- stages that read each other in a cycle, or memory
 abbrev pub IsCyclic : List Links → CheckFault → Type 0

@@ -2,9 +2,9 @@
 use Rattle.std.specs.Prelude.{ℕ, ℤ, Bool, true, false, Option, Some, None, List, [], ◌∷◌, ◌++◌, map, length, slice_get}
 use Rattle.pipe_tree.specs.declared.tree.Index.{Index}
 use Rattle.pipe_tree.specs.Tree.{Node, number, variable, read, neg, binary, literal, abs, clamp, select, stencil, Branch, Declaration, param, image, function, accumulator, output}
-use Rattle.pipe_checks.specs.declared.declared.NameKind.{NameKind}
-use Rattle.pipe_checks.specs.declared.declared.NameKind.TheVariants.{Param, Plane, Func, Accum}
-use Rattle.pipe_checks.specs.declared.declared.Declared.{Declared}
+use Rattle.pipe_checks.specs.declared.symbol.NameKind.{NameKind}
+use Rattle.pipe_checks.specs.declared.symbol.NameKind.TheVariants.{Param, Plane, Func, Accum}
+use Rattle.pipe_checks.specs.declared.symbol.Symbol.{Symbol}
 use Rattle.pipe_checks.specs.declared.site.Site.{Site}
 use Rattle.pipe_checks.specs.declared.site.Site.TheVariants.{Read, Stencil}
 use Rattle.pipe_checks.specs.Links.{Links}
@@ -26,7 +26,7 @@ stencil_at None k = []
 stencil_at (Some g) k = Stencil g (length k) (width_of k) ∷ []
 
 -- the reads and stencils of an expression of stages, in the order of the text
-abbrev pub sites_of : List Declared → Node → List Site
+abbrev pub sites_of : List Symbol → Node → List Site
 sites_of names (number n) = []
 sites_of names (variable x) = []
 sites_of names (read x i j) = read_at (number_of names x) i j
@@ -38,16 +38,16 @@ sites_of names (clamp a b c) = sites_of names a ++ sites_of names b ++ sites_of 
 sites_of names (select a r b c d) = sites_of names a ++ sites_of names b ++ sites_of names c ++ sites_of names d
 sites_of names (stencil x d k) = stencil_at (number_of names x) k
 
-abbrev pub branch_sites : List Declared → List Branch → List Site
+abbrev pub branch_sites : List Symbol → List Branch → List Site
 branch_sites names [] = []
 branch_sites names (b ∷ bs) = sites_of names b.value ++ branch_sites names bs
 
-abbrev pub otherwise_sites : List Declared → Option Node → List Site
+abbrev pub otherwise_sites : List Symbol → Option Node → List Site
 otherwise_sites names None = []
 otherwise_sites names (Some a) = sites_of names a
 
 -- those of all expressions of an item
-abbrev pub item_sites : List Declared → Declaration → List Site
+abbrev pub item_sites : List Symbol → Declaration → List Site
 item_sites names (param p) = []
 item_sites names (image i) = []
 item_sites names (function f) = branch_sites names f.cases ++ otherwise_sites names f.otherwise
@@ -64,15 +64,15 @@ is_plane Plane = true
 is_plane Func = false
 is_plane Accum = false
 
-abbrev pub reads_of : List Declared → Option Declaration → List ℕ
+abbrev pub reads_of : List Symbol → Option Declaration → List ℕ
 reads_of names None = []
 reads_of names (Some d) = map stage_read (item_sites names d)
 
 -- what a stage reads
-abbrev pub links_of : List Declaration → List Declared → Declared → Links
+abbrev pub links_of : List Declaration → List Symbol → Symbol → Links
 links_of ds names s = record { is_plane = is_plane s.kind; reads = reads_of names (slice_get ds s.item) }
 
-abbrev pub links_from : List Declaration → List Declared → List Declared → List Links
+abbrev pub links_from : List Declaration → List Symbol → List Symbol → List Links
 links_from ds names stages = map (links_of ds names) stages
 
 -- what each stage of a program reads

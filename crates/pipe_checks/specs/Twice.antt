@@ -2,19 +2,19 @@
 use Rattle.std.specs.Prelude.{ℕ, Bool, false, ◌||◌, Option, Some, None, is_some, List}
 use Rattle.std.specs.Str.{bytes_eq}
 use Rattle.pipe_tree.specs.Tree.{Declaration, param, image, function, accumulator, output}
-use Rattle.pipe_checks.specs.declared.declared.Declared.{Declared}
-use Rattle.pipe_checks.specs.declared.uses.Own.{Own}
+use Rattle.pipe_checks.specs.declared.symbol.Symbol.{Symbol}
+use Rattle.pipe_checks.specs.declared.uses.Locals.{Locals}
 use Rattle.pipe_checks.specs.Names.{number_of}
 
 -- the variables of an item
-abbrev pub own_of : Declaration → Own
+abbrev pub own_of : Declaration → Locals
 own_of (param p) = record { row = None; column = None }
 own_of (image i) = record { row = None; column = None }
 own_of (function f) = record { row = Some f.row.name; column = Some f.column.name }
 own_of (accumulator a) = record { row = Some a.row.name; column = Some a.column.name }
 own_of (output o) = record { row = None; column = None }
 
-abbrev pub is_declared : List Declared → Option (List ℕ) → Bool
+abbrev pub is_declared : List Symbol → Option (List ℕ) → Bool
 is_declared names None = false
 is_declared names (Some x) = is_some (number_of names x)
 
@@ -23,5 +23,5 @@ are_same (Some x) (Some y) = bytes_eq x y
 are_same x y = false
 
 -- a variable equals its fellow or a declared name
-abbrev pub varies_again : List Declared → Own → Bool
+abbrev pub varies_again : List Symbol → Locals → Bool
 varies_again names own = are_same own.row own.column || is_declared names own.row || is_declared names own.column

@@ -1,15 +1,15 @@
 -- What the crates above call the types behind verdicts: the names of an item's variables, what a place wants, and what is wrong there.
-use Rattle.pipe_checks.specs.declared.fault.Misuse.{Misuse}
-use Rattle.pipe_checks.specs.declared.fault.Misuse.TheVariants.{BadKernel, BadLiteral}
-use Rattle.pipe_checks.specs.declared.uses.Own.{Own}
-use Rattle.pipe_checks.specs.declared.uses.Wanted.{Wanted}
-use Rattle.pipe_checks.specs.declared.uses.Wanted.TheVariants.{Readable, Row, Column}
+use Rattle.pipe_checks.specs.declared.fault.Violation.{Violation}
+use Rattle.pipe_checks.specs.declared.fault.Violation.TheVariants.{BadKernel, BadLiteral}
+use Rattle.pipe_checks.specs.declared.uses.Locals.{Locals}
+use Rattle.pipe_checks.specs.declared.uses.Expected.{Expected}
+use Rattle.pipe_checks.specs.declared.uses.Expected.TheVariants.{Readable, Row, Column}
 
 abbrev pub OwnNames : Type 0
-OwnNames = Own
+OwnNames = Locals
 
 abbrev pub Want : Type 0
-Want = Wanted
+Want = Expected
 
 abbrev pub readable : Want
 readable = Readable
@@ -21,7 +21,7 @@ abbrev pub column_variable : Want
 column_variable = Column
 
 abbrev pub Wrong : Type 0
-Wrong = Misuse
+Wrong = Violation
 
 abbrev pub bad_kernel : Wrong
 bad_kernel = BadKernel

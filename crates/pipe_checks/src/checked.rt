@@ -12,10 +12,10 @@ ghost use Rattle.pipe_checks.specs.Checking.{IsNamed, IsFault, IsCheckedOf, tree
 ghost use Rattle.pipe_checks.specs.Search.{IsCyclic, IsJudged, IsFound, fault_of};
 
 use crate::cycles::shortest_cycle;
-use crate::declared::{Declared, declared_names, params_of, stages_of};
-use crate::fault::{CheckFault, Cycle, Misuse};
+use crate::fault::{CheckFault, Cycle, Violation};
 use crate::graph::{Links, graph};
 use crate::ranks::ranks;
+use crate::symbol::{Symbol, declared_names, params_of, stages_of};
 use crate::twice::{first_twice, own_of};
 use crate::uses::judge_item;
 use pipe_tree::{Item, Tree};
@@ -27,8 +27,8 @@ use std::marker::Model;
 #[derive(Debug, Drop)]
 pub struct Checked {
     tree: Tree,
-    stages: Vec<Declared>,
-    params: Vec<Declared>,
+    stages: Vec<Symbol>,
+    params: Vec<Symbol>,
     graph: Vec<Links>,
     ranks: Vec<usize>,
 }
@@ -59,14 +59,14 @@ impl Checked {
     }
 
     /// The planes, functions and accumulators in the order of the text. A stage's number is its place here.
-    pub fn stages(&self) -> &[Declared]
+    pub fn stages(&self) -> &[Symbol]
         ensures { result.now ≡ stages_in self.now }
     {
         &self.stages
     }
 
     /// The parameters in the order of the text.
-    pub fn params(&self) -> &[Declared]
+    pub fn params(&self) -> &[Symbol]
         ensures { result.now ≡ params_in self.now }
     {
         &self.params
@@ -91,24 +91,24 @@ impl Checked {
     }
 }
 
-fn fault_at(misuse: Misuse, item: usize) -> CheckFault
+fn fault_at(misuse: Violation, item: usize) -> CheckFault
     ensures { result ≡ fault_of misuse item }
 {
     match misuse {
-        Misuse::Unknown => CheckFault::Unknown(item),
-        Misuse::Kind => CheckFault::Kind(item),
-        Misuse::BadKernel => CheckFault::BadKernel(item),
-        Misuse::BadLiteral => CheckFault::BadLiteral(item),
+        Violation::Unknown => CheckFault::Unknown(item),
+        Violation::Kind => CheckFault::Kind(item),
+        Violation::BadKernel => CheckFault::BadKernel(item),
+        Violation::BadLiteral => CheckFault::BadLiteral(item),
     }
 }
 
-fn judge(names: &[Declared], item: &Item) -> Result<(), Misuse>
+fn judge(names: &[Symbol], item: &Item) -> Result<(), Violation>
     ensures { result ≡ verdict_of names.now (declaration item.now) }
 {
     judge_item(names, &own_of(item), item)
 }
 
-fn judge_all(declared: &[Declared], items: &[Item]) -> Result<(), CheckFault>
+fn judge_all(declared: &[Symbol], items: &[Item]) -> Result<(), CheckFault>
     ensures { IsJudged declared.now (declarations items.now) result }
 {
     for (number, item) in items.iter().enumerate() {
@@ -121,7 +121,7 @@ fn judge_all(declared: &[Declared], items: &[Item]) -> Result<(), CheckFault>
 
 // Whether each name stands for one thing, and then whether each place holds what it wants.
 #[tactic(auto, using(crate::proofs::Faulting::twice_fault, crate::proofs::Faulting::judged_named, crate::proofs::Faulting::judged_fault))]
-fn judge_names(names: &[Declared], items: &[Item]) -> Result<(), CheckFault>
+fn judge_names(names: &[Symbol], items: &[Item]) -> Result<(), CheckFault>
     requires { names.now ≡ declared_names (declarations items.now) }
     ensures ok { OnOk result (IsNamed (declarations items.now)) }
     ensures err { IfErr result (IsFault (declarations items.now)) }
@@ -167,8 +167,8 @@ fn ranks_of(alloc: Global, graph: &[Links]) -> Result<Vec<usize>, CheckFault>
 // All that is known of a program but its tree.
 #[derive(Drop)]
 struct Found {
-    stages: Vec<Declared>,
-    params: Vec<Declared>,
+    stages: Vec<Symbol>,
+    params: Vec<Symbol>,
     graph: Vec<Links>,
     ranks: Vec<usize>,
 }

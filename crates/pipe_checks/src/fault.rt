@@ -118,7 +118,7 @@ impl From<AllocError> for CheckFault {
 
 /// What is wrong at one place of an item.
 #[derive(Clone, Copy, Debug, PartialEq, Eq)]
-pub enum Misuse {
+pub enum Violation {
     /// A name that stands for nothing there.
     Unknown,
     /// A name of another kind than the place wants.

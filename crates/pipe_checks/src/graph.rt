@@ -6,8 +6,8 @@ ghost use Rattle.std.specs.Option.{option_map};
 ghost use Rattle.pipe_tree.specs.Tree.{view, branches, declaration, declarations};
 ghost use Rattle.pipe_checks.specs.Sites.{branch_sites, otherwise_sites, item_sites, stage_read, is_plane, links_of, links_from};
 
-use crate::declared::{Declared, NameKind};
 use crate::site::{Site, add_sites, stage_read};
+use crate::symbol::{NameKind, Symbol};
 use pipe_tree::{Case, Expr, Item};
 use std::alloc::{AllocError, Global};
 use std::marker::Model;
@@ -50,7 +50,7 @@ pub(crate) fn known(list: &[Option<usize>], stage: usize) -> Option<Option<usize
     list.get(stage).copied()
 }
 
-fn add_cases(found: &mut Vec<Site>, stages: &[Declared], cases: &[Case]) -> Result<(), AllocError>
+fn add_cases(found: &mut Vec<Site>, stages: &[Symbol], cases: &[Case]) -> Result<(), AllocError>
     ensures { OnOk result (found.new.items ≡ found.old.items ++ branch_sites stages.now (branches cases.now)) }
 {
     for case in cases {
@@ -61,7 +61,7 @@ fn add_cases(found: &mut Vec<Site>, stages: &[Declared], cases: &[Case]) -> Resu
 
 fn add_otherwise(
     found: &mut Vec<Site>,
-    stages: &[Declared],
+    stages: &[Symbol],
     otherwise: &Option<Expr>,
 ) -> Result<(), AllocError>
     ensures { OnOk result (found.new.items ≡ found.old.items ++ otherwise_sites stages.now (option_map view otherwise.now)) }
@@ -75,7 +75,7 @@ fn add_otherwise(
 /// The reads and stencils of all expressions of an item.
 pub(crate) fn item_sites(
     alloc: Global,
-    stages: &[Declared],
+    stages: &[Symbol],
     item: &Item,
 ) -> Result<Vec<Site>, AllocError>
     ensures { IfOk result (λ v. v.items ≡ item_sites stages.now (declaration item.now)) }
@@ -113,8 +113,8 @@ fn is_plane(kind: NameKind) -> bool
 fn links_of(
     alloc: Global,
     items: &[Item],
-    stages: &[Declared],
-    stage: &Declared,
+    stages: &[Symbol],
+    stage: &Symbol,
 ) -> Result<Links, AllocError>
     ensures { IfOk result (λ l. l ≡ links_of (declarations items.now) stages.now stage.now) }
 {
@@ -132,7 +132,7 @@ fn links_of(
 pub(crate) fn graph(
     alloc: Global,
     items: &[Item],
-    stages: &[Declared],
+    stages: &[Symbol],
 ) -> Result<Vec<Links>, AllocError>
     ensures { IfOk result (λ v. v.items ≡ links_from (declarations items.now) stages.now stages.now) }
 {

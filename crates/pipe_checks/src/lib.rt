@@ -3,17 +3,17 @@
 
 mod checked;
 mod cycles;
-mod declared;
 mod fault;
 mod graph;
 mod ranks;
 mod site;
+mod symbol;
 mod twice;
 mod uniqueness;
 mod uses;
 
 pub use checked::{Checked, check};
-pub use declared::{Declared, NameKind, declared_stages, is_same, number_of};
 pub use fault::{CheckFault, Cycle};
 pub use site::{Site, add_sites, sites, stage_read};
+pub use symbol::{NameKind, Symbol, declared_stages, is_same, number_of};
 pub use uniqueness::check_faults_are_determined;

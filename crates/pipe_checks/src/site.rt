@@ -6,7 +6,7 @@ ghost use Rattle.pipe_tree.specs.Tree.{view};
 ghost use Rattle.pipe_checks.specs.Names.{number_of};
 ghost use Rattle.pipe_checks.specs.Sites.{read_at, stencil_at, width_of, sites_of, stage_read};
 
-use crate::declared::{Declared, number_of};
+use crate::symbol::{Symbol, number_of};
 use pipe_tokens::Name;
 use pipe_tree::{Expr, Index, Kernel, Row};
 use std::alloc::{AllocError, Global};
@@ -31,7 +31,7 @@ pub fn stage_read(site: &Site) -> usize
 
 fn add_read(
     found: &mut Vec<Site>,
-    stages: &[Declared],
+    stages: &[Symbol],
     name: &Name,
     row: &Index,
     column: &Index,
@@ -59,7 +59,7 @@ pub(crate) fn width_of(rows: &[Row]) -> usize
 
 fn add_stencil(
     found: &mut Vec<Site>,
-    stages: &[Declared],
+    stages: &[Symbol],
     name: &Name,
     kernel: &Kernel,
 ) -> Result<(), AllocError>
@@ -75,7 +75,7 @@ fn add_stencil(
 }
 
 /// Puts the sites of an expression behind those that were found.
-pub fn add_sites(found: &mut Vec<Site>, stages: &[Declared], expr: &Expr) -> Result<(), AllocError>
+pub fn add_sites(found: &mut Vec<Site>, stages: &[Symbol], expr: &Expr) -> Result<(), AllocError>
     ensures { OnOk result (found.new.items ≡ found.old.items ++ sites_of stages.now (view expr.now)) }
 {
     match expr {
@@ -104,7 +104,7 @@ pub fn add_sites(found: &mut Vec<Site>, stages: &[Declared], expr: &Expr) -> Res
 }
 
 /// The reads and stencils of an expression in the order of the text, among these stages.
-pub fn sites(alloc: Global, stages: &[Declared], expr: &Expr) -> Result<Vec<Site>, AllocError>
+pub fn sites(alloc: Global, stages: &[Symbol], expr: &Expr) -> Result<Vec<Site>, AllocError>
     ensures { IfOk result (λ v. v.items ≡ sites_of stages.now (view expr.now)) }
 {
     let mut found = Vec::new(alloc);

@@ -6,25 +6,25 @@ ghost use Rattle.pipe_tree.specs.Tree.{declaration, declarations};
 ghost use Rattle.pipe_checks.specs.Checking.{DeclaresAgain, IsFirstTwice, NoneTwice};
 ghost use Rattle.pipe_checks.specs.Twice.{own_of, is_declared, are_same, varies_again};
 
-use crate::declared::{Declared, is_same, number_of};
-use crate::uses::Own;
+use crate::symbol::{Symbol, is_same, number_of};
+use crate::uses::Locals;
 use pipe_tokens::Name;
 use pipe_tree::Item;
 
 /// The variables of an item, if it has them.
-pub(crate) fn own_of(item: &Item) -> Own
+pub(crate) fn own_of(item: &Item) -> Locals
     ensures { result ≡ own_of (declaration item.now) }
 {
     match item {
-        Item::Func(func) => Own {
+        Item::Func(func) => Locals {
             row: Some(func.row.name),
             column: Some(func.column.name),
         },
-        Item::Accum(accum) => Own {
+        Item::Accum(accum) => Locals {
             row: Some(accum.row.name),
             column: Some(accum.column.name),
         },
-        Item::Param(_) | Item::Image(_) | Item::Output(_) => Own {
+        Item::Param(_) | Item::Image(_) | Item::Output(_) => Locals {
             row: None,
             column: None,
         },
@@ -32,7 +32,7 @@ pub(crate) fn own_of(item: &Item) -> Own
 }
 
 // Whether the item declares a name that was declared before.
-fn declares_again(names: &[Declared], item: usize) -> bool
+fn declares_again(names: &[Symbol], item: usize) -> bool
     ensures yes { IsTrue result → DeclaresAgain names.now item }
     ensures no { DeclaresAgain names.now item → IsTrue result }
 {
@@ -45,7 +45,7 @@ fn declares_again(names: &[Declared], item: usize) -> bool
 }
 
 // Whether a variable of an item is a declared name.
-fn is_declared(names: &[Declared], variable: &Option<Name>) -> bool
+fn is_declared(names: &[Symbol], variable: &Option<Name>) -> bool
     ensures { result ≡ is_declared names.now variable.now }
 {
     match variable {
@@ -64,7 +64,7 @@ fn are_same(row: &Option<Name>, column: &Option<Name>) -> bool
 }
 
 // Whether a variable equals its fellow or a declared name.
-fn varies_again(names: &[Declared], own: &Own) -> bool
+fn varies_again(names: &[Symbol], own: &Locals) -> bool
     ensures { result ≡ varies_again names.now own.now }
 {
     are_same(&own.row, &own.column)
@@ -73,7 +73,7 @@ fn varies_again(names: &[Declared], own: &Own) -> bool
 }
 
 /// The first item with a name that stands for two things.
-pub(crate) fn first_twice(names: &[Declared], items: &[Item]) -> Option<usize>
+pub(crate) fn first_twice(names: &[Symbol], items: &[Item]) -> Option<usize>
     ensures first { IfSome result (IsFirstTwice names.now (declarations items.now)) }
     ensures none { IfNone result (NoneTwice names.now (declarations items.now)) }
 {

@@ -7,9 +7,9 @@ ghost use Rattle.std.specs.Option.{option_map};
 ghost use Rattle.pipe_tree.specs.Tree.{view, branch, branches, function_of, accumulator_of, declaration};
 ghost use Rattle.pipe_checks.specs.Uses.{is_it, allows, standing_of, standing_at, range_verdict, below_verdict, add_verdict, is_side, kernel_verdict, literal_verdict, name_verdict, factor_verdict, affine_verdict, span_verdict, index_verdict, read_verdict, stencil_verdict, expr_verdict, test_verdict, tests_verdict, branch_verdict, branches_verdict, otherwise_verdict, function_verdict, accumulator_verdict, outputs_verdict, item_verdict};
 
-use crate::declared::{Declared, NameKind, declared_at, is_same};
-use crate::fault::Misuse;
+use crate::fault::Violation;
 use crate::site::width_of;
+use crate::symbol::{NameKind, Symbol, declared_at, is_same};
 use domains::LiteralOp;
 use pipe_tokens::Name;
 use pipe_tree::{
@@ -36,7 +36,7 @@ pub const MAX_SAMPLE: u32 = 65535;
 
 /// What a name stands for in an item.
 #[derive(Clone, Copy, Debug, PartialEq, Eq)]
-pub(crate) enum Standing {
+pub(crate) enum NameRole {
     Param,
     Plane,
     Func,
@@ -47,7 +47,7 @@ pub(crate) enum Standing {
 
 /// What a place wants.
 #[derive(Clone, Copy, Debug, PartialEq, Eq)]
-pub(crate) enum Wanted {
+pub(crate) enum Expected {
     /// A parameter.
     Param,
     /// What may be read: a plane or a function.
@@ -64,28 +64,28 @@ pub(crate) enum Wanted {
     Variable,
 }
 
-impl Wanted {
-    fn allows(self, standing: Standing) -> bool
+impl Expected {
+    fn allows(self, standing: NameRole) -> bool
         ensures { result ≡ allows self standing }
     {
         match self {
-            Wanted::Param => matches!(standing, Standing::Param),
-            Wanted::Readable => matches!(standing, Standing::Plane | Standing::Func),
-            Wanted::Func => matches!(standing, Standing::Func),
-            Wanted::Number => matches!(
+            Expected::Param => matches!(standing, NameRole::Param),
+            Expected::Readable => matches!(standing, NameRole::Plane | NameRole::Func),
+            Expected::Func => matches!(standing, NameRole::Func),
+            Expected::Number => matches!(
                 standing,
-                Standing::Row | Standing::Column | Standing::Param
+                NameRole::Row | NameRole::Column | NameRole::Param
             ),
-            Wanted::Row => matches!(standing, Standing::Row),
-            Wanted::Column => matches!(standing, Standing::Column),
-            Wanted::Variable => matches!(standing, Standing::Row | Standing::Column),
+            Expected::Row => matches!(standing, NameRole::Row),
+            Expected::Column => matches!(standing, NameRole::Column),
+            Expected::Variable => matches!(standing, NameRole::Row | NameRole::Column),
         }
     }
 }
 
 /// The variables of an item, if it has them.
 #[derive(Clone, Copy, Debug)]
-pub(crate) struct Own {
+pub(crate) struct Locals {
     pub row: Option<Name>,
     pub column: Option<Name>,
 }
@@ -99,44 +99,44 @@ fn is_it(variable: &Option<Name>, name: &Name) -> bool
     }
 }
 
-fn standing_of(kind: NameKind) -> Standing
+fn standing_of(kind: NameKind) -> NameRole
     ensures { result ≡ standing_of kind }
 {
     match kind {
-        NameKind::Param => Standing::Param,
-        NameKind::Plane => Standing::Plane,
-        NameKind::Func => Standing::Func,
-        NameKind::Accum => Standing::Accum,
+        NameKind::Param => NameRole::Param,
+        NameKind::Plane => NameRole::Plane,
+        NameKind::Func => NameRole::Func,
+        NameKind::Accum => NameRole::Accum,
     }
 }
 
-fn judge_range(number: u32, least: u32, most: u32) -> Result<(), Misuse>
+fn judge_range(number: u32, least: u32, most: u32) -> Result<(), Violation>
     ensures { result ≡ range_verdict number least most }
 {
     if least <= number && number <= most {
         Ok(())
     } else {
-        Err(Misuse::BadLiteral)
+        Err(Violation::BadLiteral)
     }
 }
 
-fn judge_below(number: u32, bound: u32) -> Result<(), Misuse>
+fn judge_below(number: u32, bound: u32) -> Result<(), Violation>
     ensures { result ≡ below_verdict number bound }
 {
     if number < bound {
         Ok(())
     } else {
-        Err(Misuse::BadLiteral)
+        Err(Violation::BadLiteral)
     }
 }
 
-fn judge_add(number: i32) -> Result<(), Misuse>
+fn judge_add(number: i32) -> Result<(), Violation>
     ensures { result ≡ add_verdict number }
 {
     if -MAX_ADD <= number && number <= MAX_ADD {
         Ok(())
     } else {
-        Err(Misuse::BadLiteral)
+        Err(Violation::BadLiteral)
     }
 }
 
@@ -153,7 +153,7 @@ fn are_long(rows: &[Row], width: usize) -> bool
     rows.iter().all(|row| row.entries().len() == width)
 }
 
-fn judge_kernel(kernel: &Kernel) -> Result<(), Misuse>
+fn judge_kernel(kernel: &Kernel) -> Result<(), Violation>
     ensures { result ≡ kernel_verdict kernel.now }
 {
     let rows = kernel.rows();
@@ -161,11 +161,11 @@ fn judge_kernel(kernel: &Kernel) -> Result<(), Misuse>
     if is_side(rows.len()) && is_side(width) && are_long(rows, width) {
         Ok(())
     } else {
-        Err(Misuse::BadKernel)
+        Err(Violation::BadKernel)
     }
 }
 
-fn judge_literal(op: LiteralOp, number: u32) -> Result<(), Misuse>
+fn judge_literal(op: LiteralOp, number: u32) -> Result<(), Violation>
     ensures { result ≡ literal_verdict op number }
 {
     match op {
@@ -174,14 +174,14 @@ fn judge_literal(op: LiteralOp, number: u32) -> Result<(), Misuse>
     }
 }
 
-fn standing_at(names: &[Declared], own: &Own, name: &Name) -> Option<Standing>
+fn standing_at(names: &[Symbol], own: &Locals, name: &Name) -> Option<NameRole>
     ensures { result ≡ standing_at names.now own.now name.now }
 {
     if is_it(&own.row, name) {
-        return Some(Standing::Row);
+        return Some(NameRole::Row);
     }
     if is_it(&own.column, name) {
-        return Some(Standing::Column);
+        return Some(NameRole::Column);
     }
     match declared_at(names, name) {
         Some(declared) => Some(standing_of(declared.kind)),
@@ -189,7 +189,12 @@ fn standing_at(names: &[Declared], own: &Own, name: &Name) -> Option<Standing>
     }
 }
 
-fn judge_name(names: &[Declared], own: &Own, name: &Name, wanted: Wanted) -> Result<(), Misuse>
+fn judge_name(
+    names: &[Symbol],
+    own: &Locals,
+    name: &Name,
+    wanted: Expected,
+) -> Result<(), Violation>
     ensures { result ≡ name_verdict names.now own.now name.now wanted }
 {
     match standing_at(names, own, name) {
@@ -197,23 +202,23 @@ fn judge_name(names: &[Declared], own: &Own, name: &Name, wanted: Wanted) -> Res
             if wanted.allows(standing) {
                 Ok(())
             } else {
-                Err(Misuse::Kind)
+                Err(Violation::Kind)
             }
         }
-        None => Err(Misuse::Unknown),
+        None => Err(Violation::Unknown),
     }
 }
 
-fn judge_factor(names: &[Declared], own: &Own, name: &Option<Name>) -> Result<(), Misuse>
+fn judge_factor(names: &[Symbol], own: &Locals, name: &Option<Name>) -> Result<(), Violation>
     ensures { result ≡ factor_verdict names.now own.now name.now }
 {
     match name {
-        Some(name) => judge_name(names, own, name, Wanted::Param),
+        Some(name) => judge_name(names, own, name, Expected::Param),
         None => Ok(()),
     }
 }
 
-fn judge_affine(names: &[Declared], own: &Own, affine: &Affine) -> Result<(), Misuse>
+fn judge_affine(names: &[Symbol], own: &Locals, affine: &Affine) -> Result<(), Violation>
     ensures { result ≡ affine_verdict names.now own.now affine.now }
 {
     for term in affine.terms() {
@@ -222,14 +227,19 @@ fn judge_affine(names: &[Declared], own: &Own, affine: &Affine) -> Result<(), Mi
     Ok(())
 }
 
-fn judge_span(names: &[Declared], own: &Own, span: &AffineSpan) -> Result<(), Misuse>
+fn judge_span(names: &[Symbol], own: &Locals, span: &AffineSpan) -> Result<(), Violation>
     ensures { result ≡ span_verdict names.now own.now span.now }
 {
     judge_affine(names, own, &span.first)?;
     judge_affine(names, own, &span.last)
 }
 
-fn judge_index(names: &[Declared], own: &Own, index: &Index, wanted: Wanted) -> Result<(), Misuse>
+fn judge_index(
+    names: &[Symbol],
+    own: &Locals,
+    index: &Index,
+    wanted: Expected,
+) -> Result<(), Violation>
     ensures { result ≡ index_verdict names.now own.now index.now wanted }
 {
     judge_range(index.mul, 1, MAX_SCALE)?;
@@ -239,39 +249,39 @@ fn judge_index(names: &[Declared], own: &Own, index: &Index, wanted: Wanted) -> 
 }
 
 fn judge_read(
-    names: &[Declared],
-    own: &Own,
+    names: &[Symbol],
+    own: &Locals,
     name: &Name,
     row: &Index,
     column: &Index,
-) -> Result<(), Misuse>
+) -> Result<(), Violation>
     ensures { result ≡ read_verdict names.now own.now name.now row.now column.now }
 {
-    judge_name(names, own, name, Wanted::Readable)?;
-    judge_index(names, own, row, Wanted::Row)?;
-    judge_index(names, own, column, Wanted::Column)
+    judge_name(names, own, name, Expected::Readable)?;
+    judge_index(names, own, row, Expected::Row)?;
+    judge_index(names, own, column, Expected::Column)
 }
 
 fn judge_stencil(
-    names: &[Declared],
-    own: &Own,
+    names: &[Symbol],
+    own: &Locals,
     name: &Name,
     divisor: u32,
     kernel: &Kernel,
-) -> Result<(), Misuse>
+) -> Result<(), Violation>
     ensures { result ≡ stencil_verdict names.now own.now name.now divisor kernel.now }
 {
-    judge_name(names, own, name, Wanted::Readable)?;
+    judge_name(names, own, name, Expected::Readable)?;
     judge_range(divisor, 1, MAX_NUMBER)?;
     judge_kernel(kernel)
 }
 
-fn judge_expr(names: &[Declared], own: &Own, expr: &Expr) -> Result<(), Misuse>
+fn judge_expr(names: &[Symbol], own: &Locals, expr: &Expr) -> Result<(), Violation>
     ensures { result ≡ expr_verdict names.now own.now (view expr.now) }
 {
     match expr {
         Expr::Number(number) => judge_range(*number, 0, MAX_NUMBER),
-        Expr::Name(name) => judge_name(names, own, name, Wanted::Number),
+        Expr::Name(name) => judge_name(names, own, name, Expected::Number),
         Expr::Read(name, row, column) => judge_read(names, own, name, row, column),
         Expr::Neg(operand) | Expr::Abs(operand) => judge_expr(names, own, operand),
         Expr::Binary(_, left, right) => {
@@ -297,23 +307,23 @@ fn judge_expr(names: &[Declared], own: &Own, expr: &Expr) -> Result<(), Misuse>
     }
 }
 
-fn judge_test(names: &[Declared], own: &Own, test: &Test) -> Result<(), Misuse>
+fn judge_test(names: &[Symbol], own: &Locals, test: &Test) -> Result<(), Violation>
     ensures { result ≡ test_verdict names.now own.now test.now }
 {
     match test {
         Test::Compare(name, _, bound) => {
-            judge_name(names, own, name, Wanted::Variable)?;
+            judge_name(names, own, name, Expected::Variable)?;
             judge_affine(names, own, bound)
         }
         Test::Remainder(name, modulus, remainder) => {
-            judge_name(names, own, name, Wanted::Variable)?;
+            judge_name(names, own, name, Expected::Variable)?;
             judge_range(*modulus, 1, MAX_NUMBER)?;
             judge_below(*remainder, *modulus)
         }
     }
 }
 
-fn judge_tests(names: &[Declared], own: &Own, tests: &[Test]) -> Result<(), Misuse>
+fn judge_tests(names: &[Symbol], own: &Locals, tests: &[Test]) -> Result<(), Violation>
     ensures { result ≡ tests_verdict names.now own.now tests.now }
 {
     for test in tests {
@@ -322,14 +332,14 @@ fn judge_tests(names: &[Declared], own: &Own, tests: &[Test]) -> Result<(), Misu
     Ok(())
 }
 
-fn judge_case(names: &[Declared], own: &Own, case: &Case) -> Result<(), Misuse>
+fn judge_case(names: &[Symbol], own: &Locals, case: &Case) -> Result<(), Violation>
     ensures { result ≡ branch_verdict names.now own.now (branch case.now) }
 {
     judge_tests(names, own, case.condition.tests())?;
     judge_expr(names, own, &case.value)
 }
 
-fn judge_cases(names: &[Declared], own: &Own, cases: &[Case]) -> Result<(), Misuse>
+fn judge_cases(names: &[Symbol], own: &Locals, cases: &[Case]) -> Result<(), Violation>
     ensures { result ≡ branches_verdict names.now own.now (branches cases.now) }
 {
     for case in cases {
@@ -338,7 +348,11 @@ fn judge_cases(names: &[Declared], own: &Own, cases: &[Case]) -> Result<(), Misu
     Ok(())
 }
 
-fn judge_otherwise(names: &[Declared], own: &Own, otherwise: &Option<Expr>) -> Result<(), Misuse>
+fn judge_otherwise(
+    names: &[Symbol],
+    own: &Locals,
+    otherwise: &Option<Expr>,
+) -> Result<(), Violation>
     ensures { result ≡ otherwise_verdict names.now own.now (option_map view otherwise.now) }
 {
     match otherwise {
@@ -347,7 +361,7 @@ fn judge_otherwise(names: &[Declared], own: &Own, otherwise: &Option<Expr>) -> R
     }
 }
 
-fn judge_func(names: &[Declared], own: &Own, func: &Func) -> Result<(), Misuse>
+fn judge_func(names: &[Symbol], own: &Locals, func: &Func) -> Result<(), Violation>
     ensures { result ≡ function_verdict names.now own.now (function_of func.now) }
 {
     judge_span(names, own, &func.row.span)?;
@@ -356,7 +370,7 @@ fn judge_func(names: &[Declared], own: &Own, func: &Func) -> Result<(), Misuse>
     judge_otherwise(names, own, &func.otherwise)
 }
 
-fn judge_accum(names: &[Declared], own: &Own, accum: &Accum) -> Result<(), Misuse>
+fn judge_accum(names: &[Symbol], own: &Locals, accum: &Accum) -> Result<(), Violation>
     ensures { result ≡ accumulator_verdict names.now own.now (accumulator_of accum.now) }
 {
     judge_span(names, own, &accum.bins)?;
@@ -366,21 +380,21 @@ fn judge_accum(names: &[Declared], own: &Own, accum: &Accum) -> Result<(), Misus
     judge_expr(names, own, &accum.bin)
 }
 
-fn judge_outputs(names: &[Declared], own: &Own, outputs: &Names) -> Result<(), Misuse>
+fn judge_outputs(names: &[Symbol], own: &Locals, outputs: &Names) -> Result<(), Violation>
     ensures { result ≡ outputs_verdict names.now own.now outputs.now }
 {
     match outputs {
-        Names::One(name) => judge_name(names, own, name, Wanted::Func),
+        Names::One(name) => judge_name(names, own, name, Expected::Func),
         Names::Three(red, green, blue) => {
-            judge_name(names, own, red, Wanted::Func)?;
-            judge_name(names, own, green, Wanted::Func)?;
-            judge_name(names, own, blue, Wanted::Func)
+            judge_name(names, own, red, Expected::Func)?;
+            judge_name(names, own, green, Expected::Func)?;
+            judge_name(names, own, blue, Expected::Func)
         }
     }
 }
 
 /// The first place of the item that does not hold what it wants, as a fault.
-pub(crate) fn judge_item(names: &[Declared], own: &Own, item: &Item) -> Result<(), Misuse>
+pub(crate) fn judge_item(names: &[Symbol], own: &Locals, item: &Item) -> Result<(), Violation>
     ensures { result ≡ item_verdict names.now own.now (declaration item.now) }
 {
     match item {

@@ -4,8 +4,8 @@ use Rattle.std.specs.List.{flat_map}
 use Rattle.std.proofs.lemmas.Bool.Decides.{eqb_tells}
 use Rattle.std.proofs.lemmas.List.{append-nil}
 use Rattle.pipe_tokens.specs.declared.token.Token.{Token}
-use Rattle.pipe_tokens.specs.declared.token.Mark.TheVariants as mark
-use Rattle.pipe_tokens.specs.declared.token.Word.TheVariants as word
+use Rattle.pipe_tokens.specs.declared.token.Punct.TheVariants as mark
+use Rattle.pipe_tokens.specs.declared.token.Keyword.TheVariants as word
 use Rattle.pipe_tree.specs.declared.tree.Term.{Term}
 use Rattle.pipe_tree.specs.declared.tree.AffineSpan.{AffineSpan}
 use Rattle.pipe_tree.specs.declared.tree.Variable.{Variable}

@@ -3,10 +3,10 @@ use Rattle.std.proofs.Common.{◌≡◌, ℕ, zero, suc, ◌≤◌, Bool, true, 
 use Rattle.std.proofs.lemmas.List.{append-nil}
 use Rattle.pipe_tokens.specs.declared.token.Token.{Token}
 use Rattle.pipe_tokens.specs.declared.token.Token.TheVariants as token
-use Rattle.pipe_tokens.specs.declared.token.Mark.{Mark}
-use Rattle.pipe_tokens.specs.declared.token.Mark.TheVariants as mark
-use Rattle.pipe_tokens.specs.declared.token.Word.{Word}
-use Rattle.pipe_tokens.specs.declared.token.Word.TheVariants as word
+use Rattle.pipe_tokens.specs.declared.token.Punct.{Punct}
+use Rattle.pipe_tokens.specs.declared.token.Punct.TheVariants as mark
+use Rattle.pipe_tokens.specs.declared.token.Keyword.{Keyword}
+use Rattle.pipe_tokens.specs.declared.token.Keyword.TheVariants as word
 use Rattle.domains.specs.declared.operators.BinaryOp.{BinaryOp}
 use Rattle.domains.specs.declared.operators.BinaryOp.TheVariants.{Mul, Min, Max}
 use Rattle.domains.specs.declared.operators.LiteralOp.{LiteralOp}
@@ -59,29 +59,29 @@ one_more {R = R} {T = T} {a = a} {b = b} p q = fused (λ s t h k. turn_last R T 
 -- ---- groups
 
 bracketed : List Tagged → List Tagged
-bracketed text = record { token = token.Mark mark.OpenRound; role = plain } ∷ (text ++ record { token = token.Mark mark.CloseRound; role = plain } ∷ [])
+bracketed text = record { token = token.Punct mark.OpenRound; role = plain } ∷ (text ++ record { token = token.Punct mark.CloseRound; role = plain } ∷ [])
 
 -- parentheses that are left out
 in_brackets : {X : Type 0} {R : Rule X} {v : X} {d : List Token} {text : List Tagged} → Printed R v d text → Printed R v d (bracketed text)
 unfolding bracketed
 in_brackets {text = text} p =
-    let close : Shortens [] (record { token = token.Mark mark.CloseRound; role = plain } ∷ []) = leaves_out (token.Mark mark.CloseRound) [] [] nothing in
+    let close : Shortens [] (record { token = token.Punct mark.CloseRound; role = plain } ∷ []) = leaves_out (token.Punct mark.CloseRound) [] [] nothing in
     record {
       tagged = p.tagged;
       tokens = p.tokens;
       rule = p.rule;
-      shorter = leaves_out (token.Mark mark.OpenRound) p.tagged _ (subst (λ (l : List Tagged). Shortens l (text ++ record { token = token.Mark mark.CloseRound; role = plain } ∷ [])) (append-nil p.tagged) (Shortens-append p.tagged text [] _ p.shorter close));
+      shorter = leaves_out (token.Punct mark.OpenRound) p.tagged _ (subst (λ (l : List Tagged). Shortens l (text ++ record { token = token.Punct mark.CloseRound; role = plain } ∷ [])) (append-nil p.tagged) (Shortens-append p.tagged text [] _ p.shorter close));
     }
 
-mark_again : (m : Mark) → g.mark m plain (record { token = token.Mark m; role = plain } ∷ []) tt
+mark_again : (m : Punct) → g.mark m plain (record { token = token.Punct m; role = plain } ∷ []) tt
 mark_again m = record { text_is = refl; value = refl }
 
 -- parentheses that are kept
 group_printed : (m : ℕ) (e : Node) (d : List Token) (text : List Tagged) → Printed (sums (product (Unary m))) e d text → Printed (Unary (suc m)) e (grouped d) (bracketed text)
 unfolding Unary bracketed
 group_printed m e d text p =
-    let end : Printed (Then (g.mark mark.CloseRound plain) (λ _. Gives e)) e (c.mark mark.CloseRound) (record { token = token.Mark mark.CloseRound; role = plain } ∷ []) = ended (λ (u : Unit {0}). e) (takes (mark_again mark.CloseRound)) in
-    let inner : Printed (Then (sums (product (Unary m))) (λ a. Then (g.mark mark.CloseRound plain) (λ _. Gives a))) e (d ++ c.mark mark.CloseRound) (text ++ record { token = token.Mark mark.CloseRound; role = plain } ∷ []) = joined {Q = λ a. Then (g.mark mark.CloseRound plain) (λ _. Gives a)} p end in
+    let end : Printed (Then (g.mark mark.CloseRound plain) (λ _. Gives e)) e (c.mark mark.CloseRound) (record { token = token.Punct mark.CloseRound; role = plain } ∷ []) = ended (λ (u : Unit {0}). e) (takes (mark_again mark.CloseRound)) in
+    let inner : Printed (Then (sums (product (Unary m))) (λ a. Then (g.mark mark.CloseRound plain) (λ _. Gives a))) e (d ++ c.mark mark.CloseRound) (text ++ record { token = token.Punct mark.CloseRound; role = plain } ∷ []) = joined {Q = λ a. Then (g.mark mark.CloseRound plain) (λ _. Gives a)} p end in
     let all : Printed (group (sums (product (Unary m)))) e (grouped d) (bracketed text) = joined {Q = λ _. Then (sums (product (Unary m))) (λ a. Then (g.mark mark.CloseRound plain) (λ _. Gives a))} (takes (mark_again mark.OpenRound)) inner in
     becomes (λ t h. inr (inl (inl (inl (inl (inl (inr h))))))) all
 
@@ -127,10 +127,10 @@ record Operand (R : Rule Node) (t : Token) (a b : Node) (text : List Tagged) : T
 
 module _ (n m : ℕ) (each : (text : List Tagged) (e : Node) → Unary n text e → Everywhere (Unary m) e text)
     (above : (text : List Tagged) (e : Node) → Unary n text e → Everywhere (Unary (suc m)) e text) where
-  times_operand : (a b : Node) (text : List Tagged) → Then (Unary n) (λ b. Gives (binary Mul a b)) text b → Operand (Then (Unary m) (λ b. Gives (binary Mul a b))) (token.Mark mark.Star) a b text
+  times_operand : (a b : Node) (text : List Tagged) → Then (Unary n) (λ b. Gives (binary Mul a b)) text b → Operand (Then (Unary m) (λ b. Gives (binary Mul a b))) (token.Punct mark.Star) a b text
   times_operand a b text p =
       let right = (each p.front p.value p.first).operand in
-      subst (λ (b : Node). Operand (Then (Unary m) (λ b. Gives (binary Mul a b))) (token.Mark mark.Star) a b text) (sym p.second.value) (record {
+      subst (λ (b : Node). Operand (Then (Unary m) (λ b. Gives (binary Mul a b))) (token.Punct mark.Star) a b text) (sym p.second.value) (record {
         more = expression_tokens p.value place.Unary;
         printed = ended (λ (b : Node). binary Mul a b) (skip_back p right (gives_dropped p.second));
         factor = refl;
@@ -138,9 +138,9 @@ module _ (n m : ℕ) (each : (text : List Tagged) (e : Node) → Unary n text e 
         operand = refl;
       })
 
-  literal_operand : (op : LiteralOp) (a b : Node) (text : List Tagged) → Then (g.int plain) (λ k. Gives (literal op a k)) text b → Operand (Then (g.int plain) (λ k. Gives (literal op a k))) (token.Mark (literal_mark op)) a b text
+  literal_operand : (op : LiteralOp) (a b : Node) (text : List Tagged) → Then (g.int plain) (λ k. Gives (literal op a k)) text b → Operand (Then (g.int plain) (λ k. Gives (literal op a k))) (token.Punct (literal_mark op)) a b text
   literal_operand op a b text p =
-      subst (λ (b : Node). Operand (Then (g.int plain) (λ k. Gives (literal op a k))) (token.Mark (literal_mark op)) a b text) (sym p.second.value) (record {
+      subst (λ (b : Node). Operand (Then (g.int plain) (λ k. Gives (literal op a k))) (token.Punct (literal_mark op)) a b text) (sym p.second.value) (record {
         more = c.int p.value;
         printed = ended (λ (k : ℕ). literal op a k) (skip_back p (int_printed p.first) (gives_dropped p.second));
         factor = refl;
@@ -149,11 +149,11 @@ module _ (n m : ℕ) (each : (text : List Tagged) (e : Node) → Unary n text e 
       })
 
   operand_printed : (t : Token) (f : _) → factor_at (Some t) ≡ Some f → (a b : Node) (text : List Tagged) → operand (Unary n) a f text b → Operand (operand (Unary m) a f) t a b text
-  operand_printed (token.Mark mark.Star) f e a b text = subst (λ k. operand (Unary n) a k text b → Operand (operand (Unary m) a k) (token.Mark mark.Star) a b text) (some_is e) (times_operand a b text)
-  operand_printed (token.Mark mark.Slash) f e a b text = subst (λ k. operand (Unary n) a k text b → Operand (operand (Unary m) a k) (token.Mark mark.Slash) a b text) (some_is e) (literal_operand Div a b text)
-  operand_printed (token.Mark mark.Percent) f e a b text = subst (λ k. operand (Unary n) a k text b → Operand (operand (Unary m) a k) (token.Mark mark.Percent) a b text) (some_is e) (literal_operand Rem a b text)
-  operand_printed (token.Mark mark.ShiftLeft) f e a b text = subst (λ k. operand (Unary n) a k text b → Operand (operand (Unary m) a k) (token.Mark mark.ShiftLeft) a b text) (some_is e) (literal_operand Shl a b text)
-  operand_printed (token.Mark mark.ShiftRight) f e a b text = subst (λ k. operand (Unary n) a k text b → Operand (operand (Unary m) a k) (token.Mark mark.ShiftRight) a b text) (some_is e) (literal_operand Shr a b text)
+  operand_printed (token.Punct mark.Star) f e a b text = subst (λ k. operand (Unary n) a k text b → Operand (operand (Unary m) a k) (token.Punct mark.Star) a b text) (some_is e) (times_operand a b text)
+  operand_printed (token.Punct mark.Slash) f e a b text = subst (λ k. operand (Unary n) a k text b → Operand (operand (Unary m) a k) (token.Punct mark.Slash) a b text) (some_is e) (literal_operand Div a b text)
+  operand_printed (token.Punct mark.Percent) f e a b text = subst (λ k. operand (Unary n) a k text b → Operand (operand (Unary m) a k) (token.Punct mark.Percent) a b text) (some_is e) (literal_operand Rem a b text)
+  operand_printed (token.Punct mark.ShiftLeft) f e a b text = subst (λ k. operand (Unary n) a k text b → Operand (operand (Unary m) a k) (token.Punct mark.ShiftLeft) a b text) (some_is e) (literal_operand Shl a b text)
+  operand_printed (token.Punct mark.ShiftRight) f e a b text = subst (λ k. operand (Unary n) a k text b → Operand (operand (Unary m) a k) (token.Punct mark.ShiftRight) a b text) (some_is e) (literal_operand Shr a b text)
   operand_printed _ f e a b text = λ p. absurd cc
 
   -- of a product of a
@@ -243,7 +243,7 @@ module _ (U E V F : Rule Node) (unary : (text : List Tagged) (e : Node) → U te
       relabel (ap (λ (l : List Token). c.mark mark.Minus ++ l) (append-nil _) ∙ ap (λ (e : Node). expression_tokens e p) (sym p2.second.value))
       (rechain p1 (takes p1.first) (rechain p2 (unary p2.front p2.value p2.first) (gives p2.second)))
 
-  pair_printed : (w : Word) (op : BinaryOp) (p : Place) → ((a b : Node) → c.word w ⌢ c.mark mark.OpenRound ⌢ expression_tokens a place.Sum ⌢ c.mark mark.Comma ⌢ expression_tokens b place.Sum ⌢ c.mark mark.CloseRound ≡ expression_tokens (binary op a b) p)
+  pair_printed : (w : Keyword) (op : BinaryOp) (p : Place) → ((a b : Node) → c.word w ⌢ c.mark mark.OpenRound ⌢ expression_tokens a place.Sum ⌢ c.mark mark.Comma ⌢ expression_tokens b place.Sum ⌢ c.mark mark.CloseRound ≡ expression_tokens (binary op a b) p)
       → (text : List Tagged) (e : Node) → pair w op E text e → Printed (pair w op F) e (expression_tokens e p) text
   pair_printed w op p tokens text e p1 =
       let p2 = p1.second in
@@ -299,9 +299,9 @@ unfolding bracketed
 bracketed_is n text e p =
     let q = p.second in
     let r = q.second in
-    let close : Tagged = record { token = token.Mark mark.CloseRound; role = plain } in
+    let close : Tagged = record { token = token.Punct mark.CloseRound; role = plain } in
     let end : q.back ≡ close ∷ [] = r.parts ∙ ap (λ (l : List Tagged). l ++ r.back) r.first.text_is ∙ ap (λ (l : List Tagged). close ∷ l) r.second.empty in
-    p.parts ∙ ap (λ (l : List Tagged). l ++ p.back) p.first.text_is ∙ ap (λ (l : List Tagged). record { token = token.Mark mark.OpenRound; role = plain } ∷ l) (q.parts ∙ ap (λ (l : List Tagged). q.front ++ l) end)
+    p.parts ∙ ap (λ (l : List Tagged). l ++ p.back) p.first.text_is ∙ ap (λ (l : List Tagged). record { token = token.Punct mark.OpenRound; role = plain } ∷ l) (q.parts ∙ ap (λ (l : List Tagged). q.front ++ l) end)
 
 module _ (n : ℕ) (each : UnaryFits n) (m : ℕ) (low : n ≤ m) where
   operand_at : (text : List Tagged) (e : Node) → Unary n text e → Printed (Unary m) e (expression_tokens e place.Unary) text

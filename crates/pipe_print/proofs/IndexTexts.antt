@@ -5,7 +5,7 @@ use Rattle.std.proofs.lemmas.Bool.Decides.{eqb_tells}
 use Rattle.std.proofs.lemmas.List.{append-nil}
 use Rattle.pipe_tokens.specs.declared.token.Token.{Token}
 use Rattle.pipe_tokens.specs.declared.token.Token.TheVariants as token
-use Rattle.pipe_tokens.specs.declared.token.Mark.TheVariants as mark
+use Rattle.pipe_tokens.specs.declared.token.Punct.TheVariants as mark
 use Rattle.pipe_tree.specs.declared.tree.Index.{Index}
 use Rattle.pipe_tree.specs.Limits.{Tagged, plain}
 use Rattle.pipe_tree.specs.Tree.{Node}
@@ -112,8 +112,8 @@ shifted_and_divided : (f : ℕ × List ℕ) (k : ℤ) (d : ℕ) → is_zero k �
     → grouped (scaled_tokens f.0 f.1 ⌢ addend_tokens k) ++ (c.mark mark.Slash ⌢ c.int d) ≡ index_tokens (an_index f k d)
 shifted_and_divided f k d z e = rw (z, e) refl
 
-grouped_behind : (a b rest : List Token) → token.Mark mark.OpenRound ∷ (a ++ (b ++ token.Mark mark.CloseRound ∷ rest)) ≡ grouped (a ++ b) ++ rest
-grouped_behind a b rest = ap (λ (l : List Token). token.Mark mark.OpenRound ∷ l) (sym (append_assoc a b (token.Mark mark.CloseRound ∷ rest)) ∙ sym (append_assoc (a ++ b) (c.mark mark.CloseRound) rest))
+grouped_behind : (a b rest : List Token) → token.Punct mark.OpenRound ∷ (a ++ (b ++ token.Punct mark.CloseRound ∷ rest)) ≡ grouped (a ++ b) ++ rest
+grouped_behind a b rest = ap (λ (l : List Token). token.Punct mark.OpenRound ∷ l) (sym (append_assoc a b (token.Punct mark.CloseRound ∷ rest)) ∙ sym (append_assoc (a ++ b) (c.mark mark.CloseRound) rest))
 
 zero_or_not : (k : ℤ) → (k ≡ pos 0) ⊎ (is_zero k ≡ false)
 zero_or_not (pos zero) = inl refl
@@ -216,7 +216,7 @@ row_printed text entries p =
     let q = p.second in
     let r = q.second in
     relabel (ap row_tokens (sym r.second.value))
-    (chain p (takes p.first) (chain q (separated_printed (token.Mark mark.Comma) entry entry_tokens entry_printed q.front q.value q.first) (chain r (takes r.first) (gives r.second))))
+    (chain p (takes p.first) (chain q (separated_printed (token.Punct mark.Comma) entry entry_tokens entry_printed q.front q.value q.first) (chain r (takes r.first) (gives r.second))))
 
 kernel_printed : (text : List Tagged) (rows : List (List ℤ)) → kernel text rows → Printed kernel rows (kernel_tokens rows) text
 unfolding kernel
@@ -224,7 +224,7 @@ kernel_printed text rows p =
     let q = p.second in
     let r = q.second in
     relabel (ap kernel_tokens (sym r.second.value))
-    (chain p (takes p.first) (chain q (separated_printed (token.Mark mark.Comma) row row_tokens row_printed q.front q.value q.first) (chain r (takes r.first) (gives r.second))))
+    (chain p (takes p.first) (chain q (separated_printed (token.Punct mark.Comma) row row_tokens row_printed q.front q.value q.first) (chain r (takes r.first) (gives r.second))))
 
 pub stencil_printed : (place : Place) (text : List Tagged) (e : Node) → a_stencil text e → Printed a_stencil e (expression_tokens e place) text
 stencil_printed place text e p1 =

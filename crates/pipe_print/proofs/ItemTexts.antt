@@ -4,7 +4,7 @@ use Rattle.std.specs.List.{flat_map}
 use Rattle.std.proofs.lemmas.List.{append-nil}
 use Rattle.pipe_tokens.specs.declared.token.Token.{Token}
 use Rattle.pipe_tokens.specs.declared.token.Token.TheVariants as token
-use Rattle.pipe_tokens.specs.declared.token.Word.TheVariants as word
+use Rattle.pipe_tokens.specs.declared.token.Keyword.TheVariants as word
 use Rattle.pipe_tree.specs.declared.tree.Test.{Test}
 use Rattle.pipe_tree.specs.declared.tree.Names.{Names}
 use Rattle.pipe_tree.specs.declared.tree.Param.{Param}
@@ -94,7 +94,7 @@ test_printed text t p = elim p.second [
 
 condition_printed : (text : List Tagged) (tests : List Test) → condition text tests → Printed condition tests (condition_tokens tests) text
 unfolding condition
-condition_printed text tests p = separated_printed (token.Word word.And) a_test test_tokens test_printed text tests p
+condition_printed text tests p = separated_printed (token.Keyword word.And) a_test test_tokens test_printed text tests p
 
 -- ---- items with expressions
 

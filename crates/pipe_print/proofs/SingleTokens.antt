@@ -2,8 +2,8 @@
 use Rattle.std.proofs.Common.{◌≡◌, ℕ, Bool, true, false, List, [], ◌∷◌, Option, Some, refl, sym, ap, subst, inl, inr}
 use Rattle.pipe_tokens.specs.declared.token.Token.{Token}
 use Rattle.pipe_tokens.specs.declared.token.Token.TheVariants as token
-use Rattle.pipe_tokens.specs.declared.token.Mark.TheVariants as mark
-use Rattle.pipe_tokens.specs.declared.token.Word.TheVariants as word
+use Rattle.pipe_tokens.specs.declared.token.Punct.TheVariants as mark
+use Rattle.pipe_tokens.specs.declared.token.Keyword.TheVariants as word
 use Rattle.domains.specs.declared.operators.Relation.{Relation}
 use Rattle.domains.specs.declared.operators.Fold.{Fold}
 use Rattle.pipe_tree.specs.Limits.{Tagged, plain}
@@ -30,20 +30,20 @@ means_name (token.Name y) x e = let same : y ≡ x = cc in ap (λ (z : List ℕ)
 means_name _ x e = absurd cc
 
 means_sign : (t : Token) (negative : Bool) → sign_at (Some t) ≡ Some negative → t ∷ [] ≡ c.sign_tokens negative
-means_sign (token.Mark mark.Plus) negative e = let same : false ≡ negative = cc in ap c.sign_tokens same
-means_sign (token.Mark mark.Minus) negative e = let same : true ≡ negative = cc in ap c.sign_tokens same
+means_sign (token.Punct mark.Plus) negative e = let same : false ≡ negative = cc in ap c.sign_tokens same
+means_sign (token.Punct mark.Minus) negative e = let same : true ≡ negative = cc in ap c.sign_tokens same
 means_sign _ negative e = absurd cc
 
 means_relation : (t : Token) (r : Relation) → relation_at (Some t) ≡ Some r → t ∷ [] ≡ c.mark (c.relation_mark r)
-means_relation (token.Mark mark.AtMost) r e = ap (λ (r : Relation). c.mark (c.relation_mark r)) (some_is e)
-means_relation (token.Mark mark.AtLeast) r e = ap (λ (r : Relation). c.mark (c.relation_mark r)) (some_is e)
-means_relation (token.Mark mark.Equals) r e = ap (λ (r : Relation). c.mark (c.relation_mark r)) (some_is e)
+means_relation (token.Punct mark.AtMost) r e = ap (λ (r : Relation). c.mark (c.relation_mark r)) (some_is e)
+means_relation (token.Punct mark.AtLeast) r e = ap (λ (r : Relation). c.mark (c.relation_mark r)) (some_is e)
+means_relation (token.Punct mark.Equals) r e = ap (λ (r : Relation). c.mark (c.relation_mark r)) (some_is e)
 means_relation _ r e = absurd cc
 
 means_fold : (t : Token) (f : Fold) → fold_at (Some t) ≡ Some f → t ∷ [] ≡ c.word (c.fold_word f)
-means_fold (token.Word word.Sum) f e = ap (λ (f : Fold). c.word (c.fold_word f)) (some_is e)
-means_fold (token.Word word.Min) f e = ap (λ (f : Fold). c.word (c.fold_word f)) (some_is e)
-means_fold (token.Word word.Max) f e = ap (λ (f : Fold). c.word (c.fold_word f)) (some_is e)
+means_fold (token.Keyword word.Sum) f e = ap (λ (f : Fold). c.word (c.fold_word f)) (some_is e)
+means_fold (token.Keyword word.Min) f e = ap (λ (f : Fold). c.word (c.fold_word f)) (some_is e)
+means_fold (token.Keyword word.Max) f e = ap (λ (f : Fold). c.word (c.fold_word f)) (some_is e)
 means_fold _ f e = absurd cc
 
 pub name_printed : {role : _} {text : List Tagged} {x : List ℕ} → g.name role text x → Printed (g.name role) x (c.name x) text

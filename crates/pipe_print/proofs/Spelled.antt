@@ -66,8 +66,8 @@ tokens_kept _ _ (puts_zero t few many big s) counts c h = big_counted counts t m
 
 -- what a text has and its limits let through has a spelling
 has_spelling : (t : Token) → fits t ≡ true → IsReadable t → HasSpelling t
-has_spelling (token.Word w) e h = h
-has_spelling (token.Mark m) e h = h
+has_spelling (token.Keyword w) e h = h
+has_spelling (token.Punct m) e h = h
 has_spelling (token.Name x) e h = h
 has_spelling (token.Int n) e h = h
 has_spelling token.TooBig e h = absurd cc

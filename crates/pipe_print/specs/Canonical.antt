@@ -4,10 +4,10 @@ use Rattle.std.specs.Prelude.{ℕ, zero, suc, ℤ, pos, negsuc, Bool, true, fals
 use Rattle.std.specs.List.{flat_map}
 use Rattle.pipe_tokens.specs.declared.token.Token.{Token}
 use Rattle.pipe_tokens.specs.declared.token.Token.TheVariants as tokens
-use Rattle.pipe_tokens.specs.declared.token.Mark.{Mark}
-use Rattle.pipe_tokens.specs.declared.token.Mark.TheVariants.{OpenRound, CloseRound, OpenSquare, CloseSquare, OpenCurly, CloseCurly, Comma, Semicolon, Colon, Plus, Minus, Star, Slash, Percent, ShiftLeft, ShiftRight, AtMost, AtLeast, Equals, DotDot}
-use Rattle.pipe_tokens.specs.declared.token.Word.{Word}
-use Rattle.pipe_tokens.specs.declared.token.Word.TheVariants as words
+use Rattle.pipe_tokens.specs.declared.token.Punct.{Punct}
+use Rattle.pipe_tokens.specs.declared.token.Punct.TheVariants.{OpenRound, CloseRound, OpenSquare, CloseSquare, OpenCurly, CloseCurly, Comma, Semicolon, Colon, Plus, Minus, Star, Slash, Percent, ShiftLeft, ShiftRight, AtMost, AtLeast, Equals, DotDot}
+use Rattle.pipe_tokens.specs.declared.token.Keyword.{Keyword}
+use Rattle.pipe_tokens.specs.declared.token.Keyword.TheVariants as words
 use Rattle.pipe_tokens.specs.Spelling.{spelling}
 use Rattle.pipe_tree.specs.declared.tree.Term.{Term}
 use Rattle.pipe_tree.specs.declared.tree.Test.{Test}
@@ -38,11 +38,11 @@ infixr 60 ◌⌢◌
 abbrev pub ◌⌢◌ : List Token → List Token → List Token
 front ⌢ back = front ++ back
 
-abbrev pub mark : Mark → List Token
-mark m = tokens.Mark m ∷ []
+abbrev pub mark : Punct → List Token
+mark m = tokens.Punct m ∷ []
 
-abbrev pub word : Word → List Token
-word w = tokens.Word w ∷ []
+abbrev pub word : Keyword → List Token
+word w = tokens.Keyword w ∷ []
 
 abbrev pub name : List ℕ → List Token
 name x = tokens.Name x ∷ []
@@ -142,13 +142,13 @@ stencil_tokens x divisor kernel =
 
 -- ---- expressions
 
-abbrev pub literal_mark : LiteralOp → Mark
+abbrev pub literal_mark : LiteralOp → Punct
 literal_mark Div = Slash
 literal_mark Rem = Percent
 literal_mark Shl = ShiftLeft
 literal_mark Shr = ShiftRight
 
-abbrev pub relation_mark : Relation → Mark
+abbrev pub relation_mark : Relation → Punct
 relation_mark relations.AtMost = AtMost
 relation_mark relations.AtLeast = AtLeast
 relation_mark relations.Equals = Equals
@@ -166,7 +166,7 @@ product_in places.Product ts = ts
 product_in places.Unary ts = grouped ts
 
 -- `min` or `max` of two
-abbrev pub pair_tokens : Word → List Token → List Token → List Token
+abbrev pub pair_tokens : Keyword → List Token → List Token → List Token
 pair_tokens w a b = word w ⌢ mark OpenRound ⌢ a ⌢ mark Comma ⌢ b ⌢ mark CloseRound
 
 abbrev pub expression_tokens : Node → Place → List Token
@@ -214,7 +214,7 @@ abbrev pub otherwise_tokens : Option Node → List Token
 otherwise_tokens None = []
 otherwise_tokens (Some value) = word words.Else ⌢ value_tokens value
 
-abbrev pub fold_word : Fold → Word
+abbrev pub fold_word : Fold → Keyword
 fold_word folds.Sum = words.Sum
 fold_word folds.Min = words.Min
 fold_word folds.Max = words.Max

@@ -5,7 +5,7 @@ ghost use Rattle.std.specs.Prelude.{◌≡◌, ◌++◌, OnOk};
 ghost use Rattle.pipe_print.specs.Canonical.{term_tokens, affine_tokens, span_tokens, variable_tokens};
 
 use crate::printer::Printer;
-use pipe_tokens::{Mark, Word};
+use pipe_tokens::{Keyword, Punct};
 use pipe_tree::{Affine, AffineSpan, Term, Variable};
 use std::alloc::AllocError;
 
@@ -28,7 +28,7 @@ impl Printer {
             return Ok(());
         };
         if first.negative {
-            self.mark(Mark::Minus)?;
+            self.mark(Punct::Minus)?;
         }
         self.term(first)?;
         for term in others {
@@ -41,18 +41,18 @@ impl Printer {
     pub fn span(&mut self, span: &AffineSpan) -> Result<(), AllocError>
         ensures { OnOk result (self.new ≡ self.old ++ span_tokens span.now) }
     {
-        self.mark(Mark::OpenSquare)?;
+        self.mark(Punct::OpenSquare)?;
         self.affine(&span.first)?;
-        self.mark(Mark::DotDot)?;
+        self.mark(Punct::DotDot)?;
         self.affine(&span.last)?;
-        self.mark(Mark::CloseSquare)
+        self.mark(Punct::CloseSquare)
     }
 
     pub fn variable(&mut self, variable: &Variable) -> Result<(), AllocError>
         ensures { OnOk result (self.new ≡ self.old ++ variable_tokens variable.now) }
     {
         self.name(&variable.name)?;
-        self.word(Word::In)?;
+        self.word(Keyword::In)?;
         self.span(&variable.span)
     }
 }

@@ -8,7 +8,7 @@ ghost use Rattle.pipe_print.specs.Canonical.{mark as mark_tokens, ◌⌢◌, gro
 use crate::place::Place;
 use crate::printer::Printer;
 use domains::{BinaryOp, LiteralOp, Relation};
-use pipe_tokens::{Mark, Word};
+use pipe_tokens::{Keyword, Punct};
 use pipe_tree::Expr;
 use std::alloc::AllocError;
 
@@ -34,24 +34,24 @@ fn is_grouped(e: &Expr, place: Place) -> bool
     }
 }
 
-fn mark_of_literal(op: LiteralOp) -> Mark
+fn mark_of_literal(op: LiteralOp) -> Punct
     ensures { result ≡ literal_mark op }
 {
     match op {
-        LiteralOp::Div => Mark::Slash,
-        LiteralOp::Rem => Mark::Percent,
-        LiteralOp::Shl => Mark::ShiftLeft,
-        LiteralOp::Shr => Mark::ShiftRight,
+        LiteralOp::Div => Punct::Slash,
+        LiteralOp::Rem => Punct::Percent,
+        LiteralOp::Shl => Punct::ShiftLeft,
+        LiteralOp::Shr => Punct::ShiftRight,
     }
 }
 
-fn mark_of_relation(relation: Relation) -> Mark
+fn mark_of_relation(relation: Relation) -> Punct
     ensures { result ≡ relation_mark relation }
 {
     match relation {
-        Relation::AtMost => Mark::AtMost,
-        Relation::AtLeast => Mark::AtLeast,
-        Relation::Equals => Mark::Equals,
+        Relation::AtMost => Punct::AtMost,
+        Relation::AtLeast => Punct::AtLeast,
+        Relation::Equals => Punct::Equals,
     }
 }
 
@@ -68,9 +68,9 @@ impl Printer {
         ensures { OnOk result (self.new ≡ self.old ++ expression_tokens (view e.now) place) }
     {
         if is_grouped(e, place) {
-            self.mark(Mark::OpenRound)?;
+            self.mark(Punct::OpenRound)?;
             self.bare(e)?;
-            self.mark(Mark::CloseRound)
+            self.mark(Punct::CloseRound)
         } else {
             self.bare(e)
         }
@@ -78,7 +78,7 @@ impl Printer {
 
     // A mark, and an expression behind it.
     #[cycle(expression)]
-    fn behind(&mut self, mark: Mark, e: &Expr, place: Place) -> Result<(), AllocError>
+    fn behind(&mut self, mark: Punct, e: &Expr, place: Place) -> Result<(), AllocError>
         ensures { OnOk result (self.new ≡ self.old ++ (mark_tokens mark ⌢ expression_tokens (view e.now) place)) }
     {
         self.mark(mark)?;
@@ -95,7 +95,7 @@ impl Printer {
             Expr::Name(name) => self.name(name),
             Expr::Read(name, row, column) => self.read(name, row, column),
             Expr::Stencil(name, divisor, kernel) => self.stencil(name, *divisor, kernel),
-            Expr::Neg(a) => self.behind(Mark::Minus, a, Place::Unary),
+            Expr::Neg(a) => self.behind(Punct::Minus, a, Place::Unary),
             Expr::Binary(op, a, b) => self.binary(*op, a, b),
             Expr::Literal(op, a, number) => {
                 self.expression(a, Place::Product)?;
@@ -103,24 +103,24 @@ impl Printer {
                 self.int(*number)
             }
             Expr::Abs(a) => {
-                self.word(Word::Abs)?;
-                self.behind(Mark::OpenRound, a, Place::Sum)?;
-                self.mark(Mark::CloseRound)
+                self.word(Keyword::Abs)?;
+                self.behind(Punct::OpenRound, a, Place::Sum)?;
+                self.mark(Punct::CloseRound)
             }
             Expr::Clamp(a, least, greatest) => {
-                self.word(Word::Clamp)?;
-                self.behind(Mark::OpenRound, a, Place::Sum)?;
-                self.behind(Mark::Comma, least, Place::Sum)?;
-                self.behind(Mark::Comma, greatest, Place::Sum)?;
-                self.mark(Mark::CloseRound)
+                self.word(Keyword::Clamp)?;
+                self.behind(Punct::OpenRound, a, Place::Sum)?;
+                self.behind(Punct::Comma, least, Place::Sum)?;
+                self.behind(Punct::Comma, greatest, Place::Sum)?;
+                self.mark(Punct::CloseRound)
             }
             Expr::Select(a, relation, b, then, otherwise) => {
-                self.word(Word::Select)?;
-                self.behind(Mark::OpenRound, a, Place::Sum)?;
+                self.word(Keyword::Select)?;
+                self.behind(Punct::OpenRound, a, Place::Sum)?;
                 self.behind(mark_of_relation(*relation), b, Place::Sum)?;
-                self.behind(Mark::Comma, then, Place::Sum)?;
-                self.behind(Mark::Comma, otherwise, Place::Sum)?;
-                self.mark(Mark::CloseRound)
+                self.behind(Punct::Comma, then, Place::Sum)?;
+                self.behind(Punct::Comma, otherwise, Place::Sum)?;
+                self.mark(Punct::CloseRound)
             }
         }
     }
@@ -132,29 +132,29 @@ impl Printer {
         match op {
             BinaryOp::Add => {
                 self.expression(a, Place::Sum)?;
-                self.behind(Mark::Plus, b, Place::Product)
+                self.behind(Punct::Plus, b, Place::Product)
             }
             BinaryOp::Sub => {
                 self.expression(a, Place::Sum)?;
-                self.behind(Mark::Minus, b, Place::Product)
+                self.behind(Punct::Minus, b, Place::Product)
             }
             BinaryOp::Mul => {
                 self.expression(a, Place::Product)?;
-                self.behind(Mark::Star, b, Place::Unary)
+                self.behind(Punct::Star, b, Place::Unary)
             }
-            BinaryOp::Min => self.pair(Word::Min, a, b),
-            BinaryOp::Max => self.pair(Word::Max, a, b),
+            BinaryOp::Min => self.pair(Keyword::Min, a, b),
+            BinaryOp::Max => self.pair(Keyword::Max, a, b),
         }
     }
 
     // `min` or `max` of two.
     #[cycle(expression)]
-    fn pair(&mut self, word: Word, a: &Expr, b: &Expr) -> Result<(), AllocError>
+    fn pair(&mut self, word: Keyword, a: &Expr, b: &Expr) -> Result<(), AllocError>
         ensures { OnOk result (self.new ≡ self.old ++ pair_tokens word (expression_tokens (view a.now) Place.Sum) (expression_tokens (view b.now) Place.Sum)) }
     {
         self.word(word)?;
-        self.behind(Mark::OpenRound, a, Place::Sum)?;
-        self.behind(Mark::Comma, b, Place::Sum)?;
-        self.mark(Mark::CloseRound)
+        self.behind(Punct::OpenRound, a, Place::Sum)?;
+        self.behind(Punct::Comma, b, Place::Sum)?;
+        self.mark(Punct::CloseRound)
     }
 }

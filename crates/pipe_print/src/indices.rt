@@ -6,7 +6,7 @@ ghost use Rattle.pipe_print.specs.Canonical.{◌⌢◌, separated, scaled_tokens
 ghost use Rattle.pipe_print.specs.Canonical.{mark as mark_tokens};
 
 use crate::printer::Printer;
-use pipe_tokens::{Mark, Name, Word};
+use pipe_tokens::{Keyword, Name, Punct};
 use pipe_tree::{Index, Kernel, Row};
 use std::alloc::AllocError;
 
@@ -29,7 +29,7 @@ impl Printer {
         if div == 1 {
             return Ok(());
         }
-        self.mark(Mark::Slash)?;
+        self.mark(Punct::Slash)?;
         self.int(div)
     }
 
@@ -47,9 +47,9 @@ impl Printer {
         if index.add == 0 || index.div == 1 {
             self.shifted(index)?;
         } else {
-            self.mark(Mark::OpenRound)?;
+            self.mark(Punct::OpenRound)?;
             self.shifted(index)?;
-            self.mark(Mark::CloseRound)?;
+            self.mark(Punct::CloseRound)?;
         }
         self.divisor(index.div)
     }
@@ -58,43 +58,43 @@ impl Printer {
         ensures { OnOk result (self.new ≡ self.old ++ read_tokens name.now row.now column.now) }
     {
         self.name(name)?;
-        self.mark(Mark::OpenRound)?;
+        self.mark(Punct::OpenRound)?;
         self.index(row)?;
-        self.mark(Mark::Comma)?;
+        self.mark(Punct::Comma)?;
         self.index(column)?;
-        self.mark(Mark::CloseRound)
+        self.mark(Punct::CloseRound)
     }
 
     pub fn stencil(&mut self, name: &Name, divisor: u32, kernel: &Kernel) -> Result<(), AllocError>
         ensures { OnOk result (self.new ≡ self.old ++ stencil_tokens name.now divisor kernel.now) }
     {
-        self.word(Word::Stencil)?;
-        self.mark(Mark::OpenRound)?;
+        self.word(Keyword::Stencil)?;
+        self.mark(Punct::OpenRound)?;
         self.name(name)?;
-        self.mark(Mark::Comma)?;
+        self.mark(Punct::Comma)?;
         self.int(divisor)?;
-        self.mark(Mark::Comma)?;
+        self.mark(Punct::Comma)?;
         self.kernel(kernel)?;
-        self.mark(Mark::CloseRound)
+        self.mark(Punct::CloseRound)
     }
 
     fn kernel(&mut self, kernel: &Kernel) -> Result<(), AllocError>
         ensures { OnOk result (self.new ≡ self.old ++ kernel_tokens kernel.now) }
     {
-        self.mark(Mark::OpenSquare)?;
+        self.mark(Punct::OpenSquare)?;
         self.rows(kernel.rows())?;
-        self.mark(Mark::CloseSquare)
+        self.mark(Punct::CloseSquare)
     }
 
     fn rows(&mut self, rows: &[Row]) -> Result<(), AllocError>
-        ensures { OnOk result (self.new ≡ self.old ++ separated (mark_tokens Mark.Comma) row_tokens rows.now) }
+        ensures { OnOk result (self.new ≡ self.old ++ separated (mark_tokens Punct.Comma) row_tokens rows.now) }
     {
         let [first, others @ ..] = rows else {
             return Ok(());
         };
         self.row(first)?;
         for row in others {
-            self.mark(Mark::Comma)?;
+            self.mark(Punct::Comma)?;
             self.row(row)?;
         }
         Ok(())
@@ -103,20 +103,20 @@ impl Printer {
     fn row(&mut self, row: &Row) -> Result<(), AllocError>
         ensures { OnOk result (self.new ≡ self.old ++ row_tokens row.now) }
     {
-        self.mark(Mark::OpenSquare)?;
+        self.mark(Punct::OpenSquare)?;
         self.entries(row.entries())?;
-        self.mark(Mark::CloseSquare)
+        self.mark(Punct::CloseSquare)
     }
 
     fn entries(&mut self, entries: &[i32]) -> Result<(), AllocError>
-        ensures { OnOk result (self.new ≡ self.old ++ separated (mark_tokens Mark.Comma) entry_tokens entries.now) }
+        ensures { OnOk result (self.new ≡ self.old ++ separated (mark_tokens Punct.Comma) entry_tokens entries.now) }
     {
         let [first, others @ ..] = entries else {
             return Ok(());
         };
         self.entry(*first)?;
         for entry in others {
-            self.mark(Mark::Comma)?;
+            self.mark(Punct::Comma)?;
             self.entry(*entry)?;
         }
         Ok(())
@@ -126,7 +126,7 @@ impl Printer {
         ensures { OnOk result (self.new ≡ self.old ++ entry_tokens entry) }
     {
         if entry < 0 {
-            self.mark(Mark::Minus)?;
+            self.mark(Punct::Minus)?;
         }
         self.int(entry.unsigned_abs())
     }

@@ -10,19 +10,19 @@ ghost use Rattle.pipe_print.specs.Canonical.{fold_word, param_tokens, names_toke
 use crate::place::Place;
 use crate::printer::Printer;
 use domains::Fold;
-use pipe_tokens::{Mark, Word};
+use pipe_tokens::{Keyword, Punct};
 use pipe_tree::{
     Accum, Case, Condition, Expr, Func, Image, Item, Names, Output, Param, Test, Variable,
 };
 use std::alloc::AllocError;
 
-fn word_of_fold(fold: Fold) -> Word
+fn word_of_fold(fold: Fold) -> Keyword
     ensures { result ≡ fold_word fold }
 {
     match fold {
-        Fold::Sum => Word::Sum,
-        Fold::Min => Word::Min,
-        Fold::Max => Word::Max,
+        Fold::Sum => Keyword::Sum,
+        Fold::Min => Keyword::Min,
+        Fold::Max => Keyword::Max,
     }
 }
 
@@ -30,9 +30,9 @@ impl Printer {
     fn param(&mut self, param: &Param) -> Result<(), AllocError>
         ensures { OnOk result (self.new ≡ self.old ++ param_tokens param.now) }
     {
-        self.word(Word::Param)?;
+        self.word(Keyword::Param)?;
         self.name(&param.name)?;
-        self.mark(Mark::Semicolon)
+        self.mark(Punct::Semicolon)
     }
 
     // One name, or three.
@@ -43,9 +43,9 @@ impl Printer {
             Names::One(name) => self.name(name),
             Names::Three(first, second, third) => {
                 self.name(first)?;
-                self.mark(Mark::Comma)?;
+                self.mark(Punct::Comma)?;
                 self.name(second)?;
-                self.mark(Mark::Comma)?;
+                self.mark(Punct::Comma)?;
                 self.name(third)
             }
         }
@@ -54,25 +54,25 @@ impl Printer {
     fn image(&mut self, image: &Image) -> Result<(), AllocError>
         ensures { OnOk result (self.new ≡ self.old ++ image_tokens image.now) }
     {
-        self.word(Word::Image)?;
+        self.word(Keyword::Image)?;
         self.names(&image.names)?;
-        self.mark(Mark::OpenRound)?;
+        self.mark(Punct::OpenRound)?;
         self.affine(&image.rows)?;
-        self.mark(Mark::Comma)?;
+        self.mark(Punct::Comma)?;
         self.affine(&image.columns)?;
-        self.mark(Mark::CloseRound)?;
-        self.mark(Mark::Semicolon)
+        self.mark(Punct::CloseRound)?;
+        self.mark(Punct::Semicolon)
     }
 
     // The variables of rows and columns.
     fn variables(&mut self, row: &Variable, column: &Variable) -> Result<(), AllocError>
         ensures { OnOk result (self.new ≡ self.old ++ variables_tokens row.now column.now) }
     {
-        self.mark(Mark::OpenRound)?;
+        self.mark(Punct::OpenRound)?;
         self.variable(row)?;
-        self.mark(Mark::Comma)?;
+        self.mark(Punct::Comma)?;
         self.variable(column)?;
-        self.mark(Mark::CloseRound)
+        self.mark(Punct::CloseRound)
     }
 
     fn test(&mut self, test: &Test) -> Result<(), AllocError>
@@ -86,9 +86,9 @@ impl Printer {
             }
             Test::Remainder(name, modulus, remainder) => {
                 self.name(name)?;
-                self.mark(Mark::Percent)?;
+                self.mark(Punct::Percent)?;
                 self.int(*modulus)?;
-                self.mark(Mark::Equals)?;
+                self.mark(Punct::Equals)?;
                 self.int(*remainder)
             }
         }
@@ -102,7 +102,7 @@ impl Printer {
         };
         self.test(first)?;
         for test in others {
-            self.word(Word::And)?;
+            self.word(Keyword::And)?;
             self.test(test)?;
         }
         Ok(())
@@ -112,16 +112,16 @@ impl Printer {
     fn value(&mut self, value: &Expr) -> Result<(), AllocError>
         ensures { OnOk result (self.new ≡ self.old ++ value_tokens (view value.now)) }
     {
-        self.mark(Mark::Colon)?;
+        self.mark(Punct::Colon)?;
         self.expression(value, Place::Sum)?;
-        self.mark(Mark::Semicolon)
+        self.mark(Punct::Semicolon)
     }
 
     fn cases(&mut self, cases: &[Case]) -> Result<(), AllocError>
         ensures { OnOk result (self.new ≡ self.old ++ flat_map case_tokens (branches cases.now)) }
     {
         for case in cases {
-            self.word(Word::Case)?;
+            self.word(Keyword::Case)?;
             self.condition(&case.condition)?;
             self.value(&case.value)?;
         }
@@ -133,7 +133,7 @@ impl Printer {
     {
         match otherwise {
             Some(value) => {
-                self.word(Word::Else)?;
+                self.word(Keyword::Else)?;
                 self.value(value)
             }
             None => Ok(()),
@@ -143,13 +143,13 @@ impl Printer {
     fn func(&mut self, func: &Func) -> Result<(), AllocError>
         ensures { OnOk result (self.new ≡ self.old ++ function_tokens (function_of func.now)) }
     {
-        self.word(Word::Func)?;
+        self.word(Keyword::Func)?;
         self.name(&func.name)?;
         self.variables(&func.row, &func.column)?;
-        self.mark(Mark::OpenCurly)?;
+        self.mark(Punct::OpenCurly)?;
         self.cases(func.cases.list())?;
         self.otherwise(&func.otherwise)?;
-        self.mark(Mark::CloseCurly)
+        self.mark(Punct::CloseCurly)
     }
 
     // What a point gives to its bin, and which bin that is.
@@ -158,18 +158,18 @@ impl Printer {
     {
         self.word(word_of_fold(accum.fold))?;
         self.expression(&accum.value, Place::Sum)?;
-        self.word(Word::At)?;
+        self.word(Keyword::At)?;
         self.expression(&accum.bin, Place::Sum)?;
-        self.mark(Mark::Semicolon)
+        self.mark(Punct::Semicolon)
     }
 
     fn accum(&mut self, accum: &Accum) -> Result<(), AllocError>
         ensures { OnOk result (self.new ≡ self.old ++ accumulator_tokens (accumulator_of accum.now)) }
     {
-        self.word(Word::Accum)?;
+        self.word(Keyword::Accum)?;
         self.name(&accum.name)?;
         self.span(&accum.bins)?;
-        self.word(Word::Over)?;
+        self.word(Keyword::Over)?;
         self.variables(&accum.row, &accum.column)?;
         self.update(accum)
     }
@@ -177,11 +177,11 @@ impl Printer {
     fn output(&mut self, output: &Output) -> Result<(), AllocError>
         ensures { OnOk result (self.new ≡ self.old ++ output_tokens output.now) }
     {
-        self.word(Word::Output)?;
+        self.word(Keyword::Output)?;
         self.names(&output.names)?;
-        self.word(Word::Max)?;
+        self.word(Keyword::Max)?;
         self.int(output.max)?;
-        self.mark(Mark::Semicolon)
+        self.mark(Punct::Semicolon)
     }
 
     pub fn item(&mut self, item: &Item) -> Result<(), AllocError>

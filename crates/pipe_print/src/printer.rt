@@ -5,7 +5,7 @@
 ghost use Rattle.std.specs.Prelude.{◌≡◌, [], ◌∷◌, ◌++◌, OnOk};
 ghost use Rattle.pipe_print.specs.Canonical.{sign_tokens, scaled_tokens};
 
-use pipe_tokens::{Mark, Name, Token, Word};
+use pipe_tokens::{Keyword, Name, Punct, Token};
 use std::alloc::{AllocError, Global};
 use std::marker::Model;
 
@@ -32,17 +32,17 @@ impl Printer {
         }
     }
 
-    pub fn mark(&mut self, mark: Mark) -> Result<(), AllocError>
-        ensures { OnOk result (self.new ≡ self.old ++ Token.Mark mark ∷ []) }
+    pub fn mark(&mut self, mark: Punct) -> Result<(), AllocError>
+        ensures { OnOk result (self.new ≡ self.old ++ Token.Punct mark ∷ []) }
     {
-        self.tokens.push(Token::Mark(mark))?;
+        self.tokens.push(Token::Punct(mark))?;
         Ok(())
     }
 
-    pub fn word(&mut self, word: Word) -> Result<(), AllocError>
-        ensures { OnOk result (self.new ≡ self.old ++ Token.Word word ∷ []) }
+    pub fn word(&mut self, word: Keyword) -> Result<(), AllocError>
+        ensures { OnOk result (self.new ≡ self.old ++ Token.Keyword word ∷ []) }
     {
-        self.tokens.push(Token::Word(word))?;
+        self.tokens.push(Token::Keyword(word))?;
         Ok(())
     }
 
@@ -64,7 +64,7 @@ impl Printer {
     pub fn sign(&mut self, negative: bool) -> Result<(), AllocError>
         ensures { OnOk result (self.new ≡ self.old ++ sign_tokens negative) }
     {
-        self.mark(if negative { Mark::Minus } else { Mark::Plus })
+        self.mark(if negative { Punct::Minus } else { Punct::Plus })
     }
 
     // A factor and the name that it multiplies; the name alone where the factor is 1.
@@ -73,7 +73,7 @@ impl Printer {
     {
         if factor != 1 {
             self.int(factor)?;
-            self.mark(Mark::Star)?;
+            self.mark(Punct::Star)?;
         }
         self.name(name)
     }

@@ -67,13 +67,13 @@ all_digits = same_from_clauses all_ascii_digits (list_all is_ascii_digit) (λ (b
 
 -- a token's bytes, with no letter, digit or `_` behind a word or a number
 pub token_is_piece : (token : Token) (rest : List ℕ) → HasSpelling token → (begins_word token ≡ true → prefix_len is_name_byte rest ≡ 0) → piece_of (bytes_of token ++ rest) ≡ lexeme token (length (bytes_of token))
-token_is_piece (tokens.Word word) rest h stops =
+token_is_piece (tokens.Keyword word) rest h stops =
     identifier_is_piece (bytes_of_word word) rest (word_is_identifier word) (stops refl)
-    ∙ ap (λ (found : Option _). lexeme (unwrap_or (option_map tokens.Word found) (cond (is_name (bytes_of_word word)) (tokens.Name (bytes_of_word word)) tokens.Bad)) (length (bytes_of_word word))) (word_of-bytes_of_word word)
-token_is_piece (tokens.Mark mark) rest h stops = mark_is_piece mark rest
+    ∙ ap (λ (found : Option _). lexeme (unwrap_or (option_map tokens.Keyword found) (cond (is_name (bytes_of_word word)) (tokens.Name (bytes_of_word word)) tokens.Bad)) (length (bytes_of_word word))) (word_of-bytes_of_word word)
+token_is_piece (tokens.Punct mark) rest h stops = mark_is_piece mark rest
 token_is_piece (tokens.Name name) rest h stops =
     identifier_is_piece name rest (and_parts (is_identifier name) (leb (length name) 32) h.0).0 (stops refl)
-    ∙ ap (λ (found : Option _). lexeme (unwrap_or (option_map tokens.Word found) (cond (is_name name) (tokens.Name name) tokens.Bad)) (length name)) h.1
+    ∙ ap (λ (found : Option _). lexeme (unwrap_or (option_map tokens.Keyword found) (cond (is_name name) (tokens.Name name) tokens.Bad)) (length name)) h.1
     ∙ ap (λ (t : Token). lexeme t (length name)) (cond-true (is_name name) (tokens.Name name) tokens.Bad h.0)
 token_is_piece (tokens.Int value) rest h stops =
     let small : value < 2 ^ 64 = omega arith in

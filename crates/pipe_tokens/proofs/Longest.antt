@@ -10,8 +10,8 @@ use Rattle.std.proofs.lemmas.List.{append-nil, take_at}
 use Rattle.std.proofs.lemmas.List.Folds.{length-prefix_len}
 use Rattle.pipe_tokens.specs.declared.token.Token.{Token}
 use Rattle.pipe_tokens.specs.declared.token.Token.TheVariants as tokens
-use Rattle.pipe_tokens.specs.declared.token.Word.{Word}
-use Rattle.pipe_tokens.specs.declared.token.Mark.{Mark}
+use Rattle.pipe_tokens.specs.declared.token.Keyword.{Keyword}
+use Rattle.pipe_tokens.specs.declared.token.Punct.{Punct}
 use Rattle.pipe_tokens.specs.declared.piece.Piece.{Piece}
 use Rattle.pipe_tokens.specs.Character.{is_comment_byte, is_name_byte}
 use Rattle.pipe_tokens.specs.Naming.{is_identifier, is_name}
@@ -72,9 +72,9 @@ abbrev pub IsWord : List ℕ → Type 0
 IsWord front = (is_identifier front ≡ true) ⊎ IsDigits front
 
 -- the tokens that a front can be
-pub kinds_of_token : (other : Token) (front : List ℕ) → Spells other front → IsWord front ⊎ ((m : Mark) × (front ≡ bytes_of_mark m))
-kinds_of_token (tokens.Word word) front h = inl (inl (ap is_identifier h ∙ word_is_identifier word))
-kinds_of_token (tokens.Mark mark) front h = inr (mark, h)
+pub kinds_of_token : (other : Token) (front : List ℕ) → Spells other front → IsWord front ⊎ ((m : Punct) × (front ≡ bytes_of_mark m))
+kinds_of_token (tokens.Keyword word) front h = inl (inl (ap is_identifier h ∙ word_is_identifier word))
+kinds_of_token (tokens.Punct mark) front h = inr (mark, h)
 kinds_of_token (tokens.Name name) front h = inl (inl (ap is_identifier h.1 ∙ named_identifier name h.0.0))
 kinds_of_token (tokens.Int value) front h = inl (inr h.0)
 kinds_of_token tokens.TooBig front h = inl (inr h.0)
@@ -89,12 +89,12 @@ word_in_name front (inr d) = (d.some, run_within is_ascii_digit is_name_byte fro
 within_run : (text : List ℕ) (other : Token) (front back : List ℕ) → 0 < prefix_len is_name_byte text → text ≡ front ++ back → Spells other front → length front ≤ prefix_len is_name_byte text
 within_run text other front back some e h = go (kinds_of_token other front h)
   where
-    go : IsWord front ⊎ ((m : Mark) × (front ≡ bytes_of_mark m)) → length front ≤ prefix_len is_name_byte text
+    go : IsWord front ⊎ ((m : Punct) × (front ≡ bytes_of_mark m)) → length front ≤ prefix_len is_name_byte text
     go (inl word) = omega (arith, front_within is_name_byte front back (word_in_name front word).1, ap (prefix_len is_name_byte) e)
     go (inr m) = absurd (omega (arith, ap (prefix_len is_name_byte) (e ∙ ap (λ (x : List ℕ). x ++ back) m.1), mark_stops m.0 back))
 
 -- a mark that a text begins with is its piece
-same_piece : (text : List ℕ) (m : Mark) (front back : List ℕ) → text ≡ front ++ back → front ≡ bytes_of_mark m → piece_of text ≡ lexeme (tokens.Mark m) (length (bytes_of_mark m))
+same_piece : (text : List ℕ) (m : Punct) (front back : List ℕ) → text ≡ front ++ back → front ≡ bytes_of_mark m → piece_of text ≡ lexeme (tokens.Punct m) (length (bytes_of_mark m))
 same_piece text m front back e is = ap piece_of (e ∙ ap (λ (x : List ℕ). x ++ back) is) ∙ mark_is_piece m back
 
 -- ---- words
@@ -140,8 +140,8 @@ module _ (b : ℕ) (bytes : List ℕ) where
       parts : text ≡ run ++ drop (prefix_len is_name_byte text) text
       parts = sym (take-append-drop (prefix_len is_name_byte text) text)
 
-      go : (found : Option Word) → word_of run ≡ found → Stands (unwrap_or (option_map tokens.Word found) (cond (is_name run) (tokens.Name run) tokens.Bad)) (prefix_len is_name_byte text)
-      go (Some word) is = (λ _. word_longest (tokens.Word word) (prefix_len is_name_byte text) some refl (sym (word_is run word is)), λ fault. absurd cc)
+      go : (found : Option Keyword) → word_of run ≡ found → Stands (unwrap_or (option_map tokens.Keyword found) (cond (is_name run) (tokens.Name run) tokens.Bad)) (prefix_len is_name_byte text)
+      go (Some word) is = (λ _. word_longest (tokens.Keyword word) (prefix_len is_name_byte text) some refl (sym (word_is run word is)), λ fault. absurd cc)
       go None is =
           cond_both (is_name run) (tokens.Name run) tokens.Bad (λ (t : Token). Stands t (prefix_len is_name_byte text))
           (λ short. (λ _. word_longest (tokens.Name run) (prefix_len is_name_byte text) some refl ((short, is), refl), λ fault. absurd cc))
@@ -210,7 +210,7 @@ module _ (b : ℕ) (bytes : List ℕ) where
 
   -- ---- marks
 
-  mark_longest : (m : Mark) → text ≡ bytes_of_mark m ++ drop (length (bytes_of_mark m)) text → IsLongest (tokens.Mark m) (take (length (bytes_of_mark m)) text) (drop (length (bytes_of_mark m)) text)
+  mark_longest : (m : Punct) → text ≡ bytes_of_mark m ++ drop (length (bytes_of_mark m)) text → IsLongest (tokens.Punct m) (take (length (bytes_of_mark m)) text) (drop (length (bytes_of_mark m)) text)
   mark_longest m at =
       let n = length (bytes_of_mark m) in
       let front-is : take n text ≡ bytes_of_mark m = ap (take n) at ∙ take_at (bytes_of_mark m) (drop n text) n refl in
@@ -227,7 +227,7 @@ module _ (b : ℕ) (bytes : List ℕ) where
       no_run : prefix_len is_name_byte text ≡ 0
       no_run = ap (prefix_len is_name_byte) at ∙ mark_stops m (drop (length (bytes_of_mark m)) text)
 
-      within : (other : Token) (front back : List ℕ) → text ≡ front ++ back → IsWord front ⊎ ((k : Mark) × (front ≡ bytes_of_mark k)) → length front ≤ length (bytes_of_mark m)
+      within : (other : Token) (front back : List ℕ) → text ≡ front ++ back → IsWord front ⊎ ((k : Punct) × (front ≡ bytes_of_mark k)) → length front ≤ length (bytes_of_mark m)
       within other front back e (inl word) = absurd (omega (arith, (word_in_name front word).0, front_within is_name_byte front back (word_in_name front word).1, ap (prefix_len is_name_byte) e, no_run))
       within other front back e (inr k) =
           let one = same_piece text m (bytes_of_mark m) (drop (length (bytes_of_mark m)) text) at refl in
@@ -245,10 +245,10 @@ module _ (b : ℕ) (bytes : List ℕ) where
     no_token = λ token front back e h. none front back e (kinds_of_token token front h);
   }
     where
-      none : (front back : List ℕ) → text ≡ front ++ back → IsWord front ⊎ ((k : Mark) × (front ≡ bytes_of_mark k)) → ⊥
+      none : (front back : List ℕ) → text ≡ front ++ back → IsWord front ⊎ ((k : Punct) × (front ≡ bytes_of_mark k)) → ⊥
       none front back e (inr k) =
-          let two : lexeme tokens.Bad 1 ≡ lexeme (tokens.Mark k.0) (length (bytes_of_mark k.0)) = sym bad ∙ same_piece text k.0 front back e k.1 in
-          let token : some_token tokens.Bad ≡ some_token (tokens.Mark k.0) = ap (λ (p : Piece). p.token) two in
+          let two : lexeme tokens.Bad 1 ≡ lexeme (tokens.Punct k.0) (length (bytes_of_mark k.0)) = sym bad ∙ same_piece text k.0 front back e k.1 in
+          let token : some_token tokens.Bad ≡ some_token (tokens.Punct k.0) = ap (λ (p : Piece). p.token) two in
           cc
       none [] back e (inl (inl named)) = absurd cc
       none (c ∷ front) back e (inl (inl named)) =
@@ -265,8 +265,8 @@ module _ (b : ℕ) (bytes : List ℕ) where
   IfStands None n = Unit {0}
   IfStands (Some token) n = Stands token n
 
-  mark_stands_there : IsOther b → (found : Option Mark) → mark_at text ≡ found → piece_of text ≡ unwrap_or (option_map (λ (mark : Mark). lexeme (tokens.Mark mark) (length (bytes_of_mark mark))) found) (lexeme tokens.Bad 1)
-      → (let piece : Piece = unwrap_or (option_map (λ (mark : Mark). lexeme (tokens.Mark mark) (length (bytes_of_mark mark))) found) (lexeme tokens.Bad 1) in IfStands piece.token piece.len)
+  mark_stands_there : IsOther b → (found : Option Punct) → mark_at text ≡ found → piece_of text ≡ unwrap_or (option_map (λ (mark : Punct). lexeme (tokens.Punct mark) (length (bytes_of_mark mark))) found) (lexeme tokens.Bad 1)
+      → (let piece : Piece = unwrap_or (option_map (λ (mark : Punct). lexeme (tokens.Punct mark) (length (bytes_of_mark mark))) found) (lexeme tokens.Bad 1) in IfStands piece.token piece.len)
   mark_stands_there other None e piece = fault_stands tokens.Bad 1 refl (refl, inl (nothing_begins other piece))
   mark_stands_there other (Some m) e piece = (λ _. mark_longest m (mark_stands text m e), λ fault. absurd cc)
 
@@ -290,7 +290,7 @@ module _ (b : ℕ) (bytes : List ℕ) where
   IfGap (Some token) n = Unit {0}
   IfGap None n = (gap rest : List ℕ) → drop n text ≡ gap ++ rest → Gap rest gap → Gap rest (take n text ++ gap)
 
-  mark_no_gap : (found : Option Mark) → (let piece : Piece = unwrap_or (option_map (λ (mark : Mark). lexeme (tokens.Mark mark) (length (bytes_of_mark mark))) found) (lexeme tokens.Bad 1) in IfGap piece.token piece.len)
+  mark_no_gap : (found : Option Punct) → (let piece : Piece = unwrap_or (option_map (λ (mark : Punct). lexeme (tokens.Punct mark) (length (bytes_of_mark mark))) found) (lexeme tokens.Bad 1) in IfGap piece.token piece.len)
   mark_no_gap None = tt
   mark_no_gap (Some m) = tt
 

@@ -11,8 +11,8 @@ use Rattle.std.proofs.lemmas.List.Folds.{length-prefix_len}
 use Rattle.std.proofs.lemmas.List.{length-append, append-nil, drop_at}
 use Rattle.pipe_tokens.specs.declared.token.Token.{Token}
 use Rattle.pipe_tokens.specs.declared.token.Token.TheVariants as tokens
-use Rattle.pipe_tokens.specs.declared.token.Word.{Word}
-use Rattle.pipe_tokens.specs.declared.token.Mark.{Mark}
+use Rattle.pipe_tokens.specs.declared.token.Keyword.{Keyword}
+use Rattle.pipe_tokens.specs.declared.token.Punct.{Punct}
 use Rattle.pipe_tokens.specs.declared.piece.Piece.{Piece}
 use Rattle.pipe_tokens.specs.Character.{is_white, is_comment_byte, is_name_byte}
 use Rattle.pipe_tokens.specs.Naming.{is_identifier, is_name}
@@ -75,14 +75,14 @@ digits_piece_is token bytes rest digits h is =
     digits_are_piece bytes rest digits.some digits.digits (h.parted (first_in_name bytes digits.some (run_within is_ascii_digit is_name_byte bytes digit_in_name digits.digits))) ∙ ap (λ (t : Token). lexeme t (length bytes)) is
 
 pub longest_is_piece : (token : Token) (bytes rest : List ℕ) → IsLongest token bytes rest → piece_of (bytes ++ rest) ≡ lexeme token (length bytes)
-longest_is_piece (tokens.Word word) bytes rest h =
-    word_piece_is (tokens.Word word) bytes rest (ap is_identifier h.spelled ∙ word_is_identifier word) h
-    (ap (λ (found : Option Word). unwrap_or (option_map tokens.Word found) (cond (is_name bytes) (tokens.Name bytes) tokens.Bad)) (ap word_of h.spelled ∙ word_of-bytes_of_word word))
-longest_is_piece (tokens.Mark mark) bytes rest h = ap (λ (x : List ℕ). piece_of (x ++ rest)) h.spelled ∙ mark_is_piece mark rest ∙ ap (λ (x : List ℕ). lexeme (tokens.Mark mark) (length x)) (sym h.spelled)
+longest_is_piece (tokens.Keyword word) bytes rest h =
+    word_piece_is (tokens.Keyword word) bytes rest (ap is_identifier h.spelled ∙ word_is_identifier word) h
+    (ap (λ (found : Option Keyword). unwrap_or (option_map tokens.Keyword found) (cond (is_name bytes) (tokens.Name bytes) tokens.Bad)) (ap word_of h.spelled ∙ word_of-bytes_of_word word))
+longest_is_piece (tokens.Punct mark) bytes rest h = ap (λ (x : List ℕ). piece_of (x ++ rest)) h.spelled ∙ mark_is_piece mark rest ∙ ap (λ (x : List ℕ). lexeme (tokens.Punct mark) (length x)) (sym h.spelled)
 longest_is_piece (tokens.Name name) bytes rest h =
     let named : is_name bytes ≡ true = ap is_name h.spelled.1 ∙ h.spelled.0.0 in
     word_piece_is (tokens.Name name) bytes rest (named_identifier bytes named) h
-    (ap (λ (found : Option Word). unwrap_or (option_map tokens.Word found) (cond (is_name bytes) (tokens.Name bytes) tokens.Bad)) (ap word_of h.spelled.1 ∙ h.spelled.0.1)
+    (ap (λ (found : Option Keyword). unwrap_or (option_map tokens.Keyword found) (cond (is_name bytes) (tokens.Name bytes) tokens.Bad)) (ap word_of h.spelled.1 ∙ h.spelled.0.1)
     ∙ cond-true (is_name bytes) (tokens.Name bytes) tokens.Bad named ∙ ap tokens.Name h.spelled.1)
 longest_is_piece (tokens.Int value) bytes rest h =
     digits_piece_is (tokens.Int value) bytes rest h.spelled.0 h
@@ -106,8 +106,8 @@ other_piece b others no_gap no_hash no_letter no_digit =
 letter_is_token : (b : ℕ) → is_ascii_alphabetic b ≡ true → (t : Token) × Spells t (b ∷ [])
 letter_is_token b e = go (word_of (b ∷ [])) refl
   where
-    go : (found : Option Word) → word_of (b ∷ []) ≡ found → (t : Token) × Spells t (b ∷ [])
-    go (Some word) is = (tokens.Word word, sym (word_is (b ∷ []) word is))
+    go : (found : Option Keyword) → word_of (b ∷ []) ≡ found → (t : Token) × Spells t (b ∷ [])
+    go (Some word) is = (tokens.Keyword word, sym (word_is (b ∷ []) word is))
     go None is = (tokens.Name (b ∷ []), ((ap (λ (x : Bool). (x && true) && true) e, is), refl))
 
 digit_is_token : (b : ℕ) → is_ascii_digit b ≡ true → (t : Token) × Spells t (b ∷ [])
@@ -129,11 +129,11 @@ nothing_is_bad text h =
     let none = no_mark (mark_at (b ∷ others)) refl in
     ap (λ (x : List ℕ). (piece_of x).token) h.parts
     ∙ ap (λ (p : Piece). p.token) (other_piece b others h.no_gap.0 h.no_gap.1 no_letter no_digit ∙ cond-false (leb 128 b) (lexeme tokens.NotAscii 1) (mark_piece (b ∷ others)) (lt-leb 128 b h.ascii))
-    ∙ ap (λ (found : Option Mark). (unwrap_or (option_map (λ (mark : Mark). lexeme (tokens.Mark mark) (length (bytes_of_mark mark))) found) (lexeme tokens.Bad 1)).token) none
+    ∙ ap (λ (found : Option Punct). (unwrap_or (option_map (λ (mark : Punct). lexeme (tokens.Punct mark) (length (bytes_of_mark mark))) found) (lexeme tokens.Bad 1)).token) none
   where
-    no_mark : (found : Option Mark) → mark_at (h.first ∷ h.others) ≡ found → mark_at (h.first ∷ h.others) ≡ None
+    no_mark : (found : Option Punct) → mark_at (h.first ∷ h.others) ≡ found → mark_at (h.first ∷ h.others) ≡ None
     no_mark None e = e
-    no_mark (Some m) e = absurd (h.no_token (tokens.Mark m) (bytes_of_mark m) (drop (length (bytes_of_mark m)) (h.first ∷ h.others)) (h.parts ∙ mark_stands (h.first ∷ h.others) m e) refl)
+    no_mark (Some m) e = absurd (h.no_token (tokens.Punct m) (bytes_of_mark m) (drop (length (bytes_of_mark m)) (h.first ∷ h.others)) (h.parts ∙ mark_stands (h.first ∷ h.others) m e) refl)
 
 long_run_is_bad : (b : ℕ) (bytes : List ℕ) → is_ascii_alphabetic b ≡ true → 32 < prefix_len is_name_byte (b ∷ bytes) → (piece_of (b ∷ bytes)).token ≡ Some tokens.Bad
 unfolding piece_of
@@ -152,7 +152,7 @@ long_run_is_bad b bytes letter long =
     len : length run ≡ prefix_len is_name_byte (b ∷ bytes)
     len = length-prefix_len is_name_byte (b ∷ bytes)
 
-    go : (found : Option Word) → word_of run ≡ found → unwrap_or (option_map tokens.Word found) (cond (is_name run) (tokens.Name run) tokens.Bad) ≡ tokens.Bad
+    go : (found : Option Keyword) → word_of run ≡ found → unwrap_or (option_map tokens.Keyword found) (cond (is_name run) (tokens.Name run) tokens.Bad) ≡ tokens.Bad
     go (Some word) is = absurd (omega (arith, word_short word, ap length (word_is run word is), len, long))
     go None is = cond-false (is_name run) (tokens.Name run) tokens.Bad (and_right (is_identifier run) (leb (length run) 32) (lt-leb (length run) 32 (omega (arith, len, long))))
 
@@ -219,13 +219,13 @@ bad_some text (inr (inr h)) = record { fault = refl; some = omega (arith, ap len
 longest_some : (token : Token) (bytes rest : List ℕ) → IsLongest token bytes rest → 0 < length bytes
 longest_some token bytes rest h = go (kinds_of_token token bytes h.spelled)
   where
-    go : IsWord bytes ⊎ ((m : Mark) × (bytes ≡ bytes_of_mark m)) → 0 < length bytes
+    go : IsWord bytes ⊎ ((m : Punct) × (bytes ≡ bytes_of_mark m)) → 0 < length bytes
     go (inl word) = (word_in_name bytes word).0
     go (inr m) = omega (arith, ap length m.1, mark_len m.0)
 
 stands_is : (token : Token) (bytes rest : List ℕ) → StandsAt token bytes rest → ((is_fault token ≡ false) × IsLongest token bytes rest) ⊎ ((bytes ≡ []) × IsFault token rest)
-stands_is (tokens.Word word) bytes rest h = inl (refl, h)
-stands_is (tokens.Mark mark) bytes rest h = inl (refl, h)
+stands_is (tokens.Keyword word) bytes rest h = inl (refl, h)
+stands_is (tokens.Punct mark) bytes rest h = inl (refl, h)
 stands_is (tokens.Name name) bytes rest h = inl (refl, h)
 stands_is (tokens.Int value) bytes rest h = inl (refl, h)
 stands_is tokens.TooBig bytes rest h = inl (refl, h)

@@ -10,7 +10,7 @@ use Rattle.std.proofs.lemmas.List.{length-append}
 use Rattle.std.proofs.lemmas.List.Sums.{prefix_len-le-length}
 use Rattle.std.proofs.lemmas.Slice.Eq.{starts_is}
 use Rattle.pipe_tokens.specs.declared.token.Token.TheVariants as tokens
-use Rattle.pipe_tokens.specs.declared.token.Mark.{Mark}
+use Rattle.pipe_tokens.specs.declared.token.Punct.{Punct}
 use Rattle.pipe_tokens.specs.declared.piece.Piece.{Piece}
 use Rattle.pipe_tokens.proofs.Symbols.{mark_len}
 use Rattle.pipe_tokens.proofs.Characters.{letter_in_name}
@@ -29,8 +29,8 @@ find_passes {X} p (y ∷ ys) x e =
     e (λ yes. cond-true (p y) (Some y) (find p ys) yes) (λ no. ap (λ (b : Bool). cond b (Some y) (find p ys)) no)
 
 -- a text begins with the mark that is found there
-pub mark_stands : (text : List ℕ) (mark : Mark) → mark_at text ≡ Some mark → text ≡ bytes_of_mark mark ++ drop (length (bytes_of_mark mark)) text
-mark_stands text mark e = (starts_is Decides-eqb text (bytes_of_mark mark) (starts_with nat_eq text (bytes_of_mark mark)) refl).0 (find_passes (λ (m : Mark). starts_with nat_eq text (bytes_of_mark m)) all_marks mark e)
+pub mark_stands : (text : List ℕ) (mark : Punct) → mark_at text ≡ Some mark → text ≡ bytes_of_mark mark ++ drop (length (bytes_of_mark mark)) text
+mark_stands text mark e = (starts_is Decides-eqb text (bytes_of_mark mark) (starts_with nat_eq text (bytes_of_mark mark)) refl).0 (find_passes (λ (m : Punct). starts_with nat_eq text (bytes_of_mark m)) all_marks mark e)
 
 -- a byte at least, and no more than there are
 abbrev pub Fits : List ℕ → Piece → Type 0
@@ -39,8 +39,8 @@ Fits text piece = (0 < piece.len) × (piece.len ≤ length text)
 run_starts : (p : ℕ → Bool) (b : ℕ) (text : List ℕ) → p b ≡ true → 0 < prefix_len p (b ∷ text)
 run_starts p b text e = let run = cond-true (p b) (1 + prefix_len p text) 0 e in omega arith
 
-mark_fits : (text : List ℕ) (found : Option Mark) → mark_at text ≡ found → 0 < length text
-    → Fits text (unwrap_or (option_map (λ (mark : Mark). lexeme (tokens.Mark mark) (length (bytes_of_mark mark))) found) (lexeme tokens.Bad 1))
+mark_fits : (text : List ℕ) (found : Option Punct) → mark_at text ≡ found → 0 < length text
+    → Fits text (unwrap_or (option_map (λ (mark : Punct). lexeme (tokens.Punct mark) (length (bytes_of_mark mark))) found) (lexeme tokens.Bad 1))
 mark_fits text None e some = (omega arith, omega arith)
 mark_fits text (Some mark) e some = (mark_len mark, omega (arith, ap length (mark_stands text mark e), length-append (bytes_of_mark mark) (drop (length (bytes_of_mark mark)) text)))
 

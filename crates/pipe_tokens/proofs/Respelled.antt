@@ -24,8 +24,8 @@ identifier_some [] e = absurd cc
 identifier_some (b ∷ bytes) e = omega arith
 
 pub bytes_some : (token : Token) → HasSpelling token → 0 < length (bytes_of token)
-bytes_some (tokens.Word word) h = identifier_some (bytes_of_word word) (word_is_identifier word)
-bytes_some (tokens.Mark mark) h = mark_len mark
+bytes_some (tokens.Keyword word) h = identifier_some (bytes_of_word word) (word_is_identifier word)
+bytes_some (tokens.Punct mark) h = mark_len mark
 bytes_some (tokens.Name name) h = identifier_some name (and_parts (is_identifier name) _ h.0).0
 bytes_some (tokens.Int value) h = decimal_nonempty value (omega arith)
 bytes_some tokens.TooBig h = absurd h
@@ -33,8 +33,8 @@ bytes_some tokens.Bad h = absurd h
 bytes_some tokens.NotAscii h = absurd h
 
 no_fault : (token : Token) → HasSpelling token → is_fault token ≡ false
-no_fault (tokens.Word word) h = refl
-no_fault (tokens.Mark mark) h = refl
+no_fault (tokens.Keyword word) h = refl
+no_fault (tokens.Punct mark) h = refl
 no_fault (tokens.Name name) h = refl
 no_fault (tokens.Int value) h = refl
 no_fault tokens.TooBig h = absurd h
@@ -45,10 +45,10 @@ no_fault tokens.NotAscii h = absurd h
 behind_stops : (behind_word : Bool) (ts : List Token) → AllByRecursion HasSpelling ts → behind_word ≡ true → prefix_len is_name_byte (blank_behind behind_word ts ++ spelling ts) ≡ 0
 unfolding spelling
 behind_stops behind_word [] h e = refl
-behind_stops behind_word (tokens.Word word ∷ ts) h e = rw e refl
+behind_stops behind_word (tokens.Keyword word ∷ ts) h e = rw e refl
 behind_stops behind_word (tokens.Name name ∷ ts) h e = rw e refl
 behind_stops behind_word (tokens.Int value ∷ ts) h e = rw e refl
-behind_stops behind_word (tokens.Mark mark ∷ ts) h e = rw e (mark_stops mark _)
+behind_stops behind_word (tokens.Punct mark ∷ ts) h e = rw e (mark_stops mark _)
 behind_stops behind_word (tokens.TooBig ∷ ts) h e = absurd h.0
 behind_stops behind_word (tokens.Bad ∷ ts) h e = absurd h.0
 behind_stops behind_word (tokens.NotAscii ∷ ts) h e = absurd h.0

@@ -15,8 +15,8 @@ use Rattle.std.proofs.lemmas.List.Folds.{length-prefix_len}
 use Rattle.std.proofs.lemmas.Slice.Eq.{bytes_eq-Decides}
 use Rattle.pipe_tokens.specs.declared.token.Token.{Token}
 use Rattle.pipe_tokens.specs.declared.token.Token.TheVariants as tokens
-use Rattle.pipe_tokens.specs.declared.token.Word.{Word}
-use Rattle.pipe_tokens.specs.declared.token.Mark.{Mark}
+use Rattle.pipe_tokens.specs.declared.token.Keyword.{Keyword}
+use Rattle.pipe_tokens.specs.declared.token.Punct.{Punct}
 use Rattle.pipe_tokens.specs.declared.piece.Piece.{Piece}
 use Rattle.pipe_tokens.specs.Character.{is_name_byte}
 use Rattle.pipe_tokens.specs.Naming.{is_name}
@@ -42,13 +42,13 @@ IfTaken text None len = Unit {0}
 IfTaken text (Some token) len = Taken text token len
 
 -- the reserved word that bytes are
-pub word_is : (bytes : List ℕ) (word : Word) → word_of bytes ≡ Some word → bytes_of_word word ≡ bytes
-word_is bytes word e = (bytes_eq-Decides (bytes_of_word word) bytes).0 (find_passes (λ (w : Word). bytes_eq (bytes_of_word w) bytes) all_words word e)
+pub word_is : (bytes : List ℕ) (word : Keyword) → word_of bytes ≡ Some word → bytes_of_word word ≡ bytes
+word_is bytes word e = (bytes_eq-Decides (bytes_of_word word) bytes).0 (find_passes (λ (w : Keyword). bytes_eq (bytes_of_word w) bytes) all_words word e)
 
 word_taken : (text bytes : List ℕ) (len : ℕ) → length bytes ≡ len → 0 < prefix_len is_name_byte text → prefix_len is_name_byte (drop len text) ≡ 0 → Taken text (token_of_word bytes) len
 word_taken text bytes len len_is begins stops = go (word_of bytes) refl
   where
-    go : (found : Option Word) → word_of bytes ≡ found → Taken text (unwrap_or (option_map tokens.Word found) (cond (is_name bytes) (tokens.Name bytes) tokens.Bad)) len
+    go : (found : Option Keyword) → word_of bytes ≡ found → Taken text (unwrap_or (option_map tokens.Keyword found) (cond (is_name bytes) (tokens.Name bytes) tokens.Bad)) len
     go (Some word) e = record { short = omega (arith, ap length (word_is bytes word e), len_is); begins = λ _. begins; stops = λ _. stops; readable = tt }
     go None e =
         cond_both (is_name bytes) (tokens.Name bytes) tokens.Bad (λ (t : Token). Taken text t len)
@@ -64,8 +64,8 @@ digits_taken text bytes len len_is some all begins stops =
     (λ e. let small = leb-true _ _ e in record { short = omega (arith, decimal_short bytes (omega arith) all small, len_is); begins = λ _. begins; stops = λ _. stops; readable = small })
     (λ _. record { short = omega arith; begins = λ no_word. absurd cc; stops = λ no_word. absurd cc; readable = tt })
 
-mark_taken : (text : List ℕ) (found : Option Mark)
-    → (let piece : Piece = unwrap_or (option_map (λ (mark : Mark). lexeme (tokens.Mark mark) (length (bytes_of_mark mark))) found) (lexeme tokens.Bad 1) in IfTaken text piece.token piece.len)
+mark_taken : (text : List ℕ) (found : Option Punct)
+    → (let piece : Piece = unwrap_or (option_map (λ (mark : Punct). lexeme (tokens.Punct mark) (length (bytes_of_mark mark))) found) (lexeme tokens.Bad 1) in IfTaken text piece.token piece.len)
 mark_taken text None = record { short = omega arith; begins = λ no_word. absurd cc; stops = λ no_word. absurd cc; readable = tt }
 mark_taken text (Some mark) = record { short = omega arith; begins = λ no_word. absurd cc; stops = λ no_word. absurd cc; readable = tt }
 

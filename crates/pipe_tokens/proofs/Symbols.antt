@@ -2,17 +2,17 @@
 use Rattle.std.proofs.Common.{◌≡◌, ℕ, ◌<◌, ◌≤◌, true, List, ◌++◌, length, Some, refl, arith}
 use Rattle.std.specs.List.{prefix_len}
 use Rattle.pipe_tokens.specs.declared.token.Token.TheVariants as tokens
-use Rattle.pipe_tokens.specs.declared.token.Word.{Word}
-use Rattle.pipe_tokens.specs.declared.token.Word.TheVariants as words
-use Rattle.pipe_tokens.specs.declared.token.Mark.{Mark}
-use Rattle.pipe_tokens.specs.declared.token.Mark.TheVariants as marks
+use Rattle.pipe_tokens.specs.declared.token.Keyword.{Keyword}
+use Rattle.pipe_tokens.specs.declared.token.Keyword.TheVariants as words
+use Rattle.pipe_tokens.specs.declared.token.Punct.{Punct}
+use Rattle.pipe_tokens.specs.declared.token.Punct.TheVariants as marks
 use Rattle.pipe_tokens.specs.Character.{is_name_byte}
 use Rattle.pipe_tokens.specs.Naming.{is_identifier}
 use Rattle.pipe_tokens.specs.Spelled.{bytes_of_word, word_of, bytes_of_mark}
 use Rattle.pipe_tokens.specs.Lexing.{lexeme, piece_of}
 
 -- a reserved word is an identifier
-pub word_is_identifier : (word : Word) → is_identifier (bytes_of_word word) ≡ true
+pub word_is_identifier : (word : Keyword) → is_identifier (bytes_of_word word) ≡ true
 unfolding bytes_of_word
 word_is_identifier words.Param = refl
 word_is_identifier words.Image = refl
@@ -35,7 +35,7 @@ word_is_identifier words.Stencil = refl
 word_is_identifier words.Table = refl
 
 -- no two are spelled alike
-pub word_of-bytes_of_word : (word : Word) → word_of (bytes_of_word word) ≡ Some word
+pub word_of-bytes_of_word : (word : Keyword) → word_of (bytes_of_word word) ≡ Some word
 unfolding bytes_of_word
 word_of-bytes_of_word words.Param = refl
 word_of-bytes_of_word words.Image = refl
@@ -58,7 +58,7 @@ word_of-bytes_of_word words.Stencil = refl
 word_of-bytes_of_word words.Table = refl
 
 -- none is as long as the longest name
-pub word_short : (word : Word) → length (bytes_of_word word) ≤ 7
+pub word_short : (word : Keyword) → length (bytes_of_word word) ≤ 7
 unfolding bytes_of_word
 word_short words.Param = omega arith
 word_short words.Image = omega arith
@@ -80,7 +80,7 @@ word_short words.Select = omega arith
 word_short words.Stencil = omega arith
 word_short words.Table = omega arith
 
-pub mark_len : (mark : Mark) → 0 < length (bytes_of_mark mark)
+pub mark_len : (mark : Punct) → 0 < length (bytes_of_mark mark)
 unfolding bytes_of_mark
 mark_len marks.OpenRound = omega arith
 mark_len marks.CloseRound = omega arith
@@ -104,7 +104,7 @@ mark_len marks.Equals = omega arith
 mark_len marks.DotDot = omega arith
 
 -- a text that begins with a mark has it as its first piece
-pub mark_is_piece : (mark : Mark) (rest : List ℕ) → piece_of (bytes_of_mark mark ++ rest) ≡ lexeme (tokens.Mark mark) (length (bytes_of_mark mark))
+pub mark_is_piece : (mark : Punct) (rest : List ℕ) → piece_of (bytes_of_mark mark ++ rest) ≡ lexeme (tokens.Punct mark) (length (bytes_of_mark mark))
 unfolding bytes_of_mark piece_of
 mark_is_piece marks.OpenRound rest = refl
 mark_is_piece marks.CloseRound rest = refl
@@ -128,7 +128,7 @@ mark_is_piece marks.Equals rest = refl
 mark_is_piece marks.DotDot rest = refl
 
 -- no name goes on with a mark
-pub mark_stops : (mark : Mark) (rest : List ℕ) → prefix_len is_name_byte (bytes_of_mark mark ++ rest) ≡ 0
+pub mark_stops : (mark : Punct) (rest : List ℕ) → prefix_len is_name_byte (bytes_of_mark mark ++ rest) ≡ 0
 unfolding bytes_of_mark
 mark_stops marks.OpenRound rest = refl
 mark_stops marks.CloseRound rest = refl

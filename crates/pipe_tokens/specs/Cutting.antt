@@ -18,8 +18,8 @@ pub record IsDigits (bytes : List ℕ) : Type 0 where
 
 -- which bytes are a token. Leading zeros are accepted
 abbrev pub Spells : Token → List ℕ → Type 0
-Spells (tokens.Word word) bytes = bytes ≡ bytes_of_word word
-Spells (tokens.Mark mark) bytes = bytes ≡ bytes_of_mark mark
+Spells (tokens.Keyword word) bytes = bytes ≡ bytes_of_word word
+Spells (tokens.Punct mark) bytes = bytes ≡ bytes_of_mark mark
 Spells (tokens.Name name) bytes = HasSpelling (tokens.Name name) × (bytes ≡ name)
 Spells (tokens.Int value) bytes = IsDigits bytes × (digits_value 10 bytes ≡ value) × (value ≤ 2147483647)
 Spells tokens.TooBig bytes = IsDigits bytes × (2147483647 < digits_value 10 bytes)

@@ -19,7 +19,7 @@ lexeme token len = record { token = Some token; len = len }
 
 -- what letters, digits and `_` are together: a reserved word, else a name, if they are few enough
 abbrev pub token_of_word : List ℕ → Token
-token_of_word bytes = unwrap_or (option_map tokens.Word (word_of bytes)) (if is_name bytes then tokens.Name bytes else tokens.Bad)
+token_of_word bytes = unwrap_or (option_map tokens.Keyword (word_of bytes)) (if is_name bytes then tokens.Name bytes else tokens.Bad)
 
 -- what digits are together: their value, if it is small enough
 abbrev pub token_of_digits : List ℕ → Token
@@ -34,7 +34,7 @@ digits_piece text =
     lexeme (if prefix_len is_name_byte text == prefix_len is_ascii_digit text then token_of_digits (take_while is_ascii_digit text) else tokens.Bad) (prefix_len is_ascii_digit text)
 
 abbrev pub mark_piece : List ℕ → Piece
-mark_piece text = unwrap_or (option_map (λ mark. lexeme (tokens.Mark mark) (length (bytes_of_mark mark))) (mark_at text)) (lexeme tokens.Bad 1)
+mark_piece text = unwrap_or (option_map (λ mark. lexeme (tokens.Punct mark) (length (bytes_of_mark mark))) (mark_at text)) (lexeme tokens.Bad 1)
 
 -- the longest piece at the front of a text whose first byte is given. A comment begins with `#`
 abbrev pub piece_from : ℕ → List ℕ → Piece

@@ -3,12 +3,12 @@ use Rattle.std.specs.Prelude.{ℕ, List, [], ◌∷◌, Option, find, codes}
 use Rattle.std.specs.List.{starts_with}
 use Rattle.std.specs.Prelude.{nat_eq}
 use Rattle.std.specs.Str.{bytes_eq}
-use Rattle.pipe_tokens.specs.declared.token.Word.{Word}
-use Rattle.pipe_tokens.specs.declared.token.Word.TheVariants as words
-use Rattle.pipe_tokens.specs.declared.token.Mark.{Mark}
-use Rattle.pipe_tokens.specs.declared.token.Mark.TheVariants as marks
+use Rattle.pipe_tokens.specs.declared.token.Keyword.{Keyword}
+use Rattle.pipe_tokens.specs.declared.token.Keyword.TheVariants as words
+use Rattle.pipe_tokens.specs.declared.token.Punct.{Punct}
+use Rattle.pipe_tokens.specs.declared.token.Punct.TheVariants as marks
 
-unfoldable pub bytes_of_word : Word → List ℕ
+unfoldable pub bytes_of_word : Keyword → List ℕ
 bytes_of_word words.Param = codes "param"
 bytes_of_word words.Image = codes "image"
 bytes_of_word words.Func = codes "func"
@@ -29,14 +29,14 @@ bytes_of_word words.Select = codes "select"
 bytes_of_word words.Stencil = codes "stencil"
 bytes_of_word words.Table = codes "table"
 
-abbrev pub all_words : List Word
+abbrev pub all_words : List Keyword
 all_words = words.Param ∷ words.Image ∷ words.Func ∷ words.In ∷ words.Case ∷ words.Else ∷ words.Accum ∷ words.Over ∷ words.Sum ∷ words.Min ∷ words.Max ∷ words.At ∷ words.Output ∷ words.And ∷ words.Abs ∷ words.Clamp ∷ words.Select ∷ words.Stencil ∷ words.Table ∷ []
 
 -- the reserved word that the bytes are
-abbrev pub word_of : List ℕ → Option Word
+abbrev pub word_of : List ℕ → Option Keyword
 word_of bytes = find (λ word. bytes_eq (bytes_of_word word) bytes) all_words
 
-unfoldable pub bytes_of_mark : Mark → List ℕ
+unfoldable pub bytes_of_mark : Punct → List ℕ
 bytes_of_mark marks.OpenRound = codes "("
 bytes_of_mark marks.CloseRound = codes ")"
 bytes_of_mark marks.OpenSquare = codes "["
@@ -58,9 +58,9 @@ bytes_of_mark marks.AtLeast = codes ">="
 bytes_of_mark marks.Equals = codes "=="
 bytes_of_mark marks.DotDot = codes ".."
 
-abbrev pub all_marks : List Mark
+abbrev pub all_marks : List Punct
 all_marks = marks.OpenRound ∷ marks.CloseRound ∷ marks.OpenSquare ∷ marks.CloseSquare ∷ marks.OpenCurly ∷ marks.CloseCurly ∷ marks.Comma ∷ marks.Semicolon ∷ marks.Colon ∷ marks.Plus ∷ marks.Minus ∷ marks.Star ∷ marks.Slash ∷ marks.Percent ∷ marks.ShiftLeft ∷ marks.ShiftRight ∷ marks.AtMost ∷ marks.AtLeast ∷ marks.Equals ∷ marks.DotDot ∷ []
 
 -- the mark that a text begins with. None is the front of another, so that there is one at most
-abbrev pub mark_at : List ℕ → Option Mark
+abbrev pub mark_at : List ℕ → Option Punct
 mark_at text = find (λ mark. starts_with nat_eq text (bytes_of_mark mark)) all_marks

@@ -8,15 +8,15 @@ use Rattle.pipe_tokens.specs.Spelled.{bytes_of_word, bytes_of_mark, word_of}
 
 -- what a token is spelled as; a number without leading zeros
 abbrev pub bytes_of : Token → List ℕ
-bytes_of (tokens.Word word) = bytes_of_word word
-bytes_of (tokens.Mark mark) = bytes_of_mark mark
+bytes_of (tokens.Keyword word) = bytes_of_word word
+bytes_of (tokens.Punct mark) = bytes_of_mark mark
 bytes_of (tokens.Name name) = name
 bytes_of (tokens.Int value) = decimal value
 bytes_of _ = []
 
 -- a token that begins with a letter or a digit
 abbrev pub begins_word : Token → Bool
-begins_word (tokens.Word word) = true
+begins_word (tokens.Keyword word) = true
 begins_word (tokens.Name name) = true
 begins_word (tokens.Int value) = true
 begins_word _ = false
@@ -33,8 +33,8 @@ spelling (token ∷ others) = bytes_of token ++ (blank_behind (begins_word token
 
 -- what has a spelling: a name that is not reserved, a number up to 2147483647, a reserved word or a mark
 abbrev pub HasSpelling : Token → Type 0
-HasSpelling (tokens.Word word) = Unit {0}
-HasSpelling (tokens.Mark mark) = Unit {0}
+HasSpelling (tokens.Keyword word) = Unit {0}
+HasSpelling (tokens.Punct mark) = Unit {0}
 HasSpelling (tokens.Name name) = (is_name name ≡ true) × (word_of name ≡ None)
 HasSpelling (tokens.Int value) = value ≤ 2147483647
 HasSpelling _ = ⊥

@@ -13,4 +13,4 @@ pub mod token;
 pub use lexer::{Lexed, lex};
 pub use name::Name;
 pub use spelling::spell;
-pub use token::{Mark, Token, Word};
+pub use token::{Keyword, Punct, Token};

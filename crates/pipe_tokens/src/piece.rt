@@ -8,7 +8,7 @@ ghost use Rattle.pipe_tokens.specs.Lexing as lexing;
 
 use crate::character::{is_comment_byte, is_name_byte, is_white};
 use crate::name::Name;
-use crate::token::{Mark, Token, Word};
+use crate::token::{Keyword, Punct, Token};
 
 /// The largest number that a text may have.
 pub const MAX_INT: u32 = 2147483647;
@@ -88,8 +88,8 @@ fn word_piece(text: &[u8]) -> Piece
 fn word_of(bytes: &[u8]) -> Token
     ensures { result ≡ lexing.token_of_word bytes.now }
 {
-    if let Some(word) = Word::of(bytes) {
-        return Token::Word(word);
+    if let Some(word) = Keyword::of(bytes) {
+        return Token::Keyword(word);
     }
     match Name::of(bytes) {
         Some(name) => Token::Name(name),
@@ -124,8 +124,8 @@ fn number_of(digits: &[u8]) -> Token
 fn mark_piece(text: &[u8]) -> Piece
     ensures { result ≡ lexing.mark_piece text.now }
 {
-    match Mark::at(text) {
-        Some(mark) => lexeme(Token::Mark(mark), mark.bytes().len()),
+    match Punct::at(text) {
+        Some(mark) => lexeme(Token::Punct(mark), mark.bytes().len()),
         None => lexeme(Token::Bad, 1),
     }
 }

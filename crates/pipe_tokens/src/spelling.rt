@@ -49,15 +49,15 @@ pub fn fewer_tokens_are_no_longer()
 fn begins_word(token: &Token) -> bool
     ensures { result ≡ begins_word token.now }
 {
-    matches!(token, Token::Word(_) | Token::Name(_) | Token::Int(_))
+    matches!(token, Token::Keyword(_) | Token::Name(_) | Token::Int(_))
 }
 
 fn push_token(alloc: Global, bytes: &mut Vec<u8>, token: &Token) -> Result<(), AllocError>
     ensures { OnOk result (bytes.new.items ≡ bytes.old.items ++ bytes_of token.now) }
 {
     match token {
-        Token::Word(word) => bytes.extend_from_slice(word.bytes()),
-        Token::Mark(mark) => bytes.extend_from_slice(mark.bytes()),
+        Token::Keyword(word) => bytes.extend_from_slice(word.bytes()),
+        Token::Punct(mark) => bytes.extend_from_slice(mark.bytes()),
         Token::Name(name) => bytes.extend_from_slice(name.as_bytes()),
         Token::Int(value) => push_number(alloc, bytes, *value),
         Token::TooBig | Token::Bad | Token::NotAscii => Ok(()),

@@ -6,7 +6,7 @@ use crate::name::Name;
 
 /// A reserved word. None of these is a name.
 #[derive(Clone, Copy, Debug, PartialEq, Eq)]
-pub enum Word {
+pub enum Keyword {
     Param,
     Image,
     Func,
@@ -30,7 +30,7 @@ pub enum Word {
 
 /// A mark: a bracket, a separator or an operator.
 #[derive(Clone, Copy, Debug, PartialEq, Eq)]
-pub enum Mark {
+pub enum Punct {
     /// `(`
     OpenRound,
     /// `)`
@@ -76,8 +76,8 @@ pub enum Mark {
 /// The longest piece of text that is one thing.
 #[derive(Clone, Copy, Debug, PartialEq, Eq)]
 pub enum Token {
-    Word(Word),
-    Mark(Mark),
+    Keyword(Keyword),
+    Punct(Punct),
     /// A name that is not reserved, of 1 to 32 bytes.
     Name(Name),
     /// A number from 0 to 2147483647.
@@ -90,30 +90,30 @@ pub enum Token {
     NotAscii,
 }
 
-impl Word {
+impl Keyword {
     ghost use Rattle.pipe_tokens.specs.Spelled.{bytes_of_word, word_of};
 
     /// The reserved words.
-    const ALL: [Word; 19] = [
-        Word::Param,
-        Word::Image,
-        Word::Func,
-        Word::In,
-        Word::Case,
-        Word::Else,
-        Word::Accum,
-        Word::Over,
-        Word::Sum,
-        Word::Min,
-        Word::Max,
-        Word::At,
-        Word::Output,
-        Word::And,
-        Word::Abs,
-        Word::Clamp,
-        Word::Select,
-        Word::Stencil,
-        Word::Table,
+    const ALL: [Keyword; 19] = [
+        Keyword::Param,
+        Keyword::Image,
+        Keyword::Func,
+        Keyword::In,
+        Keyword::Case,
+        Keyword::Else,
+        Keyword::Accum,
+        Keyword::Over,
+        Keyword::Sum,
+        Keyword::Min,
+        Keyword::Max,
+        Keyword::At,
+        Keyword::Output,
+        Keyword::And,
+        Keyword::Abs,
+        Keyword::Clamp,
+        Keyword::Select,
+        Keyword::Stencil,
+        Keyword::Table,
     ];
 
     /// How the word is spelled.
@@ -122,25 +122,25 @@ impl Word {
         ensures { result.now ≡ bytes_of_word self }
     {
         match self {
-            Word::Param => b"param",
-            Word::Image => b"image",
-            Word::Func => b"func",
-            Word::In => b"in",
-            Word::Case => b"case",
-            Word::Else => b"else",
-            Word::Accum => b"accum",
-            Word::Over => b"over",
-            Word::Sum => b"sum",
-            Word::Min => b"min",
-            Word::Max => b"max",
-            Word::At => b"at",
-            Word::Output => b"output",
-            Word::And => b"and",
-            Word::Abs => b"abs",
-            Word::Clamp => b"clamp",
-            Word::Select => b"select",
-            Word::Stencil => b"stencil",
-            Word::Table => b"table",
+            Keyword::Param => b"param",
+            Keyword::Image => b"image",
+            Keyword::Func => b"func",
+            Keyword::In => b"in",
+            Keyword::Case => b"case",
+            Keyword::Else => b"else",
+            Keyword::Accum => b"accum",
+            Keyword::Over => b"over",
+            Keyword::Sum => b"sum",
+            Keyword::Min => b"min",
+            Keyword::Max => b"max",
+            Keyword::At => b"at",
+            Keyword::Output => b"output",
+            Keyword::And => b"and",
+            Keyword::Abs => b"abs",
+            Keyword::Clamp => b"clamp",
+            Keyword::Select => b"select",
+            Keyword::Stencil => b"stencil",
+            Keyword::Table => b"table",
         }
     }
 
@@ -148,35 +148,35 @@ impl Word {
     pub(crate) fn of(bytes: &[u8]) -> Option<Self>
         ensures { result ≡ word_of bytes.now }
     {
-        Word::ALL.iter().copied().find(|w| w.bytes() == bytes)
+        Keyword::ALL.iter().copied().find(|w| w.bytes() == bytes)
     }
 }
 
-impl Mark {
+impl Punct {
     ghost use Rattle.pipe_tokens.specs.Spelled.{bytes_of_mark, mark_at};
 
     /// The marks. None is the front of another.
-    const ALL: [Mark; 20] = [
-        Mark::OpenRound,
-        Mark::CloseRound,
-        Mark::OpenSquare,
-        Mark::CloseSquare,
-        Mark::OpenCurly,
-        Mark::CloseCurly,
-        Mark::Comma,
-        Mark::Semicolon,
-        Mark::Colon,
-        Mark::Plus,
-        Mark::Minus,
-        Mark::Star,
-        Mark::Slash,
-        Mark::Percent,
-        Mark::ShiftLeft,
-        Mark::ShiftRight,
-        Mark::AtMost,
-        Mark::AtLeast,
-        Mark::Equals,
-        Mark::DotDot,
+    const ALL: [Punct; 20] = [
+        Punct::OpenRound,
+        Punct::CloseRound,
+        Punct::OpenSquare,
+        Punct::CloseSquare,
+        Punct::OpenCurly,
+        Punct::CloseCurly,
+        Punct::Comma,
+        Punct::Semicolon,
+        Punct::Colon,
+        Punct::Plus,
+        Punct::Minus,
+        Punct::Star,
+        Punct::Slash,
+        Punct::Percent,
+        Punct::ShiftLeft,
+        Punct::ShiftRight,
+        Punct::AtMost,
+        Punct::AtLeast,
+        Punct::Equals,
+        Punct::DotDot,
     ];
 
     /// How the mark is spelled.
@@ -185,26 +185,26 @@ impl Mark {
         ensures { result.now ≡ bytes_of_mark self }
     {
         match self {
-            Mark::OpenRound => b"(",
-            Mark::CloseRound => b")",
-            Mark::OpenSquare => b"[",
-            Mark::CloseSquare => b"]",
-            Mark::OpenCurly => b"{",
-            Mark::CloseCurly => b"}",
-            Mark::Comma => b",",
-            Mark::Semicolon => b";",
-            Mark::Colon => b":",
-            Mark::Plus => b"+",
-            Mark::Minus => b"-",
-            Mark::Star => b"*",
-            Mark::Slash => b"/",
-            Mark::Percent => b"%",
-            Mark::ShiftLeft => b"<<",
-            Mark::ShiftRight => b">>",
-            Mark::AtMost => b"<=",
-            Mark::AtLeast => b">=",
-            Mark::Equals => b"==",
-            Mark::DotDot => b"..",
+            Punct::OpenRound => b"(",
+            Punct::CloseRound => b")",
+            Punct::OpenSquare => b"[",
+            Punct::CloseSquare => b"]",
+            Punct::OpenCurly => b"{",
+            Punct::CloseCurly => b"}",
+            Punct::Comma => b",",
+            Punct::Semicolon => b";",
+            Punct::Colon => b":",
+            Punct::Plus => b"+",
+            Punct::Minus => b"-",
+            Punct::Star => b"*",
+            Punct::Slash => b"/",
+            Punct::Percent => b"%",
+            Punct::ShiftLeft => b"<<",
+            Punct::ShiftRight => b">>",
+            Punct::AtMost => b"<=",
+            Punct::AtLeast => b">=",
+            Punct::Equals => b"==",
+            Punct::DotDot => b"..",
         }
     }
 
@@ -212,7 +212,7 @@ impl Mark {
     pub(crate) fn at(text: &[u8]) -> Option<Self>
         ensures { result ≡ mark_at text.now }
     {
-        Mark::ALL
+        Punct::ALL
             .iter()
             .copied()
             .find(|m| text.starts_with(m.bytes()))

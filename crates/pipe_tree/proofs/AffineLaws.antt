@@ -2,8 +2,8 @@
 use Rattle.std.proofs.Common.{Bool, true, false, ◌≡◌, ℕ, List, [], Some, None, refl}
 use Rattle.pipe_tokens.specs.declared.token.Token.{Token}
 use Rattle.pipe_tokens.specs.declared.token.Token.TheVariants as token
-use Rattle.pipe_tokens.specs.declared.token.Mark.TheVariants as marks
-use Rattle.pipe_tokens.specs.declared.token.Word.TheVariants as words
+use Rattle.pipe_tokens.specs.declared.token.Punct.TheVariants as marks
+use Rattle.pipe_tokens.specs.declared.token.Keyword.TheVariants as words
 use Rattle.pipe_tree.specs.declared.limits.Role.TheVariants as roles
 use Rattle.pipe_tree.specs.declared.tree.Term.{Term}
 use Rattle.pipe_tree.specs.Operators.{name_at, sign_at}
@@ -36,13 +36,13 @@ name_is_no_minus (token.Name y) x e = refl
 name_is_no_minus t x e = absurd cc
 
 sign_is_no_star : (t : Token) (x : Bool) → sign_at (Some t) ≡ Some x → NoStar (Some t)
-sign_is_no_star (token.Mark marks.Plus) x e = refl
-sign_is_no_star (token.Mark marks.Minus) x e = refl
+sign_is_no_star (token.Punct marks.Plus) x e = refl
+sign_is_no_star (token.Punct marks.Minus) x e = refl
 sign_is_no_star t x e = absurd cc
 
 pub sign_is_sign : (t : Token) (x : Bool) → sign_at (Some t) ≡ Some x → is_sign_at (Some t) ≡ true
-sign_is_sign (token.Mark marks.Plus) x e = refl
-sign_is_sign (token.Mark marks.Minus) x e = refl
+sign_is_sign (token.Punct marks.Plus) x e = refl
+sign_is_sign (token.Punct marks.Minus) x e = refl
 sign_is_sign t x e = absurd cc
 
 module _ (n : ℕ) where
@@ -51,7 +51,7 @@ module _ (n : ℕ) where
       parses_choose n (is_mark_at marks.Minus) _ _ NoMinus _ _
       (parses_next n _ _ NoMinus _ _ (parses_mark n marks.Minus roles.Plain) (λ _. parses_gives n true NoMinus))
       (parses_gives n false NoMinus)
-      (λ m. starts_with (token.Mark marks.Minus) roles.Plain _ NoMinus (Passing (is_mark_at marks.Minus)) refl)
+      (λ m. starts_with (token.Punct marks.Minus) roles.Plain _ NoMinus (Passing (is_mark_at marks.Minus)) refl)
       (λ m. starts_gives false NoMinus NoMinus (λ h s. s))
 
   parses_factor_end : (k : ℕ) → Parses n (factor_end k) NoStar (λ _. g.factor_end k)
@@ -60,7 +60,7 @@ module _ (n : ℕ) where
       (parses_next n _ _ NoStar _ _ (parses_mark n marks.Star roles.Plain) (λ _.
       parses_next n _ _ NoStar _ _ (parses_name n roles.Plain) (λ x. parses_gives n (k, Some x) NoStar)))
       (parses_gives n (k, None) NoStar)
-      (λ m. starts_with (token.Mark marks.Star) roles.Plain _ NoStar (Passing (is_mark_at marks.Star)) refl)
+      (λ m. starts_with (token.Punct marks.Star) roles.Plain _ NoStar (Passing (is_mark_at marks.Star)) refl)
       (λ m. starts_gives (k, None) NoStar NoStar (λ h s. s))
 
   pub parses_scaled_name : Parses n scaled_name NoStar (λ _. g.scaled_name)
@@ -119,8 +119,8 @@ module _ (n : ℕ) where
       parses_then n affine _ NoTerm Any _ _ parses_affine (λ last.
       parses_next n _ _ Any _ _ (parses_mark n marks.CloseSquare roles.Plain) (λ _.
       parses_gives n _ Any))
-      (λ m last. starts_with (token.Mark marks.CloseSquare) roles.Plain _ Any NoTerm (refl, refl))))
-      (λ m first. starts_with (token.Mark marks.DotDot) roles.Plain _ Any NoTerm (refl, refl)))
+      (λ m last. starts_with (token.Punct marks.CloseSquare) roles.Plain _ Any NoTerm (refl, refl))))
+      (λ m first. starts_with (token.Punct marks.DotDot) roles.Plain _ Any NoTerm (refl, refl)))
 
   pub parses_variable : Parses n a_variable Any (λ _. g.a_variable)
   unfolding a_variable g.a_variable

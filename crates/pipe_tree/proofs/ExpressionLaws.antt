@@ -2,10 +2,10 @@
 use Rattle.std.proofs.Common.{Bool, true, false, ◌≡◌, ℕ, zero, suc, ◌<◌, List, [], ◌∷◌, Option, Some, None, Ok, Err, refl, subst, arith, ◌⊎◌, inl, inr}
 use Rattle.pipe_tokens.specs.declared.token.Token.{Token}
 use Rattle.pipe_tokens.specs.declared.token.Token.TheVariants as token
-use Rattle.pipe_tokens.specs.declared.token.Mark.{Mark}
-use Rattle.pipe_tokens.specs.declared.token.Mark.TheVariants as marks
-use Rattle.pipe_tokens.specs.declared.token.Word.{Word}
-use Rattle.pipe_tokens.specs.declared.token.Word.TheVariants as words
+use Rattle.pipe_tokens.specs.declared.token.Punct.{Punct}
+use Rattle.pipe_tokens.specs.declared.token.Punct.TheVariants as marks
+use Rattle.pipe_tokens.specs.declared.token.Keyword.{Keyword}
+use Rattle.pipe_tokens.specs.declared.token.Keyword.TheVariants as words
 use Rattle.pipe_tree.specs.declared.fault.Kind.TheVariants.{TooDeep}
 use Rattle.pipe_tree.specs.declared.limits.Counts.{Counts}
 use Rattle.pipe_tree.specs.declared.limits.Role.{Role}
@@ -46,31 +46,31 @@ abbrev pub NoOperator : Follow
 NoOperator h = (is_mark_at marks.OpenRound h ≡ false) × (is_factor_at h ≡ false) × (is_sign_at h ≡ false)
 
 factor_is_factor : (t : Token) (x : Factor) → factor_at (Some t) ≡ Some x → is_factor_at (Some t) ≡ true
-factor_is_factor (token.Mark marks.Star) x e = refl
-factor_is_factor (token.Mark marks.Slash) x e = refl
-factor_is_factor (token.Mark marks.Percent) x e = refl
-factor_is_factor (token.Mark marks.ShiftLeft) x e = refl
-factor_is_factor (token.Mark marks.ShiftRight) x e = refl
+factor_is_factor (token.Punct marks.Star) x e = refl
+factor_is_factor (token.Punct marks.Slash) x e = refl
+factor_is_factor (token.Punct marks.Percent) x e = refl
+factor_is_factor (token.Punct marks.ShiftLeft) x e = refl
+factor_is_factor (token.Punct marks.ShiftRight) x e = refl
 factor_is_factor t x e = absurd cc
 
 factor_is_no_open : (t : Token) (x : Factor) → factor_at (Some t) ≡ Some x → NoOpen (Some t)
-factor_is_no_open (token.Mark marks.OpenRound) x e = absurd cc
-factor_is_no_open (token.Mark marks.Star) x e = refl
-factor_is_no_open (token.Mark marks.Slash) x e = refl
-factor_is_no_open (token.Mark marks.Percent) x e = refl
-factor_is_no_open (token.Mark marks.ShiftLeft) x e = refl
-factor_is_no_open (token.Mark marks.ShiftRight) x e = refl
+factor_is_no_open (token.Punct marks.OpenRound) x e = absurd cc
+factor_is_no_open (token.Punct marks.Star) x e = refl
+factor_is_no_open (token.Punct marks.Slash) x e = refl
+factor_is_no_open (token.Punct marks.Percent) x e = refl
+factor_is_no_open (token.Punct marks.ShiftLeft) x e = refl
+factor_is_no_open (token.Punct marks.ShiftRight) x e = refl
 factor_is_no_open t x e = absurd cc
 
 sign_is_no_factor : (t : Token) (x : Bool) → sign_at (Some t) ≡ Some x → NoFactor (Some t)
-sign_is_no_factor (token.Mark marks.Plus) x e = (refl, refl)
-sign_is_no_factor (token.Mark marks.Minus) x e = (refl, refl)
+sign_is_no_factor (token.Punct marks.Plus) x e = (refl, refl)
+sign_is_no_factor (token.Punct marks.Minus) x e = (refl, refl)
 sign_is_no_factor t x e = absurd cc
 
 relation_is_no_operator : (t : Token) (x : Relation) → relation_at (Some t) ≡ Some x → NoOperator (Some t)
-relation_is_no_operator (token.Mark marks.AtMost) x e = (refl, refl, refl)
-relation_is_no_operator (token.Mark marks.AtLeast) x e = (refl, refl, refl)
-relation_is_no_operator (token.Mark marks.Equals) x e = (refl, refl, refl)
+relation_is_no_operator (token.Punct marks.AtMost) x e = (refl, refl, refl)
+relation_is_no_operator (token.Punct marks.AtLeast) x e = (refl, refl, refl)
+relation_is_no_operator (token.Punct marks.Equals) x e = (refl, refl, refl)
 relation_is_no_operator t x e = absurd cc
 
 name_starts_name : (t : Token) (x : List ℕ) → name_at (Some t) ≡ Some x → start_at (Some t) ≡ start.Name
@@ -124,8 +124,8 @@ module _ (n : ℕ) (p : Reader Node) (P : ℕ → Rule Node) (reads : Parses n p
 
 -- ---- what opens a level
 
-ends_mark : {Y : Type 0} (m : Mark) (role : Role) (Q : Unit {0} → Rule Y) (T : Follow) → NoOperator (Some (token.Mark m)) → Starts (Then (g.mark m role) Q) T NoOperator
-ends_mark m role Q T f = starts_with (token.Mark m) role Q T NoOperator f
+ends_mark : {Y : Type 0} (m : Punct) (role : Role) (Q : Unit {0} → Rule Y) (T : Follow) → NoOperator (Some (token.Punct m)) → Starts (Then (g.mark m role) Q) T NoOperator
+ends_mark m role Q T f = starts_with (token.Punct m) role Q T NoOperator f
 
 module _ (n : ℕ) (u : Reader Node) (U : ℕ → Rule Node) (reads : Parses n u NoOpen U) where
   pub parses_negation : Parses n (negation u) NoOpen (λ m. g.negation (U m))
@@ -204,7 +204,7 @@ module _ (deep : Type 0) (open_level : Opening → Reader Node) where
       (any literal_number g.literal_number (at_levels deep literal_number Any g.literal_number (parses_literal_number 0))))
       (key g.named start.Name (starts_by (g.name roles.Node) _ NoOpen (λ h. start_at h ≡ start.Name) (starts_means name_at roles.Node Any (λ h. start_at h ≡ start.Name) name_starts_name))
       (at_levels deep named NoOpen g.named (parses_named 0))))
-      (key g.a_stencil start.Stencil (starts_with (token.Word words.Stencil) roles.Node _ NoOpen (λ h. start_at h ≡ start.Stencil) refl)
+      (key g.a_stencil start.Stencil (starts_with (token.Keyword words.Stencil) roles.Node _ NoOpen (λ h. start_at h ≡ start.Stencil) refl)
       (any a_stencil g.a_stencil (at_levels deep a_stencil Any g.a_stencil (parses_stencil 0))))
 
   -- what opens a level, each as the rule says
@@ -218,13 +218,13 @@ module _ (deep : Type 0) (open_level : Opening → Reader Node) where
       (or_all deep _ NoOpen _ _
       (or_all deep _ NoOpen _ _
       (or_all deep _ NoOpen _ _
-      (key (g.negation U) (start.Opening opening.Minus) (starts_with (token.Mark marks.Minus) roles.Node _ NoOpen (λ h. start_at h ≡ start.Opening opening.Minus) refl) negated)
-      (key (g.group E) (start.Opening opening.Group) (starts_with (token.Mark marks.OpenRound) roles.Plain _ NoOpen (λ h. start_at h ≡ start.Opening opening.Group) refl) grouped))
-      (key (g.pair words.Min Min E) (start.Opening (opening.Pair Min)) (starts_with (token.Word words.Min) roles.Node _ NoOpen (λ h. start_at h ≡ start.Opening (opening.Pair Min)) refl) least))
-      (key (g.pair words.Max Max E) (start.Opening (opening.Pair Max)) (starts_with (token.Word words.Max) roles.Node _ NoOpen (λ h. start_at h ≡ start.Opening (opening.Pair Max)) refl) most))
-      (key (g.absolute E) (start.Opening opening.Abs) (starts_with (token.Word words.Abs) roles.Node _ NoOpen (λ h. start_at h ≡ start.Opening opening.Abs) refl) absolute))
-      (key (g.clamped E) (start.Opening opening.Clamp) (starts_with (token.Word words.Clamp) roles.Node _ NoOpen (λ h. start_at h ≡ start.Opening opening.Clamp) refl) clamped))
-      (key (g.selected E) (start.Opening opening.Select) (starts_with (token.Word words.Select) roles.Node _ NoOpen (λ h. start_at h ≡ start.Opening opening.Select) refl) selected))
+      (key (g.negation U) (start.Opening opening.Minus) (starts_with (token.Punct marks.Minus) roles.Node _ NoOpen (λ h. start_at h ≡ start.Opening opening.Minus) refl) negated)
+      (key (g.group E) (start.Opening opening.Group) (starts_with (token.Punct marks.OpenRound) roles.Plain _ NoOpen (λ h. start_at h ≡ start.Opening opening.Group) refl) grouped))
+      (key (g.pair words.Min Min E) (start.Opening (opening.Pair Min)) (starts_with (token.Keyword words.Min) roles.Node _ NoOpen (λ h. start_at h ≡ start.Opening (opening.Pair Min)) refl) least))
+      (key (g.pair words.Max Max E) (start.Opening (opening.Pair Max)) (starts_with (token.Keyword words.Max) roles.Node _ NoOpen (λ h. start_at h ≡ start.Opening (opening.Pair Max)) refl) most))
+      (key (g.absolute E) (start.Opening opening.Abs) (starts_with (token.Keyword words.Abs) roles.Node _ NoOpen (λ h. start_at h ≡ start.Opening opening.Abs) refl) absolute))
+      (key (g.clamped E) (start.Opening opening.Clamp) (starts_with (token.Keyword words.Clamp) roles.Node _ NoOpen (λ h. start_at h ≡ start.Opening opening.Clamp) refl) clamped))
+      (key (g.selected E) (start.Opening opening.Select) (starts_with (token.Keyword words.Select) roles.Node _ NoOpen (λ h. start_at h ≡ start.Opening opening.Select) refl) selected))
 
 -- ---- the levels
 
@@ -256,20 +256,20 @@ opened_rule U E opening.Clamp = g.clamped E
 opened_rule U E opening.Select = g.selected E
 opened_rule U E (opening.Pair op) = g.pair (word_of op) op E
 
-pair_word : (w : Word) (op : BinaryOp) → start_at (Some (token.Word w)) ≡ start.Opening (opening.Pair op) → (op ≡ Min) ⊎ (op ≡ Max)
+pair_word : (w : Keyword) (op : BinaryOp) → start_at (Some (token.Keyword w)) ≡ start.Opening (opening.Pair op) → (op ≡ Min) ⊎ (op ≡ Max)
 pair_word words.Min op e = inl cc
 pair_word words.Max op e = inr cc
 pair_word w op e = absurd cc
 
-no_pair_mark : (m : Mark) (op : BinaryOp) → start_at (Some (token.Mark m)) ≡ start.Opening (opening.Pair op) → ⊥
+no_pair_mark : (m : Punct) (op : BinaryOp) → start_at (Some (token.Punct m)) ≡ start.Opening (opening.Pair op) → ⊥
 no_pair_mark marks.Minus op e = cc
 no_pair_mark marks.OpenRound op e = cc
 no_pair_mark m op e = cc
 
 -- `min` and `max` are the only pairs
 pair_is : (h : Option Token) (op : BinaryOp) → start_at h ≡ start.Opening (opening.Pair op) → (op ≡ Min) ⊎ (op ≡ Max)
-pair_is (Some (token.Word w)) op e = pair_word w op e
-pair_is (Some (token.Mark m)) op e = absurd (no_pair_mark m op e)
+pair_is (Some (token.Keyword w)) op e = pair_word w op e
+pair_is (Some (token.Punct m)) op e = absurd (no_pair_mark m op e)
 pair_is (Some t) op e = absurd cc
 pair_is None op e = absurd cc
 
@@ -299,7 +299,7 @@ going_with t role Q good q = record {
 goes_within : (R Q : Rule Node) (h : Option Token) (P : Tagged → Type 0) → Within R Q → GoesOn R [] h P → GoesOn Q [] h P
 goes_within R Q h P up f = record { next = f.next; more = f.more; value = f.value; ahead_is = f.ahead_is; rule = up _ _ f.rule; holds = f.holds }
 
-mark_has : (m : Mark) (role : Role) → HasText (g.mark m role)
+mark_has : (m : Punct) (role : Role) → HasText (g.mark m role)
 mark_has m role = (parses_mark 0 m role).has
 
 zero_many : (T : Node → Rule Node) (a : Node) → HasText (many T a)
@@ -317,27 +317,27 @@ argument Q has = then_has _ _ sum_has (λ a. then_has _ _ (mark_has marks.Comma 
 
 -- a level that is opened has its place, if there is one more level
 too_deep : (h : Option Token) (o : Opening) → start_at h ≡ start.Opening o → GoesOn (Unary 1) [] h (λ t. fits t.token ≡ true)
-too_deep (Some (token.Mark marks.Minus)) o e =
+too_deep (Some (token.Punct marks.Minus)) o e =
     goes_within (g.negation (Unary 0)) (Unary 1) _ _ (λ text x p. level_in_unary 0 text x (inl (inl (inl (inl (inl (inl p)))))))
-    (going_with (token.Mark marks.Minus) roles.Node _ refl (then_has _ _ (unary_has 0) (λ a. (parses_gives 0 _ Any).has)))
-too_deep (Some (token.Mark marks.OpenRound)) o e =
+    (going_with (token.Punct marks.Minus) roles.Node _ refl (then_has _ _ (unary_has 0) (λ a. (parses_gives 0 _ Any).has)))
+too_deep (Some (token.Punct marks.OpenRound)) o e =
     goes_within (g.group (g.sums (g.product (Unary 0)))) (Unary 1) _ _ (λ text x p. level_in_unary 0 text x (inl (inl (inl (inl (inl (inr p)))))))
-    (going_with (token.Mark marks.OpenRound) roles.Plain _ refl (closes (λ a. a)))
-too_deep (Some (token.Word words.Min)) o e =
+    (going_with (token.Punct marks.OpenRound) roles.Plain _ refl (closes (λ a. a)))
+too_deep (Some (token.Keyword words.Min)) o e =
     goes_within (g.pair words.Min Min (g.sums (g.product (Unary 0)))) (Unary 1) _ _ (λ text x p. level_in_unary 0 text x (inl (inl (inl (inl (inr p))))))
-    (going_with (token.Word words.Min) roles.Node _ refl (then_has _ _ (mark_has marks.OpenRound roles.Plain) (λ _. argument _ (λ a. closes _))))
-too_deep (Some (token.Word words.Max)) o e =
+    (going_with (token.Keyword words.Min) roles.Node _ refl (then_has _ _ (mark_has marks.OpenRound roles.Plain) (λ _. argument _ (λ a. closes _))))
+too_deep (Some (token.Keyword words.Max)) o e =
     goes_within (g.pair words.Max Max (g.sums (g.product (Unary 0)))) (Unary 1) _ _ (λ text x p. level_in_unary 0 text x (inl (inl (inl (inr p)))))
-    (going_with (token.Word words.Max) roles.Node _ refl (then_has _ _ (mark_has marks.OpenRound roles.Plain) (λ _. argument _ (λ a. closes _))))
-too_deep (Some (token.Word words.Abs)) o e =
+    (going_with (token.Keyword words.Max) roles.Node _ refl (then_has _ _ (mark_has marks.OpenRound roles.Plain) (λ _. argument _ (λ a. closes _))))
+too_deep (Some (token.Keyword words.Abs)) o e =
     goes_within (g.absolute (g.sums (g.product (Unary 0)))) (Unary 1) _ _ (λ text x p. level_in_unary 0 text x (inl (inl (inr p))))
-    (going_with (token.Word words.Abs) roles.Node _ refl (then_has _ _ (mark_has marks.OpenRound roles.Plain) (λ _. closes _)))
-too_deep (Some (token.Word words.Clamp)) o e =
+    (going_with (token.Keyword words.Abs) roles.Node _ refl (then_has _ _ (mark_has marks.OpenRound roles.Plain) (λ _. closes _)))
+too_deep (Some (token.Keyword words.Clamp)) o e =
     goes_within (g.clamped (g.sums (g.product (Unary 0)))) (Unary 1) _ _ (λ text x p. level_in_unary 0 text x (inl (inr p)))
-    (going_with (token.Word words.Clamp) roles.Node _ refl (then_has _ _ (mark_has marks.OpenRound roles.Plain) (λ _. argument _ (λ a. argument _ (λ b. closes _)))))
-too_deep (Some (token.Word words.Select)) o e =
+    (going_with (token.Keyword words.Clamp) roles.Node _ refl (then_has _ _ (mark_has marks.OpenRound roles.Plain) (λ _. argument _ (λ a. argument _ (λ b. closes _)))))
+too_deep (Some (token.Keyword words.Select)) o e =
     goes_within (g.selected (g.sums (g.product (Unary 0)))) (Unary 1) _ _ (λ text x p. level_in_unary 0 text x (inr p))
-    (going_with (token.Word words.Select) roles.Node _ refl (then_has _ _ (mark_has marks.OpenRound roles.Plain) (λ _.
+    (going_with (token.Keyword words.Select) roles.Node _ refl (then_has _ _ (mark_has marks.OpenRound roles.Plain) (λ _.
     then_has _ _ sum_has (λ a. then_has _ _ (parses_relation 0).has (λ r. argument _ (λ b. argument _ (λ c. closes _)))))))
 too_deep (Some t) o e = absurd cc
 too_deep None o e = absurd cc
@@ -358,7 +358,7 @@ stop_deep s o e =
       last = s.rest;
       counts = s.counts;
       parts = refl;
-      left = refl;
+      remaining = refl;
       few = refl;
       again = λ more e'. refl;
       more = l.text;

@@ -3,8 +3,8 @@ use Rattle.std.proofs.Common.{Bool, false, ◌≡◌, ℕ, List, Some, refl}
 use Rattle.std.specs.Prelude.{ℤ, pos}
 use Rattle.pipe_tokens.specs.declared.token.Token.{Token}
 use Rattle.pipe_tokens.specs.declared.token.Token.TheVariants as token
-use Rattle.pipe_tokens.specs.declared.token.Mark.TheVariants as marks
-use Rattle.pipe_tokens.specs.declared.token.Word.TheVariants as words
+use Rattle.pipe_tokens.specs.declared.token.Punct.TheVariants as marks
+use Rattle.pipe_tokens.specs.declared.token.Keyword.TheVariants as words
 use Rattle.pipe_tree.specs.declared.limits.Role.TheVariants as roles
 use Rattle.pipe_tree.specs.Operators.{name_at, sign_at}
 use Rattle.pipe_tree.specs.Lookahead.{is_mark_at, is_number_at}
@@ -37,8 +37,8 @@ name_is_no_open (token.Name y) x e = refl
 name_is_no_open t x e = absurd cc
 
 sign_is_no_slash : (t : Token) (x : Bool) → sign_at (Some t) ≡ Some x → NoSlash (Some t)
-sign_is_no_slash (token.Mark marks.Plus) x e = refl
-sign_is_no_slash (token.Mark marks.Minus) x e = refl
+sign_is_no_slash (token.Punct marks.Plus) x e = refl
+sign_is_no_slash (token.Punct marks.Minus) x e = refl
 sign_is_no_slash t x e = absurd cc
 
 module _ (n : ℕ) where
@@ -84,7 +84,7 @@ module _ (n : ℕ) where
       parses_choose n (is_mark_at marks.Slash) _ _ NoIndexEnd _ _
       (parses_next n _ _ NoIndexEnd _ _ parses_divisor (λ d. parses_gives n _ NoIndexEnd))
       (parses_then n addend _ NoSign NoIndexEnd _ _ parses_addend (λ k. parses_gives n _ NoIndexEnd) (λ m k. starts_gives _ NoIndexEnd NoSign (λ h s. s.1)))
-      (λ m. starts_by g.divisor _ NoIndexEnd (Passing (is_mark_at marks.Slash)) (starts_with (token.Mark marks.Slash) roles.Plain _ Any (Passing (is_mark_at marks.Slash)) refl))
+      (λ m. starts_by g.divisor _ NoIndexEnd (Passing (is_mark_at marks.Slash)) (starts_with (token.Punct marks.Slash) roles.Plain _ Any (Passing (is_mark_at marks.Slash)) refl))
       (λ m. starts_then g.addend _ NoIndexEnd NoIndexEnd NoSlash addend_starts (λ k. starts_gives _ NoIndexEnd NoIndexEnd (λ h s. s)))
 
   pub parses_grouped_index : Parses n grouped_index Any (λ _. g.grouped_index)
@@ -96,7 +96,7 @@ module _ (n : ℕ) where
       parses_next n _ _ Any _ _ (parses_mark n marks.CloseRound roles.Plain) (λ _.
       parses_next n _ _ Any _ _ parses_divisor (λ d.
       parses_gives n _ Any)))
-      (λ m k. starts_with (token.Mark marks.CloseRound) roles.Plain _ Any NoSign refl)))
+      (λ m k. starts_with (token.Punct marks.CloseRound) roles.Plain _ Any NoSign refl)))
 
   pub parses_index : Parses n index NoIndexEnd (λ _. g.index)
   unfolding index g.index
@@ -104,7 +104,7 @@ module _ (n : ℕ) where
       parses_choose n (is_mark_at marks.OpenRound) _ _ NoIndexEnd _ _
       (parses_any n grouped_index NoIndexEnd _ parses_grouped_index)
       (parses_next n _ _ NoIndexEnd _ _ parses_scaled (λ f. parses_index_end f))
-      (λ m. starts_with (token.Mark marks.OpenRound) roles.Plain _ NoIndexEnd (Passing (is_mark_at marks.OpenRound)) refl)
+      (λ m. starts_with (token.Punct marks.OpenRound) roles.Plain _ NoIndexEnd (Passing (is_mark_at marks.OpenRound)) refl)
       (λ m. starts_by g.scaled _ NoIndexEnd NoOpen scaled_starts)
 
   parses_name_end : (x : List ℕ) → Parses n (name_end x) NoOpen (λ _. g.name_end x)
@@ -116,10 +116,10 @@ module _ (n : ℕ) where
       parses_then n index _ NoIndexEnd NoOpen _ _ parses_index (λ j.
       parses_next n _ _ NoOpen _ _ (parses_mark n marks.CloseRound roles.Plain) (λ _.
       parses_gives n _ NoOpen))
-      (λ m j. starts_with (token.Mark marks.CloseRound) roles.Plain _ NoOpen NoIndexEnd (refl, refl))))
-      (λ m i. starts_with (token.Mark marks.Comma) roles.Plain _ NoOpen NoIndexEnd (refl, refl))))
+      (λ m j. starts_with (token.Punct marks.CloseRound) roles.Plain _ NoOpen NoIndexEnd (refl, refl))))
+      (λ m i. starts_with (token.Punct marks.Comma) roles.Plain _ NoOpen NoIndexEnd (refl, refl))))
       (parses_gives n (variable x) NoOpen)
-      (λ m. starts_with (token.Mark marks.OpenRound) roles.Plain _ NoOpen (Passing (is_mark_at marks.OpenRound)) refl)
+      (λ m. starts_with (token.Punct marks.OpenRound) roles.Plain _ NoOpen (Passing (is_mark_at marks.OpenRound)) refl)
       (λ m. starts_gives (variable x) NoOpen NoOpen (λ h s. s))
 
   pub parses_named : Parses n named NoOpen (λ _. g.named)
@@ -139,25 +139,25 @@ module _ (n : ℕ) where
   unfolding row g.row
   parses_row =
       parses_next n _ _ Any _ _ (parses_mark n marks.OpenSquare roles.Plain) (λ _.
-      parses_then n _ _ _ Any _ _ (parses_separated n (is_mark_at marks.Comma) (token.Mark marks.Comma) roles.Plain refl entry Any tt g.entry (parses_mark n marks.Comma roles.Plain) parses_entry) (λ es.
+      parses_then n _ _ _ Any _ _ (parses_separated n (is_mark_at marks.Comma) (token.Punct marks.Comma) roles.Plain refl entry Any tt g.entry (parses_mark n marks.Comma roles.Plain) parses_entry) (λ es.
       parses_next n _ _ Any _ _ (parses_mark n marks.CloseSquare roles.Plain) (λ _.
       parses_gives n _ Any))
-      (λ m es. starts_with (token.Mark marks.CloseSquare) roles.Plain _ Any (Behind (is_mark_at marks.Comma) Any) (refl, tt)))
+      (λ m es. starts_with (token.Punct marks.CloseSquare) roles.Plain _ Any (Behind (is_mark_at marks.Comma) Any) (refl, tt)))
 
   pub row_unroll : (es : List ℤ) (s : At) → while (is_mark_at marks.Comma) (next_behind (mark marks.Comma roles.Plain) entry) es s ≡ choose (is_mark_at marks.Comma) (next_behind (mark marks.Comma roles.Plain) entry es >>= while (is_mark_at marks.Comma) (next_behind (mark marks.Comma roles.Plain) entry)) (gives es) s
-  row_unroll es s = separated_unroll n (is_mark_at marks.Comma) (token.Mark marks.Comma) roles.Plain refl entry Any tt g.entry (parses_mark n marks.Comma roles.Plain) parses_entry es s
+  row_unroll es s = separated_unroll n (is_mark_at marks.Comma) (token.Punct marks.Comma) roles.Plain refl entry Any tt g.entry (parses_mark n marks.Comma roles.Plain) parses_entry es s
 
   pub parses_kernel : Parses n kernel Any (λ _. g.kernel)
   unfolding kernel g.kernel
   parses_kernel =
       parses_next n _ _ Any _ _ (parses_mark n marks.OpenSquare roles.Plain) (λ _.
-      parses_then n _ _ _ Any _ _ (parses_separated n (is_mark_at marks.Comma) (token.Mark marks.Comma) roles.Plain refl row Any tt g.row (parses_mark n marks.Comma roles.Plain) parses_row) (λ rows.
+      parses_then n _ _ _ Any _ _ (parses_separated n (is_mark_at marks.Comma) (token.Punct marks.Comma) roles.Plain refl row Any tt g.row (parses_mark n marks.Comma roles.Plain) parses_row) (λ rows.
       parses_next n _ _ Any _ _ (parses_mark n marks.CloseSquare roles.Plain) (λ _.
       parses_gives n _ Any))
-      (λ m rows. starts_with (token.Mark marks.CloseSquare) roles.Plain _ Any (Behind (is_mark_at marks.Comma) Any) (refl, tt)))
+      (λ m rows. starts_with (token.Punct marks.CloseSquare) roles.Plain _ Any (Behind (is_mark_at marks.Comma) Any) (refl, tt)))
 
   pub kernel_unroll : (rows : List (List ℤ)) (s : At) → while (is_mark_at marks.Comma) (next_behind (mark marks.Comma roles.Plain) row) rows s ≡ choose (is_mark_at marks.Comma) (next_behind (mark marks.Comma roles.Plain) row rows >>= while (is_mark_at marks.Comma) (next_behind (mark marks.Comma roles.Plain) row)) (gives rows) s
-  kernel_unroll rows s = separated_unroll n (is_mark_at marks.Comma) (token.Mark marks.Comma) roles.Plain refl row Any tt g.row (parses_mark n marks.Comma roles.Plain) parses_row rows s
+  kernel_unroll rows s = separated_unroll n (is_mark_at marks.Comma) (token.Punct marks.Comma) roles.Plain refl row Any tt g.row (parses_mark n marks.Comma roles.Plain) parses_row rows s
 
   pub parses_stencil : Parses n a_stencil Any (λ _. g.a_stencil)
   unfolding a_stencil

@@ -2,8 +2,8 @@
 use Rattle.std.proofs.Common.{false, ◌≡◌, ℕ, List, [], Some, None, refl}
 use Rattle.pipe_tokens.specs.declared.token.Token.{Token}
 use Rattle.pipe_tokens.specs.declared.token.Token.TheVariants as token
-use Rattle.pipe_tokens.specs.declared.token.Mark.TheVariants as marks
-use Rattle.pipe_tokens.specs.declared.token.Word.TheVariants as words
+use Rattle.pipe_tokens.specs.declared.token.Punct.TheVariants as marks
+use Rattle.pipe_tokens.specs.declared.token.Keyword.TheVariants as words
 use Rattle.pipe_tree.specs.declared.limits.Role.{Role}
 use Rattle.pipe_tree.specs.declared.limits.Role.TheVariants as roles
 use Rattle.domains.specs.declared.operators.Relation.{Relation}
@@ -39,9 +39,9 @@ abbrev NoBranch : Follow
 NoBranch h = NoCase h × NoElse h
 
 relation_is_no_percent : (t : Token) (x : Relation) → relation_at (Some t) ≡ Some x → is_mark_at marks.Percent (Some t) ≡ false
-relation_is_no_percent (token.Mark marks.AtMost) x e = refl
-relation_is_no_percent (token.Mark marks.AtLeast) x e = refl
-relation_is_no_percent (token.Mark marks.Equals) x e = refl
+relation_is_no_percent (token.Punct marks.AtMost) x e = refl
+relation_is_no_percent (token.Punct marks.AtLeast) x e = refl
+relation_is_no_percent (token.Punct marks.Equals) x e = refl
 relation_is_no_percent t x e = absurd cc
 
 module _ (n : ℕ) where
@@ -64,7 +64,7 @@ module _ (n : ℕ) where
       parses_next n _ _ NoComma _ _ (parses_name n role) (λ z.
       parses_gives n _ NoComma)))))
       (parses_gives n _ NoComma)
-      (λ m. starts_with (token.Mark marks.Comma) roles.Plain _ NoComma (Passing (is_mark_at marks.Comma)) refl)
+      (λ m. starts_with (token.Punct marks.Comma) roles.Plain _ NoComma (Passing (is_mark_at marks.Comma)) refl)
       (λ m. starts_gives _ NoComma NoComma (λ h s. s))
 
   pub parses_names : (role : Role) → Parses n (names role) NoComma (λ _. g.names role)
@@ -83,9 +83,9 @@ module _ (n : ℕ) where
       parses_next n _ _ Any _ _ (parses_mark n marks.CloseRound roles.Plain) (λ _.
       parses_next n _ _ Any _ _ (parses_mark n marks.Semicolon roles.Plain) (λ _.
       parses_gives n _ Any)))
-      (λ m columns. starts_with (token.Mark marks.CloseRound) roles.Plain _ Any NoTerm (refl, refl))))
-      (λ m rows. starts_with (token.Mark marks.Comma) roles.Plain _ Any NoTerm (refl, refl))))
-      (λ m ns. starts_with (token.Mark marks.OpenRound) roles.Plain _ Any NoComma refl))
+      (λ m columns. starts_with (token.Punct marks.CloseRound) roles.Plain _ Any NoTerm (refl, refl))))
+      (λ m rows. starts_with (token.Punct marks.Comma) roles.Plain _ Any NoTerm (refl, refl))))
+      (λ m ns. starts_with (token.Punct marks.OpenRound) roles.Plain _ Any NoComma refl))
 
   -- ---- functions
 
@@ -109,7 +109,7 @@ module _ (n : ℕ) where
       parses_gives n _ NoTerm)))))
       (parses_next n _ _ NoTerm _ _ (parses_relation n) (λ r.
       parses_then n _ _ NoTerm NoTerm _ _ (parses_affine n) (λ bound. parses_gives n _ NoTerm) (λ m bound. starts_gives _ NoTerm NoTerm (λ h s. s))))
-      (λ m. starts_with (token.Mark marks.Percent) roles.Plain _ NoTerm (Passing (is_mark_at marks.Percent)) refl)
+      (λ m. starts_with (token.Punct marks.Percent) roles.Plain _ NoTerm (Passing (is_mark_at marks.Percent)) refl)
       (λ m. starts_by g.relation _ NoTerm (Failing (is_mark_at marks.Percent)) (starts_means relation_at roles.Plain Any (Failing (is_mark_at marks.Percent)) relation_is_no_percent))
 
   pub parses_test : Parses n a_test NoTerm (λ _. g.a_test)
@@ -118,10 +118,10 @@ module _ (n : ℕ) where
 
   pub parses_condition : Parses n condition NoAnd (λ _. g.condition)
   unfolding condition g.condition
-  parses_condition = parses_separated n (is_word_at words.And) (token.Word words.And) roles.Plain refl a_test NoTerm (refl, refl) g.a_test (parses_word n words.And roles.Plain) parses_test
+  parses_condition = parses_separated n (is_word_at words.And) (token.Keyword words.And) roles.Plain refl a_test NoTerm (refl, refl) g.a_test (parses_word n words.And roles.Plain) parses_test
 
   pub condition_unroll : (tests : List Test) (s : At) → while (is_word_at words.And) (next_behind (word words.And roles.Plain) a_test) tests s ≡ choose (is_word_at words.And) (next_behind (word words.And roles.Plain) a_test tests >>= while (is_word_at words.And) (next_behind (word words.And roles.Plain) a_test)) (gives tests) s
-  condition_unroll tests s = separated_unroll n (is_word_at words.And) (token.Word words.And) roles.Plain refl a_test NoTerm (refl, refl) g.a_test (parses_word n words.And roles.Plain) parses_test tests s
+  condition_unroll tests s = separated_unroll n (is_word_at words.And) (token.Keyword words.And) roles.Plain refl a_test NoTerm (refl, refl) g.a_test (parses_word n words.And roles.Plain) parses_test tests s
 
   pub parses_value : Parses n (value n) Any g.value
   unfolding value
@@ -130,7 +130,7 @@ module _ (n : ℕ) where
       parses_then n _ _ NoOperator Any _ _ (parses_expression n) (λ e.
       parses_next n _ _ Any _ _ (parses_mark n marks.Semicolon roles.Plain) (λ _.
       parses_gives n _ Any))
-      (λ m e. starts_with (token.Mark marks.Semicolon) roles.Plain _ Any NoOperator (refl, refl, refl)))
+      (λ m e. starts_with (token.Punct marks.Semicolon) roles.Plain _ Any NoOperator (refl, refl, refl)))
 
   parses_case : (cases : List Branch) → Parses n (a_case n cases) Any (λ m. g.a_case m cases)
   parses_case cases =
@@ -138,13 +138,13 @@ module _ (n : ℕ) where
       parses_then n _ _ NoAnd Any _ _ parses_condition (λ c.
       parses_next n _ _ Any _ _ parses_value (λ e.
       parses_gives n _ Any))
-      (λ m c. starts_by (g.value m) _ Any NoAnd (starts_with (token.Mark marks.Colon) roles.Plain _ Any NoAnd (refl, (refl, refl)))))
+      (λ m c. starts_by (g.value m) _ Any NoAnd (starts_with (token.Punct marks.Colon) roles.Plain _ Any NoAnd (refl, (refl, refl)))))
 
   case_turns : Turns n (λ _. is_word_at words.Case) (a_case n) Any NoCase (λ cases m. g.a_case m cases)
   case_turns = record {
     each = parses_case;
-    some = λ m a b text p. long_front _ _ (long_token (token.Word words.Case) roles.Case) text b p;
-    begins = λ m a b text rest p s. starts_with (token.Word words.Case) roles.Case _ Any (Passing (is_word_at words.Case)) refl text rest b p s;
+    some = λ m a b text p. long_front _ _ (long_token (token.Keyword words.Case) roles.Case) text b p;
+    begins = λ m a b text rest p s. starts_with (token.Keyword words.Case) roles.Case _ Any (Passing (is_word_at words.Case)) refl text rest b p s;
     follows = λ m a b text rest p s. tt;
     stops = λ a h e. e;
     ends = λ h e. tt;
@@ -164,13 +164,13 @@ module _ (n : ℕ) where
       (parses_next n _ _ NoElse _ _ (parses_word n words.Else roles.Plain) (λ _.
       parses_next n _ _ NoElse _ _ parses_value (λ e. parses_gives n _ NoElse)))
       (parses_gives n None NoElse)
-      (λ m. starts_with (token.Word words.Else) roles.Plain _ NoElse (Passing (is_word_at words.Else)) refl)
+      (λ m. starts_with (token.Keyword words.Else) roles.Plain _ NoElse (Passing (is_word_at words.Else)) refl)
       (λ m. starts_gives None NoElse NoElse (λ h s. s))
 
   otherwise_starts : (m : ℕ) → Starts (g.otherwise m) NoBranch NoCase
   otherwise_starts m =
       starts_or _ _ NoBranch NoCase
-      (starts_with (token.Word words.Else) roles.Plain _ NoBranch NoCase refl)
+      (starts_with (token.Keyword words.Else) roles.Plain _ NoBranch NoCase refl)
       (starts_gives None NoBranch NoCase (λ h s. s.0))
 
   pub parses_function : Parses n (a_function n) Any g.a_function
@@ -184,8 +184,8 @@ module _ (n : ℕ) where
       parses_then n _ _ NoElse Any _ _ parses_otherwise (λ e.
       parses_next n _ _ Any _ _ (parses_mark n marks.CloseCurly roles.Plain) (λ _.
       parses_gives n _ Any))
-      (λ m e. starts_with (token.Mark marks.CloseCurly) roles.Plain _ Any NoElse refl))
-      (λ m cases. starts_then (g.otherwise m) _ NoBranch Any NoCase (otherwise_starts m) (λ e. starts_with (token.Mark marks.CloseCurly) roles.Plain _ Any NoBranch (refl, refl)))))))
+      (λ m e. starts_with (token.Punct marks.CloseCurly) roles.Plain _ Any NoElse refl))
+      (λ m cases. starts_then (g.otherwise m) _ NoBranch Any NoCase (otherwise_starts m) (λ e. starts_with (token.Punct marks.CloseCurly) roles.Plain _ Any NoBranch (refl, refl)))))))
 
   -- ---- accumulators and outputs
 
@@ -203,8 +203,8 @@ module _ (n : ℕ) where
       parses_then n _ _ NoOperator Any _ _ (parses_expression n) (λ b.
       parses_next n _ _ Any _ _ (parses_mark n marks.Semicolon roles.Plain) (λ _.
       parses_gives n _ Any))
-      (λ m b. starts_with (token.Mark marks.Semicolon) roles.Plain _ Any NoOperator (refl, refl, refl))))
-      (λ m v. starts_with (token.Word words.At) roles.Plain _ Any NoOperator (refl, refl, refl))))))))
+      (λ m b. starts_with (token.Punct marks.Semicolon) roles.Plain _ Any NoOperator (refl, refl, refl))))
+      (λ m v. starts_with (token.Keyword words.At) roles.Plain _ Any NoOperator (refl, refl, refl))))))))
 
   pub parses_output : Parses n an_output Any (λ _. g.an_output)
   unfolding an_output
@@ -215,4 +215,4 @@ module _ (n : ℕ) where
       parses_next n _ _ Any _ _ (parses_int roles.Plain n) (λ most.
       parses_next n _ _ Any _ _ (parses_mark n marks.Semicolon roles.Plain) (λ _.
       parses_gives n _ Any))))
-      (λ m ns. starts_with (token.Word words.Max) roles.Plain _ Any NoComma refl))
+      (λ m ns. starts_with (token.Keyword words.Max) roles.Plain _ Any NoComma refl))

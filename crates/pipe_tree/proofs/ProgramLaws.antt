@@ -5,7 +5,7 @@ use Rattle.std.specs.List.{list_any}
 use Rattle.std.proofs.lemmas.List.{append-nil}
 use Rattle.pipe_tokens.specs.declared.token.Token.{Token}
 use Rattle.pipe_tokens.specs.declared.token.Token.TheVariants as token
-use Rattle.pipe_tokens.specs.declared.token.Word.TheVariants as words
+use Rattle.pipe_tokens.specs.declared.token.Keyword.TheVariants as words
 use Rattle.pipe_tree.specs.declared.limits.Role.TheVariants as roles
 use Rattle.pipe_tree.specs.declared.ahead.ItemStart.{ItemStart}
 use Rattle.pipe_tree.specs.declared.ahead.ItemStart.TheVariants as start
@@ -143,15 +143,15 @@ module _ (n : ℕ) (items : List Declaration) where
 
   -- what each kind of item begins with
   begins_param : Starts (Behind g.a_param param items) Any (Begun start.Param)
-  begins_param = starts_by g.a_param _ Any (Begun start.Param) (starts_with (token.Word words.Param) roles.Plain _ Any (Begun start.Param) refl)
+  begins_param = starts_by g.a_param _ Any (Begun start.Param) (starts_with (token.Keyword words.Param) roles.Plain _ Any (Begun start.Param) refl)
 
   begins_function : (m : ℕ) → Starts (Behind (g.a_function m) function items) Any (Begun start.Func)
   unfolding g.a_function
-  begins_function m = starts_by (g.a_function m) _ Any (Begun start.Func) (starts_with (token.Word words.Func) roles.Function _ Any (Begun start.Func) refl)
+  begins_function m = starts_by (g.a_function m) _ Any (Begun start.Func) (starts_with (token.Keyword words.Func) roles.Function _ Any (Begun start.Func) refl)
 
   begins_accumulator : (m : ℕ) → Starts (Behind (g.an_accumulator m) accumulator items) Any (Begun start.Accum)
   unfolding g.an_accumulator
-  begins_accumulator m = starts_by (g.an_accumulator m) _ Any (Begun start.Accum) (starts_with (token.Word words.Accum) roles.Plain _ Any (Begun start.Accum) refl)
+  begins_accumulator m = starts_by (g.an_accumulator m) _ Any (Begun start.Accum) (starts_with (token.Keyword words.Accum) roles.Plain _ Any (Begun start.Accum) refl)
 
   -- where no output was before
   First : Follow
@@ -159,7 +159,7 @@ module _ (n : ℕ) (items : List Declaration) where
 
   first_output : Starts (FirstOutput items) Any First
   unfolding First
-  first_output text rest o p t = (starts_with (token.Word words.Output) roles.Plain _ Any (Begun start.Output) refl text rest o p.it t, p.no_other)
+  first_output text rest o p t = (starts_with (token.Keyword words.Output) roles.Plain _ Any (Begun start.Output) refl text rest o p.it t, p.no_other)
 
   begins_output : Starts (Behind (FirstOutput items) output items) Any First
   begins_output = starts_by (FirstOutput items) _ Any First first_output
@@ -243,10 +243,10 @@ NoItem h = item_at h ≡ start.Nothing
 
 other_long : (m : ℕ) (items : List Declaration) (text : List Tagged) (x : List Declaration) → g.other m items text x → 0 < length text
 unfolding g.a_function g.an_accumulator
-other_long m items text x (inl (inl (inl p))) = long_front g.a_param _ (long_front _ _ (long_token (token.Word words.Param) roles.Plain)) text x p
-other_long m items text x (inl (inl (inr p))) = long_front (g.a_function m) _ (long_front _ _ (long_token (token.Word words.Func) roles.Function)) text x p
-other_long m items text x (inl (inr p)) = long_front (g.an_accumulator m) _ (long_front _ _ (long_token (token.Word words.Accum) roles.Plain)) text x p
-other_long m items text x (inr p) = long_front (FirstOutput items) _ (λ text o p. long_front _ _ (long_token (token.Word words.Output) roles.Plain) text o p.it) text x p
+other_long m items text x (inl (inl (inl p))) = long_front g.a_param _ (long_front _ _ (long_token (token.Keyword words.Param) roles.Plain)) text x p
+other_long m items text x (inl (inl (inr p))) = long_front (g.a_function m) _ (long_front _ _ (long_token (token.Keyword words.Func) roles.Function)) text x p
+other_long m items text x (inl (inr p)) = long_front (g.an_accumulator m) _ (long_front _ _ (long_token (token.Keyword words.Accum) roles.Plain)) text x p
+other_long m items text x (inr p) = long_front (FirstOutput items) _ (λ text o p. long_front _ _ (long_token (token.Keyword words.Output) roles.Plain) text o p.it) text x p
 
 module _ (n : ℕ) where
   item_turns : Turns n goes_on (guarded goes_on (other n)) Any NoItem (λ items m. g.other m items)
@@ -267,7 +267,7 @@ module _ (n : ℕ) where
 
   image_starts : {Y : Type 0} (Q : Image → Rule Y) (T : Follow) → Starts (Then g.an_image Q) T NoItem
   unfolding g.an_image
-  image_starts Q T = starts_by g.an_image Q T NoItem (starts_with (token.Word words.Image) roles.Plain _ Any NoItem refl)
+  image_starts Q T = starts_by g.an_image Q T NoItem (starts_with (token.Keyword words.Image) roles.Plain _ Any NoItem refl)
 
   parses_program : Parses n (program_at n) NoItem g.Program
   unfolding program_at g.Program

@@ -5,8 +5,8 @@ use Rattle.std.proofs.lemmas.List.Elements.{All-push}
 use Rattle.std.proofs.lemmas.List.Sums.{sum_by_push, sum_by-cons}
 use Rattle.pipe_tokens.specs.declared.token.Token.{Token}
 use Rattle.pipe_tokens.specs.declared.token.Token.TheVariants as token
-use Rattle.pipe_tokens.specs.declared.token.Word.TheVariants as words
-use Rattle.pipe_tokens.specs.declared.token.Word.{Word}
+use Rattle.pipe_tokens.specs.declared.token.Keyword.TheVariants as words
+use Rattle.pipe_tokens.specs.declared.token.Keyword.{Keyword}
 use Rattle.pipe_tree.specs.declared.limits.Counts.{Counts}
 use Rattle.pipe_tree.specs.declared.limits.Role.{Role}
 use Rattle.pipe_tree.specs.declared.limits.Role.TheVariants as roles
@@ -187,7 +187,7 @@ module _ (w : Weights) where
     sums = adds _ _ (both 0 _ _ _ _ unary (λ a. changed (node a) _ _ _ (omega arith) (many_adds (g.sum_more U) node (λ b. both (node b) _ _ _ _ (means _ roles.Node) (λ c. both _ _ _ _ _ unary (λ d. gives _ _ node (omega arith)))) a)))
 
   module _ (U E : Rule Node) (unary : Weighs U node) (inner : Weighs E node) where
-    pair : (v : Word) (op : BinaryOp) → Adds 0 (g.pair v op E) node
+    pair : (v : Keyword) (op : BinaryOp) → Adds 0 (g.pair v op E) node
     pair v op = both 0 _ _ _ _ (takes _ roles.Node _) (λ _. light _ _ _ _ (takes _ roles.Plain _) (λ _. both _ _ _ _ _ inner (λ a. light _ _ _ _ (takes _ roles.Plain _) (λ _. both _ _ _ _ _ inner (λ b. light _ _ _ _ (takes _ roles.Plain _) (λ _. gives _ _ node (omega arith)))))))
 
     opened : Adds 0 (g.opened U E) node
@@ -399,7 +399,7 @@ function_cases m text f c d p e =
     let cased = a_function cases m text f p in
     let light : weight functions p.back ≡ 0 = omega (arith, ap (weight functions) whole, heavy, no_cases f.cases, no_option f.otherwise) in
     let counted_back = sym (ap (counted_all (Some c)) whole) ∙ e in
-    omega (arith, ap (weight cases) whole, cased, few_behind (token.Word words.Func) p.back c d true refl counted_back light)
+    omega (arith, ap (weight cases) whole, cased, few_behind (token.Keyword words.Func) p.back c d true refl counted_back light)
 
 -- ---- all items
 

@@ -3,12 +3,12 @@ use Rattle.std.proofs.Common.{Bool, true, false, ◌≡◌, ℕ, ◌<◌, List, 
 use Rattle.std.proofs.lemmas.List.{append-nil}
 use Rattle.std.specs.Prelude.{if◌then◌else◌, nat_le}
 use denote.Enum.Bare.{sameb, same_true, same_false}
-use Rattle.pipe_tokens.specs.contracts.token.Mark as mark_type
-use Rattle.pipe_tokens.specs.contracts.token.Word as word_type
-use Rattle.pipe_tokens.specs.declared.token.Mark.{Mark}
-use Rattle.pipe_tokens.specs.declared.token.Mark.TheVariants as marks
-use Rattle.pipe_tokens.specs.declared.token.Word.{Word}
-use Rattle.pipe_tokens.specs.declared.token.Word.TheVariants as words
+use Rattle.pipe_tokens.specs.contracts.token.Punct as mark_type
+use Rattle.pipe_tokens.specs.contracts.token.Keyword as word_type
+use Rattle.pipe_tokens.specs.declared.token.Punct.{Punct}
+use Rattle.pipe_tokens.specs.declared.token.Punct.TheVariants as marks
+use Rattle.pipe_tokens.specs.declared.token.Keyword.{Keyword}
+use Rattle.pipe_tokens.specs.declared.token.Keyword.TheVariants as words
 use Rattle.pipe_tokens.specs.declared.token.Token.{Token}
 use Rattle.pipe_tokens.specs.declared.token.Token.TheVariants as token
 use Rattle.pipe_tree.specs.declared.fault.Kind.TheVariants.{NumberTooBig}
@@ -32,29 +32,29 @@ use Rattle.pipe_tree.proofs.Laws.{on, state, tagged, Within, Sound, HasText, Any
 
 -- ---- marks and words
 
-mark_only : (m : Mark) (h : Option Token) → is_mark_at m h ≡ true → h ≡ Some (token.Mark m)
-mark_only m (Some (token.Mark k)) e = ap (λ (q : Mark). Some (token.Mark q)) (same_true mark_type.the_type (search) k m e)
+mark_only : (m : Punct) (h : Option Token) → is_mark_at m h ≡ true → h ≡ Some (token.Punct m)
+mark_only m (Some (token.Punct k)) e = ap (λ (q : Punct). Some (token.Punct q)) (same_true mark_type.the_type (search) k m e)
 mark_only m None e = absurd cc
 mark_only m (Some t) e = absurd cc
 
-same_mark : (m : Mark) (b : Bool) → sameb mark_type.the_type m m ≡ b → b ≡ true
+same_mark : (m : Punct) (b : Bool) → sameb mark_type.the_type m m ≡ b → b ≡ true
 same_mark m true e = refl
 same_mark m false e = absurd (same_false mark_type.the_type m m e refl)
 
-pub parses_mark : (n : ℕ) (m : Mark) (role : Role) → Parses n (mark m role) Any (λ _. g.mark m role)
-parses_mark n m role = parses_expect (is_mark_at m) (token.Mark m) role refl (same_mark m (sameb mark_type.the_type m m) refl) (mark_only m) n
+pub parses_mark : (n : ℕ) (m : Punct) (role : Role) → Parses n (mark m role) Any (λ _. g.mark m role)
+parses_mark n m role = parses_expect (is_mark_at m) (token.Punct m) role refl (same_mark m (sameb mark_type.the_type m m) refl) (mark_only m) n
 
-word_only : (w : Word) (h : Option Token) → is_word_at w h ≡ true → h ≡ Some (token.Word w)
-word_only w (Some (token.Word k)) e = ap (λ (q : Word). Some (token.Word q)) (same_true word_type.the_type (search) k w e)
+word_only : (w : Keyword) (h : Option Token) → is_word_at w h ≡ true → h ≡ Some (token.Keyword w)
+word_only w (Some (token.Keyword k)) e = ap (λ (q : Keyword). Some (token.Keyword q)) (same_true word_type.the_type (search) k w e)
 word_only w None e = absurd cc
 word_only w (Some t) e = absurd cc
 
-same_word : (w : Word) (b : Bool) → sameb word_type.the_type w w ≡ b → b ≡ true
+same_word : (w : Keyword) (b : Bool) → sameb word_type.the_type w w ≡ b → b ≡ true
 same_word w true e = refl
 same_word w false e = absurd (same_false word_type.the_type w w e refl)
 
-pub parses_word : (n : ℕ) (w : Word) (role : Role) → Parses n (word w role) Any (λ _. g.word w role)
-parses_word n w role = parses_expect (is_word_at w) (token.Word w) role refl (same_word w (sameb word_type.the_type w w) refl) (word_only w) n
+pub parses_word : (n : ℕ) (w : Keyword) (role : Role) → Parses n (word w role) Any (λ _. g.word w role)
+parses_word n w role = parses_expect (is_word_at w) (token.Keyword w) role refl (same_word w (sameb word_type.the_type w w) refl) (word_only w) n
 
 -- ---- tokens that mean something
 
@@ -107,35 +107,35 @@ name_good (token.Name y) x e = refl
 name_good t x e = absurd cc
 
 sign_good : (t : Token) (x : Bool) → sign_at (Some t) ≡ Some x → fits t ≡ true
-sign_good (token.Mark m) x e = refl
+sign_good (token.Punct m) x e = refl
 sign_good t x e = absurd cc
 
 factor_good : (t : Token) (x : Factor) → factor_at (Some t) ≡ Some x → fits t ≡ true
-factor_good (token.Mark m) x e = refl
+factor_good (token.Punct m) x e = refl
 factor_good t x e = absurd cc
 
 relation_good : (t : Token) (x : Relation) → relation_at (Some t) ≡ Some x → fits t ≡ true
-relation_good (token.Mark m) x e = refl
+relation_good (token.Punct m) x e = refl
 relation_good t x e = absurd cc
 
 fold_good : (t : Token) (x : Fold) → fold_at (Some t) ≡ Some x → fits t ≡ true
-fold_good (token.Word w) x e = refl
+fold_good (token.Keyword w) x e = refl
 fold_good t x e = absurd cc
 
 pub parses_name : (n : ℕ) (role : Role) → Parses n (name role) Any (λ _. g.name role)
 parses_name n role = parses_means name_at role name_good refl (token.Name []) [] refl n
 
 pub parses_sign : (n : ℕ) (role : Role) → Parses n (sign role) Any (λ _. g.sign role)
-parses_sign n role = parses_means sign_at role sign_good refl (token.Mark marks.Plus) false refl n
+parses_sign n role = parses_means sign_at role sign_good refl (token.Punct marks.Plus) false refl n
 
 pub parses_factor : (n : ℕ) → Parses n factor Any (λ _. g.factor)
-parses_factor n = parses_means factor_at roles.Node factor_good refl (token.Mark marks.Star) factors.Times refl n
+parses_factor n = parses_means factor_at roles.Node factor_good refl (token.Punct marks.Star) factors.Times refl n
 
 pub parses_relation : (n : ℕ) → Parses n relation Any (λ _. g.relation)
-parses_relation n = parses_means relation_at roles.Plain relation_good refl (token.Mark marks.AtMost) relations.AtMost refl n
+parses_relation n = parses_means relation_at roles.Plain relation_good refl (token.Punct marks.AtMost) relations.AtMost refl n
 
 pub parses_fold : (n : ℕ) → Parses n fold Any (λ _. g.fold)
-parses_fold n = parses_means fold_at roles.Plain fold_good refl (token.Word words.Sum) folds.Sum refl n
+parses_fold n = parses_means fold_at roles.Plain fold_good refl (token.Keyword words.Sum) folds.Sum refl n
 
 -- ---- numbers
 
@@ -159,7 +159,7 @@ module _ (role : Role) where
     last = s.rest;
     counts = s.counts;
     parts = refl;
-    left = refl;
+    remaining = refl;
     few = refl;
     again = λ more e. refl;
     more = tagged t role ∷ [];
@@ -188,7 +188,7 @@ module _ (role : Role) where
   int_sound s = retarget (int_by role (head s.rest)) (int role) (g.int role) (g.int role) s (int_by role (head s.rest) s) (λ s' same. ap (λ (h : Option Token). int_by role h s') same) (int_on s (head s.rest) refl)
 
   big_ends : (deep : Type 0) (c : Counts) (t : Token) (x : ℕ) (rest : List Token) → fits t ≡ false → Ends deep c x (tagged t role ∷ []) rest (stop NumberTooBig (state c (t ∷ rest)))
-  big_ends deep c t x rest big = inr (record { front = []; at = tagged t role; back = []; counts = c; parts = refl; left = refl; few = refl; passes = not_counted t role c big; kind = inr refl })
+  big_ends deep c t x rest big = inr (record { front = []; at = tagged t role; back = []; counts = c; parts = refl; remaining = refl; few = refl; passes = not_counted t role c big; kind = inr refl })
 
   int_ends : (deep : Type 0) (c : Counts) (k : ℕ) (rest : List Token) (b : Bool) → nat_le k 2147483647 ≡ b → Ends deep c k (tagged (token.Int k) role ∷ []) rest ((if b then (begin role >>= λ _. gives k) else stop NumberTooBig) (state c (token.Int k ∷ rest)))
   int_ends deep c k rest false e = big_ends deep c (token.Int k) k rest e

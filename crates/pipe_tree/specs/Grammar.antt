@@ -3,10 +3,10 @@ use Rattle.std.specs.Prelude.{◌≡◌, ℕ, zero, suc, ℤ, pos, neg_ℤ, Bool
 use Rattle.std.specs.List.{list_any}
 use Rattle.pipe_tokens.specs.declared.token.Token.{Token}
 use Rattle.pipe_tokens.specs.declared.token.Token.TheVariants as token
-use Rattle.pipe_tokens.specs.declared.token.Mark.{Mark}
-use Rattle.pipe_tokens.specs.declared.token.Mark.TheVariants.{OpenRound, CloseRound, OpenSquare, CloseSquare, OpenCurly, CloseCurly, Comma, Semicolon, Colon, Minus, Star, Slash, Percent, Equals, DotDot}
-use Rattle.pipe_tokens.specs.declared.token.Word.{Word}
-use Rattle.pipe_tokens.specs.declared.token.Word.TheVariants as words
+use Rattle.pipe_tokens.specs.declared.token.Punct.{Punct}
+use Rattle.pipe_tokens.specs.declared.token.Punct.TheVariants.{OpenRound, CloseRound, OpenSquare, CloseSquare, OpenCurly, CloseCurly, Comma, Semicolon, Colon, Minus, Star, Slash, Percent, Equals, DotDot}
+use Rattle.pipe_tokens.specs.declared.token.Keyword.{Keyword}
+use Rattle.pipe_tokens.specs.declared.token.Keyword.TheVariants as words
 use Rattle.pipe_tree.specs.declared.limits.Role.{Role}
 use Rattle.pipe_tree.specs.declared.limits.Role.TheVariants as roles
 use Rattle.pipe_tree.specs.declared.tree.AffineSpan.{AffineSpan}
@@ -94,11 +94,11 @@ separated separator one = do
 
 -- ---- tokens
 
-abbrev pub mark : Mark → Role → Rule (Unit {0})
-mark m role = Takes (token.Mark m) role tt
+abbrev pub mark : Punct → Role → Rule (Unit {0})
+mark m role = Takes (token.Punct m) role tt
 
-abbrev pub word : Word → Role → Rule (Unit {0})
-word w role = Takes (token.Word w) role tt
+abbrev pub word : Keyword → Role → Rule (Unit {0})
+word w role = Takes (token.Keyword w) role tt
 
 abbrev pub name : Role → Rule (List ℕ)
 name role = Means name_at role
@@ -335,7 +335,7 @@ group expression = do
   Gives a
 
 -- `min` or `max` of two
-abbrev pub pair : Word → BinaryOp → Rule Node → Rule Node
+abbrev pub pair : Keyword → BinaryOp → Rule Node → Rule Node
 pair w op expression = do
   _ ← word w roles.Node
   _ ← mark OpenRound roles.Plain

@@ -1,14 +1,14 @@
 -- What the token ahead begins. Only the contracts of functions inside the parser cite this.
 use Rattle.std.specs.Prelude.{Bool, true, false, Option, Some}
 use denote.Enum.Bare.{sameb}
-use Rattle.pipe_tokens.specs.contracts.token.Mark as mark_type
-use Rattle.pipe_tokens.specs.contracts.token.Word as word_type
-use Rattle.pipe_tokens.specs.declared.token.Mark.{Mark}
-use Rattle.pipe_tokens.specs.declared.token.Word.{Word}
+use Rattle.pipe_tokens.specs.contracts.token.Punct as mark_type
+use Rattle.pipe_tokens.specs.contracts.token.Keyword as word_type
+use Rattle.pipe_tokens.specs.declared.token.Punct.{Punct}
+use Rattle.pipe_tokens.specs.declared.token.Keyword.{Keyword}
 use Rattle.pipe_tokens.specs.declared.token.Token.{Token}
 use Rattle.pipe_tokens.specs.declared.token.Token.TheVariants as token
-use Rattle.pipe_tokens.specs.declared.token.Mark.TheVariants as mark
-use Rattle.pipe_tokens.specs.declared.token.Word.TheVariants as word
+use Rattle.pipe_tokens.specs.declared.token.Punct.TheVariants as mark
+use Rattle.pipe_tokens.specs.declared.token.Keyword.TheVariants as word
 use Rattle.domains.specs.declared.operators.BinaryOp.TheVariants as binary
 use Rattle.pipe_tree.specs.declared.ahead.Start.{Start}
 use Rattle.pipe_tree.specs.declared.ahead.Start.TheVariants as start
@@ -16,12 +16,12 @@ use Rattle.pipe_tree.specs.declared.ahead.Opening.TheVariants as opening
 use Rattle.pipe_tree.specs.declared.ahead.ItemStart.{ItemStart}
 use Rattle.pipe_tree.specs.declared.ahead.ItemStart.TheVariants as item
 
-abbrev pub is_mark_at : Mark → Option Token → Bool
-is_mark_at m (Some (token.Mark n)) = sameb mark_type.the_type n m
+abbrev pub is_mark_at : Punct → Option Token → Bool
+is_mark_at m (Some (token.Punct n)) = sameb mark_type.the_type n m
 is_mark_at m _ = false
 
-abbrev pub is_word_at : Word → Option Token → Bool
-is_word_at w (Some (token.Word v)) = sameb word_type.the_type v w
+abbrev pub is_word_at : Keyword → Option Token → Bool
+is_word_at w (Some (token.Keyword v)) = sameb word_type.the_type v w
 is_word_at w _ = false
 
 abbrev pub is_number_at : Option Token → Bool
@@ -33,19 +33,19 @@ abbrev pub start_at : Option Token → Start
 start_at (Some (token.Int n)) = start.Number
 start_at (Some token.TooBig) = start.Number
 start_at (Some (token.Name x)) = start.Name
-start_at (Some (token.Mark mark.Minus)) = start.Opening opening.Minus
-start_at (Some (token.Mark mark.OpenRound)) = start.Opening opening.Group
-start_at (Some (token.Word word.Min)) = start.Opening (opening.Pair binary.Min)
-start_at (Some (token.Word word.Max)) = start.Opening (opening.Pair binary.Max)
-start_at (Some (token.Word word.Abs)) = start.Opening opening.Abs
-start_at (Some (token.Word word.Clamp)) = start.Opening opening.Clamp
-start_at (Some (token.Word word.Select)) = start.Opening opening.Select
-start_at (Some (token.Word word.Stencil)) = start.Stencil
+start_at (Some (token.Punct mark.Minus)) = start.Opening opening.Minus
+start_at (Some (token.Punct mark.OpenRound)) = start.Opening opening.Group
+start_at (Some (token.Keyword word.Min)) = start.Opening (opening.Pair binary.Min)
+start_at (Some (token.Keyword word.Max)) = start.Opening (opening.Pair binary.Max)
+start_at (Some (token.Keyword word.Abs)) = start.Opening opening.Abs
+start_at (Some (token.Keyword word.Clamp)) = start.Opening opening.Clamp
+start_at (Some (token.Keyword word.Select)) = start.Opening opening.Select
+start_at (Some (token.Keyword word.Stencil)) = start.Stencil
 start_at _ = start.Nothing
 
 abbrev pub item_at : Option Token → ItemStart
-item_at (Some (token.Word word.Param)) = item.Param
-item_at (Some (token.Word word.Func)) = item.Func
-item_at (Some (token.Word word.Accum)) = item.Accum
-item_at (Some (token.Word word.Output)) = item.Output
+item_at (Some (token.Keyword word.Param)) = item.Param
+item_at (Some (token.Keyword word.Func)) = item.Func
+item_at (Some (token.Keyword word.Accum)) = item.Accum
+item_at (Some (token.Keyword word.Output)) = item.Output
 item_at _ = item.Nothing

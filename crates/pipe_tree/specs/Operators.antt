@@ -2,8 +2,8 @@
 use Rattle.std.specs.Prelude.{ℕ, Bool, true, false, List, Option, Some, None}
 use Rattle.pipe_tokens.specs.declared.token.Token.{Token}
 use Rattle.pipe_tokens.specs.declared.token.Token.TheVariants as token
-use Rattle.pipe_tokens.specs.declared.token.Mark.TheVariants as mark
-use Rattle.pipe_tokens.specs.declared.token.Word.TheVariants as word
+use Rattle.pipe_tokens.specs.declared.token.Punct.TheVariants as mark
+use Rattle.pipe_tokens.specs.declared.token.Keyword.TheVariants as word
 use Rattle.domains.specs.declared.operators.LiteralOp.TheVariants as literal
 use Rattle.domains.specs.declared.operators.Fold.{Fold}
 use Rattle.domains.specs.declared.operators.Fold.TheVariants as fold
@@ -18,27 +18,27 @@ name_at _ = None
 
 -- whether the sign is a minus
 abbrev pub sign_at : Option Token → Option Bool
-sign_at (Some (token.Mark mark.Plus)) = Some false
-sign_at (Some (token.Mark mark.Minus)) = Some true
+sign_at (Some (token.Punct mark.Plus)) = Some false
+sign_at (Some (token.Punct mark.Minus)) = Some true
 sign_at _ = None
 
 -- the operators of products
 abbrev pub factor_at : Option Token → Option Factor
-factor_at (Some (token.Mark mark.Star)) = Some factor.Times
-factor_at (Some (token.Mark mark.Slash)) = Some (factor.Literal literal.Div)
-factor_at (Some (token.Mark mark.Percent)) = Some (factor.Literal literal.Rem)
-factor_at (Some (token.Mark mark.ShiftLeft)) = Some (factor.Literal literal.Shl)
-factor_at (Some (token.Mark mark.ShiftRight)) = Some (factor.Literal literal.Shr)
+factor_at (Some (token.Punct mark.Star)) = Some factor.Times
+factor_at (Some (token.Punct mark.Slash)) = Some (factor.Literal literal.Div)
+factor_at (Some (token.Punct mark.Percent)) = Some (factor.Literal literal.Rem)
+factor_at (Some (token.Punct mark.ShiftLeft)) = Some (factor.Literal literal.Shl)
+factor_at (Some (token.Punct mark.ShiftRight)) = Some (factor.Literal literal.Shr)
 factor_at _ = None
 
 abbrev pub relation_at : Option Token → Option Relation
-relation_at (Some (token.Mark mark.AtMost)) = Some relation.AtMost
-relation_at (Some (token.Mark mark.AtLeast)) = Some relation.AtLeast
-relation_at (Some (token.Mark mark.Equals)) = Some relation.Equals
+relation_at (Some (token.Punct mark.AtMost)) = Some relation.AtMost
+relation_at (Some (token.Punct mark.AtLeast)) = Some relation.AtLeast
+relation_at (Some (token.Punct mark.Equals)) = Some relation.Equals
 relation_at _ = None
 
 abbrev pub fold_at : Option Token → Option Fold
-fold_at (Some (token.Word word.Sum)) = Some fold.Sum
-fold_at (Some (token.Word word.Min)) = Some fold.Min
-fold_at (Some (token.Word word.Max)) = Some fold.Max
+fold_at (Some (token.Keyword word.Sum)) = Some fold.Sum
+fold_at (Some (token.Keyword word.Min)) = Some fold.Min
+fold_at (Some (token.Keyword word.Max)) = Some fold.Max
 fold_at _ = None

@@ -2,10 +2,10 @@
 -- functions inside the parser cite this. What is read is what the grammar says: that is proved of each reader.
 use Rattle.std.specs.Prelude.{◌≡◌, ℕ, zero, suc, nat_le, ℤ, pos, Bool, true, false, List, [], ◌∷◌, ◌++◌, length, Option, Some, None, is_some, Result, Ok, Err, if◌then◌else◌}
 use Rattle.std.specs.List.{list_any}
-use Rattle.pipe_tokens.specs.declared.token.Mark.{Mark}
-use Rattle.pipe_tokens.specs.declared.token.Mark.TheVariants.{OpenRound, CloseRound, OpenSquare, CloseSquare, OpenCurly, CloseCurly, Comma, Semicolon, Colon, Minus, Star, Slash, Percent, Equals, DotDot}
-use Rattle.pipe_tokens.specs.declared.token.Word.{Word}
-use Rattle.pipe_tokens.specs.declared.token.Word.TheVariants as words
+use Rattle.pipe_tokens.specs.declared.token.Punct.{Punct}
+use Rattle.pipe_tokens.specs.declared.token.Punct.TheVariants.{OpenRound, CloseRound, OpenSquare, CloseSquare, OpenCurly, CloseCurly, Comma, Semicolon, Colon, Minus, Star, Slash, Percent, Equals, DotDot}
+use Rattle.pipe_tokens.specs.declared.token.Keyword.{Keyword}
+use Rattle.pipe_tokens.specs.declared.token.Keyword.TheVariants as words
 use Rattle.pipe_tokens.specs.declared.token.Token.{Token}
 use Rattle.pipe_tokens.specs.declared.token.Token.TheVariants as token
 use Rattle.pipe_tree.specs.declared.fault.Kind.{Kind}
@@ -44,7 +44,7 @@ use Rattle.pipe_tree.specs.Lookahead.{is_mark_at, is_word_at, is_number_at, star
 use Rattle.pipe_tree.specs.Grammar.{signed, sum_op, is_output}
 use Rattle.pipe_tree.specs.Tree.{Node, number, variable, read, neg, binary, literal, abs, clamp, select, stencil, Branch, Function, Accumulator, Declaration, param, image, function, accumulator, output}
 
--- where a reader is: what was counted so far, and the tokens that are left
+-- where a reader is: what was counted so far, and the tokens that remain
 pub record At : Type 0 where
   pub counts : Counts
   pub rest : List Token
@@ -67,7 +67,7 @@ abbrev pub gives : {X : Type 0} → X → Reader X
 gives x s = Ok (x, s)
 
 abbrev pub halt_of : Kind → List Token → Halt
-halt_of kind rest = record { kind = kind; left = length rest }
+halt_of kind rest = record { kind = kind; remaining = length rest }
 
 abbrev pub kind_at : Option Token → Kind
 kind_at (Some token.NotAscii) = NotAscii
@@ -99,10 +99,10 @@ begin role s = begun (counted role s.counts) s
 abbrev pub expect : (Option Token → Bool) → Role → Reader (Unit {0})
 expect test role = choose test (begin role) refuse
 
-abbrev pub mark : Mark → Role → Reader (Unit {0})
+abbrev pub mark : Punct → Role → Reader (Unit {0})
 mark m = expect (is_mark_at m)
 
-abbrev pub word : Word → Role → Reader (Unit {0})
+abbrev pub word : Keyword → Role → Reader (Unit {0})
 word w = expect (is_word_at w)
 
 abbrev pub meant : {X : Type 0} → Role → Option X → Reader X
@@ -371,7 +371,7 @@ group expression = do
   _ ← mark CloseRound roles.Plain
   gives a
 
-abbrev pub word_of : BinaryOp → Word
+abbrev pub word_of : BinaryOp → Keyword
 word_of Min = words.Min
 word_of _ = words.Max
 

@@ -1,4 +1,4 @@
--- Where the tests of a piece hold along a row of points.
+-- Where the tests of a case hold along a row of points.
 use Rattle.std.proofs.Common.{arith, ℕ, ℤ, zero, suc, map, ◌≡◌, ◌+◌, ◌-◌, ◌<◌, ◌≤◌, ◌⊎◌, inl, inr, pos, ◌+ℤ◌, ◌-ℤ◌, ◌≤ℤ◌, ◌↔◌, List, [], ◌∷◌, Bool, true, false, Option, Some, length, take, drop, subst, sym, ap, ◌∙◌, refl}
 use Rattle.std.specs.Prelude.{◌&&◌, if◌then◌else◌, slice_index_or}
 use Rattle.std.specs.Option.{option_map_or}
@@ -8,10 +8,10 @@ use Rattle.std.proofs.lemmas.Grind.{common_steps}
 use borrow.Rule.Slice.PartMut.{put_mid}
 use Rattle.domains.specs.Span.{Ends, Holds, IsMeet}
 use Rattle.job.specs.Formula.{Formula, Test}
-use Rattle.job.specs.Pipeline.{Piece}
+use Rattle.job.specs.Pipeline.{JobCase}
 use Rattle.job.specs.Values.{Valuation, is_passed, all_passed, formula_value, chosen}
 use Rattle.tile_eval.specs.Rows.{at}
-use Rattle.tile_eval.specs.Pieces.{function_value, IsRoomy}
+use Rattle.tile_eval.specs.Cases.{function_value, IsRoomy}
 use Rattle.tile_eval.proofs.Gathering.{room_less}
 
 -- ---- a part of a row
@@ -46,7 +46,7 @@ pub chosen_first : (passed : Bool) (f : Formula) (o : Option Formula) (v : Formu
 chosen_first true f o v = refl
 chosen_first false f o v = refl
 
--- ---- lists of tests and pieces
+-- ---- lists of tests and cases
 
 -- the tests from one on: that one, and those behind it
 pub passed_step : {X : Type 0} (f : X → Test) (xs : List X) (i : ℕ) (x : X) (r c : ℤ) → i < length xs → x ≡ slice_index_or xs i x
@@ -55,8 +55,8 @@ passed_step f [] i x r c l e = absurd (omega arith)
 passed_step f (y ∷ ys) zero x r c l e = ap (λ z. is_passed (f z) r c && all_passed (map f ys) r c) (sym e)
 passed_step f (y ∷ ys) (suc i) x r c l e = passed_step f ys i x r c (omega arith) e
 
--- the pieces from one on
-pub chosen_step : {X : Type 0} (f : X → Piece) (xs : List X) (i : ℕ) (x : X) (env : Valuation) (otherwise : Option Formula) (r c : ℤ) → i < length xs → x ≡ slice_index_or xs i x
+-- the cases from one on
+pub chosen_step : {X : Type 0} (f : X → JobCase) (xs : List X) (i : ℕ) (x : X) (env : Valuation) (otherwise : Option Formula) (r c : ℤ) → i < length xs → x ≡ slice_index_or xs i x
     → function_value env (map f (drop i xs)) otherwise r c ≡ if all_passed (f x).tests r c then formula_value env (f x).formula r c else function_value env (map f (drop (suc i) xs)) otherwise r c
 chosen_step f [] i x env otherwise r c l e = absurd (omega arith)
 chosen_step f (y ∷ ys) zero x env otherwise r c l e =
@@ -97,7 +97,7 @@ to_behind P row col r c a j k e f s h = subst (λ (z : ℤ). P z (c +ℤ pos j))
 pub from_behind : (P : ℤ → ℤ → Type 0) (row col r c : ℤ) (a j k : ℕ) → r ≡ row → c ≡ col +ℤ pos a → a + j ≡ k → P r (c +ℤ pos j) → P row (col +ℤ pos k)
 from_behind P row col r c a j k e f s h = subst (λ (z : ℤ). P row z) (column_is c col a j k f s) (subst (λ (z : ℤ). P z (c +ℤ pos j)) e h)
 
-pub roomy_less : (n m room : ℕ) (p : Piece) → m ≤ n → IsRoomy n room p → IsRoomy m room p
+pub roomy_less : (n m room : ℕ) (p : JobCase) → m ≤ n → IsRoomy n room p → IsRoomy m room p
 roomy_less n m room p le is =
     let row = is.row in
     record { formula = is.formula; tests = is.tests; row = omega arith; operands = room_less p.formula n m (room - n) (room - m) le (omega arith) is.operands }

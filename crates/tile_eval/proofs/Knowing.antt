@@ -9,7 +9,7 @@ use Rattle.domains.specs.Area.{HoldsPoint, point_count}
 use Rattle.domains.specs.Index.{index_at}
 use Rattle.domains.specs.declared.area.Area.{Area}
 use Rattle.job.specs.Formula.{Formula}
-use Rattle.job.specs.Pipeline.{Body, Piece, Stage, Pipeline, plane, function, accumulator, rank_of}
+use Rattle.job.specs.Pipeline.{Body, JobCase, Stage, Pipeline, plane, function, accumulator, rank_of}
 use Rattle.job.specs.Values.{Valuation, kernel_row, kernel_column, body_value, sample_at, value}
 use Rattle.job.specs.Readers.{body_kind}
 use Rattle.job.specs.declared.job.StageKind.TheVariants.{Accumulator}
@@ -18,15 +18,15 @@ use Rattle.job.specs.WellFormed.{IsReadable, IsValued, IsBody, IsJob, picture_ar
 use Rattle.job.proofs.Unrolling.{rank_is, reads_fall}
 use Rattle.job.proofs.Solving.{body_value-agrees_there, BodyReads-both, ranked_is, value_solves}
 use Rattle.tile_eval.specs.Rows.{at}
-use Rattle.tile_eval.specs.Pieces.{function_value}
-use Rattle.tile_eval.specs.Whole.{raster, values_on, stage_values, place_of, sample_in, IsKnownAt, IsWholeOf, AreKnown, IsKept}
-use Rattle.tile_eval.specs.declared.wholes.Whole.{Whole}
+use Rattle.tile_eval.specs.Cases.{function_value}
+use Rattle.tile_eval.specs.Buffer.{raster, values_on, stage_values, place_of, sample_in, IsKnownAt, IsWholeOf, AreKnown, IsKept}
+use Rattle.tile_eval.specs.declared.buffers.Buffer.{Buffer}
 use Rattle.tile_eval.proofs.Rasters.{raster_len, raster_at, raster_same}
 
 -- ---- one stage
 
 -- the values are those of the stage of this number
-whole_is : (job : Pipeline) (g : ℕ) (s : Stage) (whole : Whole) → slice_get job.stages g ≡ Some s → IsWholeOf job g whole → (whole.area ≡ s.domain) × (whole.values.items ≡ raster s.domain (value job g))
+whole_is : (job : Pipeline) (g : ℕ) (s : Stage) (whole : Buffer) → slice_get job.stages g ≡ Some s → IsWholeOf job g whole → (whole.area ≡ s.domain) × (whole.values.items ≡ raster s.domain (value job g))
 whole_is job g s whole there h =
     let same : h.stage ≡ s = same_Some h.stage s (sym h.there ∙ there) in (
       h.area ∙ ap (λ (t : Stage). t.domain) same,
@@ -35,20 +35,20 @@ whole_is job g s whole there h =
 
 -- ---- points
 
-module _ (job : Pipeline) (n : ℕ) (wholes : List (Option Whole)) (known : AreKnown job n wholes) where
+module _ (job : Pipeline) (n : ℕ) (buffers : List (Option Buffer)) (known : AreKnown job n buffers) where
   -- what is read of a stage of lower rank is known
-  pub known_at : (g : ℕ) → rank_of job.stages g < n → (r c : ℤ) → IsReadable job.stages g r c → IsKnownAt wholes g r c
+  pub known_at : (g : ℕ) → rank_of job.stages g < n → (r c : ℤ) → IsReadable job.stages g r c → IsKnownAt buffers g r c
   known_at g low r c x =
       let found = known.lower g x.stage x.there x.valued (subst (λ k. k < n) (rank_is job.stages g x.stage x.there) low) in
       let is = whole_is job g x.stage found.0 x.there (known.right g found.0 found.1) in
       record { whole = found.0; there = found.1; within = subst (λ a. HoldsPoint a r c) (sym is.0) x.within }
 
   -- and its sample is the value of the job
-  pub sample_is : (g : ℕ) → rank_of job.stages g < n → (r c : ℤ) → IsReadable job.stages g r c → sample_in (slice_get wholes g) r c ≡ value job g r c
+  pub sample_is : (g : ℕ) → rank_of job.stages g < n → (r c : ℤ) → IsReadable job.stages g r c → sample_in (slice_get buffers g) r c ≡ value job g r c
   sample_is g low r c x =
       let found = known.lower g x.stage x.there x.valued (subst (λ k. k < n) (rank_is job.stages g x.stage x.there) low) in
       let is = whole_is job g x.stage found.0 x.there (known.right g found.0 found.1) in
-      ap (λ (o : Option (Option Whole)). sample_in o r c) found.1
+      ap (λ (o : Option (Option Buffer)). sample_in o r c) found.1
       ∙ ap (λ (xs : List ℤ). at xs (place_of found.0.area r c)) is.1
       ∙ ap (λ (a : Area). at (raster x.stage.domain (value job g)) (place_of a r c)) is.0
       ∙ raster_at x.stage.domain (value job g) r c x.within
@@ -72,15 +72,15 @@ module _ (job : Pipeline) (h : IsJob job) (P : ℕ → ℤ → ℤ → Type 0) w
 
 module _ (job : Pipeline) (h : IsJob job) (g : ℕ) (s : Stage) (there : slice_get job.stages g ≡ Some s) where
   -- a function of the samples of what is known has the values of the job
-  pub functions_known : (wholes : List (Option Whole)) → AreKnown job (rank_of job.stages g) wholes → (pieces : List Piece) (otherwise : Option Formula) → s.body ≡ function pieces otherwise
-      → raster s.domain (function_value (λ k r c. sample_in (slice_get wholes k) r c) pieces otherwise) ≡ values_on job g s.domain s.body
-  functions_known wholes known pieces otherwise is =
-      let env : Valuation = λ k r c. sample_in (slice_get wholes k) r c in
+  pub functions_known : (buffers : List (Option Buffer)) → AreKnown job (rank_of job.stages g) buffers → (cases : List JobCase) (otherwise : Option Formula) → s.body ≡ function cases otherwise
+      → raster s.domain (function_value (λ k r c. sample_in (slice_get buffers k) r c) cases otherwise) ≡ values_on job g s.domain s.body
+  functions_known buffers known cases otherwise is =
+      let env : Valuation = λ k r c. sample_in (slice_get buffers k) r c in
       let valued : IsValued s.body = subst IsValued (sym is) tt in
-      raster_same s.domain (function_value env pieces otherwise) (value job g) (λ r c inside.
+      raster_same s.domain (function_value env cases otherwise) (value job g) (λ r c inside.
       ap (λ (b : Body). body_value job.picture env b r c) (sym is)
       ∙ body_value-agrees_there job.picture env (value job) s.domain s.body r c (h.stages g s there).boxes inside
-      (reads_below job h (SameAt env (value job)) g s there (sample_is job (rank_of job.stages g) wholes known) r c inside)
+      (reads_below job h (SameAt env (value job)) g s there (sample_is job (rank_of job.stages g) buffers known) r c inside)
       ∙ sym (value_solves job (ranked_is job h) g s there valued r c inside))
       ∙ ap (values_on job g s.domain) (sym is)
 
@@ -106,11 +106,11 @@ stage_values_is job g s there = ap (λ (o : Option Stage). option_map_or (λ t. 
 -- the values of a stage that has some
 values_on_is : (job : Pipeline) (g : ℕ) (domain : Area) (b : Body) → IsValued b → values_on job g domain b ≡ raster domain (value job g)
 values_on_is job g domain (plane n) is = refl
-values_on_is job g domain (function pieces otherwise) is = refl
+values_on_is job g domain (function cases otherwise) is = refl
 values_on_is job g domain (accumulator fold bins value bin) is = absurd is
 
 -- what was computed for stage g is kept
-pub kept_values : (job : Pipeline) (g : ℕ) (s : Stage) (whole : Whole) → slice_get job.stages g ≡ Some s → IsValued s.body → whole.area ≡ s.domain → whole.values.items ≡ stage_values job g → IsKept job g (Some whole)
+pub kept_values : (job : Pipeline) (g : ℕ) (s : Stage) (whole : Buffer) → slice_get job.stages g ≡ Some s → IsValued s.body → whole.area ≡ s.domain → whole.values.items ≡ stage_values job g → IsKept job g (Some whole)
 kept_values job g s whole there valued area values = record {
   right = λ other is. subst (IsWholeOf job g) (same_Some whole other is)
       (record { stage = s; there = there; valued = valued; area = area; values = values ∙ stage_values_is job g s there ∙ values_on_is job g s.domain s.body valued });
@@ -120,12 +120,12 @@ kept_values job g s whole there valued area values = record {
 -- ---- by rank
 
 -- the stages of lower ranks are known, and of this rank those of numbers below n
-pub record AreKnownTo (job : Pipeline) (rank n : ℕ) (wholes : List (Option Whole)) : Type 0 where
-  pub known : AreKnown job rank wholes
+pub record AreKnownTo (job : Pipeline) (rank n : ℕ) (buffers : List (Option Buffer)) : Type 0 where
+  pub known : AreKnown job rank buffers
   pub same : (g : ℕ) (s : Stage) → g < n → slice_get job.stages g ≡ Some s → IsValued s.body → s.rank ≡ rank
-      → (whole : Whole) × (slice_get wholes g ≡ Some (Some whole))
+      → (whole : Buffer) × (slice_get buffers g ≡ Some (Some whole))
 
-none_there : (n g : ℕ) (whole : Whole) → slice_get (replicate n None) g ≡ Some (Some whole) → ⊥
+none_there : (n g : ℕ) (whole : Buffer) → slice_get (replicate n None) g ≡ Some (Some whole) → ⊥
 none_there zero g whole e = none-some _ e
 none_there (suc n) zero whole e = none-some whole (same_Some _ _ e)
 none_there (suc n) (suc g) whole e = none_there n g whole e
@@ -139,24 +139,24 @@ known_none job n e = record {
 }
 
 -- after the last stage all of this rank are known
-pub known_end : (job : Pipeline) (rank : ℕ) (wholes : List (Option Whole)) → AreKnownTo job rank (length job.stages) wholes → AreKnown job (rank + 1) wholes
-known_end job rank wholes h = record { length = h.known.length; right = h.known.right; lower = lower }
+pub known_end : (job : Pipeline) (rank : ℕ) (buffers : List (Option Buffer)) → AreKnownTo job rank (length job.stages) buffers → AreKnown job (rank + 1) buffers
+known_end job rank buffers h = record { length = h.known.length; right = h.known.right; lower = lower }
   where
-    lower : (g : ℕ) (s : Stage) → slice_get job.stages g ≡ Some s → IsValued s.body → s.rank < rank + 1 → (whole : Whole) × (slice_get wholes g ≡ Some (Some whole))
+    lower : (g : ℕ) (s : Stage) → slice_get job.stages g ≡ Some s → IsValued s.body → s.rank < rank + 1 → (whole : Buffer) × (slice_get buffers g ≡ Some (Some whole))
     lower g s there valued low = by_rank (cases_lt s.rank rank)
       where
-        by_rank : (s.rank < rank) ⊎ (rank ≤ s.rank) → (whole : Whole) × (slice_get wholes g ≡ Some (Some whole))
+        by_rank : (s.rank < rank) ⊎ (rank ≤ s.rank) → (whole : Buffer) × (slice_get buffers g ≡ Some (Some whole))
         by_rank (inl less) = h.known.lower g s there valued less
         by_rank (inr more) = h.same g s (slice_get_within job.stages g s there) there valued (omega arith)
 
 -- a stage of another rank is passed over
-pub known_other : (job : Pipeline) (rank n : ℕ) (wholes : List (Option Whole)) → AreKnownTo job rank n wholes → ((s : Stage) → slice_get job.stages n ≡ Some s → s.rank ≡ rank → ⊥) → AreKnownTo job rank (n + 1) wholes
-known_other job rank n wholes h other = record { known = h.known; same = same }
+pub known_other : (job : Pipeline) (rank n : ℕ) (buffers : List (Option Buffer)) → AreKnownTo job rank n buffers → ((s : Stage) → slice_get job.stages n ≡ Some s → s.rank ≡ rank → ⊥) → AreKnownTo job rank (n + 1) buffers
+known_other job rank n buffers h other = record { known = h.known; same = same }
   where
-    same : (g : ℕ) (s : Stage) → g < n + 1 → slice_get job.stages g ≡ Some s → IsValued s.body → s.rank ≡ rank → (whole : Whole) × (slice_get wholes g ≡ Some (Some whole))
+    same : (g : ℕ) (s : Stage) → g < n + 1 → slice_get job.stages g ≡ Some s → IsValued s.body → s.rank ≡ rank → (whole : Buffer) × (slice_get buffers g ≡ Some (Some whole))
     same g s low there valued is = by_place (cases_eq g n)
       where
-        by_place : (g ≡ n) ⊎ (g ≡ n → ⊥) → (whole : Whole) × (slice_get wholes g ≡ Some (Some whole))
+        by_place : (g ≡ n) ⊎ (g ≡ n → ⊥) → (whole : Buffer) × (slice_get buffers g ≡ Some (Some whole))
         by_place (inl e) = absurd (other s (sym (ap (slice_get job.stages) e) ∙ there) is)
         by_place (inr ne) = h.same g s (omega (arith, ne)) there valued is
 
@@ -173,33 +173,33 @@ slice_get-set_other (x ∷ xs) (suc i) zero y h = refl
 slice_get-set_other (x ∷ xs) (suc i) (suc j) y h = slice_get-set_other xs i j y (λ e. h (ap suc e))
 
 -- and one of this rank is added
-pub known_more : (job : Pipeline) (rank n : ℕ) (wholes : List (Option Whole)) (kept : Option Whole) → AreKnownTo job rank n wholes → n < length job.stages → rank_of job.stages n ≡ rank → IsKept job n kept → AreKnownTo job rank (n + 1) (set wholes n kept)
-known_more job rank n wholes kept h within of_rank is = record {
-  known = record { length = length-set wholes n kept ∙ h.known.length; right = right; lower = lower };
+pub known_more : (job : Pipeline) (rank n : ℕ) (buffers : List (Option Buffer)) (kept : Option Buffer) → AreKnownTo job rank n buffers → n < length job.stages → rank_of job.stages n ≡ rank → IsKept job n kept → AreKnownTo job rank (n + 1) (set buffers n kept)
+known_more job rank n buffers kept h within of_rank is = record {
+  known = record { length = length-set buffers n kept ∙ h.known.length; right = right; lower = lower };
   same = same;
 }
   where
     Has : ℕ → Type 0
-    Has g = (whole : Whole) × (slice_get (set wholes n kept) g ≡ Some (Some whole))
+    Has g = (whole : Buffer) × (slice_get (set buffers n kept) g ≡ Some (Some whole))
 
-    here : slice_get (set wholes n kept) n ≡ Some kept
-    here = slice_get-set_same wholes n kept (omega (arith, h.known.length))
+    here : slice_get (set buffers n kept) n ≡ Some kept
+    here = slice_get-set_same buffers n kept (omega (arith, h.known.length))
 
     -- those of another number stay
-    stays : (g : ℕ) → (g ≡ n → ⊥) → (whole : Whole) × (slice_get wholes g ≡ Some (Some whole)) → Has g
-    stays g ne found = (found.0, slice_get-set_other wholes n g kept ne ∙ found.1)
+    stays : (g : ℕ) → (g ≡ n → ⊥) → (whole : Buffer) × (slice_get buffers g ≡ Some (Some whole)) → Has g
+    stays g ne found = (found.0, slice_get-set_other buffers n g kept ne ∙ found.1)
 
     added : (g : ℕ) (s : Stage) → g ≡ n → slice_get job.stages g ≡ Some s → IsValued s.body → Has g
     added g s e there valued =
         let found = is.valued s (sym (ap (slice_get job.stages) e) ∙ there) valued in
-        (found.0, ap (slice_get (set wholes n kept)) e ∙ here ∙ ap Some found.1)
+        (found.0, ap (slice_get (set buffers n kept)) e ∙ here ∙ ap Some found.1)
 
-    right : (g : ℕ) (whole : Whole) → slice_get (set wholes n kept) g ≡ Some (Some whole) → IsWholeOf job g whole
+    right : (g : ℕ) (whole : Buffer) → slice_get (set buffers n kept) g ≡ Some (Some whole) → IsWholeOf job g whole
     right g whole found = by_place (cases_eq g n)
       where
         by_place : (g ≡ n) ⊎ (g ≡ n → ⊥) → IsWholeOf job g whole
-        by_place (inl e) = subst (λ k. IsWholeOf job k whole) (sym e) (is.right whole (same_Some kept (Some whole) (sym here ∙ sym (ap (slice_get (set wholes n kept)) e) ∙ found)))
-        by_place (inr ne) = h.known.right g whole (sym (slice_get-set_other wholes n g kept ne) ∙ found)
+        by_place (inl e) = subst (λ k. IsWholeOf job k whole) (sym e) (is.right whole (same_Some kept (Some whole) (sym here ∙ sym (ap (slice_get (set buffers n kept)) e) ∙ found)))
+        by_place (inr ne) = h.known.right g whole (sym (slice_get-set_other buffers n g kept ne) ∙ found)
 
     lower : (g : ℕ) (s : Stage) → slice_get job.stages g ≡ Some s → IsValued s.body → s.rank < rank → Has g
     lower g s there valued low = by_place (cases_eq g n)
@@ -216,8 +216,8 @@ known_more job rank n wholes kept h within of_rank is = record {
         by_place (inr ne) = stays g ne (h.same g s (omega (arith, ne)) there valued alike)
 
 -- what is known of a rank is known of those below
-pub known_fewer : (job : Pipeline) (less more : ℕ) (wholes : List (Option Whole)) → less ≤ more → AreKnown job more wholes → AreKnown job less wholes
-known_fewer job less more wholes le h = record {
+pub known_fewer : (job : Pipeline) (less more : ℕ) (buffers : List (Option Buffer)) → less ≤ more → AreKnown job more buffers → AreKnown job less buffers
+known_fewer job less more buffers le h = record {
   length = h.length;
   right = h.right;
   lower = λ g s there valued low. h.lower g s there valued (omega arith);
@@ -226,7 +226,7 @@ known_fewer job less more wholes le h = record {
 -- a kind of stage that has values
 pub valued_kind : (b : Body) → (body_kind b ≡ Accumulator → ⊥) → IsValued b
 valued_kind (plane n) other = tt
-valued_kind (function pieces otherwise) other = tt
+valued_kind (function cases otherwise) other = tt
 valued_kind (accumulator fold bins value bin) other = absurd (other refl)
 
 -- a stage that has values has one at each point of its domain
@@ -234,8 +234,8 @@ pub values_long : (job : Pipeline) (g : ℕ) (s : Stage) → slice_get job.stage
 values_long job g s there valued = ap length (stage_values_is job g s there ∙ values_on_is job g s.domain s.body valued) ∙ raster_len s.domain (value job g)
 
 -- the values of a stage that is known
-pub values_known : (job : Pipeline) (n g : ℕ) (wholes : List (Option Whole)) (whole : Whole) → AreKnown job n wholes → slice_get wholes g ≡ Some (Some whole) → whole.values.items ≡ stage_values job g
-values_known job n g wholes whole known found =
+pub values_known : (job : Pipeline) (n g : ℕ) (buffers : List (Option Buffer)) (whole : Buffer) → AreKnown job n buffers → slice_get buffers g ≡ Some (Some whole) → whole.values.items ≡ stage_values job g
+values_known job n g buffers whole known found =
     let is : IsWholeOf job g whole = known.right g whole found in
     is.values ∙ sym (values_on_is job g is.stage.domain is.stage.body is.valued) ∙ sym (stage_values_is job g is.stage is.there)
 

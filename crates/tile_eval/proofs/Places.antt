@@ -12,8 +12,8 @@ use Rattle.domains.specs.Area.{HoldsPoint, point_count}
 use Rattle.domains.specs.declared.area.Area.{Area}
 use Rattle.domains.proofs.Lengths.{gap_is}
 use Rattle.tile_eval.specs.Rows.{EachPlace, at}
-use Rattle.tile_eval.specs.Whole.{place_of, sample_in, IsKnownAt}
-use Rattle.tile_eval.specs.declared.wholes.Whole.{Whole}
+use Rattle.tile_eval.specs.Buffer.{place_of, sample_in, IsKnownAt}
+use Rattle.tile_eval.specs.declared.buffers.Buffer.{Buffer}
 use Rattle.tile_eval.proofs.Columns.{columns_step}
 
 -- a number of a span lies less far behind its first number than the span is long
@@ -60,19 +60,19 @@ row_within a r c n some h =
 
 -- ---- known stages
 
-same_whole : (wholes : List (Option Whole)) (g : ℕ) (a b : Whole) → slice_get wholes g ≡ Some (Some a) → slice_get wholes g ≡ Some (Some b) → a ≡ b
-same_whole wholes g a b e f = ap (λ (o : Option (Option Whole)). option_map_or (λ q. unwrap_or q b) o b) (sym e ∙ f)
+same_whole : (buffers : List (Option Buffer)) (g : ℕ) (a b : Buffer) → slice_get buffers g ≡ Some (Some a) → slice_get buffers g ≡ Some (Some b) → a ≡ b
+same_whole buffers g a b e f = ap (λ (o : Option (Option Buffer)). option_map_or (λ q. unwrap_or q b) o b) (sym e ∙ f)
 
 -- a point at which a stage is known lies in what is known of it
-pub known_within : (wholes : List (Option Whole)) (g : ℕ) (whole : Whole) (area : Area) (r c : ℤ) → slice_get wholes g ≡ Some (Some whole) → area ≡ whole.area → IsKnownAt wholes g r c → HoldsPoint area r c
-known_within wholes g whole area r c there is known =
-    subst (λ (a : Area). HoldsPoint a r c) (sym is) (subst (λ (w : Whole). HoldsPoint w.area r c) (same_whole wholes g known.whole whole known.there there) known.within)
+pub known_within : (buffers : List (Option Buffer)) (g : ℕ) (whole : Buffer) (area : Area) (r c : ℤ) → slice_get buffers g ≡ Some (Some whole) → area ≡ whole.area → IsKnownAt buffers g r c → HoldsPoint area r c
+known_within buffers g whole area r c there is known =
+    subst (λ (a : Area). HoldsPoint a r c) (sym is) (subst (λ (w : Buffer). HoldsPoint w.area r c) (same_whole buffers g known.whole whole known.there there) known.within)
 
 -- and its value stands at the point's place
-pub known_sample : (wholes : List (Option Whole)) (g : ℕ) (whole : Whole) (area : Area) (values : List ℤ) (r c v : ℤ) → slice_get wholes g ≡ Some (Some whole) → area ≡ whole.area → values ≡ whole.values.items
-    → v ≡ at values (place_of area r c) → v ≡ sample_in (slice_get wholes g) r c
-known_sample wholes g whole area values r c v there is same e =
+pub known_sample : (buffers : List (Option Buffer)) (g : ℕ) (whole : Buffer) (area : Area) (values : List ℤ) (r c v : ℤ) → slice_get buffers g ≡ Some (Some whole) → area ≡ whole.area → values ≡ whole.values.items
+    → v ≡ at values (place_of area r c) → v ≡ sample_in (slice_get buffers g) r c
+known_sample buffers g whole area values r c v there is same e =
     e
     ∙ ap (λ (xs : List ℤ). at xs (place_of area r c)) same
     ∙ ap (λ (a : Area). at whole.values.items (place_of a r c)) is
-    ∙ ap (λ (o : Option (Option Whole)). sample_in o r c) (sym there)
+    ∙ ap (λ (o : Option (Option Buffer)). sample_in o r c) (sym there)

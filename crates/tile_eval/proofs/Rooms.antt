@@ -3,14 +3,14 @@ use Rattle.std.proofs.Common.{arith, ℕ, ◌≡◌, ◌↔◌, ◌+◌, ◌-◌
 use Rattle.std.specs.Prelude.{Option, Some, None, All, slice_index_or}
 use Rattle.std.specs.Option.{ForSome}
 use Rattle.std.proofs.lemmas.List.Elements.{All-nil, All-cons, All-head, All-tail, All-map}
-use Rattle.job.specs.declared.stage.Piece.{Piece as KeptPiece}
+use Rattle.job.specs.declared.stage.JobCase.{JobCase as KeptCase}
 use Rattle.job.specs.Formula.{Formula, number, coordinate, read, neg, binary, literal, abs, clamp, select, stencil}
-use Rattle.job.specs.Pipeline.{Piece}
-use Rattle.job.specs.Views.{piece_view, formula_view}
+use Rattle.job.specs.Pipeline.{JobCase}
+use Rattle.job.specs.Views.{case_view, formula_view}
 use Rattle.job.proofs.Steps.{All-from_map}
 use Rattle.tile_eval.specs.Counted.{IsCounted, IsLeast}
 use Rattle.tile_eval.specs.Reading.{HasRoom}
-use Rattle.tile_eval.specs.Pieces.{HasFunctionRoom}
+use Rattle.tile_eval.specs.Cases.{HasFunctionRoom}
 
 -- ---- what is enough from a number on
 
@@ -96,29 +96,29 @@ formula_counted f n found is = least_counted (HasRoom f n) (room_of f n) found (
 pub counted_formula : (f : Formula) (n : ℕ) (found : Option ℕ) → IsCounted found (room_of f n) → IsLeast (HasRoom f n) found
 counted_formula f n found is = counted_least (HasRoom f n) (room_of f n) found (room_from f n) is
 
--- ---- pieces
+-- ---- cases
 
-abbrev pub EachHasRoom : List KeptPiece → ℕ → ℕ → Type 0
+abbrev pub EachHasRoom : List KeptCase → ℕ → ℕ → Type 0
 EachHasRoom ps n m = All (λ p. HasRoom (formula_view p.formula) n m) ps
 
-abbrev pub pieces_room_of : List KeptPiece → ℕ → ℕ
-pieces_room_of [] n = 0
-pieces_room_of (p ∷ ps) n = max (room_of (formula_view p.formula) n) (pieces_room_of ps n)
+abbrev pub cases_room_of : List KeptCase → ℕ → ℕ
+cases_room_of [] n = 0
+cases_room_of (p ∷ ps) n = max (room_of (formula_view p.formula) n) (cases_room_of ps n)
 
--- one piece more
-pub pieces_room_next : (ps : List KeptPiece) (i : ℕ) (p : KeptPiece) (n : ℕ) → i < length ps → p ≡ slice_index_or ps i p
-    → pieces_room_of (take (suc i) ps) n ≡ max (pieces_room_of (take i ps) n) (room_of (formula_view p.formula) n)
-pieces_room_next [] i p n l e = absurd (omega arith)
-pieces_room_next (x ∷ xs) zero p n l e = rw e (omega arith)
-pieces_room_next (x ∷ xs) (suc i) p n l e = omega (arith, pieces_room_next xs i p n (omega arith) e)
+-- one case more
+pub cases_room_next : (ps : List KeptCase) (i : ℕ) (p : KeptCase) (n : ℕ) → i < length ps → p ≡ slice_index_or ps i p
+    → cases_room_of (take (suc i) ps) n ≡ max (cases_room_of (take i ps) n) (room_of (formula_view p.formula) n)
+cases_room_next [] i p n l e = absurd (omega arith)
+cases_room_next (x ∷ xs) zero p n l e = rw e (omega arith)
+cases_room_next (x ∷ xs) (suc i) p n l e = omega (arith, cases_room_next xs i p n (omega arith) e)
 
-pub pieces_from : (ps : List KeptPiece) (n : ℕ) → EnoughFrom (pieces_room_of ps n) (EachHasRoom ps n)
-pieces_from [] n m = ((λ h. All-nil (λ (p : KeptPiece). HasRoom (formula_view p.formula) n m)), (λ h. omega arith))
-pieces_from (p ∷ ps) n m = (
-  (λ h. All-cons (λ (q : KeptPiece). HasRoom (formula_view q.formula) n m) p ps (enough_room (formula_view p.formula) n m (omega arith)) ((pieces_from ps n m).0 (omega arith))),
+pub cases_from : (ps : List KeptCase) (n : ℕ) → EnoughFrom (cases_room_of ps n) (EachHasRoom ps n)
+cases_from [] n m = ((λ h. All-nil (λ (p : KeptCase). HasRoom (formula_view p.formula) n m)), (λ h. omega arith))
+cases_from (p ∷ ps) n m = (
+  (λ h. All-cons (λ (q : KeptCase). HasRoom (formula_view q.formula) n m) p ps (enough_room (formula_view p.formula) n m (omega arith)) ((cases_from ps n m).0 (omega arith))),
   (λ h.
-      let first = least_room (formula_view p.formula) n m (All-head (λ (q : KeptPiece). HasRoom (formula_view q.formula) n m) p ps h) in
-      let rest = (pieces_from ps n m).1 (All-tail (λ (q : KeptPiece). HasRoom (formula_view q.formula) n m) p ps h) in
+      let first = least_room (formula_view p.formula) n m (All-head (λ (q : KeptCase). HasRoom (formula_view q.formula) n m) p ps h) in
+      let rest = (cases_from ps n m).1 (All-tail (λ (q : KeptCase). HasRoom (formula_view q.formula) n m) p ps h) in
       omega arith),
 )
 
@@ -135,16 +135,16 @@ other_from (Some g) n m = (
   (λ h. least_room g n m (h g refl)),
 )
 
-pub function_from : (ps : List KeptPiece) (o : Option Formula) (n : ℕ) → EnoughFrom (max (n * 1 + pieces_room_of ps n) (other_room_of o n)) (λ m. HasFunctionRoom n m (map piece_view ps) o)
+pub function_from : (ps : List KeptCase) (o : Option Formula) (n : ℕ) → EnoughFrom (max (n * 1 + cases_room_of ps n) (other_room_of o n)) (λ m. HasFunctionRoom n m (map case_view ps) o)
 function_from ps o n m = (
   (λ h. record {
     row = omega arith;
-    operands = All-map (λ (p : Piece). HasRoom p.formula n (m - n)) piece_view ps ((pieces_from ps n (m - n)).0 (omega arith));
+    operands = All-map (λ (p : JobCase). HasRoom p.formula n (m - n)) case_view ps ((cases_from ps n (m - n)).0 (omega arith));
     other = (other_from o n m).0 (omega arith);
   }),
   (λ h.
       let row = h.row in
-      let pieces = (pieces_from ps n (m - n)).1 (All-from_map (λ (p : Piece). HasRoom p.formula n (m - n)) piece_view ps h.operands) in
+      let cases = (cases_from ps n (m - n)).1 (All-from_map (λ (p : JobCase). HasRoom p.formula n (m - n)) case_view ps h.operands) in
       let other = (other_from o n m).1 h.other in
       omega arith),
 )

@@ -13,7 +13,7 @@ use Rattle.netpbm.specs.Planes.{samples_of}
 use Rattle.job.specs.Values.{sample_at}
 use Rattle.job.specs.WellFormed.{picture_area}
 use Rattle.tile_eval.specs.Rows.{at}
-use Rattle.tile_eval.specs.Whole.{raster}
+use Rattle.tile_eval.specs.Buffer.{raster}
 use Rattle.tile_eval.proofs.Rasters.{raster_of}
 
 -- a plane that is looked up

@@ -7,7 +7,7 @@ use Rattle.domains.specs.Arithmetic.{wrapped}
 use Rattle.job.specs.Values.{sum_below, under, factors, kernel_row, kernel_column, weighted_sum}
 use Rattle.job.proofs.Agreeing.{sum_below-agrees}
 use Rattle.tile_eval.specs.Rows.{at}
-use Rattle.tile_eval.specs.Taps.{tap_sum, row_sum, IsUnder, IsSquare}
+use Rattle.tile_eval.specs.Stencil.{tap_sum, row_sum, IsUnder, Is3x3}
 
 -- sums of wrapped numbers
 pub wrapped_two : (a b : ℤ) → wrapped (wrapped a +ℤ wrapped b) ≡ wrapped (a +ℤ b)
@@ -16,7 +16,7 @@ wrapped_two a b = int_wrap-add_left w32 a (wrapped b) ∙ int_wrap-add_right w32
 pub wrapped_three : (a b c : ℤ) → wrapped (wrapped (wrapped a +ℤ wrapped b) +ℤ wrapped c) ≡ wrapped (a +ℤ b +ℤ c)
 wrapped_three a b c = ap (λ (z : ℤ). wrapped (z +ℤ wrapped c)) (wrapped_two a b) ∙ wrapped_two (a +ℤ b) c
 
--- three taps
+-- three stencil
 pub three_taps : (f g h : ℤ) (line : List ℤ) (k : ℕ) → wrapped (wrapped (wrapped (f *ℤ at line k) +ℤ wrapped (g *ℤ at line (k + 1))) +ℤ wrapped (h *ℤ at line (k + 2))) ≡ wrapped (tap_sum (f ∷ g ∷ h ∷ []) line k)
 three_taps f g h line k =
     wrapped_three (f *ℤ at line k) (g *ℤ at line (k + 1)) (h *ℤ at line (k + 2))
@@ -58,14 +58,14 @@ row_sum_is kernel f r c a k line under h = sum_below-agrees (length (factors ker
     ap (λ (z : ℤ). at (factors kernel a) b *ℤ z) (under (k + b) (omega arith) ∙ ap (f (kernel_row kernel r a)) (under_shifted c (length (factors kernel 0)) k b)))
 
 -- one more row: t is what adding it leaves
-pub row_more : (kernel : List (List ℤ)) (f : ℤ → ℤ → ℤ) (r c : ℤ) (a k n : ℕ) (taps line : List ℤ) (s t : ℤ) → taps ≡ factors kernel a → IsUnder kernel f r c a line
-    → length line ≡ n + length taps - 1 → k < n → t ≡ wrapped (s +ℤ tap_sum taps line k) → t ≡ wrapped (s +ℤ row_sum kernel f r (c +ℤ pos k) a)
-row_more kernel f r c a k n taps line s t e under len lt h =
-    let same : length taps ≡ length (factors kernel a) = ap length e in
+pub row_more : (kernel : List (List ℤ)) (f : ℤ → ℤ → ℤ) (r c : ℤ) (a k n : ℕ) (stencil line : List ℤ) (s t : ℤ) → stencil ≡ factors kernel a → IsUnder kernel f r c a line
+    → length line ≡ n + length stencil - 1 → k < n → t ≡ wrapped (s +ℤ tap_sum stencil line k) → t ≡ wrapped (s +ℤ row_sum kernel f r (c +ℤ pos k) a)
+row_more kernel f r c a k n stencil line s t e under len lt h =
+    let same : length stencil ≡ length (factors kernel a) = ap length e in
     h ∙ ap (λ (z : ℤ). wrapped (s +ℤ z)) (ap (λ (ts : List ℤ). tap_sum ts line k) e ∙ row_sum_is kernel f r c a k line under (omega arith))
 
 -- all three rows
-pub square_sum : (kernel : List (List ℤ)) (f : ℤ → ℤ → ℤ) (r c : ℤ) (k : ℕ) (x y z : List ℤ) → IsSquare kernel → IsUnder kernel f r c 0 x → IsUnder kernel f r c 1 y → IsUnder kernel f r c 2 z
+pub square_sum : (kernel : List (List ℤ)) (f : ℤ → ℤ → ℤ) (r c : ℤ) (k : ℕ) (x y z : List ℤ) → Is3x3 kernel → IsUnder kernel f r c 0 x → IsUnder kernel f r c 1 y → IsUnder kernel f r c 2 z
     → k + 3 ≤ length x → k + 3 ≤ length y → k + 3 ≤ length z
     → tap_sum (factors kernel 0) x k +ℤ tap_sum (factors kernel 1) y k +ℤ tap_sum (factors kernel 2) z k ≡ weighted_sum kernel f r (c +ℤ pos k)
 square_sum kernel f r c k x y z square u v w p q s =

@@ -1,8 +1,8 @@
 pub mod Rows
 pub mod Reading
-pub mod Pieces
-pub mod Whole
+pub mod Cases
+pub mod Buffer
 pub mod Counted
-pub mod Passed
+pub mod RowMask
 pub mod Reciprocal
-pub mod Taps
+pub mod Stencil

@@ -7,14 +7,14 @@ ghost use Rattle.domains.specs.Area.{HoldsPoint, point_count};
 ghost use Rattle.domains.specs.Index.{index_at};
 ghost use Rattle.domains.specs.Span.{Holds, len_of};
 ghost use Rattle.tile_eval.specs.Rows.{EachPlace, at};
-ghost use Rattle.tile_eval.specs.Whole.{place_of};
+ghost use Rattle.tile_eval.specs.Buffer.{place_of};
 
-use crate::start::Start;
+use crate::start::RowStart;
 use domains::{Area, Index, Span};
 
 /// The numbers at the points of an area, row by row.
 #[derive(Clone, Copy, Debug)]
-pub struct Block<'a> {
+pub struct BufferView<'a> {
     pub(crate) area: Area,
     pub(crate) values: &'a [i32],
     ghost size: { length values.now ≡ point_count area },
@@ -64,14 +64,14 @@ fn value_at(values: &[i32], place: usize) -> i32
     values[place]
 }
 
-impl<'a> Block<'a> {
+impl<'a> BufferView<'a> {
     /// The numbers of an area: as many as it has points.
-    pub fn new(area: Area, values: &'a [i32]) -> Block<'a>
+    pub fn new(area: Area, values: &'a [i32]) -> BufferView<'a>
         requires { length values.now ≡ point_count area }
         ensures area { result.area ≡ area }
         ensures values { result.values.now ≡ values.now }
     {
-        Block { area, values }
+        BufferView { area, values }
     }
 
     /// The columns of the area.
@@ -82,7 +82,7 @@ impl<'a> Block<'a> {
     }
 
     /// Writes the values along a row, from a column on.
-    pub fn line(&self, row: i32, first: i32, out: &mut [i32])
+    pub fn read_row(&self, row: i32, first: i32, out: &mut [i32])
         requires short { length out.old ≤ 100000 }
         requires there { EachPlace (length out.old) (λ k. HoldsPoint self.now.area row (first +ℤ pos k)) }
         ensures { EachPlace (length out.old) (λ k. at out.new k ≡ at self.now.values.now (place_of self.now.area row (first +ℤ pos k))) }
@@ -103,7 +103,7 @@ impl<'a> Block<'a> {
     }
 
     /// Writes the values along a row, at the columns that an index takes at columns from a start on.
-    pub fn pick(&self, row: i32, col: &Index, start: &Start, out: &mut [i32])
+    pub fn gather(&self, row: i32, col: &Index, start: &RowStart, out: &mut [i32])
         requires most { (start.now.col +ℤ pos (length out.old)) ≤ℤ pos 16385 }
         requires there { EachPlace (length out.old) (λ k. HoldsPoint self.now.area row (index_at col.now (start.now.col +ℤ pos k))) }
         ensures { EachPlace (length out.old) (λ k. at out.new k ≡ at self.now.values.now (place_of self.now.area row (index_at col.now (start.now.col +ℤ pos k)))) }
@@ -116,7 +116,7 @@ impl<'a> Block<'a> {
     }
 
     // The same of an index that does not divide: the places of its columns lie at steps of one length.
-    fn step(&self, row: i32, col: &Index, start: &Start, out: &mut [i32])
+    fn step(&self, row: i32, col: &Index, start: &RowStart, out: &mut [i32])
         requires div { col.now.div ≡ pos 1 }
         requires some { 0 < length out.old }
         requires there { EachPlace (length out.old) (λ k. HoldsPoint self.now.area row (index_at col.now (start.now.col +ℤ pos k))) }
@@ -127,18 +127,18 @@ impl<'a> Block<'a> {
     }
 
     // The same of any index, each place looked up.
-    fn look_up(&self, row: i32, col: &Index, start: &Start, out: &mut [i32])
+    fn look_up(&self, row: i32, col: &Index, start: &RowStart, out: &mut [i32])
         requires most { (start.now.col +ℤ pos (length out.old)) ≤ℤ pos 16385 }
         requires there { EachPlace (length out.old) (λ k. HoldsPoint self.now.area row (index_at col.now (start.now.col +ℤ pos k))) }
         ensures { EachPlace (length out.old) (λ k. at out.new k ≡ at self.now.values.now (place_of self.now.area row (index_at col.now (start.now.col +ℤ pos k)))) }
     {
         for k in 0..out.len() {
-            out[k] = self.point(row, col.at(start.column(k)));
+            out[k] = self.sample(row, col.at(start.column(k)));
         }
     }
 
     /// One value.
-    pub fn point(&self, row: i32, col: i32) -> i32
+    pub fn sample(&self, row: i32, col: i32) -> i32
         requires { HoldsPoint self.now.area row col }
         ensures { result ≡ at self.now.values.now (place_of self.now.area row col) }
     {

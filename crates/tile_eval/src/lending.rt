@@ -1,59 +1,59 @@
 #![tactic(auto)]
-//! Known stages lend their samples.
+//! Stages whose values are known give their samples.
 
 ghost use Rattle.std.specs.Prelude.{◌≡◌, ◌≢◌, Some, slice_get, IfSome, IfNone};
-ghost use Rattle.tile_eval.specs.Whole.{sample_in, IsKnownAt};
+ghost use Rattle.tile_eval.specs.Buffer.{sample_in, IsKnownAt};
 
-use crate::blocks::Block;
-use crate::source::Source;
-use crate::start::Start;
-use crate::wholes::{Known, Whole};
+use crate::blocks::BufferView;
+use crate::buffers::{Buffer, StageBuffers};
+use crate::source::RowSource;
+use crate::start::RowStart;
 use domains::Index;
 
-impl Whole {
+impl Buffer {
     /// The values with their area.
-    pub(crate) fn block(&self) -> Block<'_>
+    pub(crate) fn block(&self) -> BufferView<'_>
         ensures area { result.area ≡ self.now.area }
         ensures values { result.values.now ≡ self.now.values.items }
     {
-        Block::new(self.area, &self.values)
+        BufferView::new(self.area, &self.values)
     }
 }
 
-impl Known {
+impl StageBuffers {
     /// The values of a stage, if they are known.
-    pub(crate) fn whole(&self, stage: usize) -> Option<&Whole>
-        ensures some { IfSome result (λ whole. slice_get self.now.wholes.items stage ≡ Some (Some whole.now)) }
-        ensures none { IfNone result ((whole : Whole) → slice_get self.now.wholes.items stage ≢ Some (Some whole)) }
+    pub(crate) fn whole(&self, stage: usize) -> Option<&Buffer>
+        ensures some { IfSome result (λ whole. slice_get self.now.buffers.items stage ≡ Some (Some whole.now)) }
+        ensures none { IfNone result ((whole : Buffer) → slice_get self.now.buffers.items stage ≢ Some (Some whole)) }
     {
-        self.wholes.get(stage)?.as_ref()
+        self.buffers.get(stage)?.as_ref()
     }
 }
 
-impl Source for Known {
-    ghost has = { λ known g r c. IsKnownAt known.wholes.items g r c };
+impl RowSource for StageBuffers {
+    ghost has = { λ known g r c. IsKnownAt known.buffers.items g r c };
 
-    ghost sample = { λ known g r c. sample_in (slice_get known.wholes.items g) r c };
+    ghost samples = { λ known g r c. sample_in (slice_get known.buffers.items g) r c };
 
-    fn line(&self, stage: usize, row: i32, first: i32, out: &mut [i32]) {
+    fn read_row(&self, stage: usize, row: i32, first: i32, out: &mut [i32]) {
         if let Some(whole) = self.whole(stage) {
-            whole.block().line(row, first, out);
+            whole.block().read_row(row, first, out);
         }
     }
 
-    fn lend(&self, stage: usize, row: i32, first: i32, count: usize) -> Option<&[i32]> {
+    fn borrow_row(&self, stage: usize, row: i32, first: i32, count: usize) -> Option<&[i32]> {
         Some(self.whole(stage)?.block().slice(row, first, count))
     }
 
-    fn pick(&self, stage: usize, row: i32, col: &Index, start: &Start, out: &mut [i32]) {
+    fn gather(&self, stage: usize, row: i32, col: &Index, start: &RowStart, out: &mut [i32]) {
         if let Some(whole) = self.whole(stage) {
-            whole.block().pick(row, col, start, out);
+            whole.block().gather(row, col, start, out);
         }
     }
 
-    fn point(&self, stage: usize, row: i32, col: i32) -> i32 {
+    fn sample(&self, stage: usize, row: i32, col: i32) -> i32 {
         match self.whole(stage) {
-            Some(whole) => whole.block().point(row, col),
+            Some(whole) => whole.block().sample(row, col),
             None => 0,
         }
     }

@@ -1,14 +1,15 @@
-//! Values of jobs, a row of points at a time, whatever lends the samples that are read.
+//! Values of jobs, a row of points at a time, whatever gives the samples that are read.
 #![tactic(auto)]
 
 mod areas;
 mod blocks;
+mod buffers;
+mod cases;
 mod constants;
 mod functions;
+mod guards;
 mod kernels;
 mod lending;
-mod passing;
-mod pieces;
 mod planes;
 mod reads;
 mod reciprocal;
@@ -17,15 +18,14 @@ mod rows;
 mod source;
 mod stages;
 mod start;
-mod taps;
-mod triples;
-mod wholes;
+mod stencil;
+mod stencil3x3;
 
-pub use blocks::Block;
+pub use blocks::BufferView;
+pub use buffers::{Buffer, StageBuffers};
 pub use functions::{area_into, area_values};
 pub use room::formula_room;
 pub use rows::row as formula_row;
-pub use source::Source;
+pub use source::RowSource;
 pub use stages::{plain, plain_all};
-pub use start::Start;
-pub use wholes::{Known, Whole};
+pub use start::RowStart;

@@ -4,7 +4,7 @@
 ghost use Rattle.std.specs.Prelude.{◌≡◌, ◌<◌, pos, map, length, IfOk};
 ghost use Rattle.job.specs.Values.{sample_at};
 ghost use Rattle.job.specs.WellFormed.{picture_area};
-ghost use Rattle.tile_eval.specs.Whole.{raster};
+ghost use Rattle.tile_eval.specs.Buffer.{raster};
 
 use netpbm::Picture;
 use std::alloc::{AllocError, Global};

@@ -3,12 +3,12 @@
 
 ghost use Rattle.std.specs.Prelude.{◌+◌, ◌*◌, ℕ, max, map, All};
 ghost use Rattle.std.specs.Option.{option_map, ForSome};
-ghost use Rattle.job.specs.Views.{piece_view, formula_view};
+ghost use Rattle.job.specs.Views.{case_view, formula_view};
 ghost use Rattle.tile_eval.specs.Counted.{IsCounted, IsLeast};
-ghost use Rattle.tile_eval.specs.Pieces.{HasFunctionRoom};
+ghost use Rattle.tile_eval.specs.Cases.{HasFunctionRoom};
 ghost use Rattle.tile_eval.specs.Reading.{HasRoom};
 
-use job::{Formula, Function, Piece};
+use job::{Formula, Function, JobCase};
 
 // The greater of two rooms.
 fn greater(first: Option<usize>, second: Option<usize>) -> Option<usize>
@@ -48,18 +48,18 @@ pub fn formula_room(formula: &Formula, n: usize) -> Option<usize>
     }
 }
 
-// The least room for the operands of each of some pieces.
-fn pieces_room(pieces: &[Piece], n: usize) -> Option<usize>
-    ensures { IsLeast (λ room. All (λ p. HasRoom (formula_view p.formula) n room) pieces.now) result }
+// The least room for the operands of each of some cases.
+fn cases_room(cases: &[JobCase], n: usize) -> Option<usize>
+    ensures { IsLeast (λ room. All (λ p. HasRoom (formula_view p.formula) n room) cases.now) result }
 {
     let mut room = Some(0);
-    for piece in pieces {
-        room = greater(room, formula_room(piece.formula(), n));
+    for case in cases {
+        room = greater(room, formula_room(case.formula(), n));
     }
     room
 }
 
-// The least room for what stands where no piece holds.
+// The least room for what stands where no case holds.
 fn other_room(otherwise: &Option<Formula>, n: usize) -> Option<usize>
     ensures { IsLeast (λ room. ForSome (option_map formula_view otherwise.now) (λ f. HasRoom f n room)) result }
 {
@@ -70,10 +70,10 @@ fn other_room(otherwise: &Option<Formula>, n: usize) -> Option<usize>
 }
 
 /// The least room for what a function needs at `n` points, if that many numbers can be counted: for one row beside the
-/// operands of each piece, and for those of what stands where no piece holds.
+/// operands of each case, and for those of what stands where no case holds.
 pub fn function_room(function: &Function, n: usize) -> Option<usize>
-    ensures { IsLeast (λ room. HasFunctionRoom n room (map piece_view function.now.pieces.items) (option_map formula_view function.now.otherwise)) result }
+    ensures { IsLeast (λ room. HasFunctionRoom n room (map case_view function.now.cases.items) (option_map formula_view function.now.otherwise)) result }
 {
-    let pieces = with_rows(1, n, pieces_room(function.pieces(), n));
-    greater(pieces, other_room(function.otherwise(), n))
+    let cases = with_rows(1, n, cases_room(function.cases(), n));
+    greater(cases, other_room(function.otherwise(), n))
 }

@@ -8,10 +8,10 @@ ghost use Rattle.job.specs.Views.{formula_view};
 ghost use Rattle.tile_eval.specs.Rows.{EachPlace, at};
 ghost use Rattle.tile_eval.specs.Reading.{ReadsWithin, HasRoom};
 
-use crate::reads::{lent_row, read_row};
-use crate::source::Source;
-use crate::start::Start;
-use crate::taps::stencil_row;
+use crate::reads::{given_row, read_row};
+use crate::source::RowSource;
+use crate::start::RowStart;
+use crate::stencil::stencil_row;
 use crate::{constants, kernels};
 use domains::{BinaryOp, LiteralOp};
 use job::{Axis, Formula};
@@ -57,7 +57,7 @@ pub fn combine_literal(op: LiteralOp, out: &mut [i32], number: u32)
 }
 
 // The number that a formula is all along a row of points, if it is one.
-fn number_along(formula: &Formula, start: &Start) -> Option<i32>
+fn number_along(formula: &Formula, start: &RowStart) -> Option<i32>
     ensures { IfSome result (λ number. (env : Valuation) (c : ℤ) → formula_value env (formula_view formula.now) start.now.row c ≡ number) }
 {
     match formula {
@@ -67,12 +67,12 @@ fn number_along(formula: &Formula, start: &Start) -> Option<i32>
     }
 }
 
-// The values of a formula along a row of points: samples that the source lends, else numbers that are computed into `own`.
+// The values of a formula along a row of points: samples that the source gives, else numbers that are computed into `own`.
 #[cycle(row)]
-fn operand<'a, S: Source>(
+fn operand<'a, S: RowSource>(
     source: &'a S,
     formula: &Formula,
-    start: &Start,
+    start: &RowStart,
     own: &'a mut [i32],
     temps: &mut [i32],
 ) -> &'a [i32]
@@ -81,9 +81,9 @@ fn operand<'a, S: Source>(
     requires reads { ReadsWithin (S.has source.now) (formula_view formula.now) start.now.row start.now.col (length own.old) }
     requires room { HasRoom (formula_view formula.now) (length own.old) (length temps.old) }
     ensures count { length result.now ≡ length own.old }
-    ensures values { EachPlace (length own.old) (λ k. at result.now k ≡ formula_value (S.sample source.now) (formula_view formula.now) start.now.row (start.now.col +ℤ pos k)) }
+    ensures values { EachPlace (length own.old) (λ k. at result.now k ≡ formula_value (S.samples source.now) (formula_view formula.now) start.now.row (start.now.col +ℤ pos k)) }
 {
-    if let Some(line) = lent_row(source, formula, start, own.len()) {
+    if let Some(line) = given_row(source, formula, start, own.len()) {
         return line;
     }
     row(source, formula, start, own, temps);
@@ -92,11 +92,11 @@ fn operand<'a, S: Source>(
 
 // Joins a row with the values of the right operand.
 #[cycle(row)]
-fn join_right<S: Source>(
+fn join_right<S: RowSource>(
     source: &S,
     op: BinaryOp,
     right: &Formula,
-    start: &Start,
+    start: &RowStart,
     out: &mut [i32],
     temps: &mut [i32],
 )
@@ -105,7 +105,7 @@ fn join_right<S: Source>(
     requires reads { ReadsWithin (S.has source.now) (formula_view right.now) start.now.row start.now.col (length out.old) }
     requires own { length out.old ≤ length temps.old }
     requires room { HasRoom (formula_view right.now) (length out.old) (length temps.old - length out.old) }
-    ensures { EachPlace (length out.old) (λ k. at out.new k ≡ binary_value op (at out.old k) (formula_value (S.sample source.now) (formula_view right.now) start.now.row (start.now.col +ℤ pos k))) }
+    ensures { EachPlace (length out.old) (λ k. at out.new k ≡ binary_value op (at out.old k) (formula_value (S.samples source.now) (formula_view right.now) start.now.row (start.now.col +ℤ pos k))) }
 {
     if let Some(number) = number_along(right, start) {
         combine_number(op, out, number);
@@ -115,12 +115,12 @@ fn join_right<S: Source>(
     }
 }
 
-/// The values of a formula along a row of points, where reads take what the source lends.
+/// The values of a formula along a row of points, where reads take what the source gives.
 #[cycle(row)]
-pub fn row<S: Source>(
+pub fn row<S: RowSource>(
     source: &S,
     formula: &Formula,
-    start: &Start,
+    start: &RowStart,
     out: &mut [i32],
     temps: &mut [i32],
 )
@@ -128,7 +128,7 @@ pub fn row<S: Source>(
     requires formula { IsFormula (formula_view formula.now) }
     requires reads { ReadsWithin (S.has source.now) (formula_view formula.now) start.now.row start.now.col (length out.old) }
     requires room { HasRoom (formula_view formula.now) (length out.old) (length temps.old) }
-    ensures { EachPlace (length out.old) (λ k. at out.new k ≡ formula_value (S.sample source.now) (formula_view formula.now) start.now.row (start.now.col +ℤ pos k)) }
+    ensures { EachPlace (length out.old) (λ k. at out.new k ≡ formula_value (S.samples source.now) (formula_view formula.now) start.now.row (start.now.col +ℤ pos k)) }
 {
     match formula {
         Formula::Number(number) => kernels::fill(out, *number),

@@ -1,45 +1,45 @@
 #![tactic(auto)]
-//! What lends the samples that formulas read.
+//! What gives the samples that formulas read.
 
 ghost use Rattle.std.specs.Prelude.{◌≡◌, ◌≤◌, ℕ, ℤ, ◌+ℤ◌, ◌≤ℤ◌, pos, length, IfSome};
 ghost use Rattle.domains.specs.Index.{index_at};
 ghost use Rattle.tile_eval.specs.Rows.{EachPlace, at};
 
-use crate::start::Start;
+use crate::start::RowStart;
 use domains::Index;
 
-/// Lends the samples of stages.
-pub trait Source {
+/// Gives the samples of stages.
+pub trait RowSource {
     /// Of a stage, a row and a column: whether the sample is there.
     ghost has: { Self → ℕ → ℤ → ℤ → Type 0 };
     /// And the sample.
-    ghost sample: { Self → ℕ → ℤ → ℤ → ℤ };
+    ghost samples: { Self → ℕ → ℤ → ℤ → ℤ };
 
     /// Writes the samples of a stage along a row, from a column on.
-    fn line(&self, stage: usize, row: i32, first: i32, out: &mut [i32])
+    fn read_row(&self, stage: usize, row: i32, first: i32, out: &mut [i32])
         requires short { length out.old ≤ 100000 }
         requires there { EachPlace (length out.old) (λ k. has self.now stage row (first +ℤ pos k)) }
-        ensures { EachPlace (length out.old) (λ k. at out.new k ≡ sample self.now stage row (first +ℤ pos k)) };
+        ensures { EachPlace (length out.old) (λ k. at out.new k ≡ samples self.now stage row (first +ℤ pos k)) };
 
     /// The samples of a stage along a row, from a column on, where they lie side by side in memory.
-    fn lend(&self, stage: usize, row: i32, first: i32, count: usize) -> Option<&[i32]>
+    fn borrow_row(&self, stage: usize, row: i32, first: i32, count: usize) -> Option<&[i32]>
         requires short { count ≤ 100000 }
         requires there { EachPlace count (λ k. has self.now stage row (first +ℤ pos k)) }
-        ensures { IfSome result (λ line. (length line.now ≡ count) × EachPlace count (λ k. at line.now k ≡ sample self.now stage row (first +ℤ pos k))) };
+        ensures { IfSome result (λ line. (length line.now ≡ count) × EachPlace count (λ k. at line.now k ≡ samples self.now stage row (first +ℤ pos k))) };
 
     /// Writes the samples of a stage along a row, at the columns that an index takes at columns from a start on.
-    fn pick(&self, stage: usize, row: i32, col: &Index, start: &Start, out: &mut [i32])
+    fn gather(&self, stage: usize, row: i32, col: &Index, start: &RowStart, out: &mut [i32])
         requires most { (start.now.col +ℤ pos (length out.old)) ≤ℤ pos 16385 }
         requires there { EachPlace (length out.old) (λ k. has self.now stage row (index_at col.now (start.now.col +ℤ pos k))) }
-        ensures { EachPlace (length out.old) (λ k. at out.new k ≡ sample self.now stage row (index_at col.now (start.now.col +ℤ pos k))) }
+        ensures { EachPlace (length out.old) (λ k. at out.new k ≡ samples self.now stage row (index_at col.now (start.now.col +ℤ pos k))) }
     {
         for k in 0..out.len() {
-            out[k] = self.point(stage, row, col.at(start.column(k)));
+            out[k] = self.sample(stage, row, col.at(start.column(k)));
         }
     }
 
     /// One sample.
-    fn point(&self, stage: usize, row: i32, col: i32) -> i32
+    fn sample(&self, stage: usize, row: i32, col: i32) -> i32
         requires { has self.now stage row col }
-        ensures { result ≡ sample self.now stage row col };
+        ensures { result ≡ samples self.now stage row col };
 }

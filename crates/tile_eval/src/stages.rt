@@ -1,36 +1,36 @@
 #![tactic(auto)]
-//! Whole stages, each after those that it reads.
+//! Buffer stages, each after those that it reads.
 
 ghost use Rattle.std.specs.Prelude.{◌≡◌, ◌≤◌, ◌+◌, map, replicate, All, None, IfOk};
 ghost use Rattle.job.specs.Kept.{pipeline_in};
 ghost use Rattle.job.specs.Pipeline.{rank_of};
 ghost use Rattle.job.specs.WellFormed.{IsJob};
-ghost use Rattle.tile_eval.specs.Whole.{stage_values, AreKnown, IsKept};
+ghost use Rattle.tile_eval.specs.Buffer.{stage_values, AreKnown, IsKept};
 
+use crate::buffers::{Buffer, StageBuffers};
 use crate::functions::function_values;
 use crate::planes::plane_values;
-use crate::wholes::{Known, Whole};
 use job::{Body, Job, StageKind};
 use std::alloc::{AllocError, Global};
 
-impl Known {
+impl StageBuffers {
     /// Of so many stages none is known.
-    pub fn none(alloc: Global, count: usize) -> Result<Known, AllocError>
-        ensures { IfOk result (λ known. known.wholes.items ≡ replicate count None) }
+    pub fn none(alloc: Global, count: usize) -> Result<StageBuffers, AllocError>
+        ensures { IfOk result (λ known. known.buffers.items ≡ replicate count None) }
     {
-        let mut wholes = Vec::new(alloc);
+        let mut buffers = Vec::new(alloc);
         for _ in 0..count {
-            wholes.push(None)?;
+            buffers.push(None)?;
         }
-        Ok(Known { wholes })
+        Ok(StageBuffers { buffers })
     }
 
     /// The planes and functions of the ranks below this one.
-    pub fn below(alloc: Global, job: &Job, rank: usize) -> Result<Known, AllocError>
+    pub fn below(alloc: Global, job: &Job, rank: usize) -> Result<StageBuffers, AllocError>
         requires { IsJob (pipeline_in job.now) }
-        ensures { IfOk result (λ known. AreKnown (pipeline_in job.now) rank known.wholes.items) }
+        ensures { IfOk result (λ known. AreKnown (pipeline_in job.now) rank known.buffers.items) }
     {
-        let mut known = Known::none(alloc, job.stages().len())?;
+        let mut known = StageBuffers::none(alloc, job.stages().len())?;
         for lower in 0..rank {
             known.add_rank(alloc, job, lower)?;
         }
@@ -40,25 +40,25 @@ impl Known {
     // Those of this rank besides, where those of lower ranks are known.
     fn add_rank(&mut self, alloc: Global, job: &Job, rank: usize) -> Result<(), AllocError>
         requires job { IsJob (pipeline_in job.now) }
-        requires lower { AreKnown (pipeline_in job.now) rank self.old.wholes.items }
-        ensures { IfOk result (λ done. AreKnown (pipeline_in job.now) (rank + 1) self.new.wholes.items) }
+        requires lower { AreKnown (pipeline_in job.now) rank self.old.buffers.items }
+        ensures { IfOk result (λ done. AreKnown (pipeline_in job.now) (rank + 1) self.new.buffers.items) }
     {
         for number in 0..job.stages().len() {
             if job.rank(number) == Some(rank) {
-                self.wholes[number] = self.kept(alloc, job, number)?;
+                self.buffers[number] = self.kept(alloc, job, number)?;
             }
         }
         Ok(())
     }
 
     // What is kept of the stage of this number: its values on its domain, if it has any.
-    fn kept(&self, alloc: Global, job: &Job, number: usize) -> Result<Option<Whole>, AllocError>
+    fn kept(&self, alloc: Global, job: &Job, number: usize) -> Result<Option<Buffer>, AllocError>
         requires job { IsJob (pipeline_in job.now) }
-        requires lower { AreKnown (pipeline_in job.now) (rank_of (pipeline_in job.now).stages number) self.now.wholes.items }
+        requires lower { AreKnown (pipeline_in job.now) (rank_of (pipeline_in job.now).stages number) self.now.buffers.items }
         ensures { IfOk result (λ kept. IsKept (pipeline_in job.now) number kept) }
     {
         match job.stage(number) {
-            Some(stage) if stage.kind() != StageKind::Accumulator => Ok(Some(Whole {
+            Some(stage) if stage.kind() != StageKind::Accumulator => Ok(Some(Buffer {
                 area: *stage.domain(),
                 values: self.computed(alloc, job, number)?,
             })),
@@ -69,7 +69,7 @@ impl Known {
     // The values of the stage of this number, from those that it reads.
     fn computed(&self, alloc: Global, job: &Job, number: usize) -> Result<Vec<i32>, AllocError>
         requires job { IsJob (pipeline_in job.now) }
-        requires lower { AreKnown (pipeline_in job.now) (rank_of (pipeline_in job.now).stages number) self.now.wholes.items }
+        requires lower { AreKnown (pipeline_in job.now) (rank_of (pipeline_in job.now).stages number) self.now.buffers.items }
         ensures { IfOk result (λ values. values.items ≡ stage_values (pipeline_in job.now) number) }
     {
         let Some(stage) = job.stage(number) else {
@@ -85,7 +85,7 @@ impl Known {
     // The same, copied where they are known.
     fn values_of(&self, alloc: Global, job: &Job, number: usize) -> Result<Vec<i32>, AllocError>
         requires job { IsJob (pipeline_in job.now) }
-        requires lower { AreKnown (pipeline_in job.now) (rank_of (pipeline_in job.now).stages number) self.now.wholes.items }
+        requires lower { AreKnown (pipeline_in job.now) (rank_of (pipeline_in job.now).stages number) self.now.buffers.items }
         ensures { IfOk result (λ values. values.items ≡ stage_values (pipeline_in job.now) number) }
     {
         match self.whole(number) {
@@ -114,7 +114,7 @@ pub fn plain(alloc: Global, job: &Job, stage: usize) -> Result<Vec<i32>, AllocEr
     ensures { IfOk result (λ values. values.items ≡ stage_values (pipeline_in job.now) stage) }
 {
     let rank = job.rank(stage).unwrap_or(0);
-    Known::below(alloc, job, rank)?.computed(alloc, job, stage)
+    StageBuffers::below(alloc, job, rank)?.computed(alloc, job, stage)
 }
 
 /// The values of several stages; what they read is computed once.
@@ -122,7 +122,7 @@ pub fn plain_all(alloc: Global, job: &Job, stages: &[usize]) -> Result<Vec<Vec<i
     requires { IsJob (pipeline_in job.now) }
     ensures { IfOk result (λ all. map (λ values. values.items) all.items ≡ map (stage_values (pipeline_in job.now)) stages.now) }
 {
-    let known = Known::below(alloc, job, greatest_rank(job, stages))?;
+    let known = StageBuffers::below(alloc, job, greatest_rank(job, stages))?;
     let mut all = Vec::with_capacity(alloc, stages.len())?;
     for stage in stages {
         all.push(known.values_of(alloc, job, *stage)?)?;

@@ -5,13 +5,13 @@ ghost use Rattle.std.specs.Prelude.{◌≡◌, ◌<◌, ◌≤◌, ◌≤ℤ◌,
 ghost use Rattle.domains.specs.Index.{index_at};
 ghost use Rattle.domains.specs.Span.{len_of};
 ghost use Rattle.job.specs.Values.{under};
-ghost use Rattle.job.specs.WellFormed.{IsNear};
+ghost use Rattle.job.specs.WellFormed.{InDomainRange};
 
 use domains::{Area, Index, Span};
 
 /// The first point of a row of points.
 #[derive(Clone, Copy, Debug)]
-pub struct Start {
+pub struct RowStart {
     pub row: i32,
     pub col: i32,
     ghost row_least: { negsuc 16383 ≤ℤ row },
@@ -32,16 +32,16 @@ pub(crate) fn along(first: i32, k: usize) -> i32
     first + k as i32
 }
 
-impl Start {
+impl RowStart {
     /// The first point of row number `row` of an area.
-    pub fn at(area: &Area, row: usize) -> Start
-        requires rows { IsNear area.now.rows }
-        requires cols { IsNear area.now.cols }
+    pub fn at(area: &Area, row: usize) -> RowStart
+        requires rows { InDomainRange area.now.rows }
+        requires cols { InDomainRange area.now.cols }
         requires row { row < len_of area.now.rows }
         ensures row { result.row ≡ area.now.rows.lo +ℤ pos row }
         ensures col { result.col ≡ area.now.cols.lo }
     {
-        Start {
+        RowStart {
             row: along(area.rows.lo(), row),
             col: area.cols.lo(),
         }
@@ -56,12 +56,12 @@ impl Start {
     }
 
     /// The start of the points from number `k` on.
-    pub fn behind(&self, k: usize) -> Start
+    pub fn behind(&self, k: usize) -> RowStart
         requires { (self.now.col +ℤ pos k) ≤ℤ pos 16385 }
         ensures row { result.row ≡ self.now.row }
         ensures col { result.col ≡ self.now.col +ℤ pos k }
     {
-        Start {
+        RowStart {
             row: self.row,
             col: along(self.col, k),
         }
@@ -120,12 +120,12 @@ impl Start {
     }
 
     /// The start of the row that lies `rows` further down.
-    pub(crate) fn below(&self, rows: usize) -> Start
+    pub(crate) fn below(&self, rows: usize) -> RowStart
         requires { (self.now.row +ℤ pos rows) ≤ℤ pos 16384 }
         ensures row { result.row ≡ self.now.row +ℤ pos rows }
         ensures col { result.col ≡ self.now.col }
     {
-        Start {
+        RowStart {
             row: along(self.row, rows),
             col: self.col,
         }

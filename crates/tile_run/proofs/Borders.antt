@@ -1,4 +1,4 @@
--- Tiles that are lent, and rows of points that cross their borders.
+-- Tiles that are given, and rows of points that cross their borders.
 use Rattle.std.proofs.Common.{arith, ℕ, zero, suc, ℤ, pos, ◌≡◌, ◌+◌, ◌-◌, ◌<◌, ◌≤◌, ◌+ℤ◌, ◌≤ℤ◌, ◌⊎◌, inl, inr, ap, ◌∙◌, sym, subst, List, ◌++◌, take, drop, length, Option, Some, None, Bor}
 use Rattle.std.specs.Prelude.{IfSome, IfNone}
 use Rattle.std.proofs.Math.IntN.{+ℤ_idr}
@@ -14,11 +14,11 @@ use Rattle.domains.specs.declared.area.Area.{Area}
 use Rattle.domains.specs.declared.grid.Grid.{Grid}
 use Rattle.domains.proofs.Indices.{index_rises}
 use Rattle.domains.proofs.PartsOfSpans.{place_only}
-use Rattle.tile_eval.specs.declared.blocks.Block.{Block}
+use Rattle.tile_eval.specs.declared.blocks.BufferView.{BufferView}
 use Rattle.tile_eval.specs.Rows.{EachPlace, at}
-use Rattle.tile_eval.specs.Whole.{place_of}
-use Rattle.tile_run.specs.Lent.{Lending, number_in, number_at}
-use Rattle.tile_run.specs.Tiles.{IsLentAt, IsTileAbout}
+use Rattle.tile_eval.specs.Buffer.{place_of}
+use Rattle.tile_run.specs.KnownTiles.{KnownTiles, number_in, number_at}
+use Rattle.tile_run.specs.Tiles.{IsGivenAt, IsTileAbout}
 
 none_some : {X : Type 0} (x : X) → None ≡ Some x → ⊥
 none_some x e = absurd (cc)
@@ -29,17 +29,17 @@ if_none (Some x) P p = tt
 
 -- ---- the tile of a point
 
-module _ (lent : Lending) (g : ℕ) (grid : Grid) (r c r' c' : ℤ) (i j : ℕ) (row : r' ≡ r) (col : c' ≡ c) (is : (i, j) ≡ tile_at grid r' c') where
+module _ (given : KnownTiles) (g : ℕ) (grid : Grid) (r c r' c' : ℤ) (i j : ℕ) (row : r' ≡ r) (col : c' ≡ c) (is : (i, j) ≡ tile_at grid r' c') where
   same_tile : (i, j) ≡ tile_at grid r c
   same_tile = is ∙ (λ k. tile_at grid (row k) (col k))
 
-  pub not_lent : lent g i j ≡ None → ¬ (IsLentAt lent g grid r c)
-  not_lent none h = none_some h.1.0 (sym none ∙ ap (λ (t : ℕ × ℕ). lent g t.0 t.1) same_tile ∙ h.1.1)
+  pub not_given : given g i j ≡ None → ¬ (IsGivenAt given g grid r c)
+  not_given none h = none_some h.1.0 (sym none ∙ ap (λ (t : ℕ × ℕ). given g t.0 t.1) same_tile ∙ h.1.1)
 
-  pub tile_about : (block : Block) (area : Area) (xs : List ℤ) → IsTileOf grid r' c' (i, j) → block.area ≡ area → area ≡ tile_area grid i j → block.values.now ≡ xs → lent g i j ≡ Some xs → IsTileAbout lent g grid r c block
-  tile_about block area xs of same tile numbers lends = record {
+  pub tile_about : (block : BufferView) (area : Area) (xs : List ℤ) → IsTileOf grid r' c' (i, j) → block.area ≡ area → area ≡ tile_area grid i j → block.values.now ≡ xs → given g i j ≡ Some xs → IsTileAbout given g grid r c block
+  tile_about block area xs of same tile numbers gives = record {
     area = same ∙ tile ∙ ap (λ (t : ℕ × ℕ). tile_area grid t.0 t.1) same_tile;
-    numbers = sym (ap (λ (t : ℕ × ℕ). lent g t.0 t.1) same_tile) ∙ lends ∙ ap (λ (ys : List ℤ). Some ys) (sym numbers);
+    numbers = sym (ap (λ (t : ℕ × ℕ). given g t.0 t.1) same_tile) ∙ gives ∙ ap (λ (ys : List ℤ). Some ys) (sym numbers);
     holds =
         subst (λ (a : Area). HoldsPoint a r c) (sym (same ∙ tile))
         (subst (λ (z : ℤ). HoldsPoint (tile_area grid i j) z c) row (subst (λ (z : ℤ). HoldsPoint (tile_area grid i j) r' z) col of.holds));
@@ -50,26 +50,26 @@ some_side : (s : Ends) (side i : ℕ) (v : ℤ) → Holds (part_of s side i) v �
 some_side s zero i v h = let low = h.0 in let high = h.1 in absurd (omega (arith, ints, clamps))
 some_side s (suc side) i v h = omega arith
 
-pub same_about : (lent : Lending) (g : ℕ) (grid : Grid) (r c r' c' : ℤ) (block : Block) → r' ≡ r → c' ≡ c → IsTileAbout lent g grid r' c' block → IsTileAbout lent g grid r c block
-same_about lent g grid r c r' c' block row col about =
-    subst (λ (z : ℤ). IsTileAbout lent g grid z c block) row (subst (λ (z : ℤ). IsTileAbout lent g grid r' z block) col about)
+pub same_about : (given : KnownTiles) (g : ℕ) (grid : Grid) (r c r' c' : ℤ) (block : BufferView) → r' ≡ r → c' ≡ c → IsTileAbout given g grid r' c' block → IsTileAbout given g grid r c block
+same_about given g grid r c r' c' block row col about =
+    subst (λ (z : ℤ). IsTileAbout given g grid z c block) row (subst (λ (z : ℤ). IsTileAbout given g grid r' z block) col about)
 
-module _ (lent : Lending) (g : ℕ) (grid : Grid) (r c : ℤ) (block : Block) (about : IsTileAbout lent g grid r c block) where
+module _ (given : KnownTiles) (g : ℕ) (grid : Grid) (r c : ℤ) (block : BufferView) (about : IsTileAbout given g grid r c block) where
   -- its number stands in the block
-  pub number_is : at block.values.now (place_of block.area r c) ≡ number_at lent g grid r c
+  pub number_is : at block.values.now (place_of block.area r c) ≡ number_at given g grid r c
   number_is =
       ap (λ (a : Area). at block.values.now (place_of a r c)) about.area
       ∙ ap (λ (o : Option (List ℤ)). number_in (tile_area grid (tile_at grid r c).0 (tile_at grid r c).1) r c o) (sym about.numbers)
 
   -- so do those of the other points of the block's area
-  pub about_more : (d : ℤ) → HoldsPoint block.area r d → IsTileAbout lent g grid r d block
+  pub about_more : (d : ℤ) → HoldsPoint block.area r d → IsTileAbout given g grid r d block
   about_more d held =
       let t : ℕ × ℕ = tile_at grid r c in
       let inside : HoldsPoint (tile_area grid t.0 t.1) r d = subst (λ (a : Area). HoldsPoint a r d) about.area held in
       let col : t.1 ≡ (tile_at grid r d).1 = place_only grid.area.cols grid.sides.width d t.1 (some_side grid.area.cols grid.sides.width t.1 d inside.1) inside.1 in
       record {
         area = about.area ∙ ap (tile_area grid t.0) col;
-        numbers = sym (ap (lent g t.0) col) ∙ about.numbers;
+        numbers = sym (ap (given g t.0) col) ∙ about.numbers;
         holds = held;
       }
 
@@ -92,16 +92,16 @@ part_held a cols r c c' n k out h same col most le l =
     row_held a r c n k h end (subst (λ (m : ℕ). k < m) (take_len n out le) l)
 
 -- the numbers of a part of a row
-pub part_number : (lent : Lending) (g : ℕ) (grid : Grid) (r c r' c' : ℤ) (block : Block) (n k : ℕ) (out new rest : List ℤ) → IsTileAbout lent g grid r c block → r' ≡ r → c' ≡ c → n ≤ length out → length new ≡ length (take n out) → k < n
+pub part_number : (given : KnownTiles) (g : ℕ) (grid : Grid) (r c r' c' : ℤ) (block : BufferView) (n k : ℕ) (out new rest : List ℤ) → IsTileAbout given g grid r c block → r' ≡ r → c' ≡ c → n ≤ length out → length new ≡ length (take n out) → k < n
     → EachPlace (length (take n out)) (λ j. HoldsPoint block.area r (c +ℤ pos j))
     → EachPlace (length (take n out)) (λ j. at new j ≡ at block.values.now (place_of block.area r' (c' +ℤ pos j)))
-    → at (new ++ rest) k ≡ number_at lent g grid r (c +ℤ pos k)
-part_number lent g grid r c r' c' block n k out new rest about row col le len l held numbers =
+    → at (new ++ rest) k ≡ number_at given g grid r (c +ℤ pos k)
+part_number given g grid r c r' c' block n k out new rest about row col le len l held numbers =
     let within : k < length (take n out) = subst (λ (m : ℕ). k < m) (sym (take_len n out le)) l in
     in_front k new rest (subst (λ (m : ℕ). k < m) (sym len) within)
     ∙ numbers k within
     ∙ (λ i. at block.values.now (place_of block.area (row i) (col i +ℤ pos k)))
-    ∙ number_is lent g grid r (c +ℤ pos k) block (about_more lent g grid r c block about (c +ℤ pos k) (held k within))
+    ∙ number_is given g grid r (c +ℤ pos k) block (about_more given g grid r c block about (c +ℤ pos k) (held k within))
 
 -- ---- columns that an index takes, from the first on
 
@@ -131,30 +131,30 @@ pub picked_held : (a : Area) (cols : Ends) (r c : ℤ) (f : ℕ → ℤ) (n : �
 picked_held a cols r c f n out h same le each k l = (h.0, subst (λ (s : Ends). Holds s (f k)) same (each k (subst (λ (m : ℕ). k < m) (take_len n out le) l)))
 
 -- the numbers there
-pub picked_number : (lent : Lending) (g : ℕ) (grid : Grid) (r c r' : ℤ) (block : Block) (f : ℕ → ℤ) (n k : ℕ) (out new rest : List ℤ) → IsTileAbout lent g grid r c block → r' ≡ r → n ≤ length out → length new ≡ length (take n out) → k < n
+pub picked_number : (given : KnownTiles) (g : ℕ) (grid : Grid) (r c r' : ℤ) (block : BufferView) (f : ℕ → ℤ) (n k : ℕ) (out new rest : List ℤ) → IsTileAbout given g grid r c block → r' ≡ r → n ≤ length out → length new ≡ length (take n out) → k < n
     → EachPlace (length (take n out)) (λ j. HoldsPoint block.area r (f j))
     → EachPlace (length (take n out)) (λ j. at new j ≡ at block.values.now (place_of block.area r' (f j)))
-    → at (new ++ rest) k ≡ number_at lent g grid r (f k)
-picked_number lent g grid r c r' block f n k out new rest about row le len l held numbers =
+    → at (new ++ rest) k ≡ number_at given g grid r (f k)
+picked_number given g grid r c r' block f n k out new rest about row le len l held numbers =
     let within : k < length (take n out) = subst (λ (m : ℕ). k < m) (sym (take_len n out le)) l in
     in_front k new rest (subst (λ (m : ℕ). k < m) (sym len) within)
     ∙ numbers k within
     ∙ ap (λ (z : ℤ). at block.values.now (place_of block.area z (f k))) row
-    ∙ number_is lent g grid r (f k) block (about_more lent g grid r c block about (f k) (held k within))
+    ∙ number_is given g grid r (f k) block (about_more given g grid r c block about (f k) (held k within))
 
 -- a slice of the block in which a row begins
-pub slice_numbers : (lent : Lending) (g : ℕ) (grid : Grid) (r c r' c' : ℤ) (block : Block) (n : ℕ) (o : Option (Bor (List ℤ))) → IsTileAbout lent g grid r c block → r' ≡ r → c' ≡ c
+pub slice_numbers : (given : KnownTiles) (g : ℕ) (grid : Grid) (r c r' c' : ℤ) (block : BufferView) (n : ℕ) (o : Option (Bor (List ℤ))) → IsTileAbout given g grid r c block → r' ≡ r → c' ≡ c
     → IfSome o (λ l. length l.now ≡ n) → IfSome o (λ l. EachPlace n (λ k. HoldsPoint block.area r' (c' +ℤ pos k)))
     → IfSome o (λ l. EachPlace n (λ k. at l.now k ≡ at block.values.now (place_of block.area r' (c' +ℤ pos k))))
-    → IfSome o (λ l. (length l.now ≡ n) × EachPlace n (λ k. at l.now k ≡ number_at lent g grid r (c +ℤ pos k)))
-slice_numbers lent g grid r c r' c' block n None about row col long held numbers = tt
-slice_numbers lent g grid r c r' c' block n (Some l) about row col long held numbers = (
+    → IfSome o (λ l. (length l.now ≡ n) × EachPlace n (λ k. at l.now k ≡ number_at given g grid r (c +ℤ pos k)))
+slice_numbers given g grid r c r' c' block n None about row col long held numbers = tt
+slice_numbers given g grid r c r' c' block n (Some l) about row col long held numbers = (
   long,
   λ k low.
       let here : HoldsPoint block.area r (c +ℤ pos k) = subst (λ (z : ℤ). HoldsPoint block.area z (c +ℤ pos k)) row (subst (λ (z : ℤ). HoldsPoint block.area r' (z +ℤ pos k)) col (held k low)) in
       numbers k low
       ∙ (λ i. at block.values.now (place_of block.area (row i) (col i +ℤ pos k)))
-      ∙ number_is lent g grid r (c +ℤ pos k) block (about_more lent g grid r c block about (c +ℤ pos k) here),
+      ∙ number_is given g grid r (c +ℤ pos k) block (about_more given g grid r c block about (c +ℤ pos k) here),
 )
 
 put_before : (a n k : ℕ) (xs ys : List ℤ) → k < a → a ≤ length xs → at (put_mid a n xs ys) k ≡ at xs k

@@ -1,4 +1,4 @@
--- Where all needs are lent, each step of a target finds what it reads among what the steps before it computed.
+-- Where all needs are given, each step of a target finds what it reads among what the steps before it computed.
 use Rattle.std.proofs.Common.{arith, ℕ, ℤ, ◌≡◌, ◌<◌, inl, inr, refl, length, Bool, true, false, not, eqb, List, [], ◌∷◌, Option, Some, None, slice_get, ap, sym, ◌∙◌, subst}
 use Rattle.std.specs.Prelude.{Contains, unwrap_or, if◌then◌else◌}
 use Rattle.std.specs.Option.{option_map_or}
@@ -19,18 +19,18 @@ use Rattle.job.specs.WellFormed.{IsValued, IsReadable, IsJob}
 use Rattle.grouping.specs.Schedules.{is_inlined, is_function, is_function_body}
 use Rattle.grouping.specs.Targets.{Target, IsTarget, is_boxed, boxes}
 use Rattle.grouping.specs.Costs.{inner_steps, steps}
-use Rattle.overlap_tiles.specs.AtHand.{IsPlaneAt, IsInNeededTile, IsAtHand as IsFound}
+use Rattle.overlap_tiles.specs.Available.{IsPlaneAt, IsInNeededTile, IsAvailable}
 use Rattle.overlap_tiles.specs.Needs.{needs}
 use Rattle.overlap_tiles.proofs.Needing.{from_needs}
-use Rattle.overlap_tiles.proofs.Reading.{Both, both_body, has_at_hand, step_in_domain, step_region}
+use Rattle.overlap_tiles.proofs.Reading.{Both, both_body, reads_available, step_in_domain, step_region}
 use Rattle.overlap_tiles.proofs.Rising.{box_listed}
 use Rattle.overlap_tiles.proofs.Tiling.{grid_fits}
-use Rattle.tile_eval.specs.Whole.{IsKnownAt}
-use Rattle.tile_eval.specs.declared.wholes.Whole.{Whole}
-use Rattle.tile_run.specs.Lent.{Lending, IsLent}
-use Rattle.tile_run.specs.Tiles.{IsLentAt}
+use Rattle.tile_eval.specs.Buffer.{IsKnownAt}
+use Rattle.tile_eval.specs.declared.buffers.Buffer.{Buffer}
+use Rattle.tile_run.specs.KnownTiles.{KnownTiles, IsGiven}
+use Rattle.tile_run.specs.Tiles.{IsGivenAt}
 use Rattle.tile_run.specs.Local.{FunctionAtHand, BodyAtHand, StageAtHand, IsAtHand}
-use Rattle.tile_run.specs.Runs.{AreLent}
+use Rattle.tile_run.specs.Runs.{AreGiven}
 use Rattle.tile_run.specs.Steps.{IsReadyOver, AreComputed, AreRunnable}
 use Rattle.tile_run.proofs.Computing.{same_stage}
 use Rattle.tile_run.proofs.LocalValues.{reads_weaker}
@@ -52,13 +52,13 @@ function_stage job g is = by (slice_get job.stages g) refl is
     by None there e = absurd (false≢true e)
     by (Some s) there e = record { stage = s; there = there; function = e }
 
-inner_function : (t : Target) (s : ℕ × Area) → Contains (inner_steps t) s → (is_function t.job s.0 ≡ true) × (is_inlined t.flags s.0 ≡ true)
+inner_function : (t : Target) (s : ℕ × Area) → Contains (inner_steps t) s → (is_function t.job s.0 ≡ true) × (is_inlined t.inlining s.0 ≡ true)
 inner_function t s k =
-    let inner = Contains-from_filter (λ x. is_inlined t.flags x.0) (boxes t) s k in
+    let inner = Contains-from_filter (λ x. is_inlined t.inlining x.0) (boxes t) s k in
     ((and_parts (is_function t.job s.0) (not (eqb s.0 t.stage)) (box_listed t s inner.0).boxed).0, inner.1)
 
 -- a step before another is inlined
-step_inlined : (t : Target) (p k g h : ℕ) (a b : Area) → p < k → slice_get (steps t) k ≡ Some (g, a) → slice_get (steps t) p ≡ Some (h, b) → is_inlined t.flags h ≡ true
+step_inlined : (t : Target) (p k g h : ℕ) (a b : Area) → p < k → slice_get (steps t) k ≡ Some (g, a) → slice_get (steps t) p ≡ Some (h, b) → is_inlined t.inlining h ≡ true
 step_inlined t p k g h a b before here there =
     let end = slice_get_within (steps t) k (g, a) here in
     let inside : p < length (inner_steps t) = omega (arith, length-append (inner_steps t) ((t.stage, t.region) ∷ [])) in
@@ -68,11 +68,11 @@ step_inlined t p k g h a b before here there =
       sym (get_or_append_left (inner_steps t) ((t.stage, t.region) ∷ []) (h, b) p inside) ∙ get_or_from_slice_get (steps t) p (h, b) (h, b) there,
     )).1
 
-module _ (t : Target) (job : IsJob t.job) (lent : Lending) (given : AreLent lent (needs t)) where
-  needed_stored : (h : ℕ) (r c : ℤ) → IsInNeededTile t h r c → is_inlined t.flags h ≡ false
+module _ (t : Target) (job : IsJob t.job) (given : KnownTiles) (are_given : AreGiven given (needs t)) where
+  needed_stored : (h : ℕ) (r c : ℤ) → IsInNeededTile t h r c → is_inlined t.inlining h ≡ false
   needed_stored h r c n =
       let needed = from_needs t (record { stage = h; row = n.row; col = n.col }) job n.needed in
-      not-true (is_inlined t.flags h) (and_parts (is_boxed t h) (not (is_inlined t.flags h)) needed.stored).1
+      not-true (is_inlined t.inlining h) (and_parts (is_boxed t h) (not (is_inlined t.inlining h)) needed.stored).1
 
   module _ (h : ℕ) (r c : ℤ) (s : Stage) (there : slice_get t.job.stages h ≡ Some s) where
     no_plane : is_function_body s.body ≡ true → IsPlaneAt t.job h → ⊥
@@ -80,49 +80,49 @@ module _ (t : Target) (job : IsJob t.job) (lent : Lending) (given : AreLent lent
         let same = same_stage t.job.stages h p.stage s p.there there in
         opposite (is_function_body s.body) e (ap (λ (x : Stage). is_function_body x.body) (sym same) ∙ ap is_function_body p.plane)
 
-    tile_lent : has_tiles s.body ≡ true → HoldsPoint s.domain r c → IsInNeededTile t h r c → IsLent lent h (grid_of t.job s) r c
-    tile_lent has inside n =
+    tile_given : has_tiles s.body ≡ true → HoldsPoint s.domain r c → IsInNeededTile t h r c → IsGiven given h (grid_of t.job s) r c
+    tile_given has inside n =
         let grid : Grid = grid_of t.job s in
         let at : grid_at t.job h ≡ Some grid = ap (stage_grid t.job) there ∙ (λ i. if has i then Some grid else None) in
         let same : n.grid ≡ grid = ap (λ (o : Option Grid). unwrap_or o grid) (sym n.there ∙ at) in
         let tile = tile_is grid r c (grid_fits t.job h grid job at) inside in
         let only = tile.only n.row n.col (subst (λ (d : Grid). HoldsPoint (tile_area d n.row n.col) r c) same n.holds) in
-        let found = given (record { stage = h; row = n.row; col = n.col }) n.needed in
-        (found.0, sym (ap (λ (i : ℕ). lent h i n.col) only.0 ∙ ap (λ (j : ℕ). lent h (tile_at grid r c).0 j) only.1) ∙ found.1)
+        let found = are_given (record { stage = h; row = n.row; col = n.col }) n.needed in
+        (found.0, sym (ap (λ (i : ℕ). given h i n.col) only.0 ∙ ap (λ (j : ℕ). given h (tile_at grid r c).0 j) only.1) ∙ found.1)
 
-  module _ (k g : ℕ) (a : Area) (here : slice_get (steps t) k ≡ Some (g, a)) (wholes : List (Option Whole)) (done : AreComputed (steps t) k wholes) where
-    found : (h : ℕ) (r c : ℤ) → Both (IsFound t k) (IsReadable t.job.stages) h r c → IsAtHand t.job t.flags lent (IsKnownAt wholes) h r c
+  module _ (k g : ℕ) (a : Area) (here : slice_get (steps t) k ≡ Some (g, a)) (buffers : List (Option Buffer)) (done : AreComputed (steps t) k buffers) where
+    found : (h : ℕ) (r c : ℤ) → Both (IsAvailable t k) (IsReadable t.job.stages) h r c → IsAtHand t.job t.inlining given (IsKnownAt buffers) h r c
     found h r c both =
-        subst (λ (o : Option Stage). StageAtHand t.job t.flags lent (IsKnownAt wholes) h o r c) (sym both.1.there) (at_body both.1.stage.body refl)
+        subst (λ (o : Option Stage). StageAtHand t.job t.inlining given (IsKnownAt buffers) h o r c) (sym both.1.there) (at_body both.1.stage.body refl)
       where
-        known : is_function_body both.1.stage.body ≡ true → is_inlined t.flags h ≡ true → IsFound t k h r c → IsKnownAt wholes h r c
+        known : is_function_body both.1.stage.body ≡ true → is_inlined t.inlining h ≡ true → IsAvailable t k h r c → IsKnownAt buffers h r c
         known e inlined (inl p) = absurd (no_plane h r c both.1.stage both.1.there e p)
         known e inlined (inr (inl q)) = done q.place h q.area q.before q.there r c q.holds
-        known e inlined (inr (inr n)) = absurd (opposite (is_inlined t.flags h) inlined (needed_stored h r c n))
+        known e inlined (inr (inr n)) = absurd (opposite (is_inlined t.inlining h) inlined (needed_stored h r c n))
 
-        lent_there : is_function_body both.1.stage.body ≡ true → has_tiles both.1.stage.body ≡ true → is_inlined t.flags h ≡ false → IsFound t k h r c → IsLent lent h (grid_of t.job both.1.stage) r c
-        lent_there e has stored (inl p) = absurd (no_plane h r c both.1.stage both.1.there e p)
-        lent_there e has stored (inr (inl q)) = absurd (opposite (is_inlined t.flags h) (step_inlined t q.place k g h a q.area q.before here q.there) stored)
-        lent_there e has stored (inr (inr n)) = tile_lent h r c both.1.stage both.1.there has both.1.within n
+        given_there : is_function_body both.1.stage.body ≡ true → has_tiles both.1.stage.body ≡ true → is_inlined t.inlining h ≡ false → IsAvailable t k h r c → IsGiven given h (grid_of t.job both.1.stage) r c
+        given_there e has stored (inl p) = absurd (no_plane h r c both.1.stage both.1.there e p)
+        given_there e has stored (inr (inl q)) = absurd (opposite (is_inlined t.inlining h) (step_inlined t q.place k g h a q.area q.before here q.there) stored)
+        given_there e has stored (inr (inr n)) = tile_given h r c both.1.stage both.1.there has both.1.within n
 
-        of_function : is_function_body both.1.stage.body ≡ true → has_tiles both.1.stage.body ≡ true → (b : Bool) → is_inlined t.flags h ≡ b → FunctionAtHand b (IsKnownAt wholes h r c) (IsLentAt lent h (grid_of t.job both.1.stage) r c)
+        of_function : is_function_body both.1.stage.body ≡ true → has_tiles both.1.stage.body ≡ true → (b : Bool) → is_inlined t.inlining h ≡ b → FunctionAtHand b (IsKnownAt buffers h r c) (IsGivenAt given h (grid_of t.job both.1.stage) r c)
         of_function e has true inlined = known e inlined both.0
-        of_function e has false stored = (both.1.within, lent_there e has stored both.0)
+        of_function e has false stored = (both.1.within, given_there e has stored both.0)
 
-        at_body : (body : Body) → both.1.stage.body ≡ body → BodyAtHand t.job t.flags lent (IsKnownAt wholes) h both.1.stage body r c
+        at_body : (body : Body) → both.1.stage.body ≡ body → BodyAtHand t.job t.inlining given (IsKnownAt buffers) h both.1.stage body r c
         at_body (plane n) e = both.1.within
-        at_body (function ps o) e = of_function (ap is_function_body e) (ap has_tiles e) (is_inlined t.flags h) refl
+        at_body (function ps o) e = of_function (ap is_function_body e) (ap has_tiles e) (is_inlined t.inlining h) refl
         at_body (accumulator fold bins value bin) e = absurd (subst IsValued e both.1.valued)
 
-    ready : IsTarget t → (s : Stage) → slice_get t.job.stages g ≡ Some s → IsReadyOver t.job t.flags lent wholes g a
+    ready : IsTarget t → (s : Stage) → slice_get t.job.stages g ≡ Some s → IsReadyOver t.job t.inlining given buffers g a
     ready target s there = λ r c holds.
         let inside = (step_in_domain t k g s a job target here there).1 r c holds in
         record {
           stage = s;
           there = there;
           inside = inside;
-          reads = reads_weaker (Both (IsFound t k) (IsReadable t.job.stages)) (IsAtHand t.job t.flags lent (IsKnownAt wholes)) found s.body r c
-              (both_body (IsFound t k) (IsReadable t.job.stages) r c s.body (has_at_hand t job target k g s a here there r c holds) ((job.stages g s there).reads r c inside));
+          reads = reads_weaker (Both (IsAvailable t k) (IsReadable t.job.stages)) (IsAtHand t.job t.inlining given (IsKnownAt buffers)) found s.body r c
+              (both_body (IsAvailable t k) (IsReadable t.job.stages) r c s.body (reads_available t job target k g s a here there r c holds) ((job.stages g s there).reads r c inside));
         }
 
   -- a step before the last
@@ -136,21 +136,21 @@ module _ (t : Target) (job : IsJob t.job) (lent : Lending) (given : AreLent lent
     found_stage : IsFunctionStage t.job g
     found_stage = function_stage t.job g own
 
-    step_ready : (wholes : List (Option Whole)) → AreComputed (inner_steps t) k wholes → IsTarget t → IsReadyOver t.job t.flags lent wholes g a
-    step_ready wholes done target =
+    step_ready : (buffers : List (Option Buffer)) → AreComputed (inner_steps t) k buffers → IsTarget t → IsReadyOver t.job t.inlining given buffers g a
+    step_ready buffers done target =
         let inside = slice_get_within (inner_steps t) k (g, a) here in
-        ready k g a among wholes (computed_longer (inner_steps t) ((t.stage, t.region) ∷ []) k wholes (omega arith) done) target found_stage.stage found_stage.there
+        ready k g a among buffers (computed_longer (inner_steps t) ((t.stage, t.region) ∷ []) k buffers (omega arith) done) target found_stage.stage found_stage.there
 
-  pub inner_runnable : IsTarget t → AreRunnable t.job t.flags lent (inner_steps t)
+  pub inner_runnable : IsTarget t → AreRunnable t.job t.inlining given (inner_steps t)
   inner_runnable target = record {
     functions = own;
     areas = λ k g a here. (step_in_domain t k g (found_stage k g a here).stage a job target (among k g a here) (found_stage k g a here).there).0;
     one_area = λ k n g a b here there. ap (λ (o : Option Area). unwrap_or o b) (sym (step_region t k g a (among k g a here)) ∙ step_region t n g b (among n g b there));
-    ready = λ k g a wholes here done. step_ready k g a here wholes done target;
+    ready = λ k g a buffers here done. step_ready k g a here buffers done target;
   }
 
   -- after them all that the target reads is at hand
-  pub target_ready : IsTarget t → (wholes : List (Option Whole)) → AreComputed (inner_steps t) (length (inner_steps t)) wholes → IsReadyOver t.job t.flags lent wholes t.stage t.region
-  target_ready target wholes done =
-      ready (length (inner_steps t)) t.stage t.region (slice_get-end (inner_steps t) (t.stage, t.region)) wholes
-      (computed_longer (inner_steps t) ((t.stage, t.region) ∷ []) (length (inner_steps t)) wholes (omega arith) done) target target.owner target.there
+  pub target_ready : IsTarget t → (buffers : List (Option Buffer)) → AreComputed (inner_steps t) (length (inner_steps t)) buffers → IsReadyOver t.job t.inlining given buffers t.stage t.region
+  target_ready target buffers done =
+      ready (length (inner_steps t)) t.stage t.region (slice_get-end (inner_steps t) (t.stage, t.region)) buffers
+      (computed_longer (inner_steps t) ((t.stage, t.region) ∷ []) (length (inner_steps t)) buffers (omega arith) done) target target.owner target.there

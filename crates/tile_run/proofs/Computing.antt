@@ -7,18 +7,18 @@ use Rattle.domains.proofs.Places.{slice_get-set_same, slice_get-set_other}
 use Rattle.domains.specs.Area.{HoldsPoint, IsArea, IsSubarea}
 use Rattle.domains.specs.declared.area.Area.{Area}
 use Rattle.job.specs.Formula.{Formula}
-use Rattle.job.specs.Pipeline.{Piece, Body, function, Stage, Pipeline}
+use Rattle.job.specs.Pipeline.{JobCase, Body, function, Stage, Pipeline}
 use Rattle.job.specs.Boxes.{AreBoxed}
 use Rattle.job.specs.Reads.{BodyReads, formulas_of}
 use Rattle.job.specs.Values.{Valuation, body_value}
-use Rattle.job.specs.WellFormed.{IsFormula, IsTest, IsNear, IsBody, IsStage, IsJob}
-use Rattle.tile_eval.specs.Pieces.{AreBoxedAround, function_value}
-use Rattle.tile_eval.specs.Whole.{raster, place_of, sample_in, IsKnownAt}
+use Rattle.job.specs.WellFormed.{IsFormula, IsTest, InDomainRange, IsBody, IsStage, IsJob}
+use Rattle.tile_eval.specs.Cases.{AreBoxedAround, function_value}
+use Rattle.tile_eval.specs.Buffer.{raster, place_of, sample_in, IsKnownAt}
 use Rattle.tile_eval.specs.Rows.{at}
 use Rattle.tile_eval.proofs.Places.{known_within}
-use Rattle.tile_eval.specs.declared.wholes.Whole.{Whole}
+use Rattle.tile_eval.specs.declared.buffers.Buffer.{Buffer}
 use Rattle.tile_eval.proofs.Rasters.{raster_same, raster_at}
-use Rattle.tile_run.specs.Lent.{Lending}
+use Rattle.tile_run.specs.KnownTiles.{KnownTiles}
 use Rattle.tile_run.specs.Local.{read_from, local_value, IsAtHand}
 use Rattle.tile_run.specs.Steps.{IsFunctionAt, AreLocal, IsReadyOver}
 use Rattle.tile_run.proofs.LocalValues.{step_is_local}
@@ -27,7 +27,7 @@ pub same_stage : (stages : List Stage) (g : ℕ) (s t : Stage) → slice_get sta
 same_stage stages g s t e f = ap (λ (o : Option Stage). unwrap_or o t) (sym e ∙ f)
 
 -- areas of near areas are near
-pub near_inside : (a domain : Area) → IsArea a → IsSubarea a domain → IsNear domain.rows → IsNear domain.cols → IsNear a.rows × IsNear a.cols
+pub near_inside : (a domain : Area) → IsArea a → IsSubarea a domain → InDomainRange domain.rows → InDomainRange domain.cols → InDomainRange a.rows × InDomainRange a.cols
 near_inside a domain is inside rows cols =
     let across = is.rows.ordered in let along = is.cols.ordered in
     let first = inside a.rows.lo a.cols.lo ((omega (arith, ints), omega (arith, ints)), (omega (arith, ints), omega (arith, ints))) in
@@ -38,17 +38,17 @@ near_inside a domain is inside rows cols =
       record { span = is.cols; least = omega (arith, ints); most = omega (arith, ints) },
     )
 
-module _ (job : Pipeline) (is : IsJob job) (flags : List Bool) (lent : Lending) (wholes : List (Option Whole)) (g : ℕ) (ps : List Piece) (o : Option Formula) (area : Area) (here : IsFunctionAt job g ps o) (ready : IsReadyOver job flags lent wholes g area) where
+module _ (job : Pipeline) (is : IsJob job) (inlining : List Bool) (given : KnownTiles) (buffers : List (Option Buffer)) (g : ℕ) (ps : List JobCase) (o : Option Formula) (area : Area) (here : IsFunctionAt job g ps o) (ready : IsReadyOver job inlining given buffers g area) where
   stage_is : IsStage job here.stage
   stage_is = is.stages g here.stage here.there
 
   inside : IsSubarea area here.stage.domain
   inside r c h = let p = ready r c h in subst (λ (s : Stage). HoldsPoint s.domain r c) (same_stage job.stages g p.stage here.stage p.there here.there) p.inside
 
-  stage_reads : (r c : ℤ) → HoldsPoint area r c → BodyReads (IsAtHand job flags lent (IsKnownAt wholes)) here.stage.body r c
-  stage_reads r c h = let p = ready r c h in subst (λ (s : Stage). BodyReads (IsAtHand job flags lent (IsKnownAt wholes)) s.body r c) (same_stage job.stages g p.stage here.stage p.there here.there) p.reads
+  stage_reads : (r c : ℤ) → HoldsPoint area r c → BodyReads (IsAtHand job inlining given (IsKnownAt buffers)) here.stage.body r c
+  stage_reads r c h = let p = ready r c h in subst (λ (s : Stage). BodyReads (IsAtHand job inlining given (IsKnownAt buffers)) s.body r c) (same_stage job.stages g p.stage here.stage p.there here.there) p.reads
 
-  pub all_near : IsArea area → IsNear area.rows × IsNear area.cols
+  pub all_near : IsArea area → InDomainRange area.rows × InDomainRange area.cols
   all_near a = near_inside area here.stage.domain a inside stage_is.rows stage_is.cols
 
   pub tests_are : All (λ p. All IsTest p.tests) ps
@@ -60,40 +60,40 @@ module _ (job : Pipeline) (is : IsJob job) (flags : List Bool) (lent : Lending) 
   pub boxes_are : AreBoxedAround area (function ps o)
   boxes_are = (here.stage.domain, inside, subst (λ (b : Body). AreBoxed here.stage.domain b) here.body stage_is.boxes)
 
-  pub reads_are : (r c : ℤ) → HoldsPoint area r c → BodyReads (IsAtHand job flags lent (IsKnownAt wholes)) (function ps o) r c
-  reads_are r c h = subst (λ (b : Body). BodyReads (IsAtHand job flags lent (IsKnownAt wholes)) b r c) here.body (stage_reads r c h)
+  pub reads_are : (r c : ℤ) → HoldsPoint area r c → BodyReads (IsAtHand job inlining given (IsKnownAt buffers)) (function ps o) r c
+  reads_are r c h = subst (λ (b : Body). BodyReads (IsAtHand job inlining given (IsKnownAt buffers)) b r c) here.body (stage_reads r c h)
 
   -- the values over the area are local values
-  pub values_are : AreLocal job flags lent wholes → raster area (function_value (read_from job flags lent (λ h i j. sample_in (slice_get wholes h) i j)) ps o) ≡ raster area (local_value job flags lent g)
+  pub values_are : AreLocal job inlining given buffers → raster area (function_value (read_from job inlining given (λ h i j. sample_in (slice_get buffers h) i j)) ps o) ≡ raster area (local_value job inlining given g)
   values_are right =
-      let e : Valuation = λ h i j. sample_in (slice_get wholes h) i j in
-      raster_same area (function_value (read_from job flags lent e) ps o) (local_value job flags lent g) (λ r c h.
-      ap (λ (b : Body). body_value job.picture (read_from job flags lent e) b r c) (sym here.body)
-      ∙ step_is_local job flags lent (IsKnownAt wholes) e is right g here.stage r c here.there (inside r c h) (stage_reads r c h))
+      let e : Valuation = λ h i j. sample_in (slice_get buffers h) i j in
+      raster_same area (function_value (read_from job inlining given e) ps o) (local_value job inlining given g) (λ r c h.
+      ap (λ (b : Body). body_value job.picture (read_from job inlining given e) b r c) (sym here.body)
+      ∙ step_is_local job inlining given (IsKnownAt buffers) e is right g here.stage r c here.there (inside r c h) (stage_reads r c h))
 
 -- ---- one box more
 
-module _ (job : Pipeline) (flags : List Bool) (lent : Lending) (wholes : List (Option Whole)) (n : ℕ) (w : Whole) (room : n < length wholes) where
-  here_is : slice_get (slice_set wholes n (Some w)) n ≡ Some (Some w)
-  here_is = slice_get-set_same wholes n (Some w) room
+module _ (job : Pipeline) (inlining : List Bool) (given : KnownTiles) (buffers : List (Option Buffer)) (n : ℕ) (w : Buffer) (room : n < length buffers) where
+  here_is : slice_get (slice_set buffers n (Some w)) n ≡ Some (Some w)
+  here_is = slice_get-set_same buffers n (Some w) room
 
-  pub others_stay : (g : ℕ) → (g ≡ n → ⊥) → slice_get (slice_set wholes n (Some w)) g ≡ slice_get wholes g
-  others_stay g ne = slice_get-set_other wholes n g (Some w) ne
+  pub others_stay : (g : ℕ) → (g ≡ n → ⊥) → slice_get (slice_set buffers n (Some w)) g ≡ slice_get buffers g
+  others_stay g ne = slice_get-set_other buffers n g (Some w) ne
 
-  pub computed_there : (area : Area) → w.area ≡ area → (r c : ℤ) → HoldsPoint area r c → IsKnownAt (slice_set wholes n (Some w)) n r c
+  pub computed_there : (area : Area) → w.area ≡ area → (r c : ℤ) → HoldsPoint area r c → IsKnownAt (slice_set buffers n (Some w)) n r c
   computed_there area is r c h = record { whole = w; there = here_is; within = subst (λ (a : Area). HoldsPoint a r c) (sym is) h }
 
-  pub still_local : AreLocal job flags lent wholes → w.values.items ≡ raster w.area (local_value job flags lent n) → AreLocal job flags lent (slice_set wholes n (Some w))
+  pub still_local : AreLocal job inlining given buffers → w.values.items ≡ raster w.area (local_value job inlining given n) → AreLocal job inlining given (slice_set buffers n (Some w))
   still_local right values g r c known = by (cases_eq g n)
     where
-      by : (g ≡ n) ⊎ (g ≡ n → ⊥) → sample_in (slice_get (slice_set wholes n (Some w)) g) r c ≡ local_value job flags lent g r c
+      by : (g ≡ n) ⊎ (g ≡ n → ⊥) → sample_in (slice_get (slice_set buffers n (Some w)) g) r c ≡ local_value job inlining given g r c
       by (inl e) =
-          let there : slice_get (slice_set wholes n (Some w)) g ≡ Some (Some w) = ap (slice_get (slice_set wholes n (Some w))) e ∙ here_is in
-          let held : HoldsPoint w.area r c = known_within (slice_set wholes n (Some w)) g w w.area r c there refl known in
-          ap (λ (o : Option (Option Whole)). sample_in o r c) there
+          let there : slice_get (slice_set buffers n (Some w)) g ≡ Some (Some w) = ap (slice_get (slice_set buffers n (Some w))) e ∙ here_is in
+          let held : HoldsPoint w.area r c = known_within (slice_set buffers n (Some w)) g w w.area r c there refl known in
+          ap (λ (o : Option (Option Buffer)). sample_in o r c) there
           ∙ ap (λ (xs : List ℤ). at xs (place_of w.area r c)) values
-          ∙ raster_at w.area (local_value job flags lent n) r c held
-          ∙ ap (λ (k : ℕ). local_value job flags lent k r c) (sym e)
+          ∙ raster_at w.area (local_value job inlining given n) r c held
+          ∙ ap (λ (k : ℕ). local_value job inlining given k r c) (sym e)
       by (inr ne) =
-          ap (λ (o : Option (Option Whole)). sample_in o r c) (others_stay g ne)
+          ap (λ (o : Option (Option Buffer)). sample_in o r c) (others_stay g ne)
           ∙ right g r c (record { whole = known.whole; there = sym (others_stay g ne) ∙ known.there; within = known.within })

@@ -35,12 +35,12 @@ use Rattle.tile_run.proofs.Planned.{none_found}
 -- ---- one tile
 
 -- whether the tile with this area is too big
-pub big_is : (job : Pipeline) (flags : List Bool) (g i j : ℕ) (area : Area) → IsTileAt job g i j area → too_big job flags (tile_of_stage g (i, j)) ≡ not (nat_le (scratch (target_over job flags g area)) most_scratch)
-big_is job flags g i j area is =
+pub big_is : (job : Pipeline) (inlining : List Bool) (g i j : ℕ) (area : Area) → IsTileAt job g i j area → too_big job inlining (tile_of_stage g (i, j)) ≡ not (nat_le (scratch (target_over job inlining g area)) most_scratch)
+big_is job inlining g i j area is =
     let at = has_grid job g is.grid is.there in
     let same : tile_area (grid_of job at.stage) i j ≡ area = ap (λ (d : Grid). tile_area d i j) at.is ∙ sym is.is in
-    ap (λ (o : Option Stage). option_map_or (λ s. not (nat_le (tile_scratch job flags (tile_of_stage g (i, j)) s) most_scratch)) o false) at.there
-    ∙ ap (λ (a : Area). not (nat_le (scratch (target_over job flags g a)) most_scratch)) same
+    ap (λ (o : Option Stage). option_map_or (λ s. not (nat_le (tile_scratch job inlining (tile_of_stage g (i, j)) s) most_scratch)) o false) at.there
+    ∙ ap (λ (a : Area). not (nat_le (scratch (target_over job inlining g a)) most_scratch)) same
 
 -- more than so many are not at most so many
 pub more_is : (n m : ℕ) → nat_lt m n ≡ not (nat_le n m)
@@ -53,15 +53,15 @@ not_false : (b : Bool) → not b ≡ false → b ≡ true
 not_false true e = refl
 not_false false e = absurd (cc)
 
-module _ (job : Pipeline) (flags : List Bool) (g : ℕ) (s : Stage) (there : slice_get job.stages g ≡ Some s) where
-  big_here : (i j : ℕ) → too_big job flags (tile_of_stage g (i, j)) ≡ not (nat_le (tile_scratch job flags (tile_of_stage g (i, j)) s) most_scratch)
-  big_here i j = ap (λ (o : Option Stage). option_map_or (λ x. not (nat_le (tile_scratch job flags (tile_of_stage g (i, j)) x) most_scratch)) o false) there
+module _ (job : Pipeline) (inlining : List Bool) (g : ℕ) (s : Stage) (there : slice_get job.stages g ≡ Some s) where
+  big_here : (i j : ℕ) → too_big job inlining (tile_of_stage g (i, j)) ≡ not (nat_le (tile_scratch job inlining (tile_of_stage g (i, j)) s) most_scratch)
+  big_here i j = ap (λ (o : Option Stage). option_map_or (λ x. not (nat_le (tile_scratch job inlining (tile_of_stage g (i, j)) x) most_scratch)) o false) there
 
-  small_fits : (i j : ℕ) → too_big job flags (tile_of_stage g (i, j)) ≡ false → tile_scratch job flags (tile_of_stage g (i, j)) s ≤ most_scratch
-  small_fits i j small = leb-true (tile_scratch job flags (tile_of_stage g (i, j)) s) most_scratch (not_false (nat_le (tile_scratch job flags (tile_of_stage g (i, j)) s) most_scratch) (sym (big_here i j) ∙ small))
+  small_fits : (i j : ℕ) → too_big job inlining (tile_of_stage g (i, j)) ≡ false → tile_scratch job inlining (tile_of_stage g (i, j)) s ≤ most_scratch
+  small_fits i j small = leb-true (tile_scratch job inlining (tile_of_stage g (i, j)) s) most_scratch (not_false (nat_le (tile_scratch job inlining (tile_of_stage g (i, j)) s) most_scratch) (sym (big_here i j) ∙ small))
 
-  fits_small : (i j : ℕ) → tile_scratch job flags (tile_of_stage g (i, j)) s ≤ most_scratch → too_big job flags (tile_of_stage g (i, j)) ≡ false
-  fits_small i j fits = big_here i j ∙ ap not (le-leb (tile_scratch job flags (tile_of_stage g (i, j)) s) most_scratch fits)
+  fits_small : (i j : ℕ) → tile_scratch job inlining (tile_of_stage g (i, j)) s ≤ most_scratch → too_big job inlining (tile_of_stage g (i, j)) ≡ false
+  fits_small i j fits = big_here i j ∙ ap not (le-leb (tile_scratch job inlining (tile_of_stage g (i, j)) s) most_scratch fits)
 
   -- ---- the tiles of one stage
 
@@ -77,22 +77,22 @@ module _ (job : Pipeline) (flags : List Bool) (g : ℕ) (s : Stage) (there : sli
       (subst (λ (ts : List Tile). Contains ts (tile_of_stage g (i, j))) (sym (all_tiles has))
       (Contains-map (tile_of_stage g) (tiles_of (grid_of job s)) (i, j) ((Contains-tiles_of (grid_of job s) i j).1 tile)))
 
-grid_tiles : (job : Pipeline) (flags : List Bool) (g : ℕ) (grid : Grid) → grid_at job g ≡ Some grid → tiles job g ≡ map (tile_of_stage g) (tiles_of grid)
-grid_tiles job flags g grid = by (slice_get job.stages g) refl
+grid_tiles : (job : Pipeline) (inlining : List Bool) (g : ℕ) (grid : Grid) → grid_at job g ≡ Some grid → tiles job g ≡ map (tile_of_stage g) (tiles_of grid)
+grid_tiles job inlining g grid = by (slice_get job.stages g) refl
   where
     by : (o : Option Stage) → slice_get job.stages g ≡ o → stage_grid job o ≡ Some grid → tiles job g ≡ map (tile_of_stage g) (tiles_of grid)
     by None there e = absurd (cc)
     by (Some s) there e =
         let is = cond_some (has_tiles s.body) (grid_of job s) grid e in
-        all_tiles job flags g s there is.0 ∙ ap (λ (d : Grid). map (tile_of_stage g) (tiles_of d)) is.1
+        all_tiles job inlining g s there is.0 ∙ ap (λ (d : Grid). map (tile_of_stage g) (tiles_of d)) is.1
 
 -- the key of what is found first among the tiles of a grid
-pub first_key : (program : List ℕ) (job : Pipeline) (flags : List Bool) (g : ℕ) (grid : Grid) → grid_at job g ≡ Some grid → (o : Option (ℕ × ℕ)) → o ≡ find (λ t. too_big job flags (tile_of_stage g t)) (tiles_of grid)
-    → option_map (λ t. key_of program job (tile_of_stage g t)) o ≡ option_map (key_of program job) (find (too_big job flags) (tiles job g))
-first_key program job flags g grid at o found =
+pub first_key : (program : List ℕ) (job : Pipeline) (inlining : List Bool) (g : ℕ) (grid : Grid) → grid_at job g ≡ Some grid → (o : Option (ℕ × ℕ)) → o ≡ find (λ t. too_big job inlining (tile_of_stage g t)) (tiles_of grid)
+    → option_map (λ t. key_of program job (tile_of_stage g t)) o ≡ option_map (key_of program job) (find (too_big job inlining) (tiles job g))
+first_key program job inlining g grid at o found =
     mapped o
     ∙ ap (λ (z : Option (ℕ × ℕ)). option_map (key_of program job) (option_map (tile_of_stage g) z)) found
-    ∙ ap (option_map (key_of program job)) (sym (find_of (too_big job flags) (tile_of_stage g) (tiles_of grid)) ∙ ap (find (too_big job flags)) (sym (grid_tiles job flags g grid at)))
+    ∙ ap (option_map (key_of program job)) (sym (find_of (too_big job inlining) (tile_of_stage g) (tiles_of grid)) ∙ ap (find (too_big job inlining)) (sym (grid_tiles job inlining g grid at)))
   where
     mapped : (z : Option (ℕ × ℕ)) → option_map (λ t. key_of program job (tile_of_stage g t)) z ≡ option_map (key_of program job) (option_map (tile_of_stage g) z)
     mapped None = refl
@@ -137,51 +137,51 @@ of_work job wants t k =
 
 -- ---- where no tile is too big
 
-pub none_too_big : (job : Pipeline) (flags : List Bool) (wants : ℕ → Bool) → first_too_big job flags wants ≡ None → (g : ℕ) (s : Stage) → slice_get job.stages g ≡ Some s → has_tiles s.body ≡ true → wants g ≡ true
-    → (i j : ℕ) → HasTile (grid_of job s) i j → scratch (target_over job flags g (tile_area (grid_of job s) i j)) ≤ most_scratch
-none_too_big job flags wants none g s there has is i j tile =
-    small_fits job flags g s there i j (none_found (too_big job flags) (work_tiles job wants) none (tile_of_stage g (i, j)) (in_work job flags g s there wants has is i j tile))
+pub none_too_big : (job : Pipeline) (inlining : List Bool) (wants : ℕ → Bool) → first_too_big job inlining wants ≡ None → (g : ℕ) (s : Stage) → slice_get job.stages g ≡ Some s → has_tiles s.body ≡ true → wants g ≡ true
+    → (i j : ℕ) → HasTile (grid_of job s) i j → scratch (target_over job inlining g (tile_area (grid_of job s) i j)) ≤ most_scratch
+none_too_big job inlining wants none g s there has is i j tile =
+    small_fits job inlining g s there i j (none_found (too_big job inlining) (work_tiles job wants) none (tile_of_stage g (i, j)) (in_work job inlining g s there wants has is i j tile))
 
 has_some : (b : Body) → is_function_body b ≡ true → has_tiles b ≡ true
 has_some (plane n) e = absurd (cc)
-has_some (function pieces otherwise) e = refl
+has_some (function cases otherwise) e = refl
 has_some (accumulator fold bins value bin) e = absurd (cc)
 
-pub stored_fit : (job : Pipeline) (flags : List Bool) → first_too_big job flags (is_stored_function job flags) ≡ None → StoredFit job flags
-stored_fit job flags none g s is =
+pub stored_fit : (job : Pipeline) (inlining : List Bool) → first_too_big job inlining (is_stored_function job inlining) ≡ None → StoredFit job inlining
+stored_fit job inlining none g s is =
     let function : is_function job g ≡ true = ap (λ (o : Option Stage). option_map_or (λ x. is_function_body x.body) o false) is.there ∙ is.function in
-    none_too_big job flags (is_stored_function job flags) none g s is.there (has_some s.body is.function) (and_from (is_function job g) (not (is_inlined flags g)) function (ap not is.stored))
+    none_too_big job inlining (is_stored_function job inlining) none g s is.there (has_some s.body is.function) (and_from (is_function job g) (not (is_inlined inlining g)) function (ap not is.stored))
 
 -- ---- where the schedule is known to fit
 
 -- what is wanted is not inlined
-wanted_stored : (job : Pipeline) (flags : List Bool) (work : Work) (g : ℕ) (s : Stage) → IsSchedule job flags → slice_get job.stages g ≡ Some s → wanted_by job flags work g ≡ true → is_inlined flags g ≡ false
-wanted_stored job flags Functions g s good there is = not-true (is_inlined flags g) (and_parts (is_function job g) (not (is_inlined flags g)) is).1
-wanted_stored job flags Accumulators g s good there is = by (is_inlined flags g) refl
+wanted_stored : (job : Pipeline) (inlining : List Bool) (work : Work) (g : ℕ) (s : Stage) → IsSchedule job inlining → slice_get job.stages g ≡ Some s → wanted_by job inlining work g ≡ true → is_inlined inlining g ≡ false
+wanted_stored job inlining Functions g s good there is = not-true (is_inlined inlining g) (and_parts (is_function job g) (not (is_inlined inlining g)) is).1
+wanted_stored job inlining Accumulators g s good there is = by (is_inlined inlining g) refl
   where
     both : (b : Body) → is_accumulator b ≡ true → is_function_body b ≡ true → ⊥
     both (plane n) e f = false≢true e
-    both (function pieces otherwise) e f = false≢true e
+    both (function cases otherwise) e f = false≢true e
     both (accumulator fold bins value bin) e f = false≢true f
 
     of_accumulator : is_accumulator s.body ≡ true
     of_accumulator = sym (ap (λ (o : Option Stage). option_map_or (λ x. is_accumulator x.body) o false) there) ∙ is
 
-    of_function : is_inlined flags g ≡ true → is_function_body s.body ≡ true
+    of_function : is_inlined inlining g ≡ true → is_function_body s.body ≡ true
     of_function e = sym (ap (λ (o : Option Stage). option_map_or (λ x. is_function_body x.body) o false) there) ∙ good.functions g e
 
-    by : (b : Bool) → is_inlined flags g ≡ b → b ≡ false
+    by : (b : Bool) → is_inlined inlining g ≡ b → b ≡ false
     by false e = refl
     by true e = absurd (both s.body of_accumulator (of_function e))
 
-pub fits_none : (job : Pipeline) (s : Inlining) (work : Work) → IsScheduleOf job s → s.fits ≡ true → first_too_big job s.flags (wanted_by job s.flags work) ≡ None
-fits_none job s work is fits = none_of (too_big job s.flags) (work_tiles job (wanted_by job s.flags work)) (λ t k. small t (of_work job (wanted_by job s.flags work) t k))
+pub fits_none : (job : Pipeline) (s : Inlining) (work : Work) → IsScheduleOf job s → s.fits ≡ true → first_too_big job s.inlining (wanted_by job s.inlining work) ≡ None
+fits_none job s work is fits = none_of (too_big job s.inlining) (work_tiles job (wanted_by job s.inlining work)) (λ t k. small t (of_work job (wanted_by job s.inlining work) t k))
   where
-    small : (t : Tile) → IsOfWork job (wanted_by job s.flags work) t → too_big job s.flags t ≡ false
+    small : (t : Tile) → IsOfWork job (wanted_by job s.inlining work) t → too_big job s.inlining t ≡ false
     small t of =
-        let over : ℕ × ℕ → Target = λ place. target_over job s.flags t.stage (tile_area (grid_of job of.stage) place.0 place.1) in
-        let stored = wanted_stored job s.flags work t.stage of.stage is.flags of.there of.wanted in
-        fits_small job s.flags t.stage of.stage of.there t.row t.col
-        (All-contains (λ x. scratch x ≤ most_scratch) (tile_targets job s.flags t.stage of.stage) (over (t.row, t.col))
-        (is.fits fits t.stage of.stage of.there (and_from (has_tiles of.stage.body) (not (is_inlined s.flags t.stage)) of.has (ap not stored)))
+        let over : ℕ × ℕ → Target = λ place. target_over job s.inlining t.stage (tile_area (grid_of job of.stage) place.0 place.1) in
+        let stored = wanted_stored job s.inlining work t.stage of.stage is.inlining of.there of.wanted in
+        fits_small job s.inlining t.stage of.stage of.there t.row t.col
+        (All-contains (λ x. scratch x ≤ most_scratch) (tile_targets job s.inlining t.stage of.stage) (over (t.row, t.col))
+        (is.fits fits t.stage of.stage of.there (and_from (has_tiles of.stage.body) (not (is_inlined s.inlining t.stage)) of.has (ap not stored)))
         (Contains-map over (tiles_of (grid_of job of.stage)) (t.row, t.col) ((Contains-tiles_of (grid_of job of.stage) t.row t.col).1 of.tile)))

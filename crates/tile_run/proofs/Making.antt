@@ -21,16 +21,16 @@ use Rattle.overlap_tiles.specs.Plans.{Layout, IsTileLayout, target_over}
 use Rattle.overlap_tiles.proofs.Lower.{box_low}
 use Rattle.overlap_tiles.proofs.Needing.{from_needs}
 use Rattle.overlap_tiles.proofs.Tiling.{has_grid}
-use Rattle.tile_eval.specs.Whole.{raster}
+use Rattle.tile_eval.specs.Buffer.{raster}
 use Rattle.tile_eval.proofs.Rasters.{raster_len}
-use Rattle.tile_run.specs.Lent.{AreWhole}
-use Rattle.tile_run.specs.Runs.{AreLent, AreLocalOn, IsFunctionLayout}
+use Rattle.tile_run.specs.KnownTiles.{AreWhole}
+use Rattle.tile_run.specs.Runs.{AreGiven, AreLocalOn, IsFunctionLayout}
 use Rattle.tile_run.specs.Running.{tile_values, AreStored, IsReady}
-use Rattle.tile_run.specs.Stored.{stored_tiles, IsStoredFunction, LendsAllTiles}
+use Rattle.tile_run.specs.Stored.{stored_tiles, IsStoredFunction, GivesAllTiles}
 use Rattle.tile_run.specs.declared.stored.Tiles.{Tiles}
 use Rattle.tile_run.proofs.Truths.{layout_true}
 
-module _ (job : Pipeline) (flags : List Bool) (stages : List Tiles) (g : ℕ) (grid : Grid) (ready : IsReady job flags stages g grid) where
+module _ (job : Pipeline) (inlining : List Bool) (stages : List Tiles) (g : ℕ) (grid : Grid) (ready : IsReady job inlining stages g grid) where
   -- what is stored has as many numbers as points
   pub whole : AreWhole job (stored_tiles stages)
   whole h s there i j xs tile found = ap length (ready.lower.right h s there i j xs tile found) ∙ raster_len (tile_area (grid_of job s) i j) (value job h)
@@ -38,29 +38,29 @@ module _ (job : Pipeline) (flags : List Bool) (stages : List Tiles) (g : ℕ) (g
   own : is_function job g ≡ true
   own = ap (λ (o : Option Stage). option_map_or (λ s. is_function_body s.body) o false) ready.function.there ∙ ready.function.function
 
-  module _ (i j : ℕ) (l : Layout) (is : IsTileLayout job flags g i j l) where
-    pub of_function : IsFunctionLayout job flags l
+  module _ (i j : ℕ) (l : Layout) (is : IsTileLayout job inlining g i j l) where
+    pub of_function : IsFunctionLayout job inlining l
     of_function = record { stage = g; row = i; col = j; layout = is; function = own }
 
     abbrev of_tile : Target
-    of_tile = target_over job flags g is.area
+    of_tile = target_over job inlining g is.area
 
     -- each tile that it needs is stored
-    lends : (n : Tile) → IsNeeded of_tile n → (xs : List ℤ) × (stored_tiles stages n.stage n.row n.col ≡ Some xs)
-    lends n needed =
+    gives : (n : Tile) → IsNeeded of_tile n → (xs : List ℤ) × (stored_tiles stages n.stage n.row n.col ≡ Some xs)
+    gives n needed =
         let at = has_grid job n.stage needed.grid needed.there in
-        let both = and_parts (is_boxed of_tile n.stage) (not (is_inlined flags n.stage)) needed.stored in
+        let both = and_parts (is_boxed of_tile n.stage) (not (is_inlined inlining n.stage)) needed.stored in
         let boxed = and_parts (is_function job n.stage) (not (eqb n.stage g)) both.0 in
-        let function : IsStoredFunction job flags n.stage at.stage = record {
+        let function : IsStoredFunction job inlining n.stage at.stage = record {
           there = at.there;
           function = sym (ap (λ (o : Option Stage). option_map_or (λ s. is_function_body s.body) o false) at.there) ∙ boxed.0;
-          stored = not-true (is_inlined flags n.stage) both.1;
+          stored = not-true (is_inlined inlining n.stage) both.1;
         } in
         let low = subst (λ k. k < rank_of job.stages g) (rank_is job.stages n.stage at.stage at.there) (box_low of_tile (ranked_is job ready.is_job) n.stage needed.area needed.boxed) in
         (_, ready.lower.lower n.stage at.stage function low n.row n.col (subst (λ (d : Grid). HasTile d n.row n.col) (sym at.is) needed.meets.there))
 
-    pub all_lent : AreLent (stored_tiles stages) l.needs
-    all_lent n k = lends n (from_needs of_tile n ready.is_job (subst (λ (ns : List Tile). Contains ns n) is.layout.layout.needs k))
+    pub all_given : AreGiven (stored_tiles stages) l.needs
+    all_given n k = gives n (from_needs of_tile n ready.is_job (subst (λ (ns : List Tile). Contains ns n) is.layout.layout.needs k))
 
     same_area : is.area ≡ tile_area grid i j
     same_area =
@@ -69,16 +69,16 @@ module _ (job : Pipeline) (flags : List Bool) (stages : List Tiles) (g : ℕ) (g
         is.tile.is ∙ ap (λ (d : Grid). tile_area d i j) same
 
     -- its local values are its values
-    pub values_are : (xs : List ℤ) → AreLocalOn job flags (stored_tiles stages) g i j xs → xs ≡ tile_values job g grid i j
+    pub values_are : (xs : List ℤ) → AreLocalOn job inlining (stored_tiles stages) g i j xs → xs ≡ tile_values job g grid i j
     values_are xs local =
-        layout_true job flags (stored_tiles stages) l g i j is ready.is_job all_lent ready.lower.right xs local is.area is.tile
+        layout_true job inlining (stored_tiles stages) l g i j is ready.is_job all_given ready.lower.right xs local is.area is.tile
         ∙ ap (λ (a : Area). raster a (value job g)) same_area
 
 -- ---- all of a job
 
 -- after the greatest rank all are stored
-pub all_stored : (job : Pipeline) (flags : List Bool) (last : ℕ) (stages : List Tiles) → last ≡ greatest_rank job.stages → AreStored job flags (last + 1) stages → LendsAllTiles job flags (stored_tiles stages)
-all_stored job flags last stages greatest h g s is =
+pub all_stored : (job : Pipeline) (inlining : List Bool) (last : ℕ) (stages : List Tiles) → last ≡ greatest_rank job.stages → AreStored job inlining (last + 1) stages → GivesAllTiles job inlining (stored_tiles stages)
+all_stored job inlining last stages greatest h g s is =
     let most = rank_below job.stages g in
     let own = rank_is job.stages g s is.there in
     h.lower g s is (omega arith)

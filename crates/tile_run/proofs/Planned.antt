@@ -1,4 +1,4 @@
--- What the layout of a tile tells of its steps, where all that it needs is lent.
+-- What the layout of a tile tells of its steps, where all that it needs is given.
 use Rattle.std.proofs.Common.{arith, ℕ, suc, ℤ, ◌≡◌, ◌⊎◌, inl, inr, refl, length, Bool, true, false, List, [], ◌∷◌, ◌++◌, map, Option, Some, None, cond, ap, sym, ◌∙◌, subst}
 use Rattle.std.specs.Prelude.{AllPairs, Contains, find, unwrap_or}
 use Rattle.std.specs.Option.{is_none}
@@ -22,11 +22,11 @@ use Rattle.overlap_tiles.specs.Plans.{Layout, IsTileAt, IsTileLayout, target_ove
 use Rattle.overlap_tiles.specs.Views.{step_view}
 use Rattle.overlap_tiles.proofs.Lists.{Contains-from_map}
 use Rattle.overlap_tiles.proofs.Tiling.{tile_is_target}
-use Rattle.tile_eval.specs.Whole.{raster}
-use Rattle.tile_eval.specs.declared.wholes.Whole.{Whole}
-use Rattle.tile_run.specs.Lent.{Lending}
+use Rattle.tile_eval.specs.Buffer.{raster}
+use Rattle.tile_eval.specs.declared.buffers.Buffer.{Buffer}
+use Rattle.tile_run.specs.KnownTiles.{KnownTiles}
 use Rattle.tile_run.specs.Local.{local_value}
-use Rattle.tile_run.specs.Runs.{is_missing, first_missing, AreLent, AreLocalOn, IsReadyOn}
+use Rattle.tile_run.specs.Runs.{is_missing, first_missing, AreGiven, AreLocalOn, IsReadyOn}
 use Rattle.tile_run.specs.Steps.{AreComputed, AreRunnable, IsReadyOver}
 use Rattle.tile_run.proofs.Bridging.{inner_runnable, target_ready}
 
@@ -66,28 +66,28 @@ not_empty steps inner last none are =
     let zero_long : length (map step_view steps) ≡ 0 = ap (λ (ss : List Step). length (map step_view ss)) none in
     absurd (omega (arith, size, zero_long, length-append inner (last ∷ [])))
 
--- where no key is missing, the tile of each is lent
-pub keys_lent : (lent : Lending) (keys : List Key) → first_missing lent keys ≡ None → AreLent lent (map key_tile keys)
-keys_lent lent keys none n needed =
+-- where no key is missing, the tile of each is given
+pub keys_given : (given : KnownTiles) (keys : List Key) → first_missing given keys ≡ None → AreGiven given (map key_tile keys)
+keys_given given keys none n needed =
     let key = Contains-from_map key_tile keys n needed in
-    let found = some_of (lent key.0.stage key.0.row key.0.col) (none_found (is_missing lent) keys none key.0 key.1) in
-    (found.0, ap (λ (m : Tile). lent m.stage m.row m.col) (sym key.2) ∙ found.1)
+    let found = some_of (given key.0.stage key.0.row key.0.col) (none_found (is_missing given) keys none key.0 key.1) in
+    (found.0, ap (λ (m : Tile). given m.stage m.row m.col) (sym key.2) ∙ found.1)
 
-module _ (job : Pipeline) (flags : List Bool) (lent : Lending) (l : Layout) (g i j : ℕ) (is : IsTileLayout job flags g i j l) where
+module _ (job : Pipeline) (inlining : List Bool) (given : KnownTiles) (l : Layout) (g i j : ℕ) (is : IsTileLayout job inlining g i j l) where
   abbrev of_tile : Target
-  of_tile = target_over job flags g is.area
+  of_tile = target_over job inlining g is.area
 
   target : IsJob job → IsTarget of_tile
-  target good = tile_is_target job flags g i j is.area good is.tile
+  target good = tile_is_target job inlining g i j is.area good is.tile
 
   pub layout_steps : l.steps ≡ inner_steps of_tile ++ (g, is.area) ∷ []
   layout_steps = is.layout.layout.steps
 
-  lends : AreLent lent l.needs → AreLent lent (needs of_tile)
-  lends given = subst (AreLent lent) is.layout.layout.needs given
+  gives : AreGiven given l.needs → AreGiven given (needs of_tile)
+  gives are_given = subst (AreGiven given) is.layout.layout.needs are_given
 
-  pub layout_runnable : IsJob job → AreLent lent l.needs → AreRunnable job flags lent (inner_steps of_tile)
-  layout_runnable good given = inner_runnable of_tile good lent (lends given) (target good)
+  pub layout_runnable : IsJob job → AreGiven given l.needs → AreRunnable job inlining given (inner_steps of_tile)
+  layout_runnable good are_given = inner_runnable of_tile good given (gives are_given) (target good)
 
   pub layout_area : IsJob job → IsArea is.area
   layout_area good = (target good).area
@@ -99,10 +99,10 @@ module _ (job : Pipeline) (flags : List Bool) (lent : Lending) (l : Layout) (g i
       is.tile.is ∙ ap (λ (d : Grid). tile_area d i j) grid ∙ sym at.is
 
   -- after the inner steps all that the tile reads is at hand
-  pub layout_ready : IsJob job → AreLent lent l.needs → (wholes : List (Option Whole)) → AreComputed (inner_steps of_tile) (length (inner_steps of_tile)) wholes → IsReadyOn job flags lent wholes g i j
-  layout_ready good given wholes done area at =
-      subst (IsReadyOver job flags lent wholes g) (only_area area at) (target_ready of_tile good lent (lends given) (target good) wholes done)
+  pub layout_ready : IsJob job → AreGiven given l.needs → (buffers : List (Option Buffer)) → AreComputed (inner_steps of_tile) (length (inner_steps of_tile)) buffers → IsReadyOn job inlining given buffers g i j
+  layout_ready good are_given buffers done area at =
+      subst (IsReadyOver job inlining given buffers g) (only_area area at) (target_ready of_tile good given (gives are_given) (target good) buffers done)
 
-  pub layout_values : (last : ℕ × Area) (numbers : List ℤ) → last ≡ (g, is.area) → numbers ≡ raster last.1 (local_value job flags lent last.0) → AreLocalOn job flags lent g i j numbers
+  pub layout_values : (last : ℕ × Area) (numbers : List ℤ) → last ≡ (g, is.area) → numbers ≡ raster last.1 (local_value job inlining given last.0) → AreLocalOn job inlining given g i j numbers
   layout_values last numbers end values area at =
-      values ∙ ap (λ (x : ℕ × Area). raster x.1 (local_value job flags lent x.0)) end ∙ ap (λ (a : Area). raster a (local_value job flags lent g)) (only_area area at)
+      values ∙ ap (λ (x : ℕ × Area). raster x.1 (local_value job inlining given x.0)) end ∙ ap (λ (a : Area). raster a (local_value job inlining given g)) (only_area area at)

@@ -10,9 +10,9 @@ use Rattle.job.specs.Pipeline.{Body, Pipeline}
 use Rattle.job.specs.WellFormed.{IsBody, IsJob}
 use Rattle.overlap_tiles.specs.declared.steps.Step.{Step}
 use Rattle.overlap_tiles.specs.Views.{step_view}
-use Rattle.tile_eval.specs.Whole.{IsKnownAt}
-use Rattle.tile_eval.specs.declared.wholes.Whole.{Whole}
-use Rattle.tile_run.specs.Lent.{Lending}
+use Rattle.tile_eval.specs.Buffer.{IsKnownAt}
+use Rattle.tile_eval.specs.declared.buffers.Buffer.{Buffer}
+use Rattle.tile_run.specs.KnownTiles.{KnownTiles}
 use Rattle.tile_run.specs.Local.{HaveAreas, PlanesLie}
 use Rattle.tile_run.specs.Steps.{AreLocal, AreComputed, AreRunnable}
 
@@ -27,26 +27,26 @@ module _ (xs ys : List (ℕ × Area)) where
   from_longer : (k : ℕ) (x : ℕ × Area) → k < length xs → slice_get (xs ++ ys) k ≡ Some x → slice_get xs k ≡ Some x
   from_longer k x there is = slice_get-get_or xs k x there ∙ ap Some (sym (get_or_append_left xs ys x k there) ∙ get_or_from_slice_get (xs ++ ys) k x x is)
 
-  pub computed_longer : (n : ℕ) (wholes : List (Option Whole)) → n ≤ length xs → AreComputed xs n wholes → AreComputed (xs ++ ys) n wholes
-  computed_longer n wholes few done = λ k g a before is r c holds. done k g a before (from_longer k (g, a) (omega arith) is) r c holds
+  pub computed_longer : (n : ℕ) (buffers : List (Option Buffer)) → n ≤ length xs → AreComputed xs n buffers → AreComputed (xs ++ ys) n buffers
+  computed_longer n buffers few done = λ k g a before is r c holds. done k g a before (from_longer k (g, a) (omega arith) is) r c holds
 
 -- ---- one step more
 
-pub none_computed : (steps : List (ℕ × Area)) (wholes : List (Option Whole)) → AreComputed steps 0 wholes
-none_computed steps wholes = λ k g a before is r c holds. absurd (omega (arith, before))
+pub none_computed : (steps : List (ℕ × Area)) (buffers : List (Option Buffer)) → AreComputed steps 0 buffers
+none_computed steps buffers = λ k g a before is r c holds. absurd (omega (arith, before))
 
-known_in : (wholes new : List (Option Whole)) (g : ℕ) (r c : ℤ) → slice_get new g ≡ slice_get wholes g → IsKnownAt wholes g r c → IsKnownAt new g r c
-known_in wholes new g r c same known = record { whole = known.whole; there = same ∙ known.there; within = known.within }
+known_in : (buffers new : List (Option Buffer)) (g : ℕ) (r c : ℤ) → slice_get new g ≡ slice_get buffers g → IsKnownAt buffers g r c → IsKnownAt new g r c
+known_in buffers new g r c same known = record { whole = known.whole; there = same ∙ known.there; within = known.within }
 
-pub computed_next : (job : Pipeline) (flags : List Bool) (lent : Lending) (steps : List (ℕ × Area)) (n g : ℕ) (a : Area) (wholes new : List (Option Whole)) → AreRunnable job flags lent steps → slice_get steps n ≡ Some (g, a)
-    → AreComputed steps n wholes → ((r c : ℤ) → HoldsPoint a r c → IsKnownAt new g r c) → ((h : ℕ) → h ≢ g → slice_get new h ≡ slice_get wholes h) → AreComputed steps (n + 1) new
-computed_next job flags lent steps n g a wholes new run here done this others = λ k h b before is r c holds.
+pub computed_next : (job : Pipeline) (inlining : List Bool) (given : KnownTiles) (steps : List (ℕ × Area)) (n g : ℕ) (a : Area) (buffers new : List (Option Buffer)) → AreRunnable job inlining given steps → slice_get steps n ≡ Some (g, a)
+    → AreComputed steps n buffers → ((r c : ℤ) → HoldsPoint a r c → IsKnownAt new g r c) → ((h : ℕ) → h ≢ g → slice_get new h ≡ slice_get buffers h) → AreComputed steps (n + 1) new
+computed_next job inlining given steps n g a buffers new run here done this others = λ k h b before is r c holds.
     elim (cases_eq h g) [
       | inl e ↦
           (let area : b ≡ a = run.one_area k n g b a (subst (λ (m : ℕ). slice_get steps k ≡ Some (m, b)) e is) here in
           subst (λ (m : ℕ). IsKnownAt new m r c) (sym e) (this r c (subst (λ (x : Area). HoldsPoint x r c) area holds)))
       | inr other ↦ elim (cases_lt k n) [
-        | inl earlier ↦ known_in wholes new h r c (others h other) (done k h b earlier is r c holds)
+        | inl earlier ↦ known_in buffers new h r c (others h other) (done k h b earlier is r c holds)
         | inr late ↦
             (let same : k ≡ n = omega arith in
             let pair : (g, a) ≡ (h, b) = sym (get_or_from_slice_get steps n (g, a) (h, b) here) ∙ get_or_from_slice_get steps n (h, b) (h, b) (subst (λ (m : ℕ). slice_get steps m ≡ Some (h, b)) same is) in
@@ -65,15 +65,15 @@ module _ (job : Pipeline) (is : IsJob job) where
       let body = subst (λ (b : Body). IsBody job.picture s.domain b) plane_is (is.stages g s there).body in
       (body.0, λ r c holds. subst (λ (a : Area). HoldsPoint a r c) body.1 holds)
 
-abbrev nothing : ℕ → List (Option Whole)
+abbrev nothing : ℕ → List (Option Buffer)
 nothing n = replicate n None
 
 length-nothing : (n : ℕ) → length (nothing n) ≡ n
 length-nothing n = length-replicate n None
 
-pub none_known : (job : Pipeline) (flags : List Bool) (lent : Lending) (n : ℕ) (wholes : List (Option Whole)) → wholes ≡ replicate n None → AreLocal job flags lent wholes
-none_known job flags lent n wholes none = λ g r c known.
-    let there : slice_get (nothing n) g ≡ Some (Some known.whole) = ap (λ (ws : List (Option Whole)). slice_get ws g) (sym none) ∙ known.there in
+pub none_known : (job : Pipeline) (inlining : List Bool) (given : KnownTiles) (n : ℕ) (buffers : List (Option Buffer)) → buffers ≡ replicate n None → AreLocal job inlining given buffers
+none_known job inlining given n buffers none = λ g r c known.
+    let there : slice_get (nothing n) g ≡ Some (Some known.whole) = ap (λ (ws : List (Option Buffer)). slice_get ws g) (sym none) ∙ known.there in
     let short = slice_get_within (nothing n) g (Some known.whole) there in
     let inside : g < n = omega (arith, length-nothing n) in
     absurd (none-some known.whole

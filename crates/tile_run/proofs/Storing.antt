@@ -11,8 +11,8 @@ use Rattle.domains.specs.Tiles.{HasTile, tile_rows, tile_cols}
 use Rattle.domains.specs.declared.grid.Grid.{Grid}
 use Rattle.job.specs.Answers.{grid_of}
 use Rattle.job.specs.Pipeline.{Stage, Pipeline}
-use Rattle.tile_run.specs.Lent.{AreTrue}
-use Rattle.tile_run.specs.Stored.{numbers_in, tile_numbers, stored_tiles, IsStoredFunction, LendsTilesOf}
+use Rattle.tile_run.specs.KnownTiles.{AreTrue}
+use Rattle.tile_run.specs.Stored.{numbers_in, tile_numbers, stored_tiles, IsStoredFunction, GivesTilesOf}
 use Rattle.tile_run.specs.Running.{row_numbers, tile_values, row_values, grid_values, AreTilesOf, AreStored}
 use Rattle.tile_run.specs.declared.stored.TileRow.{TileRow}
 use Rattle.tile_run.specs.declared.stored.Tiles.{Tiles}
@@ -47,19 +47,19 @@ tiles_there job g grid tiles is i j tile =
 only_value : (o : Option (List ℤ)) (xs ys : List ℤ) → o ≡ Some ys → o ≡ Some xs → xs ≡ ys
 only_value o xs ys is found = same_Some xs ys (sym found ∙ is)
 
-pub are_tiles : (job : Pipeline) (flags : List Bool) (g : ℕ) (s : Stage) (tiles : Tiles) → slice_get job.stages g ≡ Some s
-    → map row_numbers tiles.rows.items ≡ grid_values job g (grid_of job s) (tile_rows (grid_of job s)) → AreTilesOf job flags g tiles
-are_tiles job flags g s tiles there is = record {
+pub are_tiles : (job : Pipeline) (inlining : List Bool) (g : ℕ) (s : Stage) (tiles : Tiles) → slice_get job.stages g ≡ Some s
+    → map row_numbers tiles.rows.items ≡ grid_values job g (grid_of job s) (tile_rows (grid_of job s)) → AreTilesOf job inlining g tiles
+are_tiles job inlining g s tiles there is = record {
   right = λ t found i j xs tile numbers. only_value _ _ _ (all t (same_Some s t (sym there ∙ found)) i j tile) numbers;
   all = λ t function. all t (same_Some s t (sym there ∙ function.there));
 }
   where
-    all : (t : Stage) → s ≡ t → LendsTilesOf job (λ h. tile_numbers (Some tiles)) g t
-    all t same = subst (LendsTilesOf job (λ h. tile_numbers (Some tiles)) g) same (tiles_there job g (grid_of job s) tiles is)
+    all : (t : Stage) → s ≡ t → GivesTilesOf job (λ h. tile_numbers (Some tiles)) g t
+    all t same = subst (GivesTilesOf job (λ h. tile_numbers (Some tiles)) g) same (tiles_there job g (grid_of job s) tiles is)
 
 -- a stage that is no stored function has no tiles
-pub no_tiles : (job : Pipeline) (flags : List Bool) (g : ℕ) (tiles : Tiles) → tiles.rows.items ≡ [] → ((s : Stage) → IsStoredFunction job flags g s → ⊥) → AreTilesOf job flags g tiles
-no_tiles job flags g tiles none other = record {
+pub no_tiles : (job : Pipeline) (inlining : List Bool) (g : ℕ) (tiles : Tiles) → tiles.rows.items ≡ [] → ((s : Stage) → IsStoredFunction job inlining g s → ⊥) → AreTilesOf job inlining g tiles
+no_tiles job inlining g tiles none other = record {
   right = λ s there i j xs tile numbers. absurd (none-some xs (sym (ap (λ (rows : List TileRow). numbers_in (slice_get rows i) j) none) ∙ numbers));
   all = λ s function. absurd (other s function);
 }
@@ -67,9 +67,9 @@ no_tiles job flags g tiles none other = record {
 -- ---- by rank
 
 -- the tiles of lower ranks are stored, and of this rank those of numbers below n
-pub record AreStoredTo (job : Pipeline) (flags : List Bool) (rank n : ℕ) (stages : List Tiles) : Type 0 where
-  pub stored : AreStored job flags rank stages
-  pub same : (g : ℕ) (s : Stage) → g < n → IsStoredFunction job flags g s → s.rank ≡ rank → LendsTilesOf job (stored_tiles stages) g s
+pub record AreStoredTo (job : Pipeline) (inlining : List Bool) (rank n : ℕ) (stages : List Tiles) : Type 0 where
+  pub stored : AreStored job inlining rank stages
+  pub same : (g : ℕ) (s : Stage) → g < n → IsStoredFunction job inlining g s → s.rank ≡ rank → GivesTilesOf job (stored_tiles stages) g s
 
 -- one more stage without tiles
 pub none_more : (xs : List Tiles) (t : Tiles) → t.rows.items ≡ [] → ((g i j : ℕ) → stored_tiles xs g i j ≡ None) → (g i j : ℕ) → stored_tiles (xs ++ t ∷ []) g i j ≡ None
@@ -79,35 +79,35 @@ none_more (x ∷ xs) t e h zero i j = h zero i j
 none_more (x ∷ xs) t e h (suc g) i j = none_more xs t e (λ k. h (suc k)) g i j
 
 -- at first nothing is stored
-pub stored_none : (job : Pipeline) (flags : List Bool) (stages : List Tiles) → length stages ≡ length job.stages → ((g i j : ℕ) → stored_tiles stages g i j ≡ None) → AreStored job flags 0 stages
-stored_none job flags stages long none = record {
+pub stored_none : (job : Pipeline) (inlining : List Bool) (stages : List Tiles) → length stages ≡ length job.stages → ((g i j : ℕ) → stored_tiles stages g i j ≡ None) → AreStored job inlining 0 stages
+stored_none job inlining stages long none = record {
   length = long;
   right = λ g s there i j xs tile found. absurd (none-some xs (sym (none g i j) ∙ found));
   lower = λ g s function low. absurd (omega arith);
 }
 
-pub stored_start : (job : Pipeline) (flags : List Bool) (rank : ℕ) (stages : List Tiles) → AreStored job flags rank stages → AreStoredTo job flags rank 0 stages
-stored_start job flags rank stages h = record { stored = h; same = λ g s low function alike. absurd (omega arith) }
+pub stored_start : (job : Pipeline) (inlining : List Bool) (rank : ℕ) (stages : List Tiles) → AreStored job inlining rank stages → AreStoredTo job inlining rank 0 stages
+stored_start job inlining rank stages h = record { stored = h; same = λ g s low function alike. absurd (omega arith) }
 
 -- after the last stage all of this rank are stored
-pub stored_end : (job : Pipeline) (flags : List Bool) (rank : ℕ) (stages : List Tiles) → AreStoredTo job flags rank (length job.stages) stages → AreStored job flags (rank + 1) stages
-stored_end job flags rank stages h = record { length = h.stored.length; right = h.stored.right; lower = lower }
+pub stored_end : (job : Pipeline) (inlining : List Bool) (rank : ℕ) (stages : List Tiles) → AreStoredTo job inlining rank (length job.stages) stages → AreStored job inlining (rank + 1) stages
+stored_end job inlining rank stages h = record { length = h.stored.length; right = h.stored.right; lower = lower }
   where
-    lower : (g : ℕ) (s : Stage) → IsStoredFunction job flags g s → s.rank < rank + 1 → LendsTilesOf job (stored_tiles stages) g s
+    lower : (g : ℕ) (s : Stage) → IsStoredFunction job inlining g s → s.rank < rank + 1 → GivesTilesOf job (stored_tiles stages) g s
     lower g s function low = by_rank (cases_lt s.rank rank)
       where
-        by_rank : (s.rank < rank) ⊎ (rank ≤ s.rank) → LendsTilesOf job (stored_tiles stages) g s
+        by_rank : (s.rank < rank) ⊎ (rank ≤ s.rank) → GivesTilesOf job (stored_tiles stages) g s
         by_rank (inl less) = h.stored.lower g s function less
         by_rank (inr more) = h.same g s (slice_get_within job.stages g s function.there) function (omega arith)
 
 -- a stage of another rank is passed over
-pub stored_other : (job : Pipeline) (flags : List Bool) (rank n : ℕ) (stages : List Tiles) → AreStoredTo job flags rank n stages → ((s : Stage) → slice_get job.stages n ≡ Some s → s.rank ≡ rank → ⊥) → AreStoredTo job flags rank (n + 1) stages
-stored_other job flags rank n stages h other = record { stored = h.stored; same = same }
+pub stored_other : (job : Pipeline) (inlining : List Bool) (rank n : ℕ) (stages : List Tiles) → AreStoredTo job inlining rank n stages → ((s : Stage) → slice_get job.stages n ≡ Some s → s.rank ≡ rank → ⊥) → AreStoredTo job inlining rank (n + 1) stages
+stored_other job inlining rank n stages h other = record { stored = h.stored; same = same }
   where
-    same : (g : ℕ) (s : Stage) → g < n + 1 → IsStoredFunction job flags g s → s.rank ≡ rank → LendsTilesOf job (stored_tiles stages) g s
+    same : (g : ℕ) (s : Stage) → g < n + 1 → IsStoredFunction job inlining g s → s.rank ≡ rank → GivesTilesOf job (stored_tiles stages) g s
     same g s low function is = by_place (cases_eq g n)
       where
-        by_place : (g ≡ n) ⊎ (g ≡ n → ⊥) → LendsTilesOf job (stored_tiles stages) g s
+        by_place : (g ≡ n) ⊎ (g ≡ n → ⊥) → GivesTilesOf job (stored_tiles stages) g s
         by_place (inl e) = absurd (other s (sym (ap (slice_get job.stages) e) ∙ function.there) is)
         by_place (inr ne) = h.same g s (omega (arith, ne)) function is
 
@@ -124,10 +124,10 @@ set_other (x ∷ xs) (suc i) zero y h = refl
 set_other (x ∷ xs) (suc i) (suc j) y h = set_other xs i j y (λ e. h (ap suc e))
 
 -- and one of this rank is added
-pub stored_more : (job : Pipeline) (flags : List Bool) (rank n : ℕ) (stages : List Tiles) (tiles : Tiles) → AreStoredTo job flags rank n stages → n < length job.stages → AreTilesOf job flags n tiles → AreStoredTo job flags rank (n + 1) (set stages n tiles)
-stored_more job flags rank n stages tiles h within are = record {
-  stored = record { length = length-set stages n tiles ∙ h.stored.length; right = right; lower = λ g s function low. lends g s function (λ ne. h.stored.lower g s function low) };
-  same = λ g s low function alike. lends g s function (λ ne. h.same g s (omega (arith, ne)) function alike);
+pub stored_more : (job : Pipeline) (inlining : List Bool) (rank n : ℕ) (stages : List Tiles) (tiles : Tiles) → AreStoredTo job inlining rank n stages → n < length job.stages → AreTilesOf job inlining n tiles → AreStoredTo job inlining rank (n + 1) (set stages n tiles)
+stored_more job inlining rank n stages tiles h within are = record {
+  stored = record { length = length-set stages n tiles ∙ h.stored.length; right = right; lower = λ g s function low. gives g s function (λ ne. h.stored.lower g s function low) };
+  same = λ g s low function alike. gives g s function (λ ne. h.same g s (omega (arith, ne)) function alike);
 }
   where
     after : List Tiles
@@ -149,9 +149,9 @@ stored_more job flags rank n stages tiles h within are = record {
         by_place (inl e) = are.right s (sym (ap (slice_get job.stages) e) ∙ there) i j xs tile (sym (at_place g e i j) ∙ found) ∙ ap (λ k. tile_values job k (grid_of job s) i j) (sym e)
         by_place (inr ne) = h.stored.right g s there i j xs tile (sym (elsewhere g ne i j) ∙ found)
 
-    lends : (g : ℕ) (s : Stage) → IsStoredFunction job flags g s → ((g ≡ n → ⊥) → LendsTilesOf job (stored_tiles stages) g s) → LendsTilesOf job (stored_tiles after) g s
-    lends g s function before i j tile = by_place (cases_eq g n)
+    gives : (g : ℕ) (s : Stage) → IsStoredFunction job inlining g s → ((g ≡ n → ⊥) → GivesTilesOf job (stored_tiles stages) g s) → GivesTilesOf job (stored_tiles after) g s
+    gives g s function before i j tile = by_place (cases_eq g n)
       where
         by_place : (g ≡ n) ⊎ (g ≡ n → ⊥) → stored_tiles after g i j ≡ Some (tile_values job g (grid_of job s) i j)
-        by_place (inl e) = at_place g e i j ∙ are.all s (subst (λ k. IsStoredFunction job flags k s) e function) i j tile ∙ ap (λ k. Some (tile_values job k (grid_of job s) i j)) (sym e)
+        by_place (inl e) = at_place g e i j ∙ are.all s (subst (λ k. IsStoredFunction job inlining k s) e function) i j tile ∙ ap (λ k. Some (tile_values job k (grid_of job s) i j)) (sym e)
         by_place (inr ne) = elsewhere g ne i j ∙ before ne i j tile

@@ -1,4 +1,4 @@
--- Where what is lent is true, so is a tile that is made of it.
+-- Where what is given is true, so is a tile that is made of it.
 use Rattle.std.proofs.Common.{ℕ, ℤ, ◌≡◌, Bool, List, Some, ap, sym, ◌∙◌, subst}
 use Rattle.std.specs.Prelude.{Contains}
 use Rattle.domains.specs.declared.area.Area.{Area}
@@ -11,22 +11,22 @@ use Rattle.overlap_tiles.specs.Needs.{IsNeeded}
 use Rattle.overlap_tiles.specs.Plans.{Layout, IsTileLayout, target_over}
 use Rattle.overlap_tiles.proofs.Needing.{to_needs}
 use Rattle.overlap_tiles.proofs.Tiling.{tile_is_target}
-use Rattle.tile_eval.specs.Whole.{raster}
-use Rattle.tile_run.specs.Lent.{Lending, AreTrue}
-use Rattle.tile_run.specs.Runs.{AreLent, AreLocalOn, AreValuesOn}
+use Rattle.tile_eval.specs.Buffer.{raster}
+use Rattle.tile_run.specs.KnownTiles.{KnownTiles, AreTrue}
+use Rattle.tile_run.specs.Runs.{AreGiven, AreLocalOn, AreValuesOn}
 use Rattle.tile_run.proofs.Closing.{values_over}
 use Rattle.tile_run.proofs.Planned.{only_area}
 
-module _ (job : Pipeline) (flags : List Bool) (lent : Lending) (l : Layout) (g i j : ℕ) (is : IsTileLayout job flags g i j l) (good : IsJob job) (given : AreLent lent l.needs) where
+module _ (job : Pipeline) (inlining : List Bool) (given : KnownTiles) (l : Layout) (g i j : ℕ) (is : IsTileLayout job inlining g i j l) (good : IsJob job) (are_given : AreGiven given l.needs) where
   abbrev of_tile : Target
-  of_tile = target_over job flags g is.area
+  of_tile = target_over job inlining g is.area
 
-  -- each tile that is needed is lent
-  pub lends : (n : Tile) → IsNeeded of_tile n → (xs : List ℤ) × (lent n.stage n.row n.col ≡ Some xs)
-  lends n needed = given n (subst (λ (ns : List Tile). Contains ns n) (sym is.layout.layout.needs) (to_needs of_tile n good needed))
+  -- each tile that is needed is given
+  pub gives : (n : Tile) → IsNeeded of_tile n → (xs : List ℤ) × (given n.stage n.row n.col ≡ Some xs)
+  gives n needed = are_given n (subst (λ (ns : List Tile). Contains ns n) (sym is.layout.layout.needs) (to_needs of_tile n good needed))
 
-  pub layout_true : AreTrue job lent → (numbers : List ℤ) → AreLocalOn job flags lent g i j numbers → AreValuesOn job g i j numbers
+  pub layout_true : AreTrue job given → (numbers : List ℤ) → AreLocalOn job inlining given g i j numbers → AreValuesOn job g i j numbers
   layout_true right numbers local area at =
       local is.area is.tile
-      ∙ values_over of_tile good (tile_is_target job flags g i j is.area good is.tile) lent lends right
-      ∙ ap (λ (a : Area). raster a (value job g)) (only_area job flags lent l g i j is area at)
+      ∙ values_over of_tile good (tile_is_target job inlining g i j is.area good is.tile) given gives right
+      ∙ ap (λ (a : Area). raster a (value job g)) (only_area job inlining given l g i j is area at)

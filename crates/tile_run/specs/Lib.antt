@@ -1,4 +1,4 @@
-pub mod Lent
+pub mod KnownTiles
 pub mod Tiles
 pub mod Local
 pub mod Steps

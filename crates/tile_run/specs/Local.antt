@@ -1,4 +1,4 @@
--- The value of a stage at a point by the numbers that are lent of stored functions.
+-- The value of a stage at a point by the numbers that are given of stored functions.
 use Rattle.std.specs.Prelude.{ℕ, zero, suc, ◌<◌, ◌≡◌, ℤ, pos, Bool, true, false, if◌then◌else◌, Option, Some, None, List, length, slice_get}
 use Rattle.domains.specs.Area.{HoldsPoint, IsArea, IsSubarea}
 use Rattle.job.specs.Pipeline.{Body, plane, function, accumulator, Stage, Pipeline, rank_of}
@@ -7,55 +7,55 @@ use Rattle.job.specs.Reads.{BodyReads}
 use Rattle.job.specs.Values.{Valuation, sample_at, stage_value}
 use Rattle.job.specs.WellFormed.{picture_area}
 use Rattle.grouping.specs.Schedules.{is_inlined}
-use Rattle.tile_run.specs.Lent.{Lending, lent_number}
-use Rattle.tile_run.specs.Tiles.{IsLentAt}
+use Rattle.tile_run.specs.KnownTiles.{KnownTiles, given_number}
+use Rattle.tile_run.specs.Tiles.{IsGivenAt}
 
 -- ---- what is read
 
--- of a plane the sample, of a stored function the number that is lent, of an inlined function what inner gives
-abbrev pub body_given : Pipeline → List Bool → Lending → Valuation → ℕ → Stage → Body → ℤ → ℤ → ℤ
-body_given job flags lent inner g s (plane n) r c = sample_at job.picture n r c
-body_given job flags lent inner g s (function pieces otherwise) r c = if is_inlined flags g then inner g r c else lent_number job lent g s r c
-body_given job flags lent inner g s (accumulator fold bins value bin) r c = pos 0
+-- of a plane the sample, of a stored function the number that is given, of an inlined function what inner gives
+abbrev pub body_given : Pipeline → List Bool → KnownTiles → Valuation → ℕ → Stage → Body → ℤ → ℤ → ℤ
+body_given job inlining given inner g s (plane n) r c = sample_at job.picture n r c
+body_given job inlining given inner g s (function cases otherwise) r c = if is_inlined inlining g then inner g r c else given_number job given g s r c
+body_given job inlining given inner g s (accumulator fold bins value bin) r c = pos 0
 
-abbrev pub stage_given : Pipeline → List Bool → Lending → Valuation → ℕ → Option Stage → ℤ → ℤ → ℤ
-stage_given job flags lent inner g None r c = pos 0
-stage_given job flags lent inner g (Some s) r c = body_given job flags lent inner g s s.body r c
+abbrev pub stage_given : Pipeline → List Bool → KnownTiles → Valuation → ℕ → Option Stage → ℤ → ℤ → ℤ
+stage_given job inlining given inner g None r c = pos 0
+stage_given job inlining given inner g (Some s) r c = body_given job inlining given inner g s s.body r c
 
-abbrev pub read_from : Pipeline → List Bool → Lending → Valuation → Valuation
-read_from job flags lent inner g r c = stage_given job flags lent inner g (slice_get job.stages g) r c
+abbrev pub read_from : Pipeline → List Bool → KnownTiles → Valuation → Valuation
+read_from job inlining given inner g r c = stage_given job inlining given inner g (slice_get job.stages g) r c
 
 -- ---- local values
 
 -- the local values of the stages whose ranks are below this number; of the others it says nothing
-abbrev pub local_within : Pipeline → List Bool → Lending → ℕ → Valuation
-local_within job flags lent zero g r c = pos 0
-local_within job flags lent (suc n) g r c = stage_value job (read_from job flags lent (local_within job flags lent n)) (slice_get job.stages g) r c
+abbrev pub local_within : Pipeline → List Bool → KnownTiles → ℕ → Valuation
+local_within job inlining given zero g r c = pos 0
+local_within job inlining given (suc n) g r c = stage_value job (read_from job inlining given (local_within job inlining given n)) (slice_get job.stages g) r c
 
--- the value of stage g at a point of its domain, where reads of stored functions take the numbers that are lent, and reads of
+-- the value of stage g at a point of its domain, where reads of stored functions take the numbers that are given, and reads of
 -- inlined functions their local values
-abbrev pub local_value : Pipeline → List Bool → Lending → Valuation
-local_value job flags lent g r c = local_within job flags lent (suc (rank_of job.stages g)) g r c
+abbrev pub local_value : Pipeline → List Bool → KnownTiles → Valuation
+local_value job inlining given g r c = local_within job inlining given (suc (rank_of job.stages g)) g r c
 
 -- ---- what is at hand
 
--- a point of a plane; of a stored function a point of a tile that is lent; of an inlined function what Inner tells
+-- a point of a plane; of a stored function a point of a tile that is given; of an inlined function what Inner tells
 abbrev pub FunctionAtHand : Bool → Type 0 → Type 0 → Type 0
 FunctionAtHand true inner stored = inner
 FunctionAtHand false inner stored = stored
 
-abbrev pub BodyAtHand : Pipeline → List Bool → Lending → (ℕ → ℤ → ℤ → Type 0) → ℕ → Stage → Body → ℤ → ℤ → Type 0
-BodyAtHand job flags lent Inner g s (plane n) r c = HoldsPoint s.domain r c
-BodyAtHand job flags lent Inner g s (function pieces otherwise) r c =
-    FunctionAtHand (is_inlined flags g) (Inner g r c) (IsLentAt lent g (grid_of job s) r c)
-BodyAtHand job flags lent Inner g s (accumulator fold bins value bin) r c = ⊥
+abbrev pub BodyAtHand : Pipeline → List Bool → KnownTiles → (ℕ → ℤ → ℤ → Type 0) → ℕ → Stage → Body → ℤ → ℤ → Type 0
+BodyAtHand job inlining given Inner g s (plane n) r c = HoldsPoint s.domain r c
+BodyAtHand job inlining given Inner g s (function cases otherwise) r c =
+    FunctionAtHand (is_inlined inlining g) (Inner g r c) (IsGivenAt given g (grid_of job s) r c)
+BodyAtHand job inlining given Inner g s (accumulator fold bins value bin) r c = ⊥
 
-abbrev pub StageAtHand : Pipeline → List Bool → Lending → (ℕ → ℤ → ℤ → Type 0) → ℕ → Option Stage → ℤ → ℤ → Type 0
-StageAtHand job flags lent Inner g None r c = ⊥
-StageAtHand job flags lent Inner g (Some s) r c = BodyAtHand job flags lent Inner g s s.body r c
+abbrev pub StageAtHand : Pipeline → List Bool → KnownTiles → (ℕ → ℤ → ℤ → Type 0) → ℕ → Option Stage → ℤ → ℤ → Type 0
+StageAtHand job inlining given Inner g None r c = ⊥
+StageAtHand job inlining given Inner g (Some s) r c = BodyAtHand job inlining given Inner g s s.body r c
 
-abbrev pub IsAtHand : Pipeline → List Bool → Lending → (ℕ → ℤ → ℤ → Type 0) → ℕ → ℤ → ℤ → Type 0
-IsAtHand job flags lent Inner g r c = StageAtHand job flags lent Inner g (slice_get job.stages g) r c
+abbrev pub IsAtHand : Pipeline → List Bool → KnownTiles → (ℕ → ℤ → ℤ → Type 0) → ℕ → ℤ → ℤ → Type 0
+IsAtHand job inlining given Inner g r c = StageAtHand job inlining given Inner g (slice_get job.stages g) r c
 
 -- planes of the picture have its sides
 abbrev pub PlanesLie : Pipeline → Type 0
@@ -70,12 +70,12 @@ HaveAreas job = (g : ℕ) (s : Stage) → slice_get job.stages g ≡ Some s → 
 -- ---- points that are computed
 
 -- a point of the domain of a stage, at which all that the stage reads is at hand
-pub record IsProvided (job : Pipeline) (flags : List Bool) (lent : Lending) (Inner : ℕ → ℤ → ℤ → Type 0) (g : ℕ) (r c : ℤ) : Type 0 where
+pub record IsProvided (job : Pipeline) (inlining : List Bool) (given : KnownTiles) (Inner : ℕ → ℤ → ℤ → Type 0) (g : ℕ) (r c : ℤ) : Type 0 where
   pub stage : Stage
   pub there : slice_get job.stages g ≡ Some stage
   pub inside : HoldsPoint stage.domain r c
-  pub reads : BodyReads (IsAtHand job flags lent Inner) stage.body r c
+  pub reads : BodyReads (IsAtHand job inlining given Inner) stage.body r c
 
 -- at each point for which Inner holds all that is read is at hand
-abbrev pub IsClosed : Pipeline → List Bool → Lending → (ℕ → ℤ → ℤ → Type 0) → Type 0
-IsClosed job flags lent Inner = (g : ℕ) (r c : ℤ) → Inner g r c → IsProvided job flags lent Inner g r c
+abbrev pub IsClosed : Pipeline → List Bool → KnownTiles → (ℕ → ℤ → ℤ → Type 0) → Type 0
+IsClosed job inlining given Inner = (g : ℕ) (r c : ℤ) → Inner g r c → IsProvided job inlining given Inner g r c

@@ -8,8 +8,8 @@ use Rattle.job.specs.Answers.{grid_of}
 use Rattle.job.specs.Values.{value}
 use Rattle.grouping.specs.Schedules.{is_inlined, is_function_body}
 use Rattle.tile_eval.specs.Rows.{EachPlace}
-use Rattle.tile_eval.specs.Whole.{raster}
-use Rattle.tile_run.specs.Lent.{Lending}
+use Rattle.tile_eval.specs.Buffer.{raster}
+use Rattle.tile_run.specs.KnownTiles.{KnownTiles}
 use Rattle.tile_run.specs.declared.stored.TileRow.{TileRow}
 use Rattle.tile_run.specs.declared.stored.Tiles.{Tiles}
 
@@ -25,31 +25,31 @@ abbrev pub tile_numbers : Option Tiles → ℕ → ℕ → Option (List ℤ)
 tile_numbers None i j = None
 tile_numbers (Some tiles) i j = numbers_in (slice_get tiles.rows.items i) j
 
-abbrev pub stored_tiles : List Tiles → Lending
+abbrev pub stored_tiles : List Tiles → KnownTiles
 stored_tiles stages g i j = tile_numbers (slice_get stages g) i j
 
 -- ---- what is stored of a job
 
 -- a function that is not inlined
-pub record IsStoredFunction (job : Pipeline) (flags : List Bool) (g : ℕ) (s : Stage) : Type 0 where
+pub record IsStoredFunction (job : Pipeline) (inlining : List Bool) (g : ℕ) (s : Stage) : Type 0 where
   pub there : slice_get job.stages g ≡ Some s
   pub function : is_function_body s.body ≡ true
-  pub stored : is_inlined flags g ≡ false
+  pub stored : is_inlined inlining g ≡ false
 
--- each tile of a stage is lent, with its values
-abbrev pub LendsTilesOf : Pipeline → Lending → ℕ → Stage → Type 0
-LendsTilesOf job lent g s =
-    (i j : ℕ) → HasTile (grid_of job s) i j → lent g i j ≡ Some (raster (tile_area (grid_of job s) i j) (value job g))
+-- each tile of a stage is given, with its values
+abbrev pub GivesTilesOf : Pipeline → KnownTiles → ℕ → Stage → Type 0
+GivesTilesOf job given g s =
+    (i j : ℕ) → HasTile (grid_of job s) i j → given g i j ≡ Some (raster (tile_area (grid_of job s) i j) (value job g))
 
 -- each tile of each stored function is
-abbrev pub LendsAllTiles : Pipeline → List Bool → Lending → Type 0
-LendsAllTiles job flags lent = (g : ℕ) (s : Stage) → IsStoredFunction job flags g s → LendsTilesOf job lent g s
+abbrev pub GivesAllTiles : Pipeline → List Bool → KnownTiles → Type 0
+GivesAllTiles job inlining given = (g : ℕ) (s : Stage) → IsStoredFunction job inlining g s → GivesTilesOf job given g s
 
 -- ---- rows
 
--- the tiles of stage g are lent with their values, and so many points of a row, from this column on, lie in its domain
-pub record IsStoredLine (job : Pipeline) (lent : Lending) (g : ℕ) (row first : ℤ) (count : ℕ) : Type 0 where
+-- the tiles of stage g are given with their values, and so many points of a row, from this column on, lie in its domain
+pub record IsStoredLine (job : Pipeline) (given : KnownTiles) (g : ℕ) (row first : ℤ) (count : ℕ) : Type 0 where
   pub stage : Stage
   pub there : slice_get job.stages g ≡ Some stage
-  pub tiles : LendsTilesOf job lent g stage
+  pub tiles : GivesTilesOf job given g stage
   pub within : EachPlace count (λ k. HoldsPoint stage.domain row (first +ℤ pos k))

@@ -1,17 +1,17 @@
--- One tile that is lent.
+-- One tile that is given.
 use Rattle.std.specs.Prelude.{ℕ, ℤ, ◌≡◌, Some}
 use Rattle.domains.specs.Area.{HoldsPoint}
 use Rattle.domains.specs.Tiles.{tile_area, tile_at}
 use Rattle.domains.specs.declared.grid.Grid.{Grid}
-use Rattle.tile_eval.specs.declared.blocks.Block.{Block}
-use Rattle.tile_run.specs.Lent.{Lending, IsLent}
+use Rattle.tile_eval.specs.declared.blocks.BufferView.{BufferView}
+use Rattle.tile_run.specs.KnownTiles.{KnownTiles, IsGiven}
 
--- the point lies in the area, and its tile is lent
-abbrev pub IsLentAt : Lending → ℕ → Grid → ℤ → ℤ → Type 0
-IsLentAt lent g grid r c = HoldsPoint grid.area r c × IsLent lent g grid r c
+-- the point lies in the area, and its tile is given
+abbrev pub IsGivenAt : KnownTiles → ℕ → Grid → ℤ → ℤ → Type 0
+IsGivenAt given g grid r c = HoldsPoint grid.area r c × IsGiven given g grid r c
 
 -- the numbers of the tile in which the point lies
-pub record IsTileAbout (lent : Lending) (g : ℕ) (grid : Grid) (r c : ℤ) (block : Block) : Type 0 where
+pub record IsTileAbout (given : KnownTiles) (g : ℕ) (grid : Grid) (r c : ℤ) (block : BufferView) : Type 0 where
   pub area : block.area ≡ tile_area grid (tile_at grid r c).0 (tile_at grid r c).1
-  pub numbers : lent g (tile_at grid r c).0 (tile_at grid r c).1 ≡ Some block.values.now
+  pub numbers : given g (tile_at grid r c).0 (tile_at grid r c).1 ≡ Some block.values.now
   pub holds : HoldsPoint block.area r c

@@ -21,15 +21,15 @@ use Rattle.tile_run.specs.declared.fault.RunFault.TheVariants.{ScratchTooBig, Me
 
 -- a function that is not inlined
 abbrev pub is_stored_function : Pipeline → List Bool → ℕ → Bool
-is_stored_function job flags g = is_function job g && not (is_inlined flags g)
+is_stored_function job inlining g = is_function job g && not (is_inlined inlining g)
 
 abbrev pub is_accumulator_at : Pipeline → ℕ → Bool
 is_accumulator_at job g = option_map_or (λ s. is_accumulator s.body) (slice_get job.stages g) false
 
 -- the stages of a kind of work
 abbrev pub wanted_by : Pipeline → List Bool → Work → ℕ → Bool
-wanted_by job flags Functions = is_stored_function job flags
-wanted_by job flags Accumulators = is_accumulator_at job
+wanted_by job inlining Functions = is_stored_function job inlining
+wanted_by job inlining Accumulators = is_accumulator_at job
 
 -- ---- their tiles
 
@@ -43,16 +43,16 @@ row_tiles grid i = map (λ j. (i, j)) (range_with_len 0 (tile_cols grid))
 
 -- the points that a tile has in scratch memory
 abbrev pub tile_scratch : Pipeline → List Bool → Tile → Stage → ℕ
-tile_scratch job flags t s = scratch (target_over job flags t.stage (tile_area (grid_of job s) t.row t.col))
+tile_scratch job inlining t s = scratch (target_over job inlining t.stage (tile_area (grid_of job s) t.row t.col))
 
 -- whether they are more than there may be
 abbrev pub too_big : Pipeline → List Bool → Tile → Bool
-too_big job flags t = option_map_or (λ s. not (nat_le (tile_scratch job flags t s) most_scratch)) (slice_get job.stages t.stage) false
+too_big job inlining t = option_map_or (λ s. not (nat_le (tile_scratch job inlining t s) most_scratch)) (slice_get job.stages t.stage) false
 
 abbrev pub first_too_big : Pipeline → List Bool → (ℕ → Bool) → Option Tile
-first_too_big job flags wants = find (too_big job flags) (work_tiles job wants)
+first_too_big job inlining wants = find (too_big job inlining) (work_tiles job wants)
 
 -- why a run has no answer: a tile has no room, and none before it; memory may be refused at any
 abbrev pub IsRunFault : List ℕ → Pipeline → List Bool → (ℕ → Bool) → RunFault → Type 0
-IsRunFault program job flags wants (ScratchTooBig key) = option_map (key_of program job) (first_too_big job flags wants) ≡ Some key
-IsRunFault program job flags wants Memory = Unit {0}
+IsRunFault program job inlining wants (ScratchTooBig key) = option_map (key_of program job) (first_too_big job inlining wants) ≡ Some key
+IsRunFault program job inlining wants Memory = Unit {0}

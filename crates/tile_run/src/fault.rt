@@ -10,7 +10,7 @@ use thiserror::Error;
 /// Why a tile is not computed.
 #[derive(Clone, Copy, Debug, PartialEq, Eq, Error)]
 pub enum EvalFault {
-    /// The tile of this key is needed and not lent; no lesser one is.
+    /// The tile of this key is needed and not given; no lesser one is.
     #[error("a tile that is needed is not there")]
     Missing(Key),
     /// No memory was left.

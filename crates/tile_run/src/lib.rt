@@ -1,24 +1,24 @@
-//! Tiles of a job's functions, each computed from planes and from tiles that are lent.
+//! Tiles of a job's functions, each computed from planes and from tiles that are given.
 #![tactic(auto)]
 
 mod buffers;
 mod fault;
-mod hand;
+mod known;
 pub mod laws;
-mod lender;
-mod lent;
 mod lines;
 mod ranks;
 mod room;
 mod run;
 mod samples;
 mod stored;
+mod tile_inputs;
+mod tiles_of_stage;
 
 pub use buffers::Scratch;
 pub use fault::{EvalFault, RunFault};
-pub use hand::AtHand;
-pub use lender::Lender;
+pub use known::Known;
 pub use ranks::run_all;
 pub use room::{Work, first_too_big};
 pub use run::{prepare, prepare_layout, run_layout, run_tile};
 pub use stored::Stored;
+pub use tile_inputs::TileInputs;

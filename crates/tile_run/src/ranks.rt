@@ -14,9 +14,9 @@ ghost use Rattle.grouping.specs.Order.{greatest_rank};
 ghost use Rattle.grouping.specs.Schedules.{is_inlined, is_function_body};
 ghost use Rattle.overlap_tiles.specs.Plans.{IsTileLayout};
 ghost use Rattle.tile_run.specs.Running.{row_numbers, tile_values, row_values, grid_values, AreTilesOf, AreStored, IsReady, StoredFit};
-ghost use Rattle.tile_run.specs.Stored.{stored_tiles, IsStoredFunction, LendsAllTiles};
+ghost use Rattle.tile_run.specs.Stored.{stored_tiles, IsStoredFunction, GivesAllTiles};
 ghost use Rattle.tile_run.specs.Work.{is_stored_function, first_too_big, IsRunFault};
-ghost use Rattle.tile_run.specs.Lent.{AreTrue};
+ghost use Rattle.tile_run.specs.KnownTiles.{AreTrue};
 
 use crate::buffers::Scratch;
 use crate::fault::RunFault;
@@ -42,9 +42,9 @@ struct StageRun<'a> {
 impl StageRun<'_> {
     // The layout of a tile.
     fn layout(&self, alloc: Global, row: u32, col: u32) -> Result<Layout, AllocError>
-        requires ready { IsReady (pipeline_in self.now.job.now) self.now.schedule.now.flags self.now.stored.now.stages.items self.now.stage self.now.grid }
+        requires ready { IsReady (pipeline_in self.now.job.now) self.now.schedule.now.inlining self.now.stored.now.stages.items self.now.stage self.now.grid }
         requires tile { HasTile self.now.grid row col }
-        ensures { IfOk result (IsTileLayout (pipeline_in self.now.job.now) self.now.schedule.now.flags self.now.stage row col) }
+        ensures { IfOk result (IsTileLayout (pipeline_in self.now.job.now) self.now.schedule.now.inlining self.now.stage row col) }
     {
         match Layout::of(alloc, self.job, self.schedule, self.stage, row, col) {
             Ok(layout) => Ok(layout),
@@ -61,7 +61,7 @@ impl StageRun<'_> {
         col: u32,
         scratch: &mut Scratch,
     ) -> Result<Vec<i32>, AllocError>
-        requires ready { IsReady (pipeline_in self.now.job.now) self.now.schedule.now.flags self.now.stored.now.stages.items self.now.stage self.now.grid }
+        requires ready { IsReady (pipeline_in self.now.job.now) self.now.schedule.now.inlining self.now.stored.now.stages.items self.now.stage self.now.grid }
         requires tile { HasTile self.now.grid row col }
         ensures { IfOk result (λ values. values.items ≡ tile_values (pipeline_in self.now.job.now) self.now.stage self.now.grid row col) }
     {
@@ -78,7 +78,7 @@ impl StageRun<'_> {
 
     // Those of a row of tiles.
     fn row(&self, alloc: Global, row: u32, scratch: &mut Scratch) -> Result<TileRow, AllocError>
-        requires ready { IsReady (pipeline_in self.now.job.now) self.now.schedule.now.flags self.now.stored.now.stages.items self.now.stage self.now.grid }
+        requires ready { IsReady (pipeline_in self.now.job.now) self.now.schedule.now.inlining self.now.stored.now.stages.items self.now.stage self.now.grid }
         requires row { row < tile_rows self.now.grid }
         ensures { IfOk result (λ tiles. row_numbers tiles ≡ row_values (pipeline_in self.now.job.now) self.now.stage self.now.grid row (tile_cols self.now.grid)) }
     {
@@ -91,7 +91,7 @@ impl StageRun<'_> {
 
     // Those of all tiles.
     fn tiles(&self, alloc: Global, scratch: &mut Scratch) -> Result<Tiles, AllocError>
-        requires ready { IsReady (pipeline_in self.now.job.now) self.now.schedule.now.flags self.now.stored.now.stages.items self.now.stage self.now.grid }
+        requires ready { IsReady (pipeline_in self.now.job.now) self.now.schedule.now.inlining self.now.stored.now.stages.items self.now.stage self.now.grid }
         ensures { IfOk result (λ tiles. map row_numbers tiles.rows.items ≡ grid_values (pipeline_in self.now.job.now) self.now.stage self.now.grid (tile_rows self.now.grid)) }
     {
         let mut rows = Vec::new(alloc);
@@ -127,9 +127,9 @@ impl Stored {
         scratch: &mut Scratch,
     ) -> Result<Tiles, AllocError>
         requires job { IsJob (pipeline_in job.now) }
-        requires fit { StoredFit (pipeline_in job.now) schedule.now.flags }
-        requires lower { AreStored (pipeline_in job.now) schedule.now.flags (rank_of (pipeline_in job.now).stages stage) self.now.stages.items }
-        ensures { IfOk result (AreTilesOf (pipeline_in job.now) schedule.now.flags stage) }
+        requires fit { StoredFit (pipeline_in job.now) schedule.now.inlining }
+        requires lower { AreStored (pipeline_in job.now) schedule.now.inlining (rank_of (pipeline_in job.now).stages stage) self.now.stages.items }
+        ensures { IfOk result (AreTilesOf (pipeline_in job.now) schedule.now.inlining stage) }
     {
         match job.stage(stage) {
             Some(found) if is_stored(schedule, stage, found) => {
@@ -159,9 +159,9 @@ impl Stored {
         scratch: &mut Scratch,
     ) -> Result<(), AllocError>
         requires job { IsJob (pipeline_in job.now) }
-        requires fit { StoredFit (pipeline_in job.now) schedule.now.flags }
-        requires lower { AreStored (pipeline_in job.now) schedule.now.flags rank self.old.stages.items }
-        ensures { IfOk result (λ done. AreStored (pipeline_in job.now) schedule.now.flags (rank + 1) self.new.stages.items) }
+        requires fit { StoredFit (pipeline_in job.now) schedule.now.inlining }
+        requires lower { AreStored (pipeline_in job.now) schedule.now.inlining rank self.old.stages.items }
+        ensures { IfOk result (λ done. AreStored (pipeline_in job.now) schedule.now.inlining (rank + 1) self.new.stages.items) }
     {
         for number in 0..job.stages().len() {
             if job.rank(number) == Some(rank) {
@@ -179,8 +179,8 @@ impl Stored {
         rank: usize,
     ) -> Result<Stored, AllocError>
         requires job { IsJob (pipeline_in job.now) }
-        requires fit { StoredFit (pipeline_in job.now) schedule.now.flags }
-        ensures { IfOk result (λ stored. AreStored (pipeline_in job.now) schedule.now.flags (rank + 1) stored.stages.items) }
+        requires fit { StoredFit (pipeline_in job.now) schedule.now.inlining }
+        ensures { IfOk result (λ stored. AreStored (pipeline_in job.now) schedule.now.inlining (rank + 1) stored.stages.items) }
     {
         let mut stored = Stored::none(alloc, job.stages().len())?;
         let mut scratch = Scratch::new(alloc);
@@ -194,8 +194,8 @@ impl Stored {
 
 // Whether a stage is a function that is not inlined.
 fn is_stored(schedule: &Schedule, number: usize, stage: &Stage) -> bool
-    ensures stored { result ≡ true → is_function_body (stage_view stage.now).body ≡ true × is_inlined schedule.now.flags number ≡ false }
-    ensures other { result ≡ false → is_function_body (stage_view stage.now).body ≡ true → is_inlined schedule.now.flags number ≡ true }
+    ensures stored { result ≡ true → is_function_body (stage_view stage.now).body ≡ true × is_inlined schedule.now.inlining number ≡ false }
+    ensures other { result ≡ false → is_function_body (stage_view stage.now).body ≡ true → is_inlined schedule.now.inlining number ≡ true }
 {
     stage.kind() == StageKind::Function && !schedule.inlined(number)
 }
@@ -219,10 +219,10 @@ pub fn run_all(alloc: Global, job: &Job, schedule: &Schedule) -> Result<Stored, 
     requires job { IsJob (pipeline_in job.now) }
     requires few { length (pipeline_in job.now).stages ≤ 65536 }
     requires schedule { IsScheduleOf (pipeline_in job.now) schedule.now }
-    ensures all { IfOk result (λ stored. LendsAllTiles (pipeline_in job.now) schedule.now.flags (stored_tiles stored.stages.items)) }
+    ensures all { IfOk result (λ stored. GivesAllTiles (pipeline_in job.now) schedule.now.inlining (stored_tiles stored.stages.items)) }
     ensures values { IfOk result (λ stored. AreTrue (pipeline_in job.now) (stored_tiles stored.stages.items)) }
-    ensures fits { IfOk result (λ stored. first_too_big (pipeline_in job.now) schedule.now.flags (is_stored_function (pipeline_in job.now) schedule.now.flags) ≡ None) }
-    ensures fault { IfErr result (IsRunFault (program_id_in job.now) (pipeline_in job.now) schedule.now.flags (is_stored_function (pipeline_in job.now) schedule.now.flags)) }
+    ensures fits { IfOk result (λ stored. first_too_big (pipeline_in job.now) schedule.now.inlining (is_stored_function (pipeline_in job.now) schedule.now.inlining) ≡ None) }
+    ensures fault { IfErr result (IsRunFault (program_id_in job.now) (pipeline_in job.now) schedule.now.inlining (is_stored_function (pipeline_in job.now) schedule.now.inlining)) }
 {
     if let Some(key) = first_too_big(alloc, job, schedule, Work::Functions)? {
         return Err(RunFault::ScratchTooBig(key));

@@ -30,7 +30,7 @@ pub enum Work {
 
 // Whether the tiles of a stage belong to the work.
 fn is_wanted(job: &Job, schedule: &Schedule, work: Work, stage: usize) -> bool
-    ensures { result ≡ wanted_by (pipeline_in job.now) schedule.now.flags work stage }
+    ensures { result ≡ wanted_by (pipeline_in job.now) schedule.now.inlining work stage }
 {
     match work {
         Work::Functions => {
@@ -55,7 +55,7 @@ impl StageTiles<'_> {
     fn is_too_big(&self, alloc: Global, row: u32, col: u32) -> Result<bool, AllocError>
         requires job { IsJob (pipeline_in self.now.job.now) }
         requires tile { HasTile self.now.grid row col }
-        ensures { IfOk result (λ big. big ≡ too_big (pipeline_in self.now.job.now) self.now.schedule.now.flags (tile_of_stage self.now.stage (row, col))) }
+        ensures { IfOk result (λ big. big ≡ too_big (pipeline_in self.now.job.now) self.now.schedule.now.inlining (tile_of_stage self.now.stage (row, col))) }
     {
         let Some(area) = self.grid.tile(row, col) else {
             return Ok(false);
@@ -68,7 +68,7 @@ impl StageTiles<'_> {
     fn first_in_row(&self, alloc: Global, row: u32) -> Result<Option<(u32, u32)>, AllocError>
         requires job { IsJob (pipeline_in self.now.job.now) }
         requires row { row < tile_rows self.now.grid }
-        ensures { IfOk result (λ found. found ≡ find (λ t. too_big (pipeline_in self.now.job.now) self.now.schedule.now.flags (tile_of_stage self.now.stage t)) (row_tiles self.now.grid row)) }
+        ensures { IfOk result (λ found. found ≡ find (λ t. too_big (pipeline_in self.now.job.now) self.now.schedule.now.inlining (tile_of_stage self.now.stage t)) (row_tiles self.now.grid row)) }
     {
         for col in 0..self.grid.tile_cols() {
             if self.is_too_big(alloc, row, col)? {
@@ -81,7 +81,7 @@ impl StageTiles<'_> {
     // The first tile that does.
     fn first(&self, alloc: Global) -> Result<Option<(u32, u32)>, AllocError>
         requires { IsJob (pipeline_in self.now.job.now) }
-        ensures { IfOk result (λ found. found ≡ find (λ t. too_big (pipeline_in self.now.job.now) self.now.schedule.now.flags (tile_of_stage self.now.stage t)) (tiles_of self.now.grid)) }
+        ensures { IfOk result (λ found. found ≡ find (λ t. too_big (pipeline_in self.now.job.now) self.now.schedule.now.inlining (tile_of_stage self.now.stage t)) (tiles_of self.now.grid)) }
     {
         for row in 0..self.grid.tile_rows() {
             let found = self.first_in_row(alloc, row)?;
@@ -116,7 +116,7 @@ fn first_of_stage(
 ) -> Result<Option<Key>, AllocError>
     requires job { IsJob (pipeline_in job.now) }
     requires few { stage < 65536 }
-    ensures { IfOk result (λ found. found ≡ option_map (key_of (program_id_in job.now) (pipeline_in job.now)) (find (too_big (pipeline_in job.now) schedule.now.flags) (tiles (pipeline_in job.now) stage))) }
+    ensures { IfOk result (λ found. found ≡ option_map (key_of (program_id_in job.now) (pipeline_in job.now)) (find (too_big (pipeline_in job.now) schedule.now.inlining) (tiles (pipeline_in job.now) stage))) }
 {
     let Some(grid) = job.grid(stage) else {
         return Ok(None);
@@ -143,7 +143,7 @@ fn first_among(
 ) -> Result<Option<Key>, AllocError>
     requires job { IsJob (pipeline_in job.now) }
     requires few { All (λ g. g < 65536) order.now }
-    ensures { IfOk result (λ found. found ≡ option_map (key_of (program_id_in job.now) (pipeline_in job.now)) (find (too_big (pipeline_in job.now) schedule.now.flags) (flat_map (tiles (pipeline_in job.now)) (filter (wanted_by (pipeline_in job.now) schedule.now.flags work) order.now)))) }
+    ensures { IfOk result (λ found. found ≡ option_map (key_of (program_id_in job.now) (pipeline_in job.now)) (find (too_big (pipeline_in job.now) schedule.now.inlining) (flat_map (tiles (pipeline_in job.now)) (filter (wanted_by (pipeline_in job.now) schedule.now.inlining work) order.now)))) }
 {
     for number in order {
         if is_wanted(job, schedule, work, *number) {
@@ -171,7 +171,7 @@ pub fn first_too_big(
     requires job { IsJob (pipeline_in job.now) }
     requires few { length (pipeline_in job.now).stages ≤ 65536 }
     requires schedule { IsScheduleOf (pipeline_in job.now) schedule.now }
-    ensures { IfOk result (λ found. found ≡ option_map (key_of (program_id_in job.now) (pipeline_in job.now)) (first_too_big (pipeline_in job.now) schedule.now.flags (wanted_by (pipeline_in job.now) schedule.now.flags work))) }
+    ensures { IfOk result (λ found. found ≡ option_map (key_of (program_id_in job.now) (pipeline_in job.now)) (first_too_big (pipeline_in job.now) schedule.now.inlining (wanted_by (pipeline_in job.now) schedule.now.inlining work))) }
 {
     if schedule.fits() {
         return Ok(None);

@@ -10,7 +10,7 @@ ghost use Rattle.tile_eval.specs.Rows.{EachPlace, at};
 
 use domains::Index;
 use netpbm::Picture;
-use tile_eval::Start;
+use tile_eval::RowStart;
 
 // Takes the samples from a place on.
 fn widen(samples: &[u16], place: usize, out: &mut [i32])
@@ -77,7 +77,7 @@ pub(crate) fn plane_pick(
     plane: usize,
     row: i32,
     col: &Index,
-    start: &Start,
+    start: &RowStart,
     out: &mut [i32],
 )
     requires plane { plane < length picture.now.planes }
@@ -98,7 +98,7 @@ fn plane_steps(
     plane: usize,
     row: i32,
     col: &Index,
-    start: &Start,
+    start: &RowStart,
     out: &mut [i32],
 )
     requires plane { plane < length picture.now.planes }
@@ -117,7 +117,7 @@ fn plane_points(
     plane: usize,
     row: i32,
     col: &Index,
-    start: &Start,
+    start: &RowStart,
     out: &mut [i32],
 )
     requires plane { plane < length picture.now.planes }

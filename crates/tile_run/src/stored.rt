@@ -1,7 +1,7 @@
 #![tactic(auto)]
 //! Tiles in memory.
 
-use crate::lender::Lender;
+use crate::known::Known;
 
 /// The tiles in one row of a grid, each with its numbers row by row.
 #[derive(Drop)]
@@ -21,10 +21,10 @@ pub struct Stored {
     pub(crate) stages: Vec<Tiles>,
 }
 
-impl Lender for Stored {
+impl Known for Stored {
     ghost use Rattle.tile_run.specs.Stored.{stored_tiles};
 
-    ghost lent = { λ stored. stored_tiles stored.stages.items };
+    ghost given = { λ stored. stored_tiles stored.stages.items };
 
     fn tile(&self, stage: usize, row: u32, col: u32) -> Option<&[i32]> {
         let tiles = self.stages.get(stage)?;

@@ -12,7 +12,7 @@ use Rattle.accumulators.proofs.gather.gather_row.Goals as goal
 
 pub row-requires-clause-reads : goal.row-requires-clause-reads
 row-requires-clause-reads g c =
-    let has = g.S.Source.has c.args.source.now in
+    let has = g.S.RowSource.has c.args.source.now in
     let start = c.args.start.now in
     let n = length c.args.values.now in
     let own = c.args.accumulator.now.value in
@@ -21,7 +21,7 @@ row-requires-clause-reads g c =
 
 pub row-requires-2-clause-reads : goal.row-requires-2-clause-reads
 row-requires-2-clause-reads g c =
-    let has = g.S.Source.has c.args.source.now in
+    let has = g.S.RowSource.has c.args.source.now in
     let start = c.args.start.now in
     let own = c.args.accumulator.now.bin in
     subst (λ (n : ℕ). ReadsWithin has (formula_view c.bin.result.now) start.row start.col n) (sym c.requires.one_length)
@@ -30,7 +30,7 @@ row-requires-2-clause-reads g c =
 
 pub returns : goal.returns
 returns g c = λ j h.
-    let env : Valuation = g.S.Source.sample c.args.source.now in
+    let env : Valuation = g.S.RowSource.samples c.args.source.now in
     let a = c.args.accumulator.now in
     let r : ℤ = c.args.start.now.row in
     let x : ℤ = c.args.start.now.col in

@@ -15,12 +15,12 @@ gather_row-requires-clause-reads g c = λ k l.
     let below : c.loop-i.i < len_of area.rows = omega (arith, c.len-i-end.ensures.number) in
     let before : k < len_of area.cols = omega (arith, c.loop-i.auto.values, c.requires.width) in
     let reads = c.requires.reads (area.rows.lo +ℤ pos c.loop-i.i) (area.cols.lo +ℤ pos k) (counted_held area.rows c.loop-i.i c.requires.rows.span below, counted_held area.cols k c.requires.cols.span before) in
-    subst (λ (r : ℤ). ReadsAt (g.S.Source.has c.args.source.now) c.args.accumulator.now r (start.result.col +ℤ pos k)) (sym start.ensures.row)
-    (subst (λ (x : ℤ). ReadsAt (g.S.Source.has c.args.source.now) c.args.accumulator.now (area.rows.lo +ℤ pos c.loop-i.i) (x +ℤ pos k)) (sym start.ensures.col) reads)
+    subst (λ (r : ℤ). ReadsAt (g.S.RowSource.has c.args.source.now) c.args.accumulator.now r (start.result.col +ℤ pos k)) (sym start.ensures.row)
+    (subst (λ (x : ℤ). ReadsAt (g.S.RowSource.has c.args.source.now) c.args.accumulator.now (area.rows.lo +ℤ pos c.loop-i.i) (x +ℤ pos k)) (sym start.ensures.col) reads)
 
 pub loop-i-preserved : goal.loop-i-preserved
 loop-i-preserved g c = λ j h.
-    let env : Valuation = g.S.Source.sample c.args.source.now in
+    let env : Valuation = g.S.RowSource.samples c.args.source.now in
     let a = c.args.accumulator.now in
     let area = c.args.area.now in
     let start = c.at-start in

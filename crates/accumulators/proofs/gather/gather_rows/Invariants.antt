@@ -12,8 +12,8 @@ use Rattle.accumulators.proofs.gather.gather_rows.Given as goal
 abbrev pub invariant-loop-i : goal.invariant-loop-i
 invariant-loop-i g l =
     let a = l.fn.accumulator in
-    let value = formula_value (g.S.Source.sample l.fn.source) (formula_view a.value) in
-    let bin = formula_value (g.S.Source.sample l.fn.source) (formula_view a.bin) in
+    let value = formula_value (g.S.RowSource.samples l.fn.source) (formula_view a.value) in
+    let bin = formula_value (g.S.RowSource.samples l.fn.source) (formula_view a.bin) in
     EachPlace (length l.bins) (λ j.
     after_values a.fold (at l.bins j) (values_among value bin (points_from (l.fn.area.rows.lo +ℤ pos l.i) (len_of l.fn.area.rows - l.i) l.fn.area.cols.lo (len_of l.fn.area.cols)) (a.bins.lo +ℤ pos j))
     ≡ after_values a.fold (at l.initial.bins j) (values_among value bin (points_of l.fn.area) (a.bins.lo +ℤ pos j)))

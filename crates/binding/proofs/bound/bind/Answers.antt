@@ -1,7 +1,7 @@
 use Rattle.std.proofs.Common.{subst, sym, ap, ◌∙◌, List}
 use Rattle.std.specs.Prelude.{map}
 use Rattle.pipe_tree.specs.Content.{content}
-use Rattle.pipe_checks.specs.declared.declared.Declared.{Declared}
+use Rattle.pipe_checks.specs.declared.symbol.Symbol.{Symbol}
 use Rattle.pipe_checks.specs.Checking.{tree_in}
 use Rattle.job.specs.WellFormed.{IsJob}
 use Rattle.binding.specs.Binding.{IsJobOf}
@@ -28,7 +28,7 @@ returns-in-Ok-print-clause-says c = λ names.
     let known = c.bound_parts.ensures.checked in
     subst (IsJobOf (content (tree_in c.args.checked)) c.args.params.now c.args.picture c.args.sides) (sym c.new.ensures.pipeline)
     (bound_is_said (content (tree_in c.args.checked)) (program_of c.args.checked c.args.params.now) c.args.picture c.args.sides c.in-Ok.parts known.named known.stages known.ranks c.in-Ok.ensures.ok
-    (names ∙ ap (λ (ds : List Declared). map (λ d. d.name) ds) known.params))
+    (names ∙ ap (λ (ds : List Symbol). map (λ d. d.name) ds) known.params))
 
 pub returns-in-Some-clause-fault : goal.returns-in-Some-clause-fault
 returns-in-Some-clause-fault c =

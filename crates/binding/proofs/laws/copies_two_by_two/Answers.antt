@@ -3,7 +3,7 @@ use Rattle.std.proofs.Common.{ℕ, zero, suc, arith, ◌<◌, ◌≡◌, ℤ, po
 use Rattle.std.specs.Prelude.{Ok, IsTrue, is_some, slice_get, slice_index, take}
 use Rattle.std.proofs.lemmas.Bool.{false≢true}
 use Rattle.pipe_tree.specs.Tree.{Declaration}
-use Rattle.pipe_checks.specs.declared.declared.Declared.{Declared}
+use Rattle.pipe_checks.specs.declared.symbol.Symbol.{Symbol}
 use Rattle.pipe_checks.specs.Graph.{links_at}
 use Rattle.pipe_checks.specs.Search.{rank_over}
 use Rattle.pipe_checks.proofs.Numbering.{ranking-from_recurrence}
@@ -38,11 +38,11 @@ each_at P (y ∷ ys) each (suc k) x is = each_at P ys each.1 k x is
 at_some : {X : Type 0} (P : X → Type 0) (x y : X) → Some x ≡ Some y → P x → P y
 at_some P x y is p = let same : x ≡ y = cc in subst P same p
 
-new_at : (place : ℕ) (d : Declared) → slice_get (declared_names copying) place ≡ Some d → number_of (take place (declared_names copying)) d.name ≡ None
+new_at : (place : ℕ) (d : Symbol) → slice_get (declared_names copying) place ≡ Some d → number_of (take place (declared_names copying)) d.name ≡ None
 new_at zero = λ d is. refl
-new_at (suc zero) = λ d is. at_some (λ (e : Declared). number_of (take 1 (declared_names copying)) e.name ≡ None) _ d is refl
-new_at (suc (suc zero)) = λ d is. at_some (λ (e : Declared). number_of (take 2 (declared_names copying)) e.name ≡ None) _ d is refl
-new_at (suc (suc (suc zero))) = λ d is. at_some (λ (e : Declared). number_of (take 3 (declared_names copying)) e.name ≡ None) _ d is refl
+new_at (suc zero) = λ d is. at_some (λ (e : Symbol). number_of (take 1 (declared_names copying)) e.name ≡ None) _ d is refl
+new_at (suc (suc zero)) = λ d is. at_some (λ (e : Symbol). number_of (take 2 (declared_names copying)) e.name ≡ None) _ d is refl
+new_at (suc (suc (suc zero))) = λ d is. at_some (λ (e : Symbol). number_of (take 3 (declared_names copying)) e.name ≡ None) _ d is refl
 new_at (suc (suc (suc (suc place)))) = λ d is. absurd (cc)
 
 declared_once : (k : ℕ) → DeclaresAgain (declared_names copying) k → ⊥

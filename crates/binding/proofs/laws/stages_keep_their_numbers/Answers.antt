@@ -8,7 +8,7 @@ use Rattle.pipe_tree.specs.declared.tree.Names.TheVariants.{One, Three}
 use Rattle.pipe_tree.specs.declared.tree.Image.{Image}
 use Rattle.pipe_tree.specs.Tree as tree
 use Rattle.pipe_tree.specs.Tree.{Declaration}
-use Rattle.pipe_checks.specs.declared.declared.Declared.{Declared}
+use Rattle.pipe_checks.specs.declared.symbol.Symbol.{Symbol}
 use Rattle.pipe_checks.specs.Names.{names_of, item_names, names_from, is_param}
 use Rattle.job.specs.Pipeline.{Stage}
 use Rattle.binding.specs.Binding.{Program, plane_stage, names_in, item_stages}
@@ -35,8 +35,8 @@ from p n (d ∷ ds) =
     map_both (λ (s : Stage). s.name) (item_stages p d) (flat_map (item_stages p) ds)
     ∙ ap (λ (xs : List (List ℕ)). xs ++ map (λ s. s.name) (flat_map (item_stages p) ds)) (one_item p n d)
     ∙ ap (λ (xs : List (List ℕ)). map (λ d. d.name) (filter (λ d. not (is_param d.kind)) (item_names n d)) ++ xs) (from p (n + 1) ds)
-    ∙ sym (map_both (λ (d : Declared). d.name) (filter (λ d. not (is_param d.kind)) (item_names n d)) (filter (λ d. not (is_param d.kind)) (names_from (n + 1) ds)))
-    ∙ ap (λ (xs : List Declared). map (λ d. d.name) xs) (sym (filter-append (λ (d : Declared). not (is_param d.kind)) (item_names n d) (names_from (n + 1) ds)))
+    ∙ sym (map_both (λ (d : Symbol). d.name) (filter (λ d. not (is_param d.kind)) (item_names n d)) (filter (λ d. not (is_param d.kind)) (names_from (n + 1) ds)))
+    ∙ ap (λ (xs : List Symbol). map (λ d. d.name) xs) (sym (filter-append (λ (d : Symbol). not (is_param d.kind)) (item_names n d) (names_from (n + 1) ds)))
 
 pub returns : goal.returns
 returns c = λ p items. from p 0 items

@@ -11,4 +11,4 @@ returns c =
     let n = c.args.number in
     c.cost.ensures
     ∙ ap (λ costs. slice_index_or costs n None) c.requires.schedule.costs
-    ∙ get_or-map-range_with_len (cost job c.args.schedule.now.flags) 0 (length job.stages) n n None c.requires.there (omega arith)
+    ∙ get_or-map-range_with_len (cost job c.args.schedule.now.inlining) 0 (length job.stages) n n None c.requires.there (omega arith)

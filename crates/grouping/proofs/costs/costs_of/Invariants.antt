@@ -7,5 +7,5 @@ use Rattle.grouping.proofs.costs.costs_of.Given as goal
 
 abbrev pub invariant-loop-number : goal.invariant-loop-number
 invariant-loop-number l =
-    (l.survey.costs.items ≡ map (cost (pipeline_in l.job) l.flags) (range_with_len 0 l.number))
-    × (l.survey.fits ≡ all_stages_fit (pipeline_in l.job) l.flags (range_with_len 0 l.number))
+    (l.survey.costs.items ≡ map (cost (pipeline_in l.job) l.inlining) (range_with_len 0 l.number))
+    × (l.survey.fits ≡ all_stages_fit (pipeline_in l.job) l.inlining (range_with_len 0 l.number))

@@ -1,5 +1,5 @@
-use Rattle.overlap_tiles.proofs.Reading.{has_at_hand}
+use Rattle.overlap_tiles.proofs.Reading.{reads_available}
 use Rattle.overlap_tiles.proofs.laws.steps_have_what_they_read.Goals as goal
 
 pub returns : goal.returns
-returns c = has_at_hand
+returns c = reads_available

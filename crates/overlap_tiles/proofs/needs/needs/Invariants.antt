@@ -7,4 +7,4 @@ use Rattle.overlap_tiles.proofs.needs.needs.Given as goal
 
 abbrev pub invariant-loop-stage : goal.invariant-loop-stage
 invariant-loop-stage l =
-    map need_view l.needs.items ≡ flat_map (stage_needs (pipeline_in l.job) l.schedule.flags l.boxes) (range_with_len 0 l.stage)
+    map need_view l.needs.items ≡ flat_map (stage_needs (pipeline_in l.job) l.schedule.inlining l.boxes) (range_with_len 0 l.stage)

@@ -4,7 +4,7 @@ use Rattle.std.proofs.lemmas.Option.{same_Some}
 use Rattle.std.proofs.lemmas.Result.{err_from_is_err_and}
 use Rattle.domains.specs.declared.area.Area.{Area}
 use Rattle.pipe_tree.specs.Tree.{Declaration, declaration, declarations}
-use Rattle.pipe_checks.specs.declared.declared.Declared.{Declared}
+use Rattle.pipe_checks.specs.declared.symbol.Symbol.{Symbol}
 use Rattle.pipe_bounds.specs.declared.fault.BoundFault.TheVariants.{Memory}
 use Rattle.pipe_bounds.specs.InBounds.{IsFirstCase, StageStays, StaysAt, declared_cases, stage_cases}
 use Rattle.pipe_bounds.proofs.Firsts.{first_stage}
@@ -53,10 +53,10 @@ loop-stage-preserved c =
     let area = here_is c.args.domains.now c.args.domains.now k a refl within c.index-domains-stage.is in
     let item = declaration_at c.args.items.now s.item c.index-items-declared.result (omega (arith, c.requires.declared k s stage, length-map c.args.items.now declaration)) c.index-items-declared.is in
     let stays = subst (λ (o : Option Declaration). StageStays ss c.args.domains.now a (declared_cases stages o)) (sym item) c.in_ok-item.ensures in
-    all_more (λ i (y : Declared). StaysAt ss ds stages c.args.domains.now i y) stages k s stage
+    all_more (λ i (y : Symbol). StaysAt ss ds stages c.args.domains.now i y) stages k s stage
     (λ domain has. subst (λ (x : Area). StageStays ss c.args.domains.now x (stage_cases ds stages s)) (same_Some a domain (sym area ∙ has)) stays)
     c.loop-stage.invariant
 
 pub returns : goal.returns
 returns c =
-    all_of_them (λ k (s : Declared). StaysAt c.args.params.now (declarations c.args.items.now) c.args.stages.now c.args.domains.now k s) c.args.stages.now c.loop-stage.stage c.loop-stage-test.false c.loop-stage.invariant
+    all_of_them (λ k (s : Symbol). StaysAt c.args.params.now (declarations c.args.items.now) c.args.stages.now c.args.domains.now k s) c.args.stages.now c.loop-stage.stage c.loop-stage-test.false c.loop-stage.invariant

@@ -1,26 +1,26 @@
 use Rattle.std.proofs.Common.{◌∙◌, length, map}
 use Rattle.std.specs.Option.{option_map}
-use Rattle.job.specs.Views.{piece_view, formula_view}
+use Rattle.job.specs.Views.{case_view, formula_view}
 use Rattle.job.proofs.Steps.{All-from_map}
-use Rattle.tile_eval.specs.Pieces.{function_value}
-use Rattle.tile_eval.proofs.Domains.{IsLaid, IsReadyOver, pieces_ready, other_ready, raster_from}
+use Rattle.tile_eval.specs.Cases.{function_value}
+use Rattle.tile_eval.proofs.Domains.{IsLaid, IsReadyOver, cases_ready, other_ready, raster_from}
 use Rattle.tile_eval.proofs.functions.fill_area.Goals as goal
 
-pub function_area-requires-clause-pieces : goal.function_area-requires-clause-pieces
-function_area-requires-clause-pieces g c =
+pub function_area-requires-clause-cases : goal.function_area-requires-clause-cases
+function_area-requires-clause-cases g c =
     let laid : IsLaid c.args.area.now c.corner-start.result.row c.corner-start.result.col c.len-rows.result c.len-cols.result =
     record { top = c.corner-start.ensures.row; left = c.corner-start.ensures.col; height = c.len-rows.ensures.number; width = c.len-cols.ensures.number; near_rows = c.requires.rows; near_cols = c.requires.cols } in
-    All-from_map (IsReadyOver (g.S.Source.has c.args.source.now) c.corner-start.result.row c.corner-start.result.col c.len-rows.result c.len-cols.result (length c.args.temps.now)) piece_view c.args.function.now.pieces.items
-    (pieces_ready (g.S.Source.has c.args.source.now) c.args.area.now (map piece_view c.args.function.now.pieces.items) (option_map formula_view c.args.function.now.otherwise) _ _ _ _ (length c.args.temps.now) laid c.requires.tests c.requires.formulas c.requires.boxes c.requires.reads c.requires.room)
+    All-from_map (IsReadyOver (g.S.RowSource.has c.args.source.now) c.corner-start.result.row c.corner-start.result.col c.len-rows.result c.len-cols.result (length c.args.temps.now)) case_view c.args.function.now.cases.items
+    (cases_ready (g.S.RowSource.has c.args.source.now) c.args.area.now (map case_view c.args.function.now.cases.items) (option_map formula_view c.args.function.now.otherwise) _ _ _ _ (length c.args.temps.now) laid c.requires.tests c.requires.formulas c.requires.boxes c.requires.reads c.requires.room)
 
 pub function_area-requires-clause-other : goal.function_area-requires-clause-other
 function_area-requires-clause-other g c =
     let laid : IsLaid c.args.area.now c.corner-start.result.row c.corner-start.result.col c.len-rows.result c.len-cols.result =
     record { top = c.corner-start.ensures.row; left = c.corner-start.ensures.col; height = c.len-rows.ensures.number; width = c.len-cols.ensures.number; near_rows = c.requires.rows; near_cols = c.requires.cols } in
-    other_ready (g.S.Source.has c.args.source.now) c.args.area.now (map piece_view c.args.function.now.pieces.items) (option_map formula_view c.args.function.now.otherwise) _ _ _ _ (length c.args.temps.now) laid c.requires.formulas c.requires.reads c.requires.room
+    other_ready (g.S.RowSource.has c.args.source.now) c.args.area.now (map case_view c.args.function.now.cases.items) (option_map formula_view c.args.function.now.otherwise) _ _ _ _ (length c.args.temps.now) laid c.requires.formulas c.requires.reads c.requires.room
 
 pub returns : goal.returns
 returns g c =
     let laid : IsLaid c.args.area.now c.corner-start.result.row c.corner-start.result.col c.len-rows.result c.len-cols.result =
     record { top = c.corner-start.ensures.row; left = c.corner-start.ensures.col; height = c.len-rows.ensures.number; width = c.len-cols.ensures.number; near_rows = c.requires.rows; near_cols = c.requires.cols } in
-    raster_from c.args.area.now (function_value (g.S.Source.sample c.args.source.now) (map piece_view c.args.function.now.pieces.items) (option_map formula_view c.args.function.now.otherwise)) _ _ _ _ c.function_area.new.out laid (c.function_area.auto.out ∙ c.requires.len) c.function_area.ensures
+    raster_from c.args.area.now (function_value (g.S.RowSource.samples c.args.source.now) (map case_view c.args.function.now.cases.items) (option_map formula_view c.args.function.now.otherwise)) _ _ _ _ c.function_area.new.out laid (c.function_area.auto.out ∙ c.requires.len) c.function_area.ensures

@@ -2,20 +2,20 @@ use Rattle.std.proofs.Common.{List, subst}
 use Rattle.std.specs.Prelude.{Option}
 use Rattle.std.specs.Option.{option_map, ForSome}
 use Rattle.job.specs.declared.formula.Formula.{Formula as KeptFormula}
-use Rattle.job.specs.declared.stage.Piece.{Piece as KeptPiece}
+use Rattle.job.specs.declared.stage.JobCase.{JobCase as KeptCase}
 use Rattle.job.specs.Views.{formula_view}
 use Rattle.tile_eval.specs.Counted.{IsLeast}
 use Rattle.tile_eval.specs.Reading.{HasRoom}
-use Rattle.tile_eval.proofs.Rooms.{EachHasRoom, pieces_from, other_from, function_from, least_counted, counted_least}
+use Rattle.tile_eval.proofs.Rooms.{EachHasRoom, cases_from, other_from, function_from, least_counted, counted_least}
 use Rattle.tile_eval.proofs.room.function_room.Goals as goal
 
 pub returns : goal.returns
 returns c =
     let n = c.args.n in
-    let ps = c.args.function.now.pieces.items in
+    let ps = c.args.function.now.cases.items in
     let o = option_map formula_view c.args.function.now.otherwise in
-    let pieces : IsLeast (EachHasRoom ps n) c.pieces_room.result = subst (λ (ps : List KeptPiece). IsLeast (EachHasRoom ps n) c.pieces_room.result) c.pieces.ensures c.pieces_room.ensures in
+    let cases : IsLeast (EachHasRoom ps n) c.cases_room.result = subst (λ (ps : List KeptCase). IsLeast (EachHasRoom ps n) c.cases_room.result) c.cases.ensures c.cases_room.ensures in
     let other : IsLeast (λ m. ForSome o (λ f. HasRoom f n m)) c.other_room.result =
     subst (λ (o : Option KeptFormula). IsLeast (λ m. ForSome (option_map formula_view o) (λ f. HasRoom f n m)) c.other_room.result) c.otherwise.ensures c.other_room.ensures in
     counted_least _ _ _ (function_from ps o n)
-    (c.greater.ensures _ _ (c.with_rows-pieces.ensures _ (least_counted _ _ _ (pieces_from ps n) pieces)) (least_counted _ _ _ (other_from o n) other))
+    (c.greater.ensures _ _ (c.with_rows-cases.ensures _ (least_counted _ _ _ (cases_from ps n) cases)) (least_counted _ _ _ (other_from o n) other))

@@ -1,7 +1,7 @@
 use Rattle.std.proofs.Common.{◌≡◌, ℤ, map, take}
 use Rattle.std.specs.Global.{Vec}
 use Rattle.job.specs.Kept.{pipeline_in}
-use Rattle.tile_eval.specs.Whole.{stage_values}
+use Rattle.tile_eval.specs.Buffer.{stage_values}
 use Rattle.tile_eval.proofs.stages.plain_all.Given as goal
 
 abbrev pub invariant-loop-stage : goal.invariant-loop-stage

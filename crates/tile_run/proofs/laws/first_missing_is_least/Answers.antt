@@ -5,4 +5,4 @@ use Rattle.tile_run.proofs.Planned.{found_least}
 use Rattle.tile_run.proofs.laws.first_missing_is_least.Goals as goal
 
 pub returns : goal.returns
-returns c = λ program t lent key other. found_least IsKeyBefore (is_missing lent) (needed_keys program t) (keys_rise program t) key other
+returns c = λ program t given key other. found_least IsKeyBefore (is_missing given) (needed_keys program t) (keys_rise program t) key other

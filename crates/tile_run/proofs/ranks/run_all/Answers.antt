@@ -9,18 +9,18 @@ use Rattle.tile_run.proofs.Making.{all_stored}
 use Rattle.tile_run.proofs.ranks.run_all.Goals as goal
 
 pub through-requires-clause-fit : goal.through-requires-clause-fit
-through-requires-clause-fit c = stored_fit (pipeline_in c.args.job.now) c.args.schedule.now.flags
-    (nothing_of (key_of (program_id_in c.args.job.now) (pipeline_in c.args.job.now)) (first_too_big (pipeline_in c.args.job.now) c.args.schedule.now.flags (is_stored_function (pipeline_in c.args.job.now) c.args.schedule.now.flags))
+through-requires-clause-fit c = stored_fit (pipeline_in c.args.job.now) c.args.schedule.now.inlining
+    (nothing_of (key_of (program_id_in c.args.job.now) (pipeline_in c.args.job.now)) (first_too_big (pipeline_in c.args.job.now) c.args.schedule.now.inlining (is_stored_function (pipeline_in c.args.job.now) c.args.schedule.now.inlining))
     (sym c.in_default.is ∙ c.in_ok-key.ensures))
 
 pub returns-clause-all : goal.returns-clause-all
 returns-clause-all c =
-    all_stored (pipeline_in c.args.job.now) c.args.schedule.now.flags c.last_rank.result c.in_ok-stored.stored.stages.items (c.last_rank.ensures ∙ ap greatest_rank c.stages.ensures) c.in_ok-stored.ensures
+    all_stored (pipeline_in c.args.job.now) c.args.schedule.now.inlining c.last_rank.result c.in_ok-stored.stored.stages.items (c.last_rank.ensures ∙ ap greatest_rank c.stages.ensures) c.in_ok-stored.ensures
 
 pub returns-clause-values : goal.returns-clause-values
 returns-clause-values c = c.in_ok-stored.ensures.right
 
 pub returns-clause-fits : goal.returns-clause-fits
 returns-clause-fits c =
-    nothing_of (key_of (program_id_in c.args.job.now) (pipeline_in c.args.job.now)) (first_too_big (pipeline_in c.args.job.now) c.args.schedule.now.flags (is_stored_function (pipeline_in c.args.job.now) c.args.schedule.now.flags))
+    nothing_of (key_of (program_id_in c.args.job.now) (pipeline_in c.args.job.now)) (first_too_big (pipeline_in c.args.job.now) c.args.schedule.now.inlining (is_stored_function (pipeline_in c.args.job.now) c.args.schedule.now.inlining))
     (sym c.in_default.is ∙ c.in_ok-key.ensures)

@@ -10,10 +10,10 @@ returns-in-Some-2 c =
     let job = pipeline_in c.args.job.now in
     ap Some c.key_at.ensures
     ∙ ap (option_map (λ (t : ℕ × ℕ). key_of (program_id_in c.args.job.now) job (tile_of_stage c.args.stage t))) (sym c.in-Some-2.is)
-    ∙ first_key (program_id_in c.args.job.now) job c.args.schedule.now.flags c.args.stage c.in-Some.grid (sym c.in-Some.ensures) c.in_ok-row.field-0 c.in_ok-row.ensures
+    ∙ first_key (program_id_in c.args.job.now) job c.args.schedule.now.inlining c.args.stage c.in-Some.grid (sym c.in-Some.ensures) c.in_ok-row.field-0 c.in_ok-row.ensures
 
 pub returns-in-None : goal.returns-in-None
 returns-in-None c =
     let job = pipeline_in c.args.job.now in
     ap (option_map (λ (t : ℕ × ℕ). key_of (program_id_in c.args.job.now) job (tile_of_stage c.args.stage t))) (sym c.in-None.is)
-    ∙ first_key (program_id_in c.args.job.now) job c.args.schedule.now.flags c.args.stage c.in-Some.grid (sym c.in-Some.ensures) c.in_ok-row.field-0 c.in_ok-row.ensures
+    ∙ first_key (program_id_in c.args.job.now) job c.args.schedule.now.inlining c.args.stage c.in-Some.grid (sym c.in-Some.ensures) c.in_ok-row.field-0 c.in_ok-row.ensures

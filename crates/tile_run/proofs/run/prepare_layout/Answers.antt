@@ -17,35 +17,35 @@ run_steps-requires-clause-runnable g c =
     let next = c.in_ok-hand.ensures in
     let own = c.requires.layout in
     let job = pipeline_in c.args.job.now in
-    let flags = c.args.schedule.now.flags in
-    let lent = g.K.Lender.lent c.args.lender.now in
-    let t = target_over job flags own.stage own.layout.area in
+    let inlining = c.args.schedule.now.inlining in
+    let given = g.K.Known.given c.args.known.now in
+    let t = target_over job inlining own.stage own.layout.area in
     let inner : map step_view c.inner_of.result.now ≡ inner_steps t =
-    c.inner_of.ensures (inner_steps t) (own.stage, own.layout.area) (c.steps.ensures ∙ layout_steps job flags lent c.args.layout.now own.stage own.row own.col own.layout) in
-    carry (λ (j : Job) (s : Inlining) l. AreRunnable (pipeline_in j) s.flags (g.K.Lender.lent l) (map step_view c.inner_of.result.now)) next.job next.schedule next.lender
-    (subst (λ (ss : List (ℕ × Area)). AreRunnable job flags lent ss) (sym inner)
-    (layout_runnable job flags lent c.args.layout.now own.stage own.row own.col own.layout c.requires.job c.requires.needs))
+    c.inner_of.ensures (inner_steps t) (own.stage, own.layout.area) (c.steps.ensures ∙ layout_steps job inlining given c.args.layout.now own.stage own.row own.col own.layout) in
+    carry (λ (j : Job) (s : Inlining) l. AreRunnable (pipeline_in j) s.inlining (g.K.Known.given l) (map step_view c.inner_of.result.now)) next.job next.schedule next.known
+    (subst (λ (ss : List (ℕ × Area)). AreRunnable job inlining given ss) (sym inner)
+    (layout_runnable job inlining given c.args.layout.now own.stage own.row own.col own.layout c.requires.job c.requires.needs))
 
 pub run_steps-requires-clause-boxes : goal.run_steps-requires-clause-boxes
 run_steps-requires-clause-boxes g c =
     let next = c.in_ok-hand.ensures in
-    carry (λ (j : Job) (s : Inlining) l. AreLocal (pipeline_in j) s.flags (g.K.Lender.lent l) c.in_ok-hand.hand.boxes.wholes.items) next.job next.schedule next.lender next.local
+    carry (λ (j : Job) (s : Inlining) l. AreLocal (pipeline_in j) s.inlining (g.K.Known.given l) c.in_ok-hand.hand.boxes.buffers.items) next.job next.schedule next.known next.local
 
 pub returns-clause-local : goal.returns-clause-local
 returns-clause-local g c =
     let before = c.in_ok-hand.ensures in
     let next = c.in_ok-run_steps.ensures in
-    carry (λ (j : Job) (s : Inlining) l. AreLocal (pipeline_in j) s.flags (g.K.Lender.lent l) c.run_steps.new.self.boxes.wholes.items) (sym before.job) (sym before.schedule) (sym before.lender) next.local
+    carry (λ (j : Job) (s : Inlining) l. AreLocal (pipeline_in j) s.inlining (g.K.Known.given l) c.run_steps.new.self.boxes.buffers.items) (sym before.job) (sym before.schedule) (sym before.known) next.local
 
 pub returns-clause-ready : goal.returns-clause-ready
 returns-clause-ready g c = λ k i j is.
     let next = c.in_ok-run_steps.ensures in
     let job = pipeline_in c.args.job.now in
-    let flags = c.args.schedule.now.flags in
-    let lent = g.K.Lender.lent c.args.lender.now in
-    let wholes = c.run_steps.new.self.boxes.wholes.items in
-    let inner : map step_view c.inner_of.result.now ≡ inner_steps (target_over job flags k is.area) =
-    c.inner_of.ensures (inner_steps (target_over job flags k is.area)) (k, is.area) (c.steps.ensures ∙ layout_steps job flags lent c.args.layout.now k i j is) in
-    let known = subst (λ (n : ℕ). AreComputed (map step_view c.inner_of.result.now) n wholes) (sym (length-map c.inner_of.result.now step_view)) next.computed in
-    layout_ready job flags lent c.args.layout.now k i j is c.requires.job c.requires.needs wholes
-    (subst (λ (ss : List (ℕ × Area)). AreComputed ss (length ss) wholes) inner known)
+    let inlining = c.args.schedule.now.inlining in
+    let given = g.K.Known.given c.args.known.now in
+    let buffers = c.run_steps.new.self.boxes.buffers.items in
+    let inner : map step_view c.inner_of.result.now ≡ inner_steps (target_over job inlining k is.area) =
+    c.inner_of.ensures (inner_steps (target_over job inlining k is.area)) (k, is.area) (c.steps.ensures ∙ layout_steps job inlining given c.args.layout.now k i j is) in
+    let known = subst (λ (n : ℕ). AreComputed (map step_view c.inner_of.result.now) n buffers) (sym (length-map c.inner_of.result.now step_view)) next.computed in
+    layout_ready job inlining given c.args.layout.now k i j is c.requires.job c.requires.needs buffers
+    (subst (λ (ss : List (ℕ × Area)). AreComputed ss (length ss) buffers) inner known)

@@ -13,4 +13,4 @@ pub picture-requires-clause-stored : goal.picture-requires-clause-stored
 picture-requires-clause-stored c =
     let job = pipeline_in c.args.self.now.job.now in
     let there : job.output ≡ Some (output_view c.in-Some.output) = sym c.output.ensures ∙ ap (option_map output_view) c.in-Some.is in
-    outputs_stored job c.args.self.now.schedule.now.flags (output_view c.in-Some.output) c.requires.scheduled.flags there (c.requires.is_job.output (output_view c.in-Some.output) there)
+    outputs_stored job c.args.self.now.schedule.now.inlining (output_view c.in-Some.output) c.requires.scheduled.inlining there (c.requires.is_job.output (output_view c.in-Some.output) there)

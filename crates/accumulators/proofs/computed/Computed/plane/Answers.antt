@@ -7,10 +7,10 @@ use Rattle.accumulators.proofs.computed.Computed.plane.Goals as goal
 
 pub returns-in-None : goal.returns-in-None
 returns-in-None c =
-    c.new.ensures.items ∙ no_plane (pipeline_in c.args.self.now.job.now) c.args.self.now.schedule.now.flags c.args.max c.args.stage c.requires.stored (sym c.domain.ensures ∙ c.in-None.is)
+    c.new.ensures.items ∙ no_plane (pipeline_in c.args.self.now.job.now) c.args.self.now.schedule.now.inlining c.args.max c.args.stage c.requires.stored (sym c.domain.ensures ∙ c.in-None.is)
 
 pub returns-in-Some : goal.returns-in-Some
 returns-in-Some c =
     subst (λ (xs : List ℕ). IfOk c.plane_over.result (λ (plane : Vec ℕ). plane.items ≡ xs))
-    (plane_is (pipeline_in c.args.self.now.job.now) c.args.self.now.schedule.now.flags c.args.stage c.in-Some.domain c.requires.stored (sym c.domain.ensures ∙ c.in-Some.is) c.args.max)
+    (plane_is (pipeline_in c.args.self.now.job.now) c.args.self.now.schedule.now.inlining c.args.stage c.in-Some.domain c.requires.stored (sym c.domain.ensures ∙ c.in-Some.is) c.args.max)
     c.plane_over.ensures

@@ -16,7 +16,7 @@ loop-place-init c =
 
 pub push_row-requires-clause-short : goal.push_row-requires-clause-short
 push_row-requires-clause-short c =
-    let near = near_columns (pipeline_in c.args.self.now.job.now) c.args.self.now.schedule.now.flags c.args.stage c.args.domain.now c.requires.stored c.requires.domain c.requires.computed.is_job in
+    let near = near_columns (pipeline_in c.args.self.now.job.now) c.args.self.now.schedule.now.inlining c.args.stage c.args.domain.now c.requires.stored c.requires.domain c.requires.computed.is_job in
     let few : len_of c.args.domain.now.cols ≤ 100000 = few_numbers c.args.domain.now.cols near in
     omega (arith, c.loop-place.auto.line, c.as_mut_slice-line.ensures.len, c.in_ok-room.ensures.len, c.len.ensures.number)
 
@@ -27,7 +27,7 @@ push_row-requires-clause-stored c =
     let first_fits : FitsSigned w32 c.lo-first.result = search rules in
     let within : c.loop-place.place < len_of area.rows = omega arith in
     let long : length c.loop-place.line ≡ len_of area.cols = omega (arith, c.loop-place.auto.line, c.as_mut_slice-line.ensures.len, c.in_ok-room.ensures.len, c.len.ensures.number) in
-    row_stored (pipeline_in c.args.self.now.job.now) c.args.self.now.schedule.now.flags c.args.stage area c.requires.stored c.requires.domain (stored_tiles c.args.self.now.stored.now.stages.items) c.requires.computed.all
+    row_stored (pipeline_in c.args.self.now.job.now) c.args.self.now.schedule.now.inlining c.args.stage area c.requires.stored c.requires.domain (stored_tiles c.args.self.now.stored.now.stages.items) c.requires.computed.all
     (to_z w32 (of_z w32 c.number_at-row.result)) (to_z w32 (of_z w32 c.lo-first.result)) c.loop-place.place (length c.loop-place.line) within
     (to_z-of_z w32 c.number_at-row.result row_fits ∙ c.number_at-row.ensures) (to_z-of_z w32 c.lo-first.result first_fits ∙ c.lo-first.ensures.end) long
 

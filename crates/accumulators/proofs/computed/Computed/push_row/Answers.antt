@@ -16,9 +16,9 @@ returns c =
     let n : ℕ = length c.args.line.now in
     let row : FitsSigned w32 c.args.row = search rules in
     let first : FitsSigned w32 c.args.first = search rules in
-    let written : EachPlace n (λ k. at c.line.new.out k ≡ f c.args.row (c.args.first +ℤ pos k)) =
-    λ k l. c.line.ensures k l ∙ (λ i. f (to_z-of_z w32 c.args.row row i) (to_z-of_z w32 c.args.first first i +ℤ pos k)) in
-    let cut : map (sample_of c.args.max) c.line.new.out ≡ map (λ z. sample_of c.args.max (f c.args.row z)) (numbers_from c.args.first n) =
-    ap (map (sample_of c.args.max)) (line_is (f c.args.row) c.args.first n c.line.new.out c.line.auto.out written)
+    let written : EachPlace n (λ k. at c.read_row.new.out k ≡ f c.args.row (c.args.first +ℤ pos k)) =
+    λ k l. c.read_row.ensures k l ∙ (λ i. f (to_z-of_z w32 c.args.row row i) (to_z-of_z w32 c.args.first first i +ℤ pos k)) in
+    let cut : map (sample_of c.args.max) c.read_row.new.out ≡ map (λ z. sample_of c.args.max (f c.args.row z)) (numbers_from c.args.first n) =
+    ap (map (sample_of c.args.max)) (line_is (f c.args.row) c.args.first n c.read_row.new.out c.read_row.auto.out written)
     ∙ map-map (sample_of c.args.max) (f c.args.row) (numbers_from c.args.first n) in
     subst (λ (xs : List ℕ). OnOk c.push_cut.result (c.push_cut.new.samples.items ≡ c.args.plane.now.items ++ xs)) cut c.push_cut.ensures

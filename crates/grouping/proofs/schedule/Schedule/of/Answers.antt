@@ -9,4 +9,4 @@ pub with_costs-requires-clause-schedule : goal.with_costs-requires-clause-schedu
 with_costs-requires-clause-schedule c =
     let job = pipeline_in c.args.job.now in
     let stored : StoresOutputs job c.in_ok-asked.asked = c.in-None.ensures.none in
-    subst (IsSchedule job) (sym c.in_ok-asked.ensures) (asked_is job c.args.flags.now (subst (StoresOutputs job) c.in_ok-asked.ensures stored))
+    subst (IsSchedule job) (sym c.in_ok-asked.ensures) (asked_is job c.args.inlining.now (subst (StoresOutputs job) c.in_ok-asked.ensures stored))

@@ -17,17 +17,17 @@ use Rattle.overlap_tiles.proofs.layout.Layout.over.Goals as goal
 pub returns-clause-layout : goal.returns-clause-layout
 returns-clause-layout c =
     let job = pipeline_in c.args.job.now in
-    let flags : List Bool = c.args.schedule.now.flags in
-    let t = target_over job flags c.args.target.stage c.args.target.area in
+    let inlining : List Bool = c.args.schedule.now.inlining in
+    let t = target_over job inlining c.args.target.stage c.args.target.area in
     let inner : List (ℕ × Area) = map step_view c.in_ok-steps.steps.items in
-    let kept = c.in_ok-steps.ensures ∙ ap (λ (bs : List (ℕ × Area)). filter (λ s. is_inlined flags s.0) bs) c.requires.boxes in
+    let kept = c.in_ok-steps.ensures ∙ ap (λ (bs : List (ℕ × Area)). filter (λ s. is_inlined inlining s.0) bs) c.requires.boxes in
     let number = c.in-Some.ensures.number ∙ ap (λ (ss : List Step). points_in (map step_view ss)) c.deref.ensures.value in
     let few = c.in-Some.ensures.few in
     record {
       layout = is_layout t _ (record {
         inner = inner;
         kept = kept;
-        needs = c.in_ok-needs.ensures ∙ ap (λ (bs : List (ℕ × Area)). flat_map (stage_needs job flags bs) (range_with_len 0 (length job.stages))) c.requires.boxes;
+        needs = c.in_ok-needs.ensures ∙ ap (λ (bs : List (ℕ × Area)). flat_map (stage_needs job inlining bs) (range_with_len 0 (length job.stages))) c.requires.boxes;
         steps = ap (map step_view) c.in_ok-push.ensures.items ∙ map_push step_view c.in_ok-steps.steps.items c.args.target;
         scratch = number;
         points = ap (λ (n : ℕ). n + c.points.result) number ∙ ap (λ (n : ℕ). points_in inner + n) c.points.ensures.number;

@@ -8,7 +8,7 @@ use Rattle.overlap_tiles.proofs.plan.TilePlan.of.Goals as goal
 pub keys-requires : goal.keys-requires
 keys-requires c =
     let is = c.in_ok-layout.ensures.layout in
-    numbers_fit (target_over (pipeline_in c.args.job.now) c.args.schedule.now.flags c.args.stage is.area) c.needs.result.now c.requires.job c.requires.few (c.needs.ensures ∙ is.layout.layout.needs)
+    numbers_fit (target_over (pipeline_in c.args.job.now) c.args.schedule.now.inlining c.args.stage is.area) c.needs.result.now c.requires.job c.requires.few (c.needs.ensures ∙ is.layout.layout.needs)
 
 pub invariant_of-result : goal.invariant_of-result
 invariant_of-result c =

@@ -1,5 +1,5 @@
 use Rattle.std.proofs.Common.{◌≡◌, ◌++◌, take}
-use Rattle.pipe_tokens.specs.declared.token.Word.TheVariants.{And}
+use Rattle.pipe_tokens.specs.declared.token.Keyword.TheVariants.{And}
 use Rattle.pipe_print.specs.Canonical.{word, each_behind, test_tokens}
 use Rattle.pipe_print.proofs.printer.Printer.condition.Given as goal
 

@@ -1,5 +1,5 @@
 use Rattle.std.proofs.Common.{◌≡◌, ◌++◌, take}
-use Rattle.pipe_tokens.specs.declared.token.Mark.TheVariants.{Comma}
+use Rattle.pipe_tokens.specs.declared.token.Punct.TheVariants.{Comma}
 use Rattle.pipe_print.specs.Canonical.{mark, each_behind, entry_tokens}
 use Rattle.pipe_print.proofs.printer.Printer.entries.Given as goal
 

@@ -3,4 +3,4 @@ use Rattle.tile_run.proofs.Storing.{AreStoredTo}
 use Rattle.tile_run.proofs.stored.Stored.add_rank.Given as goal
 
 abbrev pub invariant-loop-number : goal.invariant-loop-number
-invariant-loop-number l = AreStoredTo (pipeline_in l.job) l.schedule.flags l.fn.rank l.number l.self.stages.items
+invariant-loop-number l = AreStoredTo (pipeline_in l.job) l.schedule.inlining l.fn.rank l.number l.self.stages.items

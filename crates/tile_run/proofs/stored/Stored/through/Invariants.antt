@@ -3,4 +3,4 @@ use Rattle.tile_run.specs.Running.{AreStored}
 use Rattle.tile_run.proofs.stored.Stored.through.Given as goal
 
 abbrev pub invariant-loop-lower : goal.invariant-loop-lower
-invariant-loop-lower l = AreStored (pipeline_in l.job) l.schedule.flags l.lower l.stored.stages.items
+invariant-loop-lower l = AreStored (pipeline_in l.job) l.schedule.inlining l.lower l.stored.stages.items

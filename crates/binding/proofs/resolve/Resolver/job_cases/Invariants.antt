@@ -1,0 +1,9 @@
+use Rattle.std.proofs.Common.{◌≡◌, map, take}
+use Rattle.pipe_tree.specs.Tree.{branches}
+use Rattle.binding.specs.Binding.{case_of}
+use Rattle.job.specs.Views.{case_view}
+use Rattle.binding.specs.Resolving.{program_in, variables_in}
+use Rattle.binding.proofs.resolve.Resolver.job_cases.Given as goal
+
+abbrev pub invariant-loop-case : goal.invariant-loop-case
+invariant-loop-case l = map case_view l.job_cases.items ≡ map (case_of (program_in l.self) (variables_in l.own) l.domain) (branches (take l.case-index l.cases))

@@ -1,0 +1,126 @@
+#![tactic(auto)]
+//! A flag for each stage: whether it is inlined.
+
+ghost use Rattle.std.specs.Prelude.{◌≡◌, ◌&&◌, ◌==◌, ℕ, true, false, slice_set, IfOk, IfSome, IfNone};
+ghost use Rattle.std.specs.List.{list_any};
+ghost use Rattle.job.specs.Kept.{pipeline_in};
+ghost use Rattle.job.specs.Answers.{is_output};
+ghost use Rattle.grouping.specs.Schedules.{is_inlined, is_function};
+
+use job::{Job, StageKind};
+use std::alloc::{AllocError, Global};
+use std::marker::Model;
+
+/// Whether each stage is inlined. Contracts see the list of inlining.
+#[derive(Debug, Drop)]
+pub(crate) struct InlinedStages {
+    inlining: Vec<bool>,
+}
+
+impl Model for InlinedStages {
+    ghost use Rattle.std.specs.Prelude.{List, Bool};
+
+    ghost Value = { List Bool };
+
+    ghost view = { λ f. f.inlining.items };
+}
+
+impl InlinedStages {
+    ghost use Rattle.job.specs.Kept.{pipeline_in};
+    ghost use Rattle.grouping.specs.Schedules.{is_inlined, inlining_for, all_stored};
+    ghost use Rattle.grouping.specs.Inlining.{StoresOutputs, IsInlinedOutput};
+
+    /// InlinedStages by which each stage is stored.
+    pub(crate) fn all_stored(alloc: Global, job: &Job) -> Result<InlinedStages, AllocError>
+        ensures { IfOk result (λ f. f ≡ all_stored (pipeline_in job.now)) }
+    {
+        let mut inlining = Vec::new(alloc);
+        for _stage in job.stages() {
+            inlining.push(false)?;
+        }
+        Ok(InlinedStages { inlining })
+    }
+
+    /// The inlining that are asked for; those of planes and accumulators count as false.
+    #[tactic(auto, using(crate::proofs::Counting::map_range_more))]
+    pub(crate) fn asked(
+        alloc: Global,
+        job: &Job,
+        asked: &[bool],
+    ) -> Result<InlinedStages, AllocError>
+        ensures { IfOk result (λ f. f ≡ inlining_for (pipeline_in job.now) asked.now) }
+    {
+        let mut inlining = Vec::new(alloc);
+        for number in 0..job.stages().len() {
+            inlining.push(is_asked(job, asked, number))?;
+        }
+        Ok(InlinedStages { inlining })
+    }
+
+    /// Whether the stage of this number is inlined.
+    pub(crate) fn inlined(&self, stage: usize) -> bool
+        ensures { result ≡ is_inlined self.now stage }
+    {
+        is_flagged(&self.inlining, stage)
+    }
+
+    /// Sets the flag of the stage of this number.
+    pub(crate) fn set(&mut self, stage: usize, flag: bool)
+        ensures { self.new ≡ slice_set self.old stage flag }
+    {
+        if stage < self.inlining.len() {
+            self.inlining[stage] = flag;
+        }
+    }
+
+    /// The least output that is inlined.
+    pub(crate) fn first_output(&self, job: &Job) -> Option<usize>
+        ensures some { IfSome result (IsInlinedOutput (pipeline_in job.now) self.now) }
+        ensures none { IfNone result (StoresOutputs (pipeline_in job.now) self.now) }
+    {
+        for number in 0..self.inlining.len() {
+            if self.inlined(number) && is_output(job, number) {
+                return Some(number);
+            }
+        }
+        None
+    }
+}
+
+fn is_flagged(inlining: &[bool], number: usize) -> bool
+    ensures { result ≡ is_inlined inlining.now number }
+{
+    match inlining.get(number) {
+        Some(flag) => *flag,
+        None => false,
+    }
+}
+
+fn is_asked(job: &Job, asked: &[bool], number: usize) -> bool
+    ensures { result ≡ (is_inlined asked.now number && is_function (pipeline_in job.now) number) }
+{
+    is_flagged(asked, number) && is_function(job, number)
+}
+
+/// Whether the stage of this number is a function.
+pub(crate) fn is_function(job: &Job, number: usize) -> bool
+    ensures { result ≡ is_function (pipeline_in job.now) number }
+{
+    job.kind(number) == Some(StageKind::Function)
+}
+
+/// Whether the stage of this number is an output.
+pub(crate) fn is_output(job: &Job, number: usize) -> bool
+    ensures { result ≡ is_output (pipeline_in job.now) number }
+{
+    match job.output() {
+        Some(output) => is_among(output.stages(), number),
+        None => false,
+    }
+}
+
+fn is_among(numbers: &[usize], number: usize) -> bool
+    ensures { result ≡ list_any (λ n. n == number) numbers.now }
+{
+    numbers.iter().any(|other| *other == number)
+}

@@ -1,0 +1,10 @@
+use Rattle.job.specs.Kept.{pipeline_in}
+use Rattle.tile_run.specs.Stored.{stored_tiles}
+use Rattle.accumulators.proofs.Tiling.{whole}
+use Rattle.library_tests.proofs.given.compare_both.Goals as goal
+
+pub compare-requires-clause-whole : goal.compare-requires-clause-whole
+compare-requires-clause-whole c = whole (pipeline_in c.args.job.now) (stored_tiles c.in_ok-stored.stored.stages.items) c.in_ok-stored.ensures.values
+
+pub compare-requires-2-clause-whole : goal.compare-requires-2-clause-whole
+compare-requires-2-clause-whole c = whole (pipeline_in c.args.job.now) (stored_tiles c.in_ok-stored.stored.stages.items) c.in_ok-stored.ensures.values

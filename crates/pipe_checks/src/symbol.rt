@@ -1,0 +1,146 @@
+#![tactic(auto)]
+//! The names that the items of a program declare.
+
+ghost use Rattle.std.specs.Prelude.{◌≡◌, ◌++◌, ◌∷◌, [], ◌==◌, OnOk, IfOk, filter, not};
+ghost use Rattle.std.specs.Str.{bytes_eq};
+ghost use Rattle.pipe_tree.specs.Tree.{declaration, declarations};
+ghost use Rattle.pipe_checks.specs.Names.{number_of, names_of, item_names, names_from, is_param, stages_of, declared_at};
+
+use pipe_tokens::Name;
+use pipe_tree::{Item, Names};
+use std::alloc::{AllocError, Global};
+
+/// What a declared name stands for.
+#[derive(Clone, Copy, Debug, PartialEq, Eq)]
+pub enum NameKind {
+    Param,
+    Plane,
+    Func,
+    Accum,
+}
+
+/// A name, what it stands for, and the number of the item that declares it.
+#[derive(Clone, Copy, Debug)]
+pub struct Symbol {
+    pub name: Name,
+    pub kind: NameKind,
+    pub item: usize,
+}
+
+/// Whether two names have the same bytes.
+pub fn is_same(left: &Name, right: &Name) -> bool
+    ensures { result ≡ bytes_eq left.now right.now }
+{
+    left.as_bytes() == right.as_bytes()
+}
+
+fn declare(
+    names: &mut Vec<Symbol>,
+    name: &Name,
+    kind: NameKind,
+    item: usize,
+) -> Result<(), AllocError>
+    ensures { OnOk result (names.new.items ≡ names.old.items ++ record { name = name.now; kind = kind; item = item } ∷ []) }
+{
+    names.push(Symbol {
+        name: *name,
+        kind,
+        item,
+    })?;
+    Ok(())
+}
+
+fn declare_planes(names: &mut Vec<Symbol>, planes: &Names, item: usize) -> Result<(), AllocError>
+    ensures { OnOk result (names.new.items ≡ names.old.items ++ names_of item planes.now) }
+{
+    match planes {
+        Names::One(name) => declare(names, name, NameKind::Plane, item),
+        Names::Three(red, green, blue) => {
+            declare(names, red, NameKind::Plane, item)?;
+            declare(names, green, NameKind::Plane, item)?;
+            declare(names, blue, NameKind::Plane, item)
+        }
+    }
+}
+
+fn declare_item(names: &mut Vec<Symbol>, item: &Item, number: usize) -> Result<(), AllocError>
+    ensures { OnOk result (names.new.items ≡ names.old.items ++ item_names number (declaration item.now)) }
+{
+    match item {
+        Item::Param(param) => declare(names, &param.name, NameKind::Param, number),
+        Item::Image(image) => declare_planes(names, &image.names, number),
+        Item::Func(func) => declare(names, &func.name, NameKind::Func, number),
+        Item::Accum(accum) => declare(names, &accum.name, NameKind::Accum, number),
+        Item::Output(_) => Ok(()),
+    }
+}
+
+/// The declared names in the order of the text.
+pub(crate) fn declared_names(alloc: Global, items: &[Item]) -> Result<Vec<Symbol>, AllocError>
+    ensures { IfOk result (λ v. v.items ≡ names_from 0 (declarations items.now)) }
+{
+    let mut names = Vec::new(alloc);
+    for (number, item) in items.iter().enumerate() {
+        declare_item(&mut names, item, number)?;
+    }
+    Ok(names)
+}
+
+fn is_param(kind: NameKind) -> bool
+    ensures { result ≡ is_param kind }
+{
+    match kind {
+        NameKind::Param => true,
+        NameKind::Plane | NameKind::Func | NameKind::Accum => false,
+    }
+}
+
+/// The parameters among the names.
+pub(crate) fn params_of(alloc: Global, names: &[Symbol]) -> Result<Vec<Symbol>, AllocError>
+    ensures { IfOk result (λ v. v.items ≡ filter (λ d. is_param d.kind) names.now) }
+{
+    names
+        .iter()
+        .filter(|name| is_param(name.kind))
+        .copied()
+        .collect(alloc)
+}
+
+/// The stages among the names.
+pub(crate) fn stages_of(alloc: Global, names: &[Symbol]) -> Result<Vec<Symbol>, AllocError>
+    ensures { IfOk result (λ v. v.items ≡ filter (λ d. not (is_param d.kind)) names.now) }
+{
+    names
+        .iter()
+        .filter(|name| !is_param(name.kind))
+        .copied()
+        .collect(alloc)
+}
+
+/// The number of the first of the names that is this one.
+pub fn number_of(names: &[Symbol], name: &Name) -> Option<usize>
+    ensures { result ≡ number_of names.now name.now }
+{
+    names
+        .iter()
+        .position(|declared| is_same(&declared.name, name))
+}
+
+/// The first of the names that is this one.
+pub(crate) fn declared_at(names: &[Symbol], name: &Name) -> Option<Symbol>
+    ensures { result ≡ declared_at names.now name.now }
+{
+    match number_of(names, name) {
+        Some(number) => names.get(number).copied(),
+        None => None,
+    }
+}
+
+/// The stages that the items declare, in the order of the text. A stage's number is its place here, also in a fault of a
+/// program that `check` refuses.
+pub fn declared_stages(alloc: Global, items: &[Item]) -> Result<Vec<Symbol>, AllocError>
+    ensures { IfOk result (λ v. v.items ≡ stages_of (declarations items.now)) }
+{
+    let names = declared_names(alloc, items)?;
+    stages_of(alloc, &names)
+}

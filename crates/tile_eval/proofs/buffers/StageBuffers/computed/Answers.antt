@@ -1,0 +1,90 @@
+use Rattle.std.proofs.Common.{◌≡◌, ◌<◌, ℤ, Some, map, length, slice_get, subst, sym, ap, ◌∙◌}
+use Rattle.std.specs.Prelude.{All}
+use Rattle.std.specs.Global.{Vec}
+use Rattle.std.specs.Option.{option_map}
+use Rattle.std.proofs.lemmas.Result.{IfOk-weaker}
+use Rattle.domains.specs.Area.{HoldsPoint}
+use Rattle.domains.specs.declared.area.Area.{Area}
+use Rattle.netpbm.specs.Image.{Image}
+use Rattle.job.specs.Boxes.{AreBoxed}
+use Rattle.job.specs.Kept.{pipeline_in}
+use Rattle.job.specs.Pipeline.{Body, Stage, Pipeline, plane, function, rank_of}
+use Rattle.job.specs.Reads.{BodyReads, formulas_of}
+use Rattle.job.specs.Values.{sample_at}
+use Rattle.job.specs.Views.{case_view, formula_view, body_view, stage_view}
+use Rattle.job.specs.WellFormed.{InDomainRange, IsBody, IsFormula, picture_area}
+use Rattle.tile_eval.specs.Cases.{function_value}
+use Rattle.tile_eval.specs.Buffer.{raster, stage_values, sample_in, IsKnownAt}
+use Rattle.tile_eval.proofs.Knowing.{known_at, reads_below, functions_known, planes_known, stage_values_is}
+use Rattle.tile_eval.proofs.buffers.StageBuffers.computed.Goals as goal
+
+pub plane_values-requires : goal.plane_values-requires
+plane_values-requires c =
+    let job : Pipeline = pipeline_in c.args.job.now in
+    let s : Stage = stage_view c.in-Some.stage.now in
+    let there : slice_get job.stages c.args.number ≡ Some s = sym c.in-Some.ensures in
+    let is : s.body ≡ plane c.in-Plane.plane = ap body_view (sym c.body.ensures ∙ c.in-Plane.is) in
+    subst (λ (p : Image). c.in-Plane.plane < length p.planes) (sym c.picture.ensures) (subst (IsBody job.picture s.domain) is (c.requires.job.stages c.args.number s there).body).0
+
+pub function_values-requires-clause-rows : goal.function_values-requires-clause-rows
+function_values-requires-clause-rows c =
+    subst (λ (a : Area). InDomainRange a.rows) (sym c.domain.ensures) (c.requires.job.stages c.args.number (stage_view c.in-Some.stage.now) (sym c.in-Some.ensures)).rows
+
+pub function_values-requires-clause-cols : goal.function_values-requires-clause-cols
+function_values-requires-clause-cols c =
+    subst (λ (a : Area). InDomainRange a.cols) (sym c.domain.ensures) (c.requires.job.stages c.args.number (stage_view c.in-Some.stage.now) (sym c.in-Some.ensures)).cols
+
+pub function_values-requires-clause-tests : goal.function_values-requires-clause-tests
+function_values-requires-clause-tests c =
+    let s : Stage = stage_view c.in-Some.stage.now in
+    subst (IsBody (pipeline_in c.args.job.now).picture s.domain) (ap body_view (sym c.body.ensures ∙ c.in-Function.is)) (c.requires.job.stages c.args.number s (sym c.in-Some.ensures)).body
+
+pub function_values-requires-clause-formulas : goal.function_values-requires-clause-formulas
+function_values-requires-clause-formulas c =
+    let s : Stage = stage_view c.in-Some.stage.now in
+    subst (λ (b : Body). All IsFormula (formulas_of b)) (ap body_view (sym c.body.ensures ∙ c.in-Function.is)) (c.requires.job.stages c.args.number s (sym c.in-Some.ensures)).formulas
+
+pub function_values-requires-clause-boxes : goal.function_values-requires-clause-boxes
+function_values-requires-clause-boxes c =
+    let s : Stage = stage_view c.in-Some.stage.now in
+    subst (AreBoxed c.domain.result.now) (ap body_view (sym c.body.ensures ∙ c.in-Function.is))
+    (subst (λ (a : Area). AreBoxed a s.body) (sym c.domain.ensures) (c.requires.job.stages c.args.number s (sym c.in-Some.ensures)).boxes)
+
+pub function_values-requires-clause-reads : goal.function_values-requires-clause-reads
+function_values-requires-clause-reads c =
+    let job : Pipeline = pipeline_in c.args.job.now in
+    let s : Stage = stage_view c.in-Some.stage.now in
+    let buffers = c.args.self.now.buffers.items in
+    λ r k inside.
+    subst (λ (b : Body). BodyReads (IsKnownAt buffers) b r k) (ap body_view (sym c.body.ensures ∙ c.in-Function.is))
+    (reads_below job c.requires.job (IsKnownAt buffers) c.args.number s (sym c.in-Some.ensures)
+    (known_at job (rank_of job.stages c.args.number) buffers c.requires.lower) r k
+    (subst (λ (a : Area). HoldsPoint a r k) c.domain.ensures inside))
+
+pub returns-in-Plane : goal.returns-in-Plane
+returns-in-Plane c =
+    let job : Pipeline = pipeline_in c.args.job.now in
+    let s : Stage = stage_view c.in-Some.stage.now in
+    let there : slice_get job.stages c.args.number ≡ Some s = sym c.in-Some.ensures in
+    let is : s.body ≡ plane c.in-Plane.plane = ap body_view (sym c.body.ensures ∙ c.in-Plane.is) in
+    IfOk-weaker c.plane_values.result _ (λ (values : Vec ℤ). values.items ≡ stage_values job c.args.number) (λ values e.
+    e ∙ ap (λ (p : Image). raster (picture_area p) (sample_at p c.in-Plane.plane)) c.picture.ensures
+    ∙ planes_known job c.requires.job c.args.number s there c.in-Plane.plane is
+    ∙ sym (stage_values_is job c.args.number s there))
+    c.plane_values.ensures
+
+pub returns-in-Function : goal.returns-in-Function
+returns-in-Function c =
+    let job : Pipeline = pipeline_in c.args.job.now in
+    let s : Stage = stage_view c.in-Some.stage.now in
+    let there : slice_get job.stages c.args.number ≡ Some s = sym c.in-Some.ensures in
+    let f = c.in-Function.function in
+    let cases = map case_view f.cases.items in
+    let otherwise = option_map formula_view f.otherwise in
+    let is : s.body ≡ function cases otherwise = ap body_view (sym c.body.ensures ∙ c.in-Function.is) in
+    let buffers = c.args.self.now.buffers.items in
+    IfOk-weaker c.function_values.result _ (λ (values : Vec ℤ). values.items ≡ stage_values job c.args.number) (λ values e.
+    e ∙ ap (λ (a : Area). raster a (function_value (λ g r k. sample_in (slice_get buffers g) r k) cases otherwise)) c.domain.ensures
+    ∙ functions_known job c.requires.job c.args.number s there buffers c.requires.lower cases otherwise is
+    ∙ sym (stage_values_is job c.args.number s there))
+    c.function_values.ensures

@@ -1,0 +1,20 @@
+use Rattle.std.proofs.Common.{rules, ℤ, pos, FitsSigned, ◌+ℤ◌, ap, ◌∙◌, w32}
+use Rattle.std.proofs.lemmas.Int.{to_z-of_z}
+use Rattle.domains.specs.Index.{index_at}
+use Rattle.tile_eval.specs.Rows.{at}
+use Rattle.tile_eval.specs.Buffer.{place_of}
+use Rattle.tile_eval.proofs.Places.{known_within, known_sample}
+use Rattle.tile_eval.proofs.lending.StageBuffersRowSource.gather.Goals as goal
+
+pub gather-requires-clause-there : goal.gather-requires-clause-there
+gather-requires-clause-there c =
+    let row : FitsSigned w32 c.args.row = search rules in
+    rw (to_z-of_z w32 c.args.row row) (λ k h.
+    known_within c.args.self.now.buffers.items c.args.stage c.in-Some.whole.now c.block.result.area _ _ c.in-Some.ensures.some c.block.ensures.area (c.requires.there k h))
+
+pub returns-in-Some : goal.returns-in-Some
+returns-in-Some c = λ k h.
+    let row : FitsSigned w32 c.args.row = search rules in
+    known_sample c.args.self.now.buffers.items c.args.stage c.in-Some.whole.now c.block.result.area c.block.result.values.now c.args.row (index_at c.args.col.now (c.args.start.now.col +ℤ pos k)) _ c.in-Some.ensures.some c.block.ensures.area c.block.ensures.values
+    (c.gather.ensures k h
+    ∙ ap (λ (r : ℤ). at c.block.result.values.now (place_of c.block.result.area r (index_at c.args.col.now (c.args.start.now.col +ℤ pos k)))) (to_z-of_z w32 c.args.row row))

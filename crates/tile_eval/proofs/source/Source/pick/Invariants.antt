@@ -1,7 +1,0 @@
-use Rattle.std.proofs.Common.{◌≡◌, ◌+ℤ◌, pos}
-use Rattle.domains.specs.Index.{index_at}
-use Rattle.tile_eval.specs.Rows.{EachPlace, at}
-use Rattle.tile_eval.proofs.source.Source.pick.Given as goal
-
-abbrev pub invariant-loop-k : goal.invariant-loop-k
-invariant-loop-k g l = EachPlace l.k (λ j. at l.out j ≡ g.Self.Source.sample l.fn.self l.fn.stage l.fn.row (index_at l.fn.col (l.fn.start.col +ℤ pos j)))

@@ -1,0 +1,124 @@
+#![tactic(auto)]
+//! Functions by cases along rows of points.
+
+ghost use Rattle.std.specs.Prelude.{◌≡◌, ◌≤◌, ◌<◌, ◌+ℤ◌, ◌≤ℤ◌, ◌↔◌, ℕ, pos, length, map, All, IfSome, IfNone, if◌then◌else◌};
+ghost use Rattle.std.specs.Option.{option_map, option_map_or, ForSome};
+ghost use Rattle.domains.specs.Area.{HoldsPoint};
+ghost use Rattle.job.specs.Values.{all_passed, formula_value};
+ghost use Rattle.job.specs.Reads.{EachRead};
+ghost use Rattle.job.specs.WellFormed.{IsFormula};
+ghost use Rattle.job.specs.Views.{case_view, formula_view};
+ghost use Rattle.tile_eval.specs.Rows.{EachPlace, at};
+ghost use Rattle.tile_eval.specs.Reading.{HasRoom};
+ghost use Rattle.tile_eval.specs.Cases.{InBox, IsReady, IsRoomy, function_value};
+
+use crate::guards::{RowMask, take_where, where_passed};
+use crate::kernels::fill;
+use crate::rows::row;
+use crate::source::RowSource;
+use crate::start::RowStart;
+use domains::Area;
+use job::{Formula, JobCase};
+
+// From where and up to where a row of points lies in an area.
+fn overlap(area: &Area, start: &RowStart, n: usize) -> Option<(usize, usize)>
+    requires some { 0 < n }
+    requires most { (start.now.col +ℤ pos n) ≤ℤ pos 16385 }
+    ensures some { IfSome result (λ p. (p.0 < p.1) × (p.1 ≤ n)) }
+    ensures inside { IfSome result (λ p. (k : ℕ) → k < n → HoldsPoint area.now start.now.row (start.now.col +ℤ pos k) ↔ ((p.0 ≤ k) × (k < p.1))) }
+    ensures none { IfNone result ((k : ℕ) → k < n → ¬ (HoldsPoint area.now start.now.row (start.now.col +ℤ pos k))) }
+{
+    if !area.rows.holds(start.row) {
+        return None;
+    }
+    let points = start.span(n)?;
+    let common = area.cols.meet(&points)?;
+    Some((start.gap(common.lo()), start.gap(common.hi()) + 1))
+}
+
+// A case over a row that lies in its box.
+fn part_row<S: RowSource>(
+    source: &S,
+    case: &JobCase,
+    start: &RowStart,
+    out: &mut [i32],
+    temps: &mut [i32],
+)
+    requires some { 0 < length out.old }
+    requires most { (start.now.col +ℤ pos (length out.old)) ≤ℤ pos 16385 }
+    requires inside { EachPlace (length out.old) (λ k. InBox (case_view case.now).box start.now.row (start.now.col +ℤ pos k)) }
+    requires ready { EachPlace (length out.old) (λ k. IsReady (S.has source.now) (case_view case.now) start.now.row (start.now.col +ℤ pos k)) }
+    requires roomy { IsRoomy (length out.old) (length temps.old) (case_view case.now) }
+    ensures { EachPlace (length out.old) (λ k. at out.new k ≡ (if all_passed (case_view case.now).tests start.now.row (start.now.col +ℤ pos k) then formula_value (S.samples source.now) (case_view case.now).formula start.now.row (start.now.col +ℤ pos k) else at out.old k)) }
+{
+    match where_passed(case.tests(), start) {
+        RowMask::Nowhere => {}
+        RowMask::Everywhere => row(source, case.formula(), start, out, temps),
+        passed => {
+            let (mine, rest) = temps.split_at_mut(out.len());
+            row(source, case.formula(), start, mine, rest);
+            take_where(out, mine, case.tests(), passed, start);
+        }
+    }
+}
+
+/// Takes the values of a case along a row of points, where its tests hold.
+pub fn case_row<S: RowSource>(
+    source: &S,
+    case: &JobCase,
+    start: &RowStart,
+    out: &mut [i32],
+    temps: &mut [i32],
+)
+    requires most { (start.now.col +ℤ pos (length out.old)) ≤ℤ pos 16385 }
+    requires some { 0 < length out.old }
+    requires case { EachPlace (length out.old) (λ k. IsReady (S.has source.now) (case_view case.now) start.now.row (start.now.col +ℤ pos k)) × IsRoomy (length out.old) (length temps.old) (case_view case.now) }
+    ensures { EachPlace (length out.old) (λ k. at out.new k ≡ (if all_passed (case_view case.now).tests start.now.row (start.now.col +ℤ pos k) then formula_value (S.samples source.now) (case_view case.now).formula start.now.row (start.now.col +ℤ pos k) else at out.old k)) }
+{
+    let Some(area) = case.area() else {
+        return;
+    };
+    if let Some((from, to)) = overlap(area, start, out.len()) {
+        part_row(source, case, &start.behind(from), &mut out[from..to], temps);
+    }
+}
+
+// What holds where no case does: 0 if nothing is said.
+fn other_row<S: RowSource>(
+    source: &S,
+    otherwise: &Option<Formula>,
+    start: &RowStart,
+    out: &mut [i32],
+    temps: &mut [i32],
+)
+    requires some { 0 < length out.old }
+    requires most { (start.now.col +ℤ pos (length out.old)) ≤ℤ pos 16385 }
+    requires other { ForSome (option_map formula_view otherwise.now) (λ f. EachPlace (length out.old) (λ k. EachRead (S.has source.now) f start.now.row (start.now.col +ℤ pos k)) × IsFormula f × HasRoom f (length out.old) (length temps.old)) }
+    ensures { EachPlace (length out.old) (λ k. at out.new k ≡ option_map_or (λ f. formula_value (S.samples source.now) f start.now.row (start.now.col +ℤ pos k)) (option_map formula_view otherwise.now) (pos 0)) }
+{
+    match otherwise {
+        Some(formula) => row(source, formula, start, out, temps),
+        None => fill(out, 0),
+    }
+}
+
+/// The values of a function along a row of points: first what holds elsewhere, then the cases from the last to the first.
+pub fn cases_row<S: RowSource>(
+    source: &S,
+    cases: &[JobCase],
+    otherwise: &Option<Formula>,
+    start: &RowStart,
+    out: &mut [i32],
+    temps: &mut [i32],
+)
+    requires some { 0 < length out.old }
+    requires most { (start.now.col +ℤ pos (length out.old)) ≤ℤ pos 16385 }
+    requires cases { All (λ p. EachPlace (length out.old) (λ k. IsReady (S.has source.now) (case_view p) start.now.row (start.now.col +ℤ pos k)) × IsRoomy (length out.old) (length temps.old) (case_view p)) cases.now }
+    requires other { ForSome (option_map formula_view otherwise.now) (λ f. EachPlace (length out.old) (λ k. EachRead (S.has source.now) f start.now.row (start.now.col +ℤ pos k)) × IsFormula f × HasRoom f (length out.old) (length temps.old)) }
+    ensures { EachPlace (length out.old) (λ k. at out.new k ≡ function_value (S.samples source.now) (map case_view cases.now) (option_map formula_view otherwise.now) start.now.row (start.now.col +ℤ pos k)) }
+{
+    other_row(source, otherwise, start, out, temps);
+    for i in (0..cases.len()).rev() {
+        case_row(source, &cases[i], start, out, temps);
+    }
+}

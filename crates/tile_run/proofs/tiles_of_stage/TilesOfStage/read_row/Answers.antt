@@ -1,0 +1,43 @@
+use Rattle.std.proofs.Common.{rules, arith, ℤ, ◌≡◌, ◌<◌, ◌+ℤ◌, pos, length, w32, FitsSigned, ◌∙◌, to_z, of_z}
+use Rattle.std.proofs.lemmas.Int.{ints, to_z-of_z}
+use Rattle.tile_run.specs.KnownTiles.{number_at}
+use Rattle.tile_run.specs.Tiles.{IsGivenAt}
+use Rattle.tile_run.proofs.Borders.{row_goes_on, still_most, rest_held}
+use Rattle.tile_run.proofs.tiles_of_stage.TilesOfStage.read_row.Goals as goal
+
+pub behind-requires-clause-most : goal.behind-requires-clause-most
+behind-requires-clause-most g c =
+    let first : FitsSigned w32 c.args.first = search rules in
+    let within : c.loop-done.done < length c.args.out.now = omega (arith, c.loop-done.auto.out) in
+    let there = (c.requires.there c.loop-done.done within).0.1.1 in
+    let most = c.args.self.now.area.cols.most in
+    rw (to_z-of_z w32 c.args.first first) (omega (arith, ints))
+
+pub part-done-requires-clause-there : goal.part-done-requires-clause-there
+part-done-requires-clause-there g c =
+    let row : FitsSigned w32 c.args.row = search rules in
+    let fits : FitsSigned w32 c.behind.result = search rules in
+    let column : c.behind.result ≡ c.args.first +ℤ pos c.loop-done.done = search rules in
+    rw (to_z-of_z w32 c.args.row row)
+    (rest_held c.args.first (to_z w32 (of_z w32 c.behind.result)) c.loop-done.done c.loop-done.out c.loop-done.invariant.most (to_z-of_z w32 c.behind.result fits ∙ column)
+    (λ (z : ℤ). IsGivenAt (g.K.Known.given c.args.self.now.known.now) c.args.self.now.stage c.args.self.now.grid c.args.row z) (length c.args.out.now) c.loop-done.auto.out c.requires.there)
+
+pub loop-done-preserved : goal.loop-done-preserved
+loop-done-preserved g c =
+    let fits : FitsSigned w32 c.behind.result = search rules in
+    let column : to_z w32 (of_z w32 c.behind.result) ≡ to_z w32 (of_z w32 c.args.first) +ℤ pos c.loop-done.done = to_z-of_z w32 c.behind.result fits ∙ c.behind.ensures in
+    record {
+      most = still_most (to_z w32 (of_z w32 c.args.first)) (to_z w32 (of_z w32 c.behind.result)) c.loop-done.done c.loop-done.out c.loop-done.invariant.most column c.part-done.new.out c.part-done.result c.part-done.auto.out c.part-done.ensures.most;
+      numbers =
+          row_goes_on (to_z w32 (of_z w32 c.args.first)) (to_z w32 (of_z w32 c.behind.result)) c.loop-done.done c.loop-done.out c.loop-done.invariant.most column c.part-done.new.out c.part-done.result c.part-done.auto.out c.part-done.ensures.most
+          (number_at (g.K.Known.given c.args.self.now.known.now) c.args.self.now.stage c.args.self.now.grid (to_z w32 (of_z w32 c.args.row))) c.loop-done.invariant.numbers c.part-done.ensures.numbers;
+    }
+
+pub returns : goal.returns
+returns g c = λ k h.
+    let past = c.loop-done-test.false in
+    let row : FitsSigned w32 c.args.row = search rules in
+    let first : FitsSigned w32 c.args.first = search rules in
+    let f : ℤ → ℤ → ℤ = number_at (g.K.Known.given c.args.self.now.known.now) c.args.self.now.stage c.args.self.now.grid in
+    c.loop-done.invariant.numbers k (omega (arith, c.loop-done.auto.out))
+    ∙ (λ i. f (to_z-of_z w32 c.args.row row i) (to_z-of_z w32 c.args.first first i +ℤ pos k))

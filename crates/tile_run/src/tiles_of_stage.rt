@@ -1,0 +1,182 @@
+#![tactic(auto)]
+//! Rows and points of tiles that are given.
+
+ghost use Rattle.std.specs.Prelude.{◌≡◌, ◌≤◌, ◌<◌, ◌+ℤ◌, ◌≤ℤ◌, pos, length, IfSome, IfNone};
+ghost use Rattle.domains.specs.Area.{HoldsPoint, IsArea};
+ghost use Rattle.domains.specs.Index.{index_at};
+ghost use Rattle.domains.specs.Span.{Holds};
+ghost use Rattle.tile_eval.specs.Rows.{EachPlace, at};
+ghost use Rattle.tile_eval.specs.Buffer.{place_of};
+ghost use Rattle.tile_run.specs.KnownTiles.{number_at, HasWholeTiles};
+ghost use Rattle.tile_run.specs.Tiles.{IsGivenAt, IsTileAbout};
+
+use crate::known::Known;
+use domains::{Grid, Index, Span};
+use tile_eval::{BufferView, RowStart};
+
+/// The tiles of one stage that are given.
+#[derive(Drop)]
+pub(crate) struct TilesOfStage<'a, K: Known> {
+    pub(crate) known: &'a K,
+    pub(crate) stage: usize,
+    pub(crate) grid: Grid,
+    ghost area: { IsArea grid.area },
+    ghost whole: { HasWholeTiles (K.given known.now) stage grid },
+}
+
+// The number `k` behind `first`.
+#[inline]
+#[tactic(auto, using(std::proofs::lemmas::Int::ints))]
+fn behind(first: i32, k: usize) -> i32
+    requires few { k ≤ 100000 }
+    requires most { first ≤ℤ pos 1048576 }
+    ensures { result ≡ first +ℤ pos k }
+{
+    first + k as i32
+}
+
+// How many numbers of a span there are from this one on, but at most so many.
+#[tactic(auto, using(std::proofs::lemmas::Int::ints))]
+fn reach(span: &Span, first: i32, most: usize) -> usize
+    requires held { Holds span.now first }
+    requires some { 0 < most }
+    ensures some { 0 < result }
+    ensures most { result ≤ most }
+    ensures within { (first +ℤ pos result) ≤ℤ (span.now.hi +ℤ pos 1) }
+{
+    most.min((span.hi() - first) as usize + 1)
+}
+
+// How many columns, from the first on, an index takes into a span, but at most so many. An index never falls: it takes the columns
+// between two that it takes into the span there too, so the last is found by halving.
+fn taken(span: &Span, col: &Index, start: &RowStart, most: usize) -> usize
+    requires held { Holds span.now (index_at col.now start.now.col) }
+    requires some { 0 < most }
+    requires most { (start.now.col +ℤ pos most) ≤ℤ pos 16385 }
+    ensures some { 0 < result }
+    ensures most { result ≤ most }
+    ensures within { EachPlace result (λ k. Holds span.now (index_at col.now (start.now.col +ℤ pos k))) }
+{
+    let mut held = 1;
+    let mut end = most;
+    while held < end {
+        let middle = held + (end - held) / 2;
+        if span.holds(col.at(start.column(middle))) {
+            held = middle + 1;
+        } else {
+            end = middle;
+        }
+    }
+    held
+}
+
+// So many numbers of a block along a row, from a column on, if its columns go so far.
+fn slice_of<'a>(block: &BufferView<'a>, row: i32, first: i32, count: usize) -> Option<&'a [i32]>
+    requires { HoldsPoint block.now.area row first }
+    ensures count { IfSome result (λ line. length line.now ≡ count) }
+    ensures held { IfSome result (λ line. EachPlace count (λ k. HoldsPoint block.now.area row (first +ℤ pos k))) }
+    ensures values { IfSome result (λ line. EachPlace count (λ k. at line.now k ≡ at block.now.values.now (place_of block.now.area row (first +ℤ pos k)))) }
+{
+    if count == 0 || reach(block.columns(), first, count) < count {
+        return None;
+    }
+    Some(block.slice(row, first, count))
+}
+
+impl<'a, K: Known> TilesOfStage<'a, K> {
+    // The tile in which a point lies, if it is given.
+    fn block(&self, row: i32, col: i32) -> Option<BufferView<'a>>
+        ensures some { IfSome result (IsTileAbout (K.given self.now.known.now) self.now.stage self.now.grid row col) }
+        ensures none { IfNone result (¬ (IsGivenAt (K.given self.now.known.now) self.now.stage self.now.grid row col)) }
+    {
+        let (i, j) = self.grid.tile_of(row, col)?;
+        let area = self.grid.tile(i, j)?;
+        let numbers = self.known.tile(self.stage, i, j)?;
+        Some(BufferView::new(area, numbers))
+    }
+
+    // Writes the numbers along a row as far as the tile of its first point goes, and tells how many these are.
+    fn part(&self, row: i32, first: i32, out: &mut [i32]) -> usize
+        requires some { 0 < length out.old }
+        requires short { length out.old ≤ 100000 }
+        requires there { EachPlace (length out.old) (λ k. IsGivenAt (K.given self.now.known.now) self.now.stage self.now.grid row (first +ℤ pos k)) }
+        ensures some { 0 < result }
+        ensures most { result ≤ length out.old }
+        ensures numbers { EachPlace result (λ k. at out.new k ≡ number_at (K.given self.now.known.now) self.now.stage self.now.grid row (first +ℤ pos k)) }
+    {
+        match self.block(row, first) {
+            Some(block) => {
+                let count = reach(block.columns(), first, out.len());
+                block.read_row(row, first, &mut out[..count]);
+                count
+            }
+            None => out.len(),
+        }
+    }
+
+    /// Writes the numbers along a row, from a column on.
+    pub(crate) fn read_row(&self, row: i32, first: i32, out: &mut [i32])
+        requires short { length out.old ≤ 100000 }
+        requires there { EachPlace (length out.old) (λ k. IsGivenAt (K.given self.now.known.now) self.now.stage self.now.grid row (first +ℤ pos k)) }
+        ensures { EachPlace (length out.old) (λ k. at out.new k ≡ number_at (K.given self.now.known.now) self.now.stage self.now.grid row (first +ℤ pos k)) }
+    {
+        let mut done = 0;
+        while done < out.len() {
+            done += self.part(row, behind(first, done), &mut out[done..]);
+        }
+    }
+
+    // Writes the numbers along a row, at the columns that an index takes, as far as the tile of the first of them goes, and tells
+    // how many these are.
+    fn pick_part(&self, row: i32, col: &Index, start: &RowStart, out: &mut [i32]) -> usize
+        requires some { 0 < length out.old }
+        requires most { (start.now.col +ℤ pos (length out.old)) ≤ℤ pos 16385 }
+        requires there { EachPlace (length out.old) (λ k. IsGivenAt (K.given self.now.known.now) self.now.stage self.now.grid row (index_at col.now (start.now.col +ℤ pos k))) }
+        ensures some { 0 < result }
+        ensures most { result ≤ length out.old }
+        ensures numbers { EachPlace result (λ k. at out.new k ≡ number_at (K.given self.now.known.now) self.now.stage self.now.grid row (index_at col.now (start.now.col +ℤ pos k))) }
+    {
+        match self.block(row, start.col_at(col)) {
+            Some(block) => {
+                let count = taken(block.columns(), col, start, out.len());
+                block.gather(row, col, start, &mut out[..count]);
+                count
+            }
+            None => out.len(),
+        }
+    }
+
+    /// Writes the numbers along a row, at the columns that an index takes at columns from a start on.
+    pub(crate) fn gather(&self, row: i32, col: &Index, start: &RowStart, out: &mut [i32])
+        requires most { (start.now.col +ℤ pos (length out.old)) ≤ℤ pos 16385 }
+        requires there { EachPlace (length out.old) (λ k. IsGivenAt (K.given self.now.known.now) self.now.stage self.now.grid row (index_at col.now (start.now.col +ℤ pos k))) }
+        ensures { EachPlace (length out.old) (λ k. at out.new k ≡ number_at (K.given self.now.known.now) self.now.stage self.now.grid row (index_at col.now (start.now.col +ℤ pos k))) }
+    {
+        let mut done = 0;
+        while done < out.len() {
+            done += self.pick_part(row, col, &start.behind(done), &mut out[done..]);
+        }
+    }
+
+    /// The numbers along a row, from a column on, where one tile has them all.
+    pub(crate) fn borrow_row(&self, row: i32, first: i32, count: usize) -> Option<&'a [i32]>
+        requires { EachPlace count (λ k. IsGivenAt (K.given self.now.known.now) self.now.stage self.now.grid row (first +ℤ pos k)) }
+        ensures { IfSome result (λ line. (length line.now ≡ count) × EachPlace count (λ k. at line.now k ≡ number_at (K.given self.now.known.now) self.now.stage self.now.grid row (first +ℤ pos k))) }
+    {
+        match self.block(row, first) {
+            Some(block) => slice_of(&block, row, first, count),
+            None => None,
+        }
+    }
+
+    /// The number of a point.
+    pub(crate) fn sample(&self, row: i32, col: i32) -> i32
+        requires { IsGivenAt (K.given self.now.known.now) self.now.stage self.now.grid row col }
+        ensures { result ≡ number_at (K.given self.now.known.now) self.now.stage self.now.grid row col }
+    {
+        match self.block(row, col) {
+            Some(block) => block.sample(row, col),
+            None => 0,
+        }
+    }
+}
