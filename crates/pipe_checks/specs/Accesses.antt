@@ -5,13 +5,13 @@ use Rattle.pipe_tree.specs.Tree.{Node, number, variable, read, neg, binary, lite
 use Rattle.pipe_checks.specs.declared.symbol.NameKind.{NameKind}
 use Rattle.pipe_checks.specs.declared.symbol.NameKind.TheVariants.{Param, Plane, Func, Accum}
 use Rattle.pipe_checks.specs.declared.symbol.Symbol.{Symbol}
-use Rattle.pipe_checks.specs.declared.site.Site.{Site}
-use Rattle.pipe_checks.specs.declared.site.Site.TheVariants.{Read, Stencil}
+use Rattle.pipe_checks.specs.declared.access.Access.{Access}
+use Rattle.pipe_checks.specs.declared.access.Access.TheVariants.{Read, Stencil}
 use Rattle.pipe_checks.specs.Links.{Links}
 use Rattle.pipe_checks.specs.Names.{number_of, stages_of}
 
 -- a read of the stage of this number, if there is one
-abbrev pub read_at : Option ℕ → Index → Index → List Site
+abbrev pub read_at : Option ℕ → Index → Index → List Access
 read_at None i j = []
 read_at (Some g) i j = Read g i j ∷ []
 
@@ -21,40 +21,40 @@ width_of [] = 0
 width_of (row ∷ rows) = length row
 
 -- a stencil of the stage of this number, if there is one
-abbrev pub stencil_at : Option ℕ → List (List ℤ) → List Site
+abbrev pub stencil_at : Option ℕ → List (List ℤ) → List Access
 stencil_at None k = []
 stencil_at (Some g) k = Stencil g (length k) (width_of k) ∷ []
 
 -- the reads and stencils of an expression of stages, in the order of the text
-abbrev pub sites_of : List Symbol → Node → List Site
-sites_of names (number n) = []
-sites_of names (variable x) = []
-sites_of names (read x i j) = read_at (number_of names x) i j
-sites_of names (neg a) = sites_of names a
-sites_of names (binary op a b) = sites_of names a ++ sites_of names b
-sites_of names (literal op a n) = sites_of names a
-sites_of names (abs a) = sites_of names a
-sites_of names (clamp a b c) = sites_of names a ++ sites_of names b ++ sites_of names c
-sites_of names (select a r b c d) = sites_of names a ++ sites_of names b ++ sites_of names c ++ sites_of names d
-sites_of names (stencil x d k) = stencil_at (number_of names x) k
+abbrev pub accesses_of : List Symbol → Node → List Access
+accesses_of names (number n) = []
+accesses_of names (variable x) = []
+accesses_of names (read x i j) = read_at (number_of names x) i j
+accesses_of names (neg a) = accesses_of names a
+accesses_of names (binary op a b) = accesses_of names a ++ accesses_of names b
+accesses_of names (literal op a n) = accesses_of names a
+accesses_of names (abs a) = accesses_of names a
+accesses_of names (clamp a b c) = accesses_of names a ++ accesses_of names b ++ accesses_of names c
+accesses_of names (select a r b c d) = accesses_of names a ++ accesses_of names b ++ accesses_of names c ++ accesses_of names d
+accesses_of names (stencil x d k) = stencil_at (number_of names x) k
 
-abbrev pub branch_sites : List Symbol → List Branch → List Site
-branch_sites names [] = []
-branch_sites names (b ∷ bs) = sites_of names b.value ++ branch_sites names bs
+abbrev pub branch_accesses : List Symbol → List Branch → List Access
+branch_accesses names [] = []
+branch_accesses names (b ∷ bs) = accesses_of names b.value ++ branch_accesses names bs
 
-abbrev pub otherwise_sites : List Symbol → Option Node → List Site
-otherwise_sites names None = []
-otherwise_sites names (Some a) = sites_of names a
+abbrev pub otherwise_accesses : List Symbol → Option Node → List Access
+otherwise_accesses names None = []
+otherwise_accesses names (Some a) = accesses_of names a
 
 -- those of all expressions of an item
-abbrev pub item_sites : List Symbol → Declaration → List Site
-item_sites names (param p) = []
-item_sites names (image i) = []
-item_sites names (function f) = branch_sites names f.cases ++ otherwise_sites names f.otherwise
-item_sites names (accumulator a) = sites_of names a.value ++ sites_of names a.bin
-item_sites names (output o) = []
+abbrev pub item_accesses : List Symbol → Declaration → List Access
+item_accesses names (param p) = []
+item_accesses names (image i) = []
+item_accesses names (function f) = branch_accesses names f.cases ++ otherwise_accesses names f.otherwise
+item_accesses names (accumulator a) = accesses_of names a.value ++ accesses_of names a.bin
+item_accesses names (output o) = []
 
-abbrev pub stage_read : Site → ℕ
+abbrev pub stage_read : Access → ℕ
 stage_read (Read g i j) = g
 stage_read (Stencil g rows columns) = g
 
@@ -66,7 +66,7 @@ is_plane Accum = false
 
 abbrev pub reads_of : List Symbol → Option Declaration → List ℕ
 reads_of names None = []
-reads_of names (Some d) = map stage_read (item_sites names d)
+reads_of names (Some d) = map stage_read (item_accesses names d)
 
 -- what a stage reads
 abbrev pub links_of : List Declaration → List Symbol → Symbol → Links
