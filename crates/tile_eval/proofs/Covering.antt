@@ -10,7 +10,7 @@ use Rattle.domains.specs.Span.{Ends, Holds, IsMeet}
 use Rattle.job.specs.Formula.{Formula, Test}
 use Rattle.job.specs.Pipeline.{JobCase}
 use Rattle.job.specs.Values.{Valuation, is_passed, all_passed, formula_value, chosen}
-use Rattle.tile_eval.specs.Rows.{at}
+use Rattle.row_kernels.specs.Rows.{at}
 use Rattle.tile_eval.specs.Cases.{function_value, IsRoomy}
 use Rattle.tile_eval.proofs.Gathering.{room_less}
 
@@ -46,14 +46,7 @@ pub chosen_first : (passed : Bool) (f : Formula) (o : Option Formula) (v : Formu
 chosen_first true f o v = refl
 chosen_first false f o v = refl
 
--- ---- lists of tests and cases
-
--- the tests from one on: that one, and those behind it
-pub passed_step : {X : Type 0} (f : X → Test) (xs : List X) (i : ℕ) (x : X) (r c : ℤ) → i < length xs → x ≡ slice_index_or xs i x
-    → all_passed (map f (drop i xs)) r c ≡ (is_passed (f x) r c && all_passed (map f (drop (suc i) xs)) r c)
-passed_step f [] i x r c l e = absurd (omega arith)
-passed_step f (y ∷ ys) zero x r c l e = ap (λ z. is_passed (f z) r c && all_passed (map f ys) r c) (sym e)
-passed_step f (y ∷ ys) (suc i) x r c l e = passed_step f ys i x r c (omega arith) e
+-- ---- lists of cases
 
 -- the cases from one on
 pub chosen_step : {X : Type 0} (f : X → JobCase) (xs : List X) (i : ℕ) (x : X) (env : Valuation) (otherwise : Option Formula) (r c : ℤ) → i < length xs → x ≡ slice_index_or xs i x

@@ -15,7 +15,7 @@ use Rattle.job.specs.WellFormed.{IsFormula, IsTest, InDomainRange}
 use Rattle.job.proofs.Agreeing.{All-left, All-right}
 use Rattle.job.proofs.BoxLaws.{box_is_cut, passed_in_box}
 use Rattle.job.proofs.Steps.{All-from_map, other_each}
-use Rattle.tile_eval.specs.Rows.{EachPlace, at}
+use Rattle.row_kernels.specs.Rows.{EachPlace, at}
 use Rattle.tile_eval.specs.Reading.{HasRoom}
 use Rattle.tile_eval.specs.Cases.{InBox, IsReady, IsRoomy, HasFunctionRoom, AreBoxedAround}
 use Rattle.tile_eval.specs.Buffer.{raster}

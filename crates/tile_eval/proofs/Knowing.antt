@@ -17,7 +17,7 @@ use Rattle.job.specs.Reads.{Read, point, window, stage_read, EachTaken, SameAt, 
 use Rattle.job.specs.WellFormed.{IsReadable, IsValued, IsBody, IsJob, picture_area}
 use Rattle.job.proofs.Unrolling.{rank_is, reads_fall}
 use Rattle.job.proofs.Solving.{body_value-agrees_there, BodyReads-both, ranked_is, value_solves}
-use Rattle.tile_eval.specs.Rows.{at}
+use Rattle.row_kernels.specs.Rows.{at}
 use Rattle.tile_eval.specs.Cases.{function_value}
 use Rattle.tile_eval.specs.Buffer.{raster, values_on, stage_values, place_of, sample_in, IsKnownAt, IsWholeOf, AreKnown, IsKept}
 use Rattle.tile_eval.specs.declared.buffers.Buffer.{Buffer}

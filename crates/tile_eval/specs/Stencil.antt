@@ -1,11 +1,7 @@
--- Rows of kernels along rows of numbers.
-use Rattle.std.specs.Prelude.{ℕ, ◌+◌, ◌≡◌, ℤ, ◌*ℤ◌, List, length}
+-- What rows of kernels give at points.
+use Rattle.std.specs.Prelude.{ℕ, ◌≡◌, ℤ, ◌*ℤ◌, List, length}
 use Rattle.job.specs.Values.{sum_below, factors, kernel_row, kernel_column}
-use Rattle.tile_eval.specs.Rows.{EachPlace, at}
-
--- the factors times the numbers from place k on, added up exactly
-abbrev pub tap_sum : List ℤ → List ℤ → ℕ → ℤ
-tap_sum stencil line k = sum_below (length stencil) (λ b. at stencil b *ℤ at line (k + b))
+use Rattle.row_kernels.specs.Rows.{EachPlace, at}
 
 -- what row a of a kernel adds at a point
 abbrev pub row_sum : List (List ℤ) → (ℤ → ℤ → ℤ) → ℤ → ℤ → ℕ → ℤ
@@ -14,8 +10,3 @@ row_sum kernel f r c a = sum_below (length (factors kernel a)) (λ b. at (factor
 -- the numbers of the line are the samples under row a of a kernel about the points of row r from column c on
 abbrev pub IsUnder : List (List ℤ) → (ℤ → ℤ → ℤ) → ℤ → ℤ → ℕ → List ℤ → Type 0
 IsUnder kernel f r c a line = EachPlace (length line) (λ j. at line j ≡ f (kernel_row kernel r a) (kernel_column kernel c j))
-
--- three rows of three factors
-pub record Is3x3 (kernel : List (List ℤ)) : Type 0 where
-  pub height : length kernel ≡ 3
-  pub width : EachPlace 3 (λ a. length (factors kernel a) ≡ 3)

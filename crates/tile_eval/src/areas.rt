@@ -6,14 +6,14 @@ ghost use Rattle.std.specs.Option.{option_map, ForSome};
 ghost use Rattle.job.specs.Reads.{EachRead};
 ghost use Rattle.job.specs.WellFormed.{IsFormula};
 ghost use Rattle.job.specs.Views.{case_view, formula_view};
-ghost use Rattle.tile_eval.specs.Rows.{EachPlace, at};
+ghost use Rattle.row_kernels.specs.Rows.{EachPlace, at};
 ghost use Rattle.tile_eval.specs.Reading.{HasRoom};
 ghost use Rattle.tile_eval.specs.Cases.{IsReady, IsRoomy, function_value};
 
 use crate::cases::cases_row;
 use crate::source::RowSource;
-use crate::start::RowStart;
 use job::Function;
+use row_kernels::RowStart;
 
 /// The values of a function over so many rows and columns, row by row.
 pub fn function_area<S: RowSource>(

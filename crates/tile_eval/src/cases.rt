@@ -8,17 +8,15 @@ ghost use Rattle.job.specs.Values.{all_passed, formula_value};
 ghost use Rattle.job.specs.Reads.{EachRead};
 ghost use Rattle.job.specs.WellFormed.{IsFormula};
 ghost use Rattle.job.specs.Views.{case_view, formula_view};
-ghost use Rattle.tile_eval.specs.Rows.{EachPlace, at};
+ghost use Rattle.row_kernels.specs.Rows.{EachPlace, at};
 ghost use Rattle.tile_eval.specs.Reading.{HasRoom};
 ghost use Rattle.tile_eval.specs.Cases.{InBox, IsReady, IsRoomy, function_value};
 
-use crate::guards::{RowMask, take_where, where_passed};
-use crate::kernels::fill;
 use crate::rows::row;
 use crate::source::RowSource;
-use crate::start::RowStart;
 use domains::Area;
 use job::{Formula, JobCase};
+use row_kernels::{RowMask, RowStart, fill, take_where, where_passed};
 
 // From where and up to where a row of points lies in an area.
 fn overlap(area: &Area, start: &RowStart, n: usize) -> Option<(usize, usize)>

@@ -16,23 +16,10 @@ ghost use Rattle.tile_eval.specs.Buffer.{raster};
 use crate::areas::function_area;
 use crate::room::function_room;
 use crate::source::RowSource;
-use crate::start::RowStart;
 use domains::Area;
 use job::Function;
+use row_kernels::RowStart;
 use std::alloc::{AllocError, Global};
-
-// The first point of an area.
-fn corner(area: &Area) -> RowStart
-    requires rows { InDomainRange area.now.rows }
-    requires cols { InDomainRange area.now.cols }
-    ensures row { result.row ≡ area.now.rows.lo }
-    ensures col { result.col ≡ area.now.cols.lo }
-{
-    RowStart {
-        row: area.rows.lo(),
-        col: area.cols.lo(),
-    }
-}
 
 // Writes the values of a function on an area, row by row.
 fn fill_area<S: RowSource>(
@@ -52,7 +39,7 @@ fn fill_area<S: RowSource>(
     requires room { HasFunctionRoom (len_of area.now.cols) (length temps.old) (map case_view function.now.cases.items) (option_map formula_view function.now.otherwise) }
     ensures { out.new ≡ raster area.now (function_value (S.samples source.now) (map case_view function.now.cases.items) (option_map formula_view function.now.otherwise)) }
 {
-    let start = corner(area);
+    let start = RowStart::corner(area);
     let rows = area.rows.len() as usize;
     let cols = area.cols.len() as usize;
     function_area(source, function, &start, rows, cols, out, temps);

@@ -4,11 +4,10 @@
 ghost use Rattle.std.specs.Prelude.{◌≡◌, ◌≢◌, Some, slice_get, IfSome, IfNone};
 ghost use Rattle.tile_eval.specs.Buffer.{sample_in, IsKnownAt};
 
-use crate::blocks::BufferView;
 use crate::buffers::{Buffer, StageBuffers};
 use crate::source::RowSource;
-use crate::start::RowStart;
 use domains::Index;
+use row_kernels::{BufferView, RowStart};
 
 impl Buffer {
     /// The values with their area.

@@ -5,13 +5,13 @@ ghost use Rattle.std.specs.Prelude.{◌≡◌, ◌+ℤ◌, ◌≤ℤ◌, pos, le
 ghost use Rattle.domains.specs.Index.{index_at};
 ghost use Rattle.job.specs.Values.{formula_value};
 ghost use Rattle.job.specs.Views.{formula_view};
-ghost use Rattle.tile_eval.specs.Rows.{EachPlace, at};
+ghost use Rattle.row_kernels.specs.Rows.{EachPlace, at};
 ghost use Rattle.tile_eval.specs.Reading.{ReadsWithin};
 
 use crate::source::RowSource;
-use crate::start::RowStart;
 use domains::Index;
 use job::Formula;
+use row_kernels::RowStart;
 
 // The samples at the columns of an index.
 fn gather<S: RowSource>(

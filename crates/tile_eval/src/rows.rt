@@ -2,59 +2,21 @@
 //! Formulas along rows of points.
 
 ghost use Rattle.std.specs.Prelude.{◌≡◌, ◌≤◌, ◌-◌, ◌+ℤ◌, ◌≤ℤ◌, ℤ, pos, length, IfSome};
-ghost use Rattle.job.specs.Values.{Valuation, binary_value, literal_value, formula_value};
-ghost use Rattle.job.specs.WellFormed.{IsLiteral, IsFormula};
+ghost use Rattle.job.specs.Values.{Valuation, binary_value, formula_value};
+ghost use Rattle.job.specs.WellFormed.{IsFormula};
 ghost use Rattle.job.specs.Views.{formula_view};
-ghost use Rattle.tile_eval.specs.Rows.{EachPlace, at};
+ghost use Rattle.row_kernels.specs.Rows.{EachPlace, at};
 ghost use Rattle.tile_eval.specs.Reading.{ReadsWithin, HasRoom};
 
 use crate::reads::{given_row, read_row};
 use crate::source::RowSource;
-use crate::start::RowStart;
 use crate::stencil::stencil_row;
-use crate::{constants, kernels};
-use domains::{BinaryOp, LiteralOp};
+use domains::BinaryOp;
 use job::{Axis, Formula};
-
-/// Joins a row with the row of the right operands.
-pub fn combine(op: BinaryOp, out: &mut [i32], right: &[i32])
-    requires { length right.now ≡ length out.old }
-    ensures { EachPlace (length out.old) (λ k. at out.new k ≡ binary_value op (at out.old k) (at right.now k)) }
-{
-    match op {
-        BinaryOp::Add => kernels::add(out, right),
-        BinaryOp::Sub => kernels::subtract(out, right),
-        BinaryOp::Mul => kernels::multiply(out, right),
-        BinaryOp::Min => kernels::least(out, right),
-        BinaryOp::Max => kernels::greatest(out, right),
-    }
-}
-
-/// Joins a row with one number, the right operand of each.
-pub fn combine_number(op: BinaryOp, out: &mut [i32], number: i32)
-    ensures { EachPlace (length out.old) (λ k. at out.new k ≡ binary_value op (at out.old k) number) }
-{
-    match op {
-        BinaryOp::Add => constants::add_number(out, number),
-        BinaryOp::Sub => constants::subtract_number(out, number),
-        BinaryOp::Mul => constants::multiply_number(out, number),
-        BinaryOp::Min => constants::cut_above(out, number),
-        BinaryOp::Max => constants::cut_below(out, number),
-    }
-}
-
-/// Joins a row with a number of the text.
-pub fn combine_literal(op: LiteralOp, out: &mut [i32], number: u32)
-    requires { IsLiteral op number }
-    ensures { EachPlace (length out.old) (λ k. at out.new k ≡ literal_value op (at out.old k) number) }
-{
-    match op {
-        LiteralOp::Div => kernels::divide_by(out, number),
-        LiteralOp::Rem => kernels::leave_remainder(out, number as i32),
-        LiteralOp::Shl => kernels::shift_left(out, number),
-        LiteralOp::Shr => kernels::shift_right(out, number),
-    }
-}
+use row_kernels::{
+    RowStart, combine, combine_literal, combine_number, count_up, cut, cut_between, fill,
+    keep_related, make_absolute, negate,
+};
 
 // The number that a formula is all along a row of points, if it is one.
 fn number_along(formula: &Formula, start: &RowStart) -> Option<i32>
@@ -131,13 +93,13 @@ pub fn row<S: RowSource>(
     ensures { EachPlace (length out.old) (λ k. at out.new k ≡ formula_value (S.samples source.now) (formula_view formula.now) start.now.row (start.now.col +ℤ pos k)) }
 {
     match formula {
-        Formula::Number(number) => kernels::fill(out, *number),
-        Formula::Coordinate(Axis::Row) => kernels::fill(out, start.row),
-        Formula::Coordinate(Axis::Column) => kernels::count_up(out, start.col),
+        Formula::Number(number) => fill(out, *number),
+        Formula::Coordinate(Axis::Row) => fill(out, start.row),
+        Formula::Coordinate(Axis::Column) => count_up(out, start.col),
         Formula::Read(stage, i, j) => read_row(source, *stage, i, j, start, out),
         Formula::Neg(a) => {
             row(source, a, start, out, temps);
-            kernels::negate(out);
+            negate(out);
         }
         Formula::Binary(op, a, b) => {
             row(source, a, start, out, temps);
@@ -149,19 +111,19 @@ pub fn row<S: RowSource>(
         }
         Formula::Abs(a) => {
             row(source, a, start, out, temps);
-            kernels::make_absolute(out);
+            make_absolute(out);
         }
         Formula::Clamp(a, low, high) => {
             row(source, a, start, out, temps);
             if let (Some(low), Some(high)) = (number_along(low, start), number_along(high, start)) {
-                constants::cut_between(out, low, high);
+                cut_between(out, low, high);
             } else {
                 let n = out.len();
                 let (least, rest) = temps.split_at_mut(n);
                 let (greatest, rest) = rest.split_at_mut(n);
                 let least = operand(source, low, start, least, rest);
                 let greatest = operand(source, high, start, greatest, rest);
-                kernels::cut(out, least, greatest);
+                cut(out, least, greatest);
             }
         }
         Formula::Select(a, relation, b, first, second) => {
@@ -173,7 +135,7 @@ pub fn row<S: RowSource>(
             let left = operand(source, a, start, left, rest);
             let right = operand(source, b, start, right, rest);
             let other = operand(source, second, start, other, rest);
-            kernels::keep_related(out, left, *relation, right, other);
+            keep_related(out, left, *relation, right, other);
         }
         Formula::Stencil(stage, divisor, kernel) => {
             stencil_row(source, *stage, *divisor, kernel, start, out, temps)

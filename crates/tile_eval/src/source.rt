@@ -3,10 +3,10 @@
 
 ghost use Rattle.std.specs.Prelude.{◌≡◌, ◌≤◌, ℕ, ℤ, ◌+ℤ◌, ◌≤ℤ◌, pos, length, IfSome};
 ghost use Rattle.domains.specs.Index.{index_at};
-ghost use Rattle.tile_eval.specs.Rows.{EachPlace, at};
+ghost use Rattle.row_kernels.specs.Rows.{EachPlace, at};
 
-use crate::start::RowStart;
 use domains::Index;
+use row_kernels::RowStart;
 
 /// Gives the samples of stages.
 pub trait RowSource {

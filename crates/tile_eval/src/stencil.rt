@@ -1,52 +1,17 @@
 #![tactic(auto)]
 //! Stencils along rows of points.
 
-ghost use Rattle.std.specs.Prelude.{◌≡◌, ◌≤◌, ◌<◌, ◌+◌, ◌+ℤ◌, ◌*ℤ◌, ℤ, pos, length, IfSome, IsTrue};
+ghost use Rattle.std.specs.Prelude.{◌≡◌, ◌≤◌, ◌<◌, ◌+◌, ◌+ℤ◌, ℤ, pos, length, IfSome, IsTrue};
 ghost use Rattle.domains.specs.Arithmetic.{wrapped, floor_div};
 ghost use Rattle.job.specs.Values.{kernel_row, kernel_column, weighted_sum};
 ghost use Rattle.job.specs.WellFormed.{IsDivisor, IsKernel};
-ghost use Rattle.tile_eval.specs.Rows.{EachPlace, at};
+ghost use Rattle.row_kernels.specs.Rows.{EachPlace, at};
 ghost use Rattle.tile_eval.specs.Reading.{KernelWithin};
-ghost use Rattle.tile_eval.specs.Stencil.{tap_sum, row_sum, IsUnder};
+ghost use Rattle.tile_eval.specs.Stencil.{row_sum, IsUnder};
 
-use crate::kernels::{add, add_scaled, divide_by, fill};
 use crate::source::RowSource;
-use crate::start::RowStart;
-use crate::stencil3x3::{Kernel3x3, Triple};
 use job::Kernel;
-
-// Adds the products of a factor and the samples of a line.
-fn add_tap(out: &mut [i32], line: &[i32], factor: i32)
-    requires { length line.now ≡ length out.old }
-    ensures { EachPlace (length out.old) (λ k. (s : ℤ) → at out.old k ≡ wrapped s → at out.new k ≡ wrapped (s +ℤ factor *ℤ at line.now k)) }
-{
-    match factor {
-        0 => {}
-        1 => add(out, line),
-        _ => add_scaled(out, line, factor),
-    }
-}
-
-// Adds the products of factors and the samples of a line, a factor at a time.
-fn add_each_tap(out: &mut [i32], line: &[i32], factors: &[i32])
-    requires { length line.now + 1 ≡ length out.old + length factors.now }
-    ensures { EachPlace (length out.old) (λ k. (s : ℤ) → at out.old k ≡ wrapped s → at out.new k ≡ wrapped (s +ℤ tap_sum factors.now line.now k)) }
-{
-    for b in 0..factors.len() {
-        add_tap(out, &line[b..b + out.len()], factors[b]);
-    }
-}
-
-/// Adds the products of factors and the samples of a line, which begins with those of the first factor.
-pub fn add_taps(out: &mut [i32], line: &[i32], factors: &[i32])
-    requires { length line.now + 1 ≡ length out.old + length factors.now }
-    ensures { EachPlace (length out.old) (λ k. (s : ℤ) → at out.old k ≡ wrapped s → at out.new k ≡ wrapped (s +ℤ tap_sum factors.now line.now k)) }
-{
-    match Triple::of(factors) {
-        Some(triple) => triple.add_sums(out, line),
-        None => add_each_tap(out, line, factors),
-    }
-}
+use row_kernels::{Kernel3x3, RowStart, add_taps, divide_by, fill};
 
 /// The samples under a row of a kernel about a row of points.
 pub fn kernel_line<S: RowSource>(

@@ -14,7 +14,7 @@ use Rattle.domains.specs.declared.area.Area.{Area}
 use Rattle.domains.specs.declared.grid.Grid.{Grid}
 use Rattle.domains.proofs.Indices.{index_rises}
 use Rattle.domains.proofs.PartsOfSpans.{place_only}
-use Rattle.tile_eval.specs.declared.blocks.BufferView.{BufferView}
+use Rattle.row_kernels.specs.declared.buffer_view.BufferView.{BufferView}
 use Rattle.tile_eval.specs.Rows.{EachPlace, at}
 use Rattle.tile_eval.specs.Buffer.{place_of}
 use Rattle.tile_run.specs.KnownTiles.{KnownTiles, number_in, number_at}

@@ -6,7 +6,7 @@ use Rattle.job.specs.declared.stage.JobCase.{JobCase as KeptCase}
 use Rattle.job.specs.declared.formula.Formula.{Formula as KeptFormula}
 use Rattle.job.specs.Reads.{EachRead}
 use Rattle.job.specs.Views.{case_view, formula_view}
-use Rattle.tile_eval.specs.Rows.{EachPlace}
+use Rattle.row_kernels.specs.Rows.{EachPlace}
 use Rattle.tile_eval.specs.Cases.{IsReady, IsRoomy, function_value}
 use Rattle.tile_eval.proofs.Grid.{rows_more, row_len, line_within, same_place}
 use Rattle.tile_eval.proofs.areas.function_area.Goals as goal

@@ -4,7 +4,7 @@ use Rattle.domains.specs.Area.{HoldsPoint}
 use Rattle.domains.specs.declared.area.Area.{Area}
 use Rattle.job.specs.Values.{all_passed, formula_value}
 use Rattle.job.specs.Views.{test_view, formula_view, case_view}
-use Rattle.tile_eval.specs.Rows.{at}
+use Rattle.row_kernels.specs.Rows.{at}
 use Rattle.tile_eval.specs.Cases.{InBox, IsReady}
 use Rattle.tile_eval.proofs.Covering.{cut_len, cut_at, to_behind, from_behind, roomy_less, part_taken, no_test}
 use Rattle.tile_eval.proofs.cases.case_row.Goals as goal

@@ -1,7 +1,7 @@
 use Rattle.std.proofs.Common.{◌≡◌, ◌+ℤ◌, pos, length, map, drop}
 use Rattle.std.specs.Option.{option_map}
 use Rattle.job.specs.Views.{case_view, formula_view}
-use Rattle.tile_eval.specs.Rows.{EachPlace, at}
+use Rattle.row_kernels.specs.Rows.{EachPlace, at}
 use Rattle.tile_eval.specs.Cases.{function_value}
 use Rattle.tile_eval.proofs.cases.cases_row.Given as goal
 

@@ -1,7 +1,7 @@
 use Rattle.std.proofs.Common.{rules, ℤ, ◌≡◌, ◌+ℤ◌, pos, to_z, of_z, w32, FitsSigned, ap, ◌∙◌, sym, subst}
 use Rattle.std.proofs.lemmas.Int.{to_z-of_z}
 use Rattle.domains.specs.Index.{index_at}
-use Rattle.tile_eval.proofs.Columns.{columns_follow}
+use Rattle.row_kernels.proofs.Columns.{columns_follow}
 use Rattle.tile_eval.proofs.reads.copy.Goals as goal
 
 pub read_row-requires-clause-there : goal.read_row-requires-clause-there

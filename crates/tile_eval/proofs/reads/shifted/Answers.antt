@@ -2,7 +2,7 @@ use Rattle.std.proofs.Common.{rules, ℤ, ◌≡◌, ◌+ℤ◌, pos, to_z, of_z
 use Rattle.std.proofs.lemmas.Int.{to_z-of_z}
 use Rattle.std.proofs.lemmas.Option.{IfSome_then}
 use Rattle.domains.specs.Index.{index_at}
-use Rattle.tile_eval.proofs.Columns.{columns_follow}
+use Rattle.row_kernels.proofs.Columns.{columns_follow}
 use Rattle.tile_eval.proofs.reads.shifted.Goals as goal
 
 pub borrow_row-requires-clause-there : goal.borrow_row-requires-clause-there

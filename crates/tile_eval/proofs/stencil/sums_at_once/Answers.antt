@@ -1,7 +1,7 @@
 use Rattle.std.proofs.Common.{arith, ℤ, ◌+ℤ◌, List, ◌∙◌, ap}
 use Rattle.domains.specs.Arithmetic.{wrapped}
 use Rattle.job.specs.Values.{factors}
-use Rattle.tile_eval.specs.Stencil.{tap_sum}
+use Rattle.row_kernels.specs.Stencil.{tap_sum}
 use Rattle.tile_eval.proofs.Sums.{square_sum}
 use Rattle.tile_eval.proofs.stencil.sums_at_once.Goals as goal
 

@@ -1,7 +1,7 @@
 use Rattle.std.proofs.Common.{◌≡◌, ◌+ℤ◌, ◌*ℤ◌, pos, length}
 use Rattle.domains.specs.Arithmetic.{wrapped}
 use Rattle.job.specs.Values.{sum_below, factors, kernel_row, kernel_column}
-use Rattle.tile_eval.specs.Rows.{EachPlace, at}
+use Rattle.row_kernels.specs.Rows.{EachPlace, at}
 use Rattle.tile_eval.proofs.stencil.sums_by_rows.Given as goal
 
 abbrev pub invariant-loop-a : goal.invariant-loop-a

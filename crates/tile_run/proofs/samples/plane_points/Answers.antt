@@ -4,7 +4,7 @@ use Rattle.domains.specs.Area.{HoldsPoint}
 use Rattle.domains.specs.Index.{index_at}
 use Rattle.job.specs.Values.{sample_at}
 use Rattle.job.specs.WellFormed.{picture_area}
-use Rattle.tile_eval.proofs.Writing.{EachPlace-more}
+use Rattle.row_kernels.proofs.Writing.{EachPlace-more}
 use Rattle.tile_run.proofs.samples.plane_points.Goals as goal
 
 pub plane_point-requires-clause-there : goal.plane_point-requires-clause-there

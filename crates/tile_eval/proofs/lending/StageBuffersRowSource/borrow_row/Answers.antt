@@ -1,6 +1,6 @@
 use Rattle.std.proofs.Common.{rules, FitsSigned, w32}
 use Rattle.std.proofs.lemmas.Int.{to_z-of_z}
-use Rattle.tile_eval.proofs.Places.{known_within}
+use Rattle.tile_eval.proofs.KnownSamples.{known_within}
 use Rattle.tile_eval.proofs.lending.StageBuffersRowSource.borrow_row.Goals as goal
 
 pub slice-requires : goal.slice-requires

@@ -1,9 +1,9 @@
 use Rattle.std.proofs.Common.{rules, ℤ, pos, FitsSigned, ◌+ℤ◌, ap, ◌∙◌, w32}
 use Rattle.std.proofs.lemmas.Int.{to_z-of_z}
 use Rattle.domains.specs.Index.{index_at}
-use Rattle.tile_eval.specs.Rows.{at}
+use Rattle.row_kernels.specs.Rows.{at}
 use Rattle.tile_eval.specs.Buffer.{place_of}
-use Rattle.tile_eval.proofs.Places.{known_within, known_sample}
+use Rattle.tile_eval.proofs.KnownSamples.{known_within, known_sample}
 use Rattle.tile_eval.proofs.lending.StageBuffersRowSource.gather.Goals as goal
 
 pub gather-requires-clause-there : goal.gather-requires-clause-there

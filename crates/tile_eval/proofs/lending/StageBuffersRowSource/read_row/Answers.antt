@@ -1,8 +1,8 @@
 use Rattle.std.proofs.Common.{rules, ℤ, pos, FitsSigned, ◌+ℤ◌, ap, ◌∙◌, w32, to_z, of_z}
 use Rattle.std.proofs.lemmas.Int.{to_z-of_z}
-use Rattle.tile_eval.specs.Rows.{at}
+use Rattle.row_kernels.specs.Rows.{at}
 use Rattle.tile_eval.specs.Buffer.{place_of}
-use Rattle.tile_eval.proofs.Places.{known_within, known_sample}
+use Rattle.tile_eval.proofs.KnownSamples.{known_within, known_sample}
 use Rattle.tile_eval.proofs.lending.StageBuffersRowSource.read_row.Goals as goal
 
 pub read_row-requires-clause-there : goal.read_row-requires-clause-there

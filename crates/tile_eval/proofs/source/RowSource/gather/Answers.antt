@@ -1,7 +1,7 @@
 use Rattle.std.proofs.Common.{rules, arith, ◌+ℤ◌, ◌<◌, pos, length, to_z, of_z, w32, FitsSigned, ap, ◌∙◌}
 use Rattle.std.proofs.lemmas.Int.{to_z-of_z}
 use Rattle.domains.specs.Index.{index_at}
-use Rattle.tile_eval.proofs.Writing.{EachPlace-more}
+use Rattle.row_kernels.proofs.Writing.{EachPlace-more}
 use Rattle.tile_eval.proofs.source.RowSource.gather.Goals as goal
 
 pub loop-k-preserved : goal.loop-k-preserved

@@ -1,6 +1,6 @@
 use Rattle.std.proofs.Common.{◌≡◌, ◌+ℤ◌, pos}
 use Rattle.domains.specs.Index.{index_at}
-use Rattle.tile_eval.specs.Rows.{EachPlace, at}
+use Rattle.row_kernels.specs.Rows.{EachPlace, at}
 use Rattle.tile_eval.proofs.source.RowSource.gather.Given as goal
 
 abbrev pub invariant-loop-k : goal.invariant-loop-k
