@@ -9,11 +9,11 @@ use Rattle.domains.specs.Span.{Ends, Holds, len_of}
 use Rattle.domains.specs.Area.{HoldsPoint, point_count}
 use Rattle.domains.specs.declared.area.Area.{Area}
 use Rattle.domains.proofs.Lengths.{gap_is}
-use Rattle.row_kernels.specs.Rows.{EachPlace, at}
+use Rattle.row_kernels.specs.Rows.{EachPlace}
 use Rattle.row_kernels.specs.Places.{place_of}
 use Rattle.row_kernels.proofs.Columns.{columns_step}
 
--- a number of a span lies less far behind its first number than the span is long
+-- a number of a span lies less far after its first number than the span is long
 pub gap_below : (s : Ends) (v : ℤ) → Holds s v → int_gap s.lo v < len_of s
 gap_below s v h =
     let low = h.0 in let high = h.1 in

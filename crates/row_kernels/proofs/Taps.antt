@@ -1,7 +1,7 @@
 -- Sums of factors and numbers of a line, wrapped at each step and at the end.
-use Rattle.std.proofs.Common.{arith, ℕ, ℤ, ◌≡◌, ◌+◌, ◌<◌, ◌≤◌, ◌-◌, pos, ◌+ℤ◌, ◌*ℤ◌, w32, to_z, of_z, FitsSigned, subst, lit<, List, [], ◌∷◌, length, take, drop, ◌∙◌, ap, sym, add-one, add-zero}
+use Rattle.std.proofs.Common.{arith, ℕ, ℤ, ◌≡◌, ◌+◌, ◌<◌, ◌≤◌, ◌-◌, pos, ◌+ℤ◌, ◌*ℤ◌, w32, List, [], ◌∷◌, length, take, drop, ◌∙◌, ap, sym, add-one, add-zero}
 use Rattle.std.proofs.Math.IntN.{+ℤ_assoc, +ℤ_idr, +ℤ_idl, *ℤ_comm, *ℤ-one, zero-*ℤ, one}
-use Rattle.std.proofs.lemmas.Int.{ints, to_z-of_z, int_wrap-add_left, int_wrap-add_right}
+use Rattle.std.proofs.lemmas.Int.{int_wrap-add_left, int_wrap-add_right}
 use Rattle.std.proofs.lemmas.Grind.{common_steps}
 use Rattle.domains.specs.Arithmetic.{wrapped}
 use Rattle.row_kernels.specs.Rows.{at}

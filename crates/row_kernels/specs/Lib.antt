@@ -1,5 +1,5 @@
 pub mod Rows
 pub mod Places
 pub mod RowMask
-pub mod Reciprocal
 pub mod Stencil
+pub mod inside

@@ -9,7 +9,7 @@ ghost use Rattle.domains.specs.Span.{Holds, len_of};
 ghost use Rattle.row_kernels.specs.Rows.{EachPlace, at};
 ghost use Rattle.row_kernels.specs.Places.{place_of};
 
-use crate::row_start::RowStart;
+use crate::row_span::RowSpan;
 use domains::{Area, Index, Span};
 
 /// The numbers at the points of an area, row by row.
@@ -20,12 +20,12 @@ pub struct BufferView<'a> {
     ghost size: { length values.now ≡ point_count area },
 }
 
-// What a column is multiplied by.
+/// What an index multiplies by.
 #[tactic(auto, using(std::proofs::lemmas::Int::ints))]
-fn step_of(col: &Index) -> usize
-    ensures { col.now.mul ≡ pos result }
+pub fn step_of(index: &Index) -> usize
+    ensures { index.now.mul ≡ pos result }
 {
-    col.mul() as usize
+    index.mul() as usize
 }
 
 // Takes the numbers from a place on, at steps of one length.
@@ -38,7 +38,7 @@ fn take_every(values: &[i32], place: usize, step: usize, out: &mut [i32])
     }
 }
 
-// How far a number of a span lies behind the first.
+// How far a number of a span lies after the first.
 fn distance(span: &Span, v: i32) -> usize
     requires { Holds span.now v }
     ensures number { result ≡ int_gap span.now.lo v }
@@ -83,8 +83,7 @@ impl<'a> BufferView<'a> {
 
     /// Writes the values along a row, from a column on.
     pub fn read_row(&self, row: i32, first: i32, out: &mut [i32])
-        requires short { length out.old ≤ 100000 }
-        requires there { EachPlace (length out.old) (λ k. HoldsPoint self.now.area row (first +ℤ pos k)) }
+        requires { EachPlace (length out.old) (λ k. HoldsPoint self.now.area row (first +ℤ pos k)) }
         ensures { EachPlace (length out.old) (λ k. at out.new k ≡ at self.now.values.now (place_of self.now.area row (first +ℤ pos k))) }
     {
         out.copy_from_slice(self.slice(row, first, out.len()));
@@ -102,38 +101,38 @@ impl<'a> BufferView<'a> {
         part_of(self.values, self.place(row, first), count)
     }
 
-    /// Writes the values along a row, at the columns that an index takes at columns from a start on.
-    pub fn gather(&self, row: i32, col: &Index, start: &RowStart, out: &mut [i32])
-        requires most { (start.now.col +ℤ pos (length out.old)) ≤ℤ pos 16385 }
-        requires there { EachPlace (length out.old) (λ k. HoldsPoint self.now.area row (index_at col.now (start.now.col +ℤ pos k))) }
-        ensures { EachPlace (length out.old) (λ k. at out.new k ≡ at self.now.values.now (place_of self.now.area row (index_at col.now (start.now.col +ℤ pos k)))) }
+    /// Writes the values along a row, at the columns that an index takes at the columns of some points.
+    pub fn gather(&self, row: i32, col: &Index, points: &RowSpan, out: &mut [i32])
+        requires fits { length out.old ≡ points.now.len }
+        requires there { EachPlace (length out.old) (λ k. HoldsPoint self.now.area row (index_at col.now (points.now.col +ℤ pos k))) }
+        ensures { EachPlace (length out.old) (λ k. at out.new k ≡ at self.now.values.now (place_of self.now.area row (index_at col.now (points.now.col +ℤ pos k)))) }
     {
         if col.div() == 1 && !out.is_empty() {
-            self.step(row, col, start, out);
+            self.step(row, col, points, out);
         } else {
-            self.look_up(row, col, start, out);
+            self.look_up(row, col, points, out);
         }
     }
 
     // The same of an index that does not divide: the places of its columns lie at steps of one length.
-    fn step(&self, row: i32, col: &Index, start: &RowStart, out: &mut [i32])
+    fn step(&self, row: i32, col: &Index, points: &RowSpan, out: &mut [i32])
         requires div { col.now.div ≡ pos 1 }
         requires some { 0 < length out.old }
-        requires there { EachPlace (length out.old) (λ k. HoldsPoint self.now.area row (index_at col.now (start.now.col +ℤ pos k))) }
-        ensures { EachPlace (length out.old) (λ k. at out.new k ≡ at self.now.values.now (place_of self.now.area row (index_at col.now (start.now.col +ℤ pos k)))) }
+        requires there { EachPlace (length out.old) (λ k. HoldsPoint self.now.area row (index_at col.now (points.now.col +ℤ pos k))) }
+        ensures { EachPlace (length out.old) (λ k. at out.new k ≡ at self.now.values.now (place_of self.now.area row (index_at col.now (points.now.col +ℤ pos k)))) }
     {
-        let place = self.place(row, start.col_at(col));
+        let place = self.place(row, points.col_at(col));
         take_every(self.values, place, step_of(col), out);
     }
 
     // The same of any index, each place looked up.
-    fn look_up(&self, row: i32, col: &Index, start: &RowStart, out: &mut [i32])
-        requires most { (start.now.col +ℤ pos (length out.old)) ≤ℤ pos 16385 }
-        requires there { EachPlace (length out.old) (λ k. HoldsPoint self.now.area row (index_at col.now (start.now.col +ℤ pos k))) }
-        ensures { EachPlace (length out.old) (λ k. at out.new k ≡ at self.now.values.now (place_of self.now.area row (index_at col.now (start.now.col +ℤ pos k)))) }
+    fn look_up(&self, row: i32, col: &Index, points: &RowSpan, out: &mut [i32])
+        requires fits { length out.old ≡ points.now.len }
+        requires there { EachPlace (length out.old) (λ k. HoldsPoint self.now.area row (index_at col.now (points.now.col +ℤ pos k))) }
+        ensures { EachPlace (length out.old) (λ k. at out.new k ≡ at self.now.values.now (place_of self.now.area row (index_at col.now (points.now.col +ℤ pos k)))) }
     {
         for k in 0..out.len() {
-            out[k] = self.sample(row, col.at(start.column(k)));
+            out[k] = self.sample(row, col.at(points.column(k)));
         }
     }
 

@@ -11,7 +11,7 @@ ghost use Rattle.job.specs.Views.{axis_view, test_view};
 ghost use Rattle.row_kernels.specs.Rows.{EachPlace, at};
 ghost use Rattle.row_kernels.specs.RowMask.{HoldsWhere};
 
-use crate::row_start::RowStart;
+use crate::row_span::RowSpan;
 use domains::Relation;
 use domains::arithmetic::floor_rem;
 use job::{Axis, Test};
@@ -85,22 +85,22 @@ pub enum RowMask {
 }
 
 /// Where in a row of points all tests hold, as far as this is told at once.
-pub fn where_passed(tests: &[Test], start: &RowStart) -> RowMask
+pub fn where_passed(tests: &[Test], points: &RowSpan) -> RowMask
     requires { All (λ t. IsTest (test_view t)) tests.now }
-    ensures { HoldsWhere result (map test_view tests.now) start.now.row }
+    ensures { HoldsWhere result (map test_view tests.now) points.now.row }
 {
     match tests {
         [] => RowMask::Everywhere,
-        [Test::Compare(_, _, _), more @ ..] => where_passed(more, start),
+        [Test::Compare(_, _, _), more @ ..] => where_passed(more, points),
         [Test::Remainder(Axis::Row, modulus, rest), more @ ..] => {
-            if leaves(start.row, *modulus, *rest) {
-                where_passed(more, start)
+            if leaves(points.row, *modulus, *rest) {
+                where_passed(more, points)
             } else {
                 RowMask::Nowhere
             }
         }
         [Test::Remainder(Axis::Column, modulus, rest), more @ ..] => {
-            match where_passed(more, start) {
+            match where_passed(more, points) {
                 RowMask::Nowhere => RowMask::Nowhere,
                 RowMask::Everywhere => RowMask::Leaving(*modulus, *rest),
                 _ => RowMask::Unknown,
@@ -129,12 +129,12 @@ fn next_left(left: u32, modulus: u32) -> u32
 }
 
 // Takes the numbers of the other row in the columns that leave this rest.
-fn take_leaving(out: &mut [i32], other: &[i32], modulus: u32, rest: u32, start: &RowStart)
+fn take_leaving(out: &mut [i32], other: &[i32], modulus: u32, rest: u32, points: &RowSpan)
     requires other { length other.now ≡ length out.old }
     requires modulus { IsDivisor modulus }
-    ensures { EachPlace (length out.old) (λ k. at out.new k ≡ (if int_eq (floor_rem (start.now.col +ℤ pos k) (pos modulus)) (pos rest) then at other.now k else at out.old k)) }
+    ensures { EachPlace (length out.old) (λ k. at out.new k ≡ (if int_eq (floor_rem (points.now.col +ℤ pos k) (pos modulus)) (pos rest) then at other.now k else at out.old k)) }
 {
-    let mut left = left_of(start.col, modulus);
+    let mut left = left_of(points.col, modulus);
     for k in 0..out.len() {
         out[k] = if left == rest { other[k] } else { out[k] };
         left = next_left(left, modulus);
@@ -142,30 +142,30 @@ fn take_leaving(out: &mut [i32], other: &[i32], modulus: u32, rest: u32, start: 
 }
 
 // Takes the numbers of the other row where all tests hold, each point tested.
-fn take_passed(out: &mut [i32], other: &[i32], tests: &[Test], start: &RowStart)
+fn take_passed(out: &mut [i32], other: &[i32], tests: &[Test], points: &RowSpan)
     requires other { length other.now ≡ length out.old }
     requires tests { All (λ t. IsTest (test_view t)) tests.now }
-    requires most { (start.now.col +ℤ pos (length out.old)) ≤ℤ pos 16385 }
-    ensures { EachPlace (length out.old) (λ k. at out.new k ≡ (if all_passed (map test_view tests.now) start.now.row (start.now.col +ℤ pos k) then at other.now k else at out.old k)) }
+    requires fits { length out.old ≡ points.now.len }
+    ensures { EachPlace (length out.old) (λ k. at out.new k ≡ (if all_passed (map test_view tests.now) points.now.row (points.now.col +ℤ pos k) then at other.now k else at out.old k)) }
 {
     for k in 0..out.len() {
-        if all_pass(tests, start.row, start.column(k)) {
+        if all_pass(tests, points.row, points.column(k)) {
             out[k] = other[k];
         }
     }
 }
 
 /// Takes the numbers of the other row where all tests hold, in a row of points that lie in the bounds.
-pub fn take_where(out: &mut [i32], other: &[i32], tests: &[Test], passed: RowMask, start: &RowStart)
+pub fn take_where(out: &mut [i32], other: &[i32], tests: &[Test], passed: RowMask, points: &RowSpan)
     requires other { length other.now ≡ length out.old }
     requires tests { All (λ t. IsTest (test_view t)) tests.now }
-    requires most { (start.now.col +ℤ pos (length out.old)) ≤ℤ pos 16385 }
-    requires bounds { EachPlace (length out.old) (λ k. BoundsHold (map test_view tests.now) start.now.row (start.now.col +ℤ pos k)) }
-    requires passed { HoldsWhere passed (map test_view tests.now) start.now.row }
-    ensures { EachPlace (length out.old) (λ k. at out.new k ≡ (if all_passed (map test_view tests.now) start.now.row (start.now.col +ℤ pos k) then at other.now k else at out.old k)) }
+    requires fits { length out.old ≡ points.now.len }
+    requires bounds { EachPlace (length out.old) (λ k. BoundsHold (map test_view tests.now) points.now.row (points.now.col +ℤ pos k)) }
+    requires passed { HoldsWhere passed (map test_view tests.now) points.now.row }
+    ensures { EachPlace (length out.old) (λ k. at out.new k ≡ (if all_passed (map test_view tests.now) points.now.row (points.now.col +ℤ pos k) then at other.now k else at out.old k)) }
 {
     match passed {
-        RowMask::Leaving(modulus, rest) => take_leaving(out, other, modulus, rest, start),
-        _ => take_passed(out, other, tests, start),
+        RowMask::Leaving(modulus, rest) => take_leaving(out, other, modulus, rest, points),
+        _ => take_passed(out, other, tests, points),
     }
 }

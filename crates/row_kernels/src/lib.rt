@@ -7,15 +7,15 @@ mod guards;
 mod kernels;
 mod operators;
 mod reciprocal;
-mod row_start;
+mod row_span;
 mod stencil;
 mod stencil3x3;
 
-pub use buffer_view::BufferView;
+pub use buffer_view::{BufferView, step_of};
 pub use constants::cut_between;
 pub use guards::{RowMask, take_where, where_passed};
 pub use kernels::{count_up, cut, divide_by, fill, keep_related, make_absolute, negate};
 pub use operators::{combine, combine_literal, combine_number};
-pub use row_start::RowStart;
+pub use row_span::{RowSpan, number_after};
 pub use stencil::add_taps;
 pub use stencil3x3::Kernel3x3;

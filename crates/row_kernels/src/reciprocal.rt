@@ -3,7 +3,7 @@
 
 ghost use Rattle.std.specs.Prelude.{◌≡◌, ◌<◌, ◌≤◌, ◌*◌, ◌/◌, ◌^◌, ◌+ℤ◌, pos};
 ghost use Rattle.domains.specs.Arithmetic.{floor_div, floor_rem};
-ghost use Rattle.row_kernels.specs.Reciprocal.{IsReciprocal, distance, on_side};
+ghost use Rattle.row_kernels.specs.inside.Reciprocal.{IsReciprocal, distance, on_side};
 
 /// A divisor, with the factor whose product is cut by the last `shift` bits in place of a division.
 #[derive(Clone, Copy, Debug)]

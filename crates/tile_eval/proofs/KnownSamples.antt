@@ -1,5 +1,5 @@
 -- What a known stage gives at a point.
-use Rattle.std.proofs.Common.{ℕ, ℤ, ◌≡◌, pos, List, Option, Some, ap, ◌∙◌, sym, subst}
+use Rattle.std.proofs.Common.{ℕ, ℤ, ◌≡◌, List, Option, Some, ap, ◌∙◌, sym, subst}
 use Rattle.std.specs.Prelude.{slice_get, unwrap_or}
 use Rattle.std.specs.Option.{option_map_or}
 use Rattle.domains.specs.Area.{HoldsPoint}

@@ -1,14 +1,13 @@
 -- What rows of kernels add at points.
-use Rattle.std.proofs.Common.{arith, ℕ, ℤ, ◌≡◌, ◌+◌, ◌<◌, ◌≤◌, ◌-◌, pos, ◌+ℤ◌, ◌*ℤ◌, w32, to_z, of_z, FitsSigned, subst, lit<, List, [], ◌∷◌, length, take, drop, ◌∙◌, ap, sym, add-one, add-zero}
-use Rattle.std.proofs.Math.IntN.{+ℤ_assoc, +ℤ_idr, +ℤ_idl, *ℤ_comm, *ℤ-one, zero-*ℤ, one}
-use Rattle.std.proofs.lemmas.Int.{ints, to_z-of_z, int_wrap-add_left, int_wrap-add_right}
-use Rattle.std.proofs.lemmas.Grind.{common_steps}
+use Rattle.std.proofs.Common.{arith, ℕ, ℤ, ◌≡◌, ◌+◌, ◌<◌, ◌≤◌, ◌-◌, pos, ◌+ℤ◌, ◌*ℤ◌, w32, to_z, of_z, FitsSigned, subst, lit<, List, length, ◌∙◌, ap, sym}
+use Rattle.std.proofs.Math.IntN.{+ℤ_idl}
+use Rattle.std.proofs.lemmas.Int.{ints, to_z-of_z}
 use Rattle.domains.specs.Arithmetic.{wrapped}
 use Rattle.job.specs.Values.{sum_below, under, factors, kernel_row, kernel_column, weighted_sum}
 use Rattle.job.proofs.Agreeing.{sum_below-agrees}
 use Rattle.row_kernels.specs.Rows.{at}
 use Rattle.row_kernels.specs.Stencil.{tap_sum, Is3x3}
-use Rattle.tile_eval.specs.Stencil.{row_sum, IsUnder}
+use Rattle.tile_eval.specs.inside.Stencil.{row_sum, IsUnder}
 
 -- the place under a factor, counted from the place under the first one
 pub under_first : (v : ℤ) (n j : ℕ) → under v n 0 +ℤ pos j ≡ under v n j
@@ -50,3 +49,12 @@ there_under has kernel r c row col a k row_fits col_fits row_is col_is h =
     ap (λ (z : ℤ). z +ℤ pos k) (to_z-of_z w32 _ col_fits ∙ col_is) ∙ under_first c (length (factors kernel 0)) k in
     subst (λ (z : ℤ). has z (to_z w32 (of_z w32 col) +ℤ pos k)) (sym (to_z-of_z w32 _ row_fits ∙ row_is))
     (subst (λ (z : ℤ). has (kernel_row kernel r a) z) (sym first) h)
+
+-- a line that was asked for there is the line under the row of the kernel
+pub line_under : (f : ℤ → ℤ → ℤ) (kernel : List (List ℤ)) (r c row col : ℤ) (a n : ℕ) (line : List ℤ) → FitsSigned w32 row → FitsSigned w32 col
+    → row ≡ kernel_row kernel r a → col ≡ kernel_column kernel c 0 → length line ≡ n
+    → ((k : ℕ) → k < n → at line k ≡ f (to_z w32 (of_z w32 row)) (to_z w32 (of_z w32 col) +ℤ pos k)) → IsUnder kernel f r c a line
+line_under f kernel r c row col a n line row_fits col_fits row_is col_is len h = λ k l.
+    h k (subst (λ (m : ℕ). k < m) len l)
+    ∙ ap (λ (z : ℤ). f z (to_z w32 (of_z w32 col) +ℤ pos k)) (to_z-of_z w32 _ row_fits ∙ row_is)
+    ∙ ap (f (kernel_row kernel r a)) (ap (λ (z : ℤ). z +ℤ pos k) (to_z-of_z w32 _ col_fits ∙ col_is) ∙ under_first c (length (factors kernel 0)) k)

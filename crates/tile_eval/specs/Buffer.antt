@@ -52,8 +52,3 @@ pub record AreKnown (job : Pipeline) (rank : ℕ) (buffers : List (Option Buffer
   pub right : (g : ℕ) (whole : Buffer) → slice_get buffers g ≡ Some (Some whole) → IsWholeOf job g whole
   pub lower : (g : ℕ) (s : Stage) → slice_get job.stages g ≡ Some s → IsValued s.body → s.rank < rank
       → (whole : Buffer) × (slice_get buffers g ≡ Some (Some whole))
-
--- what is kept of stage g: its values on its domain, if it has any
-pub record IsKept (job : Pipeline) (g : ℕ) (kept : Option Buffer) : Type 0 where
-  pub right : (whole : Buffer) → kept ≡ Some whole → IsWholeOf job g whole
-  pub valued : (s : Stage) → slice_get job.stages g ≡ Some s → IsValued s.body → (whole : Buffer) × (kept ≡ Some whole)

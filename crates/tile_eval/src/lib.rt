@@ -2,10 +2,10 @@
 #![tactic(auto)]
 
 mod areas;
+mod buffer_source;
 mod buffers;
 mod cases;
 mod functions;
-mod lending;
 mod planes;
 mod reads;
 mod room;
@@ -15,9 +15,9 @@ mod stages;
 mod stencil;
 
 pub use buffers::{Buffer, StageBuffers};
-pub use functions::{area_into, area_values};
+pub use functions::area_into;
 pub use room::formula_room;
-pub use row_kernels::{BufferView, RowStart};
+pub use row_kernels::{BufferView, RowSpan};
 pub use rows::row as formula_row;
 pub use source::RowSource;
 pub use stages::{plain, plain_all};

@@ -122,10 +122,6 @@ first_held s x c first (suc k) l = absurd (omega arith)
 pub more_held : (s : Ends) (x : Scale) (c : ℤ) (j : ℕ) → IsIndex x → Holds s (index_at x c) → Holds s (index_at x (c +ℤ pos j)) → EachPlace (j + 1) (λ k. Holds s (index_at x (c +ℤ pos k)))
 more_held s x c j is first last k l = between_held s x c j k is first last (omega arith)
 
--- a part ends no further than the row
-pub part_most : (c m : ℤ) (n : ℕ) (out : List ℤ) → n ≤ length out → (c +ℤ pos (length out)) ≤ℤ m → (c +ℤ pos (length (take n out))) ≤ℤ m
-part_most c m n out le most = omega (arith, ints, take_len n out le)
-
 -- within the area of a block
 pub picked_held : (a : Area) (cols : Ends) (r c : ℤ) (f : ℕ → ℤ) (n : ℕ) (out : List ℤ) → HoldsPoint a r c → cols ≡ a.cols → n ≤ length out → EachPlace n (λ k. Holds cols (f k)) → EachPlace (length (take n out)) (λ k. HoldsPoint a r (f k))
 picked_held a cols r c f n out h same le each k l = (h.0, subst (λ (s : Ends). Holds s (f k)) same (each k (subst (λ (m : ℕ). k < m) (take_len n out le) l)))

@@ -1,7 +1,7 @@
 #![tactic(auto)]
-//! Where rows of points begin.
+//! Rows of points.
 
-ghost use Rattle.std.specs.Prelude.{◌≡◌, ◌<◌, ◌≤◌, ◌≤ℤ◌, ◌+ℤ◌, ◌-ℤ◌, pos, negsuc, Some};
+ghost use Rattle.std.specs.Prelude.{◌≡◌, ◌<◌, ◌≤◌, ◌-◌, ◌≤ℤ◌, ◌+ℤ◌, ◌-ℤ◌, pos, negsuc, Some};
 ghost use Rattle.domains.specs.Index.{index_at};
 ghost use Rattle.domains.specs.Span.{len_of};
 ghost use Rattle.job.specs.Values.{under};
@@ -9,74 +9,95 @@ ghost use Rattle.job.specs.WellFormed.{InDomainRange};
 
 use domains::{Area, Index, Span};
 
-/// The first point of a row of points.
+/// Points side by side: their row, the first column, and how many they are.
 #[derive(Clone, Copy, Debug)]
-pub struct RowStart {
+pub struct RowSpan {
     pub row: i32,
     pub col: i32,
+    pub len: usize,
     ghost row_least: { negsuc 16383 ≤ℤ row },
     ghost row_most: { row ≤ℤ pos 16384 },
     ghost col_least: { negsuc 16383 ≤ℤ col },
-    ghost col_most: { col ≤ℤ pos 16385 },
+    ghost within: { (col +ℤ pos len) ≤ℤ pos 16385 },
 }
 
-/// The number `k` behind `first`.
+/// The number `k` after `first`.
 #[inline]
 #[tactic(auto, using(std::proofs::lemmas::Int::ints))]
-fn along(first: i32, k: usize) -> i32
-    requires k { k ≤ 100000 }
-    requires least { negsuc 99999 ≤ℤ first }
-    requires most { first ≤ℤ pos 100000 }
+pub fn number_after(first: i32, k: usize) -> i32
+    requires least { negsuc 1048575 ≤ℤ first }
+    requires most { (first +ℤ pos k) ≤ℤ pos 1048576 }
     ensures { result ≡ first +ℤ pos k }
 {
     first + k as i32
 }
 
-impl RowStart {
-    /// The first point of row number `row` of an area.
-    pub fn at(area: &Area, row: usize) -> RowStart
+impl RowSpan {
+    /// Row number `row` of an area.
+    pub fn at(area: &Area, row: usize) -> RowSpan
         requires rows { InDomainRange area.now.rows }
         requires cols { InDomainRange area.now.cols }
         requires row { row < len_of area.now.rows }
         ensures row { result.row ≡ area.now.rows.lo +ℤ pos row }
         ensures col { result.col ≡ area.now.cols.lo }
+        ensures len { result.len ≡ len_of area.now.cols }
     {
-        RowStart {
-            row: along(area.rows.lo(), row),
+        RowSpan {
+            row: number_after(area.rows.lo(), row),
             col: area.cols.lo(),
+            len: area.cols.len() as usize,
         }
     }
 
-    /// The first point of an area.
-    pub fn corner(area: &Area) -> RowStart
+    /// The first row of an area.
+    pub fn top(area: &Area) -> RowSpan
         requires rows { InDomainRange area.now.rows }
         requires cols { InDomainRange area.now.cols }
         ensures row { result.row ≡ area.now.rows.lo }
         ensures col { result.col ≡ area.now.cols.lo }
+        ensures len { result.len ≡ len_of area.now.cols }
     {
-        RowStart {
+        RowSpan {
             row: area.rows.lo(),
             col: area.cols.lo(),
+            len: area.cols.len() as usize,
         }
     }
 
     /// The column of point number `k`.
     pub fn column(&self, k: usize) -> i32
-        requires { (self.now.col +ℤ pos k) ≤ℤ pos 16385 }
+        requires { k < self.now.len }
         ensures { result ≡ self.now.col +ℤ pos k }
     {
-        along(self.col, k)
+        number_after(self.col, k)
     }
 
-    /// The start of the points from number `k` on.
-    pub fn behind(&self, k: usize) -> RowStart
-        requires { (self.now.col +ℤ pos k) ≤ℤ pos 16385 }
+    /// The first `n` points.
+    pub fn first(&self, n: usize) -> RowSpan
+        requires { n ≤ self.now.len }
         ensures row { result.row ≡ self.now.row }
-        ensures col { result.col ≡ self.now.col +ℤ pos k }
+        ensures col { result.col ≡ self.now.col }
+        ensures len { result.len ≡ n }
     {
-        RowStart {
+        RowSpan {
             row: self.row,
-            col: along(self.col, k),
+            col: self.col,
+            len: n,
+        }
+    }
+
+    /// The points from number `from` up to before number `to`.
+    pub fn part(&self, from: usize, to: usize) -> RowSpan
+        requires order { from ≤ to }
+        requires most { to ≤ self.now.len }
+        ensures row { result.row ≡ self.now.row }
+        ensures col { result.col ≡ self.now.col +ℤ pos from }
+        ensures len { result.len ≡ to - from }
+    {
+        RowSpan {
+            row: self.row,
+            col: number_after(self.col, from),
+            len: to - from,
         }
     }
 
@@ -97,8 +118,8 @@ impl RowStart {
     /// The row that a kernel of so many rows reads with its row number `a`.
     #[tactic(auto, using(std::proofs::lemmas::Int::ints))]
     pub fn row_under(&self, rows: usize, a: usize) -> i32
-        requires rows { rows ≤ 100000 }
-        requires a { a ≤ 100000 }
+        requires rows { rows ≤ 15 }
+        requires a { a < rows }
         ensures { result ≡ under self.now.row rows a }
     {
         self.row + a as i32 - (rows / 2) as i32
@@ -107,22 +128,21 @@ impl RowStart {
     /// The first column that a kernel of so many columns reads.
     #[tactic(auto, using(std::proofs::lemmas::Int::ints))]
     pub fn col_under(&self, cols: usize) -> i32
-        requires { cols ≤ 100000 }
+        requires { cols ≤ 15 }
         ensures { result ≡ under self.now.col cols 0 }
     {
         self.col - (cols / 2) as i32
     }
 
-    /// The columns of `n` points.
-    pub fn span(&self, n: usize) -> Option<Span>
-        requires some { 0 < n }
-        requires most { (self.now.col +ℤ pos n) ≤ℤ pos 16385 }
-        ensures { result ≡ Some (record { lo = self.now.col; hi = self.now.col +ℤ pos n -ℤ pos 1 }) }
+    /// The columns of the points.
+    pub fn columns(&self) -> Option<Span>
+        requires { 0 < self.now.len }
+        ensures { result ≡ Some (record { lo = self.now.col; hi = self.now.col +ℤ pos self.now.len -ℤ pos 1 }) }
     {
-        Span::new(self.col, self.column(n - 1))
+        Span::new(self.col, self.column(self.len - 1))
     }
 
-    /// How far a column lies behind the first.
+    /// How far a column lies after the first.
     #[tactic(auto, using(std::proofs::lemmas::Int::ints))]
     pub fn gap(&self, col: i32) -> usize
         requires least { self.now.col ≤ℤ col }
@@ -132,15 +152,17 @@ impl RowStart {
         (col - self.col) as usize
     }
 
-    /// The start of the row that lies `rows` further down.
-    pub fn below(&self, rows: usize) -> RowStart
+    /// The points that lie `rows` further down.
+    pub fn below(&self, rows: usize) -> RowSpan
         requires { (self.now.row +ℤ pos rows) ≤ℤ pos 16384 }
         ensures row { result.row ≡ self.now.row +ℤ pos rows }
         ensures col { result.col ≡ self.now.col }
+        ensures len { result.len ≡ self.now.len }
     {
-        RowStart {
-            row: along(self.row, rows),
+        RowSpan {
+            row: number_after(self.row, rows),
             col: self.col,
+            len: self.len,
         }
     }
 }

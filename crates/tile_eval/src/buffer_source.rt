@@ -7,11 +7,11 @@ ghost use Rattle.tile_eval.specs.Buffer.{sample_in, IsKnownAt};
 use crate::buffers::{Buffer, StageBuffers};
 use crate::source::RowSource;
 use domains::Index;
-use row_kernels::{BufferView, RowStart};
+use row_kernels::{BufferView, RowSpan};
 
 impl Buffer {
     /// The values with their area.
-    pub(crate) fn block(&self) -> BufferView<'_>
+    pub(crate) fn view(&self) -> BufferView<'_>
         ensures area { result.area ≡ self.now.area }
         ensures values { result.values.now ≡ self.now.values.items }
     {
@@ -36,23 +36,23 @@ impl RowSource for StageBuffers {
 
     fn read_row(&self, stage: usize, row: i32, first: i32, out: &mut [i32]) {
         if let Some(whole) = self.whole(stage) {
-            whole.block().read_row(row, first, out);
+            whole.view().read_row(row, first, out);
         }
     }
 
     fn borrow_row(&self, stage: usize, row: i32, first: i32, count: usize) -> Option<&[i32]> {
-        Some(self.whole(stage)?.block().slice(row, first, count))
+        Some(self.whole(stage)?.view().slice(row, first, count))
     }
 
-    fn gather(&self, stage: usize, row: i32, col: &Index, start: &RowStart, out: &mut [i32]) {
+    fn gather(&self, stage: usize, row: i32, col: &Index, points: &RowSpan, out: &mut [i32]) {
         if let Some(whole) = self.whole(stage) {
-            whole.block().gather(row, col, start, out);
+            whole.view().gather(row, col, points, out);
         }
     }
 
     fn sample(&self, stage: usize, row: i32, col: i32) -> i32 {
         match self.whole(stage) {
-            Some(whole) => whole.block().sample(row, col),
+            Some(whole) => whole.view().sample(row, col),
             None => 0,
         }
     }
