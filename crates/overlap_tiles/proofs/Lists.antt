@@ -1,10 +1,11 @@
 -- Lists that are made of lists or of other elements.
-use Rattle.std.proofs.Common.{suc, ◌≡◌, inl, inr, subst, arith, List, [], ◌∷◌, ◌++◌, map}
+use Rattle.std.proofs.Common.{◌≡◌, inl, inr, arith, List, [], ◌∷◌, ◌++◌, map}
 use Rattle.std.specs.Prelude.{All, AllPairs, Contains}
 use Rattle.std.specs.List.{flat_map}
 use Rattle.std.proofs.lemmas.List.Elements.{All-append, All-map, All-weaker, All-contains, All-contains_itself, Contains-append_right, Contains-append_cases}
 use Rattle.std.proofs.lemmas.List.Kept.{AllPairs-cons}
 use Rattle.domains.proofs.PairLists.{Contains-here, Contains-cases}
+use Rattle.grouping.proofs.Lists.{AllPairs-head, AllPairs-tail}
 
 -- ---- what is in a list
 
@@ -13,13 +14,6 @@ Contains-from_flat_map f [] y h = absurd (omega (arith, h.1))
 Contains-from_flat_map f (z ∷ zs) y h = elim (Contains-append_cases (f z) (flat_map f zs) y h) [
   | inl k ↦ (z, Contains-here z zs, k)
   | inr k ↦ (let rest = Contains-from_flat_map f zs y k in (rest.0, Contains-append_right (z ∷ []) zs rest.0 rest.1, rest.2))
-]
-
-pub Contains-map : {X Y : Type 0} → (f : X → Y) (xs : List X) (x : X) → Contains xs x → Contains (map f xs) (f x)
-Contains-map f [] x h = absurd (omega (arith, h.1))
-Contains-map f (z ∷ zs) x h = elim (Contains-cases z zs x h) [
-  | inl e ↦ subst (λ w. Contains (map f (z ∷ zs)) (f w)) e (Contains-here (f z) (map f zs))
-  | inr m ↦ Contains-append_right (f z ∷ []) (map f zs) (f x) (Contains-map f zs x m)
 ]
 
 pub Contains-from_map : {X Y : Type 0} → (f : X → Y) (xs : List X) (y : Y) → Contains (map f xs) y → (x : X) × Contains xs x × (f x ≡ y)
@@ -34,12 +28,6 @@ pub All-from_contains : {X : Type 0} → (P : X → Type 0) (xs : List X) → ((
 All-from_contains P xs h = All-weaker (Contains xs) P h xs (All-contains_itself xs)
 
 -- ---- in order
-
-AllPairs-tail : {A : Type 0} → (R : A → A → Type 0) (x : A) (xs : List A) → AllPairs R (x ∷ xs) → AllPairs R xs
-AllPairs-tail R x xs h = λ i j d p q. h (suc i) (suc j) d (omega arith) (omega arith)
-
-AllPairs-head : {A : Type 0} → (R : A → A → Type 0) (x : A) (xs : List A) → AllPairs R (x ∷ xs) → All (R x) xs
-AllPairs-head R x xs h = λ k d p. h 0 (suc k) d (omega arith) (omega arith)
 
 pub AllPairs-append : {A : Type 0} → (R : A → A → Type 0) (xs ys : List A) → AllPairs R xs → AllPairs R ys → ((x y : A) → Contains xs x → Contains ys y → R x y) → AllPairs R (xs ++ ys)
 AllPairs-append R [] ys h k before = k

@@ -1,14 +1,13 @@
-use Rattle.std.proofs.Common.{◌≡◌, ◌++◌, ◌∷◌, [], ◌&&◌, ap, sym, ◌∙◌}
+use Rattle.std.proofs.Common.{◌≡◌, ◌++◌, ◌∷◌, [], ◌&&◌, ap, sym, ◌∙◌, arith, map, length}
 use Rattle.std.specs.List.{range_with_len}
-use Rattle.std.proofs.Common.{arith, map, length}
 use Rattle.std.proofs.lemmas.List.{length-map}
 use Rattle.job.specs.Views.{stage_view}
 use Rattle.std.specs.Prelude.{slice_get}
 use Rattle.job.specs.Kept.{pipeline_in}
-use Rattle.grouping.specs.Costs.{cost}
-use Rattle.grouping.specs.Tallies.{stage_fits, all_stages_fit}
-use Rattle.grouping.proofs.Counting.{map_range_more}
-use Rattle.grouping.proofs.Costing.{all_more, all_fit}
+use Rattle.grouping.specs.Costs.{cost, stage_fits}
+use Rattle.grouping.specs.inside.Tallies.{all_stages_fit}
+use Rattle.grouping.proofs.Lists.{map_range_more}
+use Rattle.grouping.proofs.CostsAddUp.{all_more, all_fit}
 use Rattle.grouping.proofs.costs.costs_of.Goals as goal
 
 pub loop-number-preserved : goal.loop-number-preserved

@@ -1,7 +1,7 @@
 use Rattle.std.proofs.Common.{arith, map}
 use Rattle.grouping.specs.Costs.{points_in}
 use Rattle.overlap_tiles.specs.Views.{step_view}
-use Rattle.overlap_tiles.proofs.Counting.{next_below}
+use Rattle.overlap_tiles.proofs.PointsAreFew.{next_below}
 use Rattle.overlap_tiles.proofs.ranges.end_to_end.Goals as goal
 
 pub overflow_add-start : goal.overflow_add-start

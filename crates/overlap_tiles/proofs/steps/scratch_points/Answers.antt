@@ -1,7 +1,7 @@
 use Rattle.std.proofs.Common.{arith, map}
 use Rattle.grouping.specs.Costs.{points_in}
 use Rattle.overlap_tiles.specs.Views.{step_view}
-use Rattle.overlap_tiles.proofs.Counting.{next_below}
+use Rattle.overlap_tiles.proofs.PointsAreFew.{next_below}
 use Rattle.overlap_tiles.proofs.steps.scratch_points.Goals as goal
 
 pub returns-then-total-gt-MOST_SCRATCH-clause-many : goal.returns-then-total-gt-MOST_SCRATCH-clause-many

@@ -1,6 +1,6 @@
 use Rattle.std.proofs.Common.{◌≡◌, ◌++◌, drop}
 use Rattle.std.specs.List.{flat_map}
-use Rattle.grouping.specs.Walks.{target_of, numbered_hull}
+use Rattle.grouping.specs.inside.Walks.{target_of, numbered_hull}
 use Rattle.grouping.proofs.target.TargetWalk.listed.Given as goal
 
 abbrev pub invariant-loop-number : goal.invariant-loop-number

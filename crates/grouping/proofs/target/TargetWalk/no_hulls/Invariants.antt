@@ -1,7 +1,7 @@
 use Rattle.std.proofs.Common.{◌≡◌, ◌++◌, map, drop, None}
 use Rattle.job.specs.Views.{stage_view}
 use Rattle.job.specs.Kept.{pipeline_in}
-use Rattle.grouping.specs.Walks.{no_hulls}
+use Rattle.grouping.specs.inside.Walks.{no_hulls}
 use Rattle.grouping.proofs.target.TargetWalk.no_hulls.Given as goal
 
 abbrev pub invariant-loop-stage : goal.invariant-loop-stage

@@ -1,5 +1,5 @@
 use Rattle.job.specs.Kept.{pipeline_in}
-use Rattle.overlap_tiles.proofs.Tiling.{tile_is_target}
+use Rattle.overlap_tiles.proofs.TilesAreTargets.{tile_is_target}
 use Rattle.tile_run.proofs.room.StageTiles.is_too_big.Goals as goal
 
 pub scratch-requires-clause-target : goal.scratch-requires-clause-target
