@@ -1,0 +1,189 @@
+#![tactic(auto)]
+//! Expressions, within so many levels that may still be opened.
+
+ghost use Rattle.std.specs.Prelude.{◌≡◌, ◌<◌, ◌≤◌, length, suc, IfOk, IfErr};
+ghost use Rattle.pipe_tree.specs.Tree.{view};
+ghost use Rattle.pipe_tree.specs.Reading as reading;
+ghost use Rattle.pipe_tree.specs.Reading.{halt_of, unary_at, product_at, expression_at};
+ghost use Rattle.pipe_terms.specs.Answers.{at, Reads};
+
+use crate::lookahead::{factor_of, sign_of, start_of};
+use crate::parse_error::ParseError;
+use crate::parser::Parser;
+use domains::BinaryOp;
+use pipe_tokens::{Keyword, Punct};
+use pipe_tree::{Expr, Factor, Kind, Opening, Role, Start};
+
+// The word of `min`, and of `max` else.
+fn word_of(op: BinaryOp) -> Keyword
+    ensures { result ≡ reading.word_of op }
+{
+    match op {
+        BinaryOp::Min => Keyword::Min,
+        _ => Keyword::Max,
+    }
+}
+
+impl Parser<'_> {
+    // The levels that are left behind the token ahead, which opens one.
+    fn open_level(&self, levels: u32) -> Result<u32, ParseError>
+        ensures ok { IfOk result (λ rest. levels ≡ suc rest) }
+        ensures err { IfErr result (λ e. (levels ≡ 0) × (e ≡ ParseError.Fault (halt_of Kind.TooDeep self.now.rest.now))) }
+    {
+        if levels == 0 {
+            return Err(self.halt(Kind::TooDeep));
+        }
+        Ok(levels - 1)
+    }
+
+    #[cycle(expression)]
+    #[tactic(auto, using(pipe_tree::proofs::ExpressionLaws::expression_unroll), unfolding(pipe_tree::specs::Reading::expression_at))]
+    pub fn expression(&mut self, levels: u32) -> Result<Expr, ParseError>
+        ensures exact { Reads (λ e. (view e, at self.new)) result (expression_at levels (at self.old)) }
+        ensures shorter { length self.new.rest.now ≤ length self.old.rest.now }
+    {
+        let mut left = self.product(levels)?;
+        while sign_of(self.ahead()).is_some() {
+            let sum = Box::new(self.alloc, left)?;
+            let op = if self.sign(Role::Node)? {
+                BinaryOp::Sub
+            } else {
+                BinaryOp::Add
+            };
+            let right = self.product(levels)?;
+            left = Expr::Binary(op, sum, Box::new(self.alloc, right)?);
+        }
+        Ok(left)
+    }
+
+    // An expression in a box of its own, as an operand stands in another.
+    #[cycle(expression)]
+    fn operand(&mut self, levels: u32) -> Result<Box<Expr>, ParseError>
+        ensures exact { Reads (λ e. (view e.value, at self.new)) result (expression_at levels (at self.old)) }
+        ensures shorter { length self.new.rest.now ≤ length self.old.rest.now }
+    {
+        let value = self.expression(levels)?;
+        Ok(Box::new(self.alloc, value)?)
+    }
+
+    #[cycle(expression)]
+    #[tactic(auto, using(pipe_tree::proofs::ExpressionLaws::product_at_unroll), unfolding(pipe_tree::specs::Reading::product_at))]
+    fn product(&mut self, levels: u32) -> Result<Expr, ParseError>
+        ensures exact { Reads (λ e. (view e, at self.new)) result (product_at levels (at self.old)) }
+        ensures shorter { length self.new.rest.now ≤ length self.old.rest.now }
+    {
+        let mut left = self.unary(levels)?;
+        while factor_of(self.ahead()).is_some() {
+            let product = Box::new(self.alloc, left)?;
+            left = match self.factor()? {
+                Factor::Times => {
+                    let right = self.unary(levels)?;
+                    Expr::Binary(BinaryOp::Mul, product, Box::new(self.alloc, right)?)
+                }
+                Factor::Literal(op) => Expr::Literal(op, product, self.int(Role::Plain)?),
+            };
+        }
+        Ok(left)
+    }
+
+    #[cycle(expression)]
+    #[tactic(auto, unfolding(pipe_tree::specs::Reading::unary_at, pipe_tree::specs::Reading::product_at, pipe_tree::specs::Reading::expression_at))]
+    fn unary(&mut self, levels: u32) -> Result<Expr, ParseError>
+        ensures exact { Reads (λ e. (view e, at self.new)) result (unary_at levels (at self.old)) }
+        ensures shorter { length self.new.rest.now ≤ length self.old.rest.now }
+    {
+        match start_of(self.ahead()) {
+            Start::Number => Ok(Expr::Number(self.int(Role::Node)?)),
+            Start::Name => self.named(),
+            Start::Stencil => self.stencil(),
+            Start::Opening(opening) => {
+                let levels = self.open_level(levels)?;
+                self.opened(opening, levels)
+            }
+            Start::Nothing => Err(self.refuse()),
+        }
+    }
+
+    // What opens a level, with so many left behind it.
+    #[cycle(expression)]
+    fn opened(&mut self, opening: Opening, levels: u32) -> Result<Expr, ParseError>
+        ensures exact { Reads (λ e. (view e, at self.new)) result
+            (reading.opened (unary_at levels) (expression_at levels) opening (at self.old)) }
+        ensures shorter { length self.new.rest.now ≤ length self.old.rest.now }
+    {
+        match opening {
+            Opening::Minus => {
+                self.mark(Punct::Minus, Role::Node)?;
+                let operand = self.unary(levels)?;
+                Ok(Expr::Neg(Box::new(self.alloc, operand)?))
+            }
+            Opening::Group => {
+                self.mark(Punct::OpenRound, Role::Plain)?;
+                let inner = self.expression(levels)?;
+                Ok(self.ended(inner, Punct::CloseRound)?)
+            }
+            Opening::Abs => {
+                self.word(Keyword::Abs, Role::Node)?;
+                self.mark(Punct::OpenRound, Role::Plain)?;
+                let operand = self.operand(levels)?;
+                self.mark(Punct::CloseRound, Role::Plain)?;
+                Ok(Expr::Abs(operand))
+            }
+            Opening::Clamp => self.clamp(levels),
+            Opening::Select => self.select(levels),
+            Opening::Pair(op) => self.pair(op, levels),
+        }
+    }
+
+    // `min` or `max` of two.
+    #[cycle(expression)]
+    fn pair(&mut self, op: BinaryOp, levels: u32) -> Result<Expr, ParseError>
+        ensures exact { Reads (λ e. (view e, at self.new)) result
+            (reading.pair op (expression_at levels) (at self.old)) }
+        ensures shorter { length self.new.rest.now ≤ length self.old.rest.now }
+    {
+        self.word(word_of(op), Role::Node)?;
+        self.mark(Punct::OpenRound, Role::Plain)?;
+        let left = self.operand(levels)?;
+        self.mark(Punct::Comma, Role::Plain)?;
+        let right = self.operand(levels)?;
+        self.mark(Punct::CloseRound, Role::Plain)?;
+        Ok(Expr::Binary(op, left, right))
+    }
+
+    #[cycle(expression)]
+    fn clamp(&mut self, levels: u32) -> Result<Expr, ParseError>
+        ensures exact { Reads (λ e. (view e, at self.new)) result
+            (reading.clamped (expression_at levels) (at self.old)) }
+        ensures shorter { length self.new.rest.now ≤ length self.old.rest.now }
+    {
+        self.word(Keyword::Clamp, Role::Node)?;
+        self.mark(Punct::OpenRound, Role::Plain)?;
+        let value = self.operand(levels)?;
+        self.mark(Punct::Comma, Role::Plain)?;
+        let least = self.operand(levels)?;
+        self.mark(Punct::Comma, Role::Plain)?;
+        let greatest = self.operand(levels)?;
+        self.mark(Punct::CloseRound, Role::Plain)?;
+        Ok(Expr::Clamp(value, least, greatest))
+    }
+
+    #[cycle(expression)]
+    fn select(&mut self, levels: u32) -> Result<Expr, ParseError>
+        ensures exact { Reads (λ e. (view e, at self.new)) result
+            (reading.selected (expression_at levels) (at self.old)) }
+        ensures shorter { length self.new.rest.now ≤ length self.old.rest.now }
+    {
+        self.word(Keyword::Select, Role::Node)?;
+        self.mark(Punct::OpenRound, Role::Plain)?;
+        let left = self.operand(levels)?;
+        let relation = self.relation()?;
+        let right = self.operand(levels)?;
+        self.mark(Punct::Comma, Role::Plain)?;
+        let then = self.operand(levels)?;
+        self.mark(Punct::Comma, Role::Plain)?;
+        let otherwise = self.operand(levels)?;
+        self.mark(Punct::CloseRound, Role::Plain)?;
+        Ok(Expr::Select(left, relation, right, then, otherwise))
+    }
+}
