@@ -27,13 +27,15 @@ abbrev pub has_points : Area → Bool
 has_points a = int_le a.rows.lo a.rows.hi && int_le a.cols.lo a.cols.hi
 
 pub if_some-there : (a : Area) → a.rows.lo ≤ℤ a.rows.hi → a.cols.lo ≤ℤ a.cols.hi → if_some a ≡ Some a
-if_some-there a down right = ap (λ t. if t then Some a else None) (and_from (int_le a.rows.lo a.rows.hi) (int_le a.cols.lo a.cols.hi) (to_le a.rows.lo a.rows.hi down) (to_le a.cols.lo a.cols.hi right))
+if_some-there a down right =
+    ap (λ t. if t then Some a else None) (and_from (int_le a.rows.lo a.rows.hi) (int_le a.cols.lo a.cols.hi) (to_le a.rows.lo a.rows.hi down) (to_le a.cols.lo a.cols.hi right))
 
 -- what if_some answers is the area itself, and has a point
 pub if_some-is : (a b : Area) → if_some a ≡ Some b → (a ≡ b) × (a.rows.lo ≤ℤ a.rows.hi) × (a.cols.lo ≤ℤ a.cols.hi)
 if_some-is a b = by (has_points a) refl
   where
-    by : (t : Bool) → has_points a ≡ t → (if t then Some a else None) ≡ Some b → (a ≡ b) × (a.rows.lo ≤ℤ a.rows.hi) × (a.cols.lo ≤ℤ a.cols.hi)
+    by : (t : Bool) → has_points a ≡ t → (if t then Some a else None) ≡ Some b
+        → (a ≡ b) × (a.rows.lo ≤ℤ a.rows.hi) × (a.cols.lo ≤ℤ a.cols.hi)
     by true e is =
         let both = and_parts (int_le a.rows.lo a.rows.hi) (int_le a.cols.lo a.cols.hi) e in
         (cc, le_from a.rows.lo a.rows.hi both.0, le_from a.cols.lo a.cols.hi both.1)
@@ -57,7 +59,8 @@ meet_of_disjoint a b apart = by (has_points (common_of a b)) refl
         absurd (apart m.rows.lo m.cols.lo ((common_is a b m.rows.lo m.cols.lo).0 ((≤ℤ_refl m.rows.lo, down), (≤ℤ_refl m.cols.lo, right))))
 
 -- what the meet of two areas is, by the words of Area::meet
-pub meet_is : (a b : Area) (o : Option Area) → IfSome o (λ m. m ≡ common_of a b) → IfSome o IsArea → IfNone o (AreDisjoint a b) → o ≡ meet_of_areas a b
+pub meet_is : (a b : Area) (o : Option Area) → IfSome o (λ m. m ≡ common_of a b) → IfSome o IsArea → IfNone o (AreDisjoint a b)
+    → o ≡ meet_of_areas a b
 meet_is a b None is area apart = sym (meet_of_disjoint a b apart)
 meet_is a b (Some m) is area apart =
     let meet : IsArea (common_of a b) = subst IsArea is area in

@@ -33,11 +33,13 @@ functions_alone job asked g inlined = by (cases_lt g (length job.stages))
     by : (g < length job.stages) ⊎ (length job.stages ≤ g) → is_function job g ≡ true
     by (inl below) =
         let f : ℕ → Bool = λ k. is_inlined asked k && is_function job k in
-        let at : is_inlined (inlining_for job asked) g ≡ f g = get_or-map-range_with_len f 0 (length job.stages) g g false below (let e : 0 + g ≡ g = omega arith in e) in
+        let at : is_inlined (inlining_for job asked) g ≡ f g = get_or-map-range_with_len f 0 (length job.stages) g g false below
+        (let e : 0 + g ≡ g = omega arith in e) in
         (and_parts (is_inlined asked g) (is_function job g) (sym at ∙ inlined)).1
     by (inr past) =
         let f : ℕ → Bool = λ k. is_inlined asked k && is_function job k in
-        let few : length (inlining_for job asked) ≤ g = subst (λ (n : ℕ). n ≤ g) (sym (length-map-range_with_len f 0 (length job.stages))) past in
+        let few : length (inlining_for job asked) ≤ g = subst (λ (n : ℕ). n ≤ g)
+        (sym (length-map-range_with_len f 0 (length job.stages))) past in
         absurd (false≢true (sym (get_or_past (inlining_for job asked) g false few) ∙ inlined))
 
 pub asked_is : (job : Pipeline) (asked : List Bool) → StoresOutputs job (inlining_for job asked) → IsSchedule job (inlining_for job asked)

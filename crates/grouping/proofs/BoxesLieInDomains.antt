@@ -25,14 +25,16 @@ use Rattle.grouping.proofs.CostsAddUp.{points_is}
 abbrev pub InDomain : Stage → Area → Type 0
 InDomain s a = IsArea a × IsSubarea a s.domain
 
-cut_near : (o : Option Stage) (s : Stage) (hull : Option Area) (a : Area) → InDomainRanges s.domain → o ≡ Some s → cut_to o hull ≡ Some a → InDomainRanges a
+cut_near : (o : Option Stage) (s : Stage) (hull : Option Area) (a : Area) → InDomainRanges s.domain → o ≡ Some s → cut_to o hull ≡ Some a
+    → InDomainRanges a
 cut_near None s hull a near is cut = absurd (cc)
 cut_near (Some p) s None a near is cut = absurd (cc)
 cut_near (Some p) s (Some b) a near is cut =
     let domain : s ≡ p = cc in
     near_meet b p.domain a (subst (λ (x : Stage). InDomainRanges x.domain) domain near) cut
 
-pub box_inside : (t : Target) (g : ℕ) (s : Stage) (a : Area) → IsJob t.job → slice_get t.job.stages g ≡ Some s → box t g ≡ Some a → InDomain s a
+pub box_inside : (t : Target) (g : ℕ) (s : Stage) (a : Area) → IsJob t.job → slice_get t.job.stages g ≡ Some s → box t g ≡ Some a
+    → InDomain s a
 box_inside t g s a job is there =
     let stage : IsStage t.job s = job.stages g s is in
     let hull = hull_of_all (areas_of g (all_demands_by t (box t))) in
@@ -42,8 +44,10 @@ box_inside t g s a job is there =
       λ r c h. cut_inside (slice_get t.job.stages g) s hull a r c is cut h,
     )
 
-pub region_in_domain : (t : Target) (g : ℕ) (s : Stage) (a : Area) → IsJob t.job → IsTarget t → slice_get t.job.stages g ≡ Some s → region t g ≡ Some a → InDomain s a
-region_in_domain t g s a job target is there = (by (nat_eq g t.stage) there, λ r c h. region_inside t g s a r c (ranked_is t.job job) target is there h)
+pub region_in_domain : (t : Target) (g : ℕ) (s : Stage) (a : Area) → IsJob t.job → IsTarget t → slice_get t.job.stages g ≡ Some s
+    → region t g ≡ Some a → InDomain s a
+region_in_domain t g s a job target is there =
+    (by (nat_eq g t.stage) there, λ r c h. region_inside t g s a r c (ranked_is t.job job) target is there h)
   where
     inlined : (b : Bool) → (if b then box t g else None) ≡ Some a → IsArea a
     inlined true k = (box_inside t g s a job is k).0
@@ -63,7 +67,8 @@ All-flat_map P f (x ∷ xs) each = All-append P (f x) (flat_map f xs) (each x) (
 pub there_is : (job : Pipeline) (g : ℕ) → is_function job g ≡ true → (s : Stage) × (slice_get job.stages g ≡ Some s)
 there_is job g e = by (slice_get job.stages g) refl e
   where
-    by : (o : Option Stage) → slice_get job.stages g ≡ o → option_map_or (λ s. is_function_body s.body) o false ≡ true → (s : Stage) × (slice_get job.stages g ≡ Some s)
+    by : (o : Option Stage) → slice_get job.stages g ≡ o → option_map_or (λ s. is_function_body s.body) o false ≡ true
+        → (s : Stage) × (slice_get job.stages g ≡ Some s)
     by None is k = absurd (cc)
     by (Some s) is k = (s, is)
 
@@ -90,4 +95,6 @@ pub no_scratch : (t : Target) → t.inlining ≡ all_stored t.job → scratch t 
 no_scratch t is = none_takes_none t (λ g. ap (λ inlining. is_inlined inlining g) is ∙ none_inlined t.job.stages g)
 
 pub own_points : (t : Target) → t.inlining ≡ all_stored t.job → points t ≡ point_count t.region
-own_points t is = points_is t ∙ ap (λ n. n + point_count t.region) (no_scratch t is) ∙ (let e : 0 + point_count t.region ≡ point_count t.region = omega arith in e)
+own_points t is =
+    points_is t ∙ ap (λ n. n + point_count t.region) (no_scratch t is)
+    ∙ (let e : 0 + point_count t.region ≡ point_count t.region = omega arith in e)

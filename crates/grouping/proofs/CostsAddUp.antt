@@ -31,8 +31,10 @@ use Rattle.grouping.specs.Schedules.{is_inlined}
 use Rattle.grouping.specs.Order.{in_order}
 
 -- one more tile of a row
-pub row_more : (g : Grid) (i j : ℕ) (areas : List Area) → (areas ++ row_areas g i j) ++ tile_area g i j ∷ [] ≡ areas ++ row_areas g i (j + 1)
-row_more g i j areas = append_assoc areas (row_areas g i j) (tile_area g i j ∷ []) ∙ ap (λ xs. areas ++ xs) (sym (map_range_more (tile_area g i) j))
+pub row_more : (g : Grid) (i j : ℕ) (areas : List Area)
+    → (areas ++ row_areas g i j) ++ tile_area g i j ∷ [] ≡ areas ++ row_areas g i (j + 1)
+row_more g i j areas =
+    append_assoc areas (row_areas g i j) (tile_area g i j ∷ []) ∙ ap (λ xs. areas ++ xs) (sym (map_range_more (tile_area g i) j))
 
 -- ---- points
 
@@ -44,7 +46,8 @@ points_append xs ys =
 one_step : (g : ℕ) (a : Area) → points_in ((g, a) ∷ []) ≡ point_count a
 one_step g a = let e : 0 + point_count a ≡ point_count a = omega arith in e
 
-inner_by : (p : ℕ → Bool) (g : ℕ) (b : Bool) (o : Option Area) → points_in (filter (λ s. p s.0) (if b then with_number g o else [])) ≡ (if p g && b then option_map_or point_count o 0 else 0)
+inner_by : (p : ℕ → Bool) (g : ℕ) (b : Bool) (o : Option Area)
+    → points_in (filter (λ s. p s.0) (if b then with_number g o else [])) ≡ (if p g && b then option_map_or point_count o 0 else 0)
 inner_by p g false o = by (p g)
   where
     by : (x : Bool) → ◌≡◌ {A = ℕ} 0 (if x && false then option_map_or point_count o 0 else 0)
@@ -64,7 +67,8 @@ inner_by p g true (Some a) = by (p g)
 pub sum_cons : {X : Type 0} (f : X → ℕ) (x : X) (xs : List X) → sum (map f (x ∷ xs)) ≡ f x + sum (map f xs)
 sum_cons f x xs = sum-map f (x ∷ xs) ∙ sum_by-cons f x xs ∙ sym (ap (λ n. f x + n) (sum-map f xs))
 
-sum_inner : (t : Target) (gs : List ℕ) → points_in (filter (λ s. is_inlined t.inlining s.0) (flat_map (numbered_box t) gs)) ≡ sum (map (inner_points t) gs)
+sum_inner : (t : Target) (gs : List ℕ)
+    → points_in (filter (λ s. is_inlined t.inlining s.0) (flat_map (numbered_box t) gs)) ≡ sum (map (inner_points t) gs)
 sum_inner t [] = refl
 sum_inner t (g ∷ gs) =
     let p : ℕ × Area → Bool = λ s. is_inlined t.inlining s.0 in
@@ -96,31 +100,37 @@ areas_are : (g : Grid) → map (λ t. tile_area g t.0 t.1) (tiles_of g) ≡ area
 areas_are g = map_pairs (λ t. tile_area g t.0 t.1) (range_with_len 0 (tile_rows g)) (range_with_len 0 (tile_cols g))
 
 -- the points of a stage's tiles, area by area
-pub cost_is : (job : Pipeline) (inlining : List Bool) (g : ℕ) (s : Stage) → cost_of job inlining g s ≡ points_over (over_domain job inlining g s) (areas_of_tiles (grid_of job s))
+pub cost_is : (job : Pipeline) (inlining : List Bool) (g : ℕ) (s : Stage)
+    → cost_of job inlining g s ≡ points_over (over_domain job inlining g s) (areas_of_tiles (grid_of job s))
 cost_is job inlining g s =
     let t : Target = over_domain job inlining g s in
     let tiles : List (ℕ × ℕ) = tiles_of (grid_of job s) in
     let f : ℕ × ℕ → Area = λ x. tile_area (grid_of job s) x.0 x.1 in
     ap sum (map_map points (λ x. over t (f x)) tiles ∙ sym (map_map (λ a. points (over t a)) f tiles) ∙ ap (map (λ a. points (over t a))) (areas_are (grid_of job s)))
 
-has_tile : (g : Grid) (t : ℕ × ℕ) → Contains (range_with_len 0 (tile_rows g)) t.0 × Contains (range_with_len 0 (tile_cols g)) t.1 → HasTile g t.0 t.1
+has_tile : (g : Grid) (t : ℕ × ℕ) → Contains (range_with_len 0 (tile_rows g)) t.0 × Contains (range_with_len 0 (tile_cols g)) t.1
+    → HasTile g t.0 t.1
 has_tile g t both =
     let row = Contains-from_range 0 (tile_rows g) t.0 both.0 in
     let col = Contains-from_range 0 (tile_cols g) t.1 both.1 in
     let below = row.1 in let before = col.1 in
     (omega arith, omega arith)
 
-pub tiles_are_targets : (job : Pipeline) (inlining : List Bool) (g : ℕ) (s : Stage) → IsJob job → slice_get job.stages g ≡ Some s → All (λ a. IsTarget (over (over_domain job inlining g s) a)) (areas_of_tiles (grid_of job s))
+pub tiles_are_targets : (job : Pipeline) (inlining : List Bool) (g : ℕ) (s : Stage) → IsJob job → slice_get job.stages g ≡ Some s
+    → All (λ a. IsTarget (over (over_domain job inlining g s) a)) (areas_of_tiles (grid_of job s))
 tiles_are_targets job inlining g s h there =
     let grid : Grid = grid_of job s in
     let t : Target = over_domain job inlining g s in
     let f : ℕ × ℕ → Area = λ x. tile_area grid x.0 x.1 in
     let listed = All-pairs (range_with_len 0 (tile_rows grid)) (range_with_len 0 (tile_cols grid)) in
     let each : All (λ (x : ℕ × ℕ). IsTarget (over t (f x))) (tiles_of grid) =
-    λ k d below. let x : ℕ × ℕ = get_or (tiles_of grid) k d in tile_of_stage_is_target job inlining g s x.0 x.1 h there (has_tile grid x (listed k d below)) in
-    subst (λ (areas : List Area). All (λ a. IsTarget (over t a)) areas) (areas_are grid) (All-map (λ a. IsTarget (over t a)) f (tiles_of grid) each)
+    λ k d below. let x : ℕ × ℕ = get_or (tiles_of grid) k d in tile_of_stage_is_target job inlining g s x.0 x.1 h there
+    (has_tile grid x (listed k d below)) in
+    subst (λ (areas : List Area). All (λ a. IsTarget (over t a)) areas) (areas_are grid)
+    (All-map (λ a. IsTarget (over t a)) f (tiles_of grid) each)
 
-pub targets_from : (job : Pipeline) (inlining : List Bool) (n : ℕ) (grid : Grid) (areas : List Area) → IsJob job → grid_at job n ≡ Some grid → areas ≡ areas_of_tiles grid
+pub targets_from : (job : Pipeline) (inlining : List Bool) (n : ℕ) (grid : Grid) (areas : List Area) → IsJob job → grid_at job n ≡ Some grid
+    → areas ≡ areas_of_tiles grid
     → All (λ a. IsTarget (over (target_over job inlining n grid.area) a)) areas
 targets_from job inlining n grid areas h at are =
     let g = gridded job n grid at in
@@ -128,12 +138,14 @@ targets_from job inlining n grid areas h at are =
     let same : areas_of_tiles (grid_of job g.stage) ≡ areas = ap areas_of_tiles g.is ∙ sym are in
     subst (λ (xs : List Area). All (λ a. IsTarget (target_over job inlining n a)) xs) same all
 
-pub cost_from : (job : Pipeline) (inlining : List Bool) (n : ℕ) (grid : Grid) (k : ℕ) → grid_at job n ≡ Some grid → is_inlined inlining n ≡ false
+pub cost_from : (job : Pipeline) (inlining : List Bool) (n : ℕ) (grid : Grid) (k : ℕ) → grid_at job n ≡ Some grid
+    → is_inlined inlining n ≡ false
     → k ≡ points_over (target_over job inlining n grid.area) (areas_of_tiles grid) → Some k ≡ cost job inlining n
 cost_from job inlining n grid k at stored is =
     let g = gridded job n grid at in
     let t : Target = over_domain job inlining n g.stage in
-    let sum_is : k ≡ cost_of job inlining n g.stage = is ∙ ap (λ (x : Grid). points_over t (areas_of_tiles x)) (sym g.is) ∙ sym (cost_is job inlining n g.stage) in
+    let sum_is : k ≡ cost_of job inlining n g.stage = is ∙ ap (λ (x : Grid). points_over t (areas_of_tiles x)) (sym g.is)
+    ∙ sym (cost_is job inlining n g.stage) in
     let has : (has_tiles g.stage.body && not (is_inlined inlining n)) ≡ true = (λ i. g.tiles i && not (stored i)) in
     ap Some sum_is ∙ sym (ap (stage_cost job inlining n) g.there ∙ ap (λ b. if b then Some (cost_of job inlining n g.stage) else None) has)
 
@@ -142,38 +154,48 @@ cost_from job inlining n grid k at stored is =
 -- one number more is tested
 pub all_more : (p : ℕ → Bool) (n : ℕ) → list_all p (range_with_len 0 (n + 1)) ≡ (list_all p (range_with_len 0 n) && p n)
 all_more p n =
-    ap (list_all p) (range_more n) ∙ list_all-append p (range_with_len 0 n) (n ∷ []) ∙ ap (λ b. list_all p (range_with_len 0 n) && b) (and-true (p n))
+    ap (list_all p) (range_more n) ∙ list_all-append p (range_with_len 0 n) (n ∷ [])
+    ∙ ap (λ b. list_all p (range_with_len 0 n) && b) (and-true (p n))
 
 below_all : (p : ℕ → Bool) (n g : ℕ) → list_all p (range_with_len 0 n) ≡ true → g < n → p g ≡ true
 below_all p n g all below =
     let size : g < length (range_with_len 0 n) = subst (λ (k : ℕ). g < k) (sym (length-range_with_len 0 n)) below in
-    subst (λ (k : ℕ). p k ≡ true) (get_or-range_with_len 0 n g 0 below ∙ (let e : 0 + g ≡ g = omega arith in e)) (AllPass-from_list_all p (range_with_len 0 n) all g 0 size)
+    subst (λ (k : ℕ). p k ≡ true) (get_or-range_with_len 0 n g 0 below ∙ (let e : 0 + g ≡ g = omega arith in e))
+    (AllPass-from_list_all p (range_with_len 0 n) all g 0 size)
 
 -- room for each tile is room for each area
-pub fits_is : (job : Pipeline) (inlining : List Bool) (g : ℕ) (s : Stage) → list_all has_scratch (tile_targets job inlining g s) ≡ all_have_scratch (over_domain job inlining g s) (areas_of_tiles (grid_of job s))
+pub fits_is : (job : Pipeline) (inlining : List Bool) (g : ℕ) (s : Stage)
+    → list_all has_scratch (tile_targets job inlining g s) ≡ all_have_scratch (over_domain job inlining g s) (areas_of_tiles (grid_of job s))
 fits_is job inlining g s =
     let t : Target = over_domain job inlining g s in
     let tiles : List (ℕ × ℕ) = tiles_of (grid_of job s) in
     let f : ℕ × ℕ → Area = λ x. tile_area (grid_of job s) x.0 x.1 in
-    list_all-map has_scratch (λ x. over t (f x)) tiles ∙ sym (list_all-map (λ a. has_scratch (over t a)) f tiles) ∙ ap (list_all (λ a. has_scratch (over t a))) (areas_are (grid_of job s))
+    list_all-map has_scratch (λ x. over t (f x)) tiles ∙ sym (list_all-map (λ a. has_scratch (over t a)) f tiles)
+    ∙ ap (list_all (λ a. has_scratch (over t a))) (areas_are (grid_of job s))
 
-pub fits_from : (job : Pipeline) (inlining : List Bool) (n : ℕ) (grid : Grid) (b : Bool) → grid_at job n ≡ Some grid → is_inlined inlining n ≡ false
-    → b ≡ all_have_scratch (target_over job inlining n grid.area) (areas_of_tiles grid) → b ≡ stage_fits job inlining n (slice_get job.stages n)
+pub fits_from : (job : Pipeline) (inlining : List Bool) (n : ℕ) (grid : Grid) (b : Bool) → grid_at job n ≡ Some grid
+    → is_inlined inlining n ≡ false
+    → b ≡ all_have_scratch (target_over job inlining n grid.area) (areas_of_tiles grid) → b ≡ stage_fits job inlining n
+    (slice_get job.stages n)
 fits_from job inlining n grid b at stored is =
     let g = gridded job n grid at in
     let t : Target = over_domain job inlining n g.stage in
-    let all : b ≡ list_all has_scratch (tile_targets job inlining n g.stage) = is ∙ ap (λ (x : Grid). all_have_scratch t (areas_of_tiles x)) (sym g.is) ∙ sym (fits_is job inlining n g.stage) in
+    let all : b ≡ list_all has_scratch (tile_targets job inlining n g.stage) = is
+    ∙ ap (λ (x : Grid). all_have_scratch t (areas_of_tiles x)) (sym g.is) ∙ sym (fits_is job inlining n g.stage) in
     let has : (has_tiles g.stage.body && not (is_inlined inlining n)) ≡ true = (λ i. g.tiles i && not (stored i)) in
     all ∙ sym (ap (stage_fits job inlining n) g.there ∙ ap (λ d. if d then list_all has_scratch (tile_targets job inlining n g.stage) else true) has)
 
-tiles_fit : (job : Pipeline) (inlining : List Bool) (g : ℕ) (s : Stage) → list_all has_scratch (tile_targets job inlining g s) ≡ true → FitsScratch job inlining g s
+tiles_fit : (job : Pipeline) (inlining : List Bool) (g : ℕ) (s : Stage) → list_all has_scratch (tile_targets job inlining g s) ≡ true
+    → FitsScratch job inlining g s
 tiles_fit job inlining g s all =
     let tiles : List Target = tile_targets job inlining g s in
     let passed = AllPass-from_list_all has_scratch tiles all in
     λ k d below. leb-true (scratch (get_or tiles k d)) most_scratch (passed k d below)
 
-pub all_fit : (job : Pipeline) (inlining : List Bool) → all_stages_fit job inlining (range_with_len 0 (length job.stages)) ≡ true → AllFitScratch job inlining
+pub all_fit : (job : Pipeline) (inlining : List Bool) → all_stages_fit job inlining (range_with_len 0 (length job.stages)) ≡ true
+    → AllFitScratch job inlining
 all_fit job inlining all g s there has =
-    let test = below_all (λ k. stage_fits job inlining k (slice_get job.stages k)) (length job.stages) g all (slice_get_within job.stages g s there) in
+    let test = below_all (λ k. stage_fits job inlining k (slice_get job.stages k)) (length job.stages) g all
+    (slice_get_within job.stages g s there) in
     let room : stage_fits job inlining g (Some s) ≡ true = sym (ap (stage_fits job inlining g) there) ∙ test in
     tiles_fit job inlining g s (sym (ap (λ b. if b then list_all has_scratch (tile_targets job inlining g s) else true) has) ∙ room)

@@ -37,7 +37,8 @@ pub record GroupsFollow (job : Pipeline) (c : Grouping) : Type 0 where
 
 -- ---- stages of which each has the same group by two groupings
 
-tests_same : (c d : Grouping) (h : ℕ) (rs : List ℕ) → All (λ r. group d r ≡ group c r) rs → list_all (λ q. nat_eq (group d q) h) rs ≡ list_all (λ q. nat_eq (group c q) h) rs
+tests_same : (c d : Grouping) (h : ℕ) (rs : List ℕ) → All (λ r. group d r ≡ group c r) rs
+    → list_all (λ q. nat_eq (group d q) h) rs ≡ list_all (λ q. nat_eq (group c q) h) rs
 tests_same c d h [] same = refl
 tests_same c d h (r ∷ rs) same =
     let first = All-head (λ r. group d r ≡ group c r) r rs same in
@@ -76,7 +77,8 @@ module _ {job : Pipeline} {c : Grouping} {g h : ℕ} (next : IsNext job c g h) w
   group_stays x other = get_or-set_other c.groups g x h x other
 
   -- g is no reader of a stage of no lower rank, so that its readers have the groups that they had
-  readers_stay : (x : ℕ) → rank_of job.stages g ≤ rank_of job.stages x → common_group (with_inlined c g h) (readers job x) ≡ common_group c (readers job x)
+  readers_stay : (x : ℕ) → rank_of job.stages g ≤ rank_of job.stages x
+      → common_group (with_inlined c g h) (readers job x) ≡ common_group c (readers job x)
   readers_stay x low = common_group_same c (with_inlined c g h) (readers job x) (
       All-weaker (λ r. does_read job x r ≡ true) (λ r. group (with_inlined c g h) r ≡ group c r)
       (λ r reads. group_stays r (ranks_differ job.stages g r (lt_of_le_of_lt low (reader_is_behind job x r next.valid reads))))
@@ -92,7 +94,8 @@ module _ {job : Pipeline} {c : Grouping} {g h : ℕ} (next : IsNext job c g h) w
   shared_now : common_group (with_inlined c g h) (readers job g) ≡ Some (group (with_inlined c g h) g)
   shared_now = readers_stay g (le_refl (rank_of job.stages g)) ∙ next.one_group ∙ ap Some (sym new_group)
 
-  shared_still : (x : ℕ) → is_inlined (slice_set c.inlining g true) x ≡ true → common_group (with_inlined c g h) (readers job x) ≡ Some (group (with_inlined c g h) x)
+  shared_still : (x : ℕ) → is_inlined (slice_set c.inlining g true) x ≡ true
+      → common_group (with_inlined c g h) (readers job x) ≡ Some (group (with_inlined c g h) x)
   shared_still x inlined = by (cases_eq x g)
     where
       by : (x ≡ g) ⊎ (x ≡ g → ⊥) → common_group (with_inlined c g h) (readers job x) ≡ Some (group (with_inlined c g h) x)
@@ -111,12 +114,14 @@ module _ {job : Pipeline} {c : Grouping} {g h : ℕ} (next : IsNext job c g h) w
 
 -- ---- a visit
 
-follow_visited : (job : Pipeline) (percent : ℕ) (c : Grouping) (g : ℕ) → IsJob job → GroupsFollow job c → g < length job.stages → NoneInlinedBelow job c.inlining g → GroupsFollow job (visited job percent c g)
+follow_visited : (job : Pipeline) (percent : ℕ) (c : Grouping) (g : ℕ) → IsJob job → GroupsFollow job c → g < length job.stages
+    → NoneInlinedBelow job c.inlining g → GroupsFollow job (visited job percent c g)
 follow_visited job percent c g valid follow there behind =
     visited_by (GroupsFollow job) job percent c g follow
     (λ function inner h shared. groups_follow_next (record { valid = valid; follow = follow; there = there; behind = behind; one_group = shared }))
 
-follow_all : (job : Pipeline) (percent : ℕ) (c : Grouping) (gs : List ℕ) → IsJob job → GroupsFollow job c → Falls job.stages gs → All (λ g. g < length job.stages) gs → All (IsFree job c.inlining) gs
+follow_all : (job : Pipeline) (percent : ℕ) (c : Grouping) (gs : List ℕ) → IsJob job → GroupsFollow job c → Falls job.stages gs
+    → All (λ g. g < length job.stages) gs → All (IsFree job c.inlining) gs
     → GroupsFollow job (fold (visited job percent) c gs)
 follow_all job percent c [] valid follow falls there free = follow
 follow_all job percent c (g ∷ gs) valid follow falls there free =
@@ -141,24 +146,29 @@ Falls-take stages (suc k) (x ∷ xs) falls = (All-take (IsBehind stages x) k xs 
 pub follow_after : (job : Pipeline) (percent k : ℕ) → IsJob job → GroupsFollow job (grouping_after job percent k)
 follow_after job percent k valid =
     let first = take k (backward job.stages) in
-    follow_all job percent (initial_grouping job) first valid (follow_at_first job) (Falls-take job.stages k (backward job.stages) (backward_falls job.stages))
+    follow_all job percent (initial_grouping job) first valid (follow_at_first job)
+    (Falls-take job.stages k (backward job.stages) (backward_falls job.stages))
     (All-take (λ g. g < length job.stages) k (backward job.stages) (backward_there job.stages)) (free_at_first job first)
 
 pub follow_at_last : (job : Pipeline) (percent : ℕ) → IsJob job → GroupsFollow job (greedy_grouping job percent)
-follow_at_last job percent valid = follow_all job percent (initial_grouping job) (backward job.stages) valid (follow_at_first job) (backward_falls job.stages) (backward_there job.stages) (free_at_first job (backward job.stages))
+follow_at_last job percent valid =
+    follow_all job percent (initial_grouping job) (backward job.stages) valid (follow_at_first job) (backward_falls job.stages)
+    (backward_there job.stages) (free_at_first job (backward job.stages))
 
 -- ---- readers
 
 reader_there : (job : Pipeline) (x r : ℕ) → does_read job x r ≡ true → r < length job.stages
 reader_there job x r reads = by (slice_get job.stages r) refl reads
   where
-    by : (o : Option Stage) → slice_get job.stages r ≡ o → list_any (λ y. nat_eq (stage_read y) x) (option_map_or (λ (s : Stage). reads_of s.body) o []) ≡ true → r < length job.stages
+    by : (o : Option Stage) → slice_get job.stages r ≡ o
+        → list_any (λ y. nat_eq (stage_read y) x) (option_map_or (λ (s : Stage). reads_of s.body) o []) ≡ true → r < length job.stages
     by None e k = absurd (cc)
     by (Some s) e k = slice_get_within job.stages r s e
 
 is_reader : (job : Pipeline) (x r : ℕ) → does_read job x r ≡ true → Contains (readers job x) r
 is_reader job x r reads =
-    Contains-filter (does_read job x) (backward job.stages) r (Contains-reverse (in_order job.stages) r (ordered job.stages r (reader_there job x r reads))) reads
+    Contains-filter (does_read job x) (backward job.stages) r
+    (Contains-reverse (in_order job.stages) r (ordered job.stages r (reader_there job x r reads))) reads
 
 -- ---- from groups back
 
@@ -166,7 +176,8 @@ module _ (job : Pipeline) (c : Grouping) (valid : IsJob job) (follow : GroupsFol
   -- what holds of each stored stage, and of each inlined function where it holds of a reader with the same group, holds of all
   module _ (Q : ℕ → Type 0) (first : (x : ℕ) → is_inlined c.inlining x ≡ false → Q x)
       (further : (x r : ℕ) → is_inlined c.inlining x ≡ true → does_read job x r ≡ true → group c r ≡ group c x → Q r → Q x) where
-    by_readers : (x : ℕ) (rs : List ℕ) → is_inlined c.inlining x ≡ true → common_group c rs ≡ Some (group c x) → All (λ r. does_read job x r ≡ true) rs
+    by_readers : (x : ℕ) (rs : List ℕ) → is_inlined c.inlining x ≡ true → common_group c rs ≡ Some (group c x)
+        → All (λ r. does_read job x r ≡ true) rs
         → ((r : ℕ) → rank_of job.stages x < rank_of job.stages r → Q r) → Q x
     by_readers x [] inlined shared read higher = absurd (cc)
     by_readers x (r ∷ rs) inlined shared read higher =
@@ -201,13 +212,16 @@ module _ (job : Pipeline) (c : Grouping) (valid : IsJob job) (follow : GroupsFol
 -- ---- chains
 
 -- a chain from a stored stage leads to stages that have it as their group
-group_of_chain : (job : Pipeline) (c : Grouping) (t x : ℕ) → GroupsFollow job c → is_inlined c.inlining t ≡ false → ChainLeads job c.inlining t x → group c x ≡ t
+group_of_chain : (job : Pipeline) (c : Grouping) (t x : ℕ) → GroupsFollow job c → is_inlined c.inlining t ≡ false
+    → ChainLeads job c.inlining t x → group c x ≡ t
 group_of_chain job c t _ follow stored itself = follow.own t stored
 group_of_chain job c t _ follow stored (on r x chain reads inlined) =
-    let same = All-contains (λ r. group c r ≡ group c x) (readers job x) r (group_shared c (readers job x) (group c x) (follow.shared x inlined)) (is_reader job x r reads) in
+    let same = All-contains (λ r. group c r ≡ group c x) (readers job x) r
+    (group_shared c (readers job x) (group c x) (follow.shared x inlined)) (is_reader job x r reads) in
     sym same ∙ group_of_chain job c t r follow stored chain
 
-chains_are_groups : (job : Pipeline) (c : Grouping) (t x : ℕ) → IsJob job → GroupsFollow job c → is_inlined c.inlining t ≡ false → ChainLeads job c.inlining t x ↔ (group c x ≡ t)
+chains_are_groups : (job : Pipeline) (c : Grouping) (t x : ℕ) → IsJob job → GroupsFollow job c → is_inlined c.inlining t ≡ false
+    → ChainLeads job c.inlining t x ↔ (group c x ≡ t)
 chains_are_groups job c t x valid follow stored = (
   group_of_chain job c t x follow stored,
   (λ is. subst (λ y. ChainLeads job c.inlining y x) is (chain_from_group job c valid follow x)),
@@ -217,13 +231,16 @@ chains_are_groups job c t x valid follow stored = (
 
 pub groups_after : (job : Pipeline) (percent k t x : ℕ) → IsJob job → is_inlined (grouping_after job percent k).inlining t ≡ false
     → ChainLeads job (grouping_after job percent k).inlining t x ↔ (group (grouping_after job percent k) x ≡ t)
-groups_after job percent k t x valid stored = chains_are_groups job (grouping_after job percent k) t x valid (follow_after job percent k valid) stored
+groups_after job percent k t x valid stored =
+    chains_are_groups job (grouping_after job percent k) t x valid (follow_after job percent k valid) stored
 
 pub groups_at_last : (job : Pipeline) (percent t x : ℕ) → IsJob job → is_inlined (greedy_inlining job percent) t ≡ false
     → ChainLeads job (greedy_inlining job percent) t x ↔ (group (greedy_grouping job percent) x ≡ t)
 unfolding greedy_inlining
-groups_at_last job percent t x valid stored = chains_are_groups job (greedy_grouping job percent) t x valid (follow_at_last job percent valid) stored
+groups_at_last job percent t x valid stored =
+    chains_are_groups job (greedy_grouping job percent) t x valid (follow_at_last job percent valid) stored
 
-pub groups_are_stored : (job : Pipeline) (percent x : ℕ) → IsJob job → is_inlined (greedy_inlining job percent) (group (greedy_grouping job percent) x) ≡ false
+pub groups_are_stored : (job : Pipeline) (percent x : ℕ) → IsJob job
+    → is_inlined (greedy_inlining job percent) (group (greedy_grouping job percent) x) ≡ false
 unfolding greedy_inlining
 groups_are_stored job percent x valid = group_is_stored job (greedy_grouping job percent) valid (follow_at_last job percent valid) x

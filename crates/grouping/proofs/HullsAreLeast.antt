@@ -30,7 +30,8 @@ in_second s t v h = let low = h.0 in let high = h.1 in (omega (arith, ints, clam
 
 grown_has : (o : Option Area) (a : Area) (r c : ℤ) → HoldsPoint a r c → InHull (grown_by o a) r c
 grown_has None a r c h = record { hull = a; there = refl; holds = h }
-grown_has (Some b) a r c h = record { hull = area_hull b a; there = refl; holds = (in_second b.rows a.rows r h.0, in_second b.cols a.cols c h.1) }
+grown_has (Some b) a r c h =
+    record { hull = area_hull b a; there = refl; holds = (in_second b.rows a.rows r h.0, in_second b.cols a.cols c h.1) }
 
 grown_keeps : (o : Option Area) (a : Area) (r c : ℤ) → InHull o r c → InHull (grown_by o a) r c
 grown_keeps None a r c h = absurd (let there = h.there in cc)
@@ -46,14 +47,17 @@ fold_keeps (a ∷ rest) o r c h = fold_keeps rest (grown_by o a) r c (grown_keep
 fold_has : (areas : List Area) (o : Option Area) (r c : ℤ) → All (λ a. HoldsPoint a r c → InHull (fold grown_by o areas) r c) areas
 fold_has [] o r c = All-nil (λ a. HoldsPoint a r c → InHull o r c)
 fold_has (a ∷ rest) o r c =
-    All-cons (λ b. HoldsPoint b r c → InHull (fold grown_by (grown_by o a) rest) r c) a rest (λ h. fold_keeps rest (grown_by o a) r c (grown_has o a r c h)) (fold_has rest (grown_by o a) r c)
+    All-cons (λ b. HoldsPoint b r c → InHull (fold grown_by (grown_by o a) rest) r c) a rest
+    (λ h. fold_keeps rest (grown_by o a) r c (grown_has o a r c h)) (fold_has rest (grown_by o a) r c)
 
 -- ---- demands
 
 -- what is demanded of a stage lies in the hull of all that is
-pub demand_in_hull : (ds : List Demand) (d : Demand) (r c : ℤ) → Contains ds d → HoldsPoint d.area r c → InHull (hull_of_all (areas_of d.stage ds)) r c
+pub demand_in_hull : (ds : List Demand) (d : Demand) (r c : ℤ) → Contains ds d → HoldsPoint d.area r c
+    → InHull (hull_of_all (areas_of d.stage ds)) r c
 demand_in_hull ds d r c there h =
-    All-contains (λ a. HoldsPoint a r c → InHull (hull_of_all (areas_of d.stage ds)) r c) (areas_of d.stage ds) d.area (fold_has (areas_of d.stage ds) None r c)
+    All-contains (λ a. HoldsPoint a r c → InHull (hull_of_all (areas_of d.stage ds)) r c) (areas_of d.stage ds) d.area
+    (fold_has (areas_of d.stage ds) None r c)
     (Contains-map (λ e. e.area) (filter (λ e. nat_eq e.stage d.stage) ds) d (Contains-filter (λ e. nat_eq e.stage d.stage) ds d there (eq-eqb d.stage d.stage refl))) h
 
 -- ---- meets
@@ -67,23 +71,27 @@ meet_holds a b r c h k =
 
 -- ---- hulls are least
 
-least_with : (o : Option Area) (a s h : Area) → ((b : Area) → o ≡ Some b → IsArea b × IsSubarea b s) → IsArea a → IsSubarea a s → grown_by o a ≡ Some h → IsArea h × IsSubarea h s
+least_with : (o : Option Area) (a s h : Area) → ((b : Area) → o ≡ Some b → IsArea b × IsSubarea b s) → IsArea a → IsSubarea a s
+    → grown_by o a ≡ Some h → IsArea h × IsSubarea h s
 least_with None a s h before area inside is =
     let same : a ≡ h = cc in
     subst (λ (x : Area). IsArea x × IsSubarea x s) same (area, inside)
 least_with (Some b) a s h before area inside is =
     let same : area_hull b a ≡ h = cc in
     let first = before b refl in
-    subst (λ (x : Area). IsArea x × IsSubarea x s) same (area_hull_fits b a first.0 area, (hull_of_areas b a first.0 area).least s first.1 inside)
+    subst (λ (x : Area). IsArea x × IsSubarea x s) same
+    (area_hull_fits b a first.0 area, (hull_of_areas b a first.0 area).least s first.1 inside)
 
-fold_least : (areas : List Area) (o : Option Area) (s h : Area) → ((b : Area) → o ≡ Some b → IsArea b × IsSubarea b s) → All IsArea areas → All (λ a. IsSubarea a s) areas → fold grown_by o areas ≡ Some h → IsSubarea h s
+fold_least : (areas : List Area) (o : Option Area) (s h : Area) → ((b : Area) → o ≡ Some b → IsArea b × IsSubarea b s) → All IsArea areas
+    → All (λ a. IsSubarea a s) areas → fold grown_by o areas ≡ Some h → IsSubarea h s
 fold_least [] o s h before each inside is = (before h is).1
 fold_least (a ∷ rest) o s h before each inside is =
     fold_least rest (grown_by o a) s h (λ b made. least_with o a s b before (All-head IsArea a rest each) (All-head (λ a. IsSubarea a s) a rest inside) made)
     (All-tail IsArea a rest each) (All-tail (λ a. IsSubarea a s) a rest inside) is
 
 in_this : (o : Option Area) (h : Area) (r c : ℤ) → o ≡ Some h → InHull o r c → HoldsPoint h r c
-in_this o h r c is inside = let same : inside.hull ≡ h = let there = inside.there in cc in subst (λ (x : Area). HoldsPoint x r c) same inside.holds
+in_this o h r c is inside =
+    let same : inside.hull ≡ h = let there = inside.there in cc in subst (λ (x : Area). HoldsPoint x r c) same inside.holds
 
 pub hull_is_least : (areas : List Area) (h : Area) → All IsArea areas → hull_of_all areas ≡ Some h → IsHullOfAll areas h
 hull_is_least areas h each is = record {

@@ -28,7 +28,8 @@ reads_are (binary op a b) h = All-append IsRead (reads_in a) (reads_in b) (reads
 reads_are (literal op a n) h = reads_are a h.1
 reads_are (abs a) h = reads_are a h
 reads_are (clamp a low high) h =
-    All-append IsRead (reads_in a ++ reads_in low) (reads_in high) (All-append IsRead (reads_in a) (reads_in low) (reads_are a h.0) (reads_are low h.1)) (reads_are high h.2)
+    All-append IsRead (reads_in a ++ reads_in low) (reads_in high)
+    (All-append IsRead (reads_in a) (reads_in low) (reads_are a h.0) (reads_are low h.1)) (reads_are high h.2)
 reads_are (select a relation b first second) h =
     All-append IsRead (reads_in a ++ reads_in b ++ reads_in first) (reads_in second)
     (All-append IsRead (reads_in a ++ reads_in b) (reads_in first) (All-append IsRead (reads_in a) (reads_in b) (reads_are a h.0) (reads_are b h.1)) (reads_are first h.2))
@@ -44,11 +45,13 @@ half n a h = omega arith
 in_widened : (s : Ends) (v : ℤ) (n a : ℕ) → a < n → Holds s v → Holds (widened (n / 2) s) (under v n a)
 in_widened s v n a there h = let low = h.0 in let high = h.1 in let most = half n a there in (omega (arith, ints), omega (arith, ints))
 
-width_of : (kernel : List (List ℤ)) (a b : ℕ) → IsKernel kernel → a < length kernel → b < length (factors kernel a) → b < length (factors kernel 0)
+width_of : (kernel : List (List ℤ)) (a b : ℕ) → IsKernel kernel → a < length kernel → b < length (factors kernel a)
+    → b < length (factors kernel 0)
 width_of kernel a b is la lb = let same : length (factors kernel a) ≡ length (factors kernel 0) = is.one_width a [] la in omega arith
 
 -- a point of the region takes points of the image
-pub image_holds : (x : Read) (region : Area) (r c : ℤ) → IsRead x → HoldsPoint region r c → EachTaken (λ g i j. HoldsPoint (image_under x region) i j) x r c
+pub image_holds : (x : Read) (region : Area) (r c : ℤ) → IsRead x → HoldsPoint region r c
+    → EachTaken (λ g i j. HoldsPoint (image_under x region) i j) x r c
 image_holds (point g i j) region r c is h = (in_image i region.rows r is.0 h.0, in_image j region.cols c is.1 h.1)
 image_holds (window g kernel) region r c is h =
     λ a b la lb. (in_widened region.rows r (length kernel) a la h.0, in_widened region.cols c (length (factors kernel 0)) b (width_of kernel a b is la lb) h.1)

@@ -42,19 +42,23 @@ none_unread t boxes g r e =
 
 -- ---- so the readers' demands alone make the box
 
-kept_areas : (D : ℕ → List Demand) (g : ℕ) (p : ℕ → Bool) → ((r : ℕ) → p r ≡ false → areas_of g (D r) ≡ []) → (rs : List ℕ) → areas_of g (flat_map D rs) ≡ areas_of g (flat_map D (filter p rs))
+kept_areas : (D : ℕ → List Demand) (g : ℕ) (p : ℕ → Bool) → ((r : ℕ) → p r ≡ false → areas_of g (D r) ≡ []) → (rs : List ℕ)
+    → areas_of g (flat_map D rs) ≡ areas_of g (flat_map D (filter p rs))
 kept_areas D g p none [] = refl
 kept_areas D g p none (r ∷ rs) =
     areas_of-append g (D r) (flat_map D rs) ∙ ap (λ xs. areas_of g (D r) ++ xs) (kept_areas D g p none rs) ∙ by (p r) refl
   where
-    by : (b : Bool) → p r ≡ b → areas_of g (D r) ++ areas_of g (flat_map D (filter p rs)) ≡ areas_of g (flat_map D (if b then r ∷ filter p rs else filter p rs))
+    by : (b : Bool) → p r ≡ b
+        → areas_of g (D r) ++ areas_of g (flat_map D (filter p rs)) ≡ areas_of g (flat_map D (if b then r ∷ filter p rs else filter p rs))
     by true e = sym (areas_of-append g (D r) (flat_map D (filter p rs)))
     by false e = ap (λ xs. xs ++ areas_of g (flat_map D (filter p rs))) (none r e)
 
-pub box_of_readers : (t : Target) (g : ℕ) → IsJob t.job → box t g ≡ cut_to (slice_get t.job.stages g) (hull_of_all (areas_of g (flat_map (demands_by t (box t)) (readers t.job g))))
+pub box_of_readers : (t : Target) (g : ℕ) → IsJob t.job
+    → box t g ≡ cut_to (slice_get t.job.stages g) (hull_of_all (areas_of g (flat_map (demands_by t (box t)) (readers t.job g))))
 box_of_readers t g job =
     box_follows t g (ranked_is t.job job)
-    ∙ ap (λ xs. cut_to (slice_get t.job.stages g) (hull_of_all xs)) (kept_areas (demands_by t (box t)) g (does_read t.job g) (none_unread t (box t) g) (backward t.job.stages))
+    ∙ ap (λ xs. cut_to (slice_get t.job.stages g) (hull_of_all xs))
+    (kept_areas (demands_by t (box t)) g (does_read t.job g) (none_unread t (box t) g) (backward t.job.stages))
 
 -- ---- without a reader in the target there is no box
 
@@ -83,21 +87,28 @@ cut_is_box t g hulls job there =
 
 -- ---- a reader has a greater rank
 
-behind : (stages : List Stage) (g n : ℕ) (xs : List Read) → list_any (λ x. nat_eq (stage_read x) g) xs ≡ true → All (λ x. rank_of stages (stage_read x) < n) xs → rank_of stages g < n
+behind : (stages : List Stage) (g n : ℕ) (xs : List Read) → list_any (λ x. nat_eq (stage_read x) g) xs ≡ true
+    → All (λ x. rank_of stages (stage_read x) < n) xs → rank_of stages g < n
 behind stages g n [] e falls = absurd (cc)
 behind stages g n (x ∷ xs) e falls =
-    by (nat_eq (stage_read x) g) refl e (All-head (λ x. rank_of stages (stage_read x) < n) x xs falls) (λ k. behind stages g n xs k (All-tail (λ x. rank_of stages (stage_read x) < n) x xs falls))
+    by (nat_eq (stage_read x) g) refl e (All-head (λ x. rank_of stages (stage_read x) < n) x xs falls)
+    (λ k. behind stages g n xs k (All-tail (λ x. rank_of stages (stage_read x) < n) x xs falls))
   where
-    by : (b : Bool) → nat_eq (stage_read x) g ≡ b → (b || list_any (λ x. nat_eq (stage_read x) g) xs) ≡ true → rank_of stages (stage_read x) < n → (list_any (λ x. nat_eq (stage_read x) g) xs ≡ true → rank_of stages g < n) → rank_of stages g < n
+    by : (b : Bool) → nat_eq (stage_read x) g ≡ b → (b || list_any (λ x. nat_eq (stage_read x) g) xs) ≡ true
+        → rank_of stages (stage_read x) < n → (list_any (λ x. nat_eq (stage_read x) g) xs ≡ true → rank_of stages g < n)
+        → rank_of stages g < n
     by true is k first later = subst (λ h. rank_of stages h < n) (eqb-true (stage_read x) g is) first
     by false is k first later = later k
 
 pub reader_is_behind : (job : Pipeline) (g r : ℕ) → IsJob job → does_read job g r ≡ true → rank_of job.stages g < rank_of job.stages r
 reader_is_behind job g r is e = by (slice_get job.stages r) refl e
   where
-    by : (o : Option Stage) → slice_get job.stages r ≡ o → list_any (λ x. nat_eq (stage_read x) g) (option_map_or (λ (s : Stage). reads_of s.body) o []) ≡ true → rank_of job.stages g < rank_of job.stages r
+    by : (o : Option Stage) → slice_get job.stages r ≡ o
+        → list_any (λ x. nat_eq (stage_read x) g) (option_map_or (λ (s : Stage). reads_of s.body) o []) ≡ true
+        → rank_of job.stages g < rank_of job.stages r
     by None there k = absurd (cc)
-    by (Some s) there k = behind job.stages g (rank_of job.stages r) (reads_of s.body) k (reads_fall job.stages (ranked_is job is) r s there)
+    by (Some s) there k =
+        behind job.stages g (rank_of job.stages r) (reads_of s.body) k (reads_fall job.stages (ranked_is job is) r s there)
 
 pub readers_read : (job : Pipeline) (g : ℕ) → All (λ r. does_read job g r ≡ true) (readers job g)
 readers_read job g = filter_passes (does_read job g) (backward job.stages)
@@ -107,8 +118,10 @@ readers_read job g = filter_passes (does_read job g) (backward job.stages)
 near_domain : (t : Target) (g : ℕ) (s : Stage) → IsJob t.job → slice_get t.job.stages g ≡ Some s → InDomainRanges s.domain
 near_domain t g s job is = let stage : IsStage t.job s = job.stages g s is in record { rows = stage.rows; cols = stage.cols }
 
-pub near_box : (t : Target) (g : ℕ) (s : Stage) (a : Area) → IsJob t.job → slice_get t.job.stages g ≡ Some s → box t g ≡ Some a → InDomainRanges a
-near_box t g s a job is there = let inside = box_inside t g s a job is there in near_subarea a s.domain (near_domain t g s job is) inside.0 inside.1
+pub near_box : (t : Target) (g : ℕ) (s : Stage) (a : Area) → IsJob t.job → slice_get t.job.stages g ≡ Some s → box t g ≡ Some a
+    → InDomainRanges a
+near_box t g s a job is there =
+    let inside = box_inside t g s a job is there in near_subarea a s.domain (near_domain t g s job is) inside.0 inside.1
 
 -- what has a box is there
 near_any_box : (t : Target) (g : ℕ) (a : Area) → IsJob t.job → box t g ≡ Some a → InDomainRanges a
@@ -141,7 +154,8 @@ pub group_shared : (c : Grouping) (rs : List ℕ) (h : ℕ) → common_group c r
 group_shared c [] h e = All-nil (λ r. group c r ≡ h)
 group_shared c (r ∷ rs) h e = by (list_all (λ q. nat_eq (group c q) (group c r)) rs) refl e
   where
-    by : (b : Bool) → list_all (λ q. nat_eq (group c q) (group c r)) rs ≡ b → (if b then Some (group c r) else None) ≡ Some h → All (λ r. group c r ≡ h) (r ∷ rs)
+    by : (b : Bool) → list_all (λ q. nat_eq (group c q) (group c r)) rs ≡ b → (if b then Some (group c r) else None) ≡ Some h
+        → All (λ r. group c r ≡ h) (r ∷ rs)
     by true same k =
         let first : group c r ≡ h = cc in
         All-cons (λ r. group c r ≡ h) r rs first

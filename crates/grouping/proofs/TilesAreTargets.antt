@@ -20,7 +20,8 @@ pub record Gridded (job : Pipeline) (g : ℕ) (grid : Grid) : Type 0 where
 pub gridded : (job : Pipeline) (g : ℕ) (grid : Grid) → grid_at job g ≡ Some grid → Gridded job g grid
 gridded job g grid = by (slice_get job.stages g) refl
   where
-    pick : (s : Stage) (b : Bool) → slice_get job.stages g ≡ Some s → has_tiles s.body ≡ b → (if b then Some (grid_of job s) else None) ≡ Some grid → Gridded job g grid
+    pick : (s : Stage) (b : Bool) → slice_get job.stages g ≡ Some s → has_tiles s.body ≡ b
+        → (if b then Some (grid_of job s) else None) ≡ Some grid → Gridded job g grid
     pick s true there tiles is = record { stage = s; there = there; tiles = tiles; is = cc }
     pick s false there tiles is = absurd (cc)
 
@@ -37,12 +38,14 @@ grid_of_stage_fits job g s h there =
 pub grid_fits : (job : Pipeline) (g : ℕ) (grid : Grid) → IsJob job → grid_at job g ≡ Some grid → IsGrid grid
 grid_fits job g grid h at = let of = gridded job g grid at in subst IsGrid of.is (grid_of_stage_fits job g of.stage h of.there)
 
-pub tile_of_stage_is_target : (job : Pipeline) (inlining : List Bool) (g : ℕ) (s : Stage) (i j : ℕ) → IsJob job → slice_get job.stages g ≡ Some s → HasTile (grid_of job s) i j
+pub tile_of_stage_is_target : (job : Pipeline) (inlining : List Bool) (g : ℕ) (s : Stage) (i j : ℕ) → IsJob job
+    → slice_get job.stages g ≡ Some s → HasTile (grid_of job s) i j
     → IsTarget (target_over job inlining g (tile_area (grid_of job s) i j))
 tile_of_stage_is_target job inlining g s i j h there has =
     record { owner = s; there = there; area = tile_fits (grid_of job s) i j (grid_of_stage_fits job g s h there) has; inside = tile_inside (grid_of job s) i j }
 
-pub tile_is_target : (job : Pipeline) (inlining : List Bool) (g i j : ℕ) (grid : Grid) → IsJob job → grid_at job g ≡ Some grid → HasTile grid i j → IsTarget (target_over job inlining g (tile_area grid i j))
+pub tile_is_target : (job : Pipeline) (inlining : List Bool) (g i j : ℕ) (grid : Grid) → IsJob job → grid_at job g ≡ Some grid
+    → HasTile grid i j → IsTarget (target_over job inlining g (tile_area grid i j))
 tile_is_target job inlining g i j grid h at =
     let of = gridded job g grid at in
     subst (λ (x : Grid). HasTile x i j → IsTarget (target_over job inlining g (tile_area x i j))) of.is

@@ -46,23 +46,27 @@ Rises stages (x ∷ xs) = All (ComesBefore stages x) xs × Rises stages xs
 
 rises : (stages : List Stage) (xs : List ℕ) → AllPairs (ComesBefore stages) xs → Rises stages xs
 rises stages [] pairs = tt
-rises stages (x ∷ xs) pairs = (AllPairs-head (ComesBefore stages) x xs pairs, rises stages xs (AllPairs-tail (ComesBefore stages) x xs pairs))
+rises stages (x ∷ xs) pairs =
+    (AllPairs-head (ComesBefore stages) x xs pairs, rises stages xs (AllPairs-tail (ComesBefore stages) x xs pairs))
 
 behind : (stages : List Stage) (x y : ℕ) → ComesBefore stages x y → IsBehind stages y x
-behind stages x y (inl low) = (omega arith, ne_eqb x y (λ e. let same : rank_of stages x ≡ rank_of stages y = ap (rank_of stages) e in omega arith))
+behind stages x y (inl low) =
+    (omega arith, ne_eqb x y (λ e. let same : rank_of stages x ≡ rank_of stages y = ap (rank_of stages) e in omega arith))
 behind stages x y (inr (same, low)) = (omega arith, ne_eqb x y (λ e. omega arith))
 
 falls-last : (stages : List Stage) (ys : List ℕ) (x : ℕ) → Falls stages ys → All (λ y. IsBehind stages y x) ys → Falls stages (ys ++ x ∷ [])
 falls-last stages [] x falls all = (All-nil (IsBehind stages x), tt)
 falls-last stages (y ∷ ys) x falls all = (
-  All-append (IsBehind stages y) ys (x ∷ []) falls.0 (All-cons (IsBehind stages y) x [] (All-head (λ y. IsBehind stages y x) y ys all) (All-nil (IsBehind stages y))),
+  All-append (IsBehind stages y) ys (x ∷ []) falls.0
+      (All-cons (IsBehind stages y) x [] (All-head (λ y. IsBehind stages y x) y ys all) (All-nil (IsBehind stages y))),
   falls-last stages ys x falls.1 (All-tail (λ y. IsBehind stages y x) y ys all),
 )
 
 reverse_falls : (stages : List Stage) (xs : List ℕ) → Rises stages xs → Falls stages (reverse xs)
 reverse_falls stages [] rise = tt
 reverse_falls stages (x ∷ xs) rise =
-    let all = All-reverse (λ y. IsBehind stages y x) xs (All-weaker (ComesBefore stages x) (λ y. IsBehind stages y x) (λ y h. behind stages x y h) xs rise.0) in
+    let all = All-reverse (λ y. IsBehind stages y x) xs
+    (All-weaker (ComesBefore stages x) (λ y. IsBehind stages y x) (λ y h. behind stages x y h) xs rise.0) in
     subst (Falls stages) (sym (reverse-append (x ∷ []) xs)) (falls-last stages (reverse xs) x (reverse_falls stages xs rise.1) all)
 
 pub backward_falls : (stages : List Stage) → Falls stages (backward stages)
@@ -77,7 +81,8 @@ backward_there stages =
 
 -- a visit leaves the grouping, or inlines the stage, which then is a function and no output, in the one group of its readers
 pub visited_by : (Q : Grouping → Type 0) (job : Pipeline) (percent : ℕ) (c : Grouping) (g : ℕ) → Q c
-    → (is_function job g ≡ true → is_output job g ≡ false → (h : ℕ) → common_group c (readers job g) ≡ Some h → Q (with_inlined c g h)) → Q (visited job percent c g)
+    → (is_function job g ≡ true → is_output job g ≡ false → (h : ℕ) → common_group c (readers job g) ≡ Some h → Q (with_inlined c g h)) → Q
+    (visited job percent c g)
 visited_by Q job percent c g same one = by (is_function job g) refl (is_output job g) refl
   where
     if_pays : (b : Bool) (h : ℕ) → Q (with_inlined c g h) → Q (if b then with_inlined c g h else c)
@@ -88,20 +93,23 @@ visited_by Q job percent c g same one = by (is_function job g) refl (is_output j
     if_group None k = same
     if_group (Some h) k = if_pays (pays job percent c.inlining g h && has_room job c.inlining g h) h (k h refl)
 
-    by : (a : Bool) → is_function job g ≡ a → (b : Bool) → is_output job g ≡ b → Q (if a && not b then inlined_if job percent c g (common_group c (readers job g)) else c)
+    by : (a : Bool) → is_function job g ≡ a → (b : Bool) → is_output job g ≡ b
+        → Q (if a && not b then inlined_if job percent c g (common_group c (readers job g)) else c)
     by true e false f = if_group (common_group c (readers job g)) (one e f)
     by true e true f = same
     by false e b f = same
 
 -- what holds of g and of all that was inlined holds of all that is inlined with g
-of_inlined : (P : ℕ → Type 0) (inlining : List Bool) (g k : ℕ) → P g → ((x : ℕ) → is_inlined inlining x ≡ true → P x) → is_inlined (slice_set inlining g true) k ≡ true → P k
+of_inlined : (P : ℕ → Type 0) (inlining : List Bool) (g k : ℕ) → P g → ((x : ℕ) → is_inlined inlining x ≡ true → P x)
+    → is_inlined (slice_set inlining g true) k ≡ true → P k
 of_inlined P inlining g k here was inlined = by (nat_eq k g) refl
   where
     by : (b : Bool) → nat_eq k g ≡ b → P k
     by true e = let same : g ≡ k = grind (arith, nat_tests) in subst P same here
     by false e = let other : k ≢ g = grind (arith, nat_tests) in was k (sym (get_or-set_other inlining g k true false other) ∙ inlined)
 
-one_more_is : (job : Pipeline) (inlining : List Bool) (g : ℕ) → IsSchedule job inlining → is_function job g ≡ true → is_output job g ≡ false → IsSchedule job (slice_set inlining g true)
+one_more_is : (job : Pipeline) (inlining : List Bool) (g : ℕ) → IsSchedule job inlining → is_function job g ≡ true → is_output job g ≡ false
+    → IsSchedule job (slice_set inlining g true)
 one_more_is job inlining g h function inner =
     record {
       each = length-set inlining g true ∙ h.each;
@@ -110,14 +118,19 @@ one_more_is job inlining g h function inner =
     }
 
 -- a visit keeps inlining that make a schedule
-pub visited_is : (job : Pipeline) (percent : ℕ) (c : Grouping) (g : ℕ) → IsSchedule job c.inlining → IsSchedule job (visited job percent c g).inlining
-visited_is job percent c g h = visited_by (λ (d : Grouping). IsSchedule job d.inlining) job percent c g h (λ function inner k shared. one_more_is job c.inlining g h function inner)
+pub visited_is : (job : Pipeline) (percent : ℕ) (c : Grouping) (g : ℕ) → IsSchedule job c.inlining
+    → IsSchedule job (visited job percent c g).inlining
+visited_is job percent c g h =
+    visited_by (λ (d : Grouping). IsSchedule job d.inlining) job percent c g h
+    (λ function inner k shared. one_more_is job c.inlining g h function inner)
 
 -- of no other stage than g it changes whether it is inlined
-pub not_yet : (job : Pipeline) (c : Grouping) (percent g x : ℕ) → nat_eq x g ≡ false → is_inlined (visited job percent c g).inlining x ≡ is_inlined c.inlining x
+pub not_yet : (job : Pipeline) (c : Grouping) (percent g x : ℕ) → nat_eq x g ≡ false
+    → is_inlined (visited job percent c g).inlining x ≡ is_inlined c.inlining x
 not_yet job c percent g x e =
     let other : x ≢ g = grind (arith, nat_tests) in
-    visited_by (λ (d : Grouping). is_inlined d.inlining x ≡ is_inlined c.inlining x) job percent c g refl (λ function inner k shared. get_or-set_other c.inlining g x true false other)
+    visited_by (λ (d : Grouping). is_inlined d.inlining x ≡ is_inlined c.inlining x) job percent c g refl
+    (λ function inner k shared. get_or-set_other c.inlining g x true false other)
 
 -- ---- at first
 
@@ -136,7 +149,8 @@ stored_at_first job g = none_inlined job.stages g
 
 pub scratch_at_first : (job : Pipeline) (g : ℕ) → scratch_by_tile job (all_stored job) g ≡ map (λ a. 0) (areas_at job g)
 scratch_at_first job g =
-    map_same (λ (a : Area). scratch (target_over job (all_stored job) g a)) (λ (a : Area). 0) (areas_at job g) (λ a. no_scratch (target_over job (all_stored job) g a) refl)
+    map_same (λ (a : Area). scratch (target_over job (all_stored job) g a)) (λ (a : Area). 0) (areas_at job g)
+    (λ a. no_scratch (target_over job (all_stored job) g a) refl)
 
 room_of : (job : Pipeline) (g : ℕ) (o : Option Stage) → stage_fits job (all_stored job) g o ≡ true
 room_of job g None = refl
@@ -149,7 +163,8 @@ room_of job g (Some s) = by (has_tiles s.body && not (is_inlined (all_stored job
     by true =
         let t : Target = over_domain job (all_stored job) g s in
         fits_is job (all_stored job) g s
-        ∙ list_all-from_AllPass (λ a. has_scratch (over t a)) areas (λ k d low. ap (λ n. nat_le n most_scratch) (no_scratch (over t (get_or areas k d)) refl))
+        ∙ list_all-from_AllPass (λ a. has_scratch (over t a)) areas
+        (λ k d low. ap (λ n. nat_le n most_scratch) (no_scratch (over t (get_or areas k d)) refl))
     by false = refl
 
 pub room_at_first : (job : Pipeline) (g : ℕ) → stage_fits job (all_stored job) g (slice_get job.stages g) ≡ true
@@ -160,15 +175,18 @@ pub cost_at : (job : Pipeline) (inlining : List Bool) (g : ℕ) → slice_index_
 cost_at job inlining g = by (cases_lt g (length job.stages))
   where
     by : (g < length job.stages) ⊎ (length job.stages ≤ g) → slice_index_or (costs_of job inlining) g None ≡ cost job inlining g
-    by (inl below) = get_or-map-range_with_len (cost job inlining) 0 (length job.stages) g g None below (let e : 0 + g ≡ g = omega arith in e)
+    by (inl below) =
+        get_or-map-range_with_len (cost job inlining) 0 (length job.stages) g g None below (let e : 0 + g ≡ g = omega arith in e)
     by (inr past) =
-        get_or_past (costs_of job inlining) g None (subst (λ (k : ℕ). k ≤ g) (sym (length-map-range_with_len (cost job inlining) 0 (length job.stages))) past)
+        get_or_past (costs_of job inlining) g None
+        (subst (λ (k : ℕ). k ≤ g) (sym (length-map-range_with_len (cost job inlining) 0 (length job.stages))) past)
         ∙ sym (ap (stage_cost job inlining g) (slice_get_past job.stages g past))
 
 -- ---- at last
 
 -- rooms of all stages are room of the schedule
-pub all_have_room : (job : Pipeline) (inlining : List Bool) → ((g : ℕ) → g < length job.stages → stage_fits job inlining g (slice_get job.stages g) ≡ true) → AllFitScratch job inlining
+pub all_have_room : (job : Pipeline) (inlining : List Bool)
+    → ((g : ℕ) → g < length job.stages → stage_fits job inlining g (slice_get job.stages g) ≡ true) → AllFitScratch job inlining
 all_have_room job inlining room =
     all_fit job inlining (list_all-from_AllPass (λ g. stage_fits job inlining g (slice_get job.stages g)) (range_with_len 0 (length job.stages)) (λ k d low. let g = get_or (range_with_len 0 (length job.stages)) k d in by g (cases_lt g (length job.stages))))
   where

@@ -15,12 +15,14 @@ use Rattle.grouping.proofs.DemandsFall.{of_body}
 use Rattle.overlap_tiles.proofs.Lists.{Contains-from_flat_map, All-from_contains}
 
 -- what holds of each stage of which something is demanded holds of one that has a box
-demanded_of : (P : ℕ → Type 0) (o : Option Stage) (g : ℕ) (area : Area) (ds : List Demand) → cut_to o (hull_of_all (areas_of g ds)) ≡ Some area → All (λ d. P d.stage) ds → P g
+demanded_of : (P : ℕ → Type 0) (o : Option Stage) (g : ℕ) (area : Area) (ds : List Demand)
+    → cut_to o (hull_of_all (areas_of g ds)) ≡ Some area → All (λ d. P d.stage) ds → P g
 demanded_of P None g area [] e h = absurd (cc)
 demanded_of P (Some s) g area [] e h = absurd (cc)
 demanded_of P o g area (d ∷ ds) e h = by (eqb d.stage g) refl e (λ rest. demanded_of P o g area ds rest (All-tail (λ x. P x.stage) d ds h))
   where
-    by : (b : Bool) → eqb d.stage g ≡ b → cut_to o (hull_of_all (map (λ x. x.area) (if b then d ∷ filter (λ x. eqb x.stage g) ds else filter (λ x. eqb x.stage g) ds))) ≡ Some area
+    by : (b : Bool) → eqb d.stage g ≡ b
+        → cut_to o (hull_of_all (map (λ x. x.area) (if b then d ∷ filter (λ x. eqb x.stage g) ds else filter (λ x. eqb x.stage g) ds))) ≡ Some area
         → (cut_to o (hull_of_all (areas_of g ds)) ≡ Some area → P g) → P g
     by true same cut rest = subst P (eqb-true d.stage g same) (All-head (λ x. P x.stage) d ds h)
     by false other cut rest = rest cut
@@ -29,18 +31,24 @@ module _ (t : Target) (ranked : IsRanked t.job.stages) where
   abbrev pub IsLower : ℕ → Type 0
   IsLower g = rank_of t.job.stages g < rank_of t.job.stages t.stage
 
-  region_low : (boxes : ℕ → Option Area) (g : ℕ) (a : Area) → ((b : Area) → boxes g ≡ Some b → IsLower g) → region_by t boxes g ≡ Some a → rank_of t.job.stages g ≤ rank_of t.job.stages t.stage
+  region_low : (boxes : ℕ → Option Area) (g : ℕ) (a : Area) → ((b : Area) → boxes g ≡ Some b → IsLower g) → region_by t boxes g ≡ Some a
+      → rank_of t.job.stages g ≤ rank_of t.job.stages t.stage
   region_low boxes g a low e = by (eqb g t.stage) refl (is_inlined t.inlining g) e
     where
-      by : (b : Bool) → eqb g t.stage ≡ b → (i : Bool) → (if b then Some t.region else (if i then boxes g else None)) ≡ Some a → rank_of t.job.stages g ≤ rank_of t.job.stages t.stage
-      by true same i e = let ranks : rank_of t.job.stages g ≡ rank_of t.job.stages t.stage = ap (rank_of t.job.stages) (eqb-true g t.stage same) in omega arith
+      by : (b : Bool) → eqb g t.stage ≡ b → (i : Bool) → (if b then Some t.region else (if i then boxes g else None)) ≡ Some a
+          → rank_of t.job.stages g ≤ rank_of t.job.stages t.stage
+      by true same i e =
+          let ranks : rank_of t.job.stages g ≡ rank_of t.job.stages t.stage = ap (rank_of t.job.stages) (eqb-true g t.stage same) in
+          omega arith
       by false other true e = let lower = low a e in omega arith
       by false other false e = absurd (cc)
 
-  demands_low : (boxes : ℕ → Option Area) → ((g : ℕ) (a : Area) → boxes g ≡ Some a → IsLower g) → (r : ℕ) → All (λ d. IsLower d.stage) (demands_by t boxes r)
+  demands_low : (boxes : ℕ → Option Area) → ((g : ℕ) (a : Area) → boxes g ≡ Some a → IsLower g) → (r : ℕ)
+      → All (λ d. IsLower d.stage) (demands_by t boxes r)
   demands_low boxes low r = by (slice_get t.job.stages r) refl (region_by t boxes r) refl
     where
-      by : (o : Option Stage) → slice_get t.job.stages r ≡ o → (p : Option Area) → region_by t boxes r ≡ p → All (λ d. IsLower d.stage) (stage_demands o p)
+      by : (o : Option Stage) → slice_get t.job.stages r ≡ o → (p : Option Area) → region_by t boxes r ≡ p
+          → All (λ d. IsLower d.stage) (stage_demands o p)
       by None there p is = All-nil (λ d. IsLower d.stage)
       by (Some s) there None is = All-nil (λ d. IsLower d.stage)
       by (Some s) there (Some a) is =
@@ -54,7 +62,8 @@ module _ (t : Target) (ranked : IsRanked t.job.stages) where
       demanded_of IsLower (slice_get t.job.stages g) g a (all_demands_by t (box_within t n)) e
       (All-from_contains (λ d. IsLower d.stage) (all_demands_by t (box_within t n)) (λ d h.
       let from = Contains-from_flat_map (demands_by t (box_within t n)) (backward t.job.stages) d h in
-      All-contains (λ x. IsLower x.stage) (demands_by t (box_within t n) from.0) d (demands_low (box_within t n) (within_low n) from.0) from.2))
+      All-contains (λ x. IsLower x.stage) (demands_by t (box_within t n) from.0) d
+      (demands_low (box_within t n) (within_low n) from.0) from.2))
 
   pub box_low : (g : ℕ) (a : Area) → box t g ≡ Some a → IsLower g
   unfolding box

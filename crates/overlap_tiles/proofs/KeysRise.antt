@@ -27,7 +27,8 @@ is_less : (m n : ℕ) → m < n → nat_cmp m n ≡ Less
 is_less m n h = ap (λ b. cond b Less (cond (eqb m n) Equal Greater)) (lt-ltb m n h)
 
 is_equal : (m n : ℕ) → m ≡ n → nat_cmp m n ≡ Equal
-is_equal m n e = ap (λ b. cond b Less (cond (eqb m n) Equal Greater)) (le-ltb m n (omega arith)) ∙ ap (λ b. cond b Equal Greater) (eq-eqb m n e)
+is_equal m n e =
+    ap (λ b. cond b Less (cond (eqb m n) Equal Greater)) (le-ltb m n (omega arith)) ∙ ap (λ b. cond b Equal Greater) (eq-eqb m n e)
 
 tile_cmp : Tile → Tile → Ordering
 tile_cmp m n = ordering_then (nat_cmp m.stage n.stage) (ordering_then (nat_cmp m.row n.row) (nat_cmp m.col n.col))
@@ -35,7 +36,8 @@ tile_cmp m n = ordering_then (nat_cmp m.stage n.stage) (ordering_then (nat_cmp m
 tile_less : (m n : Tile) → IsTileBefore m n → tile_cmp m n ≡ Less
 unfolding tile_cmp
 tile_less m n h = elim h [
-  | inl stage ↦ ap (λ (o : Ordering). ordering_then o (ordering_then (nat_cmp m.row n.row) (nat_cmp m.col n.col))) (is_less m.stage n.stage stage)
+  | inl stage ↦ ap (λ (o : Ordering). ordering_then o (ordering_then (nat_cmp m.row n.row) (nat_cmp m.col n.col)))
+      (is_less m.stage n.stage stage)
   | inr rest ↦
       (ap (λ (o : Ordering). ordering_then o (ordering_then (nat_cmp m.row n.row) (nat_cmp m.col n.col))) (is_equal m.stage n.stage rest.0)
       ∙ elim rest.1 [
@@ -47,7 +49,8 @@ tile_less m n h = elim h [
 key_before : (program : List ℕ) (job : Pipeline) (m n : Tile) → IsTileBefore m n → IsKeyBefore (key_of program job m) (key_of program job n)
 unfolding tile_cmp
 key_before program job m n h =
-    ap (λ (o : Ordering). ordering_then o (ordering_then (slice_cmp nat_cmp (input_id job) (input_id job)) (tile_cmp m n))) (same_id program)
+    ap (λ (o : Ordering). ordering_then o (ordering_then (slice_cmp nat_cmp (input_id job) (input_id job)) (tile_cmp m n)))
+    (same_id program)
     ∙ ap (λ (o : Ordering). ordering_then o (tile_cmp m n)) (same_id (input_id job))
     ∙ tile_less m n h
 

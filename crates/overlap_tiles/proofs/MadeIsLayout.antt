@@ -27,7 +27,9 @@ use Rattle.grouping.proofs.Lists.{Contains-map}
 
 -- one more step
 points_in-push : (inner : List (ℕ × Area)) (s : ℕ × Area) → points_in (inner ++ s ∷ []) ≡ points_in inner + point_count s.1
-points_in-push inner s = ap sum (map_push (λ (x : ℕ × Area). point_count x.1) inner s) ∙ sum_by_push (λ n. n) (map (λ x. point_count x.1) inner) (point_count s.1)
+points_in-push inner s =
+    ap sum (map_push (λ (x : ℕ × Area). point_count x.1) inner s)
+    ∙ sum_by_push (λ n. n) (map (λ x. point_count x.1) inner) (point_count s.1)
 
 -- how a layout is put together
 pub record IsMade (t : Target) (p : Layout) : Type 0 where
@@ -42,12 +44,14 @@ pub record IsMade (t : Target) (p : Layout) : Type 0 where
 pub is_layout : (t : Target) (p : Layout) → IsMade t p → IsLayout t p
 is_layout t p made =
     let kept : made.inner ≡ inner_steps t = made.kept in
-    let ranges : end_to_end 0 (map (λ s. point_count s.1) (inner_steps t)) ≡ p.ranges = sym (made.ranges ∙ ap (λ (ss : List (ℕ × Area)). end_to_end 0 (map (λ s. point_count s.1) ss)) kept) in
+    let ranges : end_to_end 0 (map (λ s. point_count s.1) (inner_steps t)) ≡ p.ranges = sym
+    (made.ranges ∙ ap (λ (ss : List (ℕ × Area)). end_to_end 0 (map (λ s. point_count s.1) ss)) kept) in
     let size : scratch t ≡ p.scratch = sym (made.scratch ∙ ap points_in kept) in
     record {
       needs = made.needs ∙ needs_made t;
       steps = made.steps ∙ ap (λ (ss : List (ℕ × Area)). ss ++ (t.stage, t.region) ∷ []) kept;
-      points = made.points ∙ ap (λ (ss : List (ℕ × Area)). points_in ss + point_count t.region) kept ∙ sym (points_in-push (inner_steps t) (t.stage, t.region));
+      points = made.points ∙ ap (λ (ss : List (ℕ × Area)). points_in ss + point_count t.region) kept
+          ∙ sym (points_in-push (inner_steps t) (t.stage, t.region));
       ranges = subst (λ (n : ℕ). HaveRoom t p.ranges n) size (subst (λ (rs : List (ℕ × ℕ)). HaveRoom t rs (scratch t)) ranges (have_room t));
     }
 
@@ -59,7 +63,8 @@ tiles_back program job [] = refl
 tiles_back program job (n ∷ ns) = ap (λ (ms : List Tile). n ∷ ms) (tiles_back program job ns)
 
 -- the layout of a plan of a tile is that of the tile
-pub layout_in : (program : List ℕ) (job : Pipeline) (inlining : List Bool) (g i j : ℕ) (p : Plan) → IsTilePlan program job inlining g i j p → IsTileLayout job inlining g i j (layout_of p)
+pub layout_in : (program : List ℕ) (job : Pipeline) (inlining : List Bool) (g i j : ℕ) (p : Plan) → IsTilePlan program job inlining g i j p
+    → IsTileLayout job inlining g i j (layout_of p)
 layout_in program job inlining g i j p is =
     let made = is.plan.plan in
     record {

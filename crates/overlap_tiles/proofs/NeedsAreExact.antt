@@ -35,7 +35,8 @@ chosen_needs g grid o true false = refl
 chosen_needs g grid o false true = refl
 chosen_needs g grid o false false = none_over g grid
 
-past_needs : (g : ℕ) (one other : Option Area) (inlined stored : Bool) → (if inlined then [] else tiles_over g None one) ≡ (if stored then tiles_over g None other else [])
+past_needs : (g : ℕ) (one other : Option Area) (inlined stored : Bool)
+    → (if inlined then [] else tiles_over g None one) ≡ (if stored then tiles_over g None other else [])
 past_needs g one other true true = refl
 past_needs g one other true false = refl
 past_needs g one other false true = refl
@@ -54,7 +55,8 @@ stage_needs_is t g = elim (cases_lt g (length t.job.stages)) [
 ]
 
 pub needs_made : (t : Target) → flat_map (stage_needs t.job t.inlining (boxes t)) (range_with_len 0 (length t.job.stages)) ≡ needs t
-needs_made t = flat_map-same (stage_needs t.job t.inlining (boxes t)) (needs_of t) (range_with_len 0 (length t.job.stages)) (stage_needs_is t)
+needs_made t =
+    flat_map-same (stage_needs t.job t.inlining (boxes t)) (needs_of t) (range_with_len 0 (length t.job.stages)) (stage_needs_is t)
 
 -- ---- what is in it
 
@@ -63,7 +65,8 @@ from_needs t n good h =
     let some = Contains-from_flat_map (needs_of t) (range_with_len 0 (length t.job.stages)) n h in
     by some.0 (is_stored t some.0) refl (grid_at t.job some.0) refl (box t some.0) refl some.2
   where
-    by : (g : ℕ) (b : Bool) → is_stored t g ≡ b → (o : Option Grid) → grid_at t.job g ≡ o → (p : Option Area) → box t g ≡ p → Contains (if b then tiles_over g o p else []) n → IsNeeded t n
+    by : (g : ℕ) (b : Bool) → is_stored t g ≡ b → (o : Option Grid) → grid_at t.job g ≡ o → (p : Option Area) → box t g ≡ p
+        → Contains (if b then tiles_over g o p else []) n → IsNeeded t n
     by g false stored o there p boxed k = absurd (omega (arith, k.1))
     by g true stored None there p boxed k = absurd (omega (arith, k.1))
     by g true stored (Some grid) there None boxed k = absurd (omega (arith, k.1))
@@ -85,7 +88,8 @@ to_needs t n good is =
     let fits = grid_fits t.job n.stage is.grid good is.there in
     let at = gridded t.job n.stage is.grid is.there in
     let there = slice_get_within t.job.stages n.stage at.stage at.there in
-    let list : needs_of t n.stage ≡ map (tile_of_stage n.stage) (cover is.grid is.area) = λ i. if is.stored i then tiles_over n.stage (is.there i) (is.boxed i) else [] in
+    let list : needs_of t n.stage ≡ map (tile_of_stage n.stage) (cover is.grid is.area) = λ i. if is.stored i then tiles_over n.stage
+    (is.there i) (is.boxed i) else [] in
     Contains-flat_map (needs_of t) (range_with_len 0 (length t.job.stages)) n.stage n
     (Contains-range 0 (length t.job.stages) n.stage (omega arith) (omega arith))
     (subst (λ (ns : List Tile). Contains ns n) (sym list)
@@ -94,7 +98,8 @@ to_needs t n good is =
 
 -- ---- in order
 
-stage_of_tile : (g : ℕ) (grid : Option Grid) (o : Option Area) (b : Bool) (n : Tile) → Contains (if b then tiles_over g grid o else []) n → n.stage ≡ g
+stage_of_tile : (g : ℕ) (grid : Option Grid) (o : Option Area) (b : Bool) (n : Tile) → Contains (if b then tiles_over g grid o else []) n
+    → n.stage ≡ g
 stage_of_tile g grid o false n k = absurd (omega (arith, k.1))
 stage_of_tile g None o true n k = absurd (omega (arith, k.1))
 stage_of_tile g (Some grid) None true n k = absurd (omega (arith, k.1))
@@ -104,7 +109,8 @@ tiles_over_rise : (g : ℕ) (grid : Option Grid) (o : Option Area) (b : Bool) �
 tiles_over_rise g grid o false = λ i j d p q. absurd (omega (arith, q))
 tiles_over_rise g None o true = λ i j d p q. absurd (omega (arith, q))
 tiles_over_rise g (Some grid) None true = λ i j d p q. absurd (omega (arith, q))
-tiles_over_rise g (Some grid) (Some a) true = AllPairs-map IsBefore IsTileBefore (tile_of_stage g) (cover grid a) (cover_in_order grid a) (λ x y before. inr (refl, before))
+tiles_over_rise g (Some grid) (Some a) true =
+    AllPairs-map IsBefore IsTileBefore (tile_of_stage g) (cover grid a) (cover_in_order grid a) (λ x y before. inr (refl, before))
 
 pub needs_rise : (t : Target) → AllPairs IsTileBefore (needs t)
 needs_rise t =

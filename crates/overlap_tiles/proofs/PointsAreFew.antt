@@ -25,8 +25,10 @@ begins_below : (a : ℕ) (xs : List ℕ) → a ≤ fold (λ s x. s + x) a xs
 begins_below a xs = omega (arith, sum_by_from (λ x. x) a xs)
 
 -- the points so far and those of the next step are not more than all
-pub next_below : (steps : List Step) (i : ℕ) (s : Step) (total all : ℕ) → i < length steps → s ≡ get_or steps i s → points_from total (drop i steps) ≡ all → total + point_count s.area ≤ all
+pub next_below : (steps : List Step) (i : ℕ) (s : Step) (total all : ℕ) → i < length steps → s ≡ get_or steps i s
+    → points_from total (drop i steps) ≡ all → total + point_count s.area ≤ all
 next_below steps i s total all within is sum =
-    let next : points_from total (drop i steps) ≡ points_from (total + point_count (get_or steps i s).area) (drop (i + 1) steps) = at_drop_more (points_from total) steps i s within in
+    let next : points_from total (drop i steps) ≡ points_from (total + point_count (get_or steps i s).area)
+    (drop (i + 1) steps) = at_drop_more (points_from total) steps i s within in
     let here : point_count s.area ≡ point_count (get_or steps i s).area = ap (λ (x : Step). point_count x.area) is in
     omega (arith, begins_below (total + point_count (get_or steps i s).area) (map (λ x. point_count x.1) (map step_view (drop (i + 1) steps))))

@@ -21,7 +21,8 @@ starts_from start (n ∷ ns) zero a e = omega (arith, ap (λ (r : ℕ × ℕ). r
 starts_from start (n ∷ ns) (suc k) a e = let later = starts_from (start + n) ns k a e in omega arith
 
 -- each ends before the next begins
-in_a_row : (start : ℕ) (ns : List ℕ) (k l : ℕ) (a b : ℕ × ℕ) → k < l → slice_get (end_to_end start ns) k ≡ Some a → slice_get (end_to_end start ns) l ≡ Some b → a.0 + a.1 ≤ b.0
+in_a_row : (start : ℕ) (ns : List ℕ) (k l : ℕ) (a b : ℕ × ℕ) → k < l → slice_get (end_to_end start ns) k ≡ Some a
+    → slice_get (end_to_end start ns) l ≡ Some b → a.0 + a.1 ≤ b.0
 in_a_row start [] k l a b less first second = absurd (cc)
 in_a_row start (n ∷ ns) k zero a b less first second = absurd (omega arith)
 in_a_row start (n ∷ ns) zero (suc l) a b less first second =

@@ -49,7 +49,8 @@ module _ (P Q : ℕ → ℤ → ℤ → Type 0) (r c : ℤ) where
   both_read : (f : Formula) → EachRead P f r c → EachRead Q f r c → EachRead (Both P Q) f r c
   both_read f p q = All-both (λ x. EachTaken P x r c) (λ x. EachTaken Q x r c) (λ x. EachTaken (Both P Q) x r c) both_taken (reads_in f) p q
 
-  both_cases : (ps : List JobCase) → All (λ p. CaseReads P p r c) ps → All (λ p. CaseReads Q p r c) ps → All (λ p. CaseReads (Both P Q) p r c) ps
+  both_cases : (ps : List JobCase) → All (λ p. CaseReads P p r c) ps → All (λ p. CaseReads Q p r c) ps
+      → All (λ p. CaseReads (Both P Q) p r c) ps
   both_cases ps p q =
       All-both (λ p. CaseReads P p r c) (λ p. CaseReads Q p r c) (λ p. CaseReads (Both P Q) p r c)
       (λ case one other. λ b there inside. both_read case.formula (one b there inside) (other b there inside)) ps p q
@@ -69,7 +70,8 @@ module _ (t : Target) (job : IsJob t.job) where
       (subst (λ (xs : List (ℕ × Area)). Contains xs (h, a)) (sym one) (Contains-here (h, a) []))
 
   -- a step of lower rank stands before
-  before : (k g h : ℕ) (a b : Area) (r c : ℤ) → slice_get (steps t) k ≡ Some (g, a) → Contains (steps t) (h, b) → DoesRead t.job g h → rank_of t.job.stages h < rank_of t.job.stages g → HoldsPoint b r c → IsComputedBefore t k h r c
+  before : (k g h : ℕ) (a b : Area) (r c : ℤ) → slice_get (steps t) k ≡ Some (g, a) → Contains (steps t) (h, b) → DoesRead t.job g h
+      → rank_of t.job.stages h < rank_of t.job.stages g → HoldsPoint b r c → IsComputedBefore t k h r c
   before k g h a b r c here there does lower holds =
       record {
         place = there.0;
@@ -98,7 +100,8 @@ module _ (t : Target) (job : IsJob t.job) where
                 omega arith)
           ]
 
-  module _ (h : ℕ) (s : Stage) (there : slice_get t.job.stages h ≡ Some s) (a : Area) (is : box t h ≡ Some a) (r c : ℤ) (holds : HoldsPoint a r c) where
+  module _ (h : ℕ) (s : Stage) (there : slice_get t.job.stages h ≡ Some s) (a : Area) (is : box t h ≡ Some a) (r c : ℤ)
+      (holds : HoldsPoint a r c) where
     -- a function that has a box is not the target
     boxed : is_function_body s.body ≡ true → is_boxed t h ≡ true
     boxed e =
@@ -108,14 +111,16 @@ module _ (t : Target) (job : IsJob t.job) where
         (ap (λ (o : Option Stage). option_map_or (λ x. is_function_body x.body) o false) there ∙ e)
         (ap not other)
 
-    in_a_step : (k g : ℕ) (b : Area) → is_function_body s.body ≡ true → is_inlined t.inlining h ≡ true → slice_get (steps t) k ≡ Some (g, b) → DoesRead t.job g h → rank_of t.job.stages h < rank_of t.job.stages g → IsComputedBefore t k h r c
+    in_a_step : (k g : ℕ) (b : Area) → is_function_body s.body ≡ true → is_inlined t.inlining h ≡ true → slice_get (steps t) k ≡ Some (g, b)
+        → DoesRead t.job g h → rank_of t.job.stages h < rank_of t.job.stages g → IsComputedBefore t k h r c
     in_a_step k g b e inlined here does lower =
         before k g h b a r c here
         (Contains-append_left (inner_steps t) ((t.stage, t.region) ∷ []) (h, a)
         (Contains-filter (λ x. is_inlined t.inlining x.0) (boxes t) (h, a) (function_listed h a (slice_get_within t.job.stages h s there) (boxed e) is) inlined))
         does lower holds
 
-    in_a_tile : is_function_body s.body ≡ true → has_tiles s.body ≡ true → is_inlined t.inlining h ≡ false → HoldsPoint s.domain r c → IsInNeededTile t h r c
+    in_a_tile : is_function_body s.body ≡ true → has_tiles s.body ≡ true → is_inlined t.inlining h ≡ false → HoldsPoint s.domain r c
+        → IsInNeededTile t h r c
     in_a_tile e has stored inside =
         let grid = grid_of t.job s in
         let at : grid_at t.job h ≡ Some grid = ap (stage_grid t.job) there ∙ (λ i. if has i then Some grid else None) in
@@ -136,13 +141,16 @@ module _ (t : Target) (job : IsJob t.job) where
           holds = tile.holds;
         }
 
-  at_hand : (k g : ℕ) (a : Area) → slice_get (steps t) k ≡ Some (g, a) → (h : ℕ) (r c : ℤ) → DoesRead t.job g h → rank_of t.job.stages h < rank_of t.job.stages g → Both (IsInBox t) (IsReadable t.job.stages) h r c → IsAvailable t k h r c
+  at_hand : (k g : ℕ) (a : Area) → slice_get (steps t) k ≡ Some (g, a) → (h : ℕ) (r c : ℤ) → DoesRead t.job g h
+      → rank_of t.job.stages h < rank_of t.job.stages g → Both (IsInBox t) (IsReadable t.job.stages) h r c → IsAvailable t k h r c
   at_hand k g a here h r c does lower both = by both.1.stage.body refl (is_inlined t.inlining h) refl
     where
       by : (body : Body) → both.1.stage.body ≡ body → (i : Bool) → is_inlined t.inlining h ≡ i → IsAvailable t k h r c
       by (plane n) e i inlined = inl (record { stage = both.1.stage; there = both.1.there; number = n; plane = e })
-      by (function cases otherwise) e true inlined = inr (inl (in_a_step h both.1.stage both.1.there both.0.area both.0.there r c both.0.holds k g a (ap is_function_body e) inlined here does lower))
-      by (function cases otherwise) e false inlined = inr (inr (in_a_tile h both.1.stage both.1.there both.0.area both.0.there r c both.0.holds (ap is_function_body e) (ap has_tiles e) inlined both.1.within))
+      by (function cases otherwise) e true inlined =
+          inr (inl (in_a_step h both.1.stage both.1.there both.0.area both.0.there r c both.0.holds k g a (ap is_function_body e) inlined here does lower))
+      by (function cases otherwise) e false inlined =
+          inr (inr (in_a_tile h both.1.stage both.1.there both.0.area both.0.there r c both.0.holds (ap is_function_body e) (ap has_tiles e) inlined both.1.within))
       by (accumulator fold bins value bin) e i inlined = absurd (subst IsValued e both.1.valued)
 
   -- a read of stage g, which leads to a lower rank
@@ -155,20 +163,25 @@ module _ (t : Target) (job : IsJob t.job) where
       (λ x falls inside. (falls, record { stage = s; there = is; reads = Contains-map stage_read (reads_of s.body) x inside }))
       (reads_of s.body) (reads_fall t.job.stages (ranked_is t.job job) g s is) (All-contains_itself (reads_of s.body))
 
-  taken_at_hand : (k g : ℕ) (a : Area) → slice_get (steps t) k ≡ Some (g, a) → (r c : ℤ) (x : Read) → IsReadOf g x → EachTaken (Both (IsInBox t) (IsReadable t.job.stages)) x r c → EachTaken (IsAvailable t k) x r c
+  taken_at_hand : (k g : ℕ) (a : Area) → slice_get (steps t) k ≡ Some (g, a) → (r c : ℤ) (x : Read) → IsReadOf g x
+      → EachTaken (Both (IsInBox t) (IsReadable t.job.stages)) x r c → EachTaken (IsAvailable t k) x r c
   taken_at_hand k g a here r c (point h i j) is taken = at_hand k g a here h (index_at i r) (index_at j c) is.1 is.0 taken
-  taken_at_hand k g a here r c (window h kernel) is taken = λ m n lm ln. at_hand k g a here h (kernel_row kernel r m) (kernel_column kernel c n) is.1 is.0 (taken m n lm ln)
+  taken_at_hand k g a here r c (window h kernel) is taken =
+      λ m n lm ln. at_hand k g a here h (kernel_row kernel r m) (kernel_column kernel c n) is.1 is.0 (taken m n lm ln)
 
 pub step_region : (t : Target) (k g : ℕ) (a : Area) → slice_get (steps t) k ≡ Some (g, a) → region t g ≡ Some a
-step_region t k g a here = region_of_step t (g, a) (k, slice_get_within (steps t) k (g, a) here, get_or_from_slice_get (steps t) k (g, a) (g, a) here)
+step_region t k g a here =
+    region_of_step t (g, a) (k, slice_get_within (steps t) k (g, a) here, get_or_from_slice_get (steps t) k (g, a) (g, a) here)
 
-pub step_in_domain : (t : Target) (k g : ℕ) (s : Stage) (a : Area) → IsJob t.job → IsTarget t → slice_get (steps t) k ≡ Some (g, a) → slice_get t.job.stages g ≡ Some s → InDomain s a
+pub step_in_domain : (t : Target) (k g : ℕ) (s : Stage) (a : Area) → IsJob t.job → IsTarget t → slice_get (steps t) k ≡ Some (g, a)
+    → slice_get t.job.stages g ≡ Some s → InDomain s a
 step_in_domain t k g s a job target here is = region_in_domain t g s a job target is (step_region t k g a here)
 
 pub reads_available : (t : Target) → IsJob t.job → IsTarget t → ReadsAvailable t
 reads_available t job target = λ k g s a here is r c holds.
     let inside = (step_in_domain t k g s a job target here is).1 r c holds in
-    BodyReads-both (Both (IsInBox t) (IsReadable t.job.stages)) (IsAvailable t k) (IsReadOf t job g) s.body r c (taken_at_hand t job k g a here r c) (reads_of_stage t job g s is)
+    BodyReads-both (Both (IsInBox t) (IsReadable t.job.stages)) (IsAvailable t k) (IsReadOf t job g) s.body r c
+    (taken_at_hand t job k g a here r c) (reads_of_stage t job g s is)
     (both_body (IsInBox t) (IsReadable t.job.stages) r c s.body (has_what_it_reads t job target g s a is (step_region t k g a here) r c holds) ((job.stages g s is).reads r c inside))
 
 -- what is read is alive at each step up to the one that reads it

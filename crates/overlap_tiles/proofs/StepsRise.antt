@@ -25,7 +25,8 @@ pub record IsBoxOf (t : Target) (s : ℕ × Area) : Type 0 where
 numbered_is : (t : Target) (g : ℕ) (s : ℕ × Area) → Contains (numbered_box t g) s → (s.0 ≡ g) × IsBoxOf t s
 numbered_is t g s = by (is_boxed t g) refl (box t g) refl
   where
-    by : (b : Bool) → is_boxed t g ≡ b → (o : Option Area) → box t g ≡ o → Contains (if b then with_number g o else []) s → (s.0 ≡ g) × IsBoxOf t s
+    by : (b : Bool) → is_boxed t g ≡ b → (o : Option Area) → box t g ≡ o → Contains (if b then with_number g o else []) s
+        → (s.0 ≡ g) × IsBoxOf t s
     by false boxed o there h = absurd (omega (arith, h.1))
     by true boxed None there h = absurd (omega (arith, h.1))
     by true boxed (Some a) there h = elim (Contains-cases (g, a) [] s h) [
@@ -59,7 +60,8 @@ boxes_rise t =
 
 pub steps_rise : (t : Target) → IsRanked t.job.stages → AllPairs (IsBelow t) (steps t)
 steps_rise t ranked =
-    AllPairs-append (IsBelow t) (inner_steps t) ((t.stage, t.region) ∷ []) (AllPairs-filter (IsBelow t) (λ s. is_inlined t.inlining s.0) (boxes t) (boxes_rise t)) (λ i j d p q. absurd (omega (arith, p, q)))
+    AllPairs-append (IsBelow t) (inner_steps t) ((t.stage, t.region) ∷ [])
+    (AllPairs-filter (IsBelow t) (λ s. is_inlined t.inlining s.0) (boxes t) (boxes_rise t)) (λ i j d p q. absurd (omega (arith, p, q)))
     (λ x y here last.
     let inner = Contains-from_filter (λ s. is_inlined t.inlining s.0) (boxes t) x here in
     let low = box_low t ranked x.0 x.1 (box_listed t x inner.0).there in

@@ -6,4 +6,5 @@ use Rattle.grouping.specs.inside.Tallies.{reads_stored}
 use Rattle.grouping.proofs.costs.reads_stored.Given as goal
 
 abbrev pub invariant-loop-read : goal.invariant-loop-read
-invariant-loop-read l = reads_stored l.inlining (map read_view (drop l.read-index l.read-items)) ≡ reads_stored l.inlining (reads_of (stage_view l.stage).body)
+invariant-loop-read l =
+    reads_stored l.inlining (map read_view (drop l.read-index l.read-items)) ≡ reads_stored l.inlining (reads_of (stage_view l.stage).body)

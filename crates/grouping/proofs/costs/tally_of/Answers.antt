@@ -10,18 +10,23 @@ use Rattle.grouping.proofs.costs.tally_of.Goals as goal
 
 pub tally-requires-clause-targets : goal.tally-requires-clause-targets
 tally-requires-clause-targets c =
-    targets_from (pipeline_in c.args.job.now) c.args.inlining.now c.args.number c.in-Some.grid c.deref.result.now c.args.job.now.well (sym c.grid.ensures ∙ c.in-Some.is) (c.deref.ensures.value ∙ c.in_ok-areas.ensures)
+    targets_from (pipeline_in c.args.job.now) c.args.inlining.now c.args.number c.in-Some.grid c.deref.result.now c.args.job.now.well
+    (sym c.grid.ensures ∙ c.in-Some.is) (c.deref.ensures.value ∙ c.in_ok-areas.ensures)
 
 pub returns-clause-cost : goal.returns-clause-cost
 returns-clause-cost c =
-    cost_from (pipeline_in c.args.job.now) c.args.inlining.now c.args.number c.in-Some.grid c.in_ok-tally.field-0.points (sym c.grid.ensures ∙ c.in-Some.is) (cc) (c.in_ok-tally.ensures.points ∙ ap (points_over (record { job = pipeline_in c.args.job.now; inlining = c.args.inlining.now; stage = c.args.number; region = c.in-Some.grid.area })) (c.deref.ensures.value ∙ c.in_ok-areas.ensures))
+    cost_from (pipeline_in c.args.job.now) c.args.inlining.now c.args.number c.in-Some.grid c.in_ok-tally.field-0.points
+    (sym c.grid.ensures ∙ c.in-Some.is) (cc) (c.in_ok-tally.ensures.points ∙ ap (points_over (record { job = pipeline_in c.args.job.now; inlining = c.args.inlining.now; stage = c.args.number; region = c.in-Some.grid.area })) (c.deref.ensures.value ∙ c.in_ok-areas.ensures))
 
 pub returns-clause-fits : goal.returns-clause-fits
 returns-clause-fits c =
-    fits_from (pipeline_in c.args.job.now) c.args.inlining.now c.args.number c.in-Some.grid c.in_ok-tally.field-0.fits (sym c.grid.ensures ∙ c.in-Some.is) (cc) (c.in_ok-tally.ensures.fits ∙ ap (all_have_scratch (record { job = pipeline_in c.args.job.now; inlining = c.args.inlining.now; stage = c.args.number; region = c.in-Some.grid.area })) (c.deref.ensures.value ∙ c.in_ok-areas.ensures))
+    fits_from (pipeline_in c.args.job.now) c.args.inlining.now c.args.number c.in-Some.grid c.in_ok-tally.field-0.fits
+    (sym c.grid.ensures ∙ c.in-Some.is) (cc) (c.in_ok-tally.ensures.fits ∙ ap (all_have_scratch (record { job = pipeline_in c.args.job.now; inlining = c.args.inlining.now; stage = c.args.number; region = c.in-Some.grid.area })) (c.deref.ensures.value ∙ c.in_ok-areas.ensures))
 
 pub tally-requires-clause-alone : goal.tally-requires-clause-alone
 tally-requires-clause-alone c =
     let job = pipeline_in c.args.job.now in
-    let there : slice_get job.stages c.args.number ≡ Some (stage_view c.in-Some-stage.stage.now) = sym c.stage.ensures ∙ ap (option_map (λ s. stage_view s.now)) c.in-Some-stage.is in
-    λ holds a. alone_takes_none (record { job = job; inlining = c.args.inlining.now; stage = c.args.number; region = a }) (stage_view c.in-Some-stage.stage.now) there (sym c.in_ok-is_alone.ensures ∙ holds)
+    let there : slice_get job.stages c.args.number ≡ Some (stage_view c.in-Some-stage.stage.now) = sym c.stage.ensures
+    ∙ ap (option_map (λ s. stage_view s.now)) c.in-Some-stage.is in
+    λ holds a. alone_takes_none (record { job = job; inlining = c.args.inlining.now; stage = c.args.number; region = a })
+    (stage_view c.in-Some-stage.stage.now) there (sym c.in_ok-is_alone.ensures ∙ holds)

@@ -17,12 +17,14 @@ demand_all-requires-clause-target c =
     let job = pipeline_in c.args.job.now in
     let inlining = c.args.self.now.inlining in
     let h = c.args.candidate.now.group in
-    all_at (λ a. IsTarget (target_over job inlining h a)) (areas_at job h) c.args.place c.args.tile.now (areas_are_targets job inlining h c.args.job.now.well) c.requires.tile
+    all_at (λ a. IsTarget (target_over job inlining h a)) (areas_at job h) c.args.place c.args.tile.now
+    (areas_are_targets job inlining h c.args.job.now.well) c.requires.tile
 
 pub demand_all-requires-clause-readers : goal.demand_all-requires-clause-readers
 demand_all-requires-clause-readers c =
     let job = pipeline_in c.args.job.now in
-    subst (λ (rs : List ℕ). All (λ r. r < length job.stages) rs) (sym (c.deref.ensures.value ∙ c.requires.candidate.read)) (readers_there job c.args.candidate.now.number)
+    subst (λ (rs : List ℕ). All (λ r. r < length job.stages) rs) (sym (c.deref.ensures.value ∙ c.requires.candidate.read))
+    (readers_there job c.args.candidate.now.number)
 
 pub returns-clause-is : goal.returns-clause-is
 returns-clause-is c =
@@ -30,5 +32,7 @@ returns-clause-is c =
     let g = c.args.candidate.now.number in
     let t : Target = target_over job c.args.self.now.inlining c.args.candidate.now.group c.args.tile.now in
     let there : g < length c.args.hulls.now = subst (λ (n : ℕ). g < n) (sym c.requires.hulls) c.requires.candidate.there in
-    let demanded = c.demand_all.ensures ∙ (λ i. demanded_all (c.forget.ensures i) (flat_map (demands_by t (box t)) ((c.deref.ensures.value ∙ c.requires.candidate.read) i))) in
-    c.box_of.ensures.is ∙ ap (λ (hulls : List (Option Area)). cut_hull job.stages hulls g) demanded ∙ cut_is_box t g c.args.hulls.now c.args.job.now.well there
+    let demanded = c.demand_all.ensures
+    ∙ (λ i. demanded_all (c.forget.ensures i) (flat_map (demands_by t (box t)) ((c.deref.ensures.value ∙ c.requires.candidate.read) i))) in
+    c.box_of.ensures.is ∙ ap (λ (hulls : List (Option Area)). cut_hull job.stages hulls g) demanded
+    ∙ cut_is_box t g c.args.hulls.now c.args.job.now.well there

@@ -12,13 +12,16 @@ returns-then-all_at c =
     let first = c.in_ok-first.field-0.now in
     let at : slice_get c.args.readers.now 0 ≡ Some first = sym c.in_ok-first.ensures.value in
     let all : list_all (λ g. nat_eq (group grouping g) (group grouping first)) c.args.readers.now ≡ true =
-    ap (λ (n : ℕ). list_all (λ g. nat_eq (group grouping g) n) c.args.readers.now) (sym c.group-first.ensures) ∙ sym c.all_at.ensures ∙ c.if-all_at.true in
-    ap Some c.group-first.ensures ∙ sym (common_is grouping c.args.readers.now first at ∙ ap (λ b. if b then Some (group grouping first) else None) all)
+    ap (λ (n : ℕ). list_all (λ g. nat_eq (group grouping g) n) c.args.readers.now) (sym c.group-first.ensures) ∙ sym c.all_at.ensures
+    ∙ c.if-all_at.true in
+    ap Some c.group-first.ensures
+    ∙ sym (common_is grouping c.args.readers.now first at ∙ ap (λ b. if b then Some (group grouping first) else None) all)
 
 pub returns-else-all_at : goal.returns-else-all_at
 returns-else-all_at c =
     let grouping = grouping_of c.args.self.now in
     let first = c.in_ok-first.field-0.now in
     let at : slice_get c.args.readers.now 0 ≡ Some first = sym c.in_ok-first.ensures.value in
-    let some = ap (λ (n : ℕ). list_all (λ g. nat_eq (group grouping g) n) c.args.readers.now) (sym c.group-first.ensures) ∙ sym c.all_at.ensures ∙ c.if-all_at.false in
+    let some = ap (λ (n : ℕ). list_all (λ g. nat_eq (group grouping g) n) c.args.readers.now) (sym c.group-first.ensures)
+    ∙ sym c.all_at.ensures ∙ c.if-all_at.false in
     sym (common_is grouping c.args.readers.now first at ∙ ap (λ b. if b then Some (group grouping first) else None) some)

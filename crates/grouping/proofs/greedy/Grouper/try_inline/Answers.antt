@@ -15,7 +15,8 @@ use Rattle.grouping.proofs.InlinedStands.{IsStep, group_is, function_stands, gro
 use Rattle.grouping.proofs.greedy.Grouper.try_inline.Goals as goal
 use Rattle.grouping.proofs.greedy.Grouper.try_inline.Goals.{else-pays-via-then-pays+else-fits, else-pays-via-else-pays}
 
-step_of : (job : Pipeline) (c : Grouper) (k : Candidate) → IsJob job → AllStand job (grouping_of c) c.standings.items → IsCandidate job (grouping_of c) k → IsStep job (grouping_of c) c.standings.items k.number k.group
+step_of : (job : Pipeline) (c : Grouper) (k : Candidate) → IsJob job → AllStand job (grouping_of c) c.standings.items
+    → IsCandidate job (grouping_of c) k → IsStep job (grouping_of c) c.standings.items k.number k.group
 step_of job c k is stand candidate = record {
   valid = is;
   stand = stand;
@@ -27,8 +28,10 @@ step_of job c k is stand candidate = record {
 }
 
 -- what the code weighs is the rule
-weighed : (job : Pipeline) (c : Grouping) (standings : List Standing) (g h percent own apart : ℕ) (t : Trial) (b : Bool) → IsStep job c standings g h → IsTrialOf job c.inlining h g t
-    → own ≡ kept_cost (slice_get standings h) → apart ≡ kept_cost (slice_get standings g) → b ≡ nat_le (100 * (own + t.added)) ((100 + percent) * (own + apart)) → b ≡ pays job percent c.inlining g h
+weighed : (job : Pipeline) (c : Grouping) (standings : List Standing) (g h percent own apart : ℕ) (t : Trial) (b : Bool)
+    → IsStep job c standings g h → IsTrialOf job c.inlining h g t
+    → own ≡ kept_cost (slice_get standings h) → apart ≡ kept_cost (slice_get standings g) → b ≡ nat_le (100 * (own + t.added))
+    ((100 + percent) * (own + apart)) → b ≡ pays job percent c.inlining g h
 weighed job c standings g h percent own apart t b step trial is_own is_apart is =
     let at_group = group_is job c standings g h step.valid step.stand step.shared in
     is ∙ pays_is step percent own apart t.added
@@ -84,7 +87,8 @@ returns-else-pays-clause-grouping c =
     let step = step_of job self c.args.candidate.now c.args.job.now.well c.requires.stand c.requires.candidate in
     let trial = c.in_ok-trial.ensures in
     let weighs = weighed job (grouping_of self) self.standings.items g h c.args.percent c.kept_cost-own.result c.kept_cost-apart.result c.in_ok-trial.trial c.pays.result step trial c.kept_cost-own.ensures c.kept_cost-apart.ensures c.pays.ensures in
-    not_both (pays job c.args.percent self.inlining g h) (has_room job self.inlining g h) (with_inlined (grouping_of self) g h) (grouping_of self) (elim c.else-pays.branch [
+    not_both (pays job c.args.percent self.inlining g h) (has_room job self.inlining g h) (with_inlined (grouping_of self) g h)
+    (grouping_of self) (elim c.else-pays.branch [
       | else-pays-via-then-pays+else-fits w ↦
           let it_fits = sym (w.fits.ensures ∙ fits_is step c.in_ok-trial.trial.scratch.items trial.in_scratch) ∙ w.if-fits.false in
           second_false (pays job c.args.percent self.inlining g h) (has_room job self.inlining g h) it_fits

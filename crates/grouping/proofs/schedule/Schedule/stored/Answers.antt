@@ -6,7 +6,10 @@ use Rattle.grouping.proofs.AskedIsSchedule.{stored_is, stored_fits}
 use Rattle.grouping.proofs.schedule.Schedule.stored.Goals as goal
 
 pub with_costs-requires : goal.with_costs-requires
-with_costs-requires c = record { schedule = subst (IsSchedule (pipeline_in c.args.job.now)) (sym c.in_ok-inlining.ensures) (stored_is (pipeline_in c.args.job.now)) }
+with_costs-requires c =
+    record { schedule = subst (IsSchedule (pipeline_in c.args.job.now)) (sym c.in_ok-inlining.ensures) (stored_is (pipeline_in c.args.job.now)) }
 
 pub returns-clause-fits : goal.returns-clause-fits
-returns-clause-fits c = subst (AllFitScratch (pipeline_in c.args.job.now)) (sym (c.in_ok-schedule.ensures.inlining ∙ c.in_ok-inlining.ensures)) (stored_fits (pipeline_in c.args.job.now))
+returns-clause-fits c =
+    subst (AllFitScratch (pipeline_in c.args.job.now)) (sym (c.in_ok-schedule.ensures.inlining ∙ c.in_ok-inlining.ensures))
+    (stored_fits (pipeline_in c.args.job.now))

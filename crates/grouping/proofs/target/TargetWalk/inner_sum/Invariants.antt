@@ -5,4 +5,6 @@ use Rattle.grouping.specs.inside.Tallies.{inner_points}
 use Rattle.grouping.proofs.target.TargetWalk.inner_sum.Given as goal
 
 abbrev pub invariant-loop-number : goal.invariant-loop-number
-invariant-loop-number l = l.total + sum (map (inner_points (target_of l.self)) (drop l.number-index l.numbers)) ≡ sum (map (inner_points (target_of l.self)) l.numbers)
+invariant-loop-number l =
+    l.total + sum (map (inner_points (target_of l.self)) (drop l.number-index l.numbers)) ≡ sum
+    (map (inner_points (target_of l.self)) l.numbers)

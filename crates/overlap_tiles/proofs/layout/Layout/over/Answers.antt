@@ -27,11 +27,13 @@ returns-clause-layout c =
       layout = is_layout t _ (record {
         inner = inner;
         kept = kept;
-        needs = c.in_ok-needs.ensures ∙ ap (λ (bs : List (ℕ × Area)). flat_map (stage_needs job inlining bs) (range_with_len 0 (length job.stages))) c.requires.boxes;
+        needs = c.in_ok-needs.ensures
+            ∙ ap (λ (bs : List (ℕ × Area)). flat_map (stage_needs job inlining bs) (range_with_len 0 (length job.stages))) c.requires.boxes;
         steps = ap (map step_view) c.in_ok-all.ensures ∙ map_push step_view c.in_ok-steps.steps.items c.args.target;
         scratch = number;
         points = ap (λ (n : ℕ). n + c.points.result) number ∙ ap (λ (n : ℕ). points_in inner + n) c.points.ensures.number;
-        ranges = c.in_ok-ranges.ensures ∙ ap (λ (ss : List Step). end_to_end 0 (map (λ s. point_count s.1) (map step_view ss))) c.deref-2.ensures.value;
+        ranges = c.in_ok-ranges.ensures
+            ∙ ap (λ (ss : List Step). end_to_end 0 (map (λ s. point_count s.1) (map step_view ss))) c.deref-2.ensures.value;
       });
       fits = subst (λ (n : ℕ). n ≤ most_scratch) (number ∙ ap points_in kept) few;
     }
