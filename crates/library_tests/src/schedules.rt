@@ -29,7 +29,7 @@ func a(x in [1..6], y in [1..6]) { else : stencil(I, 1, [[1,1,1],[1,1,1],[1,1,1]
 output c max 65535;";
 
 // Compares the functions that the first tile of a stage needs, with the ends of their boxes.
-#[tactic(auto, using(grouping::proofs::Tiles::tile_is_target))]
+#[tactic(auto, using(grouping::proofs::TilesAreTargets::tile_is_target))]
 fn has_boxes(
     alloc: Global,
     job: &Job,

@@ -1,4 +1,4 @@
--- The numbers and the printed names of the faults.
+-- Why a tile has no plan, by number and name.
 use Rattle.std.specs.Prelude.{ℕ, List, codes}
 use Rattle.overlap_tiles.specs.declared.fault.PlanFault.{PlanFault}
 use Rattle.overlap_tiles.specs.declared.fault.PlanFault.TheVariants.{NoSuchTile, ScratchTooBig, Memory}

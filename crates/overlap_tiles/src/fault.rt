@@ -3,7 +3,7 @@
 
 ghost use Rattle.std.specs.Prelude.{◌≡◌};
 
-use std::alloc::{AllocError, AllocFailed};
+use std::alloc::AllocError;
 use thiserror::Error;
 
 /// Why a tile has no plan.
@@ -23,7 +23,7 @@ pub enum PlanFault {
 impl PlanFault {
     ghost use Rattle.overlap_tiles.specs.Faults.{plan_number, plan_name};
 
-    /// The fault's number, from 1 to 3.
+    /// The fault's number, 1 to 3.
     pub fn number(self) -> u8
         ensures { result ≡ plan_number self }
     {
@@ -53,17 +53,6 @@ impl From<AllocError> for PlanFault {
     ghost from_gives = { λ _ e. e ≡ Memory };
 
     fn from(_e: AllocError) -> PlanFault {
-        PlanFault::Memory
-    }
-}
-
-impl<T: Drop> From<AllocFailed<T>> for PlanFault {
-    ghost use Rattle.std.specs.Prelude.{◌≡◌};
-    ghost use Rattle.overlap_tiles.specs.declared.fault.PlanFault.TheVariants.{Memory};
-
-    ghost from_gives = { λ _ e. e ≡ Memory };
-
-    fn from(_e: AllocFailed<T>) -> PlanFault {
         PlanFault::Memory
     }
 }

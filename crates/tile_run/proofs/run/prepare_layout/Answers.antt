@@ -5,12 +5,12 @@ use Rattle.grouping.specs.Inlining.{Inlining}
 use Rattle.grouping.specs.Costs.{inner_steps}
 use Rattle.job.specs.declared.job.Job.{Job}
 use Rattle.job.specs.Kept.{pipeline_in}
-use Rattle.overlap_tiles.specs.Plans.{target_over}
 use Rattle.overlap_tiles.specs.Views.{step_view}
 use Rattle.tile_run.specs.Steps.{AreLocal, AreComputed, AreRunnable}
 use Rattle.tile_run.proofs.Planned.{layout_steps, layout_runnable, layout_ready}
 use Rattle.tile_run.proofs.Running.{carry}
 use Rattle.tile_run.proofs.run.prepare_layout.Goals as goal
+use Rattle.grouping.specs.Targets.{target_over}
 
 pub run_steps-requires-clause-runnable : goal.run_steps-requires-clause-runnable
 run_steps-requires-clause-runnable g c =
