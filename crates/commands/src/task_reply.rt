@@ -1,8 +1,7 @@
 //! What each command has to write of a job.
 
-ghost use Rattle.std.specs.Prelude.{◌≡◌, ◌≤◌, IfOk, List, length};
+ghost use Rattle.std.specs.Prelude.{◌≡◌, IfOk, List};
 ghost use Rattle.job.specs.Kept.{pipeline_in, program_text_in};
-ghost use Rattle.job.specs.WellFormed.{IsJob};
 ghost use Rattle.pipe_print.specs.Canonical.{canonical};
 ghost use Rattle.pipe_tree.specs.Tree.{Declaration};
 ghost use Rattle.commands.specs.Planning.{IsPlan, inlining_asked};
@@ -25,8 +24,6 @@ pub fn task_reply(
     options: &Options,
     job: &Job,
 ) -> Result<Reply, AllocError>
-    requires job { IsJob (pipeline_in job.now) }
-    requires few { length (pipeline_in job.now).stages ≤ 65536 }
     ensures { IfOk result (λ reply. (tree : List Declaration) → program_text_in job.now ≡ canonical tree
         → saying_of task options.now.stored options.now.percent tree (pipeline_in job.now) (reply_bytes reply)) }
 {
@@ -39,7 +36,6 @@ pub fn task_reply(
 
 /// The lines of the schedule that the options ask for.
 fn planned_lines(alloc: Global, options: &Options, job: &Job) -> Result<Vec<u8>, AllocError>
-    requires { IsJob (pipeline_in job.now) }
     ensures { let job = pipeline_in job.now in
         IfOk result (λ lines. IsPlan job (inlining_asked options.now.stored options.now.percent job) lines.items) }
 {
