@@ -19,10 +19,10 @@ use Rattle.job.specs.WellFormed.{IsValued, IsReadable, IsJob}
 use Rattle.grouping.specs.Schedules.{is_inlined, is_function, is_function_body}
 use Rattle.grouping.specs.Targets.{Target, IsTarget, is_boxed, boxes}
 use Rattle.grouping.specs.Costs.{inner_steps, steps}
-use Rattle.overlap_tiles.specs.TileInputs.{IsPlaneAt, IsInNeededTile, IsAtHand as IsFound}
+use Rattle.overlap_tiles.specs.Available.{IsPlaneAt, IsInNeededTile, IsAvailable}
 use Rattle.overlap_tiles.specs.Needs.{needs}
 use Rattle.overlap_tiles.proofs.Needing.{from_needs}
-use Rattle.overlap_tiles.proofs.Reading.{Both, both_body, has_at_hand, step_in_domain, step_region}
+use Rattle.overlap_tiles.proofs.Reading.{Both, both_body, reads_available, step_in_domain, step_region}
 use Rattle.overlap_tiles.proofs.Rising.{box_listed}
 use Rattle.overlap_tiles.proofs.Tiling.{grid_fits}
 use Rattle.tile_eval.specs.Buffer.{IsKnownAt}
@@ -91,16 +91,16 @@ module _ (t : Target) (job : IsJob t.job) (given : KnownTiles) (are_given : AreG
         (found.0, sym (ap (λ (i : ℕ). given h i n.col) only.0 ∙ ap (λ (j : ℕ). given h (tile_at grid r c).0 j) only.1) ∙ found.1)
 
   module _ (k g : ℕ) (a : Area) (here : slice_get (steps t) k ≡ Some (g, a)) (buffers : List (Option Buffer)) (done : AreComputed (steps t) k buffers) where
-    found : (h : ℕ) (r c : ℤ) → Both (IsFound t k) (IsReadable t.job.stages) h r c → IsAtHand t.job t.inlining given (IsKnownAt buffers) h r c
+    found : (h : ℕ) (r c : ℤ) → Both (IsAvailable t k) (IsReadable t.job.stages) h r c → IsAtHand t.job t.inlining given (IsKnownAt buffers) h r c
     found h r c both =
         subst (λ (o : Option Stage). StageAtHand t.job t.inlining given (IsKnownAt buffers) h o r c) (sym both.1.there) (at_body both.1.stage.body refl)
       where
-        known : is_function_body both.1.stage.body ≡ true → is_inlined t.inlining h ≡ true → IsFound t k h r c → IsKnownAt buffers h r c
+        known : is_function_body both.1.stage.body ≡ true → is_inlined t.inlining h ≡ true → IsAvailable t k h r c → IsKnownAt buffers h r c
         known e inlined (inl p) = absurd (no_plane h r c both.1.stage both.1.there e p)
         known e inlined (inr (inl q)) = done q.place h q.area q.before q.there r c q.holds
         known e inlined (inr (inr n)) = absurd (opposite (is_inlined t.inlining h) inlined (needed_stored h r c n))
 
-        given_there : is_function_body both.1.stage.body ≡ true → has_tiles both.1.stage.body ≡ true → is_inlined t.inlining h ≡ false → IsFound t k h r c → IsGiven given h (grid_of t.job both.1.stage) r c
+        given_there : is_function_body both.1.stage.body ≡ true → has_tiles both.1.stage.body ≡ true → is_inlined t.inlining h ≡ false → IsAvailable t k h r c → IsGiven given h (grid_of t.job both.1.stage) r c
         given_there e has stored (inl p) = absurd (no_plane h r c both.1.stage both.1.there e p)
         given_there e has stored (inr (inl q)) = absurd (opposite (is_inlined t.inlining h) (step_inlined t q.place k g h a q.area q.before here q.there) stored)
         given_there e has stored (inr (inr n)) = tile_given h r c both.1.stage both.1.there has both.1.within n
@@ -121,8 +121,8 @@ module _ (t : Target) (job : IsJob t.job) (given : KnownTiles) (are_given : AreG
           stage = s;
           there = there;
           inside = inside;
-          reads = reads_weaker (Both (IsFound t k) (IsReadable t.job.stages)) (IsAtHand t.job t.inlining given (IsKnownAt buffers)) found s.body r c
-              (both_body (IsFound t k) (IsReadable t.job.stages) r c s.body (has_at_hand t job target k g s a here there r c holds) ((job.stages g s there).reads r c inside));
+          reads = reads_weaker (Both (IsAvailable t k) (IsReadable t.job.stages)) (IsAtHand t.job t.inlining given (IsKnownAt buffers)) found s.body r c
+              (both_body (IsAvailable t k) (IsReadable t.job.stages) r c s.body (reads_available t job target k g s a here there r c holds) ((job.stages g s there).reads r c inside));
         }
 
   -- a step before the last
