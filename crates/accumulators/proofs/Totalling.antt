@@ -17,13 +17,12 @@ use Rattle.job.specs.Totals.{start_of, total_of, joined, values_in_bin, body_tot
 use Rattle.job.specs.Values.{Valuation, formula_value, value}
 use Rattle.job.specs.WellFormed.{InDomainRange, IsJob}
 use Rattle.job.proofs.TotalLaws.{map_same, body_totals-agrees}
-use Rattle.tile_eval.specs.Buffer.{sample_in, IsKnownAt}
-use Rattle.tile_eval.specs.declared.buffers.Buffer.{Buffer}
+use Rattle.tile_eval.specs.declared.buffers.StageBuffers.{StageBuffers}
 use Rattle.tile_run.specs.KnownTiles.{KnownTiles, AreTrue}
 use Rattle.tile_run.specs.Local.{read_from, local_value, IsAtHand, IsClosed}
-use Rattle.tile_run.specs.Steps.{AreLocal, IsReadyOver}
+use Rattle.tile_run.specs.Prepared.{IsInputAt, input_at, IsPrepared}
 use Rattle.tile_run.proofs.Computing.{same_stage, near_inside}
-use Rattle.tile_run.proofs.LocalValues.{reads_weaker, hand_decides, read_true, local_is_value}
+use Rattle.tile_run.proofs.LocalValues.{reads_weaker, read_true, local_is_value}
 use Rattle.accumulators.specs.Bins.{starts, joined_bins}
 use Rattle.accumulators.specs.Partials.{local_totals, body_joined, joined_over}
 use Rattle.accumulators.proofs.Knowing.{totals_is, domain_is_area}
@@ -41,30 +40,25 @@ totals_over_is job area g s there = ap (λ (o : Option Stage). option_map_or (λ
 
 -- ---- where all that is read is at hand
 
-module _ (job : Pipeline) (inlining : List Bool) (given : KnownTiles) (buffers : List (Option Buffer)) (g : ℕ) (s : Stage) (there : slice_get job.stages g ≡ Some s) (area : Area) (ready : IsReadyOver job inlining given buffers g area) where
+module _ (job : Pipeline) (inlining : List Bool) (given : KnownTiles) (boxes : StageBuffers) (g : ℕ) (s : Stage) (there : slice_get job.stages g ≡ Some s) (area : Area) (prepared : IsPrepared job inlining given boxes g area) where
   within : IsSubarea area s.domain
-  within r c inside = let p = ready r c inside in subst (λ (t : Stage). HoldsPoint t.domain r c) (same_stage job.stages g p.stage s p.there there) p.inside
+  within r c inside = let p = prepared.ready r c inside in subst (λ (t : Stage). HoldsPoint t.domain r c) (same_stage job.stages g p.stage s p.there there) p.inside
 
-  pub ready_near : IsJob job → IsArea area → InDomainRange area.rows × InDomainRange area.cols
-  ready_near is h = let stage = is.stages g s there in near_inside area s.domain h within stage.rows stage.cols
+  pub prepared_near : IsJob job → IsArea area → InDomainRange area.rows × InDomainRange area.cols
+  prepared_near is h = let stage = is.stages g s there in near_inside area s.domain h within stage.rows stage.cols
 
-  pub ready_reads : (r c : ℤ) → HoldsPoint area r c → BodyReads (IsAtHand job inlining given (IsKnownAt buffers)) s.body r c
-  ready_reads r c inside =
-      let p = ready r c inside in
-      subst (λ (t : Stage). BodyReads (IsAtHand job inlining given (IsKnownAt buffers)) t.body r c) (same_stage job.stages g p.stage s p.there there) p.reads
+  pub prepared_reads : (r c : ℤ) → HoldsPoint area r c → BodyReads (IsInputAt job inlining given boxes) s.body r c
+  prepared_reads r c inside =
+      let p = prepared.ready r c inside in
+      subst (λ (t : Stage). BodyReads (IsInputAt job inlining given boxes) t.body r c) (same_stage job.stages g p.stage s p.there there) p.reads
 
--- what is computed before is local, so what is gathered from it is
-pub totals_at_hand : (job : Pipeline) (inlining : List Bool) (given : KnownTiles) (buffers : List (Option Buffer)) (g : ℕ) (s : Stage) (area : Area) → IsArea area → slice_get job.stages g ≡ Some s
-    → AreLocal job inlining given buffers → IsReadyOver job inlining given buffers g area
-    → body_totals (read_from job inlining given (λ h i j. sample_in (slice_get buffers h) i j)) area s.body ≡ local_totals job inlining given area g
-totals_at_hand job inlining given buffers g s area is there local ready =
-    let e : Valuation = λ h i j. sample_in (slice_get buffers h) i j in
-    let h : Valuation = local_value job inlining given in
-    body_totals-agrees (read_from job inlining given e) (read_from job inlining given h) area is s.body (λ r c inside.
-    reads_weaker (IsAtHand job inlining given (IsKnownAt buffers)) (SameAt (read_from job inlining given e) (read_from job inlining given h))
-    (λ k i j hand. hand_decides job inlining given (IsKnownAt buffers) e h k i j (local k i j) hand) s.body r c
-    (ready_reads job inlining given buffers g s there area ready r c inside))
-    ∙ sym (local_totals_is job inlining given area g s there)
+  -- what is at hand is local, so what is gathered from it is
+  pub prepared_totals : IsArea area → body_totals (input_at job inlining given boxes) area s.body ≡ local_totals job inlining given area g
+  prepared_totals is =
+      let e : Valuation = input_at job inlining given boxes in
+      let h : Valuation = read_from job inlining given (local_value job inlining given) in
+      body_totals-agrees e h area is s.body (λ r c inside. reads_weaker (IsInputAt job inlining given boxes) (SameAt e h) prepared.local s.body r c (prepared_reads r c inside))
+      ∙ sym (local_totals_is job inlining given area g s there)
 
 -- where what is given is true, what is gathered from it is what the stage gathers there
 pub true_totals : (job : Pipeline) (inlining : List Bool) (given : KnownTiles) (Inner : ℕ → ℤ → ℤ → Type 0) (g : ℕ) (s : Stage) (area : Area) → IsJob job → slice_get job.stages g ≡ Some s → IsArea area → AreTrue job given

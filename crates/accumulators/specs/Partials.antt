@@ -28,7 +28,8 @@ abbrev pub AreTotalsOn : Pipeline → ℕ → ℕ → ℕ → List ℤ → Type 
 AreTotalsOn job g i j bins = (area : Area) → IsTileAt job g i j area → bins ≡ totals_over job area g
 
 -- the plan is that of a tile of an accumulator
-pub record IsAccumulatorPlan (program : List ℕ) (job : Pipeline) (inlining : List Bool) (p : Plan) : Type 0 where
+pub record IsAccumulatorPlan (program : List ℕ) (job : Pipeline) (p : Plan) : Type 0 where
+  pub inlining : List Bool
   pub stage : ℕ
   pub row : ℕ
   pub col : ℕ

@@ -52,17 +52,17 @@ fn is_accumulator(job: &Job, stage: usize) -> bool
 }
 
 // The plan of a tile of a function.
-fn plan_of_function(
+fn plan_of_function<'a>(
     alloc: Global,
     job: &Job,
-    schedule: &Schedule,
+    schedule: &'a Schedule,
     stage: usize,
     row: u32,
     col: u32,
-) -> Result<TilePlan, Fail>
+) -> Result<TilePlan<'a>, Fail>
     requires job { IsJob (pipeline_in job.now) }
     requires few { length (pipeline_in job.now).stages ≤ 65536 }
-    ensures { IfOk result (IsFunctionPlan (program_id_in job.now) (pipeline_in job.now) schedule.now.inlining) }
+    ensures { IfOk result (IsFunctionPlan (program_id_in job.now) (pipeline_in job.now)) }
 {
     if !is_function(job, stage) {
         return Err(Fail::new("no function"));
@@ -72,17 +72,17 @@ fn plan_of_function(
 }
 
 // The plan of a tile of an accumulator.
-fn plan_of_accumulator(
+fn plan_of_accumulator<'a>(
     alloc: Global,
     job: &Job,
-    schedule: &Schedule,
+    schedule: &'a Schedule,
     stage: usize,
     row: u32,
     col: u32,
-) -> Result<TilePlan, Fail>
+) -> Result<TilePlan<'a>, Fail>
     requires job { IsJob (pipeline_in job.now) }
     requires few { length (pipeline_in job.now).stages ≤ 65536 }
-    ensures { IfOk result (IsAccumulatorPlan (program_id_in job.now) (pipeline_in job.now) schedule.now.inlining) }
+    ensures { IfOk result (IsAccumulatorPlan (program_id_in job.now) (pipeline_in job.now)) }
 {
     if !is_accumulator(job, stage) {
         return Err(Fail::new("no accumulator"));
@@ -105,7 +105,7 @@ fn numbers<K: Known>(
 {
     let plan = plan_of_function(alloc, job, schedule, tile.0, tile.1, tile.2)?;
     let mut scratch = Scratch::new(alloc);
-    Ok(run_tile(alloc, job, schedule, &plan, &mut scratch, known)?)
+    Ok(run_tile(alloc, job, &plan, &mut scratch, known)?)
 }
 
 // Compares what an accumulator gathers over a tile, by the tile's plan, where nothing is given.
@@ -121,7 +121,7 @@ fn has_bins(
 {
     let plan = plan_of_accumulator(alloc, job, schedule, tile.0, tile.1, tile.2)?;
     let mut scratch = Scratch::new(alloc);
-    let bins = partial(alloc, job, schedule, &plan, &mut scratch, &Nothing)?;
+    let bins = partial(alloc, job, &plan, &mut scratch, &Nothing)?;
     tells(alloc, &bins, wanted)
 }
 
@@ -218,7 +218,7 @@ fn missing_of_function(
 {
     let plan = plan_of_function(alloc, job, schedule, stage, 0, 0)?;
     let mut scratch = Scratch::new(alloc);
-    let made = run_tile(alloc, job, schedule, &plan, &mut scratch, &Nothing);
+    let made = run_tile(alloc, job, &plan, &mut scratch, &Nothing);
     Ok(missing(&made))
 }
 
@@ -234,7 +234,7 @@ fn missing_of_accumulator(
 {
     let plan = plan_of_accumulator(alloc, job, schedule, stage, 0, 0)?;
     let mut scratch = Scratch::new(alloc);
-    let made = partial(alloc, job, schedule, &plan, &mut scratch, &Nothing);
+    let made = partial(alloc, job, &plan, &mut scratch, &Nothing);
     Ok(missing(&made))
 }
 

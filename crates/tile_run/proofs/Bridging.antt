@@ -13,7 +13,7 @@ use Rattle.domains.specs.declared.grid.Grid.{Grid}
 use Rattle.domains.proofs.Covers.{tile_is}
 use Rattle.domains.proofs.PairLists.{Contains-from_filter}
 use Rattle.job.specs.Pipeline.{Body, plane, function, accumulator, Stage, Pipeline}
-use Rattle.job.specs.Answers.{Tile, grid_of, has_tiles}
+use Rattle.job.specs.Answers.{grid_of, has_tiles}
 use Rattle.job.specs.Readers.{stage_grid, grid_at}
 use Rattle.job.specs.WellFormed.{IsValued, IsReadable, IsJob}
 use Rattle.grouping.specs.Schedules.{is_inlined, is_function, is_function_body}

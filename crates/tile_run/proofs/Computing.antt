@@ -17,11 +17,13 @@ use Rattle.tile_eval.specs.Buffer.{raster, place_of, sample_in, IsKnownAt}
 use Rattle.tile_eval.specs.Rows.{at}
 use Rattle.tile_eval.proofs.Places.{known_within}
 use Rattle.tile_eval.specs.declared.buffers.Buffer.{Buffer}
+use Rattle.tile_eval.specs.declared.buffers.StageBuffers.{StageBuffers}
 use Rattle.tile_eval.proofs.Rasters.{raster_same, raster_at}
 use Rattle.tile_run.specs.KnownTiles.{KnownTiles}
 use Rattle.tile_run.specs.Local.{read_from, local_value, IsAtHand}
 use Rattle.tile_run.specs.Steps.{IsFunctionAt, AreLocal, IsReadyOver}
-use Rattle.tile_run.proofs.LocalValues.{step_is_local}
+use Rattle.tile_run.specs.Prepared.{boxed, IsPrepared}
+use Rattle.tile_run.proofs.LocalValues.{hand_decides, step_is_local}
 
 pub same_stage : (stages : List Stage) (g : ℕ) (s t : Stage) → slice_get stages g ≡ Some s → slice_get stages g ≡ Some t → s ≡ t
 same_stage stages g s t e f = ap (λ (o : Option Stage). unwrap_or o t) (sym e ∙ f)
@@ -64,12 +66,22 @@ module _ (job : Pipeline) (is : IsJob job) (inlining : List Bool) (given : Known
   reads_are r c h = subst (λ (b : Body). BodyReads (IsAtHand job inlining given (IsKnownAt buffers)) b r c) here.body (stage_reads r c h)
 
   -- the values over the area are local values
-  pub values_are : AreLocal job inlining given buffers → raster area (function_value (read_from job inlining given (λ h i j. sample_in (slice_get buffers h) i j)) ps o) ≡ raster area (local_value job inlining given g)
+  pub values_are : ((h : ℕ) (r c : ℤ) → IsAtHand job inlining given (IsKnownAt buffers) h r c
+      → read_from job inlining given (λ k i j. sample_in (slice_get buffers k) i j) h r c ≡ read_from job inlining given (local_value job inlining given) h r c)
+      → raster area (function_value (read_from job inlining given (λ h i j. sample_in (slice_get buffers h) i j)) ps o) ≡ raster area (local_value job inlining given g)
   values_are right =
       let e : Valuation = λ h i j. sample_in (slice_get buffers h) i j in
       raster_same area (function_value (read_from job inlining given e) ps o) (local_value job inlining given g) (λ r c h.
       ap (λ (b : Body). body_value job.picture (read_from job inlining given e) b r c) (sym here.body)
       ∙ step_is_local job inlining given (IsKnownAt buffers) e is right g here.stage r c here.there (inside r c h) (stage_reads r c h))
+
+-- what is at hand where all that was computed before is local
+pub prepared : (job : Pipeline) (inlining : List Bool) (given : KnownTiles) (boxes : StageBuffers) (g : ℕ) (area : Area) → AreLocal job inlining given boxes.buffers.items
+    → IsReadyOver job inlining given boxes.buffers.items g area → IsPrepared job inlining given boxes g area
+prepared job inlining given boxes g area local ready = record {
+  ready = ready;
+  local = λ h r c hand. hand_decides job inlining given (IsKnownAt boxes.buffers.items) (boxed boxes) (local_value job inlining given) h r c (local h r c) hand;
+}
 
 -- ---- one box more
 

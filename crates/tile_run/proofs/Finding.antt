@@ -1,5 +1,5 @@
 -- What is found first in lists, one after another.
-use Rattle.std.proofs.Common.{arith, ℕ, zero, suc, ◌+◌, ◌<◌, ◌≡◌, ◌⊎◌, inl, inr, refl, ap, sym, ◌∙◌, subst, Bool, true, false, cond, List, [], ◌∷◌, ◌++◌, map, filter, drop, length, get_or, Option, Some, None}
+use Rattle.std.proofs.Common.{arith, ℕ, zero, suc, ◌+◌, ◌<◌, ◌≡◌, ◌⊎◌, inl, inr, refl, ap, sym, ◌∙◌, subst, Bool, true, false, cond, List, [], ◌∷◌, map, filter, drop, length, get_or, Option, Some, None}
 use Rattle.std.specs.Prelude.{find, Contains}
 use Rattle.std.specs.Option.{option_map, option_or, is_some}
 use Rattle.std.specs.List.{flat_map, range_with_len}
@@ -8,7 +8,7 @@ use Rattle.std.proofs.lemmas.List.{drop_more}
 use Rattle.std.proofs.lemmas.Option.{none-some}
 use Rattle.std.proofs.lemmas.List.Folds.{find-append}
 use Rattle.std.proofs.lemmas.List.Concat.{flat_map_single}
-use Rattle.domains.proofs.PairLists.{Contains-here, Contains-cases}
+use Rattle.domains.proofs.PairLists.{Contains-here}
 use Rattle.std.proofs.lemmas.List.Elements.{Contains-append_right}
 use Rattle.grouping.proofs.Lists.{flat_map_range_more}
 

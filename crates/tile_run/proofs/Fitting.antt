@@ -1,5 +1,5 @@
 -- Which tiles have room in scratch memory.
-use Rattle.std.proofs.Common.{arith, ℕ, ◌≤◌, ◌<◌, ◌≡◌, inl, inr, refl, ap, sym, ◌∙◌, subst, Bool, true, false, ◌&&◌, not, List, [], map, Option, Some, None, length, slice_get, filter}
+use Rattle.std.proofs.Common.{arith, ℕ, ◌≤◌, ◌<◌, ◌≡◌, inl, inr, refl, ap, sym, ◌∙◌, subst, Bool, true, false, not, List, [], map, Option, Some, None, length, slice_get, filter}
 use Rattle.std.specs.Prelude.{All, Contains, find, nat_le, nat_lt, if◌then◌else◌}
 use Rattle.std.specs.Option.{option_map, option_map_or}
 use Rattle.std.proofs.lemmas.Bool.{and_from, and_parts, not-true, false≢true, cases_lt, lt-ltb, le-ltb, lt-leb, le-leb, leb-true}
@@ -14,7 +14,7 @@ use Rattle.job.specs.Answers.{Tile, tiles, grid_of, has_tiles, is_accumulator}
 use Rattle.job.specs.Pipeline.{Body, plane, function, accumulator, Stage, Pipeline}
 use Rattle.job.specs.Readers.{stage_grid, grid_at}
 use Rattle.grouping.specs.Costs.{scratch, most_scratch, tile_targets}
-use Rattle.grouping.specs.Inlining.{Inlining, AllFitScratch, IsScheduleOf}
+use Rattle.grouping.specs.Inlining.{Inlining, IsScheduleOf}
 use Rattle.grouping.specs.Order.{in_order}
 use Rattle.grouping.specs.Schedules.{is_inlined, is_function, is_function_body, IsSchedule}
 use Rattle.grouping.specs.Targets.{Target}
@@ -27,8 +27,7 @@ use Rattle.overlap_tiles.proofs.Tiling.{has_grid}
 use Rattle.tile_run.specs.declared.room.Work.{Work}
 use Rattle.tile_run.specs.declared.room.Work.TheVariants.{Functions, Accumulators}
 use Rattle.tile_run.specs.Running.{StoredFit}
-use Rattle.tile_run.specs.Stored.{IsStoredFunction}
-use Rattle.tile_run.specs.Work.{is_stored_function, is_accumulator_at, wanted_by, work_tiles, tile_scratch, too_big, first_too_big}
+use Rattle.tile_run.specs.Work.{is_stored_function, wanted_by, work_tiles, tile_scratch, too_big, first_too_big}
 use Rattle.tile_run.proofs.Finding.{none_of, find_of}
 use Rattle.tile_run.proofs.Planned.{none_found}
 

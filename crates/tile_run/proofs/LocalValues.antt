@@ -101,13 +101,14 @@ module _ (job : Pipeline) (inlining : List Bool) (given : KnownTiles) (Inner : �
   hand_decides hand = stage_decides (slice_get job.stages g) hand
 
 -- what a stage makes of what is at hand is its local value, where what is computed before is local
-pub step_is_local : (job : Pipeline) (inlining : List Bool) (given : KnownTiles) (Inner : ℕ → ℤ → ℤ → Type 0) (e : Valuation) → IsJob job → ((g : ℕ) (r c : ℤ) → Inner g r c → e g r c ≡ local_value job inlining given g r c)
+pub step_is_local : (job : Pipeline) (inlining : List Bool) (given : KnownTiles) (Inner : ℕ → ℤ → ℤ → Type 0) (e : Valuation) → IsJob job
+    → ((g : ℕ) (r c : ℤ) → IsAtHand job inlining given Inner g r c → read_from job inlining given e g r c ≡ read_from job inlining given (local_value job inlining given) g r c)
     → (g : ℕ) (s : Stage) (r c : ℤ) → slice_get job.stages g ≡ Some s → HoldsPoint s.domain r c → BodyReads (IsAtHand job inlining given Inner) s.body r c
     → body_value job.picture (read_from job inlining given e) s.body r c ≡ local_value job inlining given g r c
 step_is_local job inlining given Inner e is right g s r c there inside reads =
     let h : Valuation = local_value job inlining given in
     body_value-agrees_there job.picture (read_from job inlining given e) (read_from job inlining given h) s.domain s.body r c (is.stages g s there).boxes inside
-    (reads_weaker (IsAtHand job inlining given Inner) (SameAt (read_from job inlining given e) (read_from job inlining given h)) (λ k i j. hand_decides job inlining given Inner e h k i j (right k i j)) s.body r c reads)
+    (reads_weaker (IsAtHand job inlining given Inner) (SameAt (read_from job inlining given e) (read_from job inlining given h)) right s.body r c reads)
     ∙ sym (local-unroll job inlining given g r c (ranked_is job is) ∙ ap (λ (o : Option Stage). stage_value job (read_from job inlining given h) o r c) there)
 
 -- ---- what is given is true

@@ -39,8 +39,8 @@ module _ (job : Pipeline) (inlining : List Bool) (stages : List Tiles) (g : ℕ)
   own = ap (λ (o : Option Stage). option_map_or (λ s. is_function_body s.body) o false) ready.function.there ∙ ready.function.function
 
   module _ (i j : ℕ) (l : Layout) (is : IsTileLayout job inlining g i j l) where
-    pub of_function : IsFunctionLayout job inlining l
-    of_function = record { stage = g; row = i; col = j; layout = is; function = own }
+    pub of_function : IsFunctionLayout job l
+    of_function = record { inlining = inlining; stage = g; row = i; col = j; layout = is; function = own }
 
     abbrev of_tile : Target
     of_tile = target_over job inlining g is.area

@@ -26,7 +26,7 @@ use Rattle.tile_eval.specs.Buffer.{raster}
 use Rattle.tile_eval.specs.declared.buffers.Buffer.{Buffer}
 use Rattle.tile_run.specs.KnownTiles.{KnownTiles}
 use Rattle.tile_run.specs.Local.{local_value}
-use Rattle.tile_run.specs.Runs.{is_missing, first_missing, AreGiven, AreLocalOn, IsReadyOn}
+use Rattle.tile_run.specs.Runs.{is_missing, first_missing, AreGiven, AreLocalOn}
 use Rattle.tile_run.specs.Steps.{AreComputed, AreRunnable, IsReadyOver}
 use Rattle.tile_run.proofs.Bridging.{inner_runnable, target_ready}
 
@@ -86,6 +86,13 @@ module _ (job : Pipeline) (inlining : List Bool) (given : KnownTiles) (l : Layou
   gives : AreGiven given l.needs → AreGiven given (needs of_tile)
   gives are_given = subst (AreGiven given) is.layout.layout.needs are_given
 
+  -- a layout knows the inlining that it was made by
+  pub own_layout : IsTileLayout job l.inlining g i j l
+  own_layout = subst (λ (flags : List Bool). IsTileLayout job flags g i j l) (sym is.layout.layout.inlining) is
+
+  pub by_own : (P : List Bool → Type 0) → P l.inlining → P inlining
+  by_own P h = subst P is.layout.layout.inlining h
+
   pub layout_runnable : IsJob job → AreGiven given l.needs → AreRunnable job inlining given (inner_steps of_tile)
   layout_runnable good are_given = inner_runnable of_tile good given (gives are_given) (target good)
 
@@ -99,7 +106,8 @@ module _ (job : Pipeline) (inlining : List Bool) (given : KnownTiles) (l : Layou
       is.tile.is ∙ ap (λ (d : Grid). tile_area d i j) grid ∙ sym at.is
 
   -- after the inner steps all that the tile reads is at hand
-  pub layout_ready : IsJob job → AreGiven given l.needs → (buffers : List (Option Buffer)) → AreComputed (inner_steps of_tile) (length (inner_steps of_tile)) buffers → IsReadyOn job inlining given buffers g i j
+  pub layout_ready : IsJob job → AreGiven given l.needs → (buffers : List (Option Buffer)) → AreComputed (inner_steps of_tile) (length (inner_steps of_tile)) buffers
+      → (area : Area) → IsTileAt job g i j area → IsReadyOver job inlining given buffers g area
   layout_ready good are_given buffers done area at =
       subst (IsReadyOver job inlining given buffers g) (only_area area at) (target_ready of_tile good given (gives are_given) (target good) buffers done)
 

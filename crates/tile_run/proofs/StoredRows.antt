@@ -1,5 +1,5 @@
 -- Rows of what is stored.
-use Rattle.std.proofs.Common.{ℕ, ℤ, pos, ◌+ℤ◌, ◌≡◌, ◌<◌, ap, sym, ◌∙◌, List, length, Option, Some, slice_get}
+use Rattle.std.proofs.Common.{ℕ, ℤ, pos, ◌+ℤ◌, ◌≡◌, ◌<◌, ap, sym, ◌∙◌, length, Some, slice_get}
 use Rattle.std.specs.Option.{option_map}
 use Rattle.std.proofs.lemmas.Option.{same_Some}
 use Rattle.domains.specs.Area.{IsArea}

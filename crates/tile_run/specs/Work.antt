@@ -4,7 +4,6 @@ use Rattle.std.specs.List.{flat_map, range_with_len}
 use Rattle.std.specs.Option.{option_map, option_map_or}
 use Rattle.domains.specs.Tiles.{tile_area, tile_cols}
 use Rattle.domains.specs.declared.grid.Grid.{Grid}
-use Rattle.identity.specs.declared.key.Key.{Key}
 use Rattle.job.specs.Answers.{Tile, tiles, grid_of, is_accumulator}
 use Rattle.job.specs.Pipeline.{Stage, Pipeline}
 use Rattle.grouping.specs.Costs.{scratch, most_scratch}

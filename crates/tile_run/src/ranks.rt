@@ -21,8 +21,8 @@ ghost use Rattle.tile_run.specs.KnownTiles.{AreTrue};
 use crate::buffers::Scratch;
 use crate::fault::RunFault;
 use crate::room::{Work, first_too_big};
-use crate::run::run_layout;
 use crate::stored::{Stored, TileRow, Tiles};
+use crate::tile_job::TileJob;
 use domains::Grid;
 use grouping::Schedule;
 use job::{Job, Stage, StageKind};
@@ -41,7 +41,7 @@ struct StageRun<'a> {
 
 impl StageRun<'_> {
     // The layout of a tile.
-    fn layout(&self, alloc: Global, row: u32, col: u32) -> Result<Layout, AllocError>
+    fn layout(&self, alloc: Global, row: u32, col: u32) -> Result<Layout<'_>, AllocError>
         requires ready { IsReady (pipeline_in self.now.job.now) self.now.schedule.now.inlining self.now.stored.now.stages.items self.now.stage self.now.grid }
         requires tile { HasTile self.now.grid row col }
         ensures { IfOk result (IsTileLayout (pipeline_in self.now.job.now) self.now.schedule.now.inlining self.now.stage row col) }
@@ -66,14 +66,12 @@ impl StageRun<'_> {
         ensures { IfOk result (λ values. values.items ≡ tile_values (pipeline_in self.now.job.now) self.now.stage self.now.grid row col) }
     {
         let layout = self.layout(alloc, row, col)?;
-        run_layout(
-            alloc,
-            self.job,
-            self.schedule,
-            &layout,
-            scratch,
-            self.stored,
-        )
+        let tile = TileJob {
+            job: self.job,
+            layout: &layout,
+            known: self.stored,
+        };
+        tile.run(alloc, scratch)
     }
 
     // Those of a row of tiles.

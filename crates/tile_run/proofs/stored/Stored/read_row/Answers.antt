@@ -1,4 +1,4 @@
-use Rattle.std.proofs.Common.{rules, ℕ, ℤ, pos, ◌+ℤ◌, ◌≡◌, ◌∙◌, sym, subst, ap, length, w32, FitsSigned}
+use Rattle.std.proofs.Common.{rules, pos, ◌+ℤ◌, ◌≡◌, ◌∙◌, sym, subst, length, w32, FitsSigned}
 use Rattle.std.proofs.lemmas.Int.{to_z-of_z}
 use Rattle.domains.specs.Area.{IsArea}
 use Rattle.domains.specs.declared.grid.Grid.{Grid}

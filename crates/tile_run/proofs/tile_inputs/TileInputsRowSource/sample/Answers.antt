@@ -13,16 +13,16 @@ pub plane_point-requires-clause-there : goal.plane_point-requires-clause-there
 plane_point-requires-clause-there g c =
     let row : FitsSigned w32 c.args.row = search rules in
     let col : FitsSigned w32 c.args.col = search rules in
-    let there : slice_get (pipeline_in c.args.self.now.job.now).stages c.args.stage ≡ Some (stage_view c.in-Some.found.now) = sym c.in-Some.ensures in
+    let there : slice_get (pipeline_in c.args.self.now.tile.job.now).stages c.args.stage ≡ Some (stage_view c.in-Some.found.now) = sym c.in-Some.ensures in
     rw (to_z-of_z w32 c.args.row row) (rw (to_z-of_z w32 c.args.col col)
     (subst (λ (p : Image). HoldsPoint (picture_area p) c.args.row c.args.col) (sym c.picture.ensures)
-    ((c.args.self.now.planes c.args.stage c.in-Plane.plane (stage_view c.in-Some.found.now) there (plane_body c.in-Some.found.now c.body.result.now c.in-Plane.plane c.body.ensures c.in-Plane.is)).1 c.args.row c.args.col
-    (of_plane (pipeline_in c.args.self.now.job.now) c.args.self.now.schedule.now.inlining (g.K.Known.given c.args.self.now.known.now) (IsKnownAt c.args.self.now.boxes.buffers.items) c.args.stage c.args.row c.args.col (stage_view c.in-Some.found.now) there c.requires c.in-Plane.plane (plane_body c.in-Some.found.now c.body.result.now c.in-Plane.plane c.body.ensures c.in-Plane.is)))))
+    ((c.args.self.now.tile.planes c.args.stage c.in-Plane.plane (stage_view c.in-Some.found.now) there (plane_body c.in-Some.found.now c.body.result.now c.in-Plane.plane c.body.ensures c.in-Plane.is)).1 c.args.row c.args.col
+    (of_plane (pipeline_in c.args.self.now.tile.job.now) c.args.self.now.tile.layout.now.inlining (g.K.Known.given c.args.self.now.tile.known.now) (IsKnownAt c.args.self.now.boxes.now.buffers.items) c.args.stage c.args.row c.args.col (stage_view c.in-Some.found.now) there c.requires c.in-Plane.plane (plane_body c.in-Some.found.now c.body.result.now c.in-Plane.plane c.body.ensures c.in-Plane.is)))))
 
 pub sample-requires : goal.sample-requires
 sample-requires g c =
     let row : FitsSigned w32 c.args.row = search rules in
     let col : FitsSigned w32 c.args.col = search rules in
-    let there : slice_get (pipeline_in c.args.self.now.job.now).stages c.args.stage ≡ Some (stage_view c.in-Some.found.now) = sym c.in-Some.ensures in
+    let there : slice_get (pipeline_in c.args.self.now.tile.job.now).stages c.args.stage ≡ Some (stage_view c.in-Some.found.now) = sym c.in-Some.ensures in
     rw (to_z-of_z w32 c.args.row row) (rw (to_z-of_z w32 c.args.col col)
-    (of_inlined (pipeline_in c.args.self.now.job.now) c.args.self.now.schedule.now.inlining (g.K.Known.given c.args.self.now.known.now) (IsKnownAt c.args.self.now.boxes.buffers.items) c.args.stage c.args.row c.args.col (stage_view c.in-Some.found.now) there c.requires _ _ (function_body c.in-Some.found.now c.body.result.now c.in-Function.field-0 c.body.ensures c.in-Function.is) (sym c.inlined.ensures ∙ c.if-inlined.true)))
+    (of_inlined (pipeline_in c.args.self.now.tile.job.now) c.args.self.now.tile.layout.now.inlining (g.K.Known.given c.args.self.now.tile.known.now) (IsKnownAt c.args.self.now.boxes.now.buffers.items) c.args.stage c.args.row c.args.col (stage_view c.in-Some.found.now) there c.requires _ _ (function_body c.in-Some.found.now c.body.result.now c.in-Function.field-0 c.body.ensures c.in-Function.is) (sym c.inlined.ensures ∙ c.if-inlined.true)))

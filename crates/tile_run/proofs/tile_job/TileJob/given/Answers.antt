@@ -5,7 +5,7 @@ use Rattle.job.specs.Answers.{grid_of}
 use Rattle.job.specs.Kept.{pipeline_in}
 use Rattle.job.specs.Views.{stage_view}
 use Rattle.tile_run.specs.KnownTiles.{HasWholeTiles}
-use Rattle.tile_run.proofs.tile_inputs.TileInputs.given.Goals as goal
+use Rattle.tile_run.proofs.tile_job.TileJob.given.Goals as goal
 
 pub invariant_of-result : goal.invariant_of-result
 invariant_of-result g c =

@@ -6,7 +6,7 @@ use Rattle.job.specs.Kept.{pipeline_in}
 use Rattle.overlap_tiles.specs.Views.{step_view}
 use Rattle.tile_run.proofs.Bridging.{function_stage}
 use Rattle.tile_run.proofs.Running.{step_at, computed_next}
-use Rattle.tile_run.proofs.tile_inputs.TileInputs.run_step.Goals as goal
+use Rattle.tile_run.proofs.tile_job.TileJob.run_step.Goals as goal
 
 pub compute-requires-clause-area : goal.compute-requires-clause-area
 compute-requires-clause-area g c =
@@ -21,12 +21,12 @@ compute-requires-clause-room g c =
 
 pub compute-requires-clause-ready : goal.compute-requires-clause-ready
 compute-requires-clause-ready g c =
-    c.requires.runnable.ready c.args.place c.index-steps-place.result.stage c.index-steps-place.result.area c.args.self.now.boxes.buffers.items (step_at c.args.steps.now c.args.place c.index-steps-place.result c.requires.there c.index-steps-place.is) c.requires.before
+    c.requires.runnable.ready c.args.place c.index-steps-place.result.stage c.index-steps-place.result.area c.args.boxes.now.buffers.items (step_at c.args.steps.now c.args.place c.index-steps-place.result c.requires.there c.index-steps-place.is) c.requires.before
 
 pub returns-in-Some-clause-computed : goal.returns-in-Some-clause-computed
 returns-in-Some-clause-computed g c =
     ok_then c.compute.result c.compute.ensures.computed (λ done known.
-    computed_next (pipeline_in c.args.self.now.job.now) c.args.self.now.schedule.now.inlining (g.K.Known.given c.args.self.now.known.now) (map step_view c.args.steps.now) c.args.place c.index-steps-place.result.stage c.index-steps-place.result.area c.args.self.now.boxes.buffers.items c.compute.new.self.boxes.buffers.items
+    computed_next (pipeline_in c.args.self.now.job.now) c.args.self.now.layout.now.inlining (g.K.Known.given c.args.self.now.known.now) (map step_view c.args.steps.now) c.args.place c.index-steps-place.result.stage c.index-steps-place.result.area c.args.boxes.now.buffers.items c.compute.new.boxes.buffers.items
     c.requires.runnable (step_at c.args.steps.now c.args.place c.index-steps-place.result c.requires.there c.index-steps-place.is) c.requires.before known c.compute.ensures.others)
 
 pub returns-in-None-clause-computed : goal.returns-in-None-clause-computed
