@@ -4,6 +4,7 @@
 has just proved. A clone has no older work: the wrong bodies are judged over the libraries that this very run proved.
 """
 import os
+import queue
 import re
 import shutil
 import signal
@@ -102,12 +103,73 @@ def run(name: str, folder: str, words: list[str], hear: Callable[[str], None] = 
     return step
 
 
-def prove(clone: str, times: Times) -> Step:
+class WrongBodies:
+    """Judges the wrong bodies of each crate.
+
+    Those of a crate that is proved are judged while others are being proved, on processors that this leaves idle. What is left
+    when the last proof ends is judged by all processors.
+    """
+
+    def __init__(self, clone: str, times: Times):
+        self.clone, self.times = clone, times
+        folder = f"{clone}/tests/edits"
+        self.left = set(os.listdir(folder)) if os.path.isdir(folder) else set()
+        self.choosing = threading.Lock()
+        self.proved: queue.SimpleQueue[str] = queue.SimpleQueue()
+        self.done: list[Step] = []
+        half = max(1, len(os.sched_getaffinity(0)) // 2)
+        self.early = [threading.Thread(target=self.judge_early, daemon=True) for _ in range(half)]
+        for thread in self.early:
+            thread.start()
+
+    def hear(self, line: str) -> None:
+        proved = PROVED.match(line)
+        if proved and not proved[2]:
+            self.proved.put(proved[1])
+
+    def judge_early(self) -> None:
+        """Judges crates as they come, until an empty name comes."""
+        while name := self.proved.get():
+            if self.chosen([name]):
+                self.judge(["env", "RT_JOBS=1", "nice", "-n", "19"], [name])
+
+    def chosen(self, names: list[str]) -> list[str]:
+        """Those of these crates that are left, which are left no more."""
+        with self.choosing:
+            found = sorted(self.left.intersection(names))
+            self.left.difference_update(found)
+            return found
+
+    def judge(self, before: list[str], names: list[str]) -> None:
+        step = run(f"wrong bodies of {', '.join(names)}", self.clone, [*before, "tests/run_edits", "--as-built", *names], self.times.hear)
+        self.done.append(step)
+
+    def end(self, is_proved: bool) -> None:
+        """Where all is proved, judges what is left. Else none is begun any more."""
+        rest = self.chosen([*self.left])
+        for _ in self.early:
+            self.proved.put("")
+        if is_proved and rest:
+            self.judge([], rest)
+        for thread in self.early:
+            thread.join()
+
+    def step(self, clock: float) -> Step:
+        passed, failed, processor = (sum(it[k] for it in self.done) for k in (1, 2, 3))
+        return Step("wrong bodies", passed, failed, processor, clock)
+
+
+def prove(clone: str, times: Times, bodies: WrongBodies) -> Step:
     ended = threading.Event()
     watching = threading.Thread(target=times.watch, args=(ended,), daemon=True)
     watching.start()
+
+    def hear(line: str) -> None:
+        times.hear(line)
+        bodies.hear(line)
+
     try:
-        return run("proofs", clone, ["rt", "ci"], times.hear)
+        return run("proofs", clone, ["rt", "ci"], hear)
     finally:
         ended.set()
         watching.join()
@@ -115,9 +177,12 @@ def prove(clone: str, times: Times) -> Step:
 
 def steps(clone: str, times: Times) -> list[Step]:
     """Runs each step. Without the proofs there is nothing to judge edits over, and no proved program."""
-    done = [prove(clone, times)]
+    bodies = WrongBodies(clone, times)
+    done = [prove(clone, times, bodies)]
+    began = time.monotonic()
+    bodies.end(is_proved=not done[0].failed)
     if not done[0].failed:
-        done.append(run("wrong bodies", clone, ["tests/run_edits", "--as-built"], times.hear))
+        done.append(bodies.step(time.monotonic() - began))
     done.append(run("tests of the runner", clone, ["tests/test_run_edits.py"]))
     done.append(run("tests of the gate", clone, ["tests/test_gate.py"]))
     if not done[0].failed:

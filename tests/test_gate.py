@@ -15,17 +15,24 @@ import counted_tests
 
 PROVES = """#!/bin/sh
 [ -e crates/small/out ] && echo "rt: older work" && exit 1
-mkdir -p crates/small/out crates/tilefarm/out
-echo program > crates/tilefarm/out/tilefarm
+mkdir -p crates/small/out
 sleep 1.2
 echo "rt: small proved"
-echo "rt: tilefarm proved"
+sleep 1
+mkdir -p crates/tilefarm/out
+echo program > crates/tilefarm/out/tilefarm
 echo "3 passed, 0 failed"
 """
 REFUSES = "#!/bin/sh\necho 'rt: small NOT PROVED'\necho '1 passed, 1 failed'\nexit 1\n"
-JUDGED = "4 of 4 refused, 2 checks, 61.0 s of processor, 30.4 s by the clock"
+# (judges as many edits as it is given crates, and tells when it began)
+JUDGES = """shift
+[ -e crates/tilefarm/out/tilefarm ] && when=late || when=early
+for name; do echo "edits: $name: 1 of 1 refused, 2 checks, 61.0 s of processor, 30.4 s by the clock"; done
+echo "$when: $*"
+echo "$# passed, 0 failed"
+"""
 STUBS = {
-    "tests/run_edits": f"echo 'edits: small: {JUDGED}'\necho '4 passed, 0 failed'",
+    "tests/run_edits": JUDGES,
     "tests/test_run_edits.py": "echo '5 passed, 0 failed'",
     "tests/test_gate.py": "echo '1 passed, 0 failed'",
     "tests/run_cases": "cat \"$1\"\necho '6 passed, 1 failed'\nexit 1",
@@ -52,6 +59,8 @@ class Gate(unittest.TestCase):
             shutil.copy2(f"{TESTS}/{name}", f"{self.top}/tests/{name}")
         for name in ("small", "tilefarm"):
             write(f"{self.top}/crates/{name}/src/lib.rt", "")
+        for name in ("small", "other", "tilefarm"):
+            write(f"{self.top}/tests/edits/{name}/wrong.edit", "")
         write(f"{self.top}/.gitignore", "out/\n")
         self.git("init", "-q")
         self.git("add", "-A")
@@ -71,13 +80,17 @@ class Gate(unittest.TestCase):
         write(f"{self.top}/crates/small/src/lib.rt", "changed")
         status, lines = self.gate(PROVES)
         self.assertEqual(status, 1)
-        # proofs 3, edits 4, tests 5 and 1, cases 6 and one that fails, the results 1, and the page fails
-        self.assertEqual(lines[-1], "20 passed, 2 failed")
+        # proofs 3, edits 3, tests 5 and 1, cases 6 and one that fails, the results 1, and the page fails
+        self.assertEqual(lines[-1], "19 passed, 2 failed")
         self.assertIn("gate: HEAD is judged, and not these changes, which are not committed:", lines)
         self.assertIn(" M crates/small/src/lib.rt", lines)
-        self.assertIn("small 0:01 4 of 4 2 1:01 0:30", [" ".join(it.split()) for it in lines])
+        self.assertIn("small 0:01 1 of 1 2 1:01 0:30", [" ".join(it.split()) for it in lines])
         with open(f"{self.top}/crates/tilefarm/out/tilefarm", encoding="utf-8") as program:
             self.assertEqual(program.read(), "program\n")
+
+    def test_each_wrong_body_is_judged_once_and_early_where_its_crate_is_proved(self):
+        _, lines = self.gate(PROVES)
+        self.assertEqual([it for it in lines if it.startswith(("early: ", "late: "))], ["early: small", "late: other tilefarm"])
 
     def test_without_the_proofs_nothing_stands_on_them(self):
         status, lines = self.gate(REFUSES)

@@ -4,6 +4,7 @@ use Rattle.std.specs.Prelude.{map}
 use Rattle.std.specs.Option.{option_map}
 use Rattle.domains.specs.Sides.{Sides, IsSides}
 use Rattle.netpbm.specs.Image.{Image as Picture}
+use Rattle.pipe_tree.specs.Sizes.{KeepsLimits}
 use Rattle.pipe_tree.specs.Tree.{Declaration}
 use Rattle.binding.specs.declared.bound.Parts.{Parts}
 use Rattle.binding.specs.declared.fault.BindFault.{BindFault}
@@ -39,11 +40,11 @@ job_from_is p items picture sides parts h =
     ∙ ap (λ (ps : List Parameter). let j : Pipeline = record { stages = told.stages; output = told.output; params = ps; picture = picture; sides = sides } in j) h.params
 
 module _ (items : List Declaration) (p : Program) (picture : Picture) (sides : Sides) (parts : Parts) (named : IsNamed items) (own : p.stages ≡ stages_of items) (ranking : IsRanking (graph_of items) p.ranks) (h : AreBoundParts items p picture parts) where
-  pub bound_is_job : IsSides sides → ShapesFit (job_from parts picture sides) → TilesFit (job_from parts picture sides) → IsJob (job_from parts picture sides)
-  bound_is_job tile_sides shapes tiles =
+  pub bound_is_job : KeepsLimits items → IsSides sides → ShapesFit (job_from parts picture sides) → TilesFit (job_from parts picture sides) → IsJob (job_from parts picture sides)
+  bound_is_job limits tile_sides shapes tiles =
       let same = job_from_is (settled_program p h.image picture) items picture sides parts h.are in
       subst IsJob (sym same)
-      (job_is items named (settled_program p h.image picture) own h.small h.bounds picture h.image h.declared h.planes h.extents sides ranking (subst TilesFit same tiles) (subst ShapesFit same shapes) h.real tile_sides)
+      (job_is items named (settled_program p h.image picture) own h.small h.bounds picture h.image h.declared h.planes h.extents sides ranking (subst TilesFit same tiles) limits (subst ShapesFit same shapes) h.real tile_sides)
 
   pub bound_is_said : map (λ s. s.name) p.settings ≡ map (λ d. d.name) (params_of items) → IsJobOf items p.settings picture sides (job_from parts picture sides)
   bound_is_said names = record {

@@ -19,6 +19,7 @@ use Rattle.pipe_tree.specs.declared.tree.Image.{Image}
 use Rattle.pipe_tree.specs.declared.tree.Names.{Names}
 use Rattle.pipe_tree.specs.declared.tree.Names.TheVariants.{One, Three}
 use Rattle.pipe_tree.specs.declared.tree.Output.{Output as OutputText}
+use Rattle.pipe_tree.specs.Sizes.{KeepsLimits}
 use Rattle.pipe_tree.specs.Tree as tree
 use Rattle.pipe_tree.specs.Tree.{Node, Branch, Declaration}
 use Rattle.pipe_checks.specs.declared.symbol.Symbol.{Symbol}
@@ -48,6 +49,7 @@ use Rattle.binding.proofs.NumberLaws.{stage_named}
 use Rattle.domains.proofs.Places.{all_at}
 use Rattle.binding.proofs.JudgedFormulas.{zero_fits, formula_is, tests_are}
 use Rattle.binding.proofs.StageLaws.{IsStageOf, IsAt, stage_at, stage_there, each_links}
+use Rattle.binding.proofs.SmallLaws.{stages_counted}
 use Rattle.binding.proofs.ReadLaws.{ranked}
 use Rattle.binding.proofs.BoundLaws.{ends_are, span_near, item_domain, domain_at, stage_reads}
 
@@ -371,9 +373,10 @@ module _ (ds : List Declaration) (named : IsNamed ds) (p : Program) (own : p.sta
       values_fit [] each = All-nil (λ q. FitsSigned w32 q.value)
       values_fit (s ∷ ss) each = All-cons (λ q. FitsSigned w32 q.value) (parameter_of s) (map parameter_of ss) (each 0 s refl) (values_fit ss (λ k t there. each (suc k) t there))
 
-      pub job_is : ShapesFit job → IsImage picture → IsSides sides → IsJob job
-      job_is shapes image tile_sides = record {
+      pub job_is : KeepsLimits ds → ShapesFit job → IsImage picture → IsSides sides → IsJob job
+      job_is limits shapes image tile_sides = record {
         stages = is_stage;
+        few_stages = omega (arith, stages_counted p ds, limits.few_stages);
         output = outputs_are shapes;
         params = values_fit p.settings (λ k s there. value_fits k s s.value there refl);
         picture = image;

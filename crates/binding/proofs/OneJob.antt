@@ -6,6 +6,7 @@ use Rattle.std.proofs.lemmas.Option.{none-some, same_Some}
 use Rattle.domains.specs.Sides.{Sides, IsSides}
 use Rattle.netpbm.specs.Image.{Image as Picture, IsImage}
 use Rattle.pipe_tree.specs.declared.tree.Image.{Image}
+use Rattle.pipe_tree.specs.Sizes.{KeepsLimits}
 use Rattle.pipe_tree.specs.Tree.{Declaration}
 use Rattle.pipe_bounds.specs.declared.params.Setting.{Setting}
 use Rattle.pipe_checks.specs.Graph.{IsRanking}
@@ -61,8 +62,8 @@ one_job items given picture sides a b h k =
 
 -- ---- and it is a job
 
-pub bound_job_is : (items : List Declaration) (given : List Setting) (picture : Picture) (sides : Sides) (job : Pipeline) (h : IsJobOf items given picture sides job) → AreSmall given → IsImage picture → IsSides sides → IsInBounds (settings_for h.image picture given) items → PlanesFit h.image picture → ExtentsFit (settings_for h.image picture given) h.image picture → ShapesFit job → TilesFit job → IsJob job
-bound_job_is items given picture sides job h small image tile_sides bounds planes extents shapes tiles =
+pub bound_job_is : (items : List Declaration) (given : List Setting) (picture : Picture) (sides : Sides) (job : Pipeline) (h : IsJobOf items given picture sides job) → KeepsLimits items → AreSmall given → IsImage picture → IsSides sides → IsInBounds (settings_for h.image picture given) items → PlanesFit h.image picture → ExtentsFit (settings_for h.image picture given) h.image picture → ShapesFit job → TilesFit job → IsJob job
+bound_job_is items given picture sides job h limits small image tile_sides bounds planes extents shapes tiles =
     let p : Program = record { stages = stages_of items; ranks = h.ranks; settings = settings_for h.image picture given } in
     subst IsJob (sym h.is)
-    (job_is items h.named p refl (small_settled h.image picture image given small) bounds picture h.image h.declared planes extents sides h.ranking (subst TilesFit h.is tiles) (subst ShapesFit h.is shapes) image tile_sides)
+    (job_is items h.named p refl (small_settled h.image picture image given small) bounds picture h.image h.declared planes extents sides h.ranking (subst TilesFit h.is tiles) limits (subst ShapesFit h.is shapes) image tile_sides)

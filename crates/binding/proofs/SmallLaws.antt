@@ -67,7 +67,7 @@ stages_in_item p (tree.function f) = omega (arith, cases_weigh 0 f.cases, none_w
 stages_in_item p (tree.accumulator a) = omega (arith, no_node a.value, no_node a.bin)
 stages_in_item p (tree.output o) = refl
 
-stages_counted : (p : Program) (ds : List Declaration) → length (flat_map (item_stages p) ds) ≡ size stages ds
+pub stages_counted : (p : Program) (ds : List Declaration) → length (flat_map (item_stages p) ds) ≡ size stages ds
 stages_counted p [] = refl
 stages_counted p (d ∷ ds) =
     omega (arith, length-append (item_stages p d) (flat_map (item_stages p) ds), sum_by-cons (item_size stages) d ds, stages_in_item p d, stages_counted p ds)

@@ -2,7 +2,7 @@
 //! A program, the values of its parameters and a picture to a job.
 
 ghost use Rattle.std.specs.Prelude.{◌≡◌, ◌≢◌, ◌⊎◌, [], ◌∷◌, IfOk, IfErr, OnOk, map};
-ghost use Rattle.pipe_tree.specs.Tree.{content};
+ghost use Rattle.pipe_tree.specs.Content.{content};
 ghost use Rattle.pipe_checks.specs.Checking.{IsCheckedOf, tree_in, params_in};
 ghost use Rattle.pipe_bounds.specs.InBounds.{IsInBounds};
 ghost use Rattle.binding.specs.declared.fault.BindFault.TheVariants.{Bounds, Memory};

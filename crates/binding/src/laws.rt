@@ -38,11 +38,11 @@ pub fn sides_become_parameters()
     ensures both { settings_for planes one_by_two unset ≡ record { name = codes "R"; value = Some (pos 1) } ∷ record { name = codes "C"; value = Some (pos 2) } ∷ [] }
 {}
 
-/// A program says at most one job. This is a job, where the values that are given are numbers of 32 bits, all is in bounds
-/// and the picture, the sides of tiles, the shapes of the output and the numbers of tiles fit.
+/// A program says at most one job. This is a job, where the program keeps the limits of a text, the values that are given are
+/// numbers of 32 bits, all is in bounds and the picture, the sides of tiles, the shapes of the output and the numbers of tiles fit.
 pub fn bound_programs_are_jobs()
     ensures one { (items : List Declaration) (given : List Setting) (image : Picture) (sides : Sides) (a b : Pipeline) → IsJobOf items given image sides a → IsJobOf items given image sides b → a ≡ b }
-    ensures job { (items : List Declaration) (given : List Setting) (image : Picture) (sides : Sides) (job : Pipeline) (is : IsJobOf items given image sides job) → AreSmall given → IsImage image → IsSides sides → IsInBounds (settings_for is.image image given) items → PlanesFit is.image image → ExtentsFit (settings_for is.image image given) is.image image → ShapesFit job → TilesFit job → IsJob job }
+    ensures job { (items : List Declaration) (given : List Setting) (image : Picture) (sides : Sides) (job : Pipeline) (is : IsJobOf items given image sides job) → KeepsLimits items → AreSmall given → IsImage image → IsSides sides → IsInBounds (settings_for is.image image given) items → PlanesFit is.image image → ExtentsFit (settings_for is.image image given) is.image image → ShapesFit job → TilesFit job → IsJob job }
 {}
 
 /// The limits of a text are limits of its job: at most 64 stages, 64 parameters and 16 cases of a function.

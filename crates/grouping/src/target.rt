@@ -28,7 +28,6 @@ impl TargetWalk<'_> {
 
     // The hull of what is demanded of a stage, cut to its domain.
     pub(crate) fn box_of(&self, hulls: &[Option<Area>], number: usize) -> Option<Area>
-        requires { IsJob (pipeline_in self.now.job.now) }
         ensures is { result ≡ cut_hull (pipeline_in self.now.job.now).stages hulls.now number }
         ensures near { IfSome result InDomainRanges }
     {
@@ -40,7 +39,6 @@ impl TargetWalk<'_> {
 
     // The region of a stage that is in the target.
     fn region_of(&self, hulls: &[Option<Area>], number: usize) -> Option<Area>
-        requires job { IsJob (pipeline_in self.now.job.now) }
         requires target { IsTarget (target_of self.now) }
         ensures is { result ≡ region_by (target_of self.now) (cut_hull (pipeline_in self.now.job.now).stages hulls.now) number }
         ensures near { IfSome result InDomainRanges }

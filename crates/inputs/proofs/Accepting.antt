@@ -1,5 +1,5 @@
 -- What `check` accepts means something.
-use Rattle.pipe_tree.specs.Tree.{content}
+use Rattle.pipe_tree.specs.Content.{content}
 use Rattle.pipe_tree.specs.declared.tree.Tree.{Tree}
 use Rattle.pipe_checks.specs.CheckedProgram.{CheckedProgram}
 use Rattle.pipe_checks.specs.Checking.{IsCheckedOf, ranks_in}

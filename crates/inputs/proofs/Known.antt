@@ -9,7 +9,8 @@ use Rattle.streams.specs.Streams.{AppendsPart}
 use Rattle.netpbm.specs.declared.fault.PicFault.{PicFault}
 use Rattle.netpbm.specs.declared.fault.PicFault.TheVariants as pictures
 use Rattle.pipe_tree.specs.Faults.{IsFault as IsTextFault, IsText}
-use Rattle.pipe_tree.specs.Tree.{Declaration, content}
+use Rattle.pipe_tree.specs.Tree.{Declaration}
+use Rattle.pipe_tree.specs.Content.{content}
 use Rattle.pipe_tree.specs.declared.fault.ParseFault.{ParseFault}
 use Rattle.pipe_tree.specs.declared.fault.ParseFault.TheVariants as texts
 use Rattle.pipe_tree.specs.declared.tree.Tree.{Tree}

@@ -1,7 +1,8 @@
 //! Programs that mean something, and what others are refused with.
 
 ghost use Rattle.std.specs.Prelude.{◌≡◌, IfOk, IfErr};
-ghost use Rattle.pipe_tree.specs.Tree.{content, declarations};
+ghost use Rattle.pipe_tree.specs.Tree.{declarations};
+ghost use Rattle.pipe_tree.specs.Content.{content};
 ghost use Rattle.pipe_checks.specs.Checking.{IsCheckedOf, IsFault};
 ghost use Rattle.pipe_checks.specs.Names.{stages_of};
 ghost use Rattle.inputs.specs.Steps.{IsRefusal};

@@ -1,7 +1,7 @@
 //! Programs bound to pictures, and how those that do not fit are told.
 
 ghost use Rattle.std.specs.Prelude.{◌≡◌, IfOk, IfErr, map};
-ghost use Rattle.pipe_tree.specs.Tree.{content};
+ghost use Rattle.pipe_tree.specs.Content.{content};
 ghost use Rattle.pipe_print.specs.Canonical.{canonical};
 ghost use Rattle.pipe_checks.specs.Checking.{params_in, stages_in, tree_in};
 ghost use Rattle.binding.specs.declared.fault.BindFault.{BindFault as BindFaultType};

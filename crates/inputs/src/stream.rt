@@ -2,7 +2,7 @@
 
 ghost use Rattle.std.specs.Prelude.{◌≡◌, ◌≤◌, IfOk, IfErr, IfSome, List, length};
 ghost use Rattle.domains.specs.Sides.{Sides};
-ghost use Rattle.pipe_tree.specs.Tree.{content};
+ghost use Rattle.pipe_tree.specs.Content.{content};
 ghost use Rattle.job.specs.Kept.{pipeline_in};
 ghost use Rattle.job.specs.WellFormed.{IsJob, IsSmall};
 ghost use Rattle.inputs.specs.Faults.{IsFaultOf};

@@ -126,6 +126,7 @@ output_is = record {
 pub blur_is : IsJob blur
 blur_is = record {
   stages = each_stage;
+  few_stages = omega arith;
   output = λ o is. let same : record { stages = 1 ∷ []; max = 255 } ≡ o = cc in subst (IsOutput blur) same output_is;
   params = All-nil (λ p. FitsSigned w32 p.value);
   picture = picture_is;

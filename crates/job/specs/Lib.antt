@@ -6,6 +6,7 @@ pub mod Boxes
 pub mod Totals
 pub mod Answers
 pub mod WellFormed
+pub mod WellFormedOnce
 pub mod Worked
 pub mod Lopsided
 pub mod Views

@@ -121,6 +121,7 @@ pub record IsOutput (job : Pipeline) (o : Output) : Type 0 where
 
 pub record IsJob (job : Pipeline) : Type 0 where
   pub stages : (g : ℕ) (s : Stage) → slice_get job.stages g ≡ Some s → IsStage job s
+  pub few_stages : length job.stages ≤ 65536
   pub output : ForSome job.output (IsOutput job)
   pub params : All (λ p. FitsSigned w32 p.value) job.params
   pub picture : IsImage job.picture

@@ -7,6 +7,7 @@ ghost use Rattle.sha2.specs.Sha256.{sha256};
 ghost use Rattle.job.specs.Identity.{input_bytes, input_id, HasTileAt};
 ghost use Rattle.job.specs.Readers.{kind_of, grid_at, stage_fold, stage_bins};
 ghost use Rattle.job.specs.WellFormed.{IsJob};
+ghost use Rattle.job.specs.WellFormedOnce.{IsJob-prop};
 ghost use Rattle.job.specs.Views.{stage_view, output_view, parameter_view, pipeline_of};
 
 use crate::bound_pipeline::BoundPipeline;
@@ -27,7 +28,7 @@ pub struct Job {
     text: Vec<u8>,
     program: ProgramId,
     input: Option<InputId>,
-    ghost well: { ∥ IsJob (pipeline_of parts) ∥₁ },
+    ghost well: { IsJob (pipeline_of parts) } by { IsJob-prop (pipeline_of parts) },
     ghost named: { program ≡ sha256 text.items },
     ghost hashed: { ForSome input (λ id. id ≡ input_id (pipeline_of parts)) },
 }

@@ -4,7 +4,8 @@
 ghost use Rattle.std.specs.Prelude.{◌≡◌, ℕ, OnOk, IfErr, Err};
 ghost use Rattle.pipe_bounds.specs.declared.fault.BoundFault.TheVariants.{ParamUnset};
 ghost use Rattle.pipe_checks.specs.Checking.{tree_in};
-ghost use Rattle.pipe_tree.specs.Tree.{content, declarations};
+ghost use Rattle.pipe_tree.specs.Tree.{declarations};
+ghost use Rattle.pipe_tree.specs.Content.{content};
 ghost use Rattle.pipe_bounds.specs.InBounds.{AreInBounds, IsBoundFault, IsFirstStage, IsInBounds};
 ghost use Rattle.pipe_bounds.specs.Taken.{AreDeclared, AreSoundItems, IsAnswer};
 ghost use Rattle.pipe_bounds.specs.Within.{AreSet, HaveDomains, IsFirstUnset};

@@ -5,7 +5,8 @@ use Rattle.std.proofs.lemmas.Bool.{cases_lt, false≢true}
 use Rattle.std.proofs.lemmas.Option.{same_Some}
 use Rattle.std.proofs.lemmas.Grind.{same_number_lists}
 use Rattle.pipe_tree.specs.declared.tree.Tree.{Tree}
-use Rattle.pipe_tree.specs.Tree.{Declaration, content}
+use Rattle.pipe_tree.specs.Tree.{Declaration}
+use Rattle.pipe_tree.specs.Content.{content}
 use Rattle.pipe_checks.specs.declared.symbol.Symbol.{Symbol}
 use Rattle.pipe_checks.specs.declared.fault.Violation.{Violation}
 use Rattle.pipe_checks.specs.declared.fault.Violation.TheVariants as misuse

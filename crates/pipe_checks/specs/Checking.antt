@@ -2,7 +2,8 @@
 use Rattle.std.specs.Prelude.{ℕ, ◌<◌, ◌≡◌, ◌⊎◌, Bool, true, false, IsTrue, Option, Some, None, is_some, Ok, Err, List, take, slice_get}
 use Rattle.std.specs.List.{list_any}
 use Rattle.pipe_tree.specs.declared.tree.Tree.{Tree}
-use Rattle.pipe_tree.specs.Tree.{Declaration, param, image, function, accumulator, output, content}
+use Rattle.pipe_tree.specs.Tree.{Declaration, param, image, function, accumulator, output}
+use Rattle.pipe_tree.specs.Content.{content}
 use Rattle.pipe_checks.specs.declared.symbol.Symbol.{Symbol}
 use Rattle.pipe_checks.specs.declared.fault.Violation.{Violation}
 use Rattle.pipe_checks.specs.declared.fault.Violation.TheVariants as misuse

@@ -4,7 +4,8 @@
 ghost use Rattle.std.specs.Prelude.{◌≡◌, true, false, Some, None, Ok, Err, OnOk, IfOk, IfErr, slice_get};
 ghost use Rattle.std.specs.List.{list_any};
 ghost use Rattle.std.specs.Option.{option_copied};
-ghost use Rattle.pipe_tree.specs.Tree.{content, declaration, declarations};
+ghost use Rattle.pipe_tree.specs.Tree.{declaration, declarations};
+ghost use Rattle.pipe_tree.specs.Content.{content};
 ghost use Rattle.pipe_checks.specs.Names.{declared_names};
 ghost use Rattle.pipe_checks.specs.Graph.{IsRanking};
 ghost use Rattle.pipe_checks.specs.Checking.{IsNamed, IsFault, IsCheckedOf, tree_in, stages_in, params_in, graph_in, ranks_in, is_result, verdict_of, reads_at};

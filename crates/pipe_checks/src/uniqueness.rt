@@ -3,7 +3,8 @@
 
 ghost use Rattle.std.specs.Prelude.{◌≡◌, ◌≢◌, List};
 ghost use Rattle.pipe_tree.specs.declared.tree.Tree.{Tree as TreeType};
-ghost use Rattle.pipe_tree.specs.Tree.{Declaration, content};
+ghost use Rattle.pipe_tree.specs.Tree.{Declaration};
+ghost use Rattle.pipe_tree.specs.Content.{content};
 ghost use Rattle.pipe_checks.specs.declared.checked.Checked.{Checked as CheckedType};
 ghost use Rattle.pipe_checks.specs.Checking.{IsFault, IsCheckedOf};
 

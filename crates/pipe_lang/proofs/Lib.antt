@@ -1,3 +1,1 @@
 pub mod ItemUnrolled
-pub mod Passing
-pub mod Unrolled

@@ -3,12 +3,13 @@
 
 ghost use Rattle.std.specs.Prelude.{◌≡◌, ◌-◌, ◌<◌, length, List, slice_get, unwrap_or, IfOk, IfErr, MatchResult};
 ghost use Rattle.pipe_tree.specs.Limits.{most_bytes};
-ghost use Rattle.pipe_tree.specs.Tree.{Declaration, content};
+ghost use Rattle.pipe_tree.specs.Tree.{Declaration};
+ghost use Rattle.pipe_tree.specs.Content.{content};
 ghost use Rattle.pipe_tree.specs.Faults.{IsText, IsFault};
 ghost use Rattle.pipe_tree.specs.FaultOf.{fault_of};
 
 use crate::items::program;
-use crate::parse_error::ParseError;
+use pipe_terms::ParseError;
 use pipe_tokens::lex;
 use pipe_tree::{Kind, MAX_BYTES, ParseFault, Tree};
 use std::alloc::Global;
@@ -37,17 +38,17 @@ pub fn parse(alloc: Global, text: &[u8]) -> Result<Tree, ParseFault>
         Ok(items) => Ok(Tree::new(items)),
         Err(ParseError::Memory) => Err(ParseFault::Memory),
         Err(ParseError::Fault(halt)) => {
-            let offset = offset_of(&lexed.starts, halt.left, text.len());
+            let offset = offset_of(&lexed.starts, halt.remaining, text.len());
             Err(fault_at(halt.kind, offset))
         }
     }
 }
 
-// Where a token starts behind which so many are left, itself counted; the end, where none is.
-fn offset_of(starts: &[usize], left: usize, end: usize) -> usize
-    ensures { result ≡ unwrap_or (slice_get starts.now (length starts.now - left)) end }
+// Where the token starts from which on so many remain, or the end where none does.
+fn offset_of(starts: &[usize], remaining: usize, end: usize) -> usize
+    ensures { result ≡ unwrap_or (slice_get starts.now (length starts.now - remaining)) end }
 {
-    let passed = starts.len().saturating_sub(left);
+    let passed = starts.len().saturating_sub(remaining);
     starts.get(passed).copied().unwrap_or(end)
 }
 

@@ -2,7 +2,7 @@
 //! A tree to its text.
 
 ghost use Rattle.std.specs.Prelude.{◌≡◌, IfOk};
-ghost use Rattle.pipe_tree.specs.Tree.{content};
+ghost use Rattle.pipe_tree.specs.Content.{content};
 ghost use Rattle.pipe_print.specs.Canonical.{canonical};
 
 use crate::printer::Printer;

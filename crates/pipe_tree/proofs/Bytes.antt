@@ -13,7 +13,8 @@ use Rattle.pipe_tree.specs.declared.fault.ParseFault.{ParseFault}
 use Rattle.pipe_tree.specs.declared.fault.ParseFault.TheVariants as faults
 use Rattle.pipe_tree.specs.declared.tree.Tree.{Tree}
 use Rattle.pipe_tree.specs.Limits.{most_bytes, untagged}
-use Rattle.pipe_tree.specs.Tree.{Declaration, content}
+use Rattle.pipe_tree.specs.Tree.{Declaration}
+use Rattle.pipe_tree.specs.Content.{content}
 use Rattle.pipe_tree.specs.Faults.{Text, IsText, IsHalt, IsFaultAt, IsFault}
 use Rattle.pipe_tree.specs.FaultOf.{fault_of}
 use Rattle.pipe_tree.specs.Reading.{program_of}
@@ -60,8 +61,8 @@ is_fault bytes kinds.NumberTooBig offset p = p
 is_fault bytes kinds.TooDeep offset p = p
 is_fault bytes kinds.TooMany offset p = p
 
-same_passed : (n p q left : ℕ) → n ≡ p + left → n ≡ q + left → p ≡ q
-same_passed n p q left e f = omega arith
+same_passed : (n p q remaining : ℕ) → n ≡ p + remaining → n ≡ q + remaining → p ≡ q
+same_passed n p q remaining e f = omega arith
 
 -- ---- bytes are cut in one way only
 pub text_of : (bytes : List ℕ) (tree : List Declaration) → IsText bytes tree → Text (tokens_of bytes) tree
@@ -70,20 +71,20 @@ text_of bytes tree p = subst (λ (tokens : List Token). Text tokens tree) (only_
 pub one_tree : (bytes : List ℕ) (a b : List Declaration) → IsText bytes a → IsText bytes b → a ≡ b
 one_tree bytes a b p q = one_text (tokens_of bytes) a b (text_of bytes a p) (text_of bytes b q)
 
-halt_of : (bytes : List ℕ) (kind : Kind) (offset : ℕ) (p : IsFaultAt bytes kind offset) → IsHalt (tokens_of bytes) (record { kind = kind; left = p.left })
-halt_of bytes kind offset p = subst (λ (tokens : List Token). IsHalt tokens (record { kind = kind; left = p.left })) (only_tokens bytes p.tokens p.starts p.cut) p.halt
+halt_of : (bytes : List ℕ) (kind : Kind) (offset : ℕ) (p : IsFaultAt bytes kind offset) → IsHalt (tokens_of bytes) (record { kind = kind; remaining = p.remaining })
+halt_of bytes kind offset p = subst (λ (tokens : List Token). IsHalt tokens (record { kind = kind; remaining = p.remaining })) (only_tokens bytes p.tokens p.starts p.cut) p.halt
 
 place_of : (bytes : List ℕ) (kind : Kind) (offset : ℕ) (p : IsFaultAt bytes kind offset) → offset ≡ unwrap_or (slice_get (starts_of bytes) p.passed) (length bytes)
 place_of bytes kind offset p = p.offset_is ∙ ap (λ (starts : List ℕ). unwrap_or (slice_get starts p.passed) (length bytes)) (only_starts bytes p.tokens p.starts p.cut)
 
 one_place : (bytes : List ℕ) (a b : ParseFault) → Placed bytes a → Placed bytes b → a ≡ b
 one_place bytes a b p q =
-    let h = one_halt (tokens_of bytes) (record { kind = p.kind; left = p.it.left }) (record { kind = q.kind; left = q.it.left }) (halt_of bytes p.kind p.offset p.it) (halt_of bytes q.kind q.offset q.it) in
+    let h = one_halt (tokens_of bytes) (record { kind = p.kind; remaining = p.it.remaining }) (record { kind = q.kind; remaining = q.it.remaining }) (halt_of bytes p.kind p.offset p.it) (halt_of bytes q.kind q.offset q.it) in
     let kind : p.kind ≡ q.kind = ap (λ (x : Halt). x.kind) h in
-    let left : p.it.left ≡ q.it.left = ap (λ (x : Halt). x.left) h in
-    let all : length (tokens_of bytes) ≡ p.it.passed + p.it.left = ap length (sym (only_tokens bytes p.it.tokens p.it.starts p.it.cut)) ∙ p.it.passed_are in
-    let all' : length (tokens_of bytes) ≡ q.it.passed + p.it.left = ap length (sym (only_tokens bytes q.it.tokens q.it.starts q.it.cut)) ∙ q.it.passed_are ∙ ap (λ (n : ℕ). q.it.passed + n) (sym left) in
-    let passed = same_passed (length (tokens_of bytes)) p.it.passed q.it.passed p.it.left all all' in
+    let remaining : p.it.remaining ≡ q.it.remaining = ap (λ (x : Halt). x.remaining) h in
+    let all : length (tokens_of bytes) ≡ p.it.passed + p.it.remaining = ap length (sym (only_tokens bytes p.it.tokens p.it.starts p.it.cut)) ∙ p.it.passed_are in
+    let all' : length (tokens_of bytes) ≡ q.it.passed + p.it.remaining = ap length (sym (only_tokens bytes q.it.tokens q.it.starts q.it.cut)) ∙ q.it.passed_are ∙ ap (λ (n : ℕ). q.it.passed + n) (sym remaining) in
+    let passed = same_passed (length (tokens_of bytes)) p.it.passed q.it.passed p.it.remaining all all' in
     let offset : p.offset ≡ q.offset = place_of bytes p.kind p.offset p.it ∙ ap (λ (n : ℕ). unwrap_or (slice_get (starts_of bytes) n) (length bytes)) passed ∙ sym (place_of bytes q.kind q.offset q.it) in
     p.fault_is ∙ ap (λ (k : Kind). fault_of k p.offset) kind ∙ ap (fault_of q.kind) offset ∙ sym q.fault_is
 
@@ -101,7 +102,7 @@ one_fault bytes a b p q na nb = one_sort bytes a b (sort bytes a p) (sort bytes 
 no_sort : (bytes : List ℕ) (tree : List Declaration) (fault : ParseFault) → IsText bytes tree → Sort bytes fault → fault ≡ faults.Memory
 no_sort bytes tree fault t (memory e) = e
 no_sort bytes tree fault t (long more is) = absurd (omega (arith, t.short, more))
-no_sort bytes tree fault t (placed p) = absurd (text_has_no_halt (tokens_of bytes) tree (record { kind = p.kind; left = p.it.left }) (text_of bytes tree t) (halt_of bytes p.kind p.offset p.it))
+no_sort bytes tree fault t (placed p) = absurd (text_has_no_halt (tokens_of bytes) tree (record { kind = p.kind; remaining = p.it.remaining }) (text_of bytes tree t) (halt_of bytes p.kind p.offset p.it))
 
 pub no_fault : (bytes : List ℕ) (tree : List Declaration) (fault : ParseFault) → IsText bytes tree → IsFault bytes fault → fault ≡ faults.Memory
 no_fault bytes tree fault t p = no_sort bytes tree fault t (sort bytes fault p)
@@ -117,27 +118,27 @@ pub text_found : (bytes : List ℕ) (tokens : List Token) (starts : List ℕ) (t
 text_found bytes tokens starts tree short cut e = record { tokens = tokens; starts = starts; short = short; cut = cut; text = found tokens tree e }
 
 pub fault_found : (bytes : List ℕ) (tokens : List Token) (starts : List ℕ) (h : Halt) → length bytes ≤ most_bytes → CutsInto 0 bytes tokens starts → program_of tokens ≡ Err h
-    → IsFault bytes (fault_of h.kind (unwrap_or (slice_get starts (length starts - h.left)) (length bytes)))
+    → IsFault bytes (fault_of h.kind (unwrap_or (slice_get starts (length starts - h.remaining)) (length bytes)))
 fault_found bytes tokens starts h short cut e =
     let p = halt tokens h e in
     let as_many = one_start_each bytes tokens starts cut in
-    is_fault bytes h.kind (unwrap_or (slice_get starts (length starts - h.left)) (length bytes)) (record {
+    is_fault bytes h.kind (unwrap_or (slice_get starts (length starts - h.remaining)) (length bytes)) (record {
       tokens = tokens;
       starts = starts;
-      passed = length starts - h.left;
-      left = h.left;
+      passed = length starts - h.remaining;
+      remaining = h.remaining;
       short = short;
       cut = cut;
       halt = p;
-      passed_are = omega (arith, as_many, ap length p.parts, length-append (untagged p.before) p.last, p.left);
+      passed_are = omega (arith, as_many, ap length p.parts, length-append (untagged p.before) p.last, p.remaining);
       offset_is = refl;
     })
 
 -- the same, as the code computes it
 pub fault_answer : (bytes : List ℕ) (tokens tokens' : List Token) (starts starts' : List ℕ) (h : Halt) (offset : ℕ) (fault : ParseFault) → length bytes ≤ most_bytes → CutsInto 0 bytes tokens starts
-    → tokens' ≡ tokens → starts' ≡ starts → program_of tokens' ≡ Err h → offset ≡ unwrap_or (slice_get starts' (length starts' - h.left)) (length bytes) → fault ≡ fault_of h.kind offset → IsFault bytes fault
+    → tokens' ≡ tokens → starts' ≡ starts → program_of tokens' ≡ Err h → offset ≡ unwrap_or (slice_get starts' (length starts' - h.remaining)) (length bytes) → fault ≡ fault_of h.kind offset → IsFault bytes fault
 fault_answer bytes tokens tokens' starts starts' h offset fault short cut same_tokens same_starts e offset_is fault_is =
-    let place = offset_is ∙ ap (λ (l : List ℕ). unwrap_or (slice_get l (length l - h.left)) (length bytes)) same_starts in
+    let place = offset_is ∙ ap (λ (l : List ℕ). unwrap_or (slice_get l (length l - h.remaining)) (length bytes)) same_starts in
     subst (IsFault bytes) (sym (fault_is ∙ ap (fault_of h.kind) place)) (fault_found bytes tokens starts h short cut (ap program_of (sym same_tokens) ∙ e))
 
 -- what is answered is the tree of a text, if there is one

@@ -116,7 +116,7 @@ first_none o (v ∷ a) (w ∷ b) t u x y c d e few passes few' passes' =
 
 -- the reading of tokens stops where so many are left
 abbrev Stops : List Token → ℕ → Type 0
-Stops tokens left = (kind : Kind) × (reading tokens ≡ Err (record { kind = kind; left = left }))
+Stops tokens remaining = (kind : Kind) × (reading tokens ≡ Err (record { kind = kind; remaining = remaining }))
 
 module _ (before : List Tagged) (next : Tagged) (more : List Tagged) (tree : List Declaration) (c : Counts)
     (program : Program most_levels (before ++ next ∷ more) tree) (few : counted_all (Some none_yet) before ≡ Some c) (passes : counted_next (Some c) next ≡ None)
@@ -125,7 +125,7 @@ module _ (before : List Tagged) (next : Tagged) (more : List Tagged) (tree : Lis
   stops_where h p f =
       let backs = first_none (Some none_yet) before p.front next p.at more p.back c p.counts p.parts few passes p.few p.passes in
       let whole_is : untagged before ++ next.token ∷ untagged more ≡ untagged f.text ++ f.last = sym (untagged-append before (next ∷ more)) ∙ f.parts ∙ on-untagged f.text f.last in
-      let lengths : length (next.token ∷ untagged more) ≡ length f.last = omega (arith, backs, untagged-length more, untagged-length p.back, ap length (on-all p.back), p.left, f.left) in
+      let lengths : length (next.token ∷ untagged more) ≡ length f.last = omega (arith, backs, untagged-length more, untagged-length p.back, ap length (on-all p.back), p.remaining, f.remaining) in
       let is = same_fronts (untagged before) (untagged f.text) (next.token ∷ untagged more) f.last whole_is lengths in
       (h.kind, ap (λ (l : List Token). reading (l ++ last)) is.0 ∙ ap reading (sym (on-untagged f.text last)) ∙ f.again last (ahead ∙ ap head is.1))
 
@@ -171,12 +171,12 @@ module _ (tokens : List Token) (h : Halt) (p : IsHalt tokens h) (front : List Ta
   parts_are = untagged-append front (at ∷ back) ∙ ap (λ (l : List Token). l ++ at.token ∷ untagged back) front_is
 
   -- where the tokens up to the fault pass no limit
-  ends_later : (text : List Tagged) (kind : Kind) → text ≡ front ++ at ∷ back → (a : Answer (List Declaration)) → a ≡ Err (record { kind = kind; left = length (at.token ∷ untagged back) }) → Ends (most_levels < most_levels) none_yet tree text [] a → ⊥
+  ends_later : (text : List Tagged) (kind : Kind) → text ≡ front ++ at ∷ back → (a : Answer (List Declaration)) → a ≡ Err (record { kind = kind; remaining = length (at.token ∷ untagged back) }) → Ends (most_levels < most_levels) none_yet tree text [] a → ⊥
   ends_later text kind is (Ok b) e ends = cc
   ends_later text kind is (Err k) e (inl deep) = omega (arith, deep.1)
   ends_later text kind is (Err k) e (inr q) =
-      let left = ap (λ (x : Halt). x.left) (err_is k (record { kind = kind; left = length (at.token ∷ untagged back) }) e) in
-      let backs : length (at ∷ back) ≡ length (q.at ∷ q.back) = omega (arith, left, q.left, untagged-length back, untagged-length q.back, ap length (on-all q.back)) in
+      let remaining = ap (λ (x : Halt). x.remaining) (err_is k (record { kind = kind; remaining = length (at.token ∷ untagged back) }) e) in
+      let backs : length (at ∷ back) ≡ length (q.at ∷ q.back) = omega (arith, remaining, q.remaining, untagged-length back, untagged-length q.back, ap length (on-all q.back)) in
       let same = same_fronts front q.front (at ∷ back) (q.at ∷ q.back) (sym is ∙ q.parts) backs in
       let at_is : at ≡ q.at = (let e : at ∷ back ≡ q.at ∷ q.back = same.1 in cc) in
       let few_is : Some counts.few ≡ Some q.counts = sym counts.few_is ∙ ap (counted_all (Some none_yet)) same.0 ∙ q.few in
@@ -315,14 +315,14 @@ module _ (b d : List Tagged) (c e : Counts) (ahead : Option Token) (same : untag
   one_kind TooMany TooDeep w v = absurd (goes_none (Program most_levels) b d ahead _ same w v.1)
   one_kind TooMany TooMany w v = refl
 
-same_halt : (h k : Halt) → h.kind ≡ k.kind → h.left ≡ k.left → h ≡ k
-same_halt h k e f = ap (λ (kind : Kind). record { kind = kind; left = h.left }) e ∙ ap (λ (left : ℕ). record { kind = k.kind; left = left }) f
+same_halt : (h k : Halt) → h.kind ≡ k.kind → h.remaining ≡ k.remaining → h ≡ k
+same_halt h k e f = ap (λ (kind : Kind). record { kind = kind; remaining = h.remaining }) e ∙ ap (λ (remaining : ℕ). record { kind = k.kind; remaining = remaining }) f
 
 halts_at : (tokens : List Token) (h k : Halt) (p : IsHalt tokens h) (q : IsHalt tokens k) → Fronts (untagged p.before) (untagged q.before) p.last q.last → h ≡ k
 halts_at tokens h k p q (same e f) =
     same_halt h k
     (one_kind p.before q.before p.counts q.counts (head p.last) e h.kind k.kind p.wrong (subst (λ (l : List Token). Wrong k.kind q.before q.counts (head l)) (sym f) q.wrong))
-    (p.left ∙ ap length f ∙ sym q.left)
+    (p.remaining ∙ ap length f ∙ sym q.remaining)
 halts_at tokens h k p q (first longer) = absurd (not_before tokens k h q p longer)
 halts_at tokens h k p q (second longer) = absurd (not_before tokens h k p q longer)
 

@@ -76,9 +76,9 @@ pub record Failed {X : Type 0} (r : Reader X) (R W : Rule X) (s : At) (h : Halt)
   pub last : List Token
   pub counts : Counts
   pub parts : s.rest ≡ on text last
-  pub left : h.left ≡ length last
+  pub remaining : h.remaining ≡ length last
   pub few : counted_all (Some s.counts) text ≡ Some counts
-  pub again : (more : List Token) → head more ≡ head last → r (state s.counts (on text more)) ≡ Err (record { kind = h.kind; left = length more })
+  pub again : (more : List Token) → head more ≡ head last → r (state s.counts (on text more)) ≡ Err (record { kind = h.kind; remaining = length more })
   pub more : List Tagged
   pub value : X
   pub begins : R (text ++ more) value
@@ -110,7 +110,7 @@ pub record Passes (text : List Tagged) (c : Counts) (rest : List Token) (h : Hal
   pub back : List Tagged
   pub counts : Counts
   pub parts : text ≡ front ++ at ∷ back
-  pub left : h.left ≡ length (on (at ∷ back) rest)
+  pub remaining : h.remaining ≡ length (on (at ∷ back) rest)
   pub few : counted_all (Some c) front ≡ Some counts
   pub passes : counted_next (Some counts) at ≡ None
   pub kind : (h.kind ≡ TooMany) ⊎ (h.kind ≡ NumberTooBig)
@@ -155,7 +155,7 @@ module _ {X : Type 0} (r q : Reader X) (R W : Rule X) (s : At) where
         last = f.last;
         counts = f.counts;
         parts = f.parts;
-        left = f.left;
+        remaining = f.remaining;
         few = f.few;
         more = f.more;
         value = f.value;
@@ -193,7 +193,7 @@ module _ {X : Type 0} (r : Reader X) (R W R' W' : Rule X) (s : At) where
         last = f.last;
         counts = f.counts;
         parts = f.parts;
-        left = f.left;
+        remaining = f.remaining;
         few = f.few;
         again = f.again;
         more = f.more;
@@ -223,7 +223,7 @@ module _ {X Y : Type 0} (r : Reader X) (f : X → Reader Y) (R W : Rule X) (Q V 
         last = p.last;
         counts = p.counts;
         parts = p.parts;
-        left = p.left;
+        remaining = p.remaining;
         few = p.few;
         again = λ more e. ap (λ (a : Answer X). on_ok a f) (p.again more e);
         more = p.more ++ v.text;
@@ -256,7 +256,7 @@ module _ {X Y : Type 0} (r : Reader X) (f : X → Reader Y) (R W : Rule X) (Q V 
         last = q.last;
         counts = q.counts;
         parts = p.parts ∙ ap (on p.text) q.parts ∙ sym (on-append p.text q.text q.last);
-        left = q.left;
+        remaining = q.remaining;
         few = both_few a.1 p.text q.text q.counts p.few q.few;
         again = λ more e. both_again a p q.text q.last more _ q.parts e (q.again more e);
         more = q.more;
@@ -292,7 +292,7 @@ module _ {X Y : Type 0} (deep : Type 0) (r : Reader X) (f : X → Reader Y) (c :
         back = p.back ++ back;
         counts = p.counts;
         parts = ap (λ (l : List Tagged). l ++ back) p.parts ∙ append_assoc p.front (p.at ∷ p.back) back;
-        left = p.left ∙ ap (λ (l : List Token). length (p.at.token ∷ l)) (sym (on-append p.back back rest));
+        remaining = p.remaining ∙ ap (λ (l : List Token). length (p.at.token ∷ l)) (sym (on-append p.back back rest));
         few = p.few;
         passes = p.passes;
         kind = p.kind;
@@ -306,7 +306,7 @@ module _ {X Y : Type 0} (deep : Type 0) (r : Reader X) (f : X → Reader Y) (c :
         back = p.back;
         counts = p.counts;
         parts = ap (λ (l : List Tagged). front ++ l) p.parts ∙ sym (append_assoc front p.front (p.at ∷ p.back));
-        left = p.left;
+        remaining = p.remaining;
         few = counted_all-append (Some c) front p.front ∙ ap (λ (o : Option Counts). counted_all o p.front) few ∙ p.few;
         passes = p.passes;
         kind = p.kind;
@@ -387,9 +387,9 @@ refuse_sound R W has s = record {
   last = s.rest;
   counts = s.counts;
   parts = refl;
-  left = refl;
+  remaining = refl;
   few = refl;
-  again = λ more e. ap (λ (h : Option Token). Err (record { kind = kind_at h; left = length more })) e;
+  again = λ more e. ap (λ (h : Option Token). Err (record { kind = kind_at h; remaining = length more })) e;
   more = has.text;
   value = has.value;
   begins = has.rule;
@@ -460,7 +460,7 @@ module _ (t : Token) (role : Role) (good : fits t ≡ true) where
     last = u ∷ ts;
     counts = c;
     parts = refl;
-    left = refl;
+    remaining = refl;
     few = refl;
     again = λ more e'. ap (λ (o : Option Counts). begun o (state c more)) f;
     more = tagged t role ∷ [];
@@ -482,7 +482,7 @@ module _ (t : Token) (role : Role) (good : fits t ≡ true) where
   begin_sound s e = begin_at s.counts s.rest e (counted role s.counts) refl
 
   begin_ends : (deep : Type 0) (c : Counts) (rest : List Token) (o : Option Counts) → counted role c ≡ o → Ends deep c tt (tagged t role ∷ []) rest (begun o (state c (t ∷ rest)))
-  begin_ends deep c rest None f = inr (record { front = []; at = tagged t role; back = []; counts = c; parts = refl; left = refl; few = refl; passes = one_counted t role c good ∙ f; kind = inl refl })
+  begin_ends deep c rest None f = inr (record { front = []; at = tagged t role; back = []; counts = c; parts = refl; remaining = refl; few = refl; passes = one_counted t role c good ∙ f; kind = inl refl })
   begin_ends deep c rest (Some d) f = (refl, one_counted t role c good ∙ f)
 
   pub begin_all : (deep : Type 0) → All deep (begin role) Any (Takes t role tt)

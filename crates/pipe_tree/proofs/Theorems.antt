@@ -153,22 +153,22 @@ limit_only m text tree (Ok p) h e ends = absurd cc
 limit_only m text tree (Err k) h e ends = let same : k ≡ h = err_is k h e in subst (λ (k : Halt). ((k.kind ≡ TooDeep) × (most_levels < m)) ⊎ Passes text none_yet [] k) same ends
 
 module _ (tokens : List Token) (h : Halt) (f : Failed (whole most_levels) (Program most_levels) (Program (suc most_levels)) (start tokens) h) where
-  again_limit : (m : ℕ) (text : List Tagged) (tree : List Declaration) (more : List Token) → Program m text tree → untagged text ≡ untagged f.text ++ more → head more ≡ head f.last → ((h.kind ≡ TooDeep) × (most_levels < m)) ⊎ Passes text none_yet [] (record { kind = h.kind; left = length more })
+  again_limit : (m : ℕ) (text : List Tagged) (tree : List Declaration) (more : List Token) → Program m text tree → untagged text ≡ untagged f.text ++ more → head more ≡ head f.last → ((h.kind ≡ TooDeep) × (most_levels < m)) ⊎ Passes text none_yet [] (record { kind = h.kind; remaining = length more })
   again_limit m text tree more p e same =
-      let is : reading (untagged text) ≡ Err (record { kind = h.kind; left = length more }) = ap reading (e ∙ sym (on-untagged f.text more)) ∙ f.again more same in
-      limit_only m text tree (reading (untagged text)) (record { kind = h.kind; left = length more }) is (program_ends m text tree p)
+      let is : reading (untagged text) ≡ Err (record { kind = h.kind; remaining = length more }) = ap reading (e ∙ sym (on-untagged f.text more)) ∙ f.again more same in
+      limit_only m text tree (reading (untagged text)) (record { kind = h.kind; remaining = length more }) is (program_ends m text tree p)
 
-  not_limit : (m : ℕ) (text : List Tagged) (left : ℕ) → h.kind ≡ Unexpected → ((h.kind ≡ TooDeep) × (most_levels < m)) ⊎ Passes text none_yet [] (record { kind = h.kind; left = left }) → ⊥
-  not_limit m text left is (inl p) = let e = p.0 in cc
-  not_limit m text left is (inr p) = not_kind p.kind
+  not_limit : (m : ℕ) (text : List Tagged) (remaining : ℕ) → h.kind ≡ Unexpected → ((h.kind ≡ TooDeep) × (most_levels < m)) ⊎ Passes text none_yet [] (record { kind = h.kind; remaining = remaining }) → ⊥
+  not_limit m text remaining is (inl p) = let e = p.0 in cc
+  not_limit m text remaining is (inr p) = not_kind p.kind
     where
       not_kind : (h.kind ≡ TooMany) ⊎ (h.kind ≡ NumberTooBig) → ⊥
       not_kind (inl e) = cc
       not_kind (inr e) = cc
 
-  not_deep : (text : List Tagged) (left : ℕ) → h.kind ≡ TooDeep → ((h.kind ≡ TooDeep) × (most_levels < most_levels)) ⊎ Passes text none_yet [] (record { kind = h.kind; left = left }) → ⊥
-  not_deep text left is (inl p) = omega (arith, p.1)
-  not_deep text left is (inr p) = not_kind p.kind
+  not_deep : (text : List Tagged) (remaining : ℕ) → h.kind ≡ TooDeep → ((h.kind ≡ TooDeep) × (most_levels < most_levels)) ⊎ Passes text none_yet [] (record { kind = h.kind; remaining = remaining }) → ⊥
+  not_deep text remaining is (inl p) = omega (arith, p.1)
+  not_deep text remaining is (inr p) = not_kind p.kind
     where
       not_kind : (h.kind ≡ TooMany) ⊎ (h.kind ≡ NumberTooBig) → ⊥
       not_kind (inl e) = cc
@@ -191,7 +191,7 @@ module _ (tokens : List Token) (h : Halt) (f : Failed (whole most_levels) (Progr
     last = f.last;
     counts = f.counts;
     parts = f.parts ∙ on-untagged f.text f.last;
-    left = f.left;
+    remaining = f.remaining;
     few = f.few;
     begins = record { more = f.more; value = f.value; rule = f.begins };
     wrong = wrong_is h.kind refl f.reaches;

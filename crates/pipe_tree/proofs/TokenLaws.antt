@@ -159,7 +159,7 @@ module _ (role : Role) where
     last = s.rest;
     counts = s.counts;
     parts = refl;
-    left = refl;
+    remaining = refl;
     few = refl;
     again = λ more e. refl;
     more = tagged t role ∷ [];
@@ -188,7 +188,7 @@ module _ (role : Role) where
   int_sound s = retarget (int_by role (head s.rest)) (int role) (g.int role) (g.int role) s (int_by role (head s.rest) s) (λ s' same. ap (λ (h : Option Token). int_by role h s') same) (int_on s (head s.rest) refl)
 
   big_ends : (deep : Type 0) (c : Counts) (t : Token) (x : ℕ) (rest : List Token) → fits t ≡ false → Ends deep c x (tagged t role ∷ []) rest (stop NumberTooBig (state c (t ∷ rest)))
-  big_ends deep c t x rest big = inr (record { front = []; at = tagged t role; back = []; counts = c; parts = refl; left = refl; few = refl; passes = not_counted t role c big; kind = inr refl })
+  big_ends deep c t x rest big = inr (record { front = []; at = tagged t role; back = []; counts = c; parts = refl; remaining = refl; few = refl; passes = not_counted t role c big; kind = inr refl })
 
   int_ends : (deep : Type 0) (c : Counts) (k : ℕ) (rest : List Token) (b : Bool) → nat_le k 2147483647 ≡ b → Ends deep c k (tagged (token.Int k) role ∷ []) rest ((if b then (begin role >>= λ _. gives k) else stop NumberTooBig) (state c (token.Int k ∷ rest)))
   int_ends deep c k rest false e = big_ends deep c (token.Int k) k rest e

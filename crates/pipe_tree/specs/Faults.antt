@@ -85,21 +85,21 @@ pub record IsHalt (tokens : List Token) (halt : Halt) : Type 0 where
   pub last : List Token
   pub counts : Counts
   pub parts : tokens ≡ untagged before ++ last
-  pub left : halt.left ≡ length last
+  pub remaining : halt.remaining ≡ length last
   pub few : counted_all (Some none_yet) before ≡ Some counts
   pub begins : Begins (Program most_levels) before
   pub wrong : Wrong halt.kind before counts (head last)
 
--- a fault of the tokens stands where the first token that is left starts, or at the end of the bytes
+-- a fault of the tokens stands where the first token that remains starts, or at the end of the bytes
 pub record IsFaultAt (bytes : List ℕ) (kind : Kind) (offset : ℕ) : Type 0 where
   pub tokens : List Token
   pub starts : List ℕ
   pub passed : ℕ
-  pub left : ℕ
+  pub remaining : ℕ
   pub short : length bytes ≤ most_bytes
   pub cut : CutsInto 0 bytes tokens starts
-  pub halt : IsHalt tokens (record { kind = kind; left = left })
-  pub passed_are : length tokens ≡ passed + left
+  pub halt : IsHalt tokens (record { kind = kind; remaining = remaining })
+  pub passed_are : length tokens ≡ passed + remaining
   pub offset_is : offset ≡ unwrap_or (slice_get starts passed) (length bytes)
 
 -- the fault of the bytes. Memory may run out for any

@@ -1,3 +1,4 @@
+pub mod Content
 pub mod FaultOf
 pub mod Faults
 pub mod FaultLine

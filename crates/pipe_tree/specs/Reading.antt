@@ -44,7 +44,7 @@ use Rattle.pipe_tree.specs.Lookahead.{is_mark_at, is_word_at, is_number_at, star
 use Rattle.pipe_tree.specs.Grammar.{signed, sum_op, is_output}
 use Rattle.pipe_tree.specs.Tree.{Node, number, variable, read, neg, binary, literal, abs, clamp, select, stencil, Branch, Function, Accumulator, Declaration, param, image, function, accumulator, output}
 
--- where a reader is: what was counted so far, and the tokens that are left
+-- where a reader is: what was counted so far, and the tokens that remain
 pub record At : Type 0 where
   pub counts : Counts
   pub rest : List Token
@@ -67,7 +67,7 @@ abbrev pub gives : {X : Type 0} → X → Reader X
 gives x s = Ok (x, s)
 
 abbrev pub halt_of : Kind → List Token → Halt
-halt_of kind rest = record { kind = kind; left = length rest }
+halt_of kind rest = record { kind = kind; remaining = length rest }
 
 abbrev pub kind_at : Option Token → Kind
 kind_at (Some token.NotAscii) = NotAscii

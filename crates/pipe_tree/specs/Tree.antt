@@ -21,7 +21,6 @@ use Rattle.pipe_tree.specs.declared.tree.Item.{Item}
 use Rattle.pipe_tree.specs.declared.tree.Item.TheVariants as items
 use Rattle.pipe_tree.specs.declared.tree.Expr.{Expr}
 use Rattle.pipe_tree.specs.declared.tree.Expr.TheVariants.{Number, Name, Read, Neg', Binary', Literal', Abs', Clamp', Select', Stencil}
-use Rattle.pipe_tree.specs.declared.tree.Tree.{Tree}
 
 -- ---- the data
 
@@ -67,7 +66,7 @@ pub data Declaration : Type 0 where
   accumulator : Accumulator → Declaration
   output : Output → Declaration
 
--- ---- what is seen of the tree in memory
+-- ---- what is seen of the items in memory
 
 abbrev pub view : Expr → Node
 view (Number n) = number n
@@ -108,11 +107,3 @@ declaration (items.Output o) = output o
 
 abbrev pub declarations : List Item → List Declaration
 declarations is = map declaration is
-
--- the items in the order of the text
-abbrev pub items_of : Tree → List Item
-items_of tree = tree.items.items
-
--- all that a tree says
-abbrev pub content : Tree → List Declaration
-content tree = declarations (items_of tree)

@@ -106,9 +106,9 @@ pub enum Kind {
     TooMany,
 }
 
-/// A fault, and how many tokens are left where it stands.
+/// A fault, and how many tokens remain where it stands.
 #[derive(Clone, Copy)]
 pub struct Halt {
     pub kind: Kind,
-    pub left: usize,
+    pub remaining: usize,
 }

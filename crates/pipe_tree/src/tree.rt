@@ -2,21 +2,26 @@
 //! What a program's text says: its items in order, with expressions as nodes.
 
 ghost use Rattle.std.specs.Prelude.{◌≡◌};
-ghost use Rattle.pipe_tree.specs.Tree.{items_of, cases_of};
+ghost use Rattle.pipe_tree.specs.Tree.{cases_of, declarations};
+ghost use Rattle.pipe_tree.specs.Sizes.{KeepsLimits};
 
 use domains::{BinaryOp, Fold, LiteralOp, Relation};
 use pipe_tokens::Name;
 use std::marker::Model;
 
-/// A program.
+/// A program. It keeps the limits of a text.
 #[derive(Debug, Drop)]
 pub struct Tree {
     items: Vec<Item>,
+    ghost limits: { KeepsLimits (declarations items.items) },
 }
 
 impl Tree {
+    ghost use Rattle.pipe_tree.specs.Content.{items_of};
+
     /// The program of these items.
     pub fn new(items: Vec<Item>) -> Self
+        requires { KeepsLimits (declarations items.items) }
         ensures { items_of result ≡ items.items }
     {
         Tree { items }

@@ -1,6 +1,6 @@
 use Rattle.std.proofs.Common.{subst, sym, ap, ◌∙◌, List}
 use Rattle.std.specs.Prelude.{map}
-use Rattle.pipe_tree.specs.Tree.{content}
+use Rattle.pipe_tree.specs.Content.{content}
 use Rattle.pipe_checks.specs.declared.symbol.Symbol.{Symbol}
 use Rattle.pipe_checks.specs.Checking.{tree_in}
 use Rattle.job.specs.WellFormed.{IsJob}
@@ -14,14 +14,14 @@ pub new-requires : goal.new-requires
 new-requires c =
     let known = c.bound_parts.ensures.checked in
     bound_is_job (content (tree_in c.args.checked)) (program_of c.args.checked c.args.params.now) c.args.picture c.args.sides c.in-Ok.parts known.named known.stages known.ranks c.in-Ok.ensures.ok
-    c.height.ensures.within c.in-None.ensures.none.0 c.in-None.ensures.none.1
+    (tree_in c.args.checked).limits c.height.ensures.within c.in-None.ensures.none.0 c.in-None.ensures.none.1
 
 pub returns-in-Ok-print-clause-job : goal.returns-in-Ok-print-clause-job
 returns-in-Ok-print-clause-job c =
     let known = c.bound_parts.ensures.checked in
     subst IsJob (sym c.new.ensures.pipeline)
     (bound_is_job (content (tree_in c.args.checked)) (program_of c.args.checked c.args.params.now) c.args.picture c.args.sides c.in-Ok.parts known.named known.stages known.ranks c.in-Ok.ensures.ok
-    c.height.ensures.within c.in-None.ensures.none.0 c.in-None.ensures.none.1)
+    (tree_in c.args.checked).limits c.height.ensures.within c.in-None.ensures.none.0 c.in-None.ensures.none.1)
 
 pub returns-in-Ok-print-clause-says : goal.returns-in-Ok-print-clause-says
 returns-in-Ok-print-clause-says c = λ names.

@@ -1,5 +1,5 @@
 use Rattle.std.proofs.Common.{◌≡◌, subst}
-use Rattle.pipe_tree.specs.Tree.{content}
+use Rattle.pipe_tree.specs.Content.{content}
 use Rattle.pipe_checks.specs.Checking.{tree_in}
 use Rattle.pipe_bounds.specs.InBounds.{IsInBounds}
 use Rattle.binding.specs.Binding.{settings_for, AreSmall}

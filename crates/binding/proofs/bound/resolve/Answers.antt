@@ -1,5 +1,6 @@
 use Rattle.std.proofs.Common.{◌≡◌, ◌∙◌, ap, sym, subst}
-use Rattle.pipe_tree.specs.Tree.{declarations, items_of, content}
+use Rattle.pipe_tree.specs.Tree.{declarations}
+use Rattle.pipe_tree.specs.Content.{items_of, content}
 use Rattle.pipe_checks.specs.Checking.{tree_in}
 use Rattle.binding.specs.Ranges.{AreReady}
 use Rattle.binding.proofs.Readying.{ready}

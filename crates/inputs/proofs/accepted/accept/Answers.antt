@@ -1,5 +1,6 @@
 use Rattle.std.proofs.Common.{sym, ap, ◌∙◌, subst}
-use Rattle.pipe_tree.specs.Tree.{declarations, items_of}
+use Rattle.pipe_tree.specs.Tree.{declarations}
+use Rattle.pipe_tree.specs.Content.{items_of}
 use Rattle.pipe_checks.specs.Checking.{IsFault}
 use Rattle.inputs.proofs.accepted.accept.Goals as goal
 

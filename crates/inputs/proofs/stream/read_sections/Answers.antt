@@ -1,5 +1,5 @@
 use Rattle.std.proofs.lemmas.Result.{err_from_is_err_and}
-use Rattle.pipe_tree.specs.Tree.{content}
+use Rattle.pipe_tree.specs.Content.{content}
 use Rattle.inputs.specs.Input.{IsParted}
 use Rattle.inputs.proofs.Known.{picture_fault, program_fault}
 use Rattle.inputs.proofs.stream.read_sections.Goals as goal

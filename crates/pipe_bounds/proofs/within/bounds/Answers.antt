@@ -1,5 +1,6 @@
 use Rattle.std.proofs.Common.{◌∙◌, ap}
-use Rattle.pipe_tree.specs.Tree.{content, declarations, items_of}
+use Rattle.pipe_tree.specs.Tree.{declarations}
+use Rattle.pipe_tree.specs.Content.{content, items_of}
 use Rattle.pipe_checks.specs.Checking.{tree_in}
 use Rattle.pipe_bounds.proofs.Sounding.{checked_declared, checked_sound}
 use Rattle.pipe_bounds.proofs.within.bounds.Goals as goal

@@ -3,7 +3,7 @@ use Rattle.std.proofs.Common.{subst}
 use Rattle.pipe_tree.specs.Limits.{most_levels}
 use Rattle.pipe_tree.specs.Tree.{declarations}
 use Rattle.pipe_tree.specs.Reading.{At, whole, program_of}
-use Rattle.pipe_lang.specs.Answers.{at, Reads}
+use Rattle.pipe_terms.specs.Answers.{at, Reads}
 use Rattle.pipe_lang.proofs.ItemUnrolled.{reads_value}
 use Rattle.pipe_tree.proofs.Theorems.{start}
 use Rattle.pipe_lang.proofs.items.program.Goals as goal
@@ -11,5 +11,5 @@ use Rattle.pipe_lang.proofs.items.program.Goals as goal
 pub returns : goal.returns
 unfolding program_of
 returns c =
-    reads_value c.program.result (whole most_levels (start c.args.tokens.now)) (at c.program.new.self)
-    (subst (λ (s : At). Reads (λ items. (declarations items.items, at c.program.new.self)) c.program.result (whole most_levels s)) c.new.ensures c.program.ensures.exact)
+    reads_value c.whole.result (whole most_levels (start c.args.tokens.now)) (at c.whole.new.parser)
+    (subst (λ (s : At). Reads (λ items. (declarations items.items, at c.whole.new.parser)) c.whole.result (whole most_levels s)) c.new.ensures c.whole.ensures.exact)

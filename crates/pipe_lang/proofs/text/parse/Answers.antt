@@ -2,10 +2,19 @@
 use Rattle.std.proofs.Common.{◌≤◌, ◌∙◌, length, ap, sym, subst, arith}
 use Rattle.pipe_tree.specs.Limits.{most_bytes}
 use Rattle.pipe_tree.specs.Faults.{IsText}
-use Rattle.pipe_tree.specs.Tree.{declarations, content}
+use Rattle.pipe_tree.specs.Tree.{declarations}
+use Rattle.pipe_tree.specs.Content.{content}
 use Rattle.pipe_tree.specs.Reading.{program_of}
+use Rattle.pipe_tree.proofs.SizeLaws.{keeps_limits}
 use Rattle.pipe_tree.proofs.Bytes.{text_found, fault_answer, one_tree, no_fault}
 use Rattle.pipe_lang.proofs.text.parse.Goals as goal
+
+pub new-requires : goal.new-requires
+new-requires c =
+    let short : length c.args.text.now ≤ most_bytes = omega arith in
+    keeps_limits c.args.text.now (declarations c.in-Ok.items.items)
+    (text_found c.args.text.now c.in_ok-lexed.lexed.tokens.items c.in_ok-lexed.lexed.starts.items (declarations c.in-Ok.items.items) short c.in_ok-lexed.ensures.longest
+    (ap program_of (sym c.deref.ensures.value) ∙ c.in-Ok.ensures))
 
 pub returns-in-Ok-clause-found : goal.returns-in-Ok-clause-found
 returns-in-Ok-clause-found c =

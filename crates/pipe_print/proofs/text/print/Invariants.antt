@@ -1,6 +1,7 @@
 use Rattle.std.proofs.Common.{◌≡◌, take}
 use Rattle.std.specs.List.{flat_map}
-use Rattle.pipe_tree.specs.Tree.{declarations, items_of}
+use Rattle.pipe_tree.specs.Tree.{declarations}
+use Rattle.pipe_tree.specs.Content.{items_of}
 use Rattle.pipe_print.specs.Canonical.{item_tokens}
 use Rattle.pipe_print.proofs.text.print.Given as goal
 

@@ -3,6 +3,6 @@ use Rattle.grouping.proofs.target.TargetWalk.region_of.Goals as goal
 
 pub returns-then-number-self-clause-near : goal.returns-then-number-self-clause-near
 returns-then-number-self-clause-near c =
-    let target = c.requires.target in
-    let stage = c.requires.job.stages c.args.self.now.stage target.owner target.there in
+    let target = c.requires in
+    let stage = c.args.self.now.job.now.well.stages c.args.self.now.stage target.owner target.there in
     near_subarea c.args.self.now.region target.owner.domain (record { rows = stage.rows; cols = stage.cols }) target.area target.inside

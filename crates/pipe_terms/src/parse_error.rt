@@ -1,7 +1,7 @@
 //! Why a list of tokens was not read.
 
 ghost use Rattle.std.specs.Prelude.{◌≡◌};
-ghost use Rattle.pipe_lang.specs.declared.parse_error.ParseError.TheVariants.{Memory};
+ghost use Rattle.pipe_terms.specs.declared.parse_error.ParseError.TheVariants.{Memory};
 
 use pipe_tree::Halt;
 use std::alloc::{AllocError, AllocFailed};

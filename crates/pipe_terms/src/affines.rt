@@ -3,7 +3,7 @@
 
 ghost use Rattle.std.specs.Prelude.{◌≡◌, ◌<◌, ◌≤◌, length, OnOk};
 ghost use Rattle.pipe_tree.specs.Reading as reading;
-ghost use Rattle.pipe_lang.specs.Answers.{at, Reads};
+ghost use Rattle.pipe_terms.specs.Answers.{at, Reads};
 
 use crate::lookahead::{is_number, sign_of};
 use crate::parse_error::ParseError;
@@ -13,7 +13,7 @@ use pipe_tree::{Affine, AffineSpan, Role, Term, Variable};
 
 impl Parser<'_> {
     // A minus, if there is one.
-    pub fn minus(&mut self) -> Result<bool, ParseError>
+    pub(crate) fn minus(&mut self) -> Result<bool, ParseError>
         ensures exact { Reads (λ b. (b, at self.new)) result (reading.minus (at self.old)) }
         ensures shorter { length self.new.rest.now ≤ length self.old.rest.now }
     {
@@ -56,6 +56,7 @@ impl Parser<'_> {
         Ok(())
     }
 
+    /// An affine expression: a sum of numbers, and of names that are multiplied by numbers.
     #[tactic(auto, using(crate::proofs::Unrolled::affine_unroll), unfolding(pipe_tree::specs::Reading::affine))]
     pub fn affine(&mut self) -> Result<Affine, ParseError>
         ensures exact { Reads (λ a. (a, at self.new)) result (reading.affine (at self.old)) }
@@ -71,6 +72,7 @@ impl Parser<'_> {
         Ok(Affine::new(terms))
     }
 
+    /// A span of numbers, between two affine expressions in brackets.
     #[tactic(auto, unfolding(pipe_tree::specs::Reading::span))]
     pub fn span(&mut self) -> Result<AffineSpan, ParseError>
         ensures exact { Reads (λ s. (s, at self.new)) result (reading.span (at self.old)) }
@@ -84,6 +86,7 @@ impl Parser<'_> {
         Ok(AffineSpan { first, last })
     }
 
+    /// A variable with its span.
     #[tactic(auto, unfolding(pipe_tree::specs::Reading::a_variable))]
     pub fn variable(&mut self) -> Result<Variable, ParseError>
         ensures exact { Reads (λ v. (v, at self.new)) result (reading.a_variable (at self.old)) }

@@ -3,11 +3,11 @@
 
 ghost use Rattle.std.specs.Prelude.{◌≡◌};
 ghost use Rattle.pipe_tree.specs.Operators.{sign_at, factor_at, relation_at, fold_at};
-ghost use Rattle.pipe_tree.specs.Lookahead.{start_at, is_number_at, is_mark_at, is_word_at, item_at};
+ghost use Rattle.pipe_tree.specs.Lookahead.{start_at, is_number_at, is_mark_at, is_word_at};
 
 use domains::{BinaryOp, Fold, LiteralOp, Relation};
 use pipe_tokens::{Keyword, Punct, Token};
-use pipe_tree::{Factor, ItemStart, Opening, Start};
+use pipe_tree::{Factor, Opening, Start};
 
 pub(crate) fn is_mark(token: Option<Token>, mark: Punct) -> bool
     ensures { result ≡ is_mark_at mark token }
@@ -95,17 +95,5 @@ pub(crate) fn start_of(token: Option<Token>) -> Start
         Some(Token::Keyword(Keyword::Select)) => Start::Opening(Opening::Select),
         Some(Token::Keyword(Keyword::Stencil)) => Start::Stencil,
         _ => Start::Nothing,
-    }
-}
-
-pub(crate) fn item_of(token: Option<Token>) -> ItemStart
-    ensures { result ≡ item_at token }
-{
-    match token {
-        Some(Token::Keyword(Keyword::Param)) => ItemStart::Param,
-        Some(Token::Keyword(Keyword::Func)) => ItemStart::Func,
-        Some(Token::Keyword(Keyword::Accum)) => ItemStart::Accum,
-        Some(Token::Keyword(Keyword::Output)) => ItemStart::Output,
-        _ => ItemStart::Nothing,
     }
 }

@@ -5,7 +5,7 @@ ghost use Rattle.std.specs.Prelude.{◌≡◌, ◌<◌, ◌≤◌, length, suc, 
 ghost use Rattle.pipe_tree.specs.Tree.{view};
 ghost use Rattle.pipe_tree.specs.Reading as reading;
 ghost use Rattle.pipe_tree.specs.Reading.{halt_of, unary_at, product_at, expression_at};
-ghost use Rattle.pipe_lang.specs.Answers.{at, Reads};
+ghost use Rattle.pipe_terms.specs.Answers.{at, Reads};
 
 use crate::lookahead::{factor_of, sign_of, start_of};
 use crate::parse_error::ParseError;

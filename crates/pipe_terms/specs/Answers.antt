@@ -2,9 +2,9 @@
 use Rattle.std.specs.Prelude.{◌≡◌, Result, Ok, Err}
 use Rattle.pipe_tree.specs.declared.fault.Halt.{Halt}
 use Rattle.pipe_tree.specs.Reading.{At}
-use Rattle.pipe_lang.specs.declared.parse_error.ParseError.{ParseError}
-use Rattle.pipe_lang.specs.declared.parse_error.ParseError.TheVariants as errors
-use Rattle.pipe_lang.specs.declared.parser.Parser.{Parser}
+use Rattle.pipe_terms.specs.declared.parse_error.ParseError.{ParseError}
+use Rattle.pipe_terms.specs.declared.parse_error.ParseError.TheVariants as errors
+use Rattle.pipe_terms.specs.declared.parser.Parser.{Parser}
 
 -- where a parser is
 abbrev pub at : Parser → At

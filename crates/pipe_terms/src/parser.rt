@@ -1,12 +1,11 @@
 #![tactic(auto)]
-//! Where a parser is, and how it passes one token. Each rule of the grammar is a method of `Parser` that reads it from
-//! left to right with one token ahead.
+//! Where a parser is, and how it passes one token.
 
 ghost use Rattle.std.specs.Prelude.{◌≡◌, ◌<◌, ◌≤◌, length, IfOk, OnOk};
 ghost use Rattle.pipe_tree.specs.Limits.{none_yet};
 ghost use Rattle.pipe_tree.specs.Reading as reading;
 ghost use Rattle.pipe_tree.specs.Reading.{halt_of, kind_at};
-ghost use Rattle.pipe_lang.specs.Answers.{at, Reads};
+ghost use Rattle.pipe_terms.specs.Answers.{at, Reads};
 ghost use Rattle.pipe_tree.specs.Tokens.{head, tail};
 ghost use Rattle.pipe_tree.specs.Operators.{name_at};
 ghost use Rattle.pipe_tree.specs.Lookahead.{is_mark_at, is_word_at};
@@ -21,14 +20,16 @@ use std::alloc::Global;
 /// The greatest number of a text.
 pub const MAX_NUMBER: u32 = 2147483647;
 
+/// A place in a list of tokens: what is left of it, and what was counted on the way.
 #[derive(Drop)]
-pub(crate) struct Parser<'a> {
+pub struct Parser<'a> {
     pub alloc: Global,
     pub rest: &'a [Token],
     pub counts: Counts,
 }
 
 impl<'a> Parser<'a> {
+    /// A parser that is at the first of these tokens.
     pub fn new(alloc: Global, tokens: &'a [Token]) -> Self
         ensures { at result ≡ record { counts = none_yet; rest = tokens.now } }
     {
@@ -46,6 +47,7 @@ impl<'a> Parser<'a> {
 }
 
 impl Parser<'_> {
+    /// The token ahead, unless all were passed.
     pub fn ahead(&self) -> Option<Token>
         ensures { result ≡ head self.now.rest.now }
     {
@@ -61,28 +63,30 @@ impl Parser<'_> {
         }
     }
 
+    /// Whether this punctuation is ahead.
     pub fn is_mark(&self, mark: Punct) -> bool
         ensures { result ≡ is_mark_at mark (head self.now.rest.now) }
     {
         is_mark(self.ahead(), mark)
     }
 
+    /// Whether this keyword is ahead.
     pub fn is_word(&self, word: Keyword) -> bool
         ensures { result ≡ is_word_at word (head self.now.rest.now) }
     {
         is_word(self.ahead(), word)
     }
 
-    pub fn halt(&self, kind: Kind) -> ParseError
+    pub(crate) fn halt(&self, kind: Kind) -> ParseError
         ensures { result ≡ ParseError.Fault (halt_of kind self.now.rest.now) }
     {
         ParseError::Fault(Halt {
             kind,
-            left: self.rest.len(),
+            remaining: self.rest.len(),
         })
     }
 
-    // The fault of a token that has no place here.
+    /// The fault of the token ahead, or of the end, where it has no place.
     pub fn refuse(&self) -> ParseError
         ensures { result ≡ ParseError.Fault (halt_of (kind_at (head self.now.rest.now)) self.now.rest.now) }
     {
@@ -94,7 +98,7 @@ impl Parser<'_> {
     }
 
     // Passes the token ahead, which counts as the role.
-    pub fn begin(&mut self, role: Role) -> Result<(), ParseError>
+    pub(crate) fn begin(&mut self, role: Role) -> Result<(), ParseError>
         ensures exact { Reads (λ _. (tt, at self.new)) result (reading.begin role (at self.old)) }
         ensures shorter { length self.new.rest.now ≤ length self.old.rest.now }
         ensures passes { OnOk result (self.new.rest.now ≡ tail self.old.rest.now) }
@@ -109,6 +113,7 @@ impl Parser<'_> {
         Ok(())
     }
 
+    /// Passes this punctuation, which counts as the role.
     #[tactic(auto, using(crate::proofs::Passing::mark_passes))]
     pub fn mark(&mut self, mark: Punct, role: Role) -> Result<(), ParseError>
         ensures exact { Reads (λ _. (tt, at self.new)) result (reading.mark mark role (at self.old)) }
@@ -122,7 +127,7 @@ impl Parser<'_> {
         }
     }
 
-    // Gives back what was read, if the mark stands behind it.
+    /// Gives back what was read, if this punctuation comes after it.
     pub fn ended<T: Drop>(&mut self, value: T, mark: Punct) -> Result<T, ParseError>
         ensures exact { Reads (λ _. (tt, at self.new)) result (reading.mark mark Role.Plain (at self.old)) }
         ensures shorter { length self.new.rest.now ≤ length self.old.rest.now }
@@ -132,6 +137,7 @@ impl Parser<'_> {
         Ok(value)
     }
 
+    /// Passes this keyword, which counts as the role.
     #[tactic(auto, using(crate::proofs::Passing::word_passes))]
     pub fn word(&mut self, word: Keyword, role: Role) -> Result<(), ParseError>
         ensures exact { Reads (λ _. (tt, at self.new)) result (reading.word word role (at self.old)) }
@@ -145,6 +151,7 @@ impl Parser<'_> {
         }
     }
 
+    /// Reads a name, which counts as the role.
     pub fn name(&mut self, role: Role) -> Result<Name, ParseError>
         ensures exact { Reads (λ x. (x, at self.new)) result (reading.name role (at self.old)) }
         ensures shorter { length self.new.rest.now ≤ length self.old.rest.now }
@@ -158,6 +165,7 @@ impl Parser<'_> {
         }
     }
 
+    /// Reads a number of at most 2,147,483,647, which counts as the role.
     pub fn int(&mut self, role: Role) -> Result<u32, ParseError>
         ensures exact { Reads (λ n. (n, at self.new)) result (reading.int role (at self.old)) }
         ensures shorter { length self.new.rest.now ≤ length self.old.rest.now }
@@ -175,7 +183,7 @@ impl Parser<'_> {
 
     // Whether the sign is a minus.
     #[tactic(auto, using(crate::proofs::Passing::sign_passes))]
-    pub fn sign(&mut self, role: Role) -> Result<bool, ParseError>
+    pub(crate) fn sign(&mut self, role: Role) -> Result<bool, ParseError>
         ensures exact { Reads (λ b. (b, at self.new)) result (reading.sign role (at self.old)) }
         ensures shorter { length self.new.rest.now ≤ length self.old.rest.now }
         ensures passes { OnOk result (length self.new.rest.now < length self.old.rest.now) }
@@ -190,7 +198,7 @@ impl Parser<'_> {
     }
 
     #[tactic(auto, using(crate::proofs::Passing::factor_passes))]
-    pub fn factor(&mut self) -> Result<Factor, ParseError>
+    pub(crate) fn factor(&mut self) -> Result<Factor, ParseError>
         ensures exact { Reads (λ f. (f, at self.new)) result (reading.factor (at self.old)) }
         ensures shorter { length self.new.rest.now ≤ length self.old.rest.now }
         ensures passes { OnOk result (length self.new.rest.now < length self.old.rest.now) }
@@ -204,6 +212,7 @@ impl Parser<'_> {
         }
     }
 
+    /// Reads a relation.
     pub fn relation(&mut self) -> Result<Relation, ParseError>
         ensures exact { Reads (λ r. (r, at self.new)) result (reading.relation (at self.old)) }
         ensures shorter { length self.new.rest.now ≤ length self.old.rest.now }
@@ -217,6 +226,7 @@ impl Parser<'_> {
         }
     }
 
+    /// Reads how an accumulator joins numbers.
     pub fn fold(&mut self) -> Result<Fold, ParseError>
         ensures exact { Reads (λ f. (f, at self.new)) result (reading.fold (at self.old)) }
         ensures shorter { length self.new.rest.now ≤ length self.old.rest.now }

@@ -1,7 +1,7 @@
 use Rattle.std.proofs.Common.{rules, sym, ◌∙◌, ◌≡◌, ◌++◌, ◌∷◌, []}
-use Rattle.pipe_lang.specs.Answers.{at}
-use Rattle.pipe_lang.proofs.Unrolled.{row_step}
-use Rattle.pipe_lang.proofs.parser.Parser.row.Goals as goal
+use Rattle.pipe_terms.specs.Answers.{at}
+use Rattle.pipe_terms.proofs.Unrolled.{row_step}
+use Rattle.pipe_terms.proofs.parser.Parser.row.Goals as goal
 
 pub loop-self-preserved : goal.loop-self-preserved
 loop-self-preserved c =

@@ -1,8 +1,8 @@
 use Rattle.std.proofs.Common.{◌≡◌, ◌≤◌, length, ◌+◌, ◌*◌}
 use Rattle.pipe_tree.specs.Tree.{view}
 use Rattle.pipe_tree.specs.Reading.{while, is_sign_at, is_factor_at, sum_more, product_more, unary_at, product_at, expression_at}
-use Rattle.pipe_lang.specs.Answers.{at}
-use Rattle.pipe_lang.proofs.parser.Parser.+expression.Given as goal
+use Rattle.pipe_terms.specs.Answers.{at}
+use Rattle.pipe_terms.proofs.parser.Parser.+expression.Given as goal
 
 abbrev pub decreases-expression : goal.decreases-expression
 decreases-expression l = 6 * l.levels + 4

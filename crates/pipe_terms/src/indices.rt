@@ -5,8 +5,8 @@ ghost use Rattle.std.specs.Prelude.{◌≡◌, ◌<◌, ◌≤◌, length, OnOk}
 ghost use Rattle.pipe_tree.specs.Grammar as grammar;
 ghost use Rattle.pipe_tree.specs.Tree.{view};
 ghost use Rattle.pipe_tree.specs.Reading as reading;
-ghost use Rattle.pipe_lang.specs.Answers.{at, Reads};
-ghost use Rattle.pipe_lang.specs.declared.parser.TheConstants.{MAX_NUMBER};
+ghost use Rattle.pipe_terms.specs.Answers.{at, Reads};
+ghost use Rattle.pipe_terms.specs.declared.parser.TheConstants.{MAX_NUMBER};
 
 use crate::lookahead::{is_number, sign_of};
 use crate::parse_error::ParseError;
@@ -111,7 +111,7 @@ impl Parser<'_> {
 
     // A name, or a read of what it names.
     #[tactic(auto, unfolding(pipe_tree::specs::Reading::named))]
-    pub fn named(&mut self) -> Result<Expr, ParseError>
+    pub(crate) fn named(&mut self) -> Result<Expr, ParseError>
         ensures exact { Reads (λ e. (view e, at self.new)) result (reading.named (at self.old)) }
         ensures shorter { length self.new.rest.now ≤ length self.old.rest.now }
     {
@@ -128,7 +128,7 @@ impl Parser<'_> {
     }
 
     #[tactic(auto, unfolding(pipe_tree::specs::Reading::a_stencil))]
-    pub fn stencil(&mut self) -> Result<Expr, ParseError>
+    pub(crate) fn stencil(&mut self) -> Result<Expr, ParseError>
         ensures exact { Reads (λ e. (view e, at self.new)) result (reading.a_stencil (at self.old)) }
         ensures shorter { length self.new.rest.now ≤ length self.old.rest.now }
     {

@@ -1,7 +1,7 @@
 use Rattle.std.proofs.Common.{◌≡◌, ◌≤◌, length}
 use Rattle.pipe_tree.specs.Reading.{while, affine, is_sign_at, next_term}
-use Rattle.pipe_lang.specs.Answers.{at}
-use Rattle.pipe_lang.proofs.parser.Parser.affine.Given as goal
+use Rattle.pipe_terms.specs.Answers.{at}
+use Rattle.pipe_terms.proofs.parser.Parser.affine.Given as goal
 
 abbrev pub invariant-loop-self : goal.invariant-loop-self
 invariant-loop-self l = record {
