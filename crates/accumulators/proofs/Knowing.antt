@@ -16,7 +16,7 @@ use Rattle.job.proofs.TotalLaws.{body_totals-agrees}
 use Rattle.tile_eval.specs.Buffer.{sample_in, AreKnown}
 use Rattle.tile_eval.specs.declared.buffers.Buffer.{Buffer}
 use Rattle.tile_eval.proofs.Knowing.{sample_is, reads_below}
-use Rattle.accumulators.specs.Accumulating.{HasFormulas}
+use Rattle.accumulators.specs.inside.Accumulating.{HasFormulas}
 
 pub totals_is : (job : Pipeline) (g : ℕ) (s : Stage) → slice_get job.stages g ≡ Some s → totals job g ≡ body_totals (value job) s.domain s.body
 totals_is job g s there = ap (λ (o : Option Stage). option_map_or (λ t. body_totals (value job) t.domain t.body) o []) there

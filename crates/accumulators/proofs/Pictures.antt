@@ -18,7 +18,7 @@ use Rattle.job.specs.Pipeline.{Body, plane, function, accumulator, Output, Pipel
 use Rattle.job.specs.Values.{value}
 use Rattle.job.specs.WellFormed.{IsFunction, IsOutput, IsOutputPlane}
 use Rattle.overlap_tiles.proofs.Lists.{All-from_contains}
-use Rattle.accumulators.specs.Making.{IsStoredStage}
+use Rattle.accumulators.specs.inside.Making.{IsStoredStage}
 
 -- ---- samples
 

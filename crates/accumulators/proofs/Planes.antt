@@ -19,7 +19,7 @@ use Rattle.tile_eval.proofs.Rasters.{nth_held}
 use Rattle.tile_eval.specs.Rows.{EachPlace, at}
 use Rattle.tile_run.specs.KnownTiles.{KnownTiles}
 use Rattle.tile_run.specs.Stored.{IsStoredLine, GivesAllTiles}
-use Rattle.accumulators.specs.Making.{IsStoredStage}
+use Rattle.accumulators.specs.inside.Making.{IsStoredStage}
 use Rattle.accumulators.proofs.Pictures.{sample_at, samples_are}
 
 next : (b : ℤ) (k : ℕ) → b +ℤ pos (suc k) ≡ b +ℤ pos 1 +ℤ pos k

@@ -17,7 +17,7 @@ use Rattle.domains.specs.declared.operators.Fold.{Fold}
 use Rattle.job.specs.Totals.{start_of, total_of, joined}
 use Rattle.tile_eval.specs.Rows.{EachPlace, at}
 use Rattle.accumulators.specs.Bins.{starts}
-use Rattle.accumulators.specs.Gathering.{once_came, after_values, values_of_bin, values_among, points_along, TookIn}
+use Rattle.accumulators.specs.inside.Gathering.{once_came, after_values, values_of_bin, values_among, points_along, TookIn}
 use Rattle.accumulators.proofs.Folding.{total_by_values}
 
 -- ---- rows of numbers

@@ -20,7 +20,7 @@ use Rattle.job.specs.WellFormed.{IsJob}
 use Rattle.tile_run.specs.Work.{is_accumulator_at}
 use Rattle.accumulators.specs.Answers.{body_gathered, gathered_at}
 use Rattle.accumulators.specs.Bins.{starts}
-use Rattle.accumulators.specs.Making.{IsGathered, with_tile}
+use Rattle.accumulators.specs.inside.Making.{IsGathered, with_tile}
 use Rattle.accumulators.specs.Partials.{body_joined, joined_over}
 use Rattle.accumulators.proofs.Totalling.{partials_join}
 

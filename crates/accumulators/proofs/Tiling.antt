@@ -25,11 +25,11 @@ use Rattle.overlap_tiles.proofs.Needing.{from_needs}
 use Rattle.overlap_tiles.proofs.Tiling.{has_grid}
 use Rattle.tile_eval.proofs.Rasters.{raster_len}
 use Rattle.tile_run.specs.KnownTiles.{KnownTiles, AreTrue, AreWhole}
-use Rattle.tile_run.specs.Runs.{AreGiven}
+use Rattle.tile_run.specs.Runs.{NeedsGiven}
 use Rattle.tile_run.specs.Stored.{IsStoredFunction, GivesAllTiles}
 use Rattle.tile_run.specs.Work.{first_too_big, is_accumulator_at}
 use Rattle.tile_run.proofs.Fitting.{none_too_big}
-use Rattle.accumulators.specs.Making.{IsGathered}
+use Rattle.accumulators.specs.inside.Making.{IsGathered}
 use Rattle.accumulators.specs.Partials.{AreLocalTotals}
 use Rattle.accumulators.proofs.Tallying.{grid_there, is_wanted}
 use Rattle.accumulators.proofs.Truths.{layout_totals_true}
@@ -75,7 +75,7 @@ module _ (job : Pipeline) (g : ℕ) (way : Fold) (bins : Ends) (grid : Grid) (is
         (_, all n.stage at.stage stored n.row n.col (subst (λ (d : Grid). HasTile d n.row n.col) (sym at.is) needed.meets.there))
 
     -- each tile that it needs is given
-    pub all_given : AreGiven given l.needs
+    pub all_given : NeedsGiven given l.needs
     all_given n k = gives n (from_needs of_tile n good (subst (λ (ns : List Tile). Contains ns n) layout.layout.layout.needs k))
 
     -- and what is gathered from true tiles is what the job gathers

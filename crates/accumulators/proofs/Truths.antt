@@ -14,7 +14,7 @@ use Rattle.overlap_tiles.specs.Plans.{Layout, IsTileLayout, target_over}
 use Rattle.overlap_tiles.proofs.Tiling.{tile_is_target}
 use Rattle.tile_run.specs.KnownTiles.{KnownTiles, AreTrue}
 use Rattle.tile_run.specs.Local.{IsAtHand}
-use Rattle.tile_run.specs.Runs.{AreGiven}
+use Rattle.tile_run.specs.Runs.{NeedsGiven}
 use Rattle.tile_run.proofs.Closing.{IsInTarget, closed}
 use Rattle.tile_run.proofs.Computing.{same_stage}
 use Rattle.tile_run.proofs.Planned.{only_area}
@@ -22,7 +22,7 @@ use Rattle.tile_run.proofs.Truths.{gives}
 use Rattle.accumulators.specs.Partials.{AreLocalTotals, AreTotalsOn}
 use Rattle.accumulators.proofs.Totalling.{true_totals}
 
-module _ (job : Pipeline) (inlining : List Bool) (given : KnownTiles) (l : Layout) (g i j : ℕ) (is : IsTileLayout job inlining g i j l) (good : IsJob job) (are_given : AreGiven given l.needs) where
+module _ (job : Pipeline) (inlining : List Bool) (given : KnownTiles) (l : Layout) (g i j : ℕ) (is : IsTileLayout job inlining g i j l) (good : IsJob job) (are_given : NeedsGiven given l.needs) where
   abbrev of_tile : Target
   of_tile = target_over job inlining g is.area
 

@@ -4,11 +4,10 @@
 ghost use Rattle.std.specs.Prelude.{◌≡◌, ℕ, Bool, List, None, IfOk, IfErr};
 ghost use Rattle.domains.specs.Area.{IsArea};
 ghost use Rattle.job.specs.Kept.{pipeline_in, program_id_in};
-ghost use Rattle.job.specs.WellFormed.{IsJob};
 ghost use Rattle.overlap_tiles.specs.Plans.{IsTilePlan, IsTileLayout};
 ghost use Rattle.tile_run.specs.KnownTiles.{AreTrue, AreWhole};
 ghost use Rattle.tile_run.specs.Prepared.{IsPrepared};
-ghost use Rattle.tile_run.specs.Runs.{first_missing, AreGiven, IsSomeLayout, IsEvalFault};
+ghost use Rattle.tile_run.specs.Runs.{first_missing, NeedsGiven, IsSomeLayout, IsEvalFault};
 ghost use Rattle.accumulators.specs.Partials.{local_totals, AreLocalTotals, AreTotalsOn, IsAccumulatorPlan};
 
 use crate::gather::gather;
@@ -23,7 +22,6 @@ fn gather_step<K: Known>(
     inputs: &TileInputs<'_, K>,
     step: &Step,
 ) -> Result<Vec<i64>, AllocError>
-    requires job { IsJob (pipeline_in inputs.now.tile.job.now) }
     requires area { IsArea step.now.area }
     requires prepared { IsPrepared (pipeline_in inputs.now.tile.job.now) inputs.now.tile.layout.now.inlining (K.given inputs.now.tile.known.now) inputs.now.boxes.now step.now.stage step.now.area }
     ensures { IfOk result (λ bins. bins.items ≡ local_totals (pipeline_in inputs.now.tile.job.now) inputs.now.tile.layout.now.inlining (K.given inputs.now.tile.known.now) step.now.area step.now.stage) }
@@ -47,9 +45,8 @@ pub(crate) fn tile_totals<K: Known>(
     tile: &TileJob<'_, K>,
     scratch: &mut Scratch,
 ) -> Result<Vec<i64>, AllocError>
-    requires job { IsJob (pipeline_in tile.now.job.now) }
     requires layout { IsSomeLayout (pipeline_in tile.now.job.now) tile.now.layout.now }
-    requires needs { AreGiven (K.given tile.now.known.now) tile.now.layout.now.needs }
+    requires needs { NeedsGiven (K.given tile.now.known.now) tile.now.layout.now.needs }
     ensures { IfOk result (λ bins. (inlining : List Bool) (g i j : ℕ) → IsTileLayout (pipeline_in tile.now.job.now) inlining g i j tile.now.layout.now → AreLocalTotals (pipeline_in tile.now.job.now) inlining (K.given tile.now.known.now) g i j bins.items) }
 {
     let Some(step) = tile.layout.steps().last() else {
@@ -78,7 +75,6 @@ pub fn partial<K: Known>(
     scratch: &mut Scratch,
     known: &K,
 ) -> Result<Vec<i64>, EvalFault>
-    requires job { IsJob (pipeline_in job.now) }
     requires whole { AreWhole (pipeline_in job.now) (K.given known.now) }
     requires plan { IsAccumulatorPlan (program_id_in job.now) (pipeline_in job.now) plan.now }
     ensures totals { IfOk result (λ bins. (inlining : List Bool) (g i j : ℕ) → IsTilePlan (program_id_in job.now) (pipeline_in job.now) inlining g i j plan.now → AreLocalTotals (pipeline_in job.now) inlining (K.given known.now) g i j bins.items) }

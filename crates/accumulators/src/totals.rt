@@ -9,7 +9,7 @@ ghost use Rattle.job.specs.Kept.{pipeline_in};
 ghost use Rattle.job.specs.Totals.{totals, totals_over};
 ghost use Rattle.overlap_tiles.specs.Plans.{IsTileLayout};
 ghost use Rattle.accumulators.specs.Answers.{all_gathered, gathered, gathered_at};
-ghost use Rattle.accumulators.specs.Making.{IsComputed, IsTally, TotalsFit, with_tile};
+ghost use Rattle.accumulators.specs.inside.Making.{IsComputed, IsTally, TotalsFit, with_tile};
 
 use crate::answer::Total;
 use crate::computed::Computed;

@@ -17,8 +17,8 @@ use Rattle.domains.proofs.PartsOfSpans.{place_only}
 use Rattle.tile_eval.specs.declared.blocks.BufferView.{BufferView}
 use Rattle.tile_eval.specs.Rows.{EachPlace, at}
 use Rattle.tile_eval.specs.Buffer.{place_of}
-use Rattle.tile_run.specs.KnownTiles.{KnownTiles, number_in, number_at}
-use Rattle.tile_run.specs.Tiles.{IsGivenAt, IsTileAbout}
+use Rattle.tile_run.specs.KnownTiles.{KnownTiles, number_in, number_at, IsGivenAt}
+use Rattle.tile_run.specs.inside.Tiles.{IsTileAbout}
 
 none_some : {X : Type 0} (x : X) → None ≡ Some x → ⊥
 none_some x e = absurd (cc)

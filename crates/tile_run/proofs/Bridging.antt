@@ -27,11 +27,10 @@ use Rattle.overlap_tiles.proofs.Rising.{box_listed}
 use Rattle.overlap_tiles.proofs.Tiling.{grid_fits}
 use Rattle.tile_eval.specs.Buffer.{IsKnownAt}
 use Rattle.tile_eval.specs.declared.buffers.Buffer.{Buffer}
-use Rattle.tile_run.specs.KnownTiles.{KnownTiles, IsGiven}
-use Rattle.tile_run.specs.Tiles.{IsGivenAt}
+use Rattle.tile_run.specs.KnownTiles.{KnownTiles, IsGiven, IsGivenAt}
 use Rattle.tile_run.specs.Local.{FunctionAtHand, BodyAtHand, StageAtHand, IsAtHand}
-use Rattle.tile_run.specs.Runs.{AreGiven}
-use Rattle.tile_run.specs.Steps.{IsReadyOver, AreComputed, AreRunnable}
+use Rattle.tile_run.specs.Runs.{NeedsGiven}
+use Rattle.tile_run.specs.inside.Steps.{IsReadyOver, AreComputed, AreRunnable}
 use Rattle.tile_run.proofs.Computing.{same_stage}
 use Rattle.tile_run.proofs.LocalValues.{reads_weaker}
 use Rattle.tile_run.proofs.Running.{to_longer, computed_longer}
@@ -68,7 +67,7 @@ step_inlined t p k g h a b before here there =
       sym (get_or_append_left (inner_steps t) ((t.stage, t.region) ∷ []) (h, b) p inside) ∙ get_or_from_slice_get (steps t) p (h, b) (h, b) there,
     )).1
 
-module _ (t : Target) (job : IsJob t.job) (given : KnownTiles) (are_given : AreGiven given (needs t)) where
+module _ (t : Target) (job : IsJob t.job) (given : KnownTiles) (are_given : NeedsGiven given (needs t)) where
   needed_stored : (h : ℕ) (r c : ℤ) → IsInNeededTile t h r c → is_inlined t.inlining h ≡ false
   needed_stored h r c n =
       let needed = from_needs t (record { stage = h; row = n.row; col = n.col }) job n.needed in

@@ -26,8 +26,7 @@ use Rattle.overlap_tiles.proofs.Lower.{box_low}
 use Rattle.overlap_tiles.proofs.Tiling.{grid_fits}
 use Rattle.tile_eval.specs.Buffer.{raster}
 use Rattle.tile_eval.proofs.Rasters.{raster_same}
-use Rattle.tile_run.specs.KnownTiles.{KnownTiles, AreTrue}
-use Rattle.tile_run.specs.Tiles.{IsGivenAt}
+use Rattle.tile_run.specs.KnownTiles.{KnownTiles, AreTrue, IsGivenAt}
 use Rattle.tile_run.specs.Local.{local_value, FunctionAtHand, BodyAtHand, StageAtHand, IsAtHand, IsProvided}
 use Rattle.tile_run.proofs.LocalValues.{reads_weaker, local_is_value}
 

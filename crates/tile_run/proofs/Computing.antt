@@ -21,7 +21,7 @@ use Rattle.tile_eval.specs.declared.buffers.StageBuffers.{StageBuffers}
 use Rattle.tile_eval.proofs.Rasters.{raster_same, raster_at}
 use Rattle.tile_run.specs.KnownTiles.{KnownTiles}
 use Rattle.tile_run.specs.Local.{read_from, local_value, IsAtHand}
-use Rattle.tile_run.specs.Steps.{IsFunctionAt, AreLocal, IsReadyOver}
+use Rattle.tile_run.specs.inside.Steps.{IsFunctionAt, AreLocal, IsReadyOver}
 use Rattle.tile_run.specs.Prepared.{boxed, IsPrepared}
 use Rattle.tile_run.proofs.LocalValues.{hand_decides, step_is_local}
 

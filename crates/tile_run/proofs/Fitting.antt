@@ -1,5 +1,5 @@
 -- Which tiles have room in scratch memory.
-use Rattle.std.proofs.Common.{arith, ℕ, ◌≤◌, ◌<◌, ◌≡◌, inl, inr, refl, ap, sym, ◌∙◌, subst, Bool, true, false, not, List, [], map, Option, Some, None, length, slice_get, filter}
+use Rattle.std.proofs.Common.{arith, ℕ, ◌≤◌, ◌<◌, ◌≡◌, inl, inr, refl, ap, sym, ◌∙◌, subst, Bool, true, false, not, List, [], map, Option, Some, None, slice_get, filter}
 use Rattle.std.specs.Prelude.{All, Contains, find, nat_le, nat_lt, if◌then◌else◌}
 use Rattle.std.specs.Option.{option_map, option_map_or}
 use Rattle.std.proofs.lemmas.Bool.{and_from, and_parts, not-true, false≢true, cases_lt, lt-ltb, le-ltb, lt-leb, le-leb, leb-true}
@@ -13,6 +13,7 @@ use Rattle.domains.proofs.PairLists.{Contains-filter, Contains-from_filter}
 use Rattle.job.specs.Answers.{Tile, tiles, grid_of, has_tiles, is_accumulator}
 use Rattle.job.specs.Pipeline.{Body, plane, function, accumulator, Stage, Pipeline}
 use Rattle.job.specs.Readers.{stage_grid, grid_at}
+use Rattle.job.specs.WellFormed.{IsJob}
 use Rattle.grouping.specs.Costs.{scratch, most_scratch, tile_targets}
 use Rattle.grouping.specs.Inlining.{Inlining, IsScheduleOf}
 use Rattle.grouping.specs.Order.{in_order}
@@ -22,12 +23,12 @@ use Rattle.grouping.proofs.Hulls.{Contains-flat_map}
 use Rattle.grouping.proofs.Ordering.{order_has}
 use Rattle.overlap_tiles.specs.Needs.{key_of, tile_of_stage}
 use Rattle.overlap_tiles.specs.Plans.{IsTileAt, target_over}
-use Rattle.overlap_tiles.proofs.Lists.{Contains-map, Contains-from_map, Contains-from_flat_map, All-from_contains}
+use Rattle.overlap_tiles.proofs.Lists.{Contains-map, Contains-from_map, Contains-from_flat_map}
 use Rattle.overlap_tiles.proofs.Tiling.{has_grid}
 use Rattle.tile_run.specs.declared.room.Work.{Work}
 use Rattle.tile_run.specs.declared.room.Work.TheVariants.{Functions, Accumulators}
-use Rattle.tile_run.specs.Running.{StoredFit}
-use Rattle.tile_run.specs.Work.{is_stored_function, wanted_by, work_tiles, tile_scratch, too_big, first_too_big}
+use Rattle.tile_run.specs.inside.Running.{StoredFit}
+use Rattle.tile_run.specs.Work.{is_stored_function, wanted_by, work_tiles, scratch_of_tile, too_big, first_too_big}
 use Rattle.tile_run.proofs.Finding.{none_of, find_of}
 use Rattle.tile_run.proofs.Planned.{none_found}
 
@@ -38,7 +39,7 @@ pub big_is : (job : Pipeline) (inlining : List Bool) (g i j : ℕ) (area : Area)
 big_is job inlining g i j area is =
     let at = has_grid job g is.grid is.there in
     let same : tile_area (grid_of job at.stage) i j ≡ area = ap (λ (d : Grid). tile_area d i j) at.is ∙ sym is.is in
-    ap (λ (o : Option Stage). option_map_or (λ s. not (nat_le (tile_scratch job inlining (tile_of_stage g (i, j)) s) most_scratch)) o false) at.there
+    ap (λ (o : Option Stage). option_map_or (λ s. not (nat_le (scratch_of_tile job inlining (tile_of_stage g (i, j)) s) most_scratch)) o false) at.there
     ∙ ap (λ (a : Area). not (nat_le (scratch (target_over job inlining g a)) most_scratch)) same
 
 -- more than so many are not at most so many
@@ -53,14 +54,14 @@ not_false true e = refl
 not_false false e = absurd (cc)
 
 module _ (job : Pipeline) (inlining : List Bool) (g : ℕ) (s : Stage) (there : slice_get job.stages g ≡ Some s) where
-  big_here : (i j : ℕ) → too_big job inlining (tile_of_stage g (i, j)) ≡ not (nat_le (tile_scratch job inlining (tile_of_stage g (i, j)) s) most_scratch)
-  big_here i j = ap (λ (o : Option Stage). option_map_or (λ x. not (nat_le (tile_scratch job inlining (tile_of_stage g (i, j)) x) most_scratch)) o false) there
+  big_here : (i j : ℕ) → too_big job inlining (tile_of_stage g (i, j)) ≡ not (nat_le (scratch_of_tile job inlining (tile_of_stage g (i, j)) s) most_scratch)
+  big_here i j = ap (λ (o : Option Stage). option_map_or (λ x. not (nat_le (scratch_of_tile job inlining (tile_of_stage g (i, j)) x) most_scratch)) o false) there
 
-  small_fits : (i j : ℕ) → too_big job inlining (tile_of_stage g (i, j)) ≡ false → tile_scratch job inlining (tile_of_stage g (i, j)) s ≤ most_scratch
-  small_fits i j small = leb-true (tile_scratch job inlining (tile_of_stage g (i, j)) s) most_scratch (not_false (nat_le (tile_scratch job inlining (tile_of_stage g (i, j)) s) most_scratch) (sym (big_here i j) ∙ small))
+  small_fits : (i j : ℕ) → too_big job inlining (tile_of_stage g (i, j)) ≡ false → scratch_of_tile job inlining (tile_of_stage g (i, j)) s ≤ most_scratch
+  small_fits i j small = leb-true (scratch_of_tile job inlining (tile_of_stage g (i, j)) s) most_scratch (not_false (nat_le (scratch_of_tile job inlining (tile_of_stage g (i, j)) s) most_scratch) (sym (big_here i j) ∙ small))
 
-  fits_small : (i j : ℕ) → tile_scratch job inlining (tile_of_stage g (i, j)) s ≤ most_scratch → too_big job inlining (tile_of_stage g (i, j)) ≡ false
-  fits_small i j fits = big_here i j ∙ ap not (le-leb (tile_scratch job inlining (tile_of_stage g (i, j)) s) most_scratch fits)
+  fits_small : (i j : ℕ) → scratch_of_tile job inlining (tile_of_stage g (i, j)) s ≤ most_scratch → too_big job inlining (tile_of_stage g (i, j)) ≡ false
+  fits_small i j fits = big_here i j ∙ ap not (le-leb (scratch_of_tile job inlining (tile_of_stage g (i, j)) s) most_scratch fits)
 
   -- ---- the tiles of one stage
 
@@ -97,9 +98,13 @@ first_key program job inlining g grid at o found =
     mapped None = refl
     mapped (Some t) = refl
 
--- stages have numbers of 16 bits where there are few
-pub order_few : (job : Pipeline) → length job.stages ≤ 65536 → All (λ g. g < 65536) (in_order job.stages)
-order_few job few = All-from_contains (λ g. g < 65536) (in_order job.stages) (λ g here. let low = (order_has job.stages g).0 here in omega (arith, low, few))
+-- the numbers of stages have 16 bits
+pub number_fits : (job : Pipeline) → IsJob job → (g : ℕ) (grid : Grid) → grid_at job g ≡ Some grid → g < 65536
+number_fits job good g grid there =
+    let at = has_grid job g grid there in
+    let low = slice_get_within job.stages g at.stage at.there in
+    let few = good.few_stages in
+    omega arith
 
 -- a tile of a stage that is wanted
 pub record IsOfWork (job : Pipeline) (wants : ℕ → Bool) (t : Tile) : Type 0 where

@@ -16,8 +16,7 @@ use Rattle.job.specs.Answers.{grid_of}
 use Rattle.job.specs.Views.{case_view, formula_view, body_view, stage_view}
 use Rattle.job.specs.Values.{Valuation, sample_at}
 use Rattle.grouping.specs.Schedules.{is_inlined}
-use Rattle.tile_run.specs.KnownTiles.{KnownTiles, number_at, given_number}
-use Rattle.tile_run.specs.Tiles.{IsGivenAt}
+use Rattle.tile_run.specs.KnownTiles.{KnownTiles, number_at, given_number, IsGivenAt}
 use Rattle.tile_run.specs.Local.{body_given, stage_given, read_from, FunctionAtHand, BodyAtHand, StageAtHand, IsAtHand}
 
 module _ (job : Pipeline) (inlining : List Bool) (given : KnownTiles) (Inner : ℕ → ℤ → ℤ → Type 0) (g : ℕ) (r c : ℤ) where

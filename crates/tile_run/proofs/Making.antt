@@ -10,6 +10,7 @@ use Rattle.domains.specs.declared.grid.Grid.{Grid}
 use Rattle.job.specs.Answers.{Tile, grid_of}
 use Rattle.job.specs.Pipeline.{Stage, Pipeline, rank_of}
 use Rattle.job.specs.Values.{value}
+use Rattle.job.specs.WellFormed.{IsJob}
 use Rattle.job.proofs.Solving.{ranked_is}
 use Rattle.job.proofs.Unrolling.{rank_is}
 use Rattle.grouping.specs.Order.{greatest_rank}
@@ -24,13 +25,14 @@ use Rattle.overlap_tiles.proofs.Tiling.{has_grid}
 use Rattle.tile_eval.specs.Buffer.{raster}
 use Rattle.tile_eval.proofs.Rasters.{raster_len}
 use Rattle.tile_run.specs.KnownTiles.{AreWhole}
-use Rattle.tile_run.specs.Runs.{AreGiven, AreLocalOn, IsFunctionLayout}
-use Rattle.tile_run.specs.Running.{tile_values, AreStored, IsReady}
+use Rattle.tile_run.specs.Runs.{NeedsGiven, AreLocalOn}
+use Rattle.tile_run.specs.inside.Layouts.{IsFunctionLayout}
+use Rattle.tile_run.specs.inside.Running.{tile_values, AreStored, IsStageReady}
 use Rattle.tile_run.specs.Stored.{stored_tiles, IsStoredFunction, GivesAllTiles}
 use Rattle.tile_run.specs.declared.stored.Tiles.{Tiles}
 use Rattle.tile_run.proofs.Truths.{layout_true}
 
-module _ (job : Pipeline) (inlining : List Bool) (stages : List Tiles) (g : ℕ) (grid : Grid) (ready : IsReady job inlining stages g grid) where
+module _ (job : Pipeline) (inlining : List Bool) (stages : List Tiles) (g : ℕ) (grid : Grid) (good : IsJob job) (ready : IsStageReady job inlining stages g grid) where
   -- what is stored has as many numbers as points
   pub whole : AreWhole job (stored_tiles stages)
   whole h s there i j xs tile found = ap length (ready.lower.right h s there i j xs tile found) ∙ raster_len (tile_area (grid_of job s) i j) (value job h)
@@ -56,11 +58,11 @@ module _ (job : Pipeline) (inlining : List Bool) (stages : List Tiles) (g : ℕ)
           function = sym (ap (λ (o : Option Stage). option_map_or (λ s. is_function_body s.body) o false) at.there) ∙ boxed.0;
           stored = not-true (is_inlined inlining n.stage) both.1;
         } in
-        let low = subst (λ k. k < rank_of job.stages g) (rank_is job.stages n.stage at.stage at.there) (box_low of_tile (ranked_is job ready.is_job) n.stage needed.area needed.boxed) in
+        let low = subst (λ k. k < rank_of job.stages g) (rank_is job.stages n.stage at.stage at.there) (box_low of_tile (ranked_is job good) n.stage needed.area needed.boxed) in
         (_, ready.lower.lower n.stage at.stage function low n.row n.col (subst (λ (d : Grid). HasTile d n.row n.col) (sym at.is) needed.meets.there))
 
-    pub all_given : AreGiven (stored_tiles stages) l.needs
-    all_given n k = gives n (from_needs of_tile n ready.is_job (subst (λ (ns : List Tile). Contains ns n) is.layout.layout.needs k))
+    pub all_given : NeedsGiven (stored_tiles stages) l.needs
+    all_given n k = gives n (from_needs of_tile n good (subst (λ (ns : List Tile). Contains ns n) is.layout.layout.needs k))
 
     same_area : is.area ≡ tile_area grid i j
     same_area =
@@ -71,7 +73,7 @@ module _ (job : Pipeline) (inlining : List Bool) (stages : List Tiles) (g : ℕ)
     -- its local values are its values
     pub values_are : (xs : List ℤ) → AreLocalOn job inlining (stored_tiles stages) g i j xs → xs ≡ tile_values job g grid i j
     values_are xs local =
-        layout_true job inlining (stored_tiles stages) l g i j is ready.is_job all_given ready.lower.right xs local is.area is.tile
+        layout_true job inlining (stored_tiles stages) l g i j is good all_given ready.lower.right xs local is.area is.tile
         ∙ ap (λ (a : Area). raster a (value job g)) same_area
 
 -- ---- all of a job

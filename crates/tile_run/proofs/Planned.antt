@@ -26,8 +26,8 @@ use Rattle.tile_eval.specs.Buffer.{raster}
 use Rattle.tile_eval.specs.declared.buffers.Buffer.{Buffer}
 use Rattle.tile_run.specs.KnownTiles.{KnownTiles}
 use Rattle.tile_run.specs.Local.{local_value}
-use Rattle.tile_run.specs.Runs.{is_missing, first_missing, AreGiven, AreLocalOn}
-use Rattle.tile_run.specs.Steps.{AreComputed, AreRunnable, IsReadyOver}
+use Rattle.tile_run.specs.Runs.{is_missing, first_missing, NeedsGiven, AreLocalOn}
+use Rattle.tile_run.specs.inside.Steps.{AreComputed, AreRunnable, IsReadyOver}
 use Rattle.tile_run.proofs.Bridging.{inner_runnable, target_ready}
 
 pub none_found : {X : Type 0} → (p : X → Bool) (xs : List X) → find p xs ≡ None → (x : X) → Contains xs x → p x ≡ false
@@ -67,7 +67,7 @@ not_empty steps inner last none are =
     absurd (omega (arith, size, zero_long, length-append inner (last ∷ [])))
 
 -- where no key is missing, the tile of each is given
-pub keys_given : (given : KnownTiles) (keys : List Key) → first_missing given keys ≡ None → AreGiven given (map key_tile keys)
+pub keys_given : (given : KnownTiles) (keys : List Key) → first_missing given keys ≡ None → NeedsGiven given (map key_tile keys)
 keys_given given keys none n needed =
     let key = Contains-from_map key_tile keys n needed in
     let found = some_of (given key.0.stage key.0.row key.0.col) (none_found (is_missing given) keys none key.0 key.1) in
@@ -83,8 +83,8 @@ module _ (job : Pipeline) (inlining : List Bool) (given : KnownTiles) (l : Layou
   pub layout_steps : l.steps ≡ inner_steps of_tile ++ (g, is.area) ∷ []
   layout_steps = is.layout.layout.steps
 
-  gives : AreGiven given l.needs → AreGiven given (needs of_tile)
-  gives are_given = subst (AreGiven given) is.layout.layout.needs are_given
+  gives : NeedsGiven given l.needs → NeedsGiven given (needs of_tile)
+  gives are_given = subst (NeedsGiven given) is.layout.layout.needs are_given
 
   -- a layout knows the inlining that it was made by
   pub own_layout : IsTileLayout job l.inlining g i j l
@@ -93,7 +93,7 @@ module _ (job : Pipeline) (inlining : List Bool) (given : KnownTiles) (l : Layou
   pub by_own : (P : List Bool → Type 0) → P l.inlining → P inlining
   by_own P h = subst P is.layout.layout.inlining h
 
-  pub layout_runnable : IsJob job → AreGiven given l.needs → AreRunnable job inlining given (inner_steps of_tile)
+  pub layout_runnable : IsJob job → NeedsGiven given l.needs → AreRunnable job inlining given (inner_steps of_tile)
   layout_runnable good are_given = inner_runnable of_tile good given (gives are_given) (target good)
 
   pub layout_area : IsJob job → IsArea is.area
@@ -106,7 +106,7 @@ module _ (job : Pipeline) (inlining : List Bool) (given : KnownTiles) (l : Layou
       is.tile.is ∙ ap (λ (d : Grid). tile_area d i j) grid ∙ sym at.is
 
   -- after the inner steps all that the tile reads is at hand
-  pub layout_ready : IsJob job → AreGiven given l.needs → (buffers : List (Option Buffer)) → AreComputed (inner_steps of_tile) (length (inner_steps of_tile)) buffers
+  pub layout_ready : IsJob job → NeedsGiven given l.needs → (buffers : List (Option Buffer)) → AreComputed (inner_steps of_tile) (length (inner_steps of_tile)) buffers
       → (area : Area) → IsTileAt job g i j area → IsReadyOver job inlining given buffers g area
   layout_ready good are_given buffers done area at =
       subst (IsReadyOver job inlining given buffers g) (only_area area at) (target_ready of_tile good given (gives are_given) (target good) buffers done)

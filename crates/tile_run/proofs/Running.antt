@@ -4,17 +4,16 @@ use Rattle.std.specs.Option.{option_map}
 use Rattle.std.proofs.lemmas.Bool.{cases_eq, cases_lt}
 use Rattle.std.proofs.lemmas.List.{get_or_append_left, get_or-replicate, length-append, length-replicate}
 use Rattle.std.proofs.lemmas.Option.{none-some, slice_get-map, slice_get_read, slice_get_within, slice_get-get_or, get_or_from_slice_get}
-use Rattle.domains.specs.Area.{HoldsPoint}
+use Rattle.domains.specs.Area.{HoldsPoint, IsArea, IsSubarea}
 use Rattle.domains.specs.declared.area.Area.{Area}
-use Rattle.job.specs.Pipeline.{Body, Pipeline}
-use Rattle.job.specs.WellFormed.{IsBody, IsJob}
+use Rattle.job.specs.Pipeline.{Body, plane, Stage, Pipeline}
+use Rattle.job.specs.WellFormed.{picture_area, IsBody, IsJob}
 use Rattle.overlap_tiles.specs.declared.steps.Step.{Step}
 use Rattle.overlap_tiles.specs.Views.{step_view}
 use Rattle.tile_eval.specs.Buffer.{IsKnownAt}
 use Rattle.tile_eval.specs.declared.buffers.Buffer.{Buffer}
 use Rattle.tile_run.specs.KnownTiles.{KnownTiles}
-use Rattle.tile_run.specs.Local.{HaveAreas, PlanesLie}
-use Rattle.tile_run.specs.Steps.{AreLocal, AreComputed, AreRunnable}
+use Rattle.tile_run.specs.inside.Steps.{AreLocal, AreComputed, AreRunnable}
 
 -- ---- the first steps of a list
 
@@ -56,6 +55,16 @@ computed_next job inlining given steps n g a buffers new run here done this othe
 
 -- ---- before the first step
 
+-- planes of the picture have its sides
+abbrev pub PlanesLie : Pipeline → Type 0
+PlanesLie job =
+    (g n : ℕ) (s : Stage) → slice_get job.stages g ≡ Some s → s.body ≡ plane n
+    → (n < length job.picture.planes) × IsSubarea s.domain (picture_area job.picture)
+
+-- domains are areas
+abbrev pub HaveAreas : Pipeline → Type 0
+HaveAreas job = (g : ℕ) (s : Stage) → slice_get job.stages g ≡ Some s → IsArea s.domain
+
 module _ (job : Pipeline) (is : IsJob job) where
   pub have_areas : HaveAreas job
   have_areas g s there = let stage = is.stages g s there in record { rows = stage.rows.span; cols = stage.cols.span }
@@ -82,9 +91,3 @@ none_known job inlining given n buffers none = λ g r c known.
 -- the step at a place of a list
 pub step_at : (steps : List Step) (k : ℕ) (s : Step) → k < length steps → s ≡ slice_index_or steps k s → slice_get (map step_view steps) k ≡ Some (step_view s)
 step_at steps k s there is = slice_get-map step_view steps k ∙ ap (option_map step_view) (slice_get_read steps (length steps) k s refl there is)
-
--- ---- what stays the same
-
--- what holds of three values holds of equal ones
-pub carry : {A B C : Type 0} → (P : A → B → C → Type 0) {a x : A} {b y : B} {c z : C} → x ≡ a → y ≡ b → z ≡ c → P a b c → P x y z
-carry P {a = a} {x = x} {b = b} {y = y} {c = c} {z = z} p q r h = subst (λ k. P k y z) (sym p) (subst (λ k. P a k z) (sym q) (subst (P a b) (sym r) h))

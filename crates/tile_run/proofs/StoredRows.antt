@@ -15,9 +15,8 @@ use Rattle.job.specs.WellFormed.{IsJob}
 use Rattle.tile_eval.specs.Rows.{EachPlace}
 use Rattle.tile_eval.specs.Buffer.{raster}
 use Rattle.tile_eval.proofs.Rasters.{raster_len, raster_at}
-use Rattle.tile_run.specs.KnownTiles.{KnownTiles, number_in, number_at, HasWholeTiles}
+use Rattle.tile_run.specs.KnownTiles.{KnownTiles, number_in, number_at, HasWholeTiles, IsGivenAt}
 use Rattle.tile_run.specs.Stored.{IsStoredLine}
-use Rattle.tile_run.specs.Tiles.{IsGivenAt}
 use Rattle.tile_run.proofs.LocalValues.{grid_is}
 
 -- the tiles of a stage are those of its grid

@@ -13,7 +13,7 @@ use Rattle.job.specs.Answers.{grid_of}
 use Rattle.job.specs.Pipeline.{Stage, Pipeline}
 use Rattle.tile_run.specs.KnownTiles.{AreTrue}
 use Rattle.tile_run.specs.Stored.{numbers_in, tile_numbers, stored_tiles, IsStoredFunction, GivesTilesOf}
-use Rattle.tile_run.specs.Running.{row_numbers, tile_values, row_values, grid_values, AreTilesOf, AreStored}
+use Rattle.tile_run.specs.inside.Running.{row_numbers, tile_values, row_values, grid_values, AreTilesOf, AreStored}
 use Rattle.tile_run.specs.declared.stored.TileRow.{TileRow}
 use Rattle.tile_run.specs.declared.stored.Tiles.{Tiles}
 

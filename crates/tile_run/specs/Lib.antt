@@ -1,9 +1,7 @@
 pub mod KnownTiles
-pub mod Tiles
 pub mod Local
 pub mod Prepared
-pub mod Steps
 pub mod Runs
 pub mod Stored
-pub mod Running
 pub mod Work
+pub mod inside

@@ -1,14 +1,12 @@
 -- The value of a stage at a point by the numbers that are given of stored functions.
-use Rattle.std.specs.Prelude.{ℕ, zero, suc, ◌<◌, ◌≡◌, ℤ, pos, Bool, true, false, if◌then◌else◌, Option, Some, None, List, length, slice_get}
-use Rattle.domains.specs.Area.{HoldsPoint, IsArea, IsSubarea}
+use Rattle.std.specs.Prelude.{ℕ, zero, suc, ◌≡◌, ℤ, pos, Bool, true, false, if◌then◌else◌, Option, Some, None, List, slice_get}
+use Rattle.domains.specs.Area.{HoldsPoint}
 use Rattle.job.specs.Pipeline.{Body, plane, function, accumulator, Stage, Pipeline, rank_of}
 use Rattle.job.specs.Answers.{grid_of}
 use Rattle.job.specs.Reads.{BodyReads}
 use Rattle.job.specs.Values.{Valuation, sample_at, stage_value}
-use Rattle.job.specs.WellFormed.{picture_area}
 use Rattle.grouping.specs.Schedules.{is_inlined}
-use Rattle.tile_run.specs.KnownTiles.{KnownTiles, given_number}
-use Rattle.tile_run.specs.Tiles.{IsGivenAt}
+use Rattle.tile_run.specs.KnownTiles.{KnownTiles, given_number, IsGivenAt}
 
 -- ---- what is read
 
@@ -56,16 +54,6 @@ StageAtHand job inlining given Inner g (Some s) r c = BodyAtHand job inlining gi
 
 abbrev pub IsAtHand : Pipeline → List Bool → KnownTiles → (ℕ → ℤ → ℤ → Type 0) → ℕ → ℤ → ℤ → Type 0
 IsAtHand job inlining given Inner g r c = StageAtHand job inlining given Inner g (slice_get job.stages g) r c
-
--- planes of the picture have its sides
-abbrev pub PlanesLie : Pipeline → Type 0
-PlanesLie job =
-    (g n : ℕ) (s : Stage) → slice_get job.stages g ≡ Some s → s.body ≡ plane n
-    → (n < length job.picture.planes) × IsSubarea s.domain (picture_area job.picture)
-
--- domains are areas
-abbrev pub HaveAreas : Pipeline → Type 0
-HaveAreas job = (g : ℕ) (s : Stage) → slice_get job.stages g ≡ Some s → IsArea s.domain
 
 -- ---- points that are computed
 

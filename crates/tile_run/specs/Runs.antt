@@ -51,15 +51,6 @@ pub record IsSomeLayout (job : Pipeline) (l : Layout) : Type 0 where
   pub col : ℕ
   pub layout : IsTileLayout job inlining stage row col l
 
--- and that of a tile of a function
-pub record IsFunctionLayout (job : Pipeline) (l : Layout) : Type 0 where
-  pub inlining : List Bool
-  pub stage : ℕ
-  pub row : ℕ
-  pub col : ℕ
-  pub layout : IsTileLayout job inlining stage row col l
-  pub function : is_function job stage ≡ true
-
 -- each of these tiles is given
-abbrev pub AreGiven : KnownTiles → List Tile → Type 0
-AreGiven given needs = (n : Tile) → Contains needs n → (xs : List ℤ) × (given n.stage n.row n.col ≡ Some xs)
+abbrev pub NeedsGiven : KnownTiles → List Tile → Type 0
+NeedsGiven given needs = (n : Tile) → Contains needs n → (xs : List ℤ) × (given n.stage n.row n.col ≡ Some xs)

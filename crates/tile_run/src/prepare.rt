@@ -4,11 +4,10 @@
 ghost use Rattle.std.specs.Prelude.{◌≡◌, ◌++◌, ◌∷◌, [], ℕ, List, map, IfOk};
 ghost use Rattle.domains.specs.declared.area.Area.{Area};
 ghost use Rattle.job.specs.Kept.{pipeline_in};
-ghost use Rattle.job.specs.WellFormed.{IsJob};
 ghost use Rattle.overlap_tiles.specs.Plans.{IsTileLayout};
 ghost use Rattle.overlap_tiles.specs.Views.{step_view};
 ghost use Rattle.tile_run.specs.Prepared.{IsPreparedOn};
-ghost use Rattle.tile_run.specs.Runs.{AreGiven, IsSomeLayout};
+ghost use Rattle.tile_run.specs.Runs.{NeedsGiven, IsSomeLayout};
 
 use crate::buffers::Scratch;
 use crate::known::Known;
@@ -34,9 +33,8 @@ impl<K: Known> TileJob<'_, K> {
     ///
     /// Fails only where memory is refused.
     pub fn prepare(&self, alloc: Global, scratch: &mut Scratch) -> Result<StageBuffers, AllocError>
-        requires job { IsJob (pipeline_in self.now.job.now) }
         requires layout { IsSomeLayout (pipeline_in self.now.job.now) self.now.layout.now }
-        requires needs { AreGiven (K.given self.now.known.now) self.now.layout.now.needs }
+        requires needs { NeedsGiven (K.given self.now.known.now) self.now.layout.now.needs }
         ensures { IfOk result (λ boxes. (g i j : ℕ) → IsTileLayout (pipeline_in self.now.job.now) self.now.layout.now.inlining g i j self.now.layout.now → IsPreparedOn (pipeline_in self.now.job.now) self.now.layout.now.inlining (K.given self.now.known.now) boxes g i j) }
     {
         let mut boxes = StageBuffers::none(alloc, self.job.stages().len())?;

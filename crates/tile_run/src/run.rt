@@ -6,14 +6,14 @@ ghost use Rattle.domains.specs.Area.{IsArea};
 ghost use Rattle.domains.specs.declared.area.Area.{Area};
 ghost use Rattle.grouping.specs.Schedules.{is_function};
 ghost use Rattle.job.specs.Kept.{pipeline_in, program_id_in};
-ghost use Rattle.job.specs.WellFormed.{IsJob};
 ghost use Rattle.overlap_tiles.specs.Plans.{IsTilePlan, IsTileLayout};
 ghost use Rattle.overlap_tiles.specs.Views.{step_view};
 ghost use Rattle.tile_eval.specs.Buffer.{raster};
 ghost use Rattle.tile_run.specs.KnownTiles.{AreTrue, AreWhole};
 ghost use Rattle.tile_run.specs.Local.{local_value};
 ghost use Rattle.tile_run.specs.Prepared.{IsPrepared};
-ghost use Rattle.tile_run.specs.Runs.{is_missing, first_missing, AreLocalOn, AreValuesOn, AreGiven, IsFunctionPlan, IsFunctionLayout, IsEvalFault};
+ghost use Rattle.tile_run.specs.Runs.{is_missing, first_missing, AreLocalOn, AreValuesOn, NeedsGiven, IsFunctionPlan, IsEvalFault};
+ghost use Rattle.tile_run.specs.inside.Layouts.{IsFunctionLayout};
 
 use crate::buffers::Scratch;
 use crate::fault::EvalFault;
@@ -62,7 +62,6 @@ impl<K: Known> TileJob<'_, K> {
         step: &Step,
         scratch: &mut Scratch,
     ) -> Result<Vec<i32>, AllocError>
-        requires job { IsJob (pipeline_in self.now.job.now) }
         requires function { is_function (pipeline_in self.now.job.now) step.now.stage ≡ true }
         requires area { IsArea step.now.area }
         requires prepared { IsPrepared (pipeline_in self.now.job.now) self.now.layout.now.inlining (K.given self.now.known.now) boxes.now step.now.stage step.now.area }
@@ -83,9 +82,8 @@ impl<K: Known> TileJob<'_, K> {
     ///
     /// Fails only where memory is refused.
     pub(crate) fn run(&self, alloc: Global, scratch: &mut Scratch) -> Result<Vec<i32>, AllocError>
-        requires job { IsJob (pipeline_in self.now.job.now) }
         requires layout { IsFunctionLayout (pipeline_in self.now.job.now) self.now.layout.now }
-        requires needs { AreGiven (K.given self.now.known.now) self.now.layout.now.needs }
+        requires needs { NeedsGiven (K.given self.now.known.now) self.now.layout.now.needs }
         ensures { IfOk result (λ values. (inlining : List Bool) (g i j : ℕ) → IsTileLayout (pipeline_in self.now.job.now) inlining g i j self.now.layout.now → AreLocalOn (pipeline_in self.now.job.now) inlining (K.given self.now.known.now) g i j values.items) }
     {
         let Some(last) = last_of(self.layout.steps()) else {
@@ -111,7 +109,6 @@ pub fn run_tile<K: Known>(
     scratch: &mut Scratch,
     known: &K,
 ) -> Result<Vec<i32>, EvalFault>
-    requires job { IsJob (pipeline_in job.now) }
     requires whole { AreWhole (pipeline_in job.now) (K.given known.now) }
     requires plan { IsFunctionPlan (program_id_in job.now) (pipeline_in job.now) plan.now }
     ensures values { IfOk result (λ values. (inlining : List Bool) (g i j : ℕ) → IsTilePlan (program_id_in job.now) (pipeline_in job.now) inlining g i j plan.now → AreLocalOn (pipeline_in job.now) inlining (K.given known.now) g i j values.items) }

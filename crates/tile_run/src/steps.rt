@@ -8,10 +8,9 @@ ghost use Rattle.domains.specs.Area.{HoldsPoint, IsArea};
 ghost use Rattle.grouping.specs.Schedules.{is_function};
 ghost use Rattle.job.specs.Kept.{pipeline_in};
 ghost use Rattle.job.specs.Views.{case_view, formula_view};
-ghost use Rattle.job.specs.WellFormed.{IsJob};
 ghost use Rattle.overlap_tiles.specs.Views.{step_view};
 ghost use Rattle.tile_eval.specs.Buffer.{IsKnownAt};
-ghost use Rattle.tile_run.specs.Steps.{IsFunctionAt, AreLocal, AreComputed, AreRunnable, IsReadyOver};
+ghost use Rattle.tile_run.specs.inside.Steps.{IsFunctionAt, AreLocal, AreComputed, AreRunnable, IsReadyOver};
 
 use crate::buffers::Scratch;
 use crate::known::Known;
@@ -46,7 +45,6 @@ impl<K: Known> TileJob<'_, K> {
         area: &Area,
         scratch: &mut Scratch,
     ) -> Result<(), AllocError>
-        requires job { IsJob (pipeline_in self.now.job.now) }
         requires function { IsFunctionAt (pipeline_in self.now.job.now) number (map case_view function.now.cases.items) (option_map formula_view function.now.otherwise) }
         requires area { IsArea area.now }
         requires room { number < length boxes.old.buffers.items }
@@ -76,7 +74,6 @@ impl<K: Known> TileJob<'_, K> {
         place: usize,
         scratch: &mut Scratch,
     ) -> Result<(), AllocError>
-        requires job { IsJob (pipeline_in self.now.job.now) }
         requires room { length boxes.old.buffers.items ≡ length (pipeline_in self.now.job.now).stages }
         requires there { place < length steps.now }
         requires runnable { AreRunnable (pipeline_in self.now.job.now) self.now.layout.now.inlining (K.given self.now.known.now) (map step_view steps.now) }
@@ -101,7 +98,6 @@ impl<K: Known> TileJob<'_, K> {
         steps: &[Step],
         scratch: &mut Scratch,
     ) -> Result<(), AllocError>
-        requires job { IsJob (pipeline_in self.now.job.now) }
         requires room { length boxes.old.buffers.items ≡ length (pipeline_in self.now.job.now).stages }
         requires runnable { AreRunnable (pipeline_in self.now.job.now) self.now.layout.now.inlining (K.given self.now.known.now) (map step_view steps.now) }
         requires local { AreLocal (pipeline_in self.now.job.now) self.now.layout.now.inlining (K.given self.now.known.now) boxes.old.buffers.items }

@@ -25,11 +25,10 @@ impl<K: Known> TileInputs<'_, K> {
     ghost use Rattle.std.specs.Option.{option_map};
     ghost use Rattle.domains.specs.Area.{IsArea};
     ghost use Rattle.job.specs.Views.{case_view, formula_view};
-    ghost use Rattle.job.specs.WellFormed.{IsJob};
     ghost use Rattle.tile_eval.specs.Buffer.{raster};
     ghost use Rattle.tile_run.specs.Local.{local_value};
     ghost use Rattle.tile_run.specs.Prepared.{IsPrepared};
-    ghost use Rattle.tile_run.specs.Steps.{IsFunctionAt};
+    ghost use Rattle.tile_run.specs.inside.Steps.{IsFunctionAt};
 
     // Writes the values of a function over an area of its domain, row by row, where all that it reads there is at hand. What the
     // vectors hold before means nothing; their memory is used again.
@@ -41,7 +40,6 @@ impl<K: Known> TileInputs<'_, K> {
         values: &mut Vec<i32>,
         temps: &mut Vec<i32>,
     ) -> Result<(), AllocError>
-        requires job { IsJob (pipeline_in self.now.tile.job.now) }
         requires function { IsFunctionAt (pipeline_in self.now.tile.job.now) number (map case_view function.now.cases.items) (option_map formula_view function.now.otherwise) }
         requires area { IsArea area.now }
         requires prepared { IsPrepared (pipeline_in self.now.tile.job.now) self.now.tile.layout.now.inlining (K.given self.now.tile.known.now) self.now.boxes.now number area.now }

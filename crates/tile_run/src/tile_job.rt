@@ -6,7 +6,6 @@ ghost use Rattle.job.specs.Answers.{grid_of};
 ghost use Rattle.job.specs.Kept.{pipeline_in};
 ghost use Rattle.job.specs.Views.{stage_view};
 ghost use Rattle.tile_run.specs.KnownTiles.{AreWhole};
-ghost use Rattle.tile_run.specs.Local.{HaveAreas, PlanesLie};
 
 use crate::known::Known;
 use crate::tiles_of_stage::TilesOfStage;
@@ -20,8 +19,6 @@ pub struct TileJob<'a, K: Known> {
     pub job: &'a Job,
     pub layout: &'a Layout<'a>,
     pub known: &'a K,
-    ghost areas: { HaveAreas (pipeline_in job.now) },
-    ghost planes: { PlanesLie (pipeline_in job.now) },
     ghost whole: { AreWhole (pipeline_in job.now) (K.given known.now) },
 }
 

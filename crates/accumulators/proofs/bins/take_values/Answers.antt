@@ -2,7 +2,7 @@ use Rattle.std.proofs.Common.{rules, arith, ◌<◌, ◌+ℤ◌, pos, suc, drop,
 use Rattle.std.proofs.lemmas.Int.{to_z-of_z}
 use Rattle.std.specs.Ordering.{int_eq}
 use Rattle.tile_eval.specs.Rows.{at}
-use Rattle.accumulators.specs.Gathering.{once_came, after_values, values_of_bin}
+use Rattle.accumulators.specs.inside.Gathering.{once_came, after_values, values_of_bin}
 use Rattle.accumulators.proofs.Taking.{came_one, values_left}
 use Rattle.accumulators.proofs.bins.take_values.Goals as goal
 

@@ -1,6 +1,6 @@
 use Rattle.std.proofs.Common.{◌≡◌, ◌+ℤ◌, pos, drop, length}
 use Rattle.tile_eval.specs.Rows.{EachPlace, at}
-use Rattle.accumulators.specs.Gathering.{after_values, values_of_bin}
+use Rattle.accumulators.specs.inside.Gathering.{after_values, values_of_bin}
 use Rattle.accumulators.proofs.bins.take_values.Given as goal
 
 -- the bins so far, and the values that are left

@@ -6,7 +6,7 @@ use Rattle.job.specs.Views.{formula_view}
 use Rattle.tile_eval.specs.Reading.{ReadsWithin}
 use Rattle.tile_eval.specs.Rows.{at}
 use Rattle.tile_eval.proofs.Gathering.{reads_along}
-use Rattle.accumulators.specs.Gathering.{after_values, values_of_bin}
+use Rattle.accumulators.specs.inside.Gathering.{after_values, values_of_bin}
 use Rattle.accumulators.proofs.Taking.{row_is, row_values}
 use Rattle.accumulators.proofs.gather.gather_row.Goals as goal
 

@@ -3,8 +3,8 @@ use Rattle.domains.specs.Span.{len_of}
 use Rattle.job.specs.Values.{Valuation, formula_value}
 use Rattle.job.specs.Views.{formula_view}
 use Rattle.tile_eval.specs.Rows.{at}
-use Rattle.accumulators.specs.Accumulating.{ReadsAt}
-use Rattle.accumulators.specs.Gathering.{after_values, values_among, points_along}
+use Rattle.accumulators.specs.inside.Accumulating.{ReadsAt}
+use Rattle.accumulators.specs.inside.Gathering.{after_values, values_among, points_along}
 use Rattle.accumulators.proofs.Taking.{counted_held, took_row}
 use Rattle.accumulators.proofs.gather.gather_rows.Goals as goal
 

@@ -4,7 +4,7 @@ use Rattle.domains.specs.Span.{len_of}
 use Rattle.job.specs.Values.{formula_value}
 use Rattle.job.specs.Views.{formula_view}
 use Rattle.tile_eval.specs.Rows.{EachPlace, at}
-use Rattle.accumulators.specs.Gathering.{after_values, values_among}
+use Rattle.accumulators.specs.inside.Gathering.{after_values, values_among}
 use Rattle.accumulators.proofs.Taking.{points_from}
 use Rattle.accumulators.proofs.gather.gather_rows.Given as goal
 

@@ -18,20 +18,20 @@ gather-requires-clause-rows g c =
     let tile = c.args.inputs.now.tile in
     let step = c.args.step.now in
     (prepared_near (pipeline_in tile.job.now) tile.layout.now.inlining (g.K.Known.given tile.known.now) c.args.inputs.now.boxes.now step.stage (stage_view c.in-Some.found.now) (sym c.in-Some.ensures) step.area
-    c.requires.prepared c.requires.job c.requires.area).0
+    c.requires.prepared c.args.inputs.now.tile.job.now.well c.requires.area).0
 
 pub gather-requires-clause-cols : goal.gather-requires-clause-cols
 gather-requires-clause-cols g c =
     let tile = c.args.inputs.now.tile in
     let step = c.args.step.now in
     (prepared_near (pipeline_in tile.job.now) tile.layout.now.inlining (g.K.Known.given tile.known.now) c.args.inputs.now.boxes.now step.stage (stage_view c.in-Some.found.now) (sym c.in-Some.ensures) step.area
-    c.requires.prepared c.requires.job c.requires.area).1
+    c.requires.prepared c.args.inputs.now.tile.job.now.well c.requires.area).1
 
 pub gather-requires-clause-formulas : goal.gather-requires-clause-formulas
 gather-requires-clause-formulas g c =
     let job = pipeline_in c.args.inputs.now.tile.job.now in
     let s : Stage = stage_view c.in-Some.found.now in
-    has_formulas job s c.in-Accumulator.accumulator (c.requires.job.stages c.args.step.now.stage s (sym c.in-Some.ensures)) (ap body_view (sym c.body.ensures ∙ c.in-Accumulator.is))
+    has_formulas job s c.in-Accumulator.accumulator (c.args.inputs.now.tile.job.now.well.stages c.args.step.now.stage s (sym c.in-Some.ensures)) (ap body_view (sym c.body.ensures ∙ c.in-Accumulator.is))
 
 pub gather-requires-clause-reads : goal.gather-requires-clause-reads
 gather-requires-clause-reads g c = λ r k inside.

@@ -1,18 +1,10 @@
 use Rattle.std.proofs.Common.{rules, ◌≡◌, None, sym, subst}
 use Rattle.job.specs.Kept.{pipeline_in, program_id_in}
 use Rattle.overlap_tiles.specs.Plans.{Layout}
-use Rattle.tile_run.specs.Runs.{first_missing, AreGiven}
+use Rattle.tile_run.specs.Runs.{first_missing, NeedsGiven}
 use Rattle.tile_run.proofs.Planned.{keys_given}
-use Rattle.tile_run.proofs.Running.{have_areas, planes_lie}
 use Rattle.accumulators.proofs.Truths.{layout_totals_true}
 use Rattle.accumulators.proofs.partials.partial.Goals as goal
-
-pub invariant_of-tile : goal.invariant_of-tile
-invariant_of-tile g c = record {
-  areas = have_areas (pipeline_in c.args.job.now) c.requires.job;
-  planes = planes_lie (pipeline_in c.args.job.now) c.requires.job;
-  whole = c.requires.whole;
-}
 
 pub tile_totals-requires-clause-layout : goal.tile_totals-requires-clause-layout
 tile_totals-requires-clause-layout g c =
@@ -29,7 +21,7 @@ pub tile_totals-requires-clause-needs : goal.tile_totals-requires-clause-needs
 tile_totals-requires-clause-needs g c =
     let given = g.K.Known.given c.args.known.now in
     let none : first_missing given c.args.plan.now.needs ≡ None = search rules in
-    subst (λ (l : Layout). AreGiven given l.needs) (sym c.layout.ensures.same) (keys_given given c.args.plan.now.needs none)
+    subst (λ (l : Layout). NeedsGiven given l.needs) (sym c.layout.ensures.same) (keys_given given c.args.plan.now.needs none)
 
 pub returns-clause-totals : goal.returns-clause-totals
 returns-clause-totals g c = λ inlining k i j is.
@@ -41,5 +33,5 @@ returns-clause-right g c = λ right inlining k i j is.
     let given = g.K.Known.given c.args.known.now in
     let layout = c.layout.ensures.tile (program_id_in c.args.job.now) job inlining k i j is in
     let none : first_missing given c.args.plan.now.needs ≡ None = search rules in
-    let are_given = subst (λ (l : Layout). AreGiven given l.needs) (sym c.layout.ensures.same) (keys_given given c.args.plan.now.needs none) in
-    layout_totals_true job inlining given c.layout.result.now k i j layout c.requires.job are_given right c.in_ok-bins.bins.items (c.in_ok-bins.ensures inlining k i j layout)
+    let are_given = subst (λ (l : Layout). NeedsGiven given l.needs) (sym c.layout.ensures.same) (keys_given given c.args.plan.now.needs none) in
+    layout_totals_true job inlining given c.layout.result.now k i j layout c.args.job.now.well are_given right c.in_ok-bins.bins.items (c.in_ok-bins.ensures inlining k i j layout)

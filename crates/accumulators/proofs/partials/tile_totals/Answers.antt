@@ -15,7 +15,7 @@ gather_step-requires-clause-area g c =
     let l = c.args.tile.now.layout.now in
     let some = c.requires.layout in
     let end = last_is step_view c.steps.result.now job some.inlining some.stage some.row some.col l some.layout c.steps.ensures c.in-Some.step.now c.in-Some.ensures.value in
-    subst IsArea (sym (ap (λ (x : ℕ × Area). x.1) end)) (layout_area job some.inlining (g.K.Known.given c.args.tile.now.known.now) l some.stage some.row some.col some.layout c.requires.job)
+    subst IsArea (sym (ap (λ (x : ℕ × Area). x.1) end)) (layout_area job some.inlining (g.K.Known.given c.args.tile.now.known.now) l some.stage some.row some.col some.layout c.args.tile.now.job.now.well)
 
 pub gather_step-requires-clause-prepared : goal.gather_step-requires-clause-prepared
 gather_step-requires-clause-prepared g c =

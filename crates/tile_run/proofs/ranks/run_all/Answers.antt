@@ -8,10 +8,15 @@ use Rattle.tile_run.proofs.Fitting.{stored_fit}
 use Rattle.tile_run.proofs.Making.{all_stored}
 use Rattle.tile_run.proofs.ranks.run_all.Goals as goal
 
-pub through-requires-clause-fit : goal.through-requires-clause-fit
-through-requires-clause-fit c = stored_fit (pipeline_in c.args.job.now) c.args.schedule.now.inlining
-    (nothing_of (key_of (program_id_in c.args.job.now) (pipeline_in c.args.job.now)) (first_too_big (pipeline_in c.args.job.now) c.args.schedule.now.inlining (is_stored_function (pipeline_in c.args.job.now) c.args.schedule.now.inlining))
-    (sym c.in_default.is ∙ c.in_ok-key.ensures))
+pub through-requires : goal.through-requires
+through-requires c =
+    let job = pipeline_in c.args.job.now in
+    let inlining = c.args.schedule.now.inlining in
+    record {
+      fit = stored_fit job inlining
+          (nothing_of (key_of (program_id_in c.args.job.now) job) (first_too_big job inlining (is_stored_function job inlining))
+          (sym c.in_default.is ∙ c.in_ok-key.ensures));
+    }
 
 pub returns-clause-all : goal.returns-clause-all
 returns-clause-all c =

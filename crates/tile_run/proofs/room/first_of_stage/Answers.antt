@@ -2,8 +2,11 @@ use Rattle.std.proofs.Common.{ℕ, ap, sym, ◌∙◌, Some}
 use Rattle.std.specs.Option.{option_map}
 use Rattle.job.specs.Kept.{pipeline_in, program_id_in}
 use Rattle.overlap_tiles.specs.Needs.{key_of, tile_of_stage}
-use Rattle.tile_run.proofs.Fitting.{first_key}
+use Rattle.tile_run.proofs.Fitting.{number_fits, first_key}
 use Rattle.tile_run.proofs.room.first_of_stage.Goals as goal
+
+pub key_at-requires : goal.key_at-requires
+key_at-requires c = number_fits (pipeline_in c.args.job.now) c.args.job.now.well c.args.stage c.in-Some.grid (sym c.in-Some.ensures)
 
 pub returns-in-Some-2 : goal.returns-in-Some-2
 returns-in-Some-2 c =

@@ -1,18 +1,10 @@
 use Rattle.std.proofs.Common.{rules, ◌≡◌, None, sym, subst}
 use Rattle.job.specs.Kept.{pipeline_in, program_id_in}
 use Rattle.overlap_tiles.specs.Plans.{Layout}
-use Rattle.tile_run.specs.Runs.{first_missing, AreGiven}
+use Rattle.tile_run.specs.Runs.{first_missing, NeedsGiven}
 use Rattle.tile_run.proofs.Planned.{keys_given}
-use Rattle.tile_run.proofs.Running.{have_areas, planes_lie}
 use Rattle.tile_run.proofs.Truths.{layout_true}
 use Rattle.tile_run.proofs.run.run_tile.Goals as goal
-
-pub invariant_of-tile : goal.invariant_of-tile
-invariant_of-tile g c = record {
-  areas = have_areas (pipeline_in c.args.job.now) c.requires.job;
-  planes = planes_lie (pipeline_in c.args.job.now) c.requires.job;
-  whole = c.requires.whole;
-}
 
 pub run-requires-clause-layout : goal.run-requires-clause-layout
 run-requires-clause-layout g c =
@@ -30,7 +22,7 @@ pub run-requires-clause-needs : goal.run-requires-clause-needs
 run-requires-clause-needs g c =
     let given = g.K.Known.given c.args.known.now in
     let none : first_missing given c.args.plan.now.needs ≡ None = search rules in
-    subst (λ (l : Layout). AreGiven given l.needs) (sym c.layout.ensures.same) (keys_given given c.args.plan.now.needs none)
+    subst (λ (l : Layout). NeedsGiven given l.needs) (sym c.layout.ensures.same) (keys_given given c.args.plan.now.needs none)
 
 pub returns-clause-values : goal.returns-clause-values
 returns-clause-values g c = λ inlining k i j is.
@@ -42,5 +34,5 @@ returns-clause-right g c = λ right inlining k i j is.
     let given = g.K.Known.given c.args.known.now in
     let layout = c.layout.ensures.tile (program_id_in c.args.job.now) job inlining k i j is in
     let none : first_missing given c.args.plan.now.needs ≡ None = search rules in
-    let are_given = subst (λ (l : Layout). AreGiven given l.needs) (sym c.layout.ensures.same) (keys_given given c.args.plan.now.needs none) in
-    layout_true job inlining given c.layout.result.now k i j layout c.requires.job are_given right c.in_ok-values.values.items (c.in_ok-values.ensures inlining k i j layout)
+    let are_given = subst (λ (l : Layout). NeedsGiven given l.needs) (sym c.layout.ensures.same) (keys_given given c.args.plan.now.needs none) in
+    layout_true job inlining given c.layout.result.now k i j layout c.args.job.now.well are_given right c.in_ok-values.values.items (c.in_ok-values.ensures inlining k i j layout)

@@ -16,7 +16,7 @@ loop-place-init c =
 
 pub push_row-requires-clause-short : goal.push_row-requires-clause-short
 push_row-requires-clause-short c =
-    let near = near_columns (pipeline_in c.args.self.now.job.now) c.args.self.now.schedule.now.inlining c.args.stage c.args.domain.now c.requires.stored c.requires.domain c.requires.computed.is_job in
+    let near = near_columns (pipeline_in c.args.self.now.job.now) c.args.self.now.schedule.now.inlining c.args.stage c.args.domain.now c.requires.stored c.requires.domain c.args.self.now.job.now.well in
     let few : len_of c.args.domain.now.cols ≤ 100000 = few_numbers c.args.domain.now.cols near in
     omega (arith, c.loop-place.auto.line, c.as_mut_slice-line.ensures.len, c.in_ok-room.ensures.len, c.len.ensures.number)
 

@@ -2,7 +2,7 @@ use Rattle.std.proofs.Common.{arith, ◌<◌, length, sym, ap, ◌∙◌}
 use Rattle.domains.specs.Tiles.{tile_area, tile_cols}
 use Rattle.job.specs.Kept.{pipeline_in}
 use Rattle.accumulators.specs.Bins.{joined_bins}
-use Rattle.accumulators.specs.Making.{with_tile}
+use Rattle.accumulators.specs.inside.Making.{with_tile}
 use Rattle.accumulators.proofs.Arriving.{tile_more}
 use Rattle.accumulators.proofs.Tallying.{length-over}
 use Rattle.accumulators.proofs.totals.Accumulation.join_row.Goals as goal

@@ -2,7 +2,7 @@ use Rattle.std.proofs.Common.{◌≡◌, ◌-◌}
 use Rattle.std.specs.Prelude.{fold}
 use Rattle.domains.specs.Tiles.{tile_cols}
 use Rattle.job.specs.Kept.{pipeline_in}
-use Rattle.accumulators.specs.Making.{with_tile}
+use Rattle.accumulators.specs.inside.Making.{with_tile}
 use Rattle.accumulators.proofs.Arriving.{row_of}
 use Rattle.accumulators.proofs.totals.Accumulation.join_row.Given as goal
 

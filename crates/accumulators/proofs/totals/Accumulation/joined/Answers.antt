@@ -3,7 +3,7 @@ use Rattle.std.specs.List.{range_with_len}
 use Rattle.domains.specs.Tiles.{tile_cols, tile_rows}
 use Rattle.job.specs.Kept.{pipeline_in}
 use Rattle.job.specs.Totals.{totals}
-use Rattle.accumulators.specs.Making.{with_tile}
+use Rattle.accumulators.specs.inside.Making.{with_tile}
 use Rattle.accumulators.proofs.Arriving.{none_came, row_more, all_came, written}
 use Rattle.accumulators.proofs.Tallying.{all_joined, length-starts}
 use Rattle.accumulators.proofs.totals.Accumulation.joined.Goals as goal
@@ -13,7 +13,7 @@ loop-row-init c =
     let self = c.args.self.now in
     let job = pipeline_in self.of.job.now in
     none_came (with_tile job self.stage self.op self.grid) (tile_rows self.grid) (range_with_len 0 (tile_cols self.grid)) c.as_mut_slice-bins.result.now _ _ (c.as_mut_slice-bins.ensures.value ∙ c.in_ok-all.ensures)
-    (all_joined job self.stage self.op self.bins self.grid c.requires.gathered c.requires.computed.is_job)
+    (all_joined job self.stage self.op self.bins self.grid c.requires.gathered self.of.job.now.well)
 
 pub join_row-requires-clause-row : goal.join_row-requires-clause-row
 join_row-requires-clause-row c = omega (arith, c.tile_rows-row-end.ensures.number)

@@ -5,7 +5,7 @@ use Rattle.domains.specs.Pairs.{pairs}
 use Rattle.domains.specs.Tiles.{tile_cols, tile_rows}
 use Rattle.job.specs.Kept.{pipeline_in}
 use Rattle.job.specs.Totals.{totals}
-use Rattle.accumulators.specs.Making.{with_tile}
+use Rattle.accumulators.specs.inside.Making.{with_tile}
 use Rattle.accumulators.proofs.totals.Accumulation.joined.Given as goal
 
 abbrev pub invariant-loop-row : goal.invariant-loop-row

@@ -5,7 +5,6 @@ use Rattle.domains.specs.Tiles.{tile_area}
 use Rattle.job.specs.Kept.{pipeline_in}
 use Rattle.job.specs.Totals.{totals_over}
 use Rattle.tile_run.specs.Stored.{stored_tiles}
-use Rattle.tile_run.proofs.Running.{have_areas, planes_lie}
 use Rattle.accumulators.proofs.Tiling.{whole, all_given, totals_are}
 use Rattle.accumulators.proofs.totals.Accumulation.tile.Goals as goal
 
@@ -14,8 +13,6 @@ invariant_of-tile c =
     let of = c.args.self.now.of in
     let job = pipeline_in of.job.now in
     record {
-      areas = have_areas job c.requires.tally.computed.is_job;
-      planes = planes_lie job c.requires.tally.computed.is_job;
       whole = whole job (stored_tiles of.stored.now.stages.items) c.requires.tally.computed.values;
     }
 
@@ -28,7 +25,7 @@ pub tile_totals-requires-clause-needs : goal.tile_totals-requires-clause-needs
 tile_totals-requires-clause-needs c =
     let self = c.args.self.now in
     let of = self.of in
-    all_given (pipeline_in of.job.now) self.stage self.op self.bins self.grid c.requires.tally.gathered c.args.row c.args.col of.schedule.now.inlining (stored_tiles of.stored.now.stages.items) c.requires.tally.computed.is_job
+    all_given (pipeline_in of.job.now) self.stage self.op self.bins self.grid c.requires.tally.gathered c.args.row c.args.col of.schedule.now.inlining (stored_tiles of.stored.now.stages.items) of.job.now.well
     c.requires.tally.computed.all c.in_ok-layout.layout c.in_ok-layout.ensures
 
 pub returns : goal.returns
@@ -38,6 +35,6 @@ returns c =
     let tally = c.requires.tally in
     let inlining = of.schedule.now.inlining in
     IfOk-weaker c.tile_totals.result _ (λ (bins : Vec ℤ). bins.items ≡ totals_over (pipeline_in of.job.now) (tile_area self.grid c.args.row c.args.col) self.stage)
-    (λ bins local. totals_are (pipeline_in of.job.now) self.stage self.op self.bins self.grid tally.gathered c.args.row c.args.col inlining (stored_tiles of.stored.now.stages.items) tally.computed.is_job tally.computed.all c.in_ok-layout.layout c.in_ok-layout.ensures
+    (λ bins local. totals_are (pipeline_in of.job.now) self.stage self.op self.bins self.grid tally.gathered c.args.row c.args.col inlining (stored_tiles of.stored.now.stages.items) of.job.now.well tally.computed.all c.in_ok-layout.layout c.in_ok-layout.ensures
     tally.computed.values bins.items (local inlining self.stage c.args.row c.args.col c.in_ok-layout.ensures))
     c.tile_totals.ensures

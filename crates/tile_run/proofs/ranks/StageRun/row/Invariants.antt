@@ -1,7 +1,7 @@
 use Rattle.std.proofs.Common.{◌≡◌, ℤ, map}
 use Rattle.std.specs.Global.{Vec}
 use Rattle.job.specs.Kept.{pipeline_in}
-use Rattle.tile_run.specs.Running.{row_values}
+use Rattle.tile_run.specs.inside.Running.{row_values}
 use Rattle.tile_run.proofs.ranks.StageRun.row.Given as goal
 
 abbrev pub invariant-loop-col : goal.invariant-loop-col

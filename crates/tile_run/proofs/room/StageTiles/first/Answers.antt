@@ -3,7 +3,8 @@ use Rattle.std.specs.List.{flat_map, range_with_len}
 use Rattle.domains.specs.Tiles.{tile_rows}
 use Rattle.job.specs.Kept.{pipeline_in}
 use Rattle.overlap_tiles.specs.Needs.{tile_of_stage}
-use Rattle.tile_run.specs.Work.{row_tiles, too_big}
+use Rattle.tile_run.specs.Work.{too_big}
+use Rattle.tile_run.specs.inside.Room.{row_tiles}
 use Rattle.tile_run.proofs.Finding.{list_more, some_found, is_nothing}
 use Rattle.tile_run.proofs.room.StageTiles.first.Goals as goal
 

@@ -6,7 +6,7 @@ use Rattle.job.specs.Pipeline.{Pipeline}
 use Rattle.job.specs.Views.{stage_view}
 use Rattle.tile_eval.proofs.Knowing.{rank_there, rank_elsewhere}
 use Rattle.tile_run.specs.declared.stored.Stored.{Stored}
-use Rattle.tile_run.specs.Running.{AreStored}
+use Rattle.tile_run.specs.inside.Running.{AreStored}
 use Rattle.tile_run.proofs.Storing.{AreStoredTo, stored_more, stored_other, stored_end}
 use Rattle.tile_run.proofs.stored.Stored.add_rank.Goals as goal
 use Rattle.tile_run.proofs.stored.Stored.add_rank.Goals.{then-eq+in_ok-self, else-eq}

@@ -7,7 +7,7 @@ use Rattle.job.specs.Kept.{pipeline_in}
 use Rattle.job.specs.Pipeline.{Stage, Pipeline}
 use Rattle.job.specs.Views.{stage_view}
 use Rattle.tile_run.specs.Stored.{IsStoredFunction}
-use Rattle.tile_run.specs.Running.{row_numbers, grid_values, AreTilesOf, FitsAt}
+use Rattle.tile_run.specs.inside.Running.{row_numbers, grid_values, AreTilesOf, FitsAt}
 use Rattle.tile_run.proofs.Storing.{are_tiles}
 use Rattle.tile_run.proofs.stored.Stored.tiles_of.Goals as goal
 
@@ -21,7 +21,6 @@ tiles-requires c =
     let parted : c.new-grid.result ≡ grid_of job s = c.new-grid.ensures ∙ (λ i. record { area = c.domain.ensures i; sides = c.sides.ensures i }) in
     record {
       ready = record {
-        is_job = c.requires.job;
         stage = s;
         function = function;
         parted = parted;

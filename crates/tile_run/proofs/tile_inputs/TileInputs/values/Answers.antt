@@ -10,42 +10,42 @@ pub area_into-requires-clause-rows : goal.area_into-requires-clause-rows
 area_into-requires-clause-rows g c =
     let tile = c.args.self.now.tile in
     let f = c.args.function.now in
-    (all_near (pipeline_in tile.job.now) c.requires.job tile.layout.now.inlining (g.K.Known.given tile.known.now) c.args.self.now.boxes.now.buffers.items c.args.number
+    (all_near (pipeline_in tile.job.now) tile.job.now.well tile.layout.now.inlining (g.K.Known.given tile.known.now) c.args.self.now.boxes.now.buffers.items c.args.number
     (map case_view f.cases.items) (option_map formula_view f.otherwise) c.args.area.now c.requires.function c.requires.prepared.ready c.requires.area).0
 
 pub area_into-requires-clause-cols : goal.area_into-requires-clause-cols
 area_into-requires-clause-cols g c =
     let tile = c.args.self.now.tile in
     let f = c.args.function.now in
-    (all_near (pipeline_in tile.job.now) c.requires.job tile.layout.now.inlining (g.K.Known.given tile.known.now) c.args.self.now.boxes.now.buffers.items c.args.number
+    (all_near (pipeline_in tile.job.now) tile.job.now.well tile.layout.now.inlining (g.K.Known.given tile.known.now) c.args.self.now.boxes.now.buffers.items c.args.number
     (map case_view f.cases.items) (option_map formula_view f.otherwise) c.args.area.now c.requires.function c.requires.prepared.ready c.requires.area).1
 
 pub area_into-requires-clause-tests : goal.area_into-requires-clause-tests
 area_into-requires-clause-tests g c =
     let tile = c.args.self.now.tile in
     let f = c.args.function.now in
-    tests_are (pipeline_in tile.job.now) c.requires.job tile.layout.now.inlining (g.K.Known.given tile.known.now) c.args.self.now.boxes.now.buffers.items c.args.number
+    tests_are (pipeline_in tile.job.now) tile.job.now.well tile.layout.now.inlining (g.K.Known.given tile.known.now) c.args.self.now.boxes.now.buffers.items c.args.number
     (map case_view f.cases.items) (option_map formula_view f.otherwise) c.args.area.now c.requires.function c.requires.prepared.ready
 
 pub area_into-requires-clause-formulas : goal.area_into-requires-clause-formulas
 area_into-requires-clause-formulas g c =
     let tile = c.args.self.now.tile in
     let f = c.args.function.now in
-    formulas_are (pipeline_in tile.job.now) c.requires.job tile.layout.now.inlining (g.K.Known.given tile.known.now) c.args.self.now.boxes.now.buffers.items c.args.number
+    formulas_are (pipeline_in tile.job.now) tile.job.now.well tile.layout.now.inlining (g.K.Known.given tile.known.now) c.args.self.now.boxes.now.buffers.items c.args.number
     (map case_view f.cases.items) (option_map formula_view f.otherwise) c.args.area.now c.requires.function c.requires.prepared.ready
 
 pub area_into-requires-clause-boxes : goal.area_into-requires-clause-boxes
 area_into-requires-clause-boxes g c =
     let tile = c.args.self.now.tile in
     let f = c.args.function.now in
-    boxes_are (pipeline_in tile.job.now) c.requires.job tile.layout.now.inlining (g.K.Known.given tile.known.now) c.args.self.now.boxes.now.buffers.items c.args.number
+    boxes_are (pipeline_in tile.job.now) tile.job.now.well tile.layout.now.inlining (g.K.Known.given tile.known.now) c.args.self.now.boxes.now.buffers.items c.args.number
     (map case_view f.cases.items) (option_map formula_view f.otherwise) c.args.area.now c.requires.function c.requires.prepared.ready
 
 pub area_into-requires-clause-reads : goal.area_into-requires-clause-reads
 area_into-requires-clause-reads g c =
     let tile = c.args.self.now.tile in
     let f = c.args.function.now in
-    reads_are (pipeline_in tile.job.now) c.requires.job tile.layout.now.inlining (g.K.Known.given tile.known.now) c.args.self.now.boxes.now.buffers.items c.args.number
+    reads_are (pipeline_in tile.job.now) tile.job.now.well tile.layout.now.inlining (g.K.Known.given tile.known.now) c.args.self.now.boxes.now.buffers.items c.args.number
     (map case_view f.cases.items) (option_map formula_view f.otherwise) c.args.area.now c.requires.function c.requires.prepared.ready
 
 pub returns : goal.returns
@@ -53,5 +53,5 @@ returns g c =
     let tile = c.args.self.now.tile in
     let f = c.args.function.now in
     ok_then c.area_into.result c.area_into.ensures (λ done is.
-    is ∙ values_are (pipeline_in tile.job.now) c.requires.job tile.layout.now.inlining (g.K.Known.given tile.known.now) c.args.self.now.boxes.now.buffers.items c.args.number
+    is ∙ values_are (pipeline_in tile.job.now) tile.job.now.well tile.layout.now.inlining (g.K.Known.given tile.known.now) c.args.self.now.boxes.now.buffers.items c.args.number
     (map case_view f.cases.items) (option_map formula_view f.otherwise) c.args.area.now c.requires.function c.requires.prepared.ready c.requires.prepared.local)

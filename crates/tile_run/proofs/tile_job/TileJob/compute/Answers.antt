@@ -6,7 +6,7 @@ use Rattle.tile_eval.specs.Buffer.{raster, IsKnownAt}
 use Rattle.tile_eval.specs.declared.buffers.Buffer.{Buffer}
 use Rattle.tile_eval.proofs.Rasters.{raster_len}
 use Rattle.tile_run.specs.Local.{local_value}
-use Rattle.tile_run.specs.Steps.{AreLocal}
+use Rattle.tile_run.specs.inside.Steps.{AreLocal}
 use Rattle.tile_run.proofs.Computing.{prepared, others_stay, computed_there, still_local}
 use Rattle.tile_run.proofs.tile_job.TileJob.compute.Goals as goal
 

@@ -5,7 +5,7 @@ use Rattle.grouping.specs.Costs.{inner_steps}
 use Rattle.job.specs.Kept.{pipeline_in}
 use Rattle.overlap_tiles.specs.Plans.{target_over}
 use Rattle.overlap_tiles.specs.Views.{step_view}
-use Rattle.tile_run.specs.Steps.{AreComputed, AreRunnable}
+use Rattle.tile_run.specs.inside.Steps.{AreComputed, AreRunnable}
 use Rattle.tile_run.proofs.Computing.{prepared}
 use Rattle.tile_run.proofs.Planned.{own_layout, layout_steps, layout_runnable, layout_ready}
 use Rattle.tile_run.proofs.Running.{none_known}
@@ -21,7 +21,7 @@ run_steps-requires-clause-runnable g c =
     let inner : map step_view c.inner_of.result.now ≡ inner_steps (target_over job l.inlining some.stage own.area) =
     c.inner_of.ensures _ (some.stage, own.area) (c.steps.ensures ∙ layout_steps job l.inlining given l some.stage some.row some.col own) in
     subst (λ (ss : List (ℕ × Area)). AreRunnable job l.inlining given ss) (sym inner)
-    (layout_runnable job l.inlining given l some.stage some.row some.col own c.requires.job c.requires.needs)
+    (layout_runnable job l.inlining given l some.stage some.row some.col own c.args.self.now.job.now.well c.requires.needs)
 
 pub run_steps-requires-clause-local : goal.run_steps-requires-clause-local
 run_steps-requires-clause-local g c =
@@ -38,5 +38,5 @@ returns g c = λ k i j is area at.
     c.inner_of.ensures _ (k, is.area) (c.steps.ensures ∙ layout_steps job l.inlining given l k i j is) in
     let done = subst (λ (n : ℕ). AreComputed (map step_view c.inner_of.result.now) n boxes.buffers.items) (sym (length-map c.inner_of.result.now step_view)) next.computed in
     prepared job l.inlining given boxes k area next.local
-    (layout_ready job l.inlining given l k i j is c.requires.job c.requires.needs boxes.buffers.items
+    (layout_ready job l.inlining given l k i j is c.args.self.now.job.now.well c.requires.needs boxes.buffers.items
     (subst (λ (ss : List (ℕ × Area)). AreComputed ss (length ss) boxes.buffers.items) inner done) area at)

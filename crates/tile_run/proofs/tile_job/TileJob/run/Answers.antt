@@ -25,7 +25,7 @@ target-requires-clause-area g c =
     let given = g.K.Known.given c.args.self.now.known.now in
     let some = c.requires.layout in
     let end = c.in-Some.ensures.some _ _ (c.steps.ensures ∙ layout_steps job some.inlining given l some.stage some.row some.col some.layout) in
-    subst (λ (s : ℕ × Area). IsArea s.1) (sym end) (layout_area job some.inlining given l some.stage some.row some.col some.layout c.requires.job)
+    subst (λ (s : ℕ × Area). IsArea s.1) (sym end) (layout_area job some.inlining given l some.stage some.row some.col some.layout c.args.self.now.job.now.well)
 
 pub target-requires-clause-prepared : goal.target-requires-clause-prepared
 target-requires-clause-prepared g c =

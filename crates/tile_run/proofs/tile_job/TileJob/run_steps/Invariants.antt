@@ -1,7 +1,7 @@
 use Rattle.std.proofs.Common.{◌≡◌, map, length}
 use Rattle.job.specs.Kept.{pipeline_in}
 use Rattle.overlap_tiles.specs.Views.{step_view}
-use Rattle.tile_run.specs.Steps.{AreLocal, AreComputed}
+use Rattle.tile_run.specs.inside.Steps.{AreLocal, AreComputed}
 use Rattle.tile_run.proofs.tile_job.TileJob.run_steps.Given as goal
 
 abbrev pub invariant-loop-place : goal.invariant-loop-place

@@ -1,6 +1,6 @@
 use Rattle.std.proofs.Common.{rules, w32, FitsSigned}
 use Rattle.std.proofs.lemmas.Int.{to_z-of_z}
-use Rattle.tile_run.specs.Tiles.{IsTileAbout}
+use Rattle.tile_run.specs.inside.Tiles.{IsTileAbout}
 use Rattle.tile_run.proofs.Borders.{same_about, slice_numbers}
 use Rattle.tile_run.proofs.tiles_of_stage.TilesOfStage.borrow_row.Goals as goal
 

@@ -1,7 +1,8 @@
 use Rattle.std.proofs.Common.{rules, ℤ, w32, FitsSigned, subst}
 use Rattle.std.proofs.Math.IntN.{+ℤ_idr}
 use Rattle.std.proofs.lemmas.Int.{to_z-of_z}
-use Rattle.tile_run.specs.Tiles.{IsGivenAt, IsTileAbout}
+use Rattle.tile_run.specs.KnownTiles.{IsGivenAt}
+use Rattle.tile_run.specs.inside.Tiles.{IsTileAbout}
 use Rattle.tile_run.proofs.Borders.{same_about, part_held, part_number}
 use Rattle.tile_run.proofs.tiles_of_stage.TilesOfStage.part.Goals as goal
 

@@ -2,7 +2,8 @@ use Rattle.std.proofs.Common.{rules, ℕ, ℤ, ◌+ℤ◌, pos, w32, FitsSigned,
 use Rattle.std.proofs.Math.IntN.{+ℤ_idr}
 use Rattle.std.proofs.lemmas.Int.{to_z-of_z}
 use Rattle.domains.specs.Index.{index_at}
-use Rattle.tile_run.specs.Tiles.{IsGivenAt, IsTileAbout}
+use Rattle.tile_run.specs.KnownTiles.{IsGivenAt}
+use Rattle.tile_run.specs.inside.Tiles.{IsTileAbout}
 use Rattle.tile_run.proofs.Borders.{part_most, same_about, picked_held, picked_number}
 use Rattle.tile_run.proofs.tiles_of_stage.TilesOfStage.pick_part.Goals as goal
 

@@ -1,7 +1,6 @@
 use Rattle.std.proofs.Common.{rules, arith, ℤ, ◌≡◌, ◌<◌, ◌+ℤ◌, pos, length, w32, FitsSigned, ◌∙◌, to_z, of_z}
 use Rattle.std.proofs.lemmas.Int.{ints, to_z-of_z}
-use Rattle.tile_run.specs.KnownTiles.{number_at}
-use Rattle.tile_run.specs.Tiles.{IsGivenAt}
+use Rattle.tile_run.specs.KnownTiles.{number_at, IsGivenAt}
 use Rattle.tile_run.proofs.Borders.{row_goes_on, still_most, rest_held}
 use Rattle.tile_run.proofs.tiles_of_stage.TilesOfStage.read_row.Goals as goal
 

@@ -4,11 +4,7 @@ use Rattle.domains.specs.Area.{HoldsPoint}
 use Rattle.domains.specs.Tiles.{tile_area, tile_at}
 use Rattle.domains.specs.declared.grid.Grid.{Grid}
 use Rattle.tile_eval.specs.declared.blocks.BufferView.{BufferView}
-use Rattle.tile_run.specs.KnownTiles.{KnownTiles, IsGiven}
-
--- the point lies in the area, and its tile is given
-abbrev pub IsGivenAt : KnownTiles → ℕ → Grid → ℤ → ℤ → Type 0
-IsGivenAt given g grid r c = HoldsPoint grid.area r c × IsGiven given g grid r c
+use Rattle.tile_run.specs.KnownTiles.{KnownTiles}
 
 -- the numbers of the tile in which the point lies
 pub record IsTileAbout (given : KnownTiles) (g : ℕ) (grid : Grid) (r c : ℤ) (block : BufferView) : Type 0 where

@@ -1,4 +1,4 @@
--- On the way to the answer of a job. Only contracts inside the crate cite it.
+-- On the way to the answer of a job.
 use Rattle.std.specs.Prelude.{ℕ, ℤ, ◌≡◌, Bool, Some, None, List, slice_get}
 use Rattle.domains.specs.Span.{Ends}
 use Rattle.domains.specs.Tiles.{tile_area}
@@ -10,7 +10,6 @@ use Rattle.job.specs.Formula.{Formula}
 use Rattle.job.specs.Kept.{pipeline_in}
 use Rattle.job.specs.Pipeline.{accumulator, Stage, Pipeline}
 use Rattle.job.specs.Totals.{totals_over}
-use Rattle.job.specs.WellFormed.{IsJob}
 use Rattle.tile_run.specs.KnownTiles.{AreTrue}
 use Rattle.tile_run.specs.Stored.{stored_tiles, IsStoredFunction, GivesAllTiles}
 use Rattle.tile_run.specs.Work.{first_too_big, is_accumulator_at}
@@ -20,7 +19,6 @@ use Rattle.accumulators.specs.Bins.{joined_bins}
 
 -- all tiles of the stored functions of the job are there, with its values
 pub record IsComputed (c : Computed) : Type 0 where
-  pub is_job : IsJob (pipeline_in c.job.now)
   pub scheduled : IsScheduleOf (pipeline_in c.job.now) c.schedule.now
   pub all : GivesAllTiles (pipeline_in c.job.now) c.schedule.now.inlining (stored_tiles c.stored.now.stages.items)
   pub values : AreTrue (pipeline_in c.job.now) (stored_tiles c.stored.now.stages.items)

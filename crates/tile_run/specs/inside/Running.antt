@@ -1,4 +1,4 @@
--- What is stored while a job runs. Only contracts inside the crate cite it.
+-- What is stored while a job runs.
 use Rattle.std.specs.Prelude.{ℕ, ℤ, ◌≡◌, ◌<◌, ◌≤◌, Bool, Some, List, map, length, slice_get}
 use Rattle.std.specs.List.{range_with_len}
 use Rattle.domains.specs.Tiles.{HasTile, tile_area, tile_cols}
@@ -6,7 +6,6 @@ use Rattle.domains.specs.declared.grid.Grid.{Grid}
 use Rattle.job.specs.Pipeline.{Stage, Pipeline, rank_of}
 use Rattle.job.specs.Answers.{grid_of}
 use Rattle.job.specs.Values.{value}
-use Rattle.job.specs.WellFormed.{IsJob}
 use Rattle.grouping.specs.Costs.{scratch, most_scratch}
 use Rattle.tile_eval.specs.Buffer.{raster}
 use Rattle.tile_run.specs.KnownTiles.{AreTrue, HasTrueTiles}
@@ -49,8 +48,7 @@ abbrev pub StoredFit : Pipeline → List Bool → Type 0
 StoredFit job inlining = (g : ℕ) (s : Stage) → IsStoredFunction job inlining g s → (i j : ℕ) → HasTile (grid_of job s) i j → FitsAt job inlining g (grid_of job s) i j
 
 -- all is there that the tiles of stage g, a stored function with this grid, are made of
-pub record IsReady (job : Pipeline) (inlining : List Bool) (stages : List Tiles) (g : ℕ) (grid : Grid) : Type 0 where
-  pub is_job : IsJob job
+pub record IsStageReady (job : Pipeline) (inlining : List Bool) (stages : List Tiles) (g : ℕ) (grid : Grid) : Type 0 where
   pub stage : Stage
   pub function : IsStoredFunction job inlining g stage
   pub parted : grid ≡ grid_of job stage

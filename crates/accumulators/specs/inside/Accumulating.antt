@@ -1,4 +1,4 @@
--- What an accumulator reads and takes in at points. Only contracts inside the crate cite it.
+-- What an accumulator reads and takes in at points.
 use Rattle.std.specs.Prelude.{ℕ, ℤ, List}
 use Rattle.job.specs.declared.stage.Accumulator.{Accumulator}
 use Rattle.job.specs.Reads.{EachRead}
@@ -6,7 +6,7 @@ use Rattle.job.specs.Values.{Valuation, formula_value}
 use Rattle.job.specs.Views.{formula_view}
 use Rattle.job.specs.WellFormed.{IsFormula}
 use Rattle.tile_eval.specs.Reading.{HasRoom}
-use Rattle.accumulators.specs.Gathering.{TookIn}
+use Rattle.accumulators.specs.inside.Gathering.{TookIn}
 
 -- the numbers of the text fit
 pub record HasFormulas (a : Accumulator) : Type 0 where

@@ -1,4 +1,4 @@
--- How bins take in points. Only contracts inside the crate cite it.
+-- How bins take in points.
 use Rattle.std.specs.Prelude.{ℕ, ℤ, pos, ◌+ℤ◌, ◌≡◌, Bool, if◌then◌else◌, List, map, filter, fold, length, zip}
 use Rattle.std.specs.Ordering.{int_eq}
 use Rattle.domains.specs.Span.{numbers_from}
