@@ -23,9 +23,11 @@ abbrev pub IsInputAt : Pipeline → List Bool → KnownTiles → StageBuffers �
 IsInputAt job inlining given boxes = IsAtHand job inlining given (IsKnownAt boxes.buffers.items)
 
 -- all that stage g reads at the points of an area, which lie in its domain, is at hand, and what is at hand are local values
-pub record IsPrepared (job : Pipeline) (inlining : List Bool) (given : KnownTiles) (boxes : StageBuffers) (g : ℕ) (area : Area) : Type 0 where
-  pub ready : (r c : ℤ) → HoldsPoint area r c → IsProvided job inlining given (IsKnownAt boxes.buffers.items) g r c
-  pub local : (h : ℕ) (r c : ℤ) → IsInputAt job inlining given boxes h r c → input_at job inlining given boxes h r c ≡ read_from job inlining given (local_value job inlining given) h r c
+pub record IsPrepared (job : Pipeline) (inlining : List Bool) (given : KnownTiles) (boxes : StageBuffers) (g : ℕ) (area : Area) : Type 0
+  where
+    pub ready : (r c : ℤ) → HoldsPoint area r c → IsProvided job inlining given (IsKnownAt boxes.buffers.items) g r c
+    pub local : (h : ℕ) (r c : ℤ) → IsInputAt job inlining given boxes h r c
+        → input_at job inlining given boxes h r c ≡ read_from job inlining given (local_value job inlining given) h r c
 
 -- that holds of the tile in row i and column j
 abbrev pub IsPreparedOn : Pipeline → List Bool → KnownTiles → StageBuffers → ℕ → ℕ → ℕ → Type 0

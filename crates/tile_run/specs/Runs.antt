@@ -23,7 +23,8 @@ first_missing given needs = find (is_missing given) needs
 
 -- the numbers are the local values of stage g on its tile in row i and column j, row by row
 abbrev pub AreLocalOn : Pipeline → List Bool → KnownTiles → ℕ → ℕ → ℕ → List ℤ → Type 0
-AreLocalOn job inlining given g i j numbers = (area : Area) → IsTileAt job g i j area → numbers ≡ raster area (local_value job inlining given g)
+AreLocalOn job inlining given g i j numbers =
+    (area : Area) → IsTileAt job g i j area → numbers ≡ raster area (local_value job inlining given g)
 
 -- the numbers are the values of the stage there
 abbrev pub AreValuesOn : Pipeline → ℕ → ℕ → ℕ → List ℤ → Type 0

@@ -41,7 +41,8 @@ scratch_of_tile job inlining t s = scratch (target_over job inlining t.stage (ti
 
 -- whether they are more than there may be
 abbrev pub too_big : Pipeline → List Bool → Tile → Bool
-too_big job inlining t = option_map_or (λ s. not (nat_le (scratch_of_tile job inlining t s) most_scratch)) (slice_get job.stages t.stage) false
+too_big job inlining t =
+    option_map_or (λ s. not (nat_le (scratch_of_tile job inlining t s) most_scratch)) (slice_get job.stages t.stage) false
 
 abbrev pub first_too_big : Pipeline → List Bool → (ℕ → Bool) → Option Tile
 first_too_big job inlining wants = find (too_big job inlining) (work_tiles job wants)

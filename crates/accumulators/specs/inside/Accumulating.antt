@@ -24,4 +24,5 @@ pub record HasRoomAlong (a : Accumulator) (n room : ℕ) : Type 0 where
 
 -- the bins took in these points, where env gives the values of the stages
 abbrev pub TookPoints : Valuation → Accumulator → List (ℤ × ℤ) → List ℤ → List ℤ → Type 0
-TookPoints env a points old new = TookIn a.fold (formula_value env (formula_view a.value)) (formula_value env (formula_view a.bin)) a.bins.lo points old new
+TookPoints env a points old new =
+    TookIn a.fold (formula_value env (formula_view a.value)) (formula_value env (formula_view a.bin)) a.bins.lo points old new

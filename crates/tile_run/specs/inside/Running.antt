@@ -45,7 +45,8 @@ abbrev pub FitsAt : Pipeline → List Bool → ℕ → Grid → ℕ → ℕ → 
 FitsAt job inlining g grid i j = scratch (record { job = job; inlining = inlining; stage = g; region = tile_area grid i j }) ≤ most_scratch
 
 abbrev pub StoredFit : Pipeline → List Bool → Type 0
-StoredFit job inlining = (g : ℕ) (s : Stage) → IsStoredFunction job inlining g s → (i j : ℕ) → HasTile (grid_of job s) i j → FitsAt job inlining g (grid_of job s) i j
+StoredFit job inlining = (g : ℕ) (s : Stage) → IsStoredFunction job inlining g s → (i j : ℕ) → HasTile (grid_of job s) i j
+    → FitsAt job inlining g (grid_of job s) i j
 
 -- all is there that the tiles of stage g, a stored function with this grid, are made of
 pub record IsStageReady (job : Pipeline) (inlining : List Bool) (stages : List Tiles) (g : ℕ) (grid : Grid) : Type 0 where

@@ -37,4 +37,5 @@ pub record AreRunnable (job : Pipeline) (inlining : List Bool) (given : KnownTil
   pub functions : (k g : ℕ) (a : Area) → slice_get steps k ≡ Some (g, a) → is_function job g ≡ true
   pub areas : (k g : ℕ) (a : Area) → slice_get steps k ≡ Some (g, a) → IsArea a
   pub one_area : (k n g : ℕ) (a b : Area) → slice_get steps k ≡ Some (g, a) → slice_get steps n ≡ Some (g, b) → a ≡ b
-  pub ready : (k g : ℕ) (a : Area) (buffers : List (Option Buffer)) → slice_get steps k ≡ Some (g, a) → AreComputed steps k buffers → IsReadyOver job inlining given buffers g a
+  pub ready : (k g : ℕ) (a : Area) (buffers : List (Option Buffer)) → slice_get steps k ≡ Some (g, a) → AreComputed steps k buffers
+      → IsReadyOver job inlining given buffers g a

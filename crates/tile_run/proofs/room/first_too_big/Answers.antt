@@ -2,7 +2,7 @@ use Rattle.std.proofs.Common.{ap, sym, ◌∙◌}
 use Rattle.std.specs.Option.{option_map}
 use Rattle.job.specs.Kept.{pipeline_in, program_id_in}
 use Rattle.overlap_tiles.specs.Needs.{key_of}
-use Rattle.tile_run.proofs.Fitting.{fits_none}
+use Rattle.tile_run.proofs.FirstTooBig.{fits_none}
 use Rattle.tile_run.proofs.room.first_too_big.Goals as goal
 
 pub returns-then-fits : goal.returns-then-fits

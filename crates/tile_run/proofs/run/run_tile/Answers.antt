@@ -2,8 +2,8 @@ use Rattle.std.proofs.Common.{rules, ◌≡◌, None, sym, subst}
 use Rattle.job.specs.Kept.{pipeline_in, program_id_in}
 use Rattle.overlap_tiles.specs.Plans.{Layout}
 use Rattle.tile_run.specs.Runs.{first_missing, NeedsGiven}
-use Rattle.tile_run.proofs.Planned.{keys_given}
-use Rattle.tile_run.proofs.Truths.{layout_true}
+use Rattle.tile_run.proofs.LayoutsPrepare.{keys_given}
+use Rattle.tile_run.proofs.TrueTilesGiveValues.{layout_true}
 use Rattle.tile_run.proofs.run.run_tile.Goals as goal
 
 pub run-requires-clause-layout : goal.run-requires-clause-layout
@@ -14,7 +14,8 @@ run-requires-clause-layout g c =
       stage = own.stage;
       row = own.row;
       col = own.col;
-      layout = c.layout.ensures.tile (program_id_in c.args.job.now) (pipeline_in c.args.job.now) own.inlining own.stage own.row own.col own.plan;
+      layout =
+          c.layout.ensures.tile (program_id_in c.args.job.now) (pipeline_in c.args.job.now) own.inlining own.stage own.row own.col own.plan;
       function = own.function;
     }
 
@@ -26,7 +27,8 @@ run-requires-clause-needs g c =
 
 pub returns-clause-values : goal.returns-clause-values
 returns-clause-values g c = λ inlining k i j is.
-    c.in_ok-values.ensures inlining k i j (c.layout.ensures.tile (program_id_in c.args.job.now) (pipeline_in c.args.job.now) inlining k i j is)
+    c.in_ok-values.ensures inlining k i j (c.layout.ensures.tile (program_id_in c.args.job.now) (pipeline_in c.args.job.now) inlining k i j
+    is)
 
 pub returns-clause-right : goal.returns-clause-right
 returns-clause-right g c = λ right inlining k i j is.
@@ -34,5 +36,7 @@ returns-clause-right g c = λ right inlining k i j is.
     let given = g.K.Known.given c.args.known.now in
     let layout = c.layout.ensures.tile (program_id_in c.args.job.now) job inlining k i j is in
     let none : first_missing given c.args.plan.now.needs ≡ None = search rules in
-    let are_given = subst (λ (l : Layout). NeedsGiven given l.needs) (sym c.layout.ensures.same) (keys_given given c.args.plan.now.needs none) in
-    layout_true job inlining given c.layout.result.now k i j layout c.args.job.now.well are_given right c.in_ok-values.values.items (c.in_ok-values.ensures inlining k i j layout)
+    let are_given = subst (λ (l : Layout). NeedsGiven given l.needs) (sym c.layout.ensures.same)
+    (keys_given given c.args.plan.now.needs none) in
+    layout_true job inlining given c.layout.result.now k i j layout c.args.job.now.well are_given right c.in_ok-values.values.items
+    (c.in_ok-values.ensures inlining k i j layout)

@@ -1,6 +1,6 @@
 use Rattle.std.proofs.lemmas.Result.{IfOk-weaker}
 use Rattle.job.specs.Kept.{pipeline_in}
-use Rattle.tile_run.proofs.Making.{whole, of_function, all_given, values_are}
+use Rattle.tile_run.proofs.StageRunGivesTiles.{whole, of_function, all_given, values_are}
 use Rattle.tile_run.proofs.ranks.StageRun.tile.Goals as goal
 
 pub invariant_of-tile : goal.invariant_of-tile
@@ -14,12 +14,14 @@ invariant_of-tile c =
 pub run-requires-clause-layout : goal.run-requires-clause-layout
 run-requires-clause-layout c =
     let run = c.args.self.now in
-    of_function (pipeline_in run.job.now) run.schedule.now.inlining run.stored.now.stages.items run.stage run.grid run.job.now.well c.requires.ready c.args.row c.args.col c.in_ok-layout.layout c.in_ok-layout.ensures
+    of_function (pipeline_in run.job.now) run.schedule.now.inlining run.stored.now.stages.items run.stage run.grid run.job.now.well
+    c.requires.ready c.args.row c.args.col c.in_ok-layout.layout c.in_ok-layout.ensures
 
 pub run-requires-clause-needs : goal.run-requires-clause-needs
 run-requires-clause-needs c =
     let run = c.args.self.now in
-    all_given (pipeline_in run.job.now) run.schedule.now.inlining run.stored.now.stages.items run.stage run.grid run.job.now.well c.requires.ready c.args.row c.args.col c.in_ok-layout.layout c.in_ok-layout.ensures
+    all_given (pipeline_in run.job.now) run.schedule.now.inlining run.stored.now.stages.items run.stage run.grid run.job.now.well
+    c.requires.ready c.args.row c.args.col c.in_ok-layout.layout c.in_ok-layout.ensures
 
 pub returns : goal.returns
 returns c =
@@ -27,6 +29,7 @@ returns c =
     let inlining = run.schedule.now.inlining in
     IfOk-weaker c.run.result _ _
     (λ values local.
-    values_are (pipeline_in run.job.now) inlining run.stored.now.stages.items run.stage run.grid run.job.now.well c.requires.ready c.args.row c.args.col c.in_ok-layout.layout c.in_ok-layout.ensures
+    values_are (pipeline_in run.job.now) inlining run.stored.now.stages.items run.stage run.grid run.job.now.well c.requires.ready
+    c.args.row c.args.col c.in_ok-layout.layout c.in_ok-layout.ensures
     values.items (local inlining run.stage c.args.row c.args.col c.in_ok-layout.ensures))
     c.run.ensures

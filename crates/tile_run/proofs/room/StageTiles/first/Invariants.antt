@@ -8,4 +8,5 @@ use Rattle.tile_run.proofs.room.StageTiles.first.Given as goal
 
 abbrev pub invariant-loop-row : goal.invariant-loop-row
 invariant-loop-row l =
-    find (λ (t : ℕ × ℕ). too_big (pipeline_in l.self.job.now) l.self.schedule.now.inlining (tile_of_stage l.self.stage t)) (flat_map (row_tiles l.self.grid) (range_with_len 0 l.row)) ≡ None
+    find (λ (t : ℕ × ℕ). too_big (pipeline_in l.self.job.now) l.self.schedule.now.inlining (tile_of_stage l.self.stage t))
+    (flat_map (row_tiles l.self.grid) (range_with_len 0 l.row)) ≡ None

@@ -4,7 +4,7 @@ use Rattle.job.specs.Answers.{grid_of}
 use Rattle.job.specs.Kept.{pipeline_in}
 use Rattle.job.specs.Views.{stage_view}
 use Rattle.tile_eval.specs.Buffer.{sample_in, IsKnownAt}
-use Rattle.tile_run.proofs.Hands.{function_body, of_stored, read_stored, given_by, number_by, some_then}
+use Rattle.tile_run.proofs.InputsAreRead.{function_body, of_stored, read_stored, given_by, number_by, some_then}
 use Rattle.tile_run.proofs.tile_inputs.TileInputsRowSource.borrow_row.Goals as goal
 
 pub borrow_row-requires-in-Function-2 : goal.borrow_row-requires-in-Function-2

@@ -6,8 +6,8 @@ use Rattle.job.specs.Kept.{pipeline_in}
 use Rattle.job.specs.Views.{stage_view}
 use Rattle.job.specs.WellFormed.{picture_area}
 use Rattle.tile_eval.specs.Buffer.{IsKnownAt}
-use Rattle.tile_run.proofs.Hands.{plane_body, function_body, of_plane, of_inlined}
-use Rattle.tile_run.proofs.Running.{planes_lie}
+use Rattle.tile_run.proofs.InputsAreRead.{plane_body, function_body, of_plane, of_inlined}
+use Rattle.tile_run.proofs.StepsRun.{planes_lie}
 use Rattle.tile_run.proofs.tile_inputs.TileInputsRowSource.sample.Goals as goal
 
 pub plane_point-requires-clause-plane : goal.plane_point-requires-clause-plane

@@ -6,7 +6,7 @@ use Rattle.job.specs.Kept.{pipeline_in}
 use Rattle.overlap_tiles.specs.Views.{step_view}
 use Rattle.tile_run.specs.Prepared.{IsPrepared}
 use Rattle.tile_run.specs.Runs.{AreLocalOn}
-use Rattle.tile_run.proofs.Planned.{own_layout, by_own, layout_steps, layout_area, layout_values, not_empty}
+use Rattle.tile_run.proofs.LayoutsPrepare.{own_layout, by_own, layout_steps, layout_area, layout_values, not_empty}
 use Rattle.tile_run.proofs.tile_job.TileJob.run.Goals as goal
 
 pub target-requires-clause-function : goal.target-requires-clause-function
@@ -15,7 +15,8 @@ target-requires-clause-function g c =
     let l = c.args.self.now.layout.now in
     let given = g.K.Known.given c.args.self.now.known.now in
     let some = c.requires.layout in
-    let end = c.in-Some.ensures.some _ _ (c.steps.ensures ∙ layout_steps job some.inlining given l some.stage some.row some.col some.layout) in
+    let end = c.in-Some.ensures.some _ _ (c.steps.ensures
+    ∙ layout_steps job some.inlining given l some.stage some.row some.col some.layout) in
     subst (λ (s : ℕ × Area). is_function job s.0 ≡ true) (sym end) some.function
 
 pub target-requires-clause-area : goal.target-requires-clause-area
@@ -24,8 +25,10 @@ target-requires-clause-area g c =
     let l = c.args.self.now.layout.now in
     let given = g.K.Known.given c.args.self.now.known.now in
     let some = c.requires.layout in
-    let end = c.in-Some.ensures.some _ _ (c.steps.ensures ∙ layout_steps job some.inlining given l some.stage some.row some.col some.layout) in
-    subst (λ (s : ℕ × Area). IsArea s.1) (sym end) (layout_area job some.inlining given l some.stage some.row some.col some.layout c.args.self.now.job.now.well)
+    let end = c.in-Some.ensures.some _ _ (c.steps.ensures
+    ∙ layout_steps job some.inlining given l some.stage some.row some.col some.layout) in
+    subst (λ (s : ℕ × Area). IsArea s.1) (sym end)
+    (layout_area job some.inlining given l some.stage some.row some.col some.layout c.args.self.now.job.now.well)
 
 pub target-requires-clause-prepared : goal.target-requires-clause-prepared
 target-requires-clause-prepared g c =
@@ -54,4 +57,5 @@ pub returns-in_default : goal.returns-in_default
 returns-in_default g c =
     let some = c.requires.layout in
     absurd (not_empty c.steps.result.now _ _ c.in_default.ensures.none
-    (c.steps.ensures ∙ layout_steps (pipeline_in c.args.self.now.job.now) some.inlining (g.K.Known.given c.args.self.now.known.now) c.args.self.now.layout.now some.stage some.row some.col some.layout))
+    (c.steps.ensures ∙ layout_steps (pipeline_in c.args.self.now.job.now) some.inlining (g.K.Known.given c.args.self.now.known.now)
+    c.args.self.now.layout.now some.stage some.row some.col some.layout))

@@ -1,7 +1,7 @@
 use Rattle.std.proofs.Common.{rules, arith, ℤ, ◌≡◌, ◌<◌, ◌+ℤ◌, pos, length, w32, FitsSigned, ◌∙◌, to_z, of_z}
 use Rattle.std.proofs.lemmas.Int.{ints, to_z-of_z}
 use Rattle.tile_run.specs.KnownTiles.{number_at, IsGivenAt}
-use Rattle.tile_run.proofs.Borders.{row_goes_on, still_most, rest_held}
+use Rattle.tile_run.proofs.RowsCrossTiles.{row_goes_on, still_most, rest_held}
 use Rattle.tile_run.proofs.tiles_of_stage.TilesOfStage.read_row.Goals as goal
 
 pub behind-requires-clause-most : goal.behind-requires-clause-most
@@ -18,18 +18,24 @@ part-done-requires-clause-there g c =
     let fits : FitsSigned w32 c.behind.result = search rules in
     let column : c.behind.result ≡ c.args.first +ℤ pos c.loop-done.done = search rules in
     rw (to_z-of_z w32 c.args.row row)
-    (rest_held c.args.first (to_z w32 (of_z w32 c.behind.result)) c.loop-done.done c.loop-done.out c.loop-done.invariant.most (to_z-of_z w32 c.behind.result fits ∙ column)
-    (λ (z : ℤ). IsGivenAt (g.K.Known.given c.args.self.now.known.now) c.args.self.now.stage c.args.self.now.grid c.args.row z) (length c.args.out.now) c.loop-done.auto.out c.requires.there)
+    (rest_held c.args.first (to_z w32 (of_z w32 c.behind.result)) c.loop-done.done c.loop-done.out c.loop-done.invariant.most
+    (to_z-of_z w32 c.behind.result fits ∙ column)
+    (λ (z : ℤ). IsGivenAt (g.K.Known.given c.args.self.now.known.now) c.args.self.now.stage c.args.self.now.grid c.args.row z)
+    (length c.args.out.now) c.loop-done.auto.out c.requires.there)
 
 pub loop-done-preserved : goal.loop-done-preserved
 loop-done-preserved g c =
     let fits : FitsSigned w32 c.behind.result = search rules in
-    let column : to_z w32 (of_z w32 c.behind.result) ≡ to_z w32 (of_z w32 c.args.first) +ℤ pos c.loop-done.done = to_z-of_z w32 c.behind.result fits ∙ c.behind.ensures in
+    let column : to_z w32 (of_z w32 c.behind.result)
+    ≡ to_z w32 (of_z w32 c.args.first) +ℤ pos c.loop-done.done = to_z-of_z w32 c.behind.result fits ∙ c.behind.ensures in
     record {
-      most = still_most (to_z w32 (of_z w32 c.args.first)) (to_z w32 (of_z w32 c.behind.result)) c.loop-done.done c.loop-done.out c.loop-done.invariant.most column c.part-done.new.out c.part-done.result c.part-done.auto.out c.part-done.ensures.most;
+      most = still_most (to_z w32 (of_z w32 c.args.first)) (to_z w32 (of_z w32 c.behind.result)) c.loop-done.done c.loop-done.out
+          c.loop-done.invariant.most column c.part-done.new.out c.part-done.result c.part-done.auto.out c.part-done.ensures.most;
       numbers =
-          row_goes_on (to_z w32 (of_z w32 c.args.first)) (to_z w32 (of_z w32 c.behind.result)) c.loop-done.done c.loop-done.out c.loop-done.invariant.most column c.part-done.new.out c.part-done.result c.part-done.auto.out c.part-done.ensures.most
-          (number_at (g.K.Known.given c.args.self.now.known.now) c.args.self.now.stage c.args.self.now.grid (to_z w32 (of_z w32 c.args.row))) c.loop-done.invariant.numbers c.part-done.ensures.numbers;
+          row_goes_on (to_z w32 (of_z w32 c.args.first)) (to_z w32 (of_z w32 c.behind.result)) c.loop-done.done c.loop-done.out
+          c.loop-done.invariant.most column c.part-done.new.out c.part-done.result c.part-done.auto.out c.part-done.ensures.most
+          (number_at (g.K.Known.given c.args.self.now.known.now) c.args.self.now.stage c.args.self.now.grid
+          (to_z w32 (of_z w32 c.args.row))) c.loop-done.invariant.numbers c.part-done.ensures.numbers;
     }
 
 pub returns : goal.returns

@@ -18,7 +18,8 @@ use Rattle.tile_eval.specs.declared.buffers.Buffer.{Buffer}
 use Rattle.tile_eval.proofs.Knowing.{sample_is, reads_below}
 use Rattle.accumulators.specs.inside.Accumulating.{HasFormulas}
 
-pub totals_is : (job : Pipeline) (g : ℕ) (s : Stage) → slice_get job.stages g ≡ Some s → totals job g ≡ body_totals (value job) s.domain s.body
+pub totals_is : (job : Pipeline) (g : ℕ) (s : Stage) → slice_get job.stages g ≡ Some s
+    → totals job g ≡ body_totals (value job) s.domain s.body
 totals_is job g s there = ap (λ (o : Option Stage). option_map_or (λ t. body_totals (value job) t.domain t.body) o []) there
 
 -- the domain of a stage is an area
@@ -26,7 +27,8 @@ pub domain_is_area : (job : Pipeline) → IsJob job → (g : ℕ) (s : Stage) �
 domain_is_area job is g s there = let h = is.stages g s there in record { rows = h.rows.span; cols = h.cols.span }
 
 -- where all stages of lower ranks are known, an accumulator gathers its totals
-pub whole_totals : (job : Pipeline) (buffers : List (Option Buffer)) (g : ℕ) (s : Stage) → IsJob job → slice_get job.stages g ≡ Some s → AreKnown job (rank_of job.stages g) buffers
+pub whole_totals : (job : Pipeline) (buffers : List (Option Buffer)) (g : ℕ) (s : Stage) → IsJob job → slice_get job.stages g ≡ Some s
+    → AreKnown job (rank_of job.stages g) buffers
     → body_totals (λ h i j. sample_in (slice_get buffers h) i j) s.domain s.body ≡ totals job g
 whole_totals job buffers g s is there known =
     let env : Valuation = λ h i j. sample_in (slice_get buffers h) i j in

@@ -22,11 +22,13 @@ abs_more (negsuc m) k lo = absurd (omega (arith, ints))
 -- the place of a point is one of the places of the samples
 pub sample_below : (p : Image) (r c : ℤ) → HoldsPoint (picture_area p) r c → unsigned_abs r * p.cols + unsigned_abs c < p.rows * p.cols
 sample_below p r c h =
-    let split = mul-add-lt (unsigned_abs r) p.cols (unsigned_abs c) p.rows (abs_below r p.rows h.0.0 h.0.1) (abs_below c p.cols h.1.0 h.1.1) in
+    let split = mul-add-lt (unsigned_abs r) p.cols (unsigned_abs c) p.rows (abs_below r p.rows h.0.0 h.0.1)
+    (abs_below c p.cols h.1.0 h.1.1) in
     omega arith
 
 -- so are those of a row of points
-pub row_below : (p : Image) (r c : ℤ) (n place : ℕ) → place ≡ unsigned_abs r * p.cols + unsigned_abs c → 0 < n → ((k : ℕ) → k < n → HoldsPoint (picture_area p) r (c +ℤ pos k)) → place + n ≤ p.rows * p.cols
+pub row_below : (p : Image) (r c : ℤ) (n place : ℕ) → place ≡ unsigned_abs r * p.cols + unsigned_abs c → 0 < n
+    → ((k : ℕ) → k < n → HoldsPoint (picture_area p) r (c +ℤ pos k)) → place + n ≤ p.rows * p.cols
 row_below p r c zero place is some h = absurd (omega arith)
 row_below p r c (suc m) place is some h =
     let last = h m (omega arith) in
@@ -37,19 +39,24 @@ row_below p r c (suc m) place is some h =
     omega (arith, sample_below p r (c +ℤ pos m) last)
 
 -- the samples of a row follow one another
-pub sample_along : (p : Image) (n : ℕ) (r c : ℤ) (place k : ℕ) (samples : List ℕ) (v : ℤ) → samples ≡ slice_index_or p.planes n [] → place ≡ unsigned_abs r * p.cols + unsigned_abs c → pos 0 ≤ℤ c
+pub sample_along : (p : Image) (n : ℕ) (r c : ℤ) (place k : ℕ) (samples : List ℕ) (v : ℤ) → samples ≡ slice_index_or p.planes n []
+    → place ≡ unsigned_abs r * p.cols + unsigned_abs c → pos 0 ≤ℤ c
     → v ≡ pos (slice_index samples (place + k)) → v ≡ sample_at p n r (c +ℤ pos k)
 sample_along p n r c place k samples v are is start e =
     let along : place + k ≡ unsigned_abs r * p.cols + unsigned_abs (c +ℤ pos k) = omega (arith, abs_more c k start) in
-    e ∙ ap (λ (xs : List ℕ). pos (slice_index xs (place + k))) are ∙ ap (λ (m : ℕ). pos (slice_index (slice_index_or p.planes n []) m)) along
+    e ∙ ap (λ (xs : List ℕ). pos (slice_index xs (place + k))) are
+    ∙ ap (λ (m : ℕ). pos (slice_index (slice_index_or p.planes n []) m)) along
 
 -- the place of a point further along a row
-place_further : (p : Image) (r c : ℤ) (place j : ℕ) → place ≡ unsigned_abs r * p.cols + unsigned_abs c → pos 0 ≤ℤ c → place + j ≡ unsigned_abs r * p.cols + unsigned_abs (c +ℤ pos j)
+place_further : (p : Image) (r c : ℤ) (place j : ℕ) → place ≡ unsigned_abs r * p.cols + unsigned_abs c → pos 0 ≤ℤ c
+    → place + j ≡ unsigned_abs r * p.cols + unsigned_abs (c +ℤ pos j)
 place_further p r c place j is low = omega (arith, abs_more c j low)
 
 -- ---- columns of an index that does not divide
 
-module _ (p : Image) (r : ℤ) (x : Scale) (c : ℤ) (m n place : ℕ) (mul : x.mul ≡ pos m) (div : x.div ≡ pos 1) (first : place ≡ unsigned_abs r * p.cols + unsigned_abs (index_at x c)) (each : EachPlace n (λ k. HoldsPoint (picture_area p) r (index_at x (c +ℤ pos k)))) where
+module _ (p : Image) (r : ℤ) (x : Scale) (c : ℤ) (m n place : ℕ) (mul : x.mul ≡ pos m) (div : x.div ≡ pos 1) (first : place
+    ≡ unsigned_abs r * p.cols + unsigned_abs (index_at x c))
+    (each : EachPlace n (λ k. HoldsPoint (picture_area p) r (index_at x (c +ℤ pos k)))) where
   -- their places lie at steps of one length
   sample_steps : (k : ℕ) → k < n → place + k * m ≡ unsigned_abs r * p.cols + unsigned_abs (index_at x (c +ℤ pos k))
   sample_steps k l =
@@ -62,7 +69,8 @@ module _ (p : Image) (r : ℤ) (x : Scale) (c : ℤ) (m n place : ℕ) (mul : x.
   pub steps_below : (k : ℕ) → k < n → place + k * m < p.rows * p.cols
   steps_below k l = subst (λ (q : ℕ). q < p.rows * p.cols) (sym (sample_steps k l)) (sample_below p r (index_at x (c +ℤ pos k)) (each k l))
 
-  pub sample_picked : (plane : ℕ) (samples : List ℕ) (v : ℤ) (k : ℕ) → samples ≡ slice_index_or p.planes plane [] → k < n → v ≡ pos (slice_index samples (place + k * m)) → v ≡ sample_at p plane r (index_at x (c +ℤ pos k))
+  pub sample_picked : (plane : ℕ) (samples : List ℕ) (v : ℤ) (k : ℕ) → samples ≡ slice_index_or p.planes plane [] → k < n
+      → v ≡ pos (slice_index samples (place + k * m)) → v ≡ sample_at p plane r (index_at x (c +ℤ pos k))
   sample_picked plane samples v k are l e =
       e ∙ ap (λ (xs : List ℕ). pos (slice_index xs (place + k * m))) are
       ∙ ap (λ (q : ℕ). pos (slice_index (slice_index_or p.planes plane []) q)) (sample_steps k l)

@@ -17,16 +17,18 @@ use Rattle.tile_eval.specs.Buffer.{raster}
 use Rattle.tile_eval.proofs.Rasters.{raster_len, raster_at}
 use Rattle.tile_run.specs.KnownTiles.{KnownTiles, number_in, number_at, HasWholeTiles, IsGivenAt}
 use Rattle.tile_run.specs.Stored.{IsStoredLine}
-use Rattle.tile_run.proofs.LocalValues.{grid_is}
+use Rattle.tile_run.proofs.LocalValuesUnroll.{grid_is}
 
 -- the tiles of a stage are those of its grid
 pub parted_is : (job : Pipeline) (g : ℕ) (s : Stage) → slice_get job.stages g ≡ Some s → (domain : Area) (sides : Sides) (grid : Grid)
-    → Some domain ≡ option_map (λ (x : Stage). x.domain) (slice_get job.stages g) → sides ≡ job.sides → grid ≡ record { area = domain; sides = sides } → grid ≡ grid_of job s
+    → Some domain ≡ option_map (λ (x : Stage). x.domain) (slice_get job.stages g) → sides ≡ job.sides
+    → grid ≡ record { area = domain; sides = sides } → grid ≡ grid_of job s
 parted_is job g s there domain sides grid found same made =
     let area : domain ≡ s.domain = same_Some domain s.domain (found ∙ ap (option_map (λ (x : Stage). x.domain)) there) in
     made ∙ (λ i. record { area = area i; sides = same i })
 
-module _ (job : Pipeline) (is : IsJob job) (given : KnownTiles) (g : ℕ) (row first : ℤ) (count : ℕ) (line : IsStoredLine job given g row first count) where
+module _ (job : Pipeline) (is : IsJob job) (given : KnownTiles) (g : ℕ) (row first : ℤ) (count : ℕ)
+    (line : IsStoredLine job given g row first count) where
   abbrev parted : Grid
   parted = grid_of job line.stage
 

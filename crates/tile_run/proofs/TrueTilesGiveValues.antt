@@ -14,10 +14,11 @@ use Rattle.overlap_tiles.proofs.Tiling.{tile_is_target}
 use Rattle.tile_eval.specs.Buffer.{raster}
 use Rattle.tile_run.specs.KnownTiles.{KnownTiles, AreTrue}
 use Rattle.tile_run.specs.Runs.{NeedsGiven, AreLocalOn, AreValuesOn}
-use Rattle.tile_run.proofs.Closing.{values_over}
-use Rattle.tile_run.proofs.Planned.{only_area}
+use Rattle.tile_run.proofs.NeedsCloseTargets.{values_over}
+use Rattle.tile_run.proofs.LayoutsPrepare.{only_area}
 
-module _ (job : Pipeline) (inlining : List Bool) (given : KnownTiles) (l : Layout) (g i j : ℕ) (is : IsTileLayout job inlining g i j l) (good : IsJob job) (are_given : NeedsGiven given l.needs) where
+module _ (job : Pipeline) (inlining : List Bool) (given : KnownTiles) (l : Layout) (g i j : ℕ) (is : IsTileLayout job inlining g i j l)
+    (good : IsJob job) (are_given : NeedsGiven given l.needs) where
   abbrev of_tile : Target
   of_tile = target_over job inlining g is.area
 

@@ -30,12 +30,14 @@ use Rattle.tile_run.specs.inside.Layouts.{IsFunctionLayout}
 use Rattle.tile_run.specs.inside.Running.{tile_values, AreStored, IsStageReady}
 use Rattle.tile_run.specs.Stored.{stored_tiles, IsStoredFunction, GivesAllTiles}
 use Rattle.tile_run.specs.declared.stored.Tiles.{Tiles}
-use Rattle.tile_run.proofs.Truths.{layout_true}
+use Rattle.tile_run.proofs.TrueTilesGiveValues.{layout_true}
 
-module _ (job : Pipeline) (inlining : List Bool) (stages : List Tiles) (g : ℕ) (grid : Grid) (good : IsJob job) (ready : IsStageReady job inlining stages g grid) where
+module _ (job : Pipeline) (inlining : List Bool) (stages : List Tiles) (g : ℕ) (grid : Grid) (good : IsJob job)
+    (ready : IsStageReady job inlining stages g grid) where
   -- what is stored has as many numbers as points
   pub whole : AreWhole job (stored_tiles stages)
-  whole h s there i j xs tile found = ap length (ready.lower.right h s there i j xs tile found) ∙ raster_len (tile_area (grid_of job s) i j) (value job h)
+  whole h s there i j xs tile found =
+      ap length (ready.lower.right h s there i j xs tile found) ∙ raster_len (tile_area (grid_of job s) i j) (value job h)
 
   own : is_function job g ≡ true
   own = ap (λ (o : Option Stage). option_map_or (λ s. is_function_body s.body) o false) ready.function.there ∙ ready.function.function
@@ -58,8 +60,12 @@ module _ (job : Pipeline) (inlining : List Bool) (stages : List Tiles) (g : ℕ)
           function = sym (ap (λ (o : Option Stage). option_map_or (λ s. is_function_body s.body) o false) at.there) ∙ boxed.0;
           stored = not-true (is_inlined inlining n.stage) both.1;
         } in
-        let low = subst (λ k. k < rank_of job.stages g) (rank_is job.stages n.stage at.stage at.there) (box_low of_tile (ranked_is job good) n.stage needed.area needed.boxed) in
-        (_, ready.lower.lower n.stage at.stage function low n.row n.col (subst (λ (d : Grid). HasTile d n.row n.col) (sym at.is) needed.meets.there))
+        let low = subst (λ k. k < rank_of job.stages g) (rank_is job.stages n.stage at.stage at.there)
+        (box_low of_tile (ranked_is job good) n.stage needed.area needed.boxed) in (
+          _,
+          ready.lower.lower n.stage at.stage function low n.row n.col
+              (subst (λ (d : Grid). HasTile d n.row n.col) (sym at.is) needed.meets.there),
+        )
 
     pub all_given : NeedsGiven (stored_tiles stages) l.needs
     all_given n k = gives n (from_needs of_tile n good (subst (λ (ns : List Tile). Contains ns n) is.layout.layout.needs k))
@@ -67,7 +73,8 @@ module _ (job : Pipeline) (inlining : List Bool) (stages : List Tiles) (g : ℕ)
     same_area : is.area ≡ tile_area grid i j
     same_area =
         let at = has_grid job g is.tile.grid is.tile.there in
-        let same : is.tile.grid ≡ grid = sym at.is ∙ ap (grid_of job) (same_Some at.stage ready.stage (sym at.there ∙ ready.function.there)) ∙ sym ready.parted in
+        let same : is.tile.grid ≡ grid = sym at.is ∙ ap (grid_of job) (same_Some at.stage ready.stage
+        (sym at.there ∙ ready.function.there)) ∙ sym ready.parted in
         is.tile.is ∙ ap (λ (d : Grid). tile_area d i j) same
 
     -- its local values are its values
@@ -79,7 +86,8 @@ module _ (job : Pipeline) (inlining : List Bool) (stages : List Tiles) (g : ℕ)
 -- ---- all of a job
 
 -- after the greatest rank all are stored
-pub all_stored : (job : Pipeline) (inlining : List Bool) (last : ℕ) (stages : List Tiles) → last ≡ greatest_rank job.stages → AreStored job inlining (last + 1) stages → GivesAllTiles job inlining (stored_tiles stages)
+pub all_stored : (job : Pipeline) (inlining : List Bool) (last : ℕ) (stages : List Tiles) → last ≡ greatest_rank job.stages
+    → AreStored job inlining (last + 1) stages → GivesAllTiles job inlining (stored_tiles stages)
 all_stored job inlining last stages greatest h g s is =
     let most = rank_below job.stages g in
     let own = rank_is job.stages g s is.there in

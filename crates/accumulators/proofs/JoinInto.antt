@@ -16,10 +16,12 @@ joined_by_places way (x ∷ xs) [] zs e f each = absurd (omega arith)
 joined_by_places way (x ∷ xs) (y ∷ ys) [] e f each = absurd (omega arith)
 joined_by_places way (x ∷ xs) (y ∷ ys) (z ∷ zs) e f each =
     ap (λ (v : ℤ). v ∷ zs) (each 0 (omega arith))
-    ∙ ap (λ (vs : List ℤ). joined way x y ∷ vs) (joined_by_places way xs ys zs (omega arith) (omega arith) (λ k h. each (suc k) (omega arith)))
+    ∙ ap (λ (vs : List ℤ). joined way x y ∷ vs) (joined_by_places way xs ys zs (omega arith) (omega arith)
+    (λ k h. each (suc k) (omega arith)))
 
 -- bins that are functions of the same numbers
-pub joined_maps : {X : Type 0} (way : Fold) (f g : X → ℤ) (bs : List X) → joined_bins way (map f bs) (map g bs) ≡ map (λ b. joined way (f b) (g b)) bs
+pub joined_maps : {X : Type 0} (way : Fold) (f g : X → ℤ) (bs : List X)
+    → joined_bins way (map f bs) (map g bs) ≡ map (λ b. joined way (f b) (g b)) bs
 joined_maps way f g [] = refl
 joined_maps way f g (b ∷ bs) = ap (λ (vs : List ℤ). joined way (f b) (g b) ∷ vs) (joined_maps way f g bs)
 

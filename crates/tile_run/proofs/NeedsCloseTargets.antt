@@ -28,7 +28,7 @@ use Rattle.tile_eval.specs.Buffer.{raster}
 use Rattle.tile_eval.proofs.Rasters.{raster_same}
 use Rattle.tile_run.specs.KnownTiles.{KnownTiles, AreTrue, IsGivenAt}
 use Rattle.tile_run.specs.Local.{local_value, FunctionAtHand, BodyAtHand, StageAtHand, IsAtHand, IsProvided}
-use Rattle.tile_run.proofs.LocalValues.{reads_weaker, local_is_value}
+use Rattle.tile_run.proofs.LocalValuesUnroll.{reads_weaker, local_is_value}
 
 -- ---- two facts of all that is read
 
@@ -43,7 +43,8 @@ module _ (P Q : ℕ → ℤ → ℤ → Type 0) (r c : ℤ) where
   both_read : (f : Formula) → EachRead P f r c → EachRead Q f r c → EachRead (Both P Q) f r c
   both_read f p q = All-both (λ x. EachTaken P x r c) (λ x. EachTaken Q x r c) (λ x. EachTaken (Both P Q) x r c) both_taken (reads_in f) p q
 
-  both_cases : (ps : List JobCase) → All (λ p. CaseReads P p r c) ps → All (λ p. CaseReads Q p r c) ps → All (λ p. CaseReads (Both P Q) p r c) ps
+  both_cases : (ps : List JobCase) → All (λ p. CaseReads P p r c) ps → All (λ p. CaseReads Q p r c) ps
+      → All (λ p. CaseReads (Both P Q) p r c) ps
   both_cases ps p q =
       All-both (λ p. CaseReads P p r c) (λ p. CaseReads Q p r c) (λ p. CaseReads (Both P Q) p r c)
       (λ case one other. λ b there inside. both_read case.formula (one b there inside) (other b there inside)) ps p q
@@ -63,7 +64,8 @@ pub record IsInTarget (t : Target) (g : ℕ) (r c : ℤ) : Type 0 where
   pub is : region t g ≡ Some area
   pub holds : HoldsPoint area r c
 
-module _ (t : Target) (job : IsJob t.job) (target : IsTarget t) (given : KnownTiles) (gives : (n : Tile) → IsNeeded t n → (xs : List ℤ) × (given n.stage n.row n.col ≡ Some xs)) where
+module _ (t : Target) (job : IsJob t.job) (target : IsTarget t) (given : KnownTiles) (gives : (n : Tile) → IsNeeded t n
+    → (xs : List ℤ) × (given n.stage n.row n.col ≡ Some xs)) where
   module _ (h : ℕ) (r c : ℤ) (boxed : IsInBox t h r c) (x : IsReadable t.job.stages h r c) where
     other : eqb h t.stage ≡ false
     other =
@@ -79,12 +81,14 @@ module _ (t : Target) (job : IsJob t.job) (target : IsTarget t) (given : KnownTi
       holds = boxed.holds;
     }
 
-    of_stored : is_function_body x.stage.body ≡ true → has_tiles x.stage.body ≡ true → is_inlined t.inlining h ≡ false → IsGivenAt given h (grid_of t.job x.stage) r c
+    of_stored : is_function_body x.stage.body ≡ true → has_tiles x.stage.body ≡ true → is_inlined t.inlining h ≡ false
+        → IsGivenAt given h (grid_of t.job x.stage) r c
     of_stored e has stored =
         let grid : Grid = grid_of t.job x.stage in
         let at : grid_at t.job h ≡ Some grid = ap (stage_grid t.job) x.there ∙ (λ i. if has i then Some grid else None) in
         let tile = tile_is grid r c (grid_fits t.job h grid job at) x.within in
-        let one = and_from (is_function t.job h) (not (eqb h t.stage)) (ap (λ (o : Option Stage). option_map_or (λ s. is_function_body s.body) o false) x.there ∙ e) (ap not other) in (
+        let one = and_from (is_function t.job h) (not (eqb h t.stage))
+        (ap (λ (o : Option Stage). option_map_or (λ s. is_function_body s.body) o false) x.there ∙ e) (ap not other) in (
           x.within,
           gives (record { stage = h; row = (tile_at grid r c).0; col = (tile_at grid r c).1 }) (record {
             grid = grid;
@@ -96,16 +100,20 @@ module _ (t : Target) (job : IsJob t.job) (target : IsTarget t) (given : KnownTi
           }),
         )
 
-    by_body : (body : Body) → x.stage.body ≡ body → (i : Bool) → is_inlined t.inlining h ≡ i → BodyAtHand t.job t.inlining given (IsInTarget t) h x.stage body r c
+    by_body : (body : Body) → x.stage.body ≡ body → (i : Bool) → is_inlined t.inlining h ≡ i
+        → BodyAtHand t.job t.inlining given (IsInTarget t) h x.stage body r c
     by_body (plane n) e i flag = x.within
     by_body (function cases otherwise) e true flag =
-        subst (λ (b : Bool). FunctionAtHand b (IsInTarget t h r c) (IsGivenAt given h (grid_of t.job x.stage) r c)) (sym flag) (of_inlined flag)
+        subst (λ (b : Bool). FunctionAtHand b (IsInTarget t h r c) (IsGivenAt given h (grid_of t.job x.stage) r c)) (sym flag)
+        (of_inlined flag)
     by_body (function cases otherwise) e false flag =
-        subst (λ (b : Bool). FunctionAtHand b (IsInTarget t h r c) (IsGivenAt given h (grid_of t.job x.stage) r c)) (sym flag) (of_stored (ap is_function_body e) (ap has_tiles e) flag)
+        subst (λ (b : Bool). FunctionAtHand b (IsInTarget t h r c) (IsGivenAt given h (grid_of t.job x.stage) r c)) (sym flag)
+        (of_stored (ap is_function_body e) (ap has_tiles e) flag)
     by_body (accumulator fold bins value bin) e i flag = absurd (subst IsValued e x.valued)
 
     of_read : IsAtHand t.job t.inlining given (IsInTarget t) h r c
-    of_read = subst (λ (o : Option Stage). StageAtHand t.job t.inlining given (IsInTarget t) h o r c) (sym x.there) (by_body x.stage.body refl (is_inlined t.inlining h) refl)
+    of_read = subst (λ (o : Option Stage). StageAtHand t.job t.inlining given (IsInTarget t) h o r c) (sym x.there)
+        (by_body x.stage.body refl (is_inlined t.inlining h) refl)
 
   pub closed : (g : ℕ) (r c : ℤ) → IsInTarget t g r c → IsProvided t.job t.inlining given (IsInTarget t) g r c
   closed g r c p =
@@ -114,12 +122,16 @@ module _ (t : Target) (job : IsJob t.job) (target : IsTarget t) (given : KnownTi
         stage = p.stage;
         there = p.there;
         inside = inside;
-        reads = reads_weaker (Both (IsInBox t) (IsReadable t.job.stages)) (IsAtHand t.job t.inlining given (IsInTarget t)) (λ h i j both. of_read h i j both.0 both.1) p.stage.body r c
-            (both_body (IsInBox t) (IsReadable t.job.stages) r c p.stage.body (has_what_it_reads t job target g p.stage p.area p.there p.is r c p.holds) ((job.stages g p.stage p.there).reads r c inside));
+        reads = reads_weaker (Both (IsInBox t) (IsReadable t.job.stages)) (IsAtHand t.job t.inlining given (IsInTarget t))
+            (λ h i j both. of_read h i j both.0 both.1) p.stage.body r c
+            (both_body (IsInBox t) (IsReadable t.job.stages) r c p.stage.body
+            (has_what_it_reads t job target g p.stage p.area p.there p.is r c p.holds)
+            ((job.stages g p.stage p.there).reads r c inside));
       }
 
   -- where what is given is true, the local values over the region are the values
-  pub values_over : AreTrue t.job given → raster t.region (local_value t.job t.inlining given t.stage) ≡ raster t.region (value t.job t.stage)
+  pub values_over : AreTrue t.job given → raster t.region (local_value t.job t.inlining given t.stage)
+      ≡ raster t.region (value t.job t.stage)
   values_over true_tiles = raster_same t.region (local_value t.job t.inlining given t.stage) (value t.job t.stage) (λ r c holds.
       local_is_value t.job job t.inlining given true_tiles (IsInTarget t) closed t.stage r c (record {
         stage = target.owner;

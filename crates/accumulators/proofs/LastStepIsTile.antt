@@ -13,7 +13,8 @@ use Rattle.grouping.specs.Costs.{inner_steps}
 use Rattle.overlap_tiles.specs.Plans.{Layout, IsTileAt, IsTileLayout, target_over}
 
 -- the last of a list that is made of elements
-last_made : {X Y : Type 0} (f : X → Y) (xs : List X) (inner : List Y) (y : Y) → map f xs ≡ inner ++ y ∷ [] → option_map f (slice_get xs (length xs - 1)) ≡ Some y
+last_made : {X Y : Type 0} (f : X → Y) (xs : List X) (inner : List Y) (y : Y) → map f xs ≡ inner ++ y ∷ []
+    → option_map f (slice_get xs (length xs - 1)) ≡ Some y
 last_made f xs inner y e =
     let long : length xs ≡ length (inner ++ y ∷ []) = sym (length-map xs f) ∙ ap length e in
     let place : length xs - 1 ≡ length inner = omega (arith, long, length-append inner (y ∷ [])) in
@@ -23,7 +24,8 @@ last_made f xs inner y e =
     ∙ slice_get-get_or (inner ++ y ∷ []) (length inner) y within
     ∙ ap Some (get_or-append_seam inner y [] y)
 
-module _ {X : Type 0} (f : X → ℕ × Area) (steps : List X) (job : Pipeline) (inlining : List Bool) (g i j : ℕ) (l : Layout) (is : IsTileLayout job inlining g i j l) (same : map f steps ≡ l.steps) where
+module _ {X : Type 0} (f : X → ℕ × Area) (steps : List X) (job : Pipeline) (inlining : List Bool) (g i j : ℕ) (l : Layout) (is :
+    IsTileLayout job inlining g i j l) (same : map f steps ≡ l.steps) where
   end : option_map f (slice_get steps (length steps - 1)) ≡ Some (g, is.area)
   end = last_made f steps (inner_steps (target_over job inlining g is.area)) (g, is.area) (same ∙ is.layout.layout.steps)
 

@@ -22,7 +22,7 @@ use Rattle.accumulators.specs.Answers.{body_gathered, gathered_at}
 use Rattle.accumulators.specs.Bins.{starts}
 use Rattle.accumulators.specs.inside.Making.{IsGathered, with_tile}
 use Rattle.accumulators.specs.Partials.{body_joined, joined_over}
-use Rattle.accumulators.proofs.Totalling.{partials_join}
+use Rattle.accumulators.proofs.PartialsJoin.{partials_join}
 
 module _ (job : Pipeline) (g : ℕ) where
   -- ---- what lacks an operation, bins or tiles gathers nothing
@@ -64,10 +64,12 @@ module _ (job : Pipeline) (g : ℕ) where
       by (Some s) e = by_body s s.body e
 
   -- what has them is an accumulator
-  pub is_gathered : (way : Fold) (bins : Ends) (grid : Grid) → stage_fold (slice_get job.stages g) ≡ Some way → stage_bins (slice_get job.stages g) ≡ Some bins → grid_at job g ≡ Some grid → IsGathered job g way bins grid
+  pub is_gathered : (way : Fold) (bins : Ends) (grid : Grid) → stage_fold (slice_get job.stages g) ≡ Some way
+      → stage_bins (slice_get job.stages g) ≡ Some bins → grid_at job g ≡ Some grid → IsGathered job g way bins grid
   is_gathered way bins grid = by (slice_get job.stages g) refl
     where
-      by_body : (s : Stage) (b : Body) → slice_get job.stages g ≡ Some s → s.body ≡ b → fold_of b ≡ Some way → bins_of b ≡ Some bins → (if has_tiles b then Some (grid_of job s) else None) ≡ Some grid → IsGathered job g way bins grid
+      by_body : (s : Stage) (b : Body) → slice_get job.stages g ≡ Some s → s.body ≡ b → fold_of b ≡ Some way → bins_of b ≡ Some bins
+          → (if has_tiles b then Some (grid_of job s) else None) ≡ Some grid → IsGathered job g way bins grid
       by_body s (plane n) there is e f h = absurd (none-some way e)
       by_body s (function cases otherwise) there is e f h = absurd (none-some way e)
       by_body s (accumulator w l v b) there is e f h = record {
@@ -79,7 +81,8 @@ module _ (job : Pipeline) (g : ℕ) where
         parted = sym (same_Some (grid_of job s) grid h);
       }
 
-      by : (o : Option Stage) → slice_get job.stages g ≡ o → stage_fold o ≡ Some way → stage_bins o ≡ Some bins → stage_grid job o ≡ Some grid → IsGathered job g way bins grid
+      by : (o : Option Stage) → slice_get job.stages g ≡ o → stage_fold o ≡ Some way → stage_bins o ≡ Some bins
+          → stage_grid job o ≡ Some grid → IsGathered job g way bins grid
       by None there e f h = absurd (none-some way e)
       by (Some s) there e f h = by_body s s.body there refl e f h
 
@@ -87,7 +90,8 @@ module _ (job : Pipeline) (g : ℕ) (way : Fold) (bins : Ends) (grid : Grid) (is
   -- ---- by its parts
 
   pub grid_there : grid_at job g ≡ Some grid
-  grid_there = ap (stage_grid job) is.there ∙ (λ i. if has_tiles (is.body i) then Some (grid_of job is.stage) else None) ∙ ap (λ (d : Grid). Some d) (sym is.parted)
+  grid_there = ap (stage_grid job) is.there ∙ (λ i. if has_tiles (is.body i) then Some (grid_of job is.stage) else None)
+      ∙ ap (λ (d : Grid). Some d) (sym is.parted)
 
   pub is_wanted : is_accumulator_at job g ≡ true
   is_wanted = ap (λ (o : Option Stage). option_map_or (λ s. is_accumulator s.body) o false) is.there ∙ ap is_accumulator is.body
@@ -98,14 +102,16 @@ module _ (job : Pipeline) (g : ℕ) (way : Fold) (bins : Ends) (grid : Grid) (is
   pub length-over : (area : Area) → length (totals_over job area g) ≡ len_of bins
   length-over area =
       let over : totals_over job area g ≡ body_totals (value job) area (accumulator way bins is.value is.bin) =
-      ap (λ (o : Option Stage). option_map_or (λ s. body_totals (value job) area s.body) o []) is.there ∙ ap (body_totals (value job) area) is.body in
+      ap (λ (o : Option Stage). option_map_or (λ s. body_totals (value job) area s.body) o []) is.there
+      ∙ ap (body_totals (value job) area) is.body in
       ap length over ∙ length-map (numbers_of bins) _ ∙ length-numbers_from bins.lo (len_of bins)
 
   -- all tiles that came in give the totals
   pub all_joined : IsJob job → fold (with_tile job g way grid) (starts way bins) (tiles_of grid) ≡ totals job g
   all_joined good =
       let joined : joined_over job g grid (tiles_of grid) ≡ fold (with_tile job g way grid) (starts way bins) (tiles_of grid) =
-      ap (λ (o : Option Stage). option_map_or (λ s. body_joined job g grid (tiles_of grid) s.body) o []) is.there ∙ ap (body_joined job g grid (tiles_of grid)) is.body in
+      ap (λ (o : Option Stage). option_map_or (λ s. body_joined job g grid (tiles_of grid) s.body) o []) is.there
+      ∙ ap (body_joined job g grid (tiles_of grid)) is.body in
       sym joined
       ∙ ap (λ (d : Grid). joined_over job g d (tiles_of d)) is.parted
       ∙ partials_join job g is.stage (tiles_of (grid_of job is.stage)) good is.there (IsPermutation-refl (tiles_of (grid_of job is.stage)))

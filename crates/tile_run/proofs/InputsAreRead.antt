@@ -25,44 +25,56 @@ module _ (job : Pipeline) (inlining : List Bool) (given : KnownTiles) (Inner : �
 
   module _ (s : Stage) (there : slice_get job.stages g ≡ Some s) (hand : IsAtHand job inlining given Inner g r c) where
     of_body : (body : Body) → s.body ≡ body → BodyAtHand job inlining given Inner g s body r c
-    of_body body is = subst (λ (b : Body). BodyAtHand job inlining given Inner g s b r c) is (subst (λ (o : Option Stage). StageAtHand job inlining given Inner g o r c) there hand)
+    of_body body is = subst (λ (b : Body). BodyAtHand job inlining given Inner g s b r c) is
+        (subst (λ (o : Option Stage). StageAtHand job inlining given Inner g o r c) there hand)
 
     pub of_plane : (n : ℕ) → s.body ≡ plane n → HoldsPoint s.domain r c
     of_plane n is = of_body (plane n) is
 
     pub of_inlined : (ps : List JobCase) (o : Option Formula) → s.body ≡ function ps o → is_inlined inlining g ≡ true → Inner g r c
-    of_inlined ps o is flag = subst (λ (b : Bool). FunctionAtHand b (Inner g r c) (IsGivenAt given g (grid_of job s) r c)) flag (of_body (function ps o) is)
+    of_inlined ps o is flag =
+        subst (λ (b : Bool). FunctionAtHand b (Inner g r c) (IsGivenAt given g (grid_of job s) r c)) flag (of_body (function ps o) is)
 
-    pub of_stored : (ps : List JobCase) (o : Option Formula) → s.body ≡ function ps o → is_inlined inlining g ≡ false → IsGivenAt given g (grid_of job s) r c
-    of_stored ps o is flag = subst (λ (b : Bool). FunctionAtHand b (Inner g r c) (IsGivenAt given g (grid_of job s) r c)) flag (of_body (function ps o) is)
+    pub of_stored : (ps : List JobCase) (o : Option Formula) → s.body ≡ function ps o → is_inlined inlining g ≡ false
+        → IsGivenAt given g (grid_of job s) r c
+    of_stored ps o is flag =
+        subst (λ (b : Bool). FunctionAtHand b (Inner g r c) (IsGivenAt given g (grid_of job s) r c)) flag (of_body (function ps o) is)
 
     pub no_accumulator : (fold : Fold) (bins : Ends) (value bin : Formula) → s.body ≡ accumulator fold bins value bin → ⊥
     no_accumulator fold bins value bin is = of_body (accumulator fold bins value bin) is
 
-module _ (job : Pipeline) (inlining : List Bool) (given : KnownTiles) (inner : Valuation) (g : ℕ) (s : Stage) (there : slice_get job.stages g ≡ Some s) (r c : ℤ) where
+module _ (job : Pipeline) (inlining : List Bool) (given : KnownTiles) (inner : Valuation) (g : ℕ) (s : Stage)
+    (there : slice_get job.stages g ≡ Some s) (r c : ℤ) where
   read_body : (body : Body) → s.body ≡ body → read_from job inlining given inner g r c ≡ body_given job inlining given inner g s body r c
-  read_body body is = ap (λ (o : Option Stage). stage_given job inlining given inner g o r c) there ∙ ap (λ (b : Body). body_given job inlining given inner g s b r c) is
+  read_body body is = ap (λ (o : Option Stage). stage_given job inlining given inner g o r c) there
+      ∙ ap (λ (b : Body). body_given job inlining given inner g s b r c) is
 
   pub read_plane : (n : ℕ) → s.body ≡ plane n → read_from job inlining given inner g r c ≡ sample_at job.picture n r c
   read_plane n is = read_body (plane n) is
 
-  pub read_inlined : (ps : List JobCase) (o : Option Formula) → s.body ≡ function ps o → is_inlined inlining g ≡ true → read_from job inlining given inner g r c ≡ inner g r c
-  read_inlined ps o is flag = read_body (function ps o) is ∙ ap (λ (b : Bool). if b then inner g r c else given_number job given g s r c) flag
+  pub read_inlined : (ps : List JobCase) (o : Option Formula) → s.body ≡ function ps o → is_inlined inlining g ≡ true
+      → read_from job inlining given inner g r c ≡ inner g r c
+  read_inlined ps o is flag =
+      read_body (function ps o) is ∙ ap (λ (b : Bool). if b then inner g r c else given_number job given g s r c) flag
 
-  pub read_stored : (ps : List JobCase) (o : Option Formula) → s.body ≡ function ps o → is_inlined inlining g ≡ false → read_from job inlining given inner g r c ≡ given_number job given g s r c
-  read_stored ps o is flag = read_body (function ps o) is ∙ ap (λ (b : Bool). if b then inner g r c else given_number job given g s r c) flag
+  pub read_stored : (ps : List JobCase) (o : Option Formula) → s.body ≡ function ps o → is_inlined inlining g ≡ false
+      → read_from job inlining given inner g r c ≡ given_number job given g s r c
+  read_stored ps o is flag =
+      read_body (function ps o) is ∙ ap (λ (b : Bool). if b then inner g r c else given_number job given g s r c) flag
 
 -- ---- stages in memory
 
 pub plane_body : (s : KeptStage) (b : KeptBody) (n : ℕ) → b ≡ s.body → b ≡ Plane n → (stage_view s).body ≡ plane n
 plane_body s b n of is = ap body_view (sym of ∙ is)
 
-pub function_body : (s : KeptStage) (b : KeptBody) (f : KeptFunction) → b ≡ s.body → b ≡ Function f → (stage_view s).body ≡ function (map case_view f.cases.items) (option_map formula_view f.otherwise)
+pub function_body : (s : KeptStage) (b : KeptBody) (f : KeptFunction) → b ≡ s.body → b ≡ Function f
+    → (stage_view s).body ≡ function (map case_view f.cases.items) (option_map formula_view f.otherwise)
 function_body s b f of is = ap body_view (sym of ∙ is)
 
 -- ---- the same tiles by other names
 
-module _ (given lent' : KnownTiles) (g g' : ℕ) (grid grid' : Grid) (r c r' c' : ℤ) (same_given : lent' ≡ given) (same_stage : g' ≡ g) (same_grid : grid' ≡ grid) (same_row : r' ≡ r) (same_column : c' ≡ c) where
+module _ (given lent' : KnownTiles) (g g' : ℕ) (grid grid' : Grid) (r c r' c' : ℤ) (same_given : lent' ≡ given) (same_stage : g'
+    ≡ g) (same_grid : grid' ≡ grid) (same_row : r' ≡ r) (same_column : c' ≡ c) where
   pub number_by : number_at lent' g' grid' r' c' ≡ number_at given g grid r c
   number_by = λ i. number_at (same_given i) (same_stage i) (same_grid i) (same_row i) (same_column i)
 

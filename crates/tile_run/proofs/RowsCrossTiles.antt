@@ -29,14 +29,16 @@ if_none (Some x) P p = tt
 
 -- ---- the tile of a point
 
-module _ (given : KnownTiles) (g : ℕ) (grid : Grid) (r c r' c' : ℤ) (i j : ℕ) (row : r' ≡ r) (col : c' ≡ c) (is : (i, j) ≡ tile_at grid r' c') where
+module _ (given : KnownTiles) (g : ℕ) (grid : Grid) (r c r' c' : ℤ) (i j : ℕ) (row : r' ≡ r) (col : c' ≡ c) (is : (i, j)
+    ≡ tile_at grid r' c') where
   same_tile : (i, j) ≡ tile_at grid r c
   same_tile = is ∙ (λ k. tile_at grid (row k) (col k))
 
   pub not_given : given g i j ≡ None → ¬ (IsGivenAt given g grid r c)
   not_given none h = none_some h.1.0 (sym none ∙ ap (λ (t : ℕ × ℕ). given g t.0 t.1) same_tile ∙ h.1.1)
 
-  pub tile_about : (block : BufferView) (area : Area) (xs : List ℤ) → IsTileOf grid r' c' (i, j) → block.area ≡ area → area ≡ tile_area grid i j → block.values.now ≡ xs → given g i j ≡ Some xs → IsTileAbout given g grid r c block
+  pub tile_about : (block : BufferView) (area : Area) (xs : List ℤ) → IsTileOf grid r' c' (i, j) → block.area ≡ area
+      → area ≡ tile_area grid i j → block.values.now ≡ xs → given g i j ≡ Some xs → IsTileAbout given g grid r c block
   tile_about block area xs of same tile numbers gives = record {
     area = same ∙ tile ∙ ap (λ (t : ℕ × ℕ). tile_area grid t.0 t.1) same_tile;
     numbers = sym (ap (λ (t : ℕ × ℕ). given g t.0 t.1) same_tile) ∙ gives ∙ ap (λ (ys : List ℤ). Some ys) (sym numbers);
@@ -50,7 +52,8 @@ some_side : (s : Ends) (side i : ℕ) (v : ℤ) → Holds (part_of s side i) v �
 some_side s zero i v h = let low = h.0 in let high = h.1 in absurd (omega (arith, ints, clamps))
 some_side s (suc side) i v h = omega arith
 
-pub same_about : (given : KnownTiles) (g : ℕ) (grid : Grid) (r c r' c' : ℤ) (block : BufferView) → r' ≡ r → c' ≡ c → IsTileAbout given g grid r' c' block → IsTileAbout given g grid r c block
+pub same_about : (given : KnownTiles) (g : ℕ) (grid : Grid) (r c r' c' : ℤ) (block : BufferView) → r' ≡ r → c' ≡ c
+    → IsTileAbout given g grid r' c' block → IsTileAbout given g grid r c block
 same_about given g grid r c r' c' block row col about =
     subst (λ (z : ℤ). IsTileAbout given g grid z c block) row (subst (λ (z : ℤ). IsTileAbout given g grid r' z block) col about)
 
@@ -66,7 +69,8 @@ module _ (given : KnownTiles) (g : ℕ) (grid : Grid) (r c : ℤ) (block : Buffe
   about_more d held =
       let t : ℕ × ℕ = tile_at grid r c in
       let inside : HoldsPoint (tile_area grid t.0 t.1) r d = subst (λ (a : Area). HoldsPoint a r d) about.area held in
-      let col : t.1 ≡ (tile_at grid r d).1 = place_only grid.area.cols grid.sides.width d t.1 (some_side grid.area.cols grid.sides.width t.1 d inside.1) inside.1 in
+      let col : t.1 ≡ (tile_at grid r d).1 = place_only grid.area.cols grid.sides.width d t.1
+      (some_side grid.area.cols grid.sides.width t.1 d inside.1) inside.1 in
       record {
         area = about.area ∙ ap (tile_area grid t.0) col;
         numbers = sym (ap (given g t.0) col) ∙ about.numbers;
@@ -86,13 +90,16 @@ in_front : (k : ℕ) (xs ys : List ℤ) → k < length xs → at (xs ++ ys) k �
 in_front k xs ys l = grind (arith, common_steps)
 
 -- as far as a part of a row goes
-pub part_held : (a : Area) (cols : Ends) (r c c' : ℤ) (n k : ℕ) (out : List ℤ) → HoldsPoint a r c → cols ≡ a.cols → c' ≡ c → (c' +ℤ pos n) ≤ℤ (cols.hi +ℤ pos 1) → n ≤ length out → k < length (take n out) → HoldsPoint a r (c +ℤ pos k)
+pub part_held : (a : Area) (cols : Ends) (r c c' : ℤ) (n k : ℕ) (out : List ℤ) → HoldsPoint a r c → cols ≡ a.cols → c' ≡ c
+    → (c' +ℤ pos n) ≤ℤ (cols.hi +ℤ pos 1) → n ≤ length out → k < length (take n out) → HoldsPoint a r (c +ℤ pos k)
 part_held a cols r c c' n k out h same col most le l =
-    let end : (c +ℤ pos n) ≤ℤ (a.cols.hi +ℤ pos 1) = subst (λ (z : ℤ). (z +ℤ pos n) ≤ℤ (a.cols.hi +ℤ pos 1)) col (subst (λ (s : Ends). (c' +ℤ pos n) ≤ℤ (s.hi +ℤ pos 1)) same most) in
+    let end : (c +ℤ pos n) ≤ℤ (a.cols.hi +ℤ pos 1) = subst (λ (z : ℤ). (z +ℤ pos n) ≤ℤ (a.cols.hi +ℤ pos 1)) col
+    (subst (λ (s : Ends). (c' +ℤ pos n) ≤ℤ (s.hi +ℤ pos 1)) same most) in
     row_held a r c n k h end (subst (λ (m : ℕ). k < m) (take_len n out le) l)
 
 -- the numbers of a part of a row
-pub part_number : (given : KnownTiles) (g : ℕ) (grid : Grid) (r c r' c' : ℤ) (block : BufferView) (n k : ℕ) (out new rest : List ℤ) → IsTileAbout given g grid r c block → r' ≡ r → c' ≡ c → n ≤ length out → length new ≡ length (take n out) → k < n
+pub part_number : (given : KnownTiles) (g : ℕ) (grid : Grid) (r c r' c' : ℤ) (block : BufferView) (n k : ℕ) (out new rest : List ℤ)
+    → IsTileAbout given g grid r c block → r' ≡ r → c' ≡ c → n ≤ length out → length new ≡ length (take n out) → k < n
     → EachPlace (length (take n out)) (λ j. HoldsPoint block.area r (c +ℤ pos j))
     → EachPlace (length (take n out)) (λ j. at new j ≡ at block.values.now (place_of block.area r' (c' +ℤ pos j)))
     → at (new ++ rest) k ≡ number_at given g grid r (c +ℤ pos k)
@@ -106,7 +113,8 @@ part_number given g grid r c r' c' block n k out new rest about row col le len l
 -- ---- columns that an index takes, from the first on
 
 -- an index never falls: where it takes two columns into a span, it takes those between there too
-between_held : (s : Ends) (x : Scale) (c : ℤ) (j k : ℕ) → IsIndex x → Holds s (index_at x c) → Holds s (index_at x (c +ℤ pos j)) → k ≤ j → Holds s (index_at x (c +ℤ pos k))
+between_held : (s : Ends) (x : Scale) (c : ℤ) (j k : ℕ) → IsIndex x → Holds s (index_at x c) → Holds s (index_at x (c +ℤ pos j)) → k ≤ j
+    → Holds s (index_at x (c +ℤ pos k))
 between_held s x c j k is first last le =
     let low : s.lo ≤ℤ index_at x c = first.0 in
     let high : index_at x (c +ℤ pos j) ≤ℤ s.hi = last.1 in
@@ -119,7 +127,8 @@ pub first_held : (s : Ends) (x : Scale) (c : ℤ) → Holds s (index_at x c) →
 first_held s x c first zero l = subst (λ (z : ℤ). Holds s (index_at x z)) (sym (+ℤ_idr c)) first
 first_held s x c first (suc k) l = absurd (omega arith)
 
-pub more_held : (s : Ends) (x : Scale) (c : ℤ) (j : ℕ) → IsIndex x → Holds s (index_at x c) → Holds s (index_at x (c +ℤ pos j)) → EachPlace (j + 1) (λ k. Holds s (index_at x (c +ℤ pos k)))
+pub more_held : (s : Ends) (x : Scale) (c : ℤ) (j : ℕ) → IsIndex x → Holds s (index_at x c) → Holds s (index_at x (c +ℤ pos j))
+    → EachPlace (j + 1) (λ k. Holds s (index_at x (c +ℤ pos k)))
 more_held s x c j is first last k l = between_held s x c j k is first last (omega arith)
 
 -- a part ends no further than the row
@@ -127,11 +136,15 @@ pub part_most : (c m : ℤ) (n : ℕ) (out : List ℤ) → n ≤ length out → 
 part_most c m n out le most = omega (arith, ints, take_len n out le)
 
 -- within the area of a block
-pub picked_held : (a : Area) (cols : Ends) (r c : ℤ) (f : ℕ → ℤ) (n : ℕ) (out : List ℤ) → HoldsPoint a r c → cols ≡ a.cols → n ≤ length out → EachPlace n (λ k. Holds cols (f k)) → EachPlace (length (take n out)) (λ k. HoldsPoint a r (f k))
-picked_held a cols r c f n out h same le each k l = (h.0, subst (λ (s : Ends). Holds s (f k)) same (each k (subst (λ (m : ℕ). k < m) (take_len n out le) l)))
+pub picked_held : (a : Area) (cols : Ends) (r c : ℤ) (f : ℕ → ℤ) (n : ℕ) (out : List ℤ) → HoldsPoint a r c → cols ≡ a.cols → n ≤ length out
+    → EachPlace n (λ k. Holds cols (f k)) → EachPlace (length (take n out)) (λ k. HoldsPoint a r (f k))
+picked_held a cols r c f n out h same le each k l =
+    (h.0, subst (λ (s : Ends). Holds s (f k)) same (each k (subst (λ (m : ℕ). k < m) (take_len n out le) l)))
 
 -- the numbers there
-pub picked_number : (given : KnownTiles) (g : ℕ) (grid : Grid) (r c r' : ℤ) (block : BufferView) (f : ℕ → ℤ) (n k : ℕ) (out new rest : List ℤ) → IsTileAbout given g grid r c block → r' ≡ r → n ≤ length out → length new ≡ length (take n out) → k < n
+pub picked_number : (given : KnownTiles) (g : ℕ) (grid : Grid) (r c r' : ℤ) (block : BufferView) (f : ℕ
+    → ℤ) (n k : ℕ) (out new rest : List ℤ) → IsTileAbout given g grid r c block → r' ≡ r → n ≤ length out
+    → length new ≡ length (take n out) → k < n
     → EachPlace (length (take n out)) (λ j. HoldsPoint block.area r (f j))
     → EachPlace (length (take n out)) (λ j. at new j ≡ at block.values.now (place_of block.area r' (f j)))
     → at (new ++ rest) k ≡ number_at given g grid r (f k)
@@ -143,7 +156,8 @@ picked_number given g grid r c r' block f n k out new rest about row le len l he
     ∙ number_is given g grid r (f k) block (about_more given g grid r c block about (f k) (held k within))
 
 -- a slice of the block in which a row begins
-pub slice_numbers : (given : KnownTiles) (g : ℕ) (grid : Grid) (r c r' c' : ℤ) (block : BufferView) (n : ℕ) (o : Option (Bor (List ℤ))) → IsTileAbout given g grid r c block → r' ≡ r → c' ≡ c
+pub slice_numbers : (given : KnownTiles) (g : ℕ) (grid : Grid) (r c r' c' : ℤ) (block : BufferView) (n : ℕ) (o : Option (Bor (List ℤ)))
+    → IsTileAbout given g grid r c block → r' ≡ r → c' ≡ c
     → IfSome o (λ l. length l.now ≡ n) → IfSome o (λ l. EachPlace n (λ k. HoldsPoint block.area r' (c' +ℤ pos k)))
     → IfSome o (λ l. EachPlace n (λ k. at l.now k ≡ at block.values.now (place_of block.area r' (c' +ℤ pos k))))
     → IfSome o (λ l. (length l.now ≡ n) × EachPlace n (λ k. at l.now k ≡ number_at given g grid r (c +ℤ pos k)))
@@ -151,7 +165,8 @@ slice_numbers given g grid r c r' c' block n None about row col long held number
 slice_numbers given g grid r c r' c' block n (Some l) about row col long held numbers = (
   long,
   λ k low.
-      let here : HoldsPoint block.area r (c +ℤ pos k) = subst (λ (z : ℤ). HoldsPoint block.area z (c +ℤ pos k)) row (subst (λ (z : ℤ). HoldsPoint block.area r' (z +ℤ pos k)) col (held k low)) in
+      let here : HoldsPoint block.area r (c +ℤ pos k) = subst (λ (z : ℤ). HoldsPoint block.area z (c +ℤ pos k)) row
+      (subst (λ (z : ℤ). HoldsPoint block.area r' (z +ℤ pos k)) col (held k low)) in
       numbers k low
       ∙ (λ i. at block.values.now (place_of block.area (row i) (col i +ℤ pos k)))
       ∙ number_is given g grid r (c +ℤ pos k) block (about_more given g grid r c block about (c +ℤ pos k) here),
@@ -178,12 +193,14 @@ further c d done k e = omega (arith, ints)
 -- a row as far as it is done, and its rest from column d on
 module _ (c d : ℤ) (done : ℕ) (out : List ℤ) (le : done ≤ length out) (column_is : d ≡ c +ℤ pos done) where
   -- what holds along the row holds along its rest
-  pub rest_held : (P : ℤ → Type 0) (n : ℕ) → length out ≡ n → EachPlace n (λ k. P (c +ℤ pos k)) → EachPlace (length (take (length out - done) (drop done out))) (λ k. P (d +ℤ pos k))
+  pub rest_held : (P : ℤ → Type 0) (n : ℕ) → length out ≡ n → EachPlace n (λ k. P (c +ℤ pos k))
+      → EachPlace (length (take (length out - done) (drop done out))) (λ k. P (d +ℤ pos k))
   rest_held P n len each k h =
       let short : k < length out - done = subst (λ (m : ℕ). k < m) (rest_len done out) h in
       subst P (further c d done k column_is) (each (done + k) (omega arith))
 
-  module _ (new : List ℤ) (n : ℕ) (len : length new ≡ length (take (length out - done) (drop done out))) (most : n ≤ length (take (length out - done) (drop done out))) where
+  module _ (new : List ℤ) (n : ℕ) (len : length new
+      ≡ length (take (length out - done) (drop done out))) (most : n ≤ length (take (length out - done) (drop done out))) where
     new_len : length new ≡ length out - done
     new_len = len ∙ rest_len done out
 
@@ -191,7 +208,8 @@ module _ (c d : ℤ) (done : ℕ) (out : List ℤ) (le : done ≤ length out) (c
     still_most = omega (arith, put_len done out new le new_len, rest_len done out)
 
     -- a row that is right as far as it is done goes on with numbers that are right
-    pub row_goes_on : (f : ℤ → ℤ) → EachPlace done (λ k. at out k ≡ f (c +ℤ pos k)) → EachPlace n (λ k. at new k ≡ f (d +ℤ pos k)) → EachPlace (done + n) (λ k. at (put_mid done (length out - done) out new) k ≡ f (c +ℤ pos k))
+    pub row_goes_on : (f : ℤ → ℤ) → EachPlace done (λ k. at out k ≡ f (c +ℤ pos k)) → EachPlace n (λ k. at new k ≡ f (d +ℤ pos k))
+        → EachPlace (done + n) (λ k. at (put_mid done (length out - done) out new) k ≡ f (c +ℤ pos k))
     row_goes_on f old more k h = by (cases_lt k done)
       where
         by : (k < done) ⊎ (done ≤ k) → at (put_mid done (length out - done) out new) k ≡ f (c +ℤ pos k)
@@ -200,4 +218,5 @@ module _ (c d : ℤ) (done : ℕ) (out : List ℤ) (le : done ≤ length out) (c
             let short : k - done < n = omega arith in
             let within : k - done < length new = omega (arith, len) in
             let place : k ≡ done + (k - done) = omega arith in
-            ap (at (put_mid done (length out - done) out new)) place ∙ put_within done (length out - done) (k - done) out new within le ∙ more (k - done) short ∙ ap f (column c d done k column_is l)
+            ap (at (put_mid done (length out - done) out new)) place ∙ put_within done (length out - done) (k - done) out new within le
+            ∙ more (k - done) short ∙ ap f (column c d done k column_is l)

@@ -17,7 +17,7 @@ use Rattle.domains.proofs.PairLists.{row_of}
 use Rattle.domains.proofs.PartsOfSpans.{part_fits, starts_in}
 use Rattle.domains.specs.declared.operators.Fold.{Fold}
 use Rattle.job.specs.Totals.{start_of, joined}
-use Rattle.accumulators.proofs.Folding.{total_by_values, total_of-none, joined-exchange, starts_join, total_among, total_among-append, total_of-permuted}
+use Rattle.accumulators.proofs.TotalsInAnyOrder.{total_by_values, total_of-none, joined-exchange, starts_join, total_among, total_among-append, total_of-permuted}
 
 -- ---- the numbers of a span, part by part
 
@@ -48,7 +48,8 @@ module _ (s : Ends) (side : ℕ) (is : IsSpan s) (some : 1 ≤ side) where
 
   -- a part, and what is left behind it
   part_and_rest : (i : ℕ) → i < part_count s side
-      → numbers_from (s.lo +ℤ pos (i * side)) (left_behind (len_of s) side i) ≡ numbers_of (part_of s side i) ++ numbers_from (s.lo +ℤ pos ((i + 1) * side)) (left_behind (len_of s) side (i + 1))
+      → numbers_from (s.lo +ℤ pos (i * side)) (left_behind (len_of s) side i)
+      ≡ numbers_of (part_of s side i) ++ numbers_from (s.lo +ℤ pos ((i + 1) * side)) (left_behind (len_of s) side (i + 1))
   part_and_rest i h = by (cases_lt ((i + 1) * side) (len_of s))
     where
       first : ℤ
@@ -66,23 +67,29 @@ module _ (s : Ends) (side : ℕ) (is : IsSpan s) (some : 1 ≤ side) where
       whole : s.lo +ℤ pos (len_of s) ≡ s.hi +ℤ pos 1
       whole = len_is s is
 
-      joined_up : (rest : ℕ) (z : ℤ) → left_behind (len_of s) side i ≡ long + rest → numbers_from (first +ℤ pos long) rest ≡ numbers_from z rest
+      joined_up : (rest : ℕ) (z : ℤ) → left_behind (len_of s) side i ≡ long + rest
+          → numbers_from (first +ℤ pos long) rest ≡ numbers_from z rest
           → numbers_from first (left_behind (len_of s) side i) ≡ numbers_of (part_of s side i) ++ numbers_from z rest
       joined_up rest z count same =
           ap (numbers_from first) count ∙ numbers-append first long rest ∙ ap (λ (zs : List ℤ). numbers_of (part_of s side i) ++ zs) same
 
       by : ((i + 1) * side < len_of s) ⊎ (len_of s ≤ (i + 1) * side)
-          → numbers_from first (left_behind (len_of s) side i) ≡ numbers_of (part_of s side i) ++ numbers_from (s.lo +ℤ pos ((i + 1) * side)) (left_behind (len_of s) side (i + 1))
+          → numbers_from first (left_behind (len_of s) side i)
+          ≡ numbers_of (part_of s side i) ++ numbers_from (s.lo +ℤ pos ((i + 1) * side)) (left_behind (len_of s) side (i + 1))
       by (inl less) =
           let full : long ≡ side = omega (arith, ints, clamps, wide, ends, whole) in
           let next : first +ℤ pos long ≡ s.lo +ℤ pos ((i + 1) * side) = omega (arith, ints, wide, full) in
-          joined_up (left_behind (len_of s) side (i + 1)) (s.lo +ℤ pos ((i + 1) * side)) (omega (arith, wide, full)) (ap (λ (z : ℤ). numbers_from z (left_behind (len_of s) side (i + 1))) next)
+          joined_up (left_behind (len_of s) side (i + 1)) (s.lo +ℤ pos ((i + 1) * side)) (omega (arith, wide, full))
+          (ap (λ (z : ℤ). numbers_from z (left_behind (len_of s) side (i + 1))) next)
       by (inr most) =
           let none : left_behind (len_of s) side (i + 1) ≡ 0 = omega arith in
           let full : long ≡ left_behind (len_of s) side i = omega (arith, ints, clamps, wide, ends, whole) in
-          joined_up (left_behind (len_of s) side (i + 1)) (s.lo +ℤ pos ((i + 1) * side)) (omega (arith, none, full)) (ap (numbers_from (first +ℤ pos long)) none ∙ sym (ap (numbers_from (s.lo +ℤ pos ((i + 1) * side))) none))
+          joined_up (left_behind (len_of s) side (i + 1)) (s.lo +ℤ pos ((i + 1) * side)) (omega (arith, none, full))
+          (ap (numbers_from (first +ℤ pos long)) none ∙ sym (ap (numbers_from (s.lo +ℤ pos ((i + 1) * side))) none))
 
-  parts_from : (i m : ℕ) → i + m ≡ part_count s side → flat_map (λ k. numbers_of (part_of s side k)) (range_with_len i m) ≡ numbers_from (s.lo +ℤ pos (i * side)) (left_behind (len_of s) side i)
+  parts_from : (i m : ℕ) → i + m ≡ part_count s side
+      → flat_map (λ k. numbers_of (part_of s side k)) (range_with_len i m)
+      ≡ numbers_from (s.lo +ℤ pos (i * side)) (left_behind (len_of s) side i)
   parts_from i zero h = sym (ap (numbers_from (s.lo +ℤ pos (i * side))) (none_left i (omega arith)))
   parts_from i (suc m) h =
       ap (λ (zs : List ℤ). numbers_of (part_of s side i) ++ zs) (parts_from (i + 1) m (omega arith))
@@ -117,7 +124,8 @@ module _ (way : Fold) (value : ℤ × ℤ → ℤ) (test : ℤ × ℤ → Bool) 
 
   -- two parts of the columns
   columns_join : (rs cs ds : List ℤ) → total (pairs rs (cs ++ ds)) ≡ joined way (total (pairs rs cs)) (total (pairs rs ds))
-  columns_join [] cs ds = total_of-none way ∙ sym (starts_join way) ∙ (λ i. joined way (sym (total_of-none way) i) (sym (total_of-none way) i))
+  columns_join [] cs ds =
+      total_of-none way ∙ sym (starts_join way) ∙ (λ i. joined way (sym (total_of-none way) i) (sym (total_of-none way) i))
   columns_join (r ∷ rs) cs ds =
       both (row_of r (cs ++ ds)) (pairs rs (cs ++ ds))
       ∙ (λ i. joined way (row i) (columns_join rs cs ds i))
@@ -139,7 +147,8 @@ module _ (way : Fold) (value : ℤ × ℤ → ℤ) (test : ℤ × ℤ → Bool) 
         ∙ ap (joined way (total (pairs rs (cols j)))) (row_of_parts rs js)
         ∙ sym (columns_join rs (cols j) (flat_map cols js))
 
-    all_parts : (rows : X → List ℤ) (is js : List X) → total (flat_map (λ i. flat_map (λ j. pairs (rows i) (cols j)) js) is) ≡ total (pairs (flat_map rows is) (flat_map cols js))
+    all_parts : (rows : X → List ℤ) (is js : List X)
+        → total (flat_map (λ i. flat_map (λ j. pairs (rows i) (cols j)) js) is) ≡ total (pairs (flat_map rows is) (flat_map cols js))
     all_parts rows [] js = refl
     all_parts rows (i ∷ is) js =
         both (flat_map (λ j. pairs (rows i) (cols j)) js) (flat_map (λ k. flat_map (λ j. pairs (rows k) (cols j)) js) is)
@@ -186,4 +195,5 @@ module _ (way : Fold) (value : ℤ × ℤ → ℤ) (test : ℤ × ℤ → Bool) 
       ∙ points_after points [] (tiles_of grid)
       ∙ ap total (flat_pairs points is_rows is_cols)
       ∙ all_parts cols rows is_rows is_cols
-      ∙ (λ i. total (pairs (parts_are_all grid.area.rows grid.sides.height is.area.rows is.sides.height_least i) (parts_are_all grid.area.cols grid.sides.width is.area.cols is.sides.width_least i)))
+      ∙ (λ i. total (pairs (parts_are_all grid.area.rows grid.sides.height is.area.rows is.sides.height_least i)
+      (parts_are_all grid.area.cols grid.sides.width is.area.cols is.sides.width_least i)))

@@ -24,7 +24,8 @@ pub find_of : {X Y : Type 0} → (p : Y → Bool) (f : X → Y) (xs : List X) �
 find_of p f [] = refl
 find_of p f (x ∷ xs) = by (p (f x)) (find_of p f xs)
   where
-    by : (b : Bool) → find p (map f xs) ≡ option_map f (find (λ y. p (f y)) xs) → cond b (Some (f x)) (find p (map f xs)) ≡ option_map f (cond b (Some x) (find (λ y. p (f y)) xs))
+    by : (b : Bool) → find p (map f xs) ≡ option_map f (find (λ y. p (f y)) xs)
+        → cond b (Some (f x)) (find p (map f xs)) ≡ option_map f (cond b (Some x) (find (λ y. p (f y)) xs))
     by true rest = refl
     by false rest = rest
 
@@ -40,29 +41,34 @@ nothing_of f (Some x) e = absurd (none-some (f x) e)
 
 module _ {X : Type 0} (p : X → Bool) (f : ℕ → List X) where
   -- one list more
-  pub list_more : (n : ℕ) (o : Option X) → find p (flat_map f (range_with_len 0 n)) ≡ None → find p (f n) ≡ o → find p (flat_map f (range_with_len 0 (n + 1))) ≡ o
+  pub list_more : (n : ℕ) (o : Option X) → find p (flat_map f (range_with_len 0 n)) ≡ None → find p (f n) ≡ o
+      → find p (flat_map f (range_with_len 0 (n + 1))) ≡ o
   list_more n o none here =
       ap (find p) (flat_map_range_more f n)
       ∙ find-append p (flat_map f (range_with_len 0 n)) (f n)
       ∙ (λ i. option_or (none i) (here i))
 
   -- what is found in one list, and in none before it
-  pub list_found : (n k : ℕ) (x : X) → k < n → find p (flat_map f (range_with_len 0 k)) ≡ None → find p (f k) ≡ Some x → find p (flat_map f (range_with_len 0 n)) ≡ Some x
+  pub list_found : (n k : ℕ) (x : X) → k < n → find p (flat_map f (range_with_len 0 k)) ≡ None → find p (f k) ≡ Some x
+      → find p (flat_map f (range_with_len 0 n)) ≡ Some x
   list_found zero k x low none here = absurd (omega (arith, low))
   list_found (suc n) k x low none here = by (cases_eq k n) (λ earlier. list_found n k x earlier none here)
     where
       one : n + 1 ≡ suc n
       one = omega arith
 
-      by : (k ≡ n) ⊎ (k ≡ n → ⊥) → (k < n → find p (flat_map f (range_with_len 0 n)) ≡ Some x) → find p (flat_map f (range_with_len 0 (suc n))) ≡ Some x
-      by (inl e) before = subst (λ m. find p (flat_map f (range_with_len 0 m)) ≡ Some x) (ap (λ m. m + 1) e ∙ one) (list_more k (Some x) none here)
+      by : (k ≡ n) ⊎ (k ≡ n → ⊥) → (k < n → find p (flat_map f (range_with_len 0 n)) ≡ Some x)
+          → find p (flat_map f (range_with_len 0 (suc n))) ≡ Some x
+      by (inl e) before =
+          subst (λ m. find p (flat_map f (range_with_len 0 m)) ≡ Some x) (ap (λ m. m + 1) e ∙ one) (list_more k (Some x) none here)
       by (inr ne) before =
           ap (λ m. find p (flat_map f (range_with_len 0 m))) (sym one)
           ∙ ap (find p) (flat_map_range_more f n)
           ∙ find-append p (flat_map f (range_with_len 0 n)) (f n)
           ∙ ap (λ o. option_or o (find p (f n))) (before (omega (arith, low, ne)))
 
-  pub some_found : (n k : ℕ) (o : Option X) → k < n → find p (flat_map f (range_with_len 0 k)) ≡ None → o ≡ find p (f k) → is_some o ≡ true → o ≡ find p (flat_map f (range_with_len 0 n))
+  pub some_found : (n k : ℕ) (o : Option X) → k < n → find p (flat_map f (range_with_len 0 k)) ≡ None → o ≡ find p (f k) → is_some o ≡ true
+      → o ≡ find p (flat_map f (range_with_len 0 n))
   some_found n k None low none here is = absurd (false≢true is)
   some_found n k (Some x) low none here is = sym (list_found n k x low none (sym here))
 
@@ -76,14 +82,16 @@ module _ {X : Type 0} (p : X → Bool) (f : ℕ → X) where
       sym (single (n + 1))
       ∙ list_more p (λ k. f k ∷ []) n None (single n ∙ none) (ap (λ b. cond b (Some (f n)) None) fails)
 
-  pub one_found : (n k : ℕ) → k < n → find p (map f (range_with_len 0 k)) ≡ None → p (f k) ≡ true → find p (map f (range_with_len 0 n)) ≡ Some (f k)
+  pub one_found : (n k : ℕ) → k < n → find p (map f (range_with_len 0 k)) ≡ None → p (f k) ≡ true
+      → find p (map f (range_with_len 0 n)) ≡ Some (f k)
   one_found n k low none passes =
       sym (single n)
       ∙ list_found p (λ k. f k ∷ []) n k (f k) low (single k ∙ none) (ap (λ b. cond b (Some (f k)) None) passes)
 
 -- ---- the lists of those numbers that are wanted
 
-module _ {X : Type 0} (p : X → Bool) (f : ℕ → List X) (w : ℕ → Bool) (gs : List ℕ) (k g : ℕ) (low : k < length gs) (here : g ≡ get_or gs k 0) where
+module _ {X : Type 0} (p : X → Bool) (f : ℕ → List X) (w : ℕ
+    → Bool) (gs : List ℕ) (k g : ℕ) (low : k < length gs) (here : g ≡ get_or gs k 0) where
   -- what is found from number k on
   abbrev pub from : ℕ → Option X
   from n = find p (flat_map f (filter w (drop n gs)))

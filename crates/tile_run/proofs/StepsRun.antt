@@ -21,12 +21,15 @@ module _ (xs ys : List (ℕ × Area)) where
   pub to_longer : (k : ℕ) (x : ℕ × Area) → slice_get xs k ≡ Some x → slice_get (xs ++ ys) k ≡ Some x
   to_longer k x is =
       let there = slice_get_within xs k x is in
-      slice_get-get_or (xs ++ ys) k x (omega (arith, length-append xs ys)) ∙ ap Some (get_or_append_left xs ys x k there ∙ get_or_from_slice_get xs k x x is)
+      slice_get-get_or (xs ++ ys) k x (omega (arith, length-append xs ys))
+      ∙ ap Some (get_or_append_left xs ys x k there ∙ get_or_from_slice_get xs k x x is)
 
   from_longer : (k : ℕ) (x : ℕ × Area) → k < length xs → slice_get (xs ++ ys) k ≡ Some x → slice_get xs k ≡ Some x
-  from_longer k x there is = slice_get-get_or xs k x there ∙ ap Some (sym (get_or_append_left xs ys x k there) ∙ get_or_from_slice_get (xs ++ ys) k x x is)
+  from_longer k x there is =
+      slice_get-get_or xs k x there ∙ ap Some (sym (get_or_append_left xs ys x k there) ∙ get_or_from_slice_get (xs ++ ys) k x x is)
 
-  pub computed_longer : (n : ℕ) (buffers : List (Option Buffer)) → n ≤ length xs → AreComputed xs n buffers → AreComputed (xs ++ ys) n buffers
+  pub computed_longer : (n : ℕ) (buffers : List (Option Buffer)) → n ≤ length xs → AreComputed xs n buffers
+      → AreComputed (xs ++ ys) n buffers
   computed_longer n buffers few done = λ k g a before is r c holds. done k g a before (from_longer k (g, a) (omega arith) is) r c holds
 
 -- ---- one step more
@@ -34,11 +37,14 @@ module _ (xs ys : List (ℕ × Area)) where
 pub none_computed : (steps : List (ℕ × Area)) (buffers : List (Option Buffer)) → AreComputed steps 0 buffers
 none_computed steps buffers = λ k g a before is r c holds. absurd (omega (arith, before))
 
-known_in : (buffers new : List (Option Buffer)) (g : ℕ) (r c : ℤ) → slice_get new g ≡ slice_get buffers g → IsKnownAt buffers g r c → IsKnownAt new g r c
+known_in : (buffers new : List (Option Buffer)) (g : ℕ) (r c : ℤ) → slice_get new g ≡ slice_get buffers g → IsKnownAt buffers g r c
+    → IsKnownAt new g r c
 known_in buffers new g r c same known = record { whole = known.whole; there = same ∙ known.there; within = known.within }
 
-pub computed_next : (job : Pipeline) (inlining : List Bool) (given : KnownTiles) (steps : List (ℕ × Area)) (n g : ℕ) (a : Area) (buffers new : List (Option Buffer)) → AreRunnable job inlining given steps → slice_get steps n ≡ Some (g, a)
-    → AreComputed steps n buffers → ((r c : ℤ) → HoldsPoint a r c → IsKnownAt new g r c) → ((h : ℕ) → h ≢ g → slice_get new h ≡ slice_get buffers h) → AreComputed steps (n + 1) new
+pub computed_next : (job : Pipeline) (inlining : List Bool) (given : KnownTiles) (steps : List (ℕ × Area)) (n g : ℕ) (a : Area)
+    (buffers new : List (Option Buffer)) → AreRunnable job inlining given steps → slice_get steps n ≡ Some (g, a)
+    → AreComputed steps n buffers → ((r c : ℤ) → HoldsPoint a r c → IsKnownAt new g r c)
+    → ((h : ℕ) → h ≢ g → slice_get new h ≡ slice_get buffers h) → AreComputed steps (n + 1) new
 computed_next job inlining given steps n g a buffers new run here done this others = λ k h b before is r c holds.
     elim (cases_eq h g) [
       | inl e ↦
@@ -48,7 +54,8 @@ computed_next job inlining given steps n g a buffers new run here done this othe
         | inl earlier ↦ known_in buffers new h r c (others h other) (done k h b earlier is r c holds)
         | inr late ↦
             (let same : k ≡ n = omega arith in
-            let pair : (g, a) ≡ (h, b) = sym (get_or_from_slice_get steps n (g, a) (h, b) here) ∙ get_or_from_slice_get steps n (h, b) (h, b) (subst (λ (m : ℕ). slice_get steps m ≡ Some (h, b)) same is) in
+            let pair : (g, a) ≡ (h, b) = sym (get_or_from_slice_get steps n (g, a) (h, b) here)
+            ∙ get_or_from_slice_get steps n (h, b) (h, b) (subst (λ (m : ℕ). slice_get steps m ≡ Some (h, b)) same is) in
             absurd (other (sym (ap (λ (x : ℕ × Area). x.0) pair))))
       ]
     ]
@@ -80,14 +87,18 @@ nothing n = replicate n None
 length-nothing : (n : ℕ) → length (nothing n) ≡ n
 length-nothing n = length-replicate n None
 
-pub none_known : (job : Pipeline) (inlining : List Bool) (given : KnownTiles) (n : ℕ) (buffers : List (Option Buffer)) → buffers ≡ replicate n None → AreLocal job inlining given buffers
+pub none_known : (job : Pipeline) (inlining : List Bool) (given : KnownTiles) (n : ℕ) (buffers : List (Option Buffer))
+    → buffers ≡ replicate n None → AreLocal job inlining given buffers
 none_known job inlining given n buffers none = λ g r c known.
-    let there : slice_get (nothing n) g ≡ Some (Some known.whole) = ap (λ (ws : List (Option Buffer)). slice_get ws g) (sym none) ∙ known.there in
+    let there : slice_get (nothing n) g ≡ Some (Some known.whole) = ap (λ (ws : List (Option Buffer)). slice_get ws g) (sym none)
+    ∙ known.there in
     let short = slice_get_within (nothing n) g (Some known.whole) there in
     let inside : g < n = omega (arith, length-nothing n) in
     absurd (none-some known.whole
     (sym (get_or-replicate n g None None inside) ∙ get_or_from_slice_get (nothing n) g (Some known.whole) None there))
 
 -- the step at a place of a list
-pub step_at : (steps : List Step) (k : ℕ) (s : Step) → k < length steps → s ≡ slice_index_or steps k s → slice_get (map step_view steps) k ≡ Some (step_view s)
-step_at steps k s there is = slice_get-map step_view steps k ∙ ap (option_map step_view) (slice_get_read steps (length steps) k s refl there is)
+pub step_at : (steps : List Step) (k : ℕ) (s : Step) → k < length steps → s ≡ slice_index_or steps k s
+    → slice_get (map step_view steps) k ≡ Some (step_view s)
+step_at steps k s there is =
+    slice_get-map step_view steps k ∙ ap (option_map step_view) (slice_get_read steps (length steps) k s refl there is)

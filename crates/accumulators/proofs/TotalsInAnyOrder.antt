@@ -60,7 +60,8 @@ joined-assoc Min a b x = omega (arith, ints, clamps)
 joined-assoc Max a b x = omega (arith, ints, clamps)
 
 -- the middle two of four change places
-pub joined-exchange : (way : Fold) (a b x y : ℤ) → joined way (joined way a b) (joined way x y) ≡ joined way (joined way a x) (joined way b y)
+pub joined-exchange : (way : Fold) (a b x y : ℤ)
+    → joined way (joined way a b) (joined way x y) ≡ joined way (joined way a x) (joined way b y)
 joined-exchange way a b x y =
     joined-assoc way a b (joined way x y)
     ∙ ap (joined way a) (sym (joined-assoc way b x y) ∙ ap (λ (z : ℤ). joined way z y) (joined-comm way b x) ∙ joined-assoc way x b y)
@@ -103,7 +104,8 @@ sum_after f n (z ∷ zs) = omega (arith, sum_after f (n + f z) zs, sum_after f (
 
 sum_split : (a : ℤ) (zs : List ℤ) → fold ◌+ℤ◌ a zs ≡ a +ℤ pos (sum_by above zs) -ℤ pos (sum_by below zs)
 sum_split a [] = omega (arith, ints)
-sum_split a (z ∷ zs) = omega (arith, ints, split z, sum_split (a +ℤ z) zs, sum_after above (0 + above z) zs, sum_after below (0 + below z) zs)
+sum_split a (z ∷ zs) =
+    omega (arith, ints, split z, sum_split (a +ℤ z) zs, sum_after above (0 + above z) zs, sum_after below (0 + below z) zs)
 
 same_sum : (xs ys : List ℤ) → IsPermutation xs ys → fold ◌+ℤ◌ (pos 0) ys ≡ fold ◌+ℤ◌ (pos 0) xs
 same_sum xs ys moved =
@@ -119,13 +121,15 @@ least_kept : (s : ℤ) (xs ys : List ℤ) → IsPermutation xs ys → fold int_m
 least_kept s xs ys moved =
     let least = fold-int_min_bounds s xs (fold int_min s xs) refl in
     reached (λ z. fold int_min s xs ≤ℤ z) s (fold int_min s ys) xs least.0 least.1
-    (⊎_elim inl (λ there. inr (Contains-permutation ys xs (fold int_min s ys) (IsPermutation-sym xs ys moved) there)) (fold-int_min_reached s ys (fold int_min s ys) refl))
+    (⊎_elim inl (λ there. inr (Contains-permutation ys xs (fold int_min s ys) (IsPermutation-sym xs ys moved) there))
+    (fold-int_min_reached s ys (fold int_min s ys) refl))
 
 greatest_kept : (s : ℤ) (xs ys : List ℤ) → IsPermutation xs ys → fold int_max s ys ≤ℤ fold int_max s xs
 greatest_kept s xs ys moved =
     let most = fold-int_max_bounds s xs (fold int_max s xs) refl in
     reached (λ z. z ≤ℤ fold int_max s xs) s (fold int_max s ys) xs most.0 most.1
-    (⊎_elim inl (λ there. inr (Contains-permutation ys xs (fold int_max s ys) (IsPermutation-sym xs ys moved) there)) (fold-int_max_reached s ys (fold int_max s ys) refl))
+    (⊎_elim inl (λ there. inr (Contains-permutation ys xs (fold int_max s ys) (IsPermutation-sym xs ys moved) there))
+    (fold-int_max_reached s ys (fold int_max s ys) refl))
 
 antisym : (a b : ℤ) → a ≤ℤ b → b ≤ℤ a → a ≡ b
 antisym a b h k = omega (arith, ints)
@@ -133,5 +137,7 @@ antisym a b h k = omega (arith, ints)
 -- a total does not depend on the order of its values
 pub total_of-permuted : (way : Fold) (xs ys : List ℤ) → IsPermutation xs ys → total_of way ys ≡ total_of way xs
 total_of-permuted Sum xs ys moved = ap wrapped_long (same_sum xs ys moved)
-total_of-permuted Min xs ys moved = antisym _ _ (least_kept (start_of Min) ys xs (IsPermutation-sym xs ys moved)) (least_kept (start_of Min) xs ys moved)
-total_of-permuted Max xs ys moved = antisym _ _ (greatest_kept (start_of Max) xs ys moved) (greatest_kept (start_of Max) ys xs (IsPermutation-sym xs ys moved))
+total_of-permuted Min xs ys moved =
+    antisym _ _ (least_kept (start_of Min) ys xs (IsPermutation-sym xs ys moved)) (least_kept (start_of Min) xs ys moved)
+total_of-permuted Max xs ys moved =
+    antisym _ _ (greatest_kept (start_of Max) xs ys moved) (greatest_kept (start_of Max) ys xs (IsPermutation-sym xs ys moved))

@@ -18,7 +18,7 @@ use Rattle.job.specs.Totals.{start_of, total_of, joined}
 use Rattle.tile_eval.specs.Rows.{EachPlace, at}
 use Rattle.accumulators.specs.Bins.{starts}
 use Rattle.accumulators.specs.inside.Gathering.{once_came, after_values, values_of_bin, values_among, points_along, TookIn}
-use Rattle.accumulators.proofs.Folding.{total_by_values}
+use Rattle.accumulators.proofs.TotalsInAnyOrder.{total_by_values}
 
 -- ---- rows of numbers
 
@@ -26,7 +26,8 @@ next : (b : ℤ) (k : ℕ) → b +ℤ pos 1 +ℤ pos k ≡ b +ℤ pos (suc k)
 next b k = omega (arith, ints)
 
 -- a row whose places have the values of g at the numbers from b on
-pub row_is : (g : ℤ → ℤ) (b : ℤ) (n : ℕ) (xs : List ℤ) → length xs ≡ n → EachPlace n (λ k. at xs k ≡ g (b +ℤ pos k)) → xs ≡ map g (numbers_from b n)
+pub row_is : (g : ℤ → ℤ) (b : ℤ) (n : ℕ) (xs : List ℤ) → length xs ≡ n → EachPlace n (λ k. at xs k ≡ g (b +ℤ pos k))
+    → xs ≡ map g (numbers_from b n)
 row_is g b zero [] len each = refl
 row_is g b zero (x ∷ xs) len each = absurd (omega arith)
 row_is g b (suc n) [] len each = absurd (omega arith)
@@ -53,7 +54,8 @@ starts_are x b (suc n) = ap (λ (zs : List ℤ). x ∷ zs) (starts_are x (b +ℤ
 -- ---- one value
 
 -- a value that is of the bin, or of another
-pub came_one : (way : Fold) (here : Bool) (total v : ℤ) (vs : List ℤ) → after_values way (once_came way here total v) vs ≡ after_values way total (cond here (v ∷ vs) vs)
+pub came_one : (way : Fold) (here : Bool) (total v : ℤ) (vs : List ℤ)
+    → after_values way (once_came way here total v) vs ≡ after_values way total (cond here (v ∷ vs) vs)
 came_one way true total v vs = refl
 came_one way false total v vs = refl
 
@@ -64,7 +66,8 @@ other_place : (b : ℤ) (j k : ℕ) → (j ≡ k → ⊥) → b +ℤ pos k ≡ b
 other_place b j k ne e = ne (omega (arith, ints, e))
 
 -- the bins once the one at a place took in a value
-pub taken_at : (way : Fold) (xs : List ℤ) (place : ℕ) (lo bin v new : ℤ) → place < length xs → lo +ℤ pos place ≡ bin → new ≡ joined way (at xs place) v
+pub taken_at : (way : Fold) (xs : List ℤ) (place : ℕ) (lo bin v new : ℤ) → place < length xs → lo +ℤ pos place ≡ bin
+    → new ≡ joined way (at xs place) v
     → EachPlace (length xs) (λ j. at (slice_set xs place new) j ≡ once_came way (int_eq bin (lo +ℤ pos j)) (at xs j) v)
 taken_at way xs place lo bin v new there is e j h = by (cases_eq j place)
   where
@@ -80,13 +83,15 @@ taken_at way xs place lo bin v new there is e j h = by (cases_eq j place)
         get_or-set_other xs place j new (pos 0) ne
         ∙ ap (λ (b : Bool). once_came way b (at xs j) v) (sym (not_here (lo +ℤ pos j) bin (λ same. other_place lo j place ne (is ∙ same))))
 
-firsts : (here : Bool) (v c : ℤ) (ps : List (ℤ × ℤ)) → map (λ (p : ℤ × ℤ). p.0) (cond here ((v, c) ∷ ps) ps) ≡ cond here (v ∷ map (λ (p : ℤ × ℤ). p.0) ps) (map (λ (p : ℤ × ℤ). p.0) ps)
+firsts : (here : Bool) (v c : ℤ) (ps : List (ℤ × ℤ))
+    → map (λ (p : ℤ × ℤ). p.0) (cond here ((v, c) ∷ ps) ps) ≡ cond here (v ∷ map (λ (p : ℤ × ℤ). p.0) ps) (map (λ (p : ℤ × ℤ). p.0) ps)
 firsts true v c ps = refl
 firsts false v c ps = refl
 
 -- the values from place k on: that one, if it is of the bin, and those behind it
 pub values_left : (vs cs : List ℤ) (b : ℤ) (k : ℕ) → k < length vs → length cs ≡ length vs
-    → values_of_bin (drop k vs) (drop k cs) b ≡ cond (int_eq (at cs k) b) (at vs k ∷ values_of_bin (drop (suc k) vs) (drop (suc k) cs) b) (values_of_bin (drop (suc k) vs) (drop (suc k) cs) b)
+    → values_of_bin (drop k vs) (drop k cs) b ≡ cond (int_eq (at cs k) b) (at vs k ∷ values_of_bin (drop (suc k) vs) (drop (suc k) cs)
+    b) (values_of_bin (drop (suc k) vs) (drop (suc k) cs) b)
 values_left [] cs b k h e = absurd (omega arith)
 values_left (v ∷ vs) [] b k h e = absurd (omega arith)
 values_left (v ∷ vs) (c ∷ cs) b zero h e = firsts (int_eq c b) v c (filter (λ p. int_eq p.1 b) (zip vs cs))
@@ -95,23 +100,29 @@ values_left (v ∷ vs) (c ∷ cs) b (suc k) h e = values_left vs cs b k (omega a
 -- ---- a row of points
 
 module _ (value bin : ℤ → ℤ → ℤ) (b : ℤ) where
-  among_cons : (here : Bool) (p : ℤ × ℤ) (ps : List (ℤ × ℤ)) → map (λ (q : ℤ × ℤ). value q.0 q.1) (cond here (p ∷ ps) ps) ≡ cond here (value p.0 p.1 ∷ map (λ (q : ℤ × ℤ). value q.0 q.1) ps) (map (λ (q : ℤ × ℤ). value q.0 q.1) ps)
+  among_cons : (here : Bool) (p : ℤ × ℤ) (ps : List (ℤ × ℤ))
+      → map (λ (q : ℤ × ℤ). value q.0 q.1) (cond here (p ∷ ps) ps)
+      ≡ cond here (value p.0 p.1 ∷ map (λ (q : ℤ × ℤ). value q.0 q.1) ps) (map (λ (q : ℤ × ℤ). value q.0 q.1) ps)
   among_cons true p ps = refl
   among_cons false p ps = refl
 
   -- the values of a row of points, by rows of their values and bins
-  pub row_values : (r c : ℤ) (n : ℕ) → values_of_bin (map (value r) (numbers_from c n)) (map (bin r) (numbers_from c n)) b ≡ values_among value bin (points_along r c n) b
+  pub row_values : (r c : ℤ) (n : ℕ) → values_of_bin (map (value r) (numbers_from c n)) (map (bin r) (numbers_from c n)) b
+      ≡ values_among value bin (points_along r c n) b
   row_values r c zero = refl
   row_values r c (suc n) =
-      let rest = filter (λ (p : ℤ × ℤ). int_eq p.1 b) (zip (map (value r) (numbers_from (c +ℤ pos 1) n)) (map (bin r) (numbers_from (c +ℤ pos 1) n))) in
+      let rest = filter (λ (p : ℤ × ℤ). int_eq p.1 b)
+      (zip (map (value r) (numbers_from (c +ℤ pos 1) n)) (map (bin r) (numbers_from (c +ℤ pos 1) n))) in
       firsts (int_eq (bin r c) b) (value r c) (bin r c) rest
       ∙ ap (λ (vs : List ℤ). cond (int_eq (bin r c) b) (value r c ∷ vs) vs) (row_values r (c +ℤ pos 1) n)
       ∙ sym (among_cons (int_eq (bin r c) b) (r, c) (filter (λ (p : ℤ × ℤ). int_eq (bin p.0 p.1) b) (points_along r (c +ℤ pos 1) n)))
 
-  pub among-append : (ps qs : List (ℤ × ℤ)) → values_among value bin (ps ++ qs) b ≡ values_among value bin ps b ++ values_among value bin qs b
+  pub among-append : (ps qs : List (ℤ × ℤ)) → values_among value bin (ps ++ qs) b
+      ≡ values_among value bin ps b ++ values_among value bin qs b
   among-append ps qs =
       ap (map (λ (p : ℤ × ℤ). value p.0 p.1)) (filter-append (λ (p : ℤ × ℤ). int_eq (bin p.0 p.1) b) ps qs)
-      ∙ map-append (λ (p : ℤ × ℤ). value p.0 p.1) (filter (λ (p : ℤ × ℤ). int_eq (bin p.0 p.1) b) ps) (filter (λ (p : ℤ × ℤ). int_eq (bin p.0 p.1) b) qs)
+      ∙ map-append (λ (p : ℤ × ℤ). value p.0 p.1) (filter (λ (p : ℤ × ℤ). int_eq (bin p.0 p.1) b) ps)
+      (filter (λ (p : ℤ × ℤ). int_eq (bin p.0 p.1) b) qs)
 
 -- ---- rows of points
 
@@ -120,7 +131,8 @@ abbrev pub points_from : ℤ → ℕ → ℤ → ℕ → List (ℤ × ℤ)
 points_from r m c n = pairs (numbers_from r m) (numbers_from c n)
 
 -- the first of the rows from number i on, and those behind it
-rows_left : (r c : ℤ) (m n i : ℕ) → i < m → points_from (r +ℤ pos i) (m - i) c n ≡ points_along (r +ℤ pos i) c n ++ points_from (r +ℤ pos (suc i)) (m - suc i) c n
+rows_left : (r c : ℤ) (m n i : ℕ) → i < m → points_from (r +ℤ pos i) (m - i) c n
+    ≡ points_along (r +ℤ pos i) c n ++ points_from (r +ℤ pos (suc i)) (m - suc i) c n
 rows_left r c m n i h =
     let left : m - i ≡ suc (m - suc i) = omega arith in
     let below : r +ℤ pos i +ℤ pos 1 ≡ r +ℤ pos (suc i) = omega (arith, ints) in
@@ -129,8 +141,10 @@ rows_left r c m n i h =
 
 -- what was taken in so far and what is left, together with one row more
 module _ (way : Fold) (value bin : ℤ → ℤ → ℤ) where
-  pub took_row : (b r c : ℤ) (m n i : ℕ) (old new : ℤ) → i < m → new ≡ after_values way old (values_among value bin (points_along (r +ℤ pos i) c n) b)
-      → after_values way new (values_among value bin (points_from (r +ℤ pos (suc i)) (m - suc i) c n) b) ≡ after_values way old (values_among value bin (points_from (r +ℤ pos i) (m - i) c n) b)
+  pub took_row : (b r c : ℤ) (m n i : ℕ) (old new : ℤ) → i < m
+      → new ≡ after_values way old (values_among value bin (points_along (r +ℤ pos i) c n) b)
+      → after_values way new (values_among value bin (points_from (r +ℤ pos (suc i)) (m - suc i) c n) b)
+      ≡ after_values way old (values_among value bin (points_from (r +ℤ pos i) (m - i) c n) b)
   took_row b r c m n i old new h is =
       let row = points_along (r +ℤ pos i) c n in
       let rest = points_from (r +ℤ pos (suc i)) (m - suc i) c n in
@@ -140,7 +154,8 @@ module _ (way : Fold) (value bin : ℤ → ℤ → ℤ) where
       ∙ ap (λ (ps : List (ℤ × ℤ)). after_values way old (values_among value bin ps b)) (sym (rows_left r c m n i h))
 
   -- bins that took in the points of an area, and nothing else, have the totals
-  pub all_took : (bins : Ends) (points : List (ℤ × ℤ)) (old new : List ℤ) → old ≡ starts way bins → length new ≡ length old → TookIn way value bin bins.lo points old new
+  pub all_took : (bins : Ends) (points : List (ℤ × ℤ)) (old new : List ℤ) → old ≡ starts way bins → length new ≡ length old
+      → TookIn way value bin bins.lo points old new
       → new ≡ map (λ b. total_of way (values_among value bin points b)) (numbers_of bins)
   all_took bins points old new first len took =
       let long : length old ≡ len_of bins = ap length first ∙ starts_long way bins in

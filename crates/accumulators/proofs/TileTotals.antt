@@ -28,15 +28,16 @@ use Rattle.tile_run.specs.KnownTiles.{KnownTiles, AreTrue, AreWhole}
 use Rattle.tile_run.specs.Runs.{NeedsGiven}
 use Rattle.tile_run.specs.Stored.{IsStoredFunction, GivesAllTiles}
 use Rattle.tile_run.specs.Work.{first_too_big, is_accumulator_at}
-use Rattle.tile_run.proofs.Fitting.{none_too_big}
+use Rattle.tile_run.proofs.FirstTooBig.{none_too_big}
 use Rattle.accumulators.specs.inside.Making.{IsGathered}
 use Rattle.accumulators.specs.Partials.{AreLocalTotals}
-use Rattle.accumulators.proofs.Tallying.{grid_there, is_wanted}
-use Rattle.accumulators.proofs.Truths.{layout_totals_true}
+use Rattle.accumulators.proofs.TotalsOfAnswer.{grid_there, is_wanted}
+use Rattle.accumulators.proofs.TrueTilesGiveTotals.{layout_totals_true}
 
 -- true tiles have as many numbers as points
 pub whole : (job : Pipeline) (given : KnownTiles) → AreTrue job given → AreWhole job given
-whole job given right g s there i j xs tile found = ap length (right g s there i j xs tile found) ∙ raster_len (tile_area (grid_of job s) i j) (value job g)
+whole job given right g s there i j xs tile found =
+    ap length (right g s there i j xs tile found) ∙ raster_len (tile_area (grid_of job s) i j) (value job g)
 
 module _ (job : Pipeline) (g : ℕ) (way : Fold) (bins : Ends) (grid : Grid) (is : IsGathered job g way bins grid) (i j : ℕ) where
   -- ---- a tile of the grid
@@ -48,17 +49,23 @@ module _ (job : Pipeline) (g : ℕ) (way : Fold) (bins : Ends) (grid : Grid) (is
   same_area area at = at.is ∙ ap (λ (d : Grid). tile_area d i j) (same_Some at.grid grid (sym at.there ∙ grid_there job g way bins grid is))
 
   -- has room where none is too big
-  has_room : (inlining : List Bool) (area : Area) → first_too_big job inlining (is_accumulator_at job) ≡ None → HasTile grid i j → IsTileAt job g i j area → scratch (target_over job inlining g area) ≤ most_scratch
+  has_room : (inlining : List Bool) (area : Area) → first_too_big job inlining (is_accumulator_at job) ≡ None → HasTile grid i j
+      → IsTileAt job g i j area → scratch (target_over job inlining g area) ≤ most_scratch
   has_room inlining area none tile at =
       let has : has_tiles is.stage.body ≡ true = ap has_tiles is.body in
-      let here : tile_area (grid_of job is.stage) i j ≡ area = ap (λ (d : Grid). tile_area d i j) (sym is.parted) ∙ sym (same_area area at) in
+      let here : tile_area (grid_of job is.stage) i j ≡ area = ap (λ (d : Grid). tile_area d i j) (sym is.parted)
+      ∙ sym (same_area area at) in
       subst (λ (a : Area). scratch (target_over job inlining g a) ≤ most_scratch) here
-      (none_too_big job inlining (is_accumulator_at job) none g is.stage is.there has (is_wanted job g way bins grid is) i j (subst (λ (d : Grid). HasTile d i j) is.parted tile))
+      (none_too_big job inlining (is_accumulator_at job) none g is.stage is.there has (is_wanted job g way bins grid is) i j
+      (subst (λ (d : Grid). HasTile d i j) is.parted tile))
 
-  pub not_too_big : (inlining : List Bool) → first_too_big job inlining (is_accumulator_at job) ≡ None → HasTile grid i j → ¬ (IsTileFault job inlining g i j ScratchTooBig)
-  not_too_big inlining none tile fault = let room = has_room inlining fault.area none tile fault.tile in let over = fault.reason in omega arith
+  pub not_too_big : (inlining : List Bool) → first_too_big job inlining (is_accumulator_at job) ≡ None → HasTile grid i j
+      → ¬ (IsTileFault job inlining g i j ScratchTooBig)
+  not_too_big inlining none tile fault =
+      let room = has_room inlining fault.area none tile fault.tile in let over = fault.reason in omega arith
 
-  module _ (inlining : List Bool) (given : KnownTiles) (good : IsJob job) (all : GivesAllTiles job inlining given) (l : Layout) (layout : IsTileLayout job inlining g i j l) where
+  module _ (inlining : List Bool) (given : KnownTiles) (good : IsJob job) (all : GivesAllTiles job inlining given) (l : Layout)
+      (layout : IsTileLayout job inlining g i j l) where
     abbrev of_tile : Target
     of_tile = target_over job inlining g layout.area
 
@@ -79,7 +86,8 @@ module _ (job : Pipeline) (g : ℕ) (way : Fold) (bins : Ends) (grid : Grid) (is
     all_given n k = gives n (from_needs of_tile n good (subst (λ (ns : List Tile). Contains ns n) layout.layout.layout.needs k))
 
     -- and what is gathered from true tiles is what the job gathers
-    pub totals_are : AreTrue job given → (xs : List ℤ) → AreLocalTotals job inlining given g i j xs → xs ≡ totals_over job (tile_area grid i j) g
+    pub totals_are : AreTrue job given → (xs : List ℤ) → AreLocalTotals job inlining given g i j xs
+        → xs ≡ totals_over job (tile_area grid i j) g
     totals_are right xs local =
         layout_totals_true job inlining given l g i j layout good all_given right xs local layout.area layout.tile
         ∙ ap (λ (a : Area). totals_over job a g) (same_area layout.area layout.tile)

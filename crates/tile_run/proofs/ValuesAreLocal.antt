@@ -23,13 +23,14 @@ use Rattle.tile_run.specs.KnownTiles.{KnownTiles}
 use Rattle.tile_run.specs.Local.{read_from, local_value, IsAtHand}
 use Rattle.tile_run.specs.inside.Steps.{IsFunctionAt, AreLocal, IsReadyOver}
 use Rattle.tile_run.specs.Prepared.{boxed, IsPrepared}
-use Rattle.tile_run.proofs.LocalValues.{hand_decides, step_is_local}
+use Rattle.tile_run.proofs.LocalValuesUnroll.{hand_decides, step_is_local}
 
 pub same_stage : (stages : List Stage) (g : ℕ) (s t : Stage) → slice_get stages g ≡ Some s → slice_get stages g ≡ Some t → s ≡ t
 same_stage stages g s t e f = ap (λ (o : Option Stage). unwrap_or o t) (sym e ∙ f)
 
 -- areas of near areas are near
-pub near_inside : (a domain : Area) → IsArea a → IsSubarea a domain → InDomainRange domain.rows → InDomainRange domain.cols → InDomainRange a.rows × InDomainRange a.cols
+pub near_inside : (a domain : Area) → IsArea a → IsSubarea a domain → InDomainRange domain.rows → InDomainRange domain.cols
+    → InDomainRange a.rows × InDomainRange a.cols
 near_inside a domain is inside rows cols =
     let across = is.rows.ordered in let along = is.cols.ordered in
     let first = inside a.rows.lo a.cols.lo ((omega (arith, ints), omega (arith, ints)), (omega (arith, ints), omega (arith, ints))) in
@@ -40,15 +41,19 @@ near_inside a domain is inside rows cols =
       record { span = is.cols; least = omega (arith, ints); most = omega (arith, ints) },
     )
 
-module _ (job : Pipeline) (is : IsJob job) (inlining : List Bool) (given : KnownTiles) (buffers : List (Option Buffer)) (g : ℕ) (ps : List JobCase) (o : Option Formula) (area : Area) (here : IsFunctionAt job g ps o) (ready : IsReadyOver job inlining given buffers g area) where
+module _ (job : Pipeline) (is : IsJob job) (inlining : List Bool) (given : KnownTiles) (buffers : List (Option Buffer)) (g : ℕ)
+    (ps : List JobCase) (o : Option Formula) (area : Area) (here : IsFunctionAt job g ps o)
+    (ready : IsReadyOver job inlining given buffers g area) where
   stage_is : IsStage job here.stage
   stage_is = is.stages g here.stage here.there
 
   inside : IsSubarea area here.stage.domain
-  inside r c h = let p = ready r c h in subst (λ (s : Stage). HoldsPoint s.domain r c) (same_stage job.stages g p.stage here.stage p.there here.there) p.inside
+  inside r c h = let p = ready r c h in subst (λ (s : Stage). HoldsPoint s.domain r c)
+      (same_stage job.stages g p.stage here.stage p.there here.there) p.inside
 
   stage_reads : (r c : ℤ) → HoldsPoint area r c → BodyReads (IsAtHand job inlining given (IsKnownAt buffers)) here.stage.body r c
-  stage_reads r c h = let p = ready r c h in subst (λ (s : Stage). BodyReads (IsAtHand job inlining given (IsKnownAt buffers)) s.body r c) (same_stage job.stages g p.stage here.stage p.there here.there) p.reads
+  stage_reads r c h = let p = ready r c h in subst (λ (s : Stage). BodyReads (IsAtHand job inlining given (IsKnownAt buffers)) s.body r c)
+      (same_stage job.stages g p.stage here.stage p.there here.there) p.reads
 
   pub all_near : IsArea area → InDomainRange area.rows × InDomainRange area.cols
   all_near a = near_inside area here.stage.domain a inside stage_is.rows stage_is.cols
@@ -67,8 +72,10 @@ module _ (job : Pipeline) (is : IsJob job) (inlining : List Bool) (given : Known
 
   -- the values over the area are local values
   pub values_are : ((h : ℕ) (r c : ℤ) → IsAtHand job inlining given (IsKnownAt buffers) h r c
-      → read_from job inlining given (λ k i j. sample_in (slice_get buffers k) i j) h r c ≡ read_from job inlining given (local_value job inlining given) h r c)
-      → raster area (function_value (read_from job inlining given (λ h i j. sample_in (slice_get buffers h) i j)) ps o) ≡ raster area (local_value job inlining given g)
+      → read_from job inlining given (λ k i j. sample_in (slice_get buffers k) i j) h r c
+      ≡ read_from job inlining given (local_value job inlining given) h r c)
+      → raster area (function_value (read_from job inlining given (λ h i j. sample_in (slice_get buffers h) i j)) ps o)
+      ≡ raster area (local_value job inlining given g)
   values_are right =
       let e : Valuation = λ h i j. sample_in (slice_get buffers h) i j in
       raster_same area (function_value (read_from job inlining given e) ps o) (local_value job inlining given g) (λ r c h.
@@ -76,16 +83,19 @@ module _ (job : Pipeline) (is : IsJob job) (inlining : List Bool) (given : Known
       ∙ step_is_local job inlining given (IsKnownAt buffers) e is right g here.stage r c here.there (inside r c h) (stage_reads r c h))
 
 -- what is at hand where all that was computed before is local
-pub prepared : (job : Pipeline) (inlining : List Bool) (given : KnownTiles) (boxes : StageBuffers) (g : ℕ) (area : Area) → AreLocal job inlining given boxes.buffers.items
+pub prepared : (job : Pipeline) (inlining : List Bool) (given : KnownTiles) (boxes : StageBuffers) (g : ℕ) (area : Area)
+    → AreLocal job inlining given boxes.buffers.items
     → IsReadyOver job inlining given boxes.buffers.items g area → IsPrepared job inlining given boxes g area
 prepared job inlining given boxes g area local ready = record {
   ready = ready;
-  local = λ h r c hand. hand_decides job inlining given (IsKnownAt boxes.buffers.items) (boxed boxes) (local_value job inlining given) h r c (local h r c) hand;
+  local = λ h r c hand. hand_decides job inlining given (IsKnownAt boxes.buffers.items) (boxed boxes) (local_value job inlining given) h r
+      c (local h r c) hand;
 }
 
 -- ---- one box more
 
-module _ (job : Pipeline) (inlining : List Bool) (given : KnownTiles) (buffers : List (Option Buffer)) (n : ℕ) (w : Buffer) (room : n < length buffers) where
+module _ (job : Pipeline) (inlining : List Bool) (given : KnownTiles) (buffers : List (Option Buffer)) (n : ℕ) (w : Buffer)
+    (room : n < length buffers) where
   here_is : slice_get (slice_set buffers n (Some w)) n ≡ Some (Some w)
   here_is = slice_get-set_same buffers n (Some w) room
 
@@ -95,12 +105,14 @@ module _ (job : Pipeline) (inlining : List Bool) (given : KnownTiles) (buffers :
   pub computed_there : (area : Area) → w.area ≡ area → (r c : ℤ) → HoldsPoint area r c → IsKnownAt (slice_set buffers n (Some w)) n r c
   computed_there area is r c h = record { whole = w; there = here_is; within = subst (λ (a : Area). HoldsPoint a r c) (sym is) h }
 
-  pub still_local : AreLocal job inlining given buffers → w.values.items ≡ raster w.area (local_value job inlining given n) → AreLocal job inlining given (slice_set buffers n (Some w))
+  pub still_local : AreLocal job inlining given buffers → w.values.items ≡ raster w.area (local_value job inlining given n)
+      → AreLocal job inlining given (slice_set buffers n (Some w))
   still_local right values g r c known = by (cases_eq g n)
     where
       by : (g ≡ n) ⊎ (g ≡ n → ⊥) → sample_in (slice_get (slice_set buffers n (Some w)) g) r c ≡ local_value job inlining given g r c
       by (inl e) =
-          let there : slice_get (slice_set buffers n (Some w)) g ≡ Some (Some w) = ap (slice_get (slice_set buffers n (Some w))) e ∙ here_is in
+          let there : slice_get (slice_set buffers n (Some w)) g ≡ Some (Some w) = ap (slice_get (slice_set buffers n (Some w))) e
+          ∙ here_is in
           let held : HoldsPoint w.area r c = known_within (slice_set buffers n (Some w)) g w w.area r c there refl known in
           ap (λ (o : Option (Option Buffer)). sample_in o r c) there
           ∙ ap (λ (xs : List ℤ). at xs (place_of w.area r c)) values
