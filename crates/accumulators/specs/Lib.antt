@@ -1,7 +1,4 @@
 pub mod Bins
-pub mod Gathering
-pub mod Accumulating
-pub mod Layouts
 pub mod Partials
 pub mod Answers
-pub mod Making
+pub mod inside

@@ -17,7 +17,8 @@ use Rattle.accumulators.specs.Bins.{starts, joined_bins}
 -- the totals of accumulator g over an area, where reads of stored functions take the numbers that are given, and reads of inlined
 -- functions their local values
 abbrev pub local_totals : Pipeline → List Bool → KnownTiles → Area → ℕ → List ℤ
-local_totals job inlining given area g = option_map_or (λ s. body_totals (read_from job inlining given (local_value job inlining given)) area s.body) (slice_get job.stages g) []
+local_totals job inlining given area g =
+    option_map_or (λ s. body_totals (read_from job inlining given (local_value job inlining given)) area s.body) (slice_get job.stages g) []
 
 -- the numbers are those of the tile in row i and column j
 abbrev pub AreLocalTotals : Pipeline → List Bool → KnownTiles → ℕ → ℕ → ℕ → List ℤ → Type 0
@@ -28,7 +29,8 @@ abbrev pub AreTotalsOn : Pipeline → ℕ → ℕ → ℕ → List ℤ → Type 
 AreTotalsOn job g i j bins = (area : Area) → IsTileAt job g i j area → bins ≡ totals_over job area g
 
 -- the plan is that of a tile of an accumulator
-pub record IsAccumulatorPlan (program : List ℕ) (job : Pipeline) (inlining : List Bool) (p : Plan) : Type 0 where
+pub record IsAccumulatorPlan (program : List ℕ) (job : Pipeline) (p : Plan) : Type 0 where
+  pub inlining : List Bool
   pub stage : ℕ
   pub row : ℕ
   pub col : ℕ

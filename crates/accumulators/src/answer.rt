@@ -1,11 +1,10 @@
 #![tactic(auto)]
 //! What a job answers: the picture of its output and the totals of its accumulators.
 
-ghost use Rattle.std.specs.Prelude.{◌≡◌, ◌≤◌, None, length, IfOk, IfErr};
+ghost use Rattle.std.specs.Prelude.{◌≡◌, None, IfOk, IfErr};
 ghost use Rattle.std.specs.Option.{ForSome};
 ghost use Rattle.grouping.specs.Inlining.{IsScheduleOf};
 ghost use Rattle.job.specs.Kept.{pipeline_in, program_id_in};
-ghost use Rattle.job.specs.WellFormed.{IsJob};
 ghost use Rattle.netpbm.specs.Image.{IsImage};
 ghost use Rattle.tile_run.specs.KnownTiles.{AreTrue};
 ghost use Rattle.tile_run.specs.Stored.{stored_tiles, GivesAllTiles};
@@ -47,8 +46,6 @@ pub fn answer_of(
     schedule: &Schedule,
     stored: &Stored,
 ) -> Result<Answer, RunFault>
-    requires job { IsJob (pipeline_in job.now) }
-    requires few { length (pipeline_in job.now).stages ≤ 65536 }
     requires schedule { IsScheduleOf (pipeline_in job.now) schedule.now }
     requires all { GivesAllTiles (pipeline_in job.now) schedule.now.inlining (stored_tiles stored.now.stages.items) }
     requires values { AreTrue (pipeline_in job.now) (stored_tiles stored.now.stages.items) }

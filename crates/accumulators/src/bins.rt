@@ -5,7 +5,7 @@ ghost use Rattle.std.specs.Prelude.{◌≡◌, ◌<◌, ◌+ℤ◌, pos, length,
 ghost use Rattle.std.specs.Ordering.{int_eq};
 ghost use Rattle.domains.specs.Span.{Holds, len_of};
 ghost use Rattle.tile_eval.specs.Rows.{EachPlace, at};
-ghost use Rattle.accumulators.specs.Gathering.{once_came, after_values, values_of_bin};
+ghost use Rattle.accumulators.specs.inside.Gathering.{once_came, after_values, values_of_bin};
 
 use crate::join::joined;
 use domains::{Fold, Span};

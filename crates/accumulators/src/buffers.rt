@@ -4,7 +4,6 @@
 ghost use Rattle.std.specs.Prelude.{◌≡◌, IfOk};
 ghost use Rattle.job.specs.Kept.{pipeline_in};
 ghost use Rattle.job.specs.Totals.{totals};
-ghost use Rattle.job.specs.WellFormed.{IsJob};
 
 use crate::gather::gather;
 use job::{Body, Job};
@@ -18,7 +17,6 @@ use tile_eval::StageBuffers;
 ///
 /// Fails only where memory is refused.
 pub fn whole(alloc: Global, job: &Job, stage: usize) -> Result<Vec<i64>, AllocError>
-    requires { IsJob (pipeline_in job.now) }
     ensures { IfOk result (λ bins. bins.items ≡ totals (pipeline_in job.now) stage) }
 {
     let Some(found) = job.stage(stage) else {

@@ -9,8 +9,8 @@ ghost use Rattle.job.specs.Totals.{body_totals};
 ghost use Rattle.job.specs.Views.{formula_view};
 ghost use Rattle.job.specs.WellFormed.{InDomainRange};
 ghost use Rattle.tile_eval.specs.Rows.{EachPlace};
-ghost use Rattle.accumulators.specs.Accumulating.{HasFormulas, ReadsAt, HasRoomAlong, TookPoints};
-ghost use Rattle.accumulators.specs.Gathering.{points_along};
+ghost use Rattle.accumulators.specs.inside.Accumulating.{HasFormulas, ReadsAt, HasRoomAlong, TookPoints};
+ghost use Rattle.accumulators.specs.inside.Gathering.{points_along};
 
 use crate::bins::take_values;
 use crate::starts::starts;

@@ -11,9 +11,9 @@ ghost use Rattle.job.specs.Answers.{height_of, image, picture_of, sample_of, sam
 ghost use Rattle.job.specs.Kept.{pipeline_in};
 ghost use Rattle.job.specs.Values.{value};
 ghost use Rattle.job.specs.Views.{output_view};
-ghost use Rattle.job.specs.WellFormed.{IsJob, IsOutput};
+ghost use Rattle.job.specs.WellFormed.{IsOutput};
 ghost use Rattle.tile_run.specs.Stored.{stored_tiles, IsStoredLine};
-ghost use Rattle.accumulators.specs.Making.{IsComputed, IsStoredStage};
+ghost use Rattle.accumulators.specs.inside.Making.{IsComputed, IsStoredStage};
 
 use crate::computed::Computed;
 use domains::arithmetic::clamp;
@@ -113,7 +113,6 @@ impl Computed<'_> {
         first: i32,
         max: u16,
     ) -> Result<(), AllocError>
-        requires job { IsJob (pipeline_in self.now.job.now) }
         requires stored { IsStoredLine (pipeline_in self.now.job.now) (stored_tiles self.now.stored.now.stages.items) stage row first (length line.old) }
         ensures { OnOk result (plane.new.items ≡ plane.old.items ++ map (λ c. sample_of max (value (pipeline_in self.now.job.now) stage row c)) (numbers_from first (length line.old))) }
     {

@@ -9,17 +9,17 @@ ghost use Rattle.job.specs.Kept.{pipeline_in};
 ghost use Rattle.job.specs.Totals.{totals, totals_over};
 ghost use Rattle.overlap_tiles.specs.Plans.{IsTileLayout};
 ghost use Rattle.accumulators.specs.Answers.{all_gathered, gathered, gathered_at};
-ghost use Rattle.accumulators.specs.Making.{IsComputed, IsTally, TotalsFit, with_tile};
+ghost use Rattle.accumulators.specs.inside.Making.{IsComputed, IsTally, TotalsFit, with_tile};
 
 use crate::answer::Total;
 use crate::computed::Computed;
 use crate::join::join_into;
-use crate::partials::layout_totals;
+use crate::partials::tile_totals;
 use crate::starts::starts;
 use domains::{Fold, Grid, Span};
 use overlap_tiles::{Layout, PlanFault};
 use std::alloc::{AllocError, Global};
-use tile_run::Scratch;
+use tile_run::{Scratch, TileJob};
 
 /// An accumulator of a job, whose totals are put together.
 #[derive(Clone, Copy)]
@@ -149,11 +149,16 @@ impl Accumulation<'_> {
     {
         let of = &self.of;
         let layout = self.layout(alloc, row, col)?;
-        layout_totals(alloc, of.job, of.schedule, &layout, scratch, of.stored)
+        let tile = TileJob {
+            job: of.job,
+            layout: &layout,
+            known: of.stored,
+        };
+        tile_totals(alloc, &tile, scratch)
     }
 
     // The layout of a tile.
-    fn layout(&self, alloc: Global, row: u32, col: u32) -> Result<Layout, AllocError>
+    fn layout(&self, alloc: Global, row: u32, col: u32) -> Result<Layout<'_>, AllocError>
         requires tally { IsTally self.now }
         requires tile { HasTile self.now.grid row col }
         ensures { IfOk result (IsTileLayout (pipeline_in self.now.of.job.now) self.now.of.schedule.now.inlining self.now.stage row col) }

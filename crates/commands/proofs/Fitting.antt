@@ -10,7 +10,7 @@ use Rattle.tile_run.specs.declared.fault.RunFault.{RunFault}
 use Rattle.tile_run.specs.declared.fault.RunFault.TheVariants.{ScratchTooBig}
 use Rattle.tile_run.specs.declared.room.Work.{Work}
 use Rattle.tile_run.specs.Work.{wanted_by, first_too_big, IsRunFault}
-use Rattle.tile_run.proofs.Fitting.{fits_none}
+use Rattle.tile_run.proofs.FirstTooBig.{fits_none}
 
 pub never_too_big : (program : List ℕ) (job : Pipeline) (s : Inlining) (work : Work) (key : Key) (fault : RunFault) → IsScheduleOf job s → AllFitScratch job s.inlining → fault ≡ ScratchTooBig key
     → IsRunFault program job s.inlining (wanted_by job s.inlining work) fault → ⊥

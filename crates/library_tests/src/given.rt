@@ -51,15 +51,15 @@ fn is_accumulator(job: &Job, stage: usize) -> bool
 }
 
 // The plan of a tile of a function.
-fn plan_of_function(
+fn plan_of_function<'a>(
     alloc: Global,
     job: &Job,
-    schedule: &Schedule,
+    schedule: &'a Schedule,
     stage: usize,
     row: u32,
     col: u32,
-) -> Result<TilePlan, Fail>
-    ensures { IfOk result (IsFunctionPlan (program_id_in job.now) (pipeline_in job.now) schedule.now.inlining) }
+) -> Result<TilePlan<'a>, Fail>
+    ensures { IfOk result (IsFunctionPlan (program_id_in job.now) (pipeline_in job.now)) }
 {
     if !is_function(job, stage) {
         return Err(Fail::new("no function"));
@@ -69,15 +69,15 @@ fn plan_of_function(
 }
 
 // The plan of a tile of an accumulator.
-fn plan_of_accumulator(
+fn plan_of_accumulator<'a>(
     alloc: Global,
     job: &Job,
-    schedule: &Schedule,
+    schedule: &'a Schedule,
     stage: usize,
     row: u32,
     col: u32,
-) -> Result<TilePlan, Fail>
-    ensures { IfOk result (IsAccumulatorPlan (program_id_in job.now) (pipeline_in job.now) schedule.now.inlining) }
+) -> Result<TilePlan<'a>, Fail>
+    ensures { IfOk result (IsAccumulatorPlan (program_id_in job.now) (pipeline_in job.now)) }
 {
     if !is_accumulator(job, stage) {
         return Err(Fail::new("no accumulator"));
@@ -98,7 +98,7 @@ fn numbers<K: Known>(
 {
     let plan = plan_of_function(alloc, job, schedule, tile.0, tile.1, tile.2)?;
     let mut scratch = Scratch::new(alloc);
-    Ok(run_tile(alloc, job, schedule, &plan, &mut scratch, known)?)
+    Ok(run_tile(alloc, job, &plan, &mut scratch, known)?)
 }
 
 // Compares what an accumulator gathers over a tile, by the tile's plan, where nothing is given.
@@ -111,7 +111,7 @@ fn has_bins(
 ) -> Result<(), Fail> {
     let plan = plan_of_accumulator(alloc, job, schedule, tile.0, tile.1, tile.2)?;
     let mut scratch = Scratch::new(alloc);
-    let bins = partial(alloc, job, schedule, &plan, &mut scratch, &Nothing)?;
+    let bins = partial(alloc, job, &plan, &mut scratch, &Nothing)?;
     tells(alloc, &bins, wanted)
 }
 
@@ -197,7 +197,7 @@ fn missing_of_function(
 ) -> Result<Option<Key>, Fail> {
     let plan = plan_of_function(alloc, job, schedule, stage, 0, 0)?;
     let mut scratch = Scratch::new(alloc);
-    let made = run_tile(alloc, job, schedule, &plan, &mut scratch, &Nothing);
+    let made = run_tile(alloc, job, &plan, &mut scratch, &Nothing);
     Ok(missing(&made))
 }
 
@@ -210,7 +210,7 @@ fn missing_of_accumulator(
 ) -> Result<Option<Key>, Fail> {
     let plan = plan_of_accumulator(alloc, job, schedule, stage, 0, 0)?;
     let mut scratch = Scratch::new(alloc);
-    let made = partial(alloc, job, schedule, &plan, &mut scratch, &Nothing);
+    let made = partial(alloc, job, &plan, &mut scratch, &Nothing);
     Ok(missing(&made))
 }
 

@@ -82,7 +82,7 @@ struct Case {
 }
 
 // What a plan needs: the stage, the row and the column of each tile, whose key is the job's.
-fn needs(alloc: Global, job: &Job, plan: &TilePlan) -> Result<Vec<(u16, u32, u32)>, Fail> {
+fn needs(alloc: Global, job: &Job, plan: &TilePlan<'_>) -> Result<Vec<(u16, u32, u32)>, Fail> {
     let mut places = Vec::new(alloc);
     for key in plan.needs() {
         if job.key(key.stage, key.row, key.col) != Some(*key) {
@@ -103,7 +103,7 @@ fn steps(alloc: Global, steps: &[Step]) -> Result<Vec<(usize, (i32, i32, i32, i3
 }
 
 // Compares the parts of a plan with those that were wanted.
-fn has_parts(alloc: Global, job: &Job, plan: &TilePlan, wanted: &str) -> Result<(), Fail> {
+fn has_parts(alloc: Global, job: &Job, plan: &TilePlan<'_>, wanted: &str) -> Result<(), Fail> {
     let parts = Parts {
         needs: needs(alloc, job, plan)?,
         steps: steps(alloc, plan.steps())?,

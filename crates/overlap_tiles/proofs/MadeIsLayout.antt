@@ -40,6 +40,7 @@ pub record IsMade (t : Target) (p : Layout) : Type 0 where
   pub scratch : p.scratch ≡ points_in inner
   pub points : p.points ≡ points_in inner + point_count t.region
   pub ranges : p.ranges ≡ end_to_end 0 (map (λ s. point_count s.1) inner)
+  pub inlining : p.inlining ≡ t.inlining
 
 pub is_layout : (t : Target) (p : Layout) → IsMade t p → IsLayout t p
 is_layout t p made =
@@ -53,6 +54,7 @@ is_layout t p made =
       points = made.points ∙ ap (λ (ss : List (ℕ × Area)). points_in ss + point_count t.region) kept
           ∙ sym (points_in-push (inner_steps t) (t.stage, t.region));
       ranges = subst (λ (n : ℕ). HaveRoom t p.ranges n) size (subst (λ (rs : List (ℕ × ℕ)). HaveRoom t rs (scratch t)) ranges (have_room t));
+      inlining = made.inlining;
     }
 
 -- ---- with keys and without
@@ -71,7 +73,7 @@ layout_in program job inlining g i j p is =
       area = is.area;
       tile = is.tile;
       layout = record {
-        layout = record { needs = ap (map key_tile) made.needs ∙ tiles_back program job (needs (target_over job inlining g is.area)); steps = made.steps; points = made.points; ranges = made.ranges };
+        layout = record { needs = ap (map key_tile) made.needs ∙ tiles_back program job (needs (target_over job inlining g is.area)); steps = made.steps; points = made.points; ranges = made.ranges; inlining = made.inlining };
         fits = is.plan.fits;
       };
     }

@@ -22,6 +22,7 @@ pub record Layout : Type 0 where
   pub points : ℕ
   pub ranges : List (ℕ × ℕ)
   pub scratch : ℕ
+  pub inlining : List Bool
 
 -- the layout of a target
 pub record IsLayout (t : Target) (l : Layout) : Type 0 where
@@ -29,6 +30,7 @@ pub record IsLayout (t : Target) (l : Layout) : Type 0 where
   pub steps : l.steps ≡ steps t
   pub points : l.points ≡ points t
   pub ranges : HaveRoom t l.ranges l.scratch
+  pub inlining : l.inlining ≡ t.inlining
 
 -- and its inner steps have no more points than may lie in scratch memory
 pub record IsFittingLayout (t : Target) (l : Layout) : Type 0 where
@@ -42,6 +44,7 @@ pub record Plan : Type 0 where
   pub points : ℕ
   pub ranges : List (ℕ × ℕ)
   pub scratch : ℕ
+  pub inlining : List Bool
 
 -- the plan of a target, by the identity of its program
 pub record IsPlan (program : List ℕ) (t : Target) (p : Plan) : Type 0 where
@@ -49,6 +52,7 @@ pub record IsPlan (program : List ℕ) (t : Target) (p : Plan) : Type 0 where
   pub steps : p.steps ≡ steps t
   pub points : p.points ≡ points t
   pub ranges : HaveRoom t p.ranges p.scratch
+  pub inlining : p.inlining ≡ t.inlining
 
 pub record IsFittingPlan (program : List ℕ) (t : Target) (p : Plan) : Type 0 where
   pub plan : IsPlan program t p
@@ -56,7 +60,7 @@ pub record IsFittingPlan (program : List ℕ) (t : Target) (p : Plan) : Type 0 w
 
 -- what is left of a plan without identities
 abbrev pub layout_of : Plan → Layout
-layout_of p = record { needs = map key_tile p.needs; steps = p.steps; points = p.points; ranges = p.ranges; scratch = p.scratch }
+layout_of p = record { needs = map key_tile p.needs; steps = p.steps; points = p.points; ranges = p.ranges; scratch = p.scratch; inlining = p.inlining }
 
 -- why a target has no layout, and no plan. Memory may be refused at any
 abbrev pub IsTargetFault : Target → PlanFault → Type 0

@@ -5,6 +5,7 @@ ghost use Rattle.std.specs.Prelude.{◌≡◌, map, IfOk, IfErr, IfSome, IfNone}
 ghost use Rattle.domains.specs.Area.{IsArea};
 ghost use Rattle.job.specs.Identity.{HasTileAt};
 ghost use Rattle.job.specs.Kept.{pipeline_in};
+ghost use Rattle.grouping.specs.Schedules.{is_inlined};
 ghost use Rattle.grouping.specs.Targets.{boxes, target_over};
 ghost use Rattle.overlap_tiles.specs.Plans.{IsTileAt, IsTileLayout, IsFittingLayout, IsTargetFault, IsPlanFault};
 ghost use Rattle.overlap_tiles.specs.Views.{step_view, need_view};
@@ -20,9 +21,10 @@ use std::alloc::Global;
 use std::marker::Model;
 
 /// What makes one tile, without identities: the stored tiles that it needs, what is computed in which order, and where each
-/// step but the last lies in scratch memory. Nothing is hashed for it. Only `of` makes one.
+/// step but the last lies in scratch memory, by the schedule that it was made by. Nothing is hashed for it. Only `of` makes one.
 #[derive(Debug, Drop)]
-pub struct Layout {
+pub struct Layout<'a> {
+    schedule: &'a Schedule,
     needs: Vec<Need>,
     steps: Vec<Step>,
     points: u64,
@@ -30,14 +32,14 @@ pub struct Layout {
     scratch: usize,
 }
 
-impl Model for Layout {
+impl<'a> Model for Layout<'a> {
     ghost use Rattle.std.specs.Prelude.{map};
     ghost use Rattle.overlap_tiles.specs.Plans.{Layout as Outline};
     ghost use Rattle.overlap_tiles.specs.Views.{step_view, need_view};
 
     ghost Value = { Outline };
 
-    ghost view = { λ l. record { needs = map need_view l.needs.items; steps = map step_view l.steps.items; points = l.points; ranges = l.ranges.items; scratch = l.scratch } };
+    ghost view = { λ l. record { needs = map need_view l.needs.items; steps = map step_view l.steps.items; points = l.points; ranges = l.ranges.items; scratch = l.scratch; inlining = l.schedule.now.inlining } };
 }
 
 // The area of a tile of a function or accumulator.
@@ -49,7 +51,7 @@ fn tile_area(job: &Job, stage: usize, row: u32, col: u32) -> Option<Area>
     job.grid(stage)?.tile(row, col)
 }
 
-impl Layout {
+impl<'a> Layout<'a> {
     /// The layout of the tile in this row and this column of a function's or accumulator's grid.
     ///
     /// # Errors
@@ -59,11 +61,11 @@ impl Layout {
     pub fn of(
         alloc: Global,
         job: &Job,
-        schedule: &Schedule,
+        schedule: &'a Schedule,
         stage: usize,
         row: u32,
         col: u32,
-    ) -> Result<Layout, PlanFault>
+    ) -> Result<Layout<'a>, PlanFault>
         ensures layout { IfOk result (IsTileLayout (pipeline_in job.now) schedule.now.inlining stage row col) }
         ensures fault { IfErr result (IsPlanFault (pipeline_in job.now) schedule.now.inlining stage row col) }
     {
@@ -79,10 +81,10 @@ impl Layout {
     fn over(
         alloc: Global,
         job: &Job,
-        schedule: &Schedule,
+        schedule: &'a Schedule,
         target: Step,
         found: &[(usize, Area)],
-    ) -> Result<Layout, PlanFault>
+    ) -> Result<Layout<'a>, PlanFault>
         requires area { IsArea target.area }
         requires boxes { found.now ≡ boxes (target_over (pipeline_in job.now) schedule.now.inlining target.stage target.area) }
         ensures layout { IfOk result (IsFittingLayout (target_over (pipeline_in job.now) schedule.now.inlining target.stage target.area)) }
@@ -96,6 +98,7 @@ impl Layout {
         let needs = needs(alloc, job, schedule, found)?;
         let all = with_target(steps, target)?;
         Ok(Layout {
+            schedule,
             needs,
             steps: all,
             points: scratch + points(&target.area),
@@ -137,5 +140,12 @@ impl Layout {
         ensures { result ≡ self.now.scratch }
     {
         self.scratch
+    }
+
+    /// Whether the stage of this number is inlined by the schedule that it was made by.
+    pub fn inlined(&self, stage: usize) -> bool
+        ensures { result ≡ is_inlined self.now.inlining stage }
+    {
+        self.schedule.inlined(stage)
     }
 }

@@ -19,23 +19,23 @@ use std::alloc::Global;
 use std::marker::Model;
 
 /// What makes one tile: the stored tiles that it needs, what is computed in which order, and where each step but the last
-/// lies in scratch memory. Only `of` makes one.
+/// lies in scratch memory, by the schedule that it was made by. Only `of` makes one.
 #[derive(Debug, Drop)]
-pub struct TilePlan {
-    layout: Layout,
+pub struct TilePlan<'a> {
+    layout: Layout<'a>,
     needs: Vec<Key>,
     ghost tied: { map key_tile needs.items ≡ layout.needs },
 }
 
-impl Model for TilePlan {
+impl<'a> Model for TilePlan<'a> {
     ghost use Rattle.overlap_tiles.specs.Plans.{Plan};
 
     ghost Value = { Plan };
 
-    ghost view = { λ p. record { needs = p.needs.items; steps = p.layout.steps; points = p.layout.points; ranges = p.layout.ranges; scratch = p.layout.scratch } };
+    ghost view = { λ p. record { needs = p.needs.items; steps = p.layout.steps; points = p.layout.points; ranges = p.layout.ranges; scratch = p.layout.scratch; inlining = p.layout.inlining } };
 }
 
-impl TilePlan {
+impl<'a> TilePlan<'a> {
     /// The plan of the tile in this row and this column of a function's or accumulator's grid. Its keys name what the program
     /// is given: where the job does not keep that identity (`Job::keep_input_id`), the picture is hashed for each plan.
     ///
@@ -46,11 +46,11 @@ impl TilePlan {
     pub fn of(
         alloc: Global,
         job: &Job,
-        schedule: &Schedule,
+        schedule: &'a Schedule,
         stage: usize,
         row: u32,
         col: u32,
-    ) -> Result<TilePlan, PlanFault>
+    ) -> Result<TilePlan<'a>, PlanFault>
         ensures plan { IfOk result (IsTilePlan (program_id_in job.now) (pipeline_in job.now) schedule.now.inlining stage row col) }
         ensures fault { IfErr result (IsPlanFault (pipeline_in job.now) schedule.now.inlining stage row col) }
     {
@@ -60,7 +60,7 @@ impl TilePlan {
     }
 
     /// The same without identities. The plan of a tile has the tile's layout.
-    pub fn layout(&self) -> &Layout
+    pub fn layout(&self) -> &Layout<'a>
         ensures same { result.now ≡ layout_of self.now }
         ensures tile { (program : List ℕ) (job : Pipeline) (inlining : List Bool) (g i j : ℕ) → IsTilePlan program job inlining g i j self.now → IsTileLayout job inlining g i j result.now }
     {

@@ -1,7 +1,7 @@
 -- What is given: numbers of tiles of stages that were computed before.
 use Rattle.std.specs.Prelude.{ℕ, ℤ, pos, ◌≡◌, Option, Some, List, length, slice_get}
 use Rattle.std.specs.Option.{option_map_or}
-use Rattle.domains.specs.Area.{point_count}
+use Rattle.domains.specs.Area.{point_count, HoldsPoint}
 use Rattle.domains.specs.Tiles.{HasTile, tile_area, tile_at}
 use Rattle.domains.specs.declared.area.Area.{Area}
 use Rattle.domains.specs.declared.grid.Grid.{Grid}
@@ -30,6 +30,10 @@ given_number job given g s r c = number_at given g (grid_of job s) r c
 -- the tile in which the point lies is given
 abbrev pub IsGiven : KnownTiles → ℕ → Grid → ℤ → ℤ → Type 0
 IsGiven given g grid r c = (xs : List ℤ) × (given g (tile_at grid r c).0 (tile_at grid r c).1 ≡ Some xs)
+
+-- the point lies in the area, and its tile is given
+abbrev pub IsGivenAt : KnownTiles → ℕ → Grid → ℤ → ℤ → Type 0
+IsGivenAt given g grid r c = HoldsPoint grid.area r c × IsGiven given g grid r c
 
 -- each tile of this grid that is given has as many numbers as points
 abbrev pub HasWholeTiles : KnownTiles → ℕ → Grid → Type 0

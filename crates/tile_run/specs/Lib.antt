@@ -1,9 +1,8 @@
 pub mod Faults
 pub mod KnownTiles
-pub mod Tiles
 pub mod Local
-pub mod Steps
+pub mod Prepared
 pub mod Runs
 pub mod Stored
-pub mod Running
 pub mod Work
+pub mod inside

@@ -1,21 +1,20 @@
 -- The value of a stage at a point by the numbers that are given of stored functions.
-use Rattle.std.specs.Prelude.{ℕ, zero, suc, ◌<◌, ◌≡◌, ℤ, pos, Bool, true, false, if◌then◌else◌, Option, Some, None, List, length, slice_get}
-use Rattle.domains.specs.Area.{HoldsPoint, IsArea, IsSubarea}
+use Rattle.std.specs.Prelude.{ℕ, zero, suc, ◌≡◌, ℤ, pos, Bool, true, false, if◌then◌else◌, Option, Some, None, List, slice_get}
+use Rattle.domains.specs.Area.{HoldsPoint}
 use Rattle.job.specs.Pipeline.{Body, plane, function, accumulator, Stage, Pipeline, rank_of}
 use Rattle.job.specs.Answers.{grid_of}
 use Rattle.job.specs.Reads.{BodyReads}
 use Rattle.job.specs.Values.{Valuation, sample_at, stage_value}
-use Rattle.job.specs.WellFormed.{picture_area}
 use Rattle.grouping.specs.Schedules.{is_inlined}
-use Rattle.tile_run.specs.KnownTiles.{KnownTiles, given_number}
-use Rattle.tile_run.specs.Tiles.{IsGivenAt}
+use Rattle.tile_run.specs.KnownTiles.{KnownTiles, given_number, IsGivenAt}
 
 -- ---- what is read
 
 -- of a plane the sample, of a stored function the number that is given, of an inlined function what inner gives
 abbrev pub body_given : Pipeline → List Bool → KnownTiles → Valuation → ℕ → Stage → Body → ℤ → ℤ → ℤ
 body_given job inlining given inner g s (plane n) r c = sample_at job.picture n r c
-body_given job inlining given inner g s (function cases otherwise) r c = if is_inlined inlining g then inner g r c else given_number job given g s r c
+body_given job inlining given inner g s (function cases otherwise) r c =
+    if is_inlined inlining g then inner g r c else given_number job given g s r c
 body_given job inlining given inner g s (accumulator fold bins value bin) r c = pos 0
 
 abbrev pub stage_given : Pipeline → List Bool → KnownTiles → Valuation → ℕ → Option Stage → ℤ → ℤ → ℤ
@@ -30,7 +29,8 @@ read_from job inlining given inner g r c = stage_given job inlining given inner 
 -- the local values of the stages whose ranks are below this number; of the others it says nothing
 abbrev pub local_within : Pipeline → List Bool → KnownTiles → ℕ → Valuation
 local_within job inlining given zero g r c = pos 0
-local_within job inlining given (suc n) g r c = stage_value job (read_from job inlining given (local_within job inlining given n)) (slice_get job.stages g) r c
+local_within job inlining given (suc n) g r c =
+    stage_value job (read_from job inlining given (local_within job inlining given n)) (slice_get job.stages g) r c
 
 -- the value of stage g at a point of its domain, where reads of stored functions take the numbers that are given, and reads of
 -- inlined functions their local values
@@ -57,20 +57,11 @@ StageAtHand job inlining given Inner g (Some s) r c = BodyAtHand job inlining gi
 abbrev pub IsAtHand : Pipeline → List Bool → KnownTiles → (ℕ → ℤ → ℤ → Type 0) → ℕ → ℤ → ℤ → Type 0
 IsAtHand job inlining given Inner g r c = StageAtHand job inlining given Inner g (slice_get job.stages g) r c
 
--- planes of the picture have its sides
-abbrev pub PlanesLie : Pipeline → Type 0
-PlanesLie job =
-    (g n : ℕ) (s : Stage) → slice_get job.stages g ≡ Some s → s.body ≡ plane n
-    → (n < length job.picture.planes) × IsSubarea s.domain (picture_area job.picture)
-
--- domains are areas
-abbrev pub HaveAreas : Pipeline → Type 0
-HaveAreas job = (g : ℕ) (s : Stage) → slice_get job.stages g ≡ Some s → IsArea s.domain
-
 -- ---- points that are computed
 
 -- a point of the domain of a stage, at which all that the stage reads is at hand
-pub record IsProvided (job : Pipeline) (inlining : List Bool) (given : KnownTiles) (Inner : ℕ → ℤ → ℤ → Type 0) (g : ℕ) (r c : ℤ) : Type 0 where
+pub record IsProvided (job : Pipeline) (inlining : List Bool) (given : KnownTiles) (Inner : ℕ → ℤ → ℤ → Type 0) (g : ℕ)
+    (r c : ℤ) : Type 0 where
   pub stage : Stage
   pub there : slice_get job.stages g ≡ Some stage
   pub inside : HoldsPoint stage.domain r c

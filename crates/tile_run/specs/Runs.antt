@@ -9,12 +9,10 @@ use Rattle.job.specs.Values.{value}
 use Rattle.grouping.specs.Schedules.{is_function}
 use Rattle.overlap_tiles.specs.Plans.{Plan, Layout, IsTileAt, IsTilePlan, IsTileLayout}
 use Rattle.tile_eval.specs.Buffer.{raster}
-use Rattle.tile_eval.specs.declared.buffers.Buffer.{Buffer}
 use Rattle.tile_run.specs.declared.fault.EvalFault.{EvalFault}
 use Rattle.tile_run.specs.declared.fault.EvalFault.TheVariants.{Missing, Memory}
 use Rattle.tile_run.specs.KnownTiles.{KnownTiles}
 use Rattle.tile_run.specs.Local.{local_value}
-use Rattle.tile_run.specs.Steps.{IsReadyOver}
 
 abbrev pub is_missing : KnownTiles → Key → Bool
 is_missing given key = is_none (given key.stage key.row key.col)
@@ -25,14 +23,16 @@ first_missing given needs = find (is_missing given) needs
 
 -- the numbers are the local values of stage g on its tile in row i and column j, row by row
 abbrev pub AreLocalOn : Pipeline → List Bool → KnownTiles → ℕ → ℕ → ℕ → List ℤ → Type 0
-AreLocalOn job inlining given g i j numbers = (area : Area) → IsTileAt job g i j area → numbers ≡ raster area (local_value job inlining given g)
+AreLocalOn job inlining given g i j numbers =
+    (area : Area) → IsTileAt job g i j area → numbers ≡ raster area (local_value job inlining given g)
 
 -- the numbers are the values of the stage there
 abbrev pub AreValuesOn : Pipeline → ℕ → ℕ → ℕ → List ℤ → Type 0
 AreValuesOn job g i j numbers = (area : Area) → IsTileAt job g i j area → numbers ≡ raster area (value job g)
 
 -- the plan is that of a tile of a function
-pub record IsFunctionPlan (program : List ℕ) (job : Pipeline) (inlining : List Bool) (p : Plan) : Type 0 where
+pub record IsFunctionPlan (program : List ℕ) (job : Pipeline) (p : Plan) : Type 0 where
+  pub inlining : List Bool
   pub stage : ℕ
   pub row : ℕ
   pub col : ℕ
@@ -44,31 +44,14 @@ abbrev pub IsEvalFault : KnownTiles → List Key → EvalFault → Type 0
 IsEvalFault given needs (Missing key) = first_missing given needs ≡ Some key
 IsEvalFault given needs Memory = first_missing given needs ≡ None
 
--- the plan, and the layout, is that of a tile
-pub record IsSomePlan (program : List ℕ) (job : Pipeline) (inlining : List Bool) (p : Plan) : Type 0 where
-  pub stage : ℕ
-  pub row : ℕ
-  pub col : ℕ
-  pub plan : IsTilePlan program job inlining stage row col p
-
-pub record IsSomeLayout (job : Pipeline) (inlining : List Bool) (l : Layout) : Type 0 where
+-- the layout is that of a tile
+pub record IsSomeLayout (job : Pipeline) (l : Layout) : Type 0 where
+  pub inlining : List Bool
   pub stage : ℕ
   pub row : ℕ
   pub col : ℕ
   pub layout : IsTileLayout job inlining stage row col l
-
--- and that of a tile of a function
-pub record IsFunctionLayout (job : Pipeline) (inlining : List Bool) (l : Layout) : Type 0 where
-  pub stage : ℕ
-  pub row : ℕ
-  pub col : ℕ
-  pub layout : IsTileLayout job inlining stage row col l
-  pub function : is_function job stage ≡ true
 
 -- each of these tiles is given
-abbrev pub AreGiven : KnownTiles → List Tile → Type 0
-AreGiven given needs = (n : Tile) → Contains needs n → (xs : List ℤ) × (given n.stage n.row n.col ≡ Some xs)
-
--- all that stage g reads in the area of its tile in row i and column j is at hand
-abbrev pub IsReadyOn : Pipeline → List Bool → KnownTiles → List (Option Buffer) → ℕ → ℕ → ℕ → Type 0
-IsReadyOn job inlining given buffers g i j = (area : Area) → IsTileAt job g i j area → IsReadyOver job inlining given buffers g area
+abbrev pub NeedsGiven : KnownTiles → List Tile → Type 0
+NeedsGiven given needs = (n : Tile) → Contains needs n → (xs : List ℤ) × (given n.stage n.row n.col ≡ Some xs)

@@ -1,10 +1,8 @@
 -- The tiles that a run makes, and the first of them that takes too much scratch memory.
-use Rattle.std.specs.Prelude.{ℕ, ◌≡◌, Bool, false, ◌&&◌, not, nat_le, Option, Some, List, map, filter, find, slice_get}
-use Rattle.std.specs.List.{flat_map, range_with_len}
+use Rattle.std.specs.Prelude.{ℕ, ◌≡◌, Bool, false, ◌&&◌, not, nat_le, Option, Some, List, filter, find, slice_get}
+use Rattle.std.specs.List.{flat_map}
 use Rattle.std.specs.Option.{option_map, option_map_or}
-use Rattle.domains.specs.Tiles.{tile_area, tile_cols}
-use Rattle.domains.specs.declared.grid.Grid.{Grid}
-use Rattle.identity.specs.declared.key.Key.{Key}
+use Rattle.domains.specs.Tiles.{tile_area}
 use Rattle.job.specs.Answers.{Tile, tiles, grid_of, is_accumulator}
 use Rattle.job.specs.Pipeline.{Stage, Pipeline}
 use Rattle.grouping.specs.Costs.{scratch, most_scratch}
@@ -37,17 +35,14 @@ wanted_by job inlining Accumulators = is_accumulator_at job
 abbrev pub work_tiles : Pipeline → (ℕ → Bool) → List Tile
 work_tiles job wants = flat_map (tiles job) (filter wants (in_order job.stages))
 
--- the places of the tiles in row i of a grid
-abbrev pub row_tiles : Grid → ℕ → List (ℕ × ℕ)
-row_tiles grid i = map (λ j. (i, j)) (range_with_len 0 (tile_cols grid))
-
 -- the points that a tile has in scratch memory
-abbrev pub tile_scratch : Pipeline → List Bool → Tile → Stage → ℕ
-tile_scratch job inlining t s = scratch (target_over job inlining t.stage (tile_area (grid_of job s) t.row t.col))
+abbrev pub scratch_of_tile : Pipeline → List Bool → Tile → Stage → ℕ
+scratch_of_tile job inlining t s = scratch (target_over job inlining t.stage (tile_area (grid_of job s) t.row t.col))
 
 -- whether they are more than there may be
 abbrev pub too_big : Pipeline → List Bool → Tile → Bool
-too_big job inlining t = option_map_or (λ s. not (nat_le (tile_scratch job inlining t s) most_scratch)) (slice_get job.stages t.stage) false
+too_big job inlining t =
+    option_map_or (λ s. not (nat_le (scratch_of_tile job inlining t s) most_scratch)) (slice_get job.stages t.stage) false
 
 abbrev pub first_too_big : Pipeline → List Bool → (ℕ → Bool) → Option Tile
 first_too_big job inlining wants = find (too_big job inlining) (work_tiles job wants)

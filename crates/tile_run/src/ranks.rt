@@ -1,27 +1,24 @@
 #![tactic(auto)]
 //! All stored functions of a job, each after those that it reads.
 
-ghost use Rattle.std.specs.Prelude.{◌≡◌, ◌<◌, ◌≤◌, ◌+◌, ℕ, Some, None, true, false, length, map, replicate, slice_get, IfOk, IfErr};
+ghost use Rattle.std.specs.Prelude.{◌≡◌, ◌<◌, ◌+◌, ℕ, Some, None, true, false, length, map, IfOk, IfErr};
 ghost use Rattle.domains.specs.Tiles.{HasTile, tile_rows, tile_cols};
-ghost use Rattle.domains.specs.declared.grid.Grid.{Grid as GridOf};
-ghost use Rattle.job.specs.Answers.{grid_of};
 ghost use Rattle.job.specs.Kept.{pipeline_in, program_id_in};
-ghost use Rattle.job.specs.Pipeline.{Stage as StageOf, rank_of};
+ghost use Rattle.job.specs.Pipeline.{rank_of};
 ghost use Rattle.job.specs.Views.{stage_view};
-ghost use Rattle.job.specs.WellFormed.{IsJob};
 ghost use Rattle.grouping.specs.Inlining.{IsScheduleOf};
 ghost use Rattle.grouping.specs.Schedules.{is_inlined, is_function_body};
 ghost use Rattle.overlap_tiles.specs.Plans.{IsTileLayout};
-ghost use Rattle.tile_run.specs.Running.{row_numbers, tile_values, row_values, grid_values, AreTilesOf, AreStored, IsReady, StoredFit};
-ghost use Rattle.tile_run.specs.Stored.{stored_tiles, IsStoredFunction, GivesAllTiles};
+ghost use Rattle.tile_run.specs.inside.Running.{row_numbers, tile_values, row_values, grid_values, AreTilesOf, AreStored, IsStageReady, StoredFit};
+ghost use Rattle.tile_run.specs.Stored.{stored_tiles, GivesAllTiles};
 ghost use Rattle.tile_run.specs.Work.{is_stored_function, first_too_big, IsRunFault};
 ghost use Rattle.tile_run.specs.KnownTiles.{AreTrue};
 
 use crate::buffers::Scratch;
 use crate::fault::RunFault;
 use crate::room::{Work, first_too_big};
-use crate::run::run_layout;
 use crate::stored::{Stored, TileRow, Tiles};
+use crate::tile_job::TileJob;
 use domains::Grid;
 use grouping::{Schedule, last_rank};
 use job::{Job, Stage, StageKind};
@@ -40,8 +37,8 @@ struct StageRun<'a> {
 
 impl StageRun<'_> {
     // The layout of a tile.
-    fn layout(&self, alloc: Global, row: u32, col: u32) -> Result<Layout, AllocError>
-        requires ready { IsReady (pipeline_in self.now.job.now) self.now.schedule.now.inlining self.now.stored.now.stages.items self.now.stage self.now.grid }
+    fn layout(&self, alloc: Global, row: u32, col: u32) -> Result<Layout<'_>, AllocError>
+        requires ready { IsStageReady (pipeline_in self.now.job.now) self.now.schedule.now.inlining self.now.stored.now.stages.items self.now.stage self.now.grid }
         requires tile { HasTile self.now.grid row col }
         ensures { IfOk result (IsTileLayout (pipeline_in self.now.job.now) self.now.schedule.now.inlining self.now.stage row col) }
     {
@@ -60,24 +57,22 @@ impl StageRun<'_> {
         col: u32,
         scratch: &mut Scratch,
     ) -> Result<Vec<i32>, AllocError>
-        requires ready { IsReady (pipeline_in self.now.job.now) self.now.schedule.now.inlining self.now.stored.now.stages.items self.now.stage self.now.grid }
+        requires ready { IsStageReady (pipeline_in self.now.job.now) self.now.schedule.now.inlining self.now.stored.now.stages.items self.now.stage self.now.grid }
         requires tile { HasTile self.now.grid row col }
         ensures { IfOk result (λ values. values.items ≡ tile_values (pipeline_in self.now.job.now) self.now.stage self.now.grid row col) }
     {
         let layout = self.layout(alloc, row, col)?;
-        run_layout(
-            alloc,
-            self.job,
-            self.schedule,
-            &layout,
-            scratch,
-            self.stored,
-        )
+        let tile = TileJob {
+            job: self.job,
+            layout: &layout,
+            known: self.stored,
+        };
+        tile.run(alloc, scratch)
     }
 
     // Those of a row of tiles.
     fn row(&self, alloc: Global, row: u32, scratch: &mut Scratch) -> Result<TileRow, AllocError>
-        requires ready { IsReady (pipeline_in self.now.job.now) self.now.schedule.now.inlining self.now.stored.now.stages.items self.now.stage self.now.grid }
+        requires ready { IsStageReady (pipeline_in self.now.job.now) self.now.schedule.now.inlining self.now.stored.now.stages.items self.now.stage self.now.grid }
         requires row { row < tile_rows self.now.grid }
         ensures { IfOk result (λ tiles. row_numbers tiles ≡ row_values (pipeline_in self.now.job.now) self.now.stage self.now.grid row (tile_cols self.now.grid)) }
     {
@@ -90,7 +85,7 @@ impl StageRun<'_> {
 
     // Those of all tiles.
     fn tiles(&self, alloc: Global, scratch: &mut Scratch) -> Result<Tiles, AllocError>
-        requires ready { IsReady (pipeline_in self.now.job.now) self.now.schedule.now.inlining self.now.stored.now.stages.items self.now.stage self.now.grid }
+        requires ready { IsStageReady (pipeline_in self.now.job.now) self.now.schedule.now.inlining self.now.stored.now.stages.items self.now.stage self.now.grid }
         ensures { IfOk result (λ tiles. map row_numbers tiles.rows.items ≡ grid_values (pipeline_in self.now.job.now) self.now.stage self.now.grid (tile_rows self.now.grid)) }
     {
         let mut rows = Vec::new(alloc);
@@ -125,7 +120,6 @@ impl Stored {
         stage: usize,
         scratch: &mut Scratch,
     ) -> Result<Tiles, AllocError>
-        requires job { IsJob (pipeline_in job.now) }
         requires fit { StoredFit (pipeline_in job.now) schedule.now.inlining }
         requires lower { AreStored (pipeline_in job.now) schedule.now.inlining (rank_of (pipeline_in job.now).stages stage) self.now.stages.items }
         ensures { IfOk result (AreTilesOf (pipeline_in job.now) schedule.now.inlining stage) }
@@ -157,7 +151,6 @@ impl Stored {
         rank: usize,
         scratch: &mut Scratch,
     ) -> Result<(), AllocError>
-        requires job { IsJob (pipeline_in job.now) }
         requires fit { StoredFit (pipeline_in job.now) schedule.now.inlining }
         requires lower { AreStored (pipeline_in job.now) schedule.now.inlining rank self.old.stages.items }
         ensures { IfOk result (λ done. AreStored (pipeline_in job.now) schedule.now.inlining (rank + 1) self.new.stages.items) }
@@ -177,7 +170,6 @@ impl Stored {
         schedule: &Schedule,
         rank: usize,
     ) -> Result<Stored, AllocError>
-        requires job { IsJob (pipeline_in job.now) }
         requires fit { StoredFit (pipeline_in job.now) schedule.now.inlining }
         ensures { IfOk result (λ stored. AreStored (pipeline_in job.now) schedule.now.inlining (rank + 1) stored.stages.items) }
     {
@@ -205,8 +197,6 @@ fn is_stored(schedule: &Schedule, number: usize, stage: &Stage) -> bool
 ///
 /// Fails where a tile takes too much scratch memory, with the first one and before any is made; and where memory is refused.
 pub fn run_all(alloc: Global, job: &Job, schedule: &Schedule) -> Result<Stored, RunFault>
-    requires job { IsJob (pipeline_in job.now) }
-    requires few { length (pipeline_in job.now).stages ≤ 65536 }
     requires schedule { IsScheduleOf (pipeline_in job.now) schedule.now }
     ensures all { IfOk result (λ stored. GivesAllTiles (pipeline_in job.now) schedule.now.inlining (stored_tiles stored.stages.items)) }
     ensures values { IfOk result (λ stored. AreTrue (pipeline_in job.now) (stored_tiles stored.stages.items)) }

@@ -1,17 +1,17 @@
 #![tactic(auto)]
 //! Whether the tiles that a run makes have room in scratch memory.
 
-ghost use Rattle.std.specs.Prelude.{◌≡◌, ◌≤◌, ◌<◌, Some, filter, find, length, All, IfOk};
+ghost use Rattle.std.specs.Prelude.{◌≡◌, ◌<◌, Some, filter, find, All, IfOk};
 ghost use Rattle.std.specs.List.{flat_map};
 ghost use Rattle.std.specs.Option.{option_map};
 ghost use Rattle.domains.specs.Tiles.{HasTile, tile_rows, tiles_of};
 ghost use Rattle.job.specs.Answers.{tiles};
 ghost use Rattle.job.specs.Kept.{pipeline_in, program_id_in};
 ghost use Rattle.job.specs.Readers.{grid_at};
-ghost use Rattle.job.specs.WellFormed.{IsJob};
 ghost use Rattle.grouping.specs.Inlining.{IsScheduleOf};
 ghost use Rattle.overlap_tiles.specs.Needs.{key_of, tile_of_stage};
-ghost use Rattle.tile_run.specs.Work.{wanted_by, row_tiles, too_big, first_too_big};
+ghost use Rattle.tile_run.specs.Work.{wanted_by, too_big, first_too_big};
+ghost use Rattle.tile_run.specs.inside.Room.{row_tiles};
 
 use domains::Grid;
 use grouping::{MOST_SCRATCH, Schedule, in_order};
@@ -53,7 +53,6 @@ struct StageTiles<'a> {
 impl StageTiles<'_> {
     // Whether a tile takes too much scratch memory.
     fn is_too_big(&self, alloc: Global, row: u32, col: u32) -> Result<bool, AllocError>
-        requires job { IsJob (pipeline_in self.now.job.now) }
         requires tile { HasTile self.now.grid row col }
         ensures { IfOk result (λ big. big ≡ too_big (pipeline_in self.now.job.now) self.now.schedule.now.inlining (tile_of_stage self.now.stage (row, col))) }
     {
@@ -66,7 +65,6 @@ impl StageTiles<'_> {
 
     // The first tile of a row that does.
     fn first_in_row(&self, alloc: Global, row: u32) -> Result<Option<(u32, u32)>, AllocError>
-        requires job { IsJob (pipeline_in self.now.job.now) }
         requires row { row < tile_rows self.now.grid }
         ensures { IfOk result (λ found. found ≡ find (λ t. too_big (pipeline_in self.now.job.now) self.now.schedule.now.inlining (tile_of_stage self.now.stage t)) (row_tiles self.now.grid row)) }
     {
@@ -80,7 +78,6 @@ impl StageTiles<'_> {
 
     // The first tile that does.
     fn first(&self, alloc: Global) -> Result<Option<(u32, u32)>, AllocError>
-        requires { IsJob (pipeline_in self.now.job.now) }
         ensures { IfOk result (λ found. found ≡ find (λ t. too_big (pipeline_in self.now.job.now) self.now.schedule.now.inlining (tile_of_stage self.now.stage t)) (tiles_of self.now.grid)) }
     {
         for row in 0..self.grid.tile_rows() {
@@ -114,8 +111,6 @@ fn first_of_stage(
     schedule: &Schedule,
     stage: usize,
 ) -> Result<Option<Key>, AllocError>
-    requires job { IsJob (pipeline_in job.now) }
-    requires few { stage < 65536 }
     ensures { IfOk result (λ found. found ≡ option_map (key_of (program_id_in job.now) (pipeline_in job.now)) (find (too_big (pipeline_in job.now) schedule.now.inlining) (tiles (pipeline_in job.now) stage))) }
 {
     let Some(grid) = job.grid(stage) else {
@@ -141,8 +136,6 @@ fn first_among(
     work: Work,
     order: &[usize],
 ) -> Result<Option<Key>, AllocError>
-    requires job { IsJob (pipeline_in job.now) }
-    requires few { All (λ g. g < 65536) order.now }
     ensures { IfOk result (λ found. found ≡ option_map (key_of (program_id_in job.now) (pipeline_in job.now)) (find (too_big (pipeline_in job.now) schedule.now.inlining) (flat_map (tiles (pipeline_in job.now)) (filter (wanted_by (pipeline_in job.now) schedule.now.inlining work) order.now)))) }
 {
     for number in order {
@@ -168,8 +161,6 @@ pub fn first_too_big(
     schedule: &Schedule,
     work: Work,
 ) -> Result<Option<Key>, AllocError>
-    requires job { IsJob (pipeline_in job.now) }
-    requires few { length (pipeline_in job.now).stages ≤ 65536 }
     requires schedule { IsScheduleOf (pipeline_in job.now) schedule.now }
     ensures { IfOk result (λ found. found ≡ option_map (key_of (program_id_in job.now) (pipeline_in job.now)) (first_too_big (pipeline_in job.now) schedule.now.inlining (wanted_by (pipeline_in job.now) schedule.now.inlining work))) }
 {

@@ -33,7 +33,7 @@ fn widen_every(samples: &[u16], place: usize, step: usize, out: &mut [i32])
 }
 
 // The place of a sample among those of a plane.
-#[tactic(auto, using(crate::proofs::Planes::sample_below))]
+#[tactic(auto, using(crate::proofs::PlaneSamples::sample_below))]
 fn place_in(picture: &Picture, row: i32, col: i32) -> usize
     requires { HoldsPoint (picture_area picture.now) row col }
     ensures place { result ≡ unsigned_abs row * picture.now.cols + unsigned_abs col }

@@ -7,8 +7,8 @@ ghost use Rattle.domains.specs.Index.{index_at};
 ghost use Rattle.domains.specs.Span.{Holds};
 ghost use Rattle.tile_eval.specs.Rows.{EachPlace, at};
 ghost use Rattle.tile_eval.specs.Buffer.{place_of};
-ghost use Rattle.tile_run.specs.KnownTiles.{number_at, HasWholeTiles};
-ghost use Rattle.tile_run.specs.Tiles.{IsGivenAt, IsTileAbout};
+ghost use Rattle.tile_run.specs.KnownTiles.{number_at, HasWholeTiles, IsGivenAt};
+ghost use Rattle.tile_run.specs.inside.Tiles.{IsTileAbout};
 
 use crate::known::Known;
 use domains::{Grid, Index, Span};

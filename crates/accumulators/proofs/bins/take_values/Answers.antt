@@ -2,8 +2,8 @@ use Rattle.std.proofs.Common.{rules, arith, ◌<◌, ◌+ℤ◌, pos, suc, drop,
 use Rattle.std.proofs.lemmas.Int.{to_z-of_z}
 use Rattle.std.specs.Ordering.{int_eq}
 use Rattle.tile_eval.specs.Rows.{at}
-use Rattle.accumulators.specs.Gathering.{once_came, after_values, values_of_bin}
-use Rattle.accumulators.proofs.Taking.{came_one, values_left}
+use Rattle.accumulators.specs.inside.Gathering.{once_came, after_values, values_of_bin}
+use Rattle.accumulators.proofs.TakeValues.{came_one, values_left}
 use Rattle.accumulators.proofs.bins.take_values.Goals as goal
 
 pub loop-k-preserved : goal.loop-k-preserved
@@ -18,8 +18,10 @@ loop-k-preserved c = λ j h.
     let value_fits : FitsSigned w32 (at vs k) = search rules in
     let bin_fits : FitsSigned w32 (at cs k) = search rules in
     rw add-one (ap (λ (z : ℤ). after_values c.args.op z rest) (c.take_value.ensures j inside)
-    ∙ ap (λ (z : ℤ). after_values c.args.op (once_came c.args.op (int_eq z b) (at c.loop-k.bins j) (to_z w32 (of_z w32 (at vs k)))) rest) (to_z-of_z w32 (at cs k) bin_fits)
-    ∙ ap (λ (z : ℤ). after_values c.args.op (once_came c.args.op (int_eq (at cs k) b) (at c.loop-k.bins j) z) rest) (to_z-of_z w32 (at vs k) value_fits)
+    ∙ ap (λ (z : ℤ). after_values c.args.op (once_came c.args.op (int_eq z b) (at c.loop-k.bins j) (to_z w32 (of_z w32 (at vs k)))) rest)
+    (to_z-of_z w32 (at cs k) bin_fits)
+    ∙ ap (λ (z : ℤ). after_values c.args.op (once_came c.args.op (int_eq (at cs k) b) (at c.loop-k.bins j) z) rest)
+    (to_z-of_z w32 (at vs k) value_fits)
     ∙ came_one c.args.op (int_eq (at cs k) b) (at c.loop-k.bins j) (at vs k) rest
     ∙ ap (after_values c.args.op (at c.loop-k.bins j)) (sym (values_left vs cs b k below c.requires.one_length))
     ∙ c.loop-k.invariant j inside)

@@ -14,21 +14,24 @@ use Rattle.job.specs.WellFormed.{InDomainRange}
 use Rattle.job.proofs.Unrolling.{rank_is}
 use Rattle.tile_eval.specs.Buffer.{sample_in, IsKnownAt, AreKnown}
 use Rattle.tile_eval.proofs.Knowing.{known_at, reads_below}
-use Rattle.accumulators.proofs.Knowing.{has_formulas, whole_totals}
+use Rattle.accumulators.proofs.WholeTotals.{has_formulas, whole_totals}
 use Rattle.accumulators.proofs.buffers.whole.Goals as goal
 
 pub gather-requires-clause-rows : goal.gather-requires-clause-rows
 gather-requires-clause-rows c =
-    subst (λ (a : Area). InDomainRange a.rows) (sym c.domain.ensures) (c.requires.stages c.args.stage (stage_view c.in-Some.found.now) (sym c.in-Some.ensures)).rows
+    subst (λ (a : Area). InDomainRange a.rows) (sym c.domain.ensures)
+    (c.args.job.now.well.stages c.args.stage (stage_view c.in-Some.found.now) (sym c.in-Some.ensures)).rows
 
 pub gather-requires-clause-cols : goal.gather-requires-clause-cols
 gather-requires-clause-cols c =
-    subst (λ (a : Area). InDomainRange a.cols) (sym c.domain.ensures) (c.requires.stages c.args.stage (stage_view c.in-Some.found.now) (sym c.in-Some.ensures)).cols
+    subst (λ (a : Area). InDomainRange a.cols) (sym c.domain.ensures)
+    (c.args.job.now.well.stages c.args.stage (stage_view c.in-Some.found.now) (sym c.in-Some.ensures)).cols
 
 pub gather-requires-clause-formulas : goal.gather-requires-clause-formulas
 gather-requires-clause-formulas c =
     let s : Stage = stage_view c.in-Some.found.now in
-    has_formulas (pipeline_in c.args.job.now) s c.in-Accumulator.accumulator (c.requires.stages c.args.stage s (sym c.in-Some.ensures)) (ap body_view (sym c.body.ensures ∙ c.in-Accumulator.is))
+    has_formulas (pipeline_in c.args.job.now) s c.in-Accumulator.accumulator
+    (c.args.job.now.well.stages c.args.stage s (sym c.in-Some.ensures)) (ap body_view (sym c.body.ensures ∙ c.in-Accumulator.is))
 
 pub gather-requires-clause-reads : goal.gather-requires-clause-reads
 gather-requires-clause-reads c =
@@ -36,10 +39,11 @@ gather-requires-clause-reads c =
     let s : Stage = stage_view c.in-Some.found.now in
     let there : slice_get job.stages c.args.stage ≡ Some s = sym c.in-Some.ensures in
     let buffers = c.in_ok-known-in-Accumulator.known.buffers.items in
-    let known : AreKnown job (rank_of job.stages c.args.stage) buffers = subst (λ (n : ℕ). AreKnown job n buffers) (c.rank.ensures ∙ sym (rank_is job.stages c.args.stage s there)) c.in_ok-known-in-Accumulator.ensures in
+    let known : AreKnown job (rank_of job.stages c.args.stage) buffers = subst (λ (n : ℕ). AreKnown job n buffers) (c.rank.ensures
+    ∙ sym (rank_is job.stages c.args.stage s there)) c.in_ok-known-in-Accumulator.ensures in
     λ r k inside.
     subst (λ (b : Body). BodyReads (IsKnownAt buffers) b r k) (ap body_view (sym c.body.ensures ∙ c.in-Accumulator.is))
-    (reads_below job c.requires (IsKnownAt buffers) c.args.stage s there
+    (reads_below job c.args.job.now.well (IsKnownAt buffers) c.args.stage s there
     (known_at job (rank_of job.stages c.args.stage) buffers known) r k
     (subst (λ (a : Area). HoldsPoint a r k) c.domain.ensures inside))
 
@@ -52,9 +56,10 @@ returns-in_ok-known-in-Accumulator c =
     let env : Valuation = λ h i j. sample_in (slice_get buffers h) i j in
     let own : Body = body_view (Accumulator c.in-Accumulator.accumulator) in
     let is : s.body ≡ own = ap body_view (sym c.body.ensures ∙ c.in-Accumulator.is) in
-    let known : AreKnown job (rank_of job.stages c.args.stage) buffers = subst (λ (n : ℕ). AreKnown job n buffers) (c.rank.ensures ∙ sym (rank_is job.stages c.args.stage s there)) c.in_ok-known-in-Accumulator.ensures in
+    let known : AreKnown job (rank_of job.stages c.args.stage) buffers = subst (λ (n : ℕ). AreKnown job n buffers) (c.rank.ensures
+    ∙ sym (rank_is job.stages c.args.stage s there)) c.in_ok-known-in-Accumulator.ensures in
     IfOk-weaker c.gather.result _ (λ (bins : Vec ℤ). bins.items ≡ totals job c.args.stage) (λ bins e.
     e ∙ ap (λ (a : Area). body_totals env a own) c.domain.ensures
     ∙ ap (body_totals env s.domain) (sym is)
-    ∙ whole_totals job buffers c.args.stage s c.requires there known)
+    ∙ whole_totals job buffers c.args.stage s c.args.job.now.well there known)
     c.gather.ensures

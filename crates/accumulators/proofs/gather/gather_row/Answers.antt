@@ -6,8 +6,8 @@ use Rattle.job.specs.Views.{formula_view}
 use Rattle.tile_eval.specs.Reading.{ReadsWithin}
 use Rattle.tile_eval.specs.Rows.{at}
 use Rattle.tile_eval.proofs.Gathering.{reads_along}
-use Rattle.accumulators.specs.Gathering.{after_values, values_of_bin}
-use Rattle.accumulators.proofs.Taking.{row_is, row_values}
+use Rattle.accumulators.specs.inside.Gathering.{after_values, values_of_bin}
+use Rattle.accumulators.proofs.TakeValues.{row_is, row_values}
 use Rattle.accumulators.proofs.gather.gather_row.Goals as goal
 
 pub row-requires-clause-reads : goal.row-requires-clause-reads
@@ -26,7 +26,8 @@ row-requires-2-clause-reads g c =
     let own = c.args.accumulator.now.bin in
     subst (λ (n : ℕ). ReadsWithin has (formula_view c.bin.result.now) start.row start.col n) (sym c.requires.one_length)
     (subst (λ (f : KeptFormula). ReadsWithin has (formula_view f) start.row start.col (length c.args.values.now)) (sym c.bin.ensures)
-    (reads_along has start.row start.col (length c.args.values.now) (formula_view own) c.requires.some c.requires.formulas.bin (λ k l. (c.requires.reads k l).1)))
+    (reads_along has start.row start.col (length c.args.values.now) (formula_view own) c.requires.some c.requires.formulas.bin
+    (λ k l. (c.requires.reads k l).1)))
 
 pub returns : goal.returns
 returns g c = λ j h.
@@ -42,7 +43,8 @@ returns g c = λ j h.
     (λ k l. c.row.ensures k l ∙ ap (λ (f : KeptFormula). formula_value env (formula_view f) r (x +ℤ pos k)) c.value.ensures) in
     let bins : c.row-2.new.out ≡ map (bin r) (numbers_from x n) =
     row_is (bin r) x n c.row-2.new.out (c.row-2.auto.out ∙ c.requires.one_length)
-    (λ k l. c.row-2.ensures k (rw c.requires.one_length l) ∙ ap (λ (f : KeptFormula). formula_value env (formula_view f) r (x +ℤ pos k)) c.bin.ensures) in
+    (λ k l. c.row-2.ensures k (rw c.requires.one_length l)
+    ∙ ap (λ (f : KeptFormula). formula_value env (formula_view f) r (x +ℤ pos k)) c.bin.ensures) in
     c.take_values.ensures j h
     ∙ (λ i. after_values (c.fold.ensures i) (at c.args.bins.now j) (values_of_bin (values i) (bins i) ((c.bins.ensures i).lo +ℤ pos j)))
     ∙ ap (after_values a.fold (at c.args.bins.now j)) (row_values value bin (a.bins.lo +ℤ pos j) r x n)

@@ -15,6 +15,8 @@ returns c =
     let more : c.in_ok-value.value ≤ c.max.result = omega (arith, c.max.ensures) in
     let enough : c.in_ok-bin.bin ≤ c.max.result = omega (arith, c.max.ensures) in
     record {
-      value = room_less (formula_view a.value) n n c.in_ok-value.value c.max.result same more (subst (λ (f : KeptFormula). HasRoom (formula_view f) n c.in_ok-value.value) c.value.ensures first);
-      bin = room_less (formula_view a.bin) n n c.in_ok-bin.bin c.max.result same enough (subst (λ (f : KeptFormula). HasRoom (formula_view f) n c.in_ok-bin.bin) c.bin.ensures second);
+      value = room_less (formula_view a.value) n n c.in_ok-value.value c.max.result same more
+          (subst (λ (f : KeptFormula). HasRoom (formula_view f) n c.in_ok-value.value) c.value.ensures first);
+      bin = room_less (formula_view a.bin) n n c.in_ok-bin.bin c.max.result same enough
+          (subst (λ (f : KeptFormula). HasRoom (formula_view f) n c.in_ok-bin.bin) c.bin.ensures second);
     }

@@ -3,7 +3,7 @@ use Rattle.std.proofs.lemmas.Int.{to_z-of_z}
 use Rattle.job.specs.Totals.{joined}
 use Rattle.tile_eval.specs.Rows.{at}
 use Rattle.row_kernels.proofs.Writing.{EachPlace-more}
-use Rattle.accumulators.proofs.Joined.{joined_by_places}
+use Rattle.accumulators.proofs.JoinInto.{joined_by_places}
 use Rattle.accumulators.proofs.join.join_into.Goals as goal
 
 pub loop-k-preserved : goal.loop-k-preserved
@@ -14,8 +14,10 @@ loop-k-preserved c =
     let second_fits : FitsSigned w64 (at c.args.others.now k) = search rules in
     let here : k ≤ k = omega arith in
     let within : k < length c.loop-k.bins = omega (arith, c.loop-k.auto.bins) in
-    let first : to_z w64 (of_z w64 (at c.loop-k.bins k)) ≡ at c.args.bins.now k = to_z-of_z w64 (at c.loop-k.bins k) first_fits ∙ c.loop-k.invariant.ahead k here in
-    let second : to_z w64 (of_z w64 (at c.args.others.now k)) ≡ at c.args.others.now k = to_z-of_z w64 (at c.args.others.now k) second_fits in
+    let first : to_z w64 (of_z w64 (at c.loop-k.bins k)) ≡ at c.args.bins.now k = to_z-of_z w64 (at c.loop-k.bins k) first_fits
+    ∙ c.loop-k.invariant.ahead k here in
+    let second : to_z w64 (of_z w64 (at c.args.others.now k))
+    ≡ at c.args.others.now k = to_z-of_z w64 (at c.args.others.now k) second_fits in
     record {
       done = EachPlace-more (λ j. joined c.args.op (at c.args.bins.now j) (at c.args.others.now j)) c.loop-k.bins k _ within
           (to_z-of_z w64 c.joined.result fits ∙ c.joined.ensures ∙ (λ i. joined c.args.op (first i) (second i))) c.loop-k.invariant.done;
@@ -27,4 +29,5 @@ loop-k-preserved c =
 
 pub returns : goal.returns
 returns c =
-    joined_by_places c.args.op c.args.bins.now c.args.others.now c.loop-k.bins c.requires c.loop-k.auto.bins (λ k h. c.loop-k.invariant.done k (omega arith))
+    joined_by_places c.args.op c.args.bins.now c.args.others.now c.loop-k.bins c.requires c.loop-k.auto.bins
+    (λ k h. c.loop-k.invariant.done k (omega arith))

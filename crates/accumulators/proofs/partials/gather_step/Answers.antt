@@ -1,61 +1,65 @@
-use Rattle.std.proofs.Common.{◌≡◌, ℤ, slice_get, subst, sym, ap, ◌∙◌}
+use Rattle.std.proofs.Common.{◌≡◌, ℤ, subst, sym, ap, ◌∙◌}
 use Rattle.std.specs.Global.{Vec}
 use Rattle.std.proofs.lemmas.Result.{IfOk-weaker}
-use Rattle.job.specs.declared.job.Job.{Job}
 use Rattle.job.specs.declared.stage.Body.TheVariants.{Accumulator}
 use Rattle.job.specs.Kept.{pipeline_in}
-use Rattle.job.specs.Pipeline.{Body, Stage, Pipeline}
+use Rattle.job.specs.Pipeline.{Body, Stage}
 use Rattle.job.specs.Reads.{BodyReads}
 use Rattle.job.specs.Totals.{body_totals}
-use Rattle.job.specs.Values.{Valuation}
 use Rattle.job.specs.Views.{body_view, stage_view}
-use Rattle.tile_eval.specs.Buffer.{sample_in, IsKnownAt}
-use Rattle.tile_run.specs.Local.{read_from, IsAtHand}
+use Rattle.tile_run.specs.Prepared.{IsInputAt, input_at}
 use Rattle.accumulators.specs.Partials.{local_totals}
-use Rattle.accumulators.proofs.Totalling.{ready_near, ready_reads, totals_at_hand}
-use Rattle.accumulators.proofs.Knowing.{has_formulas}
+use Rattle.accumulators.proofs.PartialsJoin.{prepared_near, prepared_reads, prepared_totals}
+use Rattle.accumulators.proofs.WholeTotals.{has_formulas}
 use Rattle.accumulators.proofs.partials.gather_step.Goals as goal
 
 pub gather-requires-clause-rows : goal.gather-requires-clause-rows
 gather-requires-clause-rows g c =
-    let hand = c.args.hand.now in
-    (ready_near (pipeline_in c.args.job.now) hand.schedule.now.inlining (g.K.Known.given hand.known.now) hand.boxes.buffers.items c.args.step.now.stage (stage_view c.in-Some.found.now) (sym c.in-Some.ensures) c.args.step.now.area c.requires.ready c.requires.job c.requires.area).0
+    let tile = c.args.inputs.now.tile in
+    let step = c.args.step.now in
+    (prepared_near (pipeline_in tile.job.now) tile.layout.now.inlining (g.K.Known.given tile.known.now) c.args.inputs.now.boxes.now
+    step.stage (stage_view c.in-Some.found.now) (sym c.in-Some.ensures) step.area
+    c.requires.prepared c.args.inputs.now.tile.job.now.well c.requires.area).0
 
 pub gather-requires-clause-cols : goal.gather-requires-clause-cols
 gather-requires-clause-cols g c =
-    let hand = c.args.hand.now in
-    (ready_near (pipeline_in c.args.job.now) hand.schedule.now.inlining (g.K.Known.given hand.known.now) hand.boxes.buffers.items c.args.step.now.stage (stage_view c.in-Some.found.now) (sym c.in-Some.ensures) c.args.step.now.area c.requires.ready c.requires.job c.requires.area).1
+    let tile = c.args.inputs.now.tile in
+    let step = c.args.step.now in
+    (prepared_near (pipeline_in tile.job.now) tile.layout.now.inlining (g.K.Known.given tile.known.now) c.args.inputs.now.boxes.now
+    step.stage (stage_view c.in-Some.found.now) (sym c.in-Some.ensures) step.area
+    c.requires.prepared c.args.inputs.now.tile.job.now.well c.requires.area).1
 
 pub gather-requires-clause-formulas : goal.gather-requires-clause-formulas
 gather-requires-clause-formulas g c =
+    let job = pipeline_in c.args.inputs.now.tile.job.now in
     let s : Stage = stage_view c.in-Some.found.now in
-    has_formulas (pipeline_in c.args.job.now) s c.in-Accumulator.accumulator (c.requires.job.stages c.args.step.now.stage s (sym c.in-Some.ensures)) (ap body_view (sym c.body.ensures ∙ c.in-Accumulator.is))
+    has_formulas job s c.in-Accumulator.accumulator
+    (c.args.inputs.now.tile.job.now.well.stages c.args.step.now.stage s (sym c.in-Some.ensures))
+    (ap body_view (sym c.body.ensures ∙ c.in-Accumulator.is))
 
 pub gather-requires-clause-reads : goal.gather-requires-clause-reads
 gather-requires-clause-reads g c = λ r k inside.
-    let hand = c.args.hand.now in
-    let inlining = hand.schedule.now.inlining in
-    let given = g.K.Known.given hand.known.now in
-    let buffers = hand.boxes.buffers.items in
-    let own : Body = body_view (Accumulator c.in-Accumulator.accumulator) in
-    subst (λ (j : Job). BodyReads (IsAtHand (pipeline_in j) inlining given (IsKnownAt buffers)) own r k) (sym c.requires.same)
-    (subst (λ (b : Body). BodyReads (IsAtHand (pipeline_in c.args.job.now) inlining given (IsKnownAt buffers)) b r k) (ap body_view (sym c.body.ensures ∙ c.in-Accumulator.is))
-    (ready_reads (pipeline_in c.args.job.now) inlining given buffers c.args.step.now.stage (stage_view c.in-Some.found.now) (sym c.in-Some.ensures) c.args.step.now.area c.requires.ready r k inside))
+    let tile = c.args.inputs.now.tile in
+    let boxes = c.args.inputs.now.boxes.now in
+    let step = c.args.step.now in
+    let job = pipeline_in tile.job.now in
+    let given = g.K.Known.given tile.known.now in
+    subst (λ (b : Body). BodyReads (IsInputAt job tile.layout.now.inlining given boxes) b r k)
+    (ap body_view (sym c.body.ensures ∙ c.in-Accumulator.is))
+    (prepared_reads job tile.layout.now.inlining given boxes step.stage (stage_view c.in-Some.found.now) (sym c.in-Some.ensures) step.area
+    c.requires.prepared r k inside)
 
 pub returns-in-Accumulator : goal.returns-in-Accumulator
 returns-in-Accumulator g c =
-    let job : Pipeline = pipeline_in c.args.job.now in
-    let hand = c.args.hand.now in
-    let inlining = hand.schedule.now.inlining in
-    let given = g.K.Known.given hand.known.now in
-    let buffers = hand.boxes.buffers.items in
-    let s : Stage = stage_view c.in-Some.found.now in
+    let tile = c.args.inputs.now.tile in
+    let boxes = c.args.inputs.now.boxes.now in
     let step = c.args.step.now in
-    let env : Valuation = λ h i j. sample_in (slice_get buffers h) i j in
-    let own : Body = body_view (Accumulator c.in-Accumulator.accumulator) in
-    let is : s.body ≡ own = ap body_view (sym c.body.ensures ∙ c.in-Accumulator.is) in
+    let job = pipeline_in tile.job.now in
+    let inlining = tile.layout.now.inlining in
+    let given = g.K.Known.given tile.known.now in
+    let s : Stage = stage_view c.in-Some.found.now in
+    let is : s.body ≡ body_view (Accumulator c.in-Accumulator.accumulator) = ap body_view (sym c.body.ensures ∙ c.in-Accumulator.is) in
     IfOk-weaker c.gather.result _ (λ (bins : Vec ℤ). bins.items ≡ local_totals job inlining given step.area step.stage) (λ bins e.
-    e ∙ ap (λ (j : Job). body_totals (read_from (pipeline_in j) inlining given env) step.area own) c.requires.same
-    ∙ ap (body_totals (read_from job inlining given env) step.area) (sym is)
-    ∙ totals_at_hand job inlining given buffers step.stage s step.area c.requires.area (sym c.in-Some.ensures) c.requires.local c.requires.ready)
+    e ∙ ap (body_totals (input_at job inlining given boxes) step.area) (sym is)
+    ∙ prepared_totals job inlining given boxes step.stage s (sym c.in-Some.ensures) step.area c.requires.prepared c.requires.area)
     c.gather.ensures

@@ -1,6 +1,6 @@
 use Rattle.job.specs.Kept.{pipeline_in}
 use Rattle.tile_run.specs.Stored.{stored_tiles}
-use Rattle.accumulators.proofs.Tiling.{whole}
+use Rattle.accumulators.proofs.TileTotals.{whole}
 use Rattle.library_tests.proofs.given.compare_both.Goals as goal
 
 pub compare-requires-clause-whole : goal.compare-requires-clause-whole

@@ -7,5 +7,8 @@ use Rattle.tile_run.proofs.room.first_among.Given as goal
 
 abbrev pub invariant-loop-number : goal.invariant-loop-number
 invariant-loop-number l =
-    find (too_big (pipeline_in l.job) l.schedule.inlining) (flat_map (tiles (pipeline_in l.job)) (filter (wanted_by (pipeline_in l.job) l.schedule.inlining l.work) (drop l.number-index l.order)))
-    ≡ find (too_big (pipeline_in l.job) l.schedule.inlining) (flat_map (tiles (pipeline_in l.job)) (filter (wanted_by (pipeline_in l.job) l.schedule.inlining l.work) l.order))
+    find (too_big (pipeline_in l.job) l.schedule.inlining)
+    (flat_map (tiles (pipeline_in l.job)) (filter (wanted_by (pipeline_in l.job) l.schedule.inlining l.work)
+    (drop l.number-index l.order)))
+    ≡ find (too_big (pipeline_in l.job) l.schedule.inlining)
+    (flat_map (tiles (pipeline_in l.job)) (filter (wanted_by (pipeline_in l.job) l.schedule.inlining l.work) l.order))

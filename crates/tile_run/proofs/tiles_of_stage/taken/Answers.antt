@@ -2,7 +2,7 @@ use Rattle.std.proofs.Common.{rules, arith, ℕ, ◌≡◌, ◌+◌, ◌-◌, �
 use Rattle.std.proofs.lemmas.Int.{to_z-of_z}
 use Rattle.domains.specs.Index.{index_at}
 use Rattle.domains.specs.Span.{Holds}
-use Rattle.tile_run.proofs.Borders.{first_held, more_held}
+use Rattle.tile_run.proofs.RowsCrossTiles.{first_held, more_held}
 use Rattle.tile_run.proofs.tiles_of_stage.taken.Goals as goal
 
 pub loop-held-init : goal.loop-held-init
@@ -24,5 +24,6 @@ loop-held-preserved-then-holds c =
       some = omega arith;
       ordered = omega arith;
       most = c.loop-held.invariant.most;
-      within = more_held c.args.span.now c.args.col.now c.args.points.now.col middle c.at.ensures.within c.requires.held (subst (Holds c.args.span.now) col (c.holds.ensures.0 c.if-holds.true));
+      within = more_held c.args.span.now c.args.col.now c.args.points.now.col middle c.at.ensures.within c.requires.held
+          (subst (Holds c.args.span.now) col (c.holds.ensures.0 c.if-holds.true));
     }

@@ -6,7 +6,7 @@ use Rattle.netpbm.specs.Planes.{samples_of}
 use Rattle.job.specs.Answers.{height_of, samples, width_of}
 use Rattle.job.specs.Kept.{pipeline_in}
 use Rattle.job.specs.Views.{output_view}
-use Rattle.accumulators.proofs.Pictures.{is_picture, same_picture}
+use Rattle.accumulators.proofs.PictureOfAnswer.{is_picture, same_picture}
 use Rattle.accumulators.proofs.computed.Computed.picture.Goals as goal
 
 pub unreachable-requires : goal.unreachable-requires
@@ -16,7 +16,8 @@ unreachable-requires c =
     let rows = c.height_of-rows.ensures ∙ ap (λ s. height_of job (slice_index s 0)) c.stages-2.ensures in
     let cols = c.width_of-cols.ensures ∙ ap (λ s. width_of job (slice_index s 0)) c.stages-2.ensures in
     let made = c.in_ok-planes.ensures ∙ ap (map (samples job c.max-max.result)) c.stages.ensures in
-    let same = same_picture job o c.height_of-rows.result c.width_of-cols.result c.max-max.result (samples_of c.in_ok-planes.planes.items) rows cols c.max-max.ensures made in
+    let same = same_picture job o c.height_of-rows.result c.width_of-cols.result c.max-max.result (samples_of c.in_ok-planes.planes.items)
+    rows cols c.max-max.ensures made in
     false≢true (c.in-Err.ensures.exact.1 (subst IsImage (sym same) (is_picture job o c.requires.output)))
 
 pub returns-clause-answer : goal.returns-clause-answer
@@ -26,4 +27,5 @@ returns-clause-answer c =
     let rows = c.height_of-rows.ensures ∙ ap (λ s. height_of job (slice_index s 0)) c.stages-2.ensures in
     let cols = c.width_of-cols.ensures ∙ ap (λ s. width_of job (slice_index s 0)) c.stages-2.ensures in
     let made = c.in_ok-planes.ensures ∙ ap (map (samples job c.max-max.result)) c.stages.ensures in
-    c.in-Ok.ensures.ok ∙ same_picture job o c.height_of-rows.result c.width_of-cols.result c.max-max.result (samples_of c.in_ok-planes.planes.items) rows cols c.max-max.ensures made
+    c.in-Ok.ensures.ok ∙ same_picture job o c.height_of-rows.result c.width_of-cols.result c.max-max.result
+    (samples_of c.in_ok-planes.planes.items) rows cols c.max-max.ensures made

@@ -7,7 +7,7 @@ use Rattle.job.specs.Answers.{sample_of}
 use Rattle.job.specs.Kept.{pipeline_in}
 use Rattle.job.specs.Values.{value}
 use Rattle.tile_eval.specs.Rows.{EachPlace, at}
-use Rattle.accumulators.proofs.Planes.{line_is}
+use Rattle.accumulators.proofs.PlanesRowByRow.{line_is}
 use Rattle.accumulators.proofs.computed.Computed.push_row.Goals as goal
 
 pub returns : goal.returns
@@ -18,7 +18,8 @@ returns c =
     let first : FitsSigned w32 c.args.first = search rules in
     let written : EachPlace n (λ k. at c.read_row.new.out k ≡ f c.args.row (c.args.first +ℤ pos k)) =
     λ k l. c.read_row.ensures k l ∙ (λ i. f (to_z-of_z w32 c.args.row row i) (to_z-of_z w32 c.args.first first i +ℤ pos k)) in
-    let cut : map (sample_of c.args.max) c.read_row.new.out ≡ map (λ z. sample_of c.args.max (f c.args.row z)) (numbers_from c.args.first n) =
+    let cut : map (sample_of c.args.max) c.read_row.new.out
+    ≡ map (λ z. sample_of c.args.max (f c.args.row z)) (numbers_from c.args.first n) =
     ap (map (sample_of c.args.max)) (line_is (f c.args.row) c.args.first n c.read_row.new.out c.read_row.auto.out written)
     ∙ map-map (sample_of c.args.max) (f c.args.row) (numbers_from c.args.first n) in
     subst (λ (xs : List ℕ). OnOk c.push_cut.result (c.push_cut.new.samples.items ≡ c.args.plane.now.items ++ xs)) cut c.push_cut.ensures

@@ -2,11 +2,13 @@ use Rattle.std.proofs.Common.{◌≡◌, ◌-◌}
 use Rattle.std.specs.Prelude.{fold}
 use Rattle.domains.specs.Tiles.{tile_cols}
 use Rattle.job.specs.Kept.{pipeline_in}
-use Rattle.accumulators.specs.Making.{with_tile}
-use Rattle.accumulators.proofs.Arriving.{row_of}
+use Rattle.accumulators.specs.inside.Making.{with_tile}
+use Rattle.accumulators.proofs.TilesJoinInTurn.{row_of}
 use Rattle.accumulators.proofs.totals.Accumulation.join_row.Given as goal
 
 abbrev pub invariant-loop-col : goal.invariant-loop-col
 invariant-loop-col l =
-    fold (with_tile (pipeline_in l.fn.self.of.job.now) l.fn.self.stage l.fn.self.op l.fn.self.grid) l.bins (row_of l.fn.row l.col (tile_cols l.fn.self.grid - l.col))
-    ≡ fold (with_tile (pipeline_in l.fn.self.of.job.now) l.fn.self.stage l.fn.self.op l.fn.self.grid) l.fn.bins (row_of l.fn.row 0 (tile_cols l.fn.self.grid))
+    fold (with_tile (pipeline_in l.fn.self.of.job.now) l.fn.self.stage l.fn.self.op l.fn.self.grid) l.bins
+    (row_of l.fn.row l.col (tile_cols l.fn.self.grid - l.col))
+    ≡ fold (with_tile (pipeline_in l.fn.self.of.job.now) l.fn.self.stage l.fn.self.op l.fn.self.grid) l.fn.bins
+    (row_of l.fn.row 0 (tile_cols l.fn.self.grid))

@@ -5,10 +5,11 @@ use Rattle.domains.specs.Pairs.{pairs}
 use Rattle.domains.specs.Tiles.{tile_cols, tile_rows}
 use Rattle.job.specs.Kept.{pipeline_in}
 use Rattle.job.specs.Totals.{totals}
-use Rattle.accumulators.specs.Making.{with_tile}
+use Rattle.accumulators.specs.inside.Making.{with_tile}
 use Rattle.accumulators.proofs.totals.Accumulation.joined.Given as goal
 
 abbrev pub invariant-loop-row : goal.invariant-loop-row
 invariant-loop-row l =
-    fold (with_tile (pipeline_in l.fn.self.of.job.now) l.fn.self.stage l.fn.self.op l.fn.self.grid) l.bins (pairs (range_with_len l.row (tile_rows l.fn.self.grid - l.row)) (range_with_len 0 (tile_cols l.fn.self.grid)))
+    fold (with_tile (pipeline_in l.fn.self.of.job.now) l.fn.self.stage l.fn.self.op l.fn.self.grid) l.bins
+    (pairs (range_with_len l.row (tile_rows l.fn.self.grid - l.row)) (range_with_len 0 (tile_cols l.fn.self.grid)))
     ≡ totals (pipeline_in l.fn.self.of.job.now) l.fn.self.stage

@@ -1,4 +1,4 @@
-use Rattle.std.proofs.Common.{ℕ, ◌+◌, ◌≤◌, List, Bool, map, ap, ◌∙◌, subst}
+use Rattle.std.proofs.Common.{ℕ, ◌+◌, ◌≤◌, List, Bool, map, ap, ◌∙◌, subst, refl}
 use Rattle.std.specs.Prelude.{filter, length}
 use Rattle.std.specs.List.{flat_map, range_with_len}
 use Rattle.std.proofs.lemmas.List.{map_push}
@@ -34,6 +34,7 @@ returns-clause-layout c =
         points = ap (λ (n : ℕ). n + c.points.result) number ∙ ap (λ (n : ℕ). points_in inner + n) c.points.ensures.number;
         ranges = c.in_ok-ranges.ensures
             ∙ ap (λ (ss : List Step). end_to_end 0 (map (λ s. point_count s.1) (map step_view ss))) c.deref-2.ensures.value;
+        inlining = refl;
       });
       fits = subst (λ (n : ℕ). n ≤ most_scratch) (number ∙ ap points_in kept) few;
     }

@@ -1,24 +1,35 @@
 use Rattle.std.proofs.lemmas.Result.{IfOk-weaker}
 use Rattle.job.specs.Kept.{pipeline_in}
-use Rattle.tile_run.proofs.Making.{whole, of_function, all_given, values_are}
+use Rattle.tile_run.proofs.StageRunGivesTiles.{whole, of_function, all_given, values_are}
 use Rattle.tile_run.proofs.ranks.StageRun.tile.Goals as goal
 
-pub run_layout-requires-clause-whole : goal.run_layout-requires-clause-whole
-run_layout-requires-clause-whole c =
-    whole (pipeline_in c.args.self.now.job.now) c.args.self.now.schedule.now.inlining c.args.self.now.stored.now.stages.items c.args.self.now.stage c.args.self.now.grid c.requires.ready
+pub invariant_of-tile : goal.invariant_of-tile
+invariant_of-tile c =
+    let run = c.args.self.now in
+    let job = pipeline_in run.job.now in
+    record {
+      whole = whole job run.schedule.now.inlining run.stored.now.stages.items run.stage run.grid run.job.now.well c.requires.ready;
+    }
 
-pub run_layout-requires-clause-layout : goal.run_layout-requires-clause-layout
-run_layout-requires-clause-layout c =
-    of_function (pipeline_in c.args.self.now.job.now) c.args.self.now.schedule.now.inlining c.args.self.now.stored.now.stages.items c.args.self.now.stage c.args.self.now.grid c.requires.ready c.args.row c.args.col c.in_ok-layout.layout c.in_ok-layout.ensures
+pub run-requires-clause-layout : goal.run-requires-clause-layout
+run-requires-clause-layout c =
+    let run = c.args.self.now in
+    of_function (pipeline_in run.job.now) run.schedule.now.inlining run.stored.now.stages.items run.stage run.grid run.job.now.well
+    c.requires.ready c.args.row c.args.col c.in_ok-layout.layout c.in_ok-layout.ensures
 
-pub run_layout-requires-clause-needs : goal.run_layout-requires-clause-needs
-run_layout-requires-clause-needs c =
-    all_given (pipeline_in c.args.self.now.job.now) c.args.self.now.schedule.now.inlining c.args.self.now.stored.now.stages.items c.args.self.now.stage c.args.self.now.grid c.requires.ready c.args.row c.args.col c.in_ok-layout.layout c.in_ok-layout.ensures
+pub run-requires-clause-needs : goal.run-requires-clause-needs
+run-requires-clause-needs c =
+    let run = c.args.self.now in
+    all_given (pipeline_in run.job.now) run.schedule.now.inlining run.stored.now.stages.items run.stage run.grid run.job.now.well
+    c.requires.ready c.args.row c.args.col c.in_ok-layout.layout c.in_ok-layout.ensures
 
 pub returns : goal.returns
 returns c =
-    IfOk-weaker c.run_layout.result _ _
+    let run = c.args.self.now in
+    let inlining = run.schedule.now.inlining in
+    IfOk-weaker c.run.result _ _
     (λ values local.
-    values_are (pipeline_in c.args.self.now.job.now) c.args.self.now.schedule.now.inlining c.args.self.now.stored.now.stages.items c.args.self.now.stage c.args.self.now.grid c.requires.ready c.args.row c.args.col c.in_ok-layout.layout c.in_ok-layout.ensures
-    values.items (local c.args.self.now.stage c.args.row c.args.col c.in_ok-layout.ensures))
-    c.run_layout.ensures
+    values_are (pipeline_in run.job.now) inlining run.stored.now.stages.items run.stage run.grid run.job.now.well c.requires.ready
+    c.args.row c.args.col c.in_ok-layout.layout c.in_ok-layout.ensures
+    values.items (local inlining run.stage c.args.row c.args.col c.in_ok-layout.ensures))
+    c.run.ensures

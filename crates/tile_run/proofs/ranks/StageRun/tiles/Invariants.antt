@@ -1,6 +1,6 @@
 use Rattle.std.proofs.Common.{◌≡◌, map}
 use Rattle.job.specs.Kept.{pipeline_in}
-use Rattle.tile_run.specs.Running.{row_numbers, grid_values}
+use Rattle.tile_run.specs.inside.Running.{row_numbers, grid_values}
 use Rattle.tile_run.proofs.ranks.StageRun.tiles.Given as goal
 
 abbrev pub invariant-loop-row : goal.invariant-loop-row

@@ -7,4 +7,5 @@ use Rattle.tile_run.proofs.room.StageTiles.first_in_row.Given as goal
 
 abbrev pub invariant-loop-col : goal.invariant-loop-col
 invariant-loop-col l =
-    find (λ (t : ℕ × ℕ). too_big (pipeline_in l.self.job.now) l.self.schedule.now.inlining (tile_of_stage l.self.stage t)) (map (λ (j : ℕ). (l.row, j)) (range_with_len 0 l.col)) ≡ None
+    find (λ (t : ℕ × ℕ). too_big (pipeline_in l.self.job.now) l.self.schedule.now.inlining (tile_of_stage l.self.stage t))
+    (map (λ (j : ℕ). (l.row, j)) (range_with_len 0 l.col)) ≡ None

@@ -6,8 +6,8 @@ use Rattle.job.specs.Pipeline.{Pipeline}
 use Rattle.job.specs.Views.{stage_view}
 use Rattle.tile_eval.proofs.Knowing.{rank_there, rank_elsewhere}
 use Rattle.tile_run.specs.declared.stored.Stored.{Stored}
-use Rattle.tile_run.specs.Running.{AreStored}
-use Rattle.tile_run.proofs.Storing.{AreStoredTo, stored_more, stored_other, stored_end}
+use Rattle.tile_run.specs.inside.Running.{AreStored}
+use Rattle.tile_run.proofs.RunAllStores.{AreStoredTo, stored_more, stored_other, stored_end}
 use Rattle.tile_run.proofs.stored.Stored.add_rank.Goals as goal
 use Rattle.tile_run.proofs.stored.Stored.add_rank.Goals.{then-eq+in_ok-self, else-eq}
 
@@ -17,26 +17,37 @@ tiles_of-requires-clause-lower c =
     let n = c.loop-number.number in
     let test : option_eq eqb (option_map (λ s. s.rank) (slice_get job.stages n)) (Some c.args.rank) ≡ c.eq.result =
     sym (c.eq.ensures ∙ ap (λ (o : Option ℕ). option_eq eqb o (Some c.args.rank)) c.rank.ensures) in
-    subst (λ k. AreStored job c.args.schedule.now.inlining k c.loop-number.self.stages.items) (sym (rank_there job.stages n c.args.rank (test ∙ c.if-eq.true))) c.loop-number.invariant.stored
+    subst (λ k. AreStored job c.args.schedule.now.inlining k c.loop-number.self.stages.items)
+    (sym (rank_there job.stages n c.args.rank (test ∙ c.if-eq.true))) c.loop-number.invariant.stored
 
 pub loop-number-preserved : goal.loop-number-preserved
 loop-number-preserved c =
     let job : Pipeline = pipeline_in c.args.job.now in
     let inlining = c.args.schedule.now.inlining in
     let n = c.loop-number.number in
-    let within : n < length job.stages = omega (arith, sym (length-map c.stages-number-end.result.now stage_view) ∙ ap length c.stages-number-end.ensures) in
+    let within : n < length job.stages = omega (
+      arith,
+      sym (length-map c.stages-number-end.result.now stage_view)
+          ∙ ap length c.stages-number-end.ensures,
+    ) in
     let test : option_eq eqb (option_map (λ s. s.rank) (slice_get job.stages n)) (Some c.args.rank) ≡ c.eq.result =
     sym (c.eq.ensures ∙ ap (λ (o : Option ℕ). option_eq eqb o (Some c.args.rank)) c.rank.ensures) in
     elim c.if-eq.branch [
       | then-eq+in_ok-self w ↦ subst (λ (k : Stored). AreStoredTo job inlining c.args.rank (n + 1) k.stages.items) (sym w.self-is)
-          (stored_more job inlining c.args.rank n c.loop-number.self.stages.items w.in_ok-self.field-0 c.loop-number.invariant within w.in_ok-self.ensures)
+          (stored_more job inlining c.args.rank n c.loop-number.self.stages.items w.in_ok-self.field-0 c.loop-number.invariant within
+          w.in_ok-self.ensures)
       | else-eq w ↦ subst (λ (k : Stored). AreStoredTo job inlining c.args.rank (n + 1) k.stages.items) (sym w.self-is)
-          (stored_other job inlining c.args.rank n c.loop-number.self.stages.items c.loop-number.invariant (rank_elsewhere job.stages n c.args.rank (test ∙ w.if-eq.false)))
+          (stored_other job inlining c.args.rank n c.loop-number.self.stages.items c.loop-number.invariant
+          (rank_elsewhere job.stages n c.args.rank (test ∙ w.if-eq.false)))
     ]
 
 pub returns : goal.returns
 returns c =
     let job : Pipeline = pipeline_in c.args.job.now in
-    let last : c.loop-number.number ≡ length job.stages = omega (arith, sym (length-map c.stages-number-end.result.now stage_view) ∙ ap length c.stages-number-end.ensures) in
+    let last : c.loop-number.number ≡ length job.stages = omega (
+      arith,
+      sym (length-map c.stages-number-end.result.now stage_view)
+          ∙ ap length c.stages-number-end.ensures,
+    ) in
     stored_end job c.args.schedule.now.inlining c.args.rank c.loop-number.self.stages.items
     (subst (λ n. AreStoredTo job c.args.schedule.now.inlining c.args.rank n c.loop-number.self.stages.items) last c.loop-number.invariant)

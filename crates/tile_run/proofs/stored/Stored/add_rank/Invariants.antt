@@ -1,5 +1,5 @@
 use Rattle.job.specs.Kept.{pipeline_in}
-use Rattle.tile_run.proofs.Storing.{AreStoredTo}
+use Rattle.tile_run.proofs.RunAllStores.{AreStoredTo}
 use Rattle.tile_run.proofs.stored.Stored.add_rank.Given as goal
 
 abbrev pub invariant-loop-number : goal.invariant-loop-number

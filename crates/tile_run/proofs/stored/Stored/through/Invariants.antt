@@ -1,5 +1,5 @@
 use Rattle.job.specs.Kept.{pipeline_in}
-use Rattle.tile_run.specs.Running.{AreStored}
+use Rattle.tile_run.specs.inside.Running.{AreStored}
 use Rattle.tile_run.proofs.stored.Stored.through.Given as goal
 
 abbrev pub invariant-loop-lower : goal.invariant-loop-lower

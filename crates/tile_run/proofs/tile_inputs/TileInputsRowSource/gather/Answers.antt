@@ -1,4 +1,4 @@
-use Rattle.std.proofs.Common.{rules, ◌+ℤ◌, pos, ◌≡◌, refl, sym, ap, subst, ◌∙◌, Some, slice_get, w32, FitsSigned}
+use Rattle.std.proofs.Common.{rules, ◌+ℤ◌, pos, ◌≡◌, refl, sym, ap, subst, ◌∙◌, Some, slice_get, w32, FitsSigned, ◌<◌, length}
 use Rattle.std.proofs.lemmas.Int.{to_z-of_z}
 use Rattle.domains.specs.Area.{HoldsPoint}
 use Rattle.domains.specs.Index.{index_at}
@@ -6,46 +6,124 @@ use Rattle.netpbm.specs.Image.{Image}
 use Rattle.job.specs.Answers.{grid_of}
 use Rattle.job.specs.Kept.{pipeline_in}
 use Rattle.job.specs.Views.{stage_view}
+use Rattle.job.specs.Values.{sample_at}
 use Rattle.job.specs.WellFormed.{picture_area}
 use Rattle.tile_eval.specs.Buffer.{sample_in, IsKnownAt}
-use Rattle.tile_run.proofs.Hands.{plane_body, function_body, of_plane, of_inlined, of_stored, read_inlined, read_stored, given_by, number_by}
+use Rattle.tile_run.proofs.InputsAreRead.{plane_body, function_body, of_plane, of_inlined, of_stored, read_plane, read_inlined, read_stored, given_by, number_by}
+use Rattle.tile_run.proofs.StepsRun.{planes_lie}
 use Rattle.tile_run.proofs.tile_inputs.TileInputsRowSource.gather.Goals as goal
+
+pub plane_pick-requires-clause-plane : goal.plane_pick-requires-clause-plane
+plane_pick-requires-clause-plane g c =
+    let tile = c.args.self.now.tile in
+    let job = pipeline_in tile.job.now in
+    let s = stage_view c.in-Some.found.now in
+    subst (λ (p : Image). c.in-Plane.plane < length p.planes) (sym c.picture.ensures)
+    (planes_lie job tile.job.now.well c.args.stage c.in-Plane.plane s (sym c.in-Some.ensures)
+    (plane_body c.in-Some.found.now c.body.result.now c.in-Plane.plane c.body.ensures c.in-Plane.is)).0
 
 pub plane_pick-requires-clause-there : goal.plane_pick-requires-clause-there
 plane_pick-requires-clause-there g c =
+    let tile = c.args.self.now.tile in
+    let job = pipeline_in tile.job.now in
+    let inlining = tile.layout.now.inlining in
+    let given = g.K.Known.given tile.known.now in
+    let buffers = c.args.self.now.boxes.now.buffers.items in
+    let s = stage_view c.in-Some.found.now in
     let row : FitsSigned w32 c.args.row = search rules in
-    let there : slice_get (pipeline_in c.args.self.now.job.now).stages c.args.stage ≡ Some (stage_view c.in-Some.found.now) = sym c.in-Some.ensures in
+    let there : slice_get job.stages c.args.stage ≡ Some s = sym c.in-Some.ensures in
     rw (to_z-of_z w32 c.args.row row) (λ k h.
-    subst (λ (p : Image). HoldsPoint (picture_area p) c.args.row (index_at c.args.col.now (c.args.points.now.col +ℤ pos k))) (sym c.picture.ensures)
-    ((c.args.self.now.planes c.args.stage c.in-Plane.plane (stage_view c.in-Some.found.now) there (plane_body c.in-Some.found.now c.body.result.now c.in-Plane.plane c.body.ensures c.in-Plane.is)).1 c.args.row (index_at c.args.col.now (c.args.points.now.col +ℤ pos k))
-    (of_plane (pipeline_in c.args.self.now.job.now) c.args.self.now.schedule.now.inlining (g.K.Known.given c.args.self.now.known.now) (IsKnownAt c.args.self.now.boxes.buffers.items) c.args.stage c.args.row (index_at c.args.col.now (c.args.points.now.col +ℤ pos k)) (stage_view c.in-Some.found.now) there (c.requires.there k h) c.in-Plane.plane (plane_body c.in-Some.found.now c.body.result.now c.in-Plane.plane c.body.ensures c.in-Plane.is))))
+    subst (λ (p : Image). HoldsPoint (picture_area p) c.args.row (index_at c.args.col.now (c.args.points.now.col +ℤ pos k)))
+    (sym c.picture.ensures)
+    ((planes_lie job tile.job.now.well c.args.stage c.in-Plane.plane s there
+    (plane_body c.in-Some.found.now c.body.result.now c.in-Plane.plane c.body.ensures c.in-Plane.is)).1 c.args.row
+    (index_at c.args.col.now (c.args.points.now.col +ℤ pos k))
+    (of_plane job inlining given (IsKnownAt buffers) c.args.stage c.args.row (index_at c.args.col.now (c.args.points.now.col +ℤ pos k)) s
+    there (c.requires.there k h) c.in-Plane.plane
+    (plane_body c.in-Some.found.now c.body.result.now c.in-Plane.plane c.body.ensures c.in-Plane.is))))
 
 pub gather-requires-clause-there : goal.gather-requires-clause-there
 gather-requires-clause-there g c =
+    let tile = c.args.self.now.tile in
+    let job = pipeline_in tile.job.now in
+    let inlining = tile.layout.now.inlining in
+    let given = g.K.Known.given tile.known.now in
+    let buffers = c.args.self.now.boxes.now.buffers.items in
+    let s = stage_view c.in-Some.found.now in
     let row : FitsSigned w32 c.args.row = search rules in
-    let there : slice_get (pipeline_in c.args.self.now.job.now).stages c.args.stage ≡ Some (stage_view c.in-Some.found.now) = sym c.in-Some.ensures in
+    let there : slice_get job.stages c.args.stage ≡ Some s = sym c.in-Some.ensures in
     rw (to_z-of_z w32 c.args.row row) (λ k h.
-    of_inlined (pipeline_in c.args.self.now.job.now) c.args.self.now.schedule.now.inlining (g.K.Known.given c.args.self.now.known.now) (IsKnownAt c.args.self.now.boxes.buffers.items) c.args.stage c.args.row (index_at c.args.col.now (c.args.points.now.col +ℤ pos k)) (stage_view c.in-Some.found.now) there (c.requires.there k h) _ _ (function_body c.in-Some.found.now c.body.result.now c.in-Function.field-0 c.body.ensures c.in-Function.is) (sym c.inlined.ensures ∙ c.if-inlined.true))
+    of_inlined job inlining given (IsKnownAt buffers) c.args.stage c.args.row (index_at c.args.col.now (c.args.points.now.col +ℤ pos k)) s
+    there (c.requires.there k h) _ _ (function_body c.in-Some.found.now c.body.result.now c.in-Function.field-0 c.body.ensures
+    c.in-Function.is) (sym c.inlined.ensures ∙ c.if-inlined.true))
 
 pub gather-requires-in-Function-2-clause-there : goal.gather-requires-in-Function-2-clause-there
 gather-requires-in-Function-2-clause-there g c = λ k h.
+    let tile = c.args.self.now.tile in
+    let job = pipeline_in tile.job.now in
+    let inlining = tile.layout.now.inlining in
+    let given = g.K.Known.given tile.known.now in
+    let buffers = c.args.self.now.boxes.now.buffers.items in
+    let s = stage_view c.in-Some.found.now in
     let row : FitsSigned w32 c.args.row = search rules in
-    let there : slice_get (pipeline_in c.args.self.now.job.now).stages c.args.stage ≡ Some (stage_view c.in-Some.found.now) = sym c.in-Some.ensures in
-    given_by (g.K.Known.given c.args.self.now.known.now) (g.K.Known.given c.given.result.known.now) c.args.stage c.given.result.stage (grid_of (pipeline_in c.args.self.now.job.now) (stage_view c.in-Some.found.now)) c.given.result.grid c.args.row (index_at c.args.col.now (c.args.points.now.col +ℤ pos k)) _ _ (ap g.K.Known.given c.given.ensures.known) c.given.ensures.stage c.given.ensures.grid (to_z-of_z w32 c.args.row row) refl
-    (of_stored (pipeline_in c.args.self.now.job.now) c.args.self.now.schedule.now.inlining (g.K.Known.given c.args.self.now.known.now) (IsKnownAt c.args.self.now.boxes.buffers.items) c.args.stage c.args.row (index_at c.args.col.now (c.args.points.now.col +ℤ pos k)) (stage_view c.in-Some.found.now) there (c.requires.there k h) _ _ (function_body c.in-Some.found.now c.body.result.now c.in-Function-2.field-0 c.body.ensures c.in-Function-2.is) (sym c.inlined.ensures ∙ c.if-inlined.false))
+    let there : slice_get job.stages c.args.stage ≡ Some s = sym c.in-Some.ensures in
+    given_by given (g.K.Known.given c.given.result.known.now) c.args.stage c.given.result.stage (grid_of job s) c.given.result.grid
+    c.args.row (index_at c.args.col.now (c.args.points.now.col +ℤ pos k)) _ _ (ap g.K.Known.given c.given.ensures.known)
+    c.given.ensures.stage c.given.ensures.grid (to_z-of_z w32 c.args.row row) refl
+    (of_stored job inlining given (IsKnownAt buffers) c.args.stage c.args.row (index_at c.args.col.now (c.args.points.now.col +ℤ pos k)) s
+    there (c.requires.there k h) _ _ (function_body c.in-Some.found.now c.body.result.now c.in-Function-2.field-0 c.body.ensures
+    c.in-Function-2.is) (sym c.inlined.ensures ∙ c.if-inlined.false))
 
 pub returns-in-Function : goal.returns-in-Function
 returns-in-Function g c = λ k h.
+    let tile = c.args.self.now.tile in
+    let job = pipeline_in tile.job.now in
+    let inlining = tile.layout.now.inlining in
+    let given = g.K.Known.given tile.known.now in
+    let buffers = c.args.self.now.boxes.now.buffers.items in
+    let s = stage_view c.in-Some.found.now in
     let row : FitsSigned w32 c.args.row = search rules in
-    let there : slice_get (pipeline_in c.args.self.now.job.now).stages c.args.stage ≡ Some (stage_view c.in-Some.found.now) = sym c.in-Some.ensures in
+    let there : slice_get job.stages c.args.stage ≡ Some s = sym c.in-Some.ensures in
     c.gather.ensures k h
-    ∙ (λ i. sample_in (slice_get c.args.self.now.boxes.buffers.items c.args.stage) (to_z-of_z w32 c.args.row row i) (index_at c.args.col.now (c.args.points.now.col +ℤ pos k)))
-    ∙ sym (read_inlined (pipeline_in c.args.self.now.job.now) c.args.self.now.schedule.now.inlining (g.K.Known.given c.args.self.now.known.now) (λ h i j. sample_in (slice_get c.args.self.now.boxes.buffers.items h) i j) c.args.stage (stage_view c.in-Some.found.now) there c.args.row (index_at c.args.col.now (c.args.points.now.col +ℤ pos k)) _ _ (function_body c.in-Some.found.now c.body.result.now c.in-Function.field-0 c.body.ensures c.in-Function.is) (sym c.inlined.ensures ∙ c.if-inlined.true))
+    ∙ (λ i. sample_in (slice_get buffers c.args.stage) (to_z-of_z w32 c.args.row row i)
+    (index_at c.args.col.now (c.args.points.now.col +ℤ pos k)))
+    ∙ sym (read_inlined job inlining given (λ h i j. sample_in (slice_get buffers h) i j) c.args.stage s there c.args.row
+    (index_at c.args.col.now (c.args.points.now.col +ℤ pos k)) _ _
+    (function_body c.in-Some.found.now c.body.result.now c.in-Function.field-0 c.body.ensures c.in-Function.is) (sym c.inlined.ensures
+    ∙ c.if-inlined.true))
 
 pub returns-in-Function-2 : goal.returns-in-Function-2
 returns-in-Function-2 g c = λ k h.
+    let tile = c.args.self.now.tile in
+    let job = pipeline_in tile.job.now in
+    let inlining = tile.layout.now.inlining in
+    let given = g.K.Known.given tile.known.now in
+    let buffers = c.args.self.now.boxes.now.buffers.items in
+    let s = stage_view c.in-Some.found.now in
     let row : FitsSigned w32 c.args.row = search rules in
-    let there : slice_get (pipeline_in c.args.self.now.job.now).stages c.args.stage ≡ Some (stage_view c.in-Some.found.now) = sym c.in-Some.ensures in
+    let there : slice_get job.stages c.args.stage ≡ Some s = sym c.in-Some.ensures in
     c.gather-in-Function-2.ensures k h
-    ∙ number_by (g.K.Known.given c.args.self.now.known.now) (g.K.Known.given c.given.result.known.now) c.args.stage c.given.result.stage (grid_of (pipeline_in c.args.self.now.job.now) (stage_view c.in-Some.found.now)) c.given.result.grid c.args.row (index_at c.args.col.now (c.args.points.now.col +ℤ pos k)) _ _ (ap g.K.Known.given c.given.ensures.known) c.given.ensures.stage c.given.ensures.grid (to_z-of_z w32 c.args.row row) refl
-    ∙ sym (read_stored (pipeline_in c.args.self.now.job.now) c.args.self.now.schedule.now.inlining (g.K.Known.given c.args.self.now.known.now) (λ h i j. sample_in (slice_get c.args.self.now.boxes.buffers.items h) i j) c.args.stage (stage_view c.in-Some.found.now) there c.args.row (index_at c.args.col.now (c.args.points.now.col +ℤ pos k)) _ _ (function_body c.in-Some.found.now c.body.result.now c.in-Function-2.field-0 c.body.ensures c.in-Function-2.is) (sym c.inlined.ensures ∙ c.if-inlined.false))
+    ∙ number_by given (g.K.Known.given c.given.result.known.now) c.args.stage c.given.result.stage (grid_of job s) c.given.result.grid
+    c.args.row (index_at c.args.col.now (c.args.points.now.col +ℤ pos k)) _ _ (ap g.K.Known.given c.given.ensures.known)
+    c.given.ensures.stage c.given.ensures.grid (to_z-of_z w32 c.args.row row) refl
+    ∙ sym (read_stored job inlining given (λ h i j. sample_in (slice_get buffers h) i j) c.args.stage s there c.args.row
+    (index_at c.args.col.now (c.args.points.now.col +ℤ pos k)) _ _
+    (function_body c.in-Some.found.now c.body.result.now c.in-Function-2.field-0 c.body.ensures c.in-Function-2.is)
+    (sym c.inlined.ensures ∙ c.if-inlined.false))
+
+pub returns-in-Plane : goal.returns-in-Plane
+returns-in-Plane g c = λ k h.
+    let tile = c.args.self.now.tile in
+    let job = pipeline_in tile.job.now in
+    let inlining = tile.layout.now.inlining in
+    let given = g.K.Known.given tile.known.now in
+    let buffers = c.args.self.now.boxes.now.buffers.items in
+    let s = stage_view c.in-Some.found.now in
+    let row : FitsSigned w32 c.args.row = search rules in
+    let there : slice_get job.stages c.args.stage ≡ Some s = sym c.in-Some.ensures in
+    c.plane_pick.ensures k h
+    ∙ (λ i. sample_at (c.picture.ensures i) c.in-Plane.plane (to_z-of_z w32 c.args.row row i)
+    (index_at c.args.col.now (c.args.points.now.col +ℤ pos k)))
+    ∙ sym (read_plane job inlining given (λ h i j. sample_in (slice_get buffers h) i j) c.args.stage s there c.args.row
+    (index_at c.args.col.now (c.args.points.now.col +ℤ pos k)) c.in-Plane.plane
+    (plane_body c.in-Some.found.now c.body.result.now c.in-Plane.plane c.body.ensures c.in-Plane.is))

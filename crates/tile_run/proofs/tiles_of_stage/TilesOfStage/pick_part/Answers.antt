@@ -4,8 +4,9 @@ use Rattle.row_kernels.specs.Rows.{at}
 use Rattle.std.proofs.Math.IntN.{+ℤ_idr}
 use Rattle.std.proofs.lemmas.Int.{to_z-of_z}
 use Rattle.domains.specs.Index.{index_at}
-use Rattle.tile_run.specs.Tiles.{IsGivenAt, IsTileAbout}
-use Rattle.tile_run.proofs.Borders.{same_about, picked_held, picked_number}
+use Rattle.tile_run.specs.KnownTiles.{IsGivenAt}
+use Rattle.tile_run.specs.inside.Tiles.{IsTileAbout}
+use Rattle.tile_run.proofs.RowsCrossTiles.{same_about, picked_held, picked_number}
 use Rattle.tile_run.proofs.tiles_of_stage.TilesOfStage.pick_part.Goals as goal
 
 pub gather-requires-clause-there : goal.gather-requires-clause-there
@@ -37,5 +38,7 @@ returns-in-None-clause-numbers g c =
     let row : FitsSigned w32 c.args.row = search rules in
     let first : FitsSigned w32 c.col_at.result = search rules in
     absurd (c.in-None.ensures.none (rw (to_z-of_z w32 c.args.row row)
-    (subst (λ (z : ℤ). IsGivenAt (g.K.Known.given c.args.self.now.known.now) c.args.self.now.stage c.args.self.now.grid c.args.row z) (sym (to_z-of_z w32 _ first ∙ c.col_at.ensures))
-    (subst (λ (z : ℤ). IsGivenAt (g.K.Known.given c.args.self.now.known.now) c.args.self.now.stage c.args.self.now.grid c.args.row (index_at c.args.col.now z)) (+ℤ_idr c.args.points.now.col) (c.requires.there 0 c.requires.some)))))
+    (subst (λ (z : ℤ). IsGivenAt (g.K.Known.given c.args.self.now.known.now) c.args.self.now.stage c.args.self.now.grid c.args.row z)
+    (sym (to_z-of_z w32 _ first ∙ c.col_at.ensures))
+    (subst (λ (z : ℤ). IsGivenAt (g.K.Known.given c.args.self.now.known.now) c.args.self.now.stage c.args.self.now.grid c.args.row
+    (index_at c.args.col.now z)) (+ℤ_idr c.args.points.now.col) (c.requires.there 0 c.requires.some)))))

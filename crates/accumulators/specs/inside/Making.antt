@@ -1,0 +1,53 @@
+-- On the way to the answer of a job.
+use Rattle.std.specs.Prelude.{ℕ, ℤ, ◌≡◌, Bool, Some, None, List, slice_get}
+use Rattle.domains.specs.Span.{Ends}
+use Rattle.domains.specs.Tiles.{tile_area}
+use Rattle.domains.specs.declared.grid.Grid.{Grid}
+use Rattle.grouping.specs.Inlining.{IsScheduleOf}
+use Rattle.domains.specs.declared.operators.Fold.{Fold}
+use Rattle.job.specs.Answers.{grid_of}
+use Rattle.job.specs.Formula.{Formula}
+use Rattle.job.specs.Kept.{pipeline_in}
+use Rattle.job.specs.Pipeline.{accumulator, Stage, Pipeline}
+use Rattle.job.specs.Totals.{totals_over}
+use Rattle.tile_run.specs.KnownTiles.{AreTrue}
+use Rattle.tile_run.specs.Stored.{stored_tiles, IsStoredFunction, GivesAllTiles}
+use Rattle.tile_run.specs.Work.{first_too_big, is_accumulator_at}
+use Rattle.accumulators.specs.declared.computed.Computed.{Computed}
+use Rattle.accumulators.specs.declared.totals.Accumulation.{Accumulation}
+use Rattle.accumulators.specs.Bins.{joined_bins}
+
+-- all tiles of the stored functions of the job are there, with its values
+pub record IsComputed (c : Computed) : Type 0 where
+  pub scheduled : IsScheduleOf (pipeline_in c.job.now) c.schedule.now
+  pub all : GivesAllTiles (pipeline_in c.job.now) c.schedule.now.inlining (stored_tiles c.stored.now.stages.items)
+  pub values : AreTrue (pipeline_in c.job.now) (stored_tiles c.stored.now.stages.items)
+
+-- stage g is a function whose tiles are stored
+abbrev pub IsStoredStage : Pipeline → List Bool → ℕ → Type 0
+IsStoredStage job inlining g = (s : Stage) × IsStoredFunction job inlining g s
+
+-- ---- totals
+
+-- the tiles of all accumulators have room in scratch memory
+abbrev pub TotalsFit : Computed → Type 0
+TotalsFit c = first_too_big (pipeline_in c.job.now) c.schedule.now.inlining (is_accumulator_at (pipeline_in c.job.now)) ≡ None
+
+-- stage g is an accumulator with this operation, these bins and this grid
+pub record IsGathered (job : Pipeline) (g : ℕ) (way : Fold) (bins : Ends) (grid : Grid) : Type 0 where
+  pub stage : Stage
+  pub there : slice_get job.stages g ≡ Some stage
+  pub value : Formula
+  pub bin : Formula
+  pub body : stage.body ≡ accumulator way bins value bin
+  pub parted : grid ≡ grid_of job stage
+
+-- an accumulator of a job whose stored functions are computed, and whose accumulators' tiles have room
+pub record IsTally (t : Accumulation) : Type 0 where
+  pub computed : IsComputed t.of
+  pub fits : TotalsFit t.of
+  pub gathered : IsGathered (pipeline_in t.of.job.now) t.stage t.op t.bins t.grid
+
+-- what bins are once the totals over a tile came in
+abbrev pub with_tile : Pipeline → ℕ → Fold → Grid → List ℤ → ℕ × ℕ → List ℤ
+with_tile job g way grid bins t = joined_bins way bins (totals_over job (tile_area grid t.0 t.1) g)

@@ -1,0 +1,6 @@
+-- What clauses of inner functions cite, and no public clause does.
+pub mod Tiles
+pub mod Steps
+pub mod Layouts
+pub mod Running
+pub mod Room
