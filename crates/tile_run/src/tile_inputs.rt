@@ -84,7 +84,14 @@ impl<K: Known> RowSource for TileInputs<'_, K> {
             return;
         };
         match found.body() {
-            Body::Plane(plane) => plane_pick(self.tile.job.picture(), *plane, row, col, points, out),
+            Body::Plane(plane) => plane_pick(
+                self.tile.job.picture(),
+                *plane,
+                row,
+                col,
+                points,
+                out,
+            ),
             Body::Function(_) if self.tile.layout.inlined(stage) => {
                 self.boxes.gather(stage, row, col, points, out);
             }
