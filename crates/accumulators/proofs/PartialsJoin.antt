@@ -69,8 +69,8 @@ module _ (job : Pipeline) (inlining : List Bool) (given : KnownTiles) (boxes : S
       ∙ sym (local_totals_is job inlining given area g s there)
 
 -- where what is given is true, what is gathered from it is what the stage gathers there
-pub true_totals : (job : Pipeline) (inlining : List Bool) (given : KnownTiles) (Inner : ℕ → ℤ → ℤ
-    → Type 0) (g : ℕ) (s : Stage) (area : Area) → IsJob job → slice_get job.stages g ≡ Some s → IsArea area → AreTrue job given
+pub true_totals : (job : Pipeline) (inlining : List Bool) (given : KnownTiles) (Inner : ℕ → ℤ → ℤ → Type 0)
+    (g : ℕ) (s : Stage) (area : Area) → IsJob job → slice_get job.stages g ≡ Some s → IsArea area → AreTrue job given
     → IsClosed job inlining given Inner → ((r c : ℤ) → HoldsPoint area r c → BodyReads (IsAtHand job inlining given Inner) s.body r c)
     → local_totals job inlining given area g ≡ totals_over job area g
 true_totals job inlining given Inner g s area is there within true_tiles closed reads =

@@ -3,7 +3,6 @@
 
 mod answer;
 mod bins;
-mod buffers;
 mod computed;
 mod gather;
 mod join;
@@ -12,8 +11,9 @@ mod partials;
 mod picture;
 mod starts;
 mod totals;
+mod whole_totals;
 
 pub use answer::{Answer, Total, answer_of};
-pub use buffers::whole;
 pub use join::join_into;
 pub use partials::partial;
+pub use whole_totals::whole;

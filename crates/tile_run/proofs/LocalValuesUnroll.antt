@@ -101,8 +101,8 @@ by_flag : (b : Bool) (A B : Type 0) (x y z : ℤ) → (A → x ≡ y) → Functi
 by_flag true A B x y z f h = f h
 by_flag false A B x y z f h = refl
 
-module _ (job : Pipeline) (inlining : List Bool) (given : KnownTiles) (Inner : ℕ → ℤ → ℤ
-    → Type 0) (e h : Valuation) (g : ℕ) (r c : ℤ) (same : Inner g r c → e g r c ≡ h g r c) where
+module _ (job : Pipeline) (inlining : List Bool) (given : KnownTiles) (Inner : ℕ → ℤ → ℤ → Type 0)
+    (e h : Valuation) (g : ℕ) (r c : ℤ) (same : Inner g r c → e g r c ≡ h g r c) where
   body_decides : (s : Stage) (b : Body) → BodyAtHand job inlining given Inner g s b r c
       → body_given job inlining given e g s b r c ≡ body_given job inlining given h g s b r c
   body_decides s (plane n) hand = refl

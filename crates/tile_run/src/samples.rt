@@ -53,7 +53,7 @@ fn plane_of(picture: &Picture, plane: usize) -> &[u16]
 }
 
 /// The samples of a plane along a row, from a column on.
-pub(crate) fn plane_line(picture: &Picture, plane: usize, row: i32, first: i32, out: &mut [i32])
+pub(crate) fn plane_row(picture: &Picture, plane: usize, row: i32, first: i32, out: &mut [i32])
     requires plane { plane < length picture.now.planes }
     requires there { EachPlace (length out.old) (λ k. HoldsPoint (picture_area picture.now) row (first +ℤ pos k)) }
     ensures { EachPlace (length out.old) (λ k. at out.new k ≡ sample_at picture.now plane row (first +ℤ pos k)) }
@@ -64,7 +64,7 @@ pub(crate) fn plane_line(picture: &Picture, plane: usize, row: i32, first: i32, 
 }
 
 /// The samples of a plane along a row, at the columns that an index takes at the columns of some points.
-pub(crate) fn plane_pick(
+pub(crate) fn plane_gather(
     picture: &Picture,
     plane: usize,
     row: i32,
@@ -80,7 +80,7 @@ pub(crate) fn plane_pick(
     if col.div() == 1 && !out.is_empty() {
         plane_steps(picture, plane, row, col, points, out);
     } else {
-        plane_points(picture, plane, row, col, points, out);
+        plane_samples(picture, plane, row, col, points, out);
     }
 }
 
@@ -104,7 +104,7 @@ fn plane_steps(
 }
 
 // The same of any index, each place looked up.
-fn plane_points(
+fn plane_samples(
     picture: &Picture,
     plane: usize,
     row: i32,
@@ -118,12 +118,12 @@ fn plane_points(
     ensures { EachPlace (length out.old) (λ k. at out.new k ≡ sample_at picture.now plane row (index_at col.now (points.now.col +ℤ pos k))) }
 {
     for k in 0..out.len() {
-        out[k] = plane_point(picture, plane, row, col.at(points.column(k)));
+        out[k] = plane_sample(picture, plane, row, col.at(points.column(k)));
     }
 }
 
 /// A sample of a plane.
-pub(crate) fn plane_point(picture: &Picture, plane: usize, row: i32, col: i32) -> i32
+pub(crate) fn plane_sample(picture: &Picture, plane: usize, row: i32, col: i32) -> i32
     requires plane { plane < length picture.now.planes }
     requires there { HoldsPoint (picture_area picture.now) row col }
     ensures { result ≡ sample_at picture.now plane row col }

@@ -6,7 +6,7 @@ ghost use Rattle.job.specs.Kept.{pipeline_in};
 ghost use Rattle.tile_run.specs.Prepared.{IsInputAt, input_at};
 
 use crate::known::Known;
-use crate::samples::{plane_line, plane_pick, plane_point};
+use crate::samples::{plane_gather, plane_row, plane_sample};
 use crate::tile_job::TileJob;
 use domains::{Area, Index};
 use job::{Body, Function};
@@ -59,7 +59,7 @@ impl<K: Known> RowSource for TileInputs<'_, K> {
             return;
         };
         match found.body() {
-            Body::Plane(plane) => plane_line(self.tile.job.picture(), *plane, row, first, out),
+            Body::Plane(plane) => plane_row(self.tile.job.picture(), *plane, row, first, out),
             Body::Function(_) if self.tile.layout.inlined(stage) => {
                 self.boxes.read_row(stage, row, first, out);
             }
@@ -84,7 +84,7 @@ impl<K: Known> RowSource for TileInputs<'_, K> {
             return;
         };
         match found.body() {
-            Body::Plane(plane) => plane_pick(
+            Body::Plane(plane) => plane_gather(
                 self.tile.job.picture(),
                 *plane,
                 row,
@@ -105,7 +105,7 @@ impl<K: Known> RowSource for TileInputs<'_, K> {
             return 0;
         };
         match found.body() {
-            Body::Plane(plane) => plane_point(self.tile.job.picture(), *plane, row, col),
+            Body::Plane(plane) => plane_sample(self.tile.job.picture(), *plane, row, col),
             Body::Function(_) if self.tile.layout.inlined(stage) => self
                 .boxes
                 .sample(stage, row, col),

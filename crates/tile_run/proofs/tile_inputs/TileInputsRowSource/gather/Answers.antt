@@ -13,8 +13,8 @@ use Rattle.tile_run.proofs.InputsAreRead.{plane_body, function_body, of_plane, o
 use Rattle.tile_run.proofs.StepsRun.{planes_lie}
 use Rattle.tile_run.proofs.tile_inputs.TileInputsRowSource.gather.Goals as goal
 
-pub plane_pick-requires-clause-plane : goal.plane_pick-requires-clause-plane
-plane_pick-requires-clause-plane g c =
+pub plane_gather-requires-clause-plane : goal.plane_gather-requires-clause-plane
+plane_gather-requires-clause-plane g c =
     let tile = c.args.self.now.tile in
     let job = pipeline_in tile.job.now in
     let s = stage_view c.in-Some.found.now in
@@ -22,8 +22,8 @@ plane_pick-requires-clause-plane g c =
     (planes_lie job tile.job.now.well c.args.stage c.in-Plane.plane s (sym c.in-Some.ensures)
     (plane_body c.in-Some.found.now c.body.result.now c.in-Plane.plane c.body.ensures c.in-Plane.is)).0
 
-pub plane_pick-requires-clause-there : goal.plane_pick-requires-clause-there
-plane_pick-requires-clause-there g c =
+pub plane_gather-requires-clause-there : goal.plane_gather-requires-clause-there
+plane_gather-requires-clause-there g c =
     let tile = c.args.self.now.tile in
     let job = pipeline_in tile.job.now in
     let inlining = tile.layout.now.inlining in
@@ -121,7 +121,7 @@ returns-in-Plane g c = λ k h.
     let s = stage_view c.in-Some.found.now in
     let row : FitsSigned w32 c.args.row = search rules in
     let there : slice_get job.stages c.args.stage ≡ Some s = sym c.in-Some.ensures in
-    c.plane_pick.ensures k h
+    c.plane_gather.ensures k h
     ∙ (λ i. sample_at (c.picture.ensures i) c.in-Plane.plane (to_z-of_z w32 c.args.row row i)
     (index_at c.args.col.now (c.args.points.now.col +ℤ pos k)))
     ∙ sym (read_plane job inlining given (λ h i j. sample_in (slice_get buffers h) i j) c.args.stage s there c.args.row

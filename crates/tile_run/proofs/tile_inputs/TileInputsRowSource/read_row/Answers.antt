@@ -11,8 +11,8 @@ use Rattle.tile_run.proofs.InputsAreRead.{plane_body, function_body, of_plane, o
 use Rattle.tile_run.proofs.StepsRun.{planes_lie}
 use Rattle.tile_run.proofs.tile_inputs.TileInputsRowSource.read_row.Goals as goal
 
-pub plane_line-requires-clause-plane : goal.plane_line-requires-clause-plane
-plane_line-requires-clause-plane g c =
+pub plane_row-requires-clause-plane : goal.plane_row-requires-clause-plane
+plane_row-requires-clause-plane g c =
     let tile = c.args.self.now.tile in
     let job = pipeline_in tile.job.now in
     let s = stage_view c.in-Some.found.now in
@@ -20,8 +20,8 @@ plane_line-requires-clause-plane g c =
     (planes_lie job tile.job.now.well c.args.stage c.in-Plane.plane s (sym c.in-Some.ensures)
     (plane_body c.in-Some.found.now c.body.result.now c.in-Plane.plane c.body.ensures c.in-Plane.is)).0
 
-pub plane_line-requires-clause-there : goal.plane_line-requires-clause-there
-plane_line-requires-clause-there g c =
+pub plane_row-requires-clause-there : goal.plane_row-requires-clause-there
+plane_row-requires-clause-there g c =
     let tile = c.args.self.now.tile in
     let job = pipeline_in tile.job.now in
     let inlining = tile.layout.now.inlining in

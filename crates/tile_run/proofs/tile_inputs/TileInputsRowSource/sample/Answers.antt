@@ -10,8 +10,8 @@ use Rattle.tile_run.proofs.InputsAreRead.{plane_body, function_body, of_plane, o
 use Rattle.tile_run.proofs.StepsRun.{planes_lie}
 use Rattle.tile_run.proofs.tile_inputs.TileInputsRowSource.sample.Goals as goal
 
-pub plane_point-requires-clause-plane : goal.plane_point-requires-clause-plane
-plane_point-requires-clause-plane g c =
+pub plane_sample-requires-clause-plane : goal.plane_sample-requires-clause-plane
+plane_sample-requires-clause-plane g c =
     let tile = c.args.self.now.tile in
     let job = pipeline_in tile.job.now in
     let s = stage_view c.in-Some.found.now in
@@ -19,8 +19,8 @@ plane_point-requires-clause-plane g c =
     (planes_lie job tile.job.now.well c.args.stage c.in-Plane.plane s (sym c.in-Some.ensures)
     (plane_body c.in-Some.found.now c.body.result.now c.in-Plane.plane c.body.ensures c.in-Plane.is)).0
 
-pub plane_point-requires-clause-there : goal.plane_point-requires-clause-there
-plane_point-requires-clause-there g c =
+pub plane_sample-requires-clause-there : goal.plane_sample-requires-clause-there
+plane_sample-requires-clause-there g c =
     let tile = c.args.self.now.tile in
     let job = pipeline_in tile.job.now in
     let inlining = tile.layout.now.inlining in

@@ -2,7 +2,7 @@ use Rattle.std.proofs.Common.{◌≡◌, ◌+ℤ◌, pos}
 use Rattle.domains.specs.Index.{index_at}
 use Rattle.job.specs.Values.{sample_at}
 use Rattle.tile_eval.specs.Rows.{EachPlace, at}
-use Rattle.tile_run.proofs.samples.plane_points.Given as goal
+use Rattle.tile_run.proofs.samples.plane_samples.Given as goal
 
 abbrev pub invariant-loop-k : goal.invariant-loop-k
 invariant-loop-k l =

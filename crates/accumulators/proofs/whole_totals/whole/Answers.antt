@@ -15,7 +15,7 @@ use Rattle.job.proofs.Unrolling.{rank_is}
 use Rattle.tile_eval.specs.Buffer.{sample_in, IsKnownAt, AreKnown}
 use Rattle.tile_eval.proofs.Knowing.{known_at, reads_below}
 use Rattle.accumulators.proofs.WholeTotals.{has_formulas, whole_totals}
-use Rattle.accumulators.proofs.buffers.whole.Goals as goal
+use Rattle.accumulators.proofs.whole_totals.whole.Goals as goal
 
 pub gather-requires-clause-rows : goal.gather-requires-clause-rows
 gather-requires-clause-rows c =

@@ -5,10 +5,10 @@ use Rattle.domains.specs.Index.{index_at}
 use Rattle.job.specs.Values.{sample_at}
 use Rattle.job.specs.WellFormed.{picture_area}
 use Rattle.row_kernels.proofs.Writing.{EachPlace-more}
-use Rattle.tile_run.proofs.samples.plane_points.Goals as goal
+use Rattle.tile_run.proofs.samples.plane_samples.Goals as goal
 
-pub plane_point-requires-clause-there : goal.plane_point-requires-clause-there
-plane_point-requires-clause-there c =
+pub plane_sample-requires-clause-there : goal.plane_sample-requires-clause-there
+plane_sample-requires-clause-there c =
     let row : FitsSigned w32 c.args.row = search rules in
     let found : FitsSigned w32 c.at.result = search rules in
     let at_k : FitsSigned w32 c.column.result = search rules in
@@ -20,13 +20,13 @@ plane_point-requires-clause-there c =
 
 pub loop-k-preserved : goal.loop-k-preserved
 loop-k-preserved c =
-    let value : FitsSigned w32 c.plane_point.result = search rules in
+    let value : FitsSigned w32 c.plane_sample.result = search rules in
     let found : FitsSigned w32 c.at.result = search rules in
     let at_k : FitsSigned w32 c.column.result = search rules in
     let lt : c.loop-k.k < length c.loop-k.out = omega arith in
     EachPlace-more (λ j. sample_at c.args.picture.now c.args.plane (to_z w32 (of_z w32 c.args.row))
     (index_at c.args.col.now (c.args.points.now.col +ℤ pos j))) c.loop-k.out c.loop-k.k _ lt
-    (to_z-of_z w32 _ value ∙ c.plane_point.ensures
+    (to_z-of_z w32 _ value ∙ c.plane_sample.ensures
     ∙ ap (sample_at c.args.picture.now c.args.plane (to_z w32 (of_z w32 c.args.row)))
     (to_z-of_z w32 _ found ∙ c.at.ensures.value ∙ ap (index_at c.args.col.now) (to_z-of_z w32 _ at_k ∙ c.column.ensures)))
     c.loop-k.invariant

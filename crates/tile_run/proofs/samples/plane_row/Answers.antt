@@ -1,7 +1,7 @@
 use Rattle.std.proofs.Common.{rules, arith, ◌≡◌, ◌<◌, ◌+◌, pos, ◌≤ℤ◌, ◌*◌, unsigned_abs, length}
 use Rattle.std.proofs.lemmas.Int.{ints}
 use Rattle.tile_run.proofs.PlaneSamples.{row_below, sample_along}
-use Rattle.tile_run.proofs.samples.plane_line.Goals as goal
+use Rattle.tile_run.proofs.samples.plane_row.Goals as goal
 
 pub widen-requires : goal.widen-requires
 widen-requires c =
