@@ -15,7 +15,7 @@ use domains::{Area, Grid, Index};
 use grouping::Schedule;
 use job::{Body, Function, Job, Stage};
 use std::alloc::{AllocError, Global};
-use tile_eval::{Buffer, RowSource, RowStart, StageBuffers, area_into};
+use tile_eval::{Buffer, RowSource, RowSpan, StageBuffers, area_into};
 
 /// The planes of a job, tiles that are given of functions that are stored, and boxes of functions that are inlined.
 #[derive(Drop)]
@@ -144,16 +144,16 @@ impl<K: Known> RowSource for TileInputs<'_, K> {
         }
     }
 
-    fn gather(&self, stage: usize, row: i32, col: &Index, start: &RowStart, out: &mut [i32]) {
+    fn gather(&self, stage: usize, row: i32, col: &Index, points: &RowSpan, out: &mut [i32]) {
         let Some(found) = self.job.stage(stage) else {
             return;
         };
         match found.body() {
-            Body::Plane(plane) => plane_pick(self.job.picture(), *plane, row, col, start, out),
+            Body::Plane(plane) => plane_pick(self.job.picture(), *plane, row, col, points, out),
             Body::Function(_) if self.schedule.inlined(stage) => {
-                self.boxes.gather(stage, row, col, start, out);
+                self.boxes.gather(stage, row, col, points, out);
             }
-            Body::Function(_) => self.given(stage, found).gather(row, col, start, out),
+            Body::Function(_) => self.given(stage, found).gather(row, col, points, out),
             Body::Accumulator(_) => {}
         }
     }

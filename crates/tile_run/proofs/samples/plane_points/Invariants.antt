@@ -5,4 +5,4 @@ use Rattle.tile_eval.specs.Rows.{EachPlace, at}
 use Rattle.tile_run.proofs.samples.plane_points.Given as goal
 
 abbrev pub invariant-loop-k : goal.invariant-loop-k
-invariant-loop-k l = EachPlace l.k (λ j. at l.out j ≡ sample_at l.fn.picture l.fn.plane l.fn.row (index_at l.fn.col (l.fn.start.col +ℤ pos j)))
+invariant-loop-k l = EachPlace l.k (λ j. at l.out j ≡ sample_at l.fn.picture l.fn.plane l.fn.row (index_at l.fn.col (l.fn.points.col +ℤ pos j)))

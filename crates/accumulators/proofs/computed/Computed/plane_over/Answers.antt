@@ -5,7 +5,7 @@ use Rattle.domains.specs.Span.{len_of, numbers_from, numbers_of}
 use Rattle.job.specs.Kept.{pipeline_in}
 use Rattle.tile_run.specs.Stored.{stored_tiles}
 use Rattle.accumulators.proofs.Pictures.{sample_at}
-use Rattle.accumulators.proofs.Planes.{rest_of, none_made, row_made, all_made, few_numbers, near_columns, row_stored}
+use Rattle.accumulators.proofs.Planes.{rest_of, none_made, row_made, all_made, row_stored}
 use Rattle.accumulators.proofs.computed.Computed.plane_over.Goals as goal
 
 pub loop-place-init : goal.loop-place-init
@@ -13,12 +13,6 @@ loop-place-init c =
     let h : ℤ × ℤ → ℕ = sample_at (pipeline_in c.args.self.now.job.now) c.args.max c.args.stage in
     ap (λ (xs : List ℕ). xs ++ rest_of h (c.args.domain.now.rows.lo +ℤ pos 0) (len_of c.args.domain.now.rows - 0) (numbers_of c.args.domain.now.cols)) c.in_ok-plane.ensures.items
     ∙ none_made h c.args.domain.now
-
-pub push_row-requires-clause-short : goal.push_row-requires-clause-short
-push_row-requires-clause-short c =
-    let near = near_columns (pipeline_in c.args.self.now.job.now) c.args.self.now.schedule.now.inlining c.args.stage c.args.domain.now c.requires.stored c.requires.domain c.requires.computed.is_job in
-    let few : len_of c.args.domain.now.cols ≤ 100000 = few_numbers c.args.domain.now.cols near in
-    omega (arith, c.loop-place.auto.line, c.as_mut_slice-line.ensures.len, c.in_ok-room.ensures.len, c.len.ensures.number)
 
 pub push_row-requires-clause-stored : goal.push_row-requires-clause-stored
 push_row-requires-clause-stored c =

@@ -13,7 +13,7 @@ borrow_row-requires-in-Function-2 g c = λ k h.
     let first : FitsSigned w32 c.args.first = search rules in
     let there : slice_get (pipeline_in c.args.self.now.job.now).stages c.args.stage ≡ Some (stage_view c.in_ok-found.found.now) = sym c.in_ok-found.ensures in
     given_by (g.K.Known.given c.args.self.now.known.now) (g.K.Known.given c.given.result.known.now) c.args.stage c.given.result.stage (grid_of (pipeline_in c.args.self.now.job.now) (stage_view c.in_ok-found.found.now)) c.given.result.grid c.args.row (c.args.first +ℤ pos k) _ _ (ap g.K.Known.given c.given.ensures.known) c.given.ensures.stage c.given.ensures.grid (to_z-of_z w32 c.args.row row) (ap (λ (z : ℤ). z +ℤ pos k) (to_z-of_z w32 c.args.first first))
-    (of_stored (pipeline_in c.args.self.now.job.now) c.args.self.now.schedule.now.inlining (g.K.Known.given c.args.self.now.known.now) (IsKnownAt c.args.self.now.boxes.buffers.items) c.args.stage c.args.row (c.args.first +ℤ pos k) (stage_view c.in_ok-found.found.now) there (c.requires.there k h) _ _ (function_body c.in_ok-found.found.now c.body.result.now c.in-Function-2.field-0 c.body.ensures c.in-Function-2.is) (sym c.inlined.ensures ∙ c.if-inlined.false))
+    (of_stored (pipeline_in c.args.self.now.job.now) c.args.self.now.schedule.now.inlining (g.K.Known.given c.args.self.now.known.now) (IsKnownAt c.args.self.now.boxes.buffers.items) c.args.stage c.args.row (c.args.first +ℤ pos k) (stage_view c.in_ok-found.found.now) there (c.requires k h) _ _ (function_body c.in_ok-found.found.now c.body.result.now c.in-Function-2.field-0 c.body.ensures c.in-Function-2.is) (sym c.inlined.ensures ∙ c.if-inlined.false))
 
 pub returns-in-Function-2 : goal.returns-in-Function-2
 returns-in-Function-2 g c =

@@ -16,36 +16,36 @@ plane_pick-requires-clause-there g c =
     let row : FitsSigned w32 c.args.row = search rules in
     let there : slice_get (pipeline_in c.args.self.now.job.now).stages c.args.stage ≡ Some (stage_view c.in-Some.found.now) = sym c.in-Some.ensures in
     rw (to_z-of_z w32 c.args.row row) (λ k h.
-    subst (λ (p : Image). HoldsPoint (picture_area p) c.args.row (index_at c.args.col.now (c.args.start.now.col +ℤ pos k))) (sym c.picture.ensures)
-    ((c.args.self.now.planes c.args.stage c.in-Plane.plane (stage_view c.in-Some.found.now) there (plane_body c.in-Some.found.now c.body.result.now c.in-Plane.plane c.body.ensures c.in-Plane.is)).1 c.args.row (index_at c.args.col.now (c.args.start.now.col +ℤ pos k))
-    (of_plane (pipeline_in c.args.self.now.job.now) c.args.self.now.schedule.now.inlining (g.K.Known.given c.args.self.now.known.now) (IsKnownAt c.args.self.now.boxes.buffers.items) c.args.stage c.args.row (index_at c.args.col.now (c.args.start.now.col +ℤ pos k)) (stage_view c.in-Some.found.now) there (c.requires.there k h) c.in-Plane.plane (plane_body c.in-Some.found.now c.body.result.now c.in-Plane.plane c.body.ensures c.in-Plane.is))))
+    subst (λ (p : Image). HoldsPoint (picture_area p) c.args.row (index_at c.args.col.now (c.args.points.now.col +ℤ pos k))) (sym c.picture.ensures)
+    ((c.args.self.now.planes c.args.stage c.in-Plane.plane (stage_view c.in-Some.found.now) there (plane_body c.in-Some.found.now c.body.result.now c.in-Plane.plane c.body.ensures c.in-Plane.is)).1 c.args.row (index_at c.args.col.now (c.args.points.now.col +ℤ pos k))
+    (of_plane (pipeline_in c.args.self.now.job.now) c.args.self.now.schedule.now.inlining (g.K.Known.given c.args.self.now.known.now) (IsKnownAt c.args.self.now.boxes.buffers.items) c.args.stage c.args.row (index_at c.args.col.now (c.args.points.now.col +ℤ pos k)) (stage_view c.in-Some.found.now) there (c.requires.there k h) c.in-Plane.plane (plane_body c.in-Some.found.now c.body.result.now c.in-Plane.plane c.body.ensures c.in-Plane.is))))
 
 pub gather-requires-clause-there : goal.gather-requires-clause-there
 gather-requires-clause-there g c =
     let row : FitsSigned w32 c.args.row = search rules in
     let there : slice_get (pipeline_in c.args.self.now.job.now).stages c.args.stage ≡ Some (stage_view c.in-Some.found.now) = sym c.in-Some.ensures in
     rw (to_z-of_z w32 c.args.row row) (λ k h.
-    of_inlined (pipeline_in c.args.self.now.job.now) c.args.self.now.schedule.now.inlining (g.K.Known.given c.args.self.now.known.now) (IsKnownAt c.args.self.now.boxes.buffers.items) c.args.stage c.args.row (index_at c.args.col.now (c.args.start.now.col +ℤ pos k)) (stage_view c.in-Some.found.now) there (c.requires.there k h) _ _ (function_body c.in-Some.found.now c.body.result.now c.in-Function.field-0 c.body.ensures c.in-Function.is) (sym c.inlined.ensures ∙ c.if-inlined.true))
+    of_inlined (pipeline_in c.args.self.now.job.now) c.args.self.now.schedule.now.inlining (g.K.Known.given c.args.self.now.known.now) (IsKnownAt c.args.self.now.boxes.buffers.items) c.args.stage c.args.row (index_at c.args.col.now (c.args.points.now.col +ℤ pos k)) (stage_view c.in-Some.found.now) there (c.requires.there k h) _ _ (function_body c.in-Some.found.now c.body.result.now c.in-Function.field-0 c.body.ensures c.in-Function.is) (sym c.inlined.ensures ∙ c.if-inlined.true))
 
 pub gather-requires-in-Function-2-clause-there : goal.gather-requires-in-Function-2-clause-there
 gather-requires-in-Function-2-clause-there g c = λ k h.
     let row : FitsSigned w32 c.args.row = search rules in
     let there : slice_get (pipeline_in c.args.self.now.job.now).stages c.args.stage ≡ Some (stage_view c.in-Some.found.now) = sym c.in-Some.ensures in
-    given_by (g.K.Known.given c.args.self.now.known.now) (g.K.Known.given c.given.result.known.now) c.args.stage c.given.result.stage (grid_of (pipeline_in c.args.self.now.job.now) (stage_view c.in-Some.found.now)) c.given.result.grid c.args.row (index_at c.args.col.now (c.args.start.now.col +ℤ pos k)) _ _ (ap g.K.Known.given c.given.ensures.known) c.given.ensures.stage c.given.ensures.grid (to_z-of_z w32 c.args.row row) refl
-    (of_stored (pipeline_in c.args.self.now.job.now) c.args.self.now.schedule.now.inlining (g.K.Known.given c.args.self.now.known.now) (IsKnownAt c.args.self.now.boxes.buffers.items) c.args.stage c.args.row (index_at c.args.col.now (c.args.start.now.col +ℤ pos k)) (stage_view c.in-Some.found.now) there (c.requires.there k h) _ _ (function_body c.in-Some.found.now c.body.result.now c.in-Function-2.field-0 c.body.ensures c.in-Function-2.is) (sym c.inlined.ensures ∙ c.if-inlined.false))
+    given_by (g.K.Known.given c.args.self.now.known.now) (g.K.Known.given c.given.result.known.now) c.args.stage c.given.result.stage (grid_of (pipeline_in c.args.self.now.job.now) (stage_view c.in-Some.found.now)) c.given.result.grid c.args.row (index_at c.args.col.now (c.args.points.now.col +ℤ pos k)) _ _ (ap g.K.Known.given c.given.ensures.known) c.given.ensures.stage c.given.ensures.grid (to_z-of_z w32 c.args.row row) refl
+    (of_stored (pipeline_in c.args.self.now.job.now) c.args.self.now.schedule.now.inlining (g.K.Known.given c.args.self.now.known.now) (IsKnownAt c.args.self.now.boxes.buffers.items) c.args.stage c.args.row (index_at c.args.col.now (c.args.points.now.col +ℤ pos k)) (stage_view c.in-Some.found.now) there (c.requires.there k h) _ _ (function_body c.in-Some.found.now c.body.result.now c.in-Function-2.field-0 c.body.ensures c.in-Function-2.is) (sym c.inlined.ensures ∙ c.if-inlined.false))
 
 pub returns-in-Function : goal.returns-in-Function
 returns-in-Function g c = λ k h.
     let row : FitsSigned w32 c.args.row = search rules in
     let there : slice_get (pipeline_in c.args.self.now.job.now).stages c.args.stage ≡ Some (stage_view c.in-Some.found.now) = sym c.in-Some.ensures in
     c.gather.ensures k h
-    ∙ (λ i. sample_in (slice_get c.args.self.now.boxes.buffers.items c.args.stage) (to_z-of_z w32 c.args.row row i) (index_at c.args.col.now (c.args.start.now.col +ℤ pos k)))
-    ∙ sym (read_inlined (pipeline_in c.args.self.now.job.now) c.args.self.now.schedule.now.inlining (g.K.Known.given c.args.self.now.known.now) (λ h i j. sample_in (slice_get c.args.self.now.boxes.buffers.items h) i j) c.args.stage (stage_view c.in-Some.found.now) there c.args.row (index_at c.args.col.now (c.args.start.now.col +ℤ pos k)) _ _ (function_body c.in-Some.found.now c.body.result.now c.in-Function.field-0 c.body.ensures c.in-Function.is) (sym c.inlined.ensures ∙ c.if-inlined.true))
+    ∙ (λ i. sample_in (slice_get c.args.self.now.boxes.buffers.items c.args.stage) (to_z-of_z w32 c.args.row row i) (index_at c.args.col.now (c.args.points.now.col +ℤ pos k)))
+    ∙ sym (read_inlined (pipeline_in c.args.self.now.job.now) c.args.self.now.schedule.now.inlining (g.K.Known.given c.args.self.now.known.now) (λ h i j. sample_in (slice_get c.args.self.now.boxes.buffers.items h) i j) c.args.stage (stage_view c.in-Some.found.now) there c.args.row (index_at c.args.col.now (c.args.points.now.col +ℤ pos k)) _ _ (function_body c.in-Some.found.now c.body.result.now c.in-Function.field-0 c.body.ensures c.in-Function.is) (sym c.inlined.ensures ∙ c.if-inlined.true))
 
 pub returns-in-Function-2 : goal.returns-in-Function-2
 returns-in-Function-2 g c = λ k h.
     let row : FitsSigned w32 c.args.row = search rules in
     let there : slice_get (pipeline_in c.args.self.now.job.now).stages c.args.stage ≡ Some (stage_view c.in-Some.found.now) = sym c.in-Some.ensures in
     c.gather-in-Function-2.ensures k h
-    ∙ number_by (g.K.Known.given c.args.self.now.known.now) (g.K.Known.given c.given.result.known.now) c.args.stage c.given.result.stage (grid_of (pipeline_in c.args.self.now.job.now) (stage_view c.in-Some.found.now)) c.given.result.grid c.args.row (index_at c.args.col.now (c.args.start.now.col +ℤ pos k)) _ _ (ap g.K.Known.given c.given.ensures.known) c.given.ensures.stage c.given.ensures.grid (to_z-of_z w32 c.args.row row) refl
-    ∙ sym (read_stored (pipeline_in c.args.self.now.job.now) c.args.self.now.schedule.now.inlining (g.K.Known.given c.args.self.now.known.now) (λ h i j. sample_in (slice_get c.args.self.now.boxes.buffers.items h) i j) c.args.stage (stage_view c.in-Some.found.now) there c.args.row (index_at c.args.col.now (c.args.start.now.col +ℤ pos k)) _ _ (function_body c.in-Some.found.now c.body.result.now c.in-Function-2.field-0 c.body.ensures c.in-Function-2.is) (sym c.inlined.ensures ∙ c.if-inlined.false))
+    ∙ number_by (g.K.Known.given c.args.self.now.known.now) (g.K.Known.given c.given.result.known.now) c.args.stage c.given.result.stage (grid_of (pipeline_in c.args.self.now.job.now) (stage_view c.in-Some.found.now)) c.given.result.grid c.args.row (index_at c.args.col.now (c.args.points.now.col +ℤ pos k)) _ _ (ap g.K.Known.given c.given.ensures.known) c.given.ensures.stage c.given.ensures.grid (to_z-of_z w32 c.args.row row) refl
+    ∙ sym (read_stored (pipeline_in c.args.self.now.job.now) c.args.self.now.schedule.now.inlining (g.K.Known.given c.args.self.now.known.now) (λ h i j. sample_in (slice_get c.args.self.now.boxes.buffers.items h) i j) c.args.stage (stage_view c.in-Some.found.now) there c.args.row (index_at c.args.col.now (c.args.points.now.col +ℤ pos k)) _ _ (function_body c.in-Some.found.now c.body.result.now c.in-Function-2.field-0 c.body.ensures c.in-Function-2.is) (sym c.inlined.ensures ∙ c.if-inlined.false))

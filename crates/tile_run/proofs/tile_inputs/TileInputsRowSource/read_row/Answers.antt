@@ -18,23 +18,23 @@ plane_line-requires-clause-there g c =
     rw (to_z-of_z w32 c.args.row row) (rw (to_z-of_z w32 c.args.first first) (λ k h.
     subst (λ (p : Image). HoldsPoint (picture_area p) c.args.row (c.args.first +ℤ pos k)) (sym c.picture.ensures)
     ((c.args.self.now.planes c.args.stage c.in-Plane.plane (stage_view c.in-Some.found.now) there (plane_body c.in-Some.found.now c.body.result.now c.in-Plane.plane c.body.ensures c.in-Plane.is)).1 c.args.row (c.args.first +ℤ pos k)
-    (of_plane (pipeline_in c.args.self.now.job.now) c.args.self.now.schedule.now.inlining (g.K.Known.given c.args.self.now.known.now) (IsKnownAt c.args.self.now.boxes.buffers.items) c.args.stage c.args.row (c.args.first +ℤ pos k) (stage_view c.in-Some.found.now) there (c.requires.there k h) c.in-Plane.plane (plane_body c.in-Some.found.now c.body.result.now c.in-Plane.plane c.body.ensures c.in-Plane.is)))))
+    (of_plane (pipeline_in c.args.self.now.job.now) c.args.self.now.schedule.now.inlining (g.K.Known.given c.args.self.now.known.now) (IsKnownAt c.args.self.now.boxes.buffers.items) c.args.stage c.args.row (c.args.first +ℤ pos k) (stage_view c.in-Some.found.now) there (c.requires k h) c.in-Plane.plane (plane_body c.in-Some.found.now c.body.result.now c.in-Plane.plane c.body.ensures c.in-Plane.is)))))
 
-pub read_row-requires-clause-there : goal.read_row-requires-clause-there
-read_row-requires-clause-there g c =
+pub read_row-requires : goal.read_row-requires
+read_row-requires g c =
     let row : FitsSigned w32 c.args.row = search rules in
     let first : FitsSigned w32 c.args.first = search rules in
     let there : slice_get (pipeline_in c.args.self.now.job.now).stages c.args.stage ≡ Some (stage_view c.in-Some.found.now) = sym c.in-Some.ensures in
     rw (to_z-of_z w32 c.args.row row) (rw (to_z-of_z w32 c.args.first first) (λ k h.
-    of_inlined (pipeline_in c.args.self.now.job.now) c.args.self.now.schedule.now.inlining (g.K.Known.given c.args.self.now.known.now) (IsKnownAt c.args.self.now.boxes.buffers.items) c.args.stage c.args.row (c.args.first +ℤ pos k) (stage_view c.in-Some.found.now) there (c.requires.there k h) _ _ (function_body c.in-Some.found.now c.body.result.now c.in-Function.field-0 c.body.ensures c.in-Function.is) (sym c.inlined.ensures ∙ c.if-inlined.true)))
+    of_inlined (pipeline_in c.args.self.now.job.now) c.args.self.now.schedule.now.inlining (g.K.Known.given c.args.self.now.known.now) (IsKnownAt c.args.self.now.boxes.buffers.items) c.args.stage c.args.row (c.args.first +ℤ pos k) (stage_view c.in-Some.found.now) there (c.requires k h) _ _ (function_body c.in-Some.found.now c.body.result.now c.in-Function.field-0 c.body.ensures c.in-Function.is) (sym c.inlined.ensures ∙ c.if-inlined.true)))
 
-pub read_row-requires-in-Function-2-clause-there : goal.read_row-requires-in-Function-2-clause-there
-read_row-requires-in-Function-2-clause-there g c = λ k h.
+pub read_row-requires-in-Function-2 : goal.read_row-requires-in-Function-2
+read_row-requires-in-Function-2 g c = λ k h.
     let row : FitsSigned w32 c.args.row = search rules in
     let first : FitsSigned w32 c.args.first = search rules in
     let there : slice_get (pipeline_in c.args.self.now.job.now).stages c.args.stage ≡ Some (stage_view c.in-Some.found.now) = sym c.in-Some.ensures in
     given_by (g.K.Known.given c.args.self.now.known.now) (g.K.Known.given c.given.result.known.now) c.args.stage c.given.result.stage (grid_of (pipeline_in c.args.self.now.job.now) (stage_view c.in-Some.found.now)) c.given.result.grid c.args.row (c.args.first +ℤ pos k) _ _ (ap g.K.Known.given c.given.ensures.known) c.given.ensures.stage c.given.ensures.grid (to_z-of_z w32 c.args.row row) (ap (λ (z : ℤ). z +ℤ pos k) (to_z-of_z w32 c.args.first first))
-    (of_stored (pipeline_in c.args.self.now.job.now) c.args.self.now.schedule.now.inlining (g.K.Known.given c.args.self.now.known.now) (IsKnownAt c.args.self.now.boxes.buffers.items) c.args.stage c.args.row (c.args.first +ℤ pos k) (stage_view c.in-Some.found.now) there (c.requires.there k h) _ _ (function_body c.in-Some.found.now c.body.result.now c.in-Function-2.field-0 c.body.ensures c.in-Function-2.is) (sym c.inlined.ensures ∙ c.if-inlined.false))
+    (of_stored (pipeline_in c.args.self.now.job.now) c.args.self.now.schedule.now.inlining (g.K.Known.given c.args.self.now.known.now) (IsKnownAt c.args.self.now.boxes.buffers.items) c.args.stage c.args.row (c.args.first +ℤ pos k) (stage_view c.in-Some.found.now) there (c.requires k h) _ _ (function_body c.in-Some.found.now c.body.result.now c.in-Function-2.field-0 c.body.ensures c.in-Function-2.is) (sym c.inlined.ensures ∙ c.if-inlined.false))
 
 pub returns-in-Function : goal.returns-in-Function
 returns-in-Function g c = λ k h.
