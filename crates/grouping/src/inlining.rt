@@ -34,10 +34,7 @@ impl InlinedStages {
     pub(crate) fn all_stored(alloc: Global, job: &Job) -> Result<InlinedStages, AllocError>
         ensures { IfOk result (λ f. f ≡ all_stored (pipeline_in job.now)) }
     {
-        let mut inlining = Vec::new(alloc);
-        for _stage in job.stages() {
-            inlining.push(false)?;
-        }
+        let inlining = vec![in alloc; false; job.stages().len()]?;
         Ok(InlinedStages { inlining })
     }
 

@@ -1,8 +1,10 @@
 #![tactic(auto)]
 //! Targets, and the boxes of what they need.
 
-ghost use Rattle.std.specs.Prelude.{◌≡◌, IfOk, IfSome, reverse, slice_get};
+ghost use Rattle.std.specs.Prelude.{◌≡◌, IfOk, IfSome, length, reverse, slice_get};
 ghost use Rattle.std.specs.List.{flat_map};
+ghost use Rattle.job.specs.Kept.{pipeline_in};
+ghost use Rattle.grouping.specs.inside.Walks.{no_hulls};
 
 use crate::demands::{common, demand_all};
 use crate::inlining::InlinedStages;
@@ -81,16 +83,6 @@ impl TargetWalk<'_> {
         }
     }
 
-    fn no_hulls(&self, alloc: Global) -> Result<Vec<Option<Area>>, AllocError>
-        ensures { IfOk result (λ hulls. hulls.items ≡ no_hulls (pipeline_in self.now.job.now).stages) }
-    {
-        let mut hulls = Vec::new(alloc);
-        for _stage in self.job.stages() {
-            hulls.push(None)?;
-        }
-        Ok(hulls)
-    }
-
     // The hulls of all that the stages in the target demand.
     pub(crate) fn hulls(
         &self,
@@ -100,7 +92,7 @@ impl TargetWalk<'_> {
         requires target { IsTarget (target_of self.now) }
         ensures { IfOk result (λ hulls. hulls.items ≡ walked (target_of self.now) (no_hulls (pipeline_in self.now.job.now).stages) (reverse order.now)) }
     {
-        let mut hulls = self.no_hulls(alloc)?;
+        let mut hulls = no_hulls(alloc, self.job)?;
         let mut backward = order.to_vec(alloc)?;
         backward.reverse();
         self.walk(&mut hulls, &backward);
@@ -151,4 +143,12 @@ impl TargetWalk<'_> {
         let hulls = self.hulls(alloc, &order)?;
         self.listed(alloc, &hulls, &order)
     }
+}
+
+/// Nothing is demanded of any stage yet.
+pub(crate) fn no_hulls(alloc: Global, job: &Job) -> Result<Vec<Option<Area>>, AllocError>
+    ensures none { IfOk result (λ hulls. hulls.items ≡ no_hulls (pipeline_in job.now).stages) }
+    ensures each { IfOk result (λ hulls. length hulls.items ≡ length (pipeline_in job.now).stages) }
+{
+    vec![in alloc; None; job.stages().len()]
 }

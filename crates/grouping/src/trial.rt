@@ -13,7 +13,7 @@ ghost use Rattle.grouping.specs.inside.Walks.{InDomainRanges, demanded_all, targ
 
 use crate::costs::{MOST_SCRATCH, areas_of_tiles};
 use crate::greedy::Grouper;
-use crate::target::TargetWalk;
+use crate::target::{TargetWalk, no_hulls};
 use domains::Area;
 use job::Job;
 use std::alloc::{AllocError, Global};
@@ -202,13 +202,6 @@ impl Grouper {
             None => 0,
         }
     }
-}
-
-// Nothing is demanded of any stage yet.
-fn no_hulls(alloc: Global, job: &Job) -> Result<Vec<Option<Area>>, AllocError>
-    ensures { IfOk result (λ hulls. length hulls.items ≡ length (pipeline_in job.now).stages) }
-{
-    vec![in alloc; None; job.stages().len()]
 }
 
 // Nothing is demanded of this stage yet.

@@ -1,4 +1,3 @@
-pub mod Faults
 pub mod Needs
 pub mod Views
 pub mod Lives
