@@ -21,7 +21,7 @@ use Rattle.pipe_bounds.proofs.OneFault.{same_list}
 use Rattle.pipe_bounds.proofs.Sounding.{index_is}
 use Rattle.pipe_bounds.proofs.Stages.{some_within}
 use Rattle.binding.specs.Binding.{Program, Variables, variables_of, stage_number, names_in}
-use Rattle.binding.specs.Ranges.{IsRanged, IsRangedBranch, IsRangedItem, HasBounds, box_in, IsPlaneBounds, IsFunctionBounds, IsAccumulatorBounds, HavePlanes, IsBoundItem, AreReady}
+use Rattle.binding.specs.inside.Ranges.{IsRanged, IsRangedBranch, IsRangedItem, HasBounds, box_in, IsPlaneBounds, IsFunctionBounds, IsAccumulatorBounds, HavePlanes, IsBoundItem, AreReady}
 use Rattle.binding.proofs.BoundLaws.{ends_are, sides_are, area_is, span_near}
 use Rattle.binding.proofs.Boxing.{part_is}
 use Rattle.binding.proofs.NumberLaws.{number_at}

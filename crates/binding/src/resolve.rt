@@ -5,9 +5,9 @@ ghost use Rattle.std.specs.Prelude.{◌≡◌, ◌<◌, ◌^◌, pos, IfOk, filt
 ghost use Rattle.pipe_tree.specs.Tree.{view};
 ghost use Rattle.pipe_checks.specs.Accesses.{is_plane};
 ghost use Rattle.binding.specs.Binding.{stage_number, rank_named, plane_number, axis_of, name_formula, formula_of, test_of};
-ghost use Rattle.binding.specs.Ranges.{IsRanged};
+ghost use Rattle.binding.specs.inside.Ranges.{IsRanged};
 ghost use Rattle.job.specs.Views.{axis_view, formula_view, test_view};
-ghost use Rattle.binding.specs.Resolving.{program_in, variables_in};
+ghost use Rattle.binding.specs.inside.Resolving.{program_in, variables_in};
 
 use job::{Axis, Factors, Formula, Kernel, Test};
 use pipe_bounds::{Params, StageBounds, affine_value, index_of};

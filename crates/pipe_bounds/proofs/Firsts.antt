@@ -16,7 +16,7 @@ use Rattle.pipe_bounds.specs.declared.fault.BoundFault.TheVariants.{Memory}
 use Rattle.pipe_bounds.specs.declared.params.Setting.{Setting}
 use Rattle.pipe_checks.specs.declared.access.Access.{Access}
 use Rattle.pipe_bounds.specs.InBounds.{ReadCase, IsInBox, Stays, AllStay, StageStays, StaysAt, IsTakenAlong, Leaves, TellsRead, IsFirstRead, IsFirstCase, IsFirstStage, stage_cases, branch_case, whole_case}
-use Rattle.pipe_bounds.specs.Taken.{AnswersReads, AnswersCases}
+use Rattle.pipe_bounds.specs.inside.Taken.{AnswersReads, AnswersCases}
 use Rattle.domains.proofs.Places.{slice_get-end}
 
 -- ---- where a loop stops
