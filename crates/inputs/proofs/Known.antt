@@ -28,7 +28,7 @@ use Rattle.binding.specs.Binding.{IsJobOf}
 use Rattle.job.specs.Kept.{pipeline_in, program_text_in}
 use Rattle.job.specs.Pipeline.{Pipeline}
 use Rattle.job.specs.WellFormed.{IsSmall}
-use Rattle.binding.proofs.SmallLaws.{small_job}
+use Rattle.binding.proofs.JobsKeepLimits.{small_job}
 use Rattle.pipe_tree.proofs.SizeLaws.{keeps_limits}
 use Rattle.binding.specs.declared.fault.BindFault.{BindFault}
 use Rattle.binding.specs.declared.fault.BindFault.TheVariants as binding

@@ -78,7 +78,7 @@ same_box areas P Q accesses k n (Err f) same (inr h) = inr (record {
   tells = tells_too areas P Q h.access k n h.number f same h.tells;
 })
 
--- ---- cases one behind the other
+-- ---- cases one after the other
 
 pub case_at : (stages : List Symbol) (row : List ℕ) (cases : List Case) (i : ℕ) (x : Case) → i < length cases → x ≡ get_or cases i x → slice_get (map (branch_case stages row) (branches cases)) i ≡ Some (branch_case stages row (branch x))
 case_at stages row cases i x h e =
