@@ -19,7 +19,7 @@ use Rattle.binding.specs.Fits.{ShapesFit, TilesFit}
 use Rattle.job.specs.WellFormed.{IsJob}
 use Rattle.binding.proofs.JobLaws.{job_is}
 use Rattle.binding.specs.BindFaults.{IsSizeFault, IsBindFault, settled_program}
-use Rattle.binding.specs.Parts.{ArePartsOf, AreBoundParts}
+use Rattle.binding.specs.inside.Parts.{ArePartsOf, AreBoundParts}
 use Rattle.job.specs.Views.{stage_view, output_view, parameter_view}
 
 abbrev pub job_from : Parts → Picture → Sides → Pipeline

@@ -49,7 +49,7 @@ use Rattle.binding.proofs.NumberLaws.{stage_named}
 use Rattle.domains.proofs.Places.{all_at}
 use Rattle.binding.proofs.JudgedFormulas.{zero_fits, formula_is, tests_are}
 use Rattle.binding.proofs.StageLaws.{IsStageOf, IsAt, stage_at, stage_there, each_links}
-use Rattle.binding.proofs.SmallLaws.{stages_counted}
+use Rattle.binding.proofs.JobsKeepLimits.{stages_counted}
 use Rattle.binding.proofs.ReadLaws.{ranked}
 use Rattle.binding.proofs.BoundLaws.{ends_are, span_near, item_domain, domain_at, stage_reads}
 

@@ -4,9 +4,9 @@ pub mod StageLaws
 pub mod ReadLaws
 pub mod BoundLaws
 pub mod JobLaws
-pub mod OneJob
+pub mod BoundProgramsAreJobs
 pub mod Boxing
 pub mod Assembling
 pub mod Readying
-pub mod SmallLaws
+pub mod JobsKeepLimits
 pub mod SmallSettings

@@ -16,7 +16,7 @@ use Rattle.pipe_checks.specs.declared.access.Access.{Access}
 use Rattle.pipe_checks.specs.declared.access.Access.TheVariants as access
 use Rattle.pipe_checks.specs.Graph.{links_at}
 use Rattle.domains.specs.Greatest.{greatest}
-use Rattle.pipe_checks.specs.Search.{rank_over}
+use Rattle.pipe_checks.specs.inside.Search.{rank_over}
 use Rattle.pipe_checks.specs.Names.{is_param, declared_names, stages_of, number_of}
 use Rattle.pipe_checks.specs.Accesses as accesses
 use Rattle.pipe_checks.specs.Accesses.{width_of, read_at, stencil_at, accesses_of, branch_accesses, otherwise_accesses, item_accesses, is_plane, links_of, graph_of}

@@ -17,11 +17,11 @@ use Rattle.pipe_checks.specs.Names.{names_of, item_names, names_from, is_param, 
 use Rattle.pipe_checks.specs.Checking.{IsNamed}
 use Rattle.pipe_checks.proofs.Accepted.{IsSound, IsSoundBranch, IsSoundItem, sound_item}
 use Rattle.pipe_bounds.specs.StageBounds.{StageBounds, AreBoxes, IsBoundsOf, AreBoundsOf}
-use Rattle.pipe_bounds.proofs.OneFault.{same_list}
+use Rattle.pipe_bounds.proofs.BoundFaultsAreDetermined.{same_list}
 use Rattle.pipe_bounds.proofs.Sounding.{index_is}
 use Rattle.pipe_bounds.proofs.Stages.{some_within}
 use Rattle.binding.specs.Binding.{Program, Variables, variables_of, stage_number, names_in}
-use Rattle.binding.specs.Ranges.{IsRanged, IsRangedBranch, IsRangedItem, HasBounds, box_in, IsPlaneBounds, IsFunctionBounds, IsAccumulatorBounds, HavePlanes, IsBoundItem, AreReady}
+use Rattle.binding.specs.inside.Ranges.{IsRanged, IsRangedBranch, IsRangedItem, HasBounds, box_in, IsPlaneBounds, IsFunctionBounds, IsAccumulatorBounds, HavePlanes, IsBoundItem, AreReady}
 use Rattle.binding.proofs.BoundLaws.{ends_are, sides_are, area_is, span_near}
 use Rattle.binding.proofs.Boxing.{part_is}
 use Rattle.binding.proofs.NumberLaws.{number_at}
@@ -94,10 +94,10 @@ item_first n (tree.accumulator a) others zero x e = (_, refl, refl, same_Some a.
 item_first n (tree.accumulator a) others (suc j) x e = absurd (none-some x e)
 item_first n (tree.output o) others j x e = absurd (none-some x e)
 
-behind : {X : Type 0} (xs ys : List X) (j k : ℕ) → k ≡ length xs + j → slice_get (xs ++ ys) k ≡ slice_get ys j
-behind {X} [] ys j k e = let same : k ≡ j = omega (arith, e) in ap (λ (n : ℕ). slice_get ys n) same
-behind (x ∷ xs) ys j zero e = absurd (omega (arith, e))
-behind (x ∷ xs) ys j (suc k) e = behind xs ys j k (omega (arith, e))
+after : {X : Type 0} (xs ys : List X) (j k : ℕ) → k ≡ length xs + j → slice_get (xs ++ ys) k ≡ slice_get ys j
+after {X} [] ys j k e = let same : k ≡ j = omega (arith, e) in ap (λ (n : ℕ). slice_get ys n) same
+after (x ∷ xs) ys j zero e = absurd (omega (arith, e))
+after (x ∷ xs) ys j (suc k) e = after xs ys j k (omega (arith, e))
 
 staged : (n : ℕ) (ds : List Declaration) (k : ℕ) (d : Declaration) (j : ℕ) (x : List ℕ) → slice_get ds k ≡ Some d → slice_get (stage_names d) j ≡ Some x → IsStaged n ds k x
 staged n [] k d j x there named = absurd (none-some d there)
@@ -112,7 +112,7 @@ staged n (e ∷ ds) (suc k) d j x there named =
     record {
       stage = length here + r.stage;
       declared = r.declared;
-      there = ap (λ (xs : List Symbol). slice_get xs (length here + r.stage)) (filter-append keeps (item_names n e) (names_from (n + 1) ds)) ∙ behind here others r.stage (length here + r.stage) refl ∙ r.there;
+      there = ap (λ (xs : List Symbol). slice_get xs (length here + r.stage)) (filter-append keeps (item_names n e) (names_from (n + 1) ds)) ∙ after here others r.stage (length here + r.stage) refl ∙ r.there;
       item = omega arith;
       name = r.name;
     }

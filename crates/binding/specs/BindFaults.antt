@@ -5,6 +5,8 @@ use Rattle.domains.specs.Sides.{Sides}
 use Rattle.netpbm.specs.Image.{Image as Picture}
 use Rattle.pipe_tree.specs.declared.tree.Image.{Image}
 use Rattle.pipe_tree.specs.Tree.{Declaration}
+use Rattle.pipe_checks.specs.declared.checked.Checked.{Checked}
+use Rattle.pipe_checks.specs.Checking.{stages_in, ranks_in}
 use Rattle.pipe_bounds.specs.declared.fault.BoundFault.{BoundFault}
 use Rattle.pipe_bounds.specs.declared.fault.BoundFault.TheVariants as bounds
 use Rattle.pipe_bounds.specs.declared.params.Setting.{Setting}
@@ -32,6 +34,10 @@ pub record IsFirstCrowded (job : Pipeline) (n : ℕ) : Type 0 where
   pub first : HaveFewTiles job n
 
 -- ---- binding
+
+-- a checked program at these values of its parameters
+abbrev pub program_of : Checked → List Setting → Program
+program_of c settings = record { stages = stages_in c; ranks = ranks_in c; settings = settings }
 
 -- the program with the parameters that are taken from the picture
 abbrev pub settled_program : Program → Image → Picture → Program

@@ -2,6 +2,4 @@ pub mod Binding
 pub mod Fits
 pub mod Texts
 pub mod BindFaults
-pub mod Parts
-pub mod Ranges
-pub mod Resolving
+pub mod inside

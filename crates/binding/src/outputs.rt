@@ -8,7 +8,7 @@ ghost use Rattle.pipe_tree.specs.declared.tree.Image.{Image as ImageType};
 ghost use Rattle.pipe_tree.specs.Tree.{declarations};
 ghost use Rattle.job.specs.Views.{output_view, parameter_view};
 ghost use Rattle.binding.specs.Binding.{stage_number, names_in, item_outputs, item_images, parameter_of};
-ghost use Rattle.binding.specs.Resolving.{output_of, program_in};
+ghost use Rattle.binding.specs.inside.Resolving.{output_of, program_in};
 
 use crate::resolve::Resolver;
 use job::{Output, Parameter};

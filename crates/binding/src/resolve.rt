@@ -5,13 +5,13 @@ ghost use Rattle.std.specs.Prelude.{◌≡◌, ◌<◌, ◌^◌, pos, IfOk, filt
 ghost use Rattle.pipe_tree.specs.Tree.{view};
 ghost use Rattle.pipe_checks.specs.Accesses.{is_plane};
 ghost use Rattle.binding.specs.Binding.{stage_number, rank_named, plane_number, axis_of, name_formula, formula_of, test_of};
-ghost use Rattle.binding.specs.Ranges.{IsRanged};
+ghost use Rattle.binding.specs.inside.Ranges.{IsRanged};
 ghost use Rattle.job.specs.Views.{axis_view, formula_view, test_view};
-ghost use Rattle.binding.specs.Resolving.{program_in, variables_in};
+ghost use Rattle.binding.specs.inside.Resolving.{program_in, variables_in};
 
 use job::{Axis, Factors, Formula, Kernel, Test};
 use pipe_bounds::{Params, StageBounds, affine_value, index_of};
-use pipe_checks::{Checked, NameKind, Symbol, is_same, number_of};
+use pipe_checks::{Checked, Symbol, is_same, number_of};
 use pipe_tokens::Name;
 use pipe_tree::Expr;
 use std::alloc::{AllocError, Global};
@@ -23,21 +23,12 @@ pub(crate) struct Variables {
     pub column: Name,
 }
 
-fn is_plane(kind: NameKind) -> bool
-    ensures { result ≡ is_plane kind }
-{
-    match kind {
-        NameKind::Plane => true,
-        NameKind::Param | NameKind::Func | NameKind::Accum => false,
-    }
-}
-
 fn planes_of(alloc: Global, stages: &[Symbol]) -> Result<Vec<Symbol>, AllocError>
     ensures { IfOk result (λ v. v.items ≡ filter (λ d. is_plane d.kind) stages.now) }
 {
     stages
         .iter()
-        .filter(|declared| is_plane(declared.kind))
+        .filter(|declared| declared.kind.is_plane())
         .copied()
         .collect(alloc)
 }

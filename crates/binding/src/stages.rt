@@ -6,9 +6,9 @@ ghost use Rattle.std.specs.List.{flat_map};
 ghost use Rattle.std.specs.Option.{option_map, ForSome};
 ghost use Rattle.pipe_tree.specs.Tree.{function, accumulator, view, branch, branches, function_of, accumulator_of, declaration, declarations};
 ghost use Rattle.binding.specs.Binding.{stage_number, formula_of, case_of, plane_stage, function_stage, accumulator_stage, names_in, item_stages};
-ghost use Rattle.binding.specs.Ranges.{IsRanged, IsRangedBranch, IsRangedItem, HasBounds, box_in, IsPlaneBounds, HavePlanes, IsBoundItem, AreReady};
+ghost use Rattle.binding.specs.inside.Ranges.{IsRanged, IsRangedBranch, IsRangedItem, HasBounds, box_in, IsPlaneBounds, HavePlanes, IsBoundItem, AreReady};
 ghost use Rattle.job.specs.Views.{formula_view, case_view, stage_view};
-ghost use Rattle.binding.specs.Resolving.{program_in, variables_in};
+ghost use Rattle.binding.specs.inside.Resolving.{program_in, variables_in};
 
 use crate::resolve::{Resolver, Variables};
 use job::{Accumulator, Body, Formula, Function, JobCase, Stage};

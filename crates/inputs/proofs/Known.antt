@@ -23,13 +23,12 @@ use Rattle.pipe_checks.specs.Accesses.{graph_of}
 use Rattle.pipe_bounds.specs.Unset.{unset}
 use Rattle.pipe_checks.specs.declared.symbol.Symbol.{Symbol}
 use Rattle.pipe_bounds.specs.declared.params.Setting.{Setting}
-use Rattle.binding.specs.BindFaults.{IsBindFault, IsBound}
+use Rattle.binding.specs.BindFaults.{IsBindFault, IsBound, program_of}
 use Rattle.binding.specs.Binding.{IsJobOf}
 use Rattle.job.specs.Kept.{pipeline_in, program_text_in}
 use Rattle.job.specs.Pipeline.{Pipeline}
-use Rattle.binding.specs.Resolving.{program_of}
 use Rattle.job.specs.WellFormed.{IsSmall}
-use Rattle.binding.proofs.SmallLaws.{small_job}
+use Rattle.binding.proofs.JobsKeepLimits.{small_job}
 use Rattle.pipe_tree.proofs.SizeLaws.{keeps_limits}
 use Rattle.binding.specs.declared.fault.BindFault.{BindFault}
 use Rattle.binding.specs.declared.fault.BindFault.TheVariants as binding

@@ -16,7 +16,7 @@ use Rattle.pipe_bounds.specs.declared.fault.BoundFault.TheVariants.{Memory}
 use Rattle.pipe_bounds.specs.declared.params.Setting.{Setting}
 use Rattle.pipe_checks.specs.declared.access.Access.{Access}
 use Rattle.pipe_bounds.specs.InBounds.{ReadCase, IsInBox, Stays, AllStay, StageStays, StaysAt, IsTakenAlong, Leaves, TellsRead, IsFirstRead, IsFirstCase, IsFirstStage, stage_cases, branch_case, whole_case}
-use Rattle.pipe_bounds.specs.Taken.{AnswersReads, AnswersCases}
+use Rattle.pipe_bounds.specs.inside.Taken.{AnswersReads, AnswersCases}
 use Rattle.domains.proofs.Places.{slice_get-end}
 
 -- ---- where a loop stops
@@ -78,7 +78,7 @@ same_box areas P Q accesses k n (Err f) same (inr h) = inr (record {
   tells = tells_too areas P Q h.access k n h.number f same h.tells;
 })
 
--- ---- cases one behind the other
+-- ---- cases one after the other
 
 pub case_at : (stages : List Symbol) (row : List ℕ) (cases : List Case) (i : ℕ) (x : Case) → i < length cases → x ≡ get_or cases i x → slice_get (map (branch_case stages row) (branches cases)) i ≡ Some (branch_case stages row (branch x))
 case_at stages row cases i x h e =

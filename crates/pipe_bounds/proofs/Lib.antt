@@ -6,4 +6,4 @@ pub mod Firsts
 pub mod Sounding
 pub mod Spanning
 pub mod OneDomain
-pub mod OneFault
+pub mod BoundFaultsAreDetermined

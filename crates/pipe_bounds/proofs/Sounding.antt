@@ -20,7 +20,7 @@ use Rattle.pipe_checks.specs.Accesses.{accesses_of, read_at, stencil_at, width_o
 use Rattle.pipe_checks.proofs.Accepted as accepted
 use Rattle.pipe_checks.proofs.Accepted.{IsSoundIndex, IsSoundBranch, IsSoundItem, sound_item}
 use Rattle.pipe_bounds.specs.InBounds.{ReadCase, branch_case, otherwise_cases, item_cases, scale_of}
-use Rattle.pipe_bounds.specs.Taken.{IsSound, AreSoundItems, AreDeclared}
+use Rattle.pipe_bounds.specs.inside.Taken.{IsSound, AreSoundItems, AreDeclared}
 use Rattle.pipe_checks.proofs.Places.{position_within}
 
 -- ---- lists

@@ -8,7 +8,7 @@ use Rattle.domains.specs.declared.area.Area.{Area}
 use Rattle.pipe_tree.specs.Tree.{Declaration, param, image, function, accumulator, output}
 use Rattle.pipe_bounds.specs.declared.params.Setting.{Setting}
 use Rattle.pipe_bounds.specs.Domains.{IsSpanFrom, IsSides, IsDomain}
-use Rattle.pipe_bounds.specs.Taken.{InDomainRange, InDomainRanges}
+use Rattle.pipe_bounds.specs.inside.Taken.{InDomainRange, InDomainRanges}
 
 near_span : (first last : ℤ) (e : Ends) → IsSpanFrom first last e → InDomainRange e
 near_span first last e h v holds = (omega (arith, ints, h.lo, h.least, holds), omega (arith, ints, h.hi, h.most, holds))

@@ -14,7 +14,7 @@ use Rattle.pipe_checks.specs.declared.access.Access.TheVariants.{Read, Stencil}
 use Rattle.pipe_checks.specs.Accesses.{stage_read}
 use Rattle.pipe_bounds.specs.StageBounds.{StageBounds, domains_in}
 use Rattle.pipe_bounds.specs.InBounds.{IsAbout, TakesRow, TakesColumn, Stays, IsTakenAlong, AreExtremes, Leaves, scale_of}
-use Rattle.pipe_bounds.specs.Taken.{IsSound, IsWidened, IsTaken, LeavesAlong, StaysWithin}
+use Rattle.pipe_bounds.specs.inside.Taken.{IsSound, IsWidened, IsTaken, LeavesAlong, StaysWithin}
 
 -- t goes from the least to the greatest number that is taken at the numbers of s
 pub record IsReach (Takes : ℤ → ℤ → Type 0) (s t : Ends) : Type 0 where

@@ -40,7 +40,7 @@ abbrev pub otherwise_cases : List Symbol → List ℕ → Option Node → List R
 otherwise_cases stages row None = []
 otherwise_cases stages row (Some a) = whole_case row (accesses_of stages a) ∷ []
 
--- the cases of an item by their numbers: `else` stands behind the others, and an accumulator is one case
+-- the cases of an item by their numbers: `else` stands after the others, and an accumulator is one case
 abbrev pub item_cases : List Symbol → Declaration → List ReadCase
 item_cases stages (param p) = []
 item_cases stages (image i) = []

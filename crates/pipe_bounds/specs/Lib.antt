@@ -6,4 +6,4 @@ pub mod Domains
 pub mod StageBounds
 pub mod Within
 pub mod InBounds
-pub mod Taken
+pub mod inside

@@ -4,7 +4,7 @@
 ghost use Rattle.std.specs.Prelude.{◌≡◌, None};
 ghost use Rattle.pipe_bounds.specs.Domains.{IsInterval, IsExtent, IsBins, IsArea, IsSpanOf};
 ghost use Rattle.pipe_bounds.specs.Settings.{affine_value};
-ghost use Rattle.pipe_bounds.specs.Taken.{IsPlaced};
+ghost use Rattle.pipe_bounds.specs.inside.Taken.{IsPlaced};
 ghost use Rattle.pipe_tree.specs.Tree.{declaration, accumulator, accumulator_of};
 
 use crate::affine::affine_value;

@@ -4,7 +4,7 @@
 ghost use Rattle.std.specs.Prelude.{◌≡◌, ◌<◌, IfOk, length};
 ghost use Rattle.pipe_tree.specs.Tree.{declaration, declarations};
 ghost use Rattle.pipe_bounds.specs.StageBounds.{HasBoxes, IsBoundsOf, AreBoundsOf};
-ghost use Rattle.pipe_bounds.specs.Taken.{AreDeclared, IsAnswer, IsPlace, TellsDomain, domain_fault};
+ghost use Rattle.pipe_bounds.specs.inside.Taken.{AreDeclared, IsAnswer, IsPlace, TellsDomain, domain_fault};
 
 use crate::boxes::case_boxes;
 use crate::domain::{IntervalFault, Place, place_of};

@@ -43,7 +43,7 @@ impl Params {
         Params::unset(alloc, checked.params())
     }
 
-    /// These parameters with these values, in this order. Whose they are is the caller's care.
+    /// These parameters with these values, in this order. Whether they are those of a program is not judged here.
     pub fn of_settings(settings: Vec<Setting>) -> Self
         ensures { result ≡ settings.items }
     {

@@ -8,7 +8,7 @@ ghost use Rattle.pipe_tree.specs.Tree.{view, branch, branches, declaration, func
 ghost use Rattle.pipe_checks.specs.Accesses.{accesses_of};
 ghost use Rattle.pipe_bounds.specs.InBounds.{IsInBox, Stays, TellsRead, branch_case, item_cases};
 ghost use Rattle.pipe_bounds.specs.StageBounds.{HasBoxes, IsBox, AreBoxes, domains_in};
-ghost use Rattle.pipe_bounds.specs.Taken.{AnswersCases, AnswersReads, AreSound, AreSoundCases, IsAnswer, InDomainRanges, IsSound};
+ghost use Rattle.pipe_bounds.specs.inside.Taken.{AnswersCases, AnswersReads, AreSound, AreSoundCases, IsAnswer, InDomainRanges, IsSound};
 
 use crate::fault::BoundFault;
 use crate::params::Params;

@@ -6,7 +6,7 @@ ghost use Rattle.domains.specs.Span.{IsSpan};
 ghost use Rattle.domains.specs.Area.{IsArea};
 ghost use Rattle.domains.specs.Index.{IsIndex, IsImage};
 ghost use Rattle.pipe_bounds.specs.InBounds.{scale_of};
-ghost use Rattle.pipe_bounds.specs.Taken.{IsWidened, IsTaken, IsDeparting, InDomainRange, InDomainRanges, IsSound};
+ghost use Rattle.pipe_bounds.specs.inside.Taken.{IsWidened, IsTaken, IsDeparting, InDomainRange, InDomainRanges, IsSound};
 
 use crate::fault::Axis;
 use crate::index::index_of;

@@ -7,7 +7,7 @@ ghost use Rattle.pipe_checks.specs.Checking.{tree_in};
 ghost use Rattle.pipe_tree.specs.Tree.{declarations};
 ghost use Rattle.pipe_tree.specs.Content.{content};
 ghost use Rattle.pipe_bounds.specs.InBounds.{AreInBounds, IsBoundFault, IsFirstStage, IsInBounds};
-ghost use Rattle.pipe_bounds.specs.Taken.{AreDeclared, AreSoundItems, IsAnswer};
+ghost use Rattle.pipe_bounds.specs.inside.Taken.{AreDeclared, AreSoundItems, IsAnswer};
 ghost use Rattle.pipe_bounds.specs.Within.{AreSet, IsFirstUnset};
 ghost use Rattle.pipe_bounds.specs.StageBounds.{AreBoundsOf, domains_in};
 ghost use Rattle.pipe_checks.specs.Names.{stages_of};

@@ -5,7 +5,7 @@ use Rattle.std.proofs.lemmas.Option.{same_Some}
 use Rattle.std.proofs.lemmas.List.{get_or_append_left, get_or_push, length_push}
 use Rattle.pipe_checks.specs.Links.{Links}
 use Rattle.pipe_checks.specs.Graph.{links_at, Reads, Way, IsAcyclic, IsCycle, IsShortestFrom, IsShortestCycle}
-use Rattle.pipe_checks.specs.Search.{SomeAt, AreDistances, IsWayBack}
+use Rattle.pipe_checks.specs.inside.Search.{SomeAt, AreDistances, IsWayBack}
 use Rattle.pipe_checks.proofs.Distances.{some_at, reads_within}
 
 -- from a place of a list to its end

@@ -9,7 +9,7 @@ use Rattle.std.specs.Prelude.{Contains}
 use Rattle.pipe_checks.specs.Links.{Links}
 use Rattle.pipe_checks.proofs.Unknown.{unknowns-le}
 use Rattle.pipe_checks.specs.Graph.{links_at, Reads, Way}
-use Rattle.pipe_checks.specs.Search.{unknowns, SomeAt, LeadsOn, IsStepAt, IsStepFrom, AreDistances}
+use Rattle.pipe_checks.specs.inside.Search.{unknowns, SomeAt, LeadsOn, IsStepAt, IsStepFrom, AreDistances}
 
 -- the distances up to k are known, and no others
 pub record KnownUpTo (g : List Links) (goal k : ℕ) (far : List (Option ℕ)) : Type 0 where

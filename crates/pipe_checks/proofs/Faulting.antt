@@ -10,7 +10,7 @@ use Rattle.pipe_checks.specs.declared.symbol.Symbol.{Symbol}
 use Rattle.pipe_checks.specs.Names.{declared_names}
 use Rattle.pipe_checks.specs.Accesses.{graph_of}
 use Rattle.pipe_checks.specs.Checking.{NoneTwice, IsFirstTwice, AllGood, IsFirstWrong, is_result, IsNamed, IsFault}
-use Rattle.pipe_checks.specs.Search.{fault_of, IsJudged, IsCyclic}
+use Rattle.pipe_checks.specs.inside.Search.{fault_of, IsJudged, IsCyclic}
 
 pub twice_fault : (names : List Symbol) (ds : List Declaration) (n : ℕ) → names ≡ declared_names ds → IsFirstTwice names ds n → IsFault ds (Twice n)
 twice_fault names ds n same h = subst (λ ns. IsFirstTwice ns ds n) same h

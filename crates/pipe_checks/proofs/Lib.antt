@@ -7,4 +7,4 @@ pub mod Places
 pub mod Faulting
 pub mod Accepted
 pub mod Rising
-pub mod FirstFault
+pub mod CheckFaultsAreDetermined

@@ -6,7 +6,7 @@ use Rattle.std.specs.Prelude.{Contains}
 use Rattle.pipe_checks.specs.Links.{Links}
 use Rattle.pipe_checks.specs.Graph.{links_at, IsPlane, Reads, IsRanked, IsRanking}
 use Rattle.domains.specs.Greatest.{greatest}
-use Rattle.pipe_checks.specs.Search.{rank_over}
+use Rattle.pipe_checks.specs.inside.Search.{rank_over}
 use Rattle.pipe_checks.proofs.Distances.{reads_within}
 
 -- ---- the greatest

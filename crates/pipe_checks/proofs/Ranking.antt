@@ -10,7 +10,7 @@ use Rattle.std.proofs.lemmas.Map.Steps.{length-le_from_distinct_below}
 use Rattle.pipe_checks.specs.Links.{Links}
 use Rattle.pipe_checks.specs.Graph.{links_at, Reads, IsRanking, Way, IsAcyclic}
 use Rattle.domains.specs.Greatest.{greatest}
-use Rattle.pipe_checks.specs.Search.{rank_over, unknowns, known_rank, IsBounded, SomeUnranked, AreRanked}
+use Rattle.pipe_checks.specs.inside.Search.{rank_over, unknowns, known_rank, IsBounded, SomeUnranked, AreRanked}
 use Rattle.pipe_checks.proofs.Numbering.{ranking-from_recurrence}
 use Rattle.pipe_checks.proofs.Unknown.{unknowns-set, unknowns-le}
 use Rattle.domains.proofs.Places.{slice_get-set_same, slice_get-set_other}

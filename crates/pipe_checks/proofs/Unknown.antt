@@ -3,7 +3,7 @@ use Rattle.std.proofs.Common.{ℕ, zero, ◌++◌, IfNone, subst, suc, ◌+◌, 
 use Rattle.std.proofs.lemmas.Bool.{false≢true}
 use Rattle.std.proofs.lemmas.Option.{slice_get_within, slice_get-get_or, get_or_from_slice_get, same_Some, none-some}
 use Rattle.std.proofs.lemmas.List.Sums.{sum_by-set, count_by-le-length}
-use Rattle.pipe_checks.specs.Search.{unknowns}
+use Rattle.pipe_checks.specs.inside.Search.{unknowns}
 
 -- one less is unknown once one is known
 pub unknowns-set : (xs : List (Option ℕ)) (i r : ℕ) → slice_get xs i ≡ Some None → unknowns (set xs i (Some r)) + 1 ≡ unknowns xs

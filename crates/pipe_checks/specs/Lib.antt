@@ -7,4 +7,4 @@ pub mod Accesses
 pub mod Uses
 pub mod Twice
 pub mod Checking
-pub mod Search
+pub mod inside

@@ -9,7 +9,7 @@ ghost use Rattle.pipe_tree.specs.Content.{content};
 ghost use Rattle.pipe_checks.specs.Names.{declared_names};
 ghost use Rattle.pipe_checks.specs.Graph.{IsRanking};
 ghost use Rattle.pipe_checks.specs.Checking.{IsNamed, IsFault, IsCheckedOf, tree_in, stages_in, params_in, graph_in, ranks_in, is_result, verdict_of, reads_at};
-ghost use Rattle.pipe_checks.specs.Search.{IsCyclic, IsJudged, IsFound, fault_of};
+ghost use Rattle.pipe_checks.specs.inside.Search.{IsCyclic, IsJudged, IsFound, fault_of};
 
 use crate::cycles::shortest_cycle;
 use crate::fault::{CheckFault, Cycle, Violation};

@@ -3,7 +3,7 @@
 
 ghost use Rattle.std.specs.Prelude.{◌≡◌, ℕ, suc, ◌<◌, ◌≤◌, ◌+◌, ◌↔◌, Option, Some, None, if◌then◌else◌, ◌==◌, IsTrue, IfSome, IfNone, IfOk, length, slice_get, Contains};
 ghost use Rattle.pipe_checks.specs.Graph.{links_at, Way, IsAcyclic, IsShortestFrom, IsShortestCycle};
-ghost use Rattle.pipe_checks.specs.Search.{SomeAt, LeadsOn, AreDistances, IsStepAt, IsStepFrom, IsWayBack};
+ghost use Rattle.pipe_checks.specs.inside.Search.{SomeAt, LeadsOn, AreDistances, IsStepAt, IsStepFrom, IsWayBack};
 
 use crate::graph::{Links, known};
 use std::alloc::{AllocError, Global};

@@ -52,7 +52,7 @@ pub enum CheckFault {
     #[error("item {0} has a kernel that is no rectangle of odd sides up to 15")]
     BadKernel(usize),
     /// 5: a number that is out of its range. The factor and the divisor of an index are 1 to 16, and what it adds is -4096
-    /// to 4096. The number behind `/` or `%`, the divisor of a stencil and the modulus of a test are at least 1, and the
+    /// to 4096. The number after `/` or `%`, the divisor of a stencil and the modulus of a test are at least 1, and the
     /// remainder of a test is less than its modulus. A shift is 0 to 31, and the greatest sample of an output 1 to 65535.
     /// No number of an expression or a test is above 2147483647; a text that is parsed has none that is.
     #[error("item {0} has a number that is out of range")]

@@ -4,10 +4,10 @@
 ghost use Rattle.std.specs.Prelude.{◌≡◌, ◌++◌, OnOk, IfOk, map, slice_get};
 ghost use Rattle.std.specs.Option.{option_map};
 ghost use Rattle.pipe_tree.specs.Tree.{view, branches, declaration, declarations};
-ghost use Rattle.pipe_checks.specs.Accesses.{branch_accesses, otherwise_accesses, item_accesses, stage_read, is_plane, links_of, links_from};
+ghost use Rattle.pipe_checks.specs.Accesses.{branch_accesses, otherwise_accesses, item_accesses, stage_read, links_of, links_from};
 
 use crate::access::{Access, add_accesses};
-use crate::symbol::{NameKind, Symbol};
+use crate::symbol::Symbol;
 use pipe_tree::{Case, Expr, Item};
 use std::alloc::{AllocError, Global};
 use std::marker::Model;
@@ -101,15 +101,6 @@ fn stages_read(alloc: Global, accesses: &[Access]) -> Result<Vec<usize>, AllocEr
     accesses.iter().map(|access| access.stage()).collect(alloc)
 }
 
-fn is_plane(kind: NameKind) -> bool
-    ensures { result ≡ is_plane kind }
-{
-    match kind {
-        NameKind::Plane => true,
-        NameKind::Param | NameKind::Func | NameKind::Accum => false,
-    }
-}
-
 fn links_of(
     alloc: Global,
     items: &[Item],
@@ -123,7 +114,7 @@ fn links_of(
         None => Vec::new(alloc),
     };
     Ok(Links {
-        is_plane: is_plane(stage.kind),
+        is_plane: stage.kind.is_plane(),
         reads,
     })
 }

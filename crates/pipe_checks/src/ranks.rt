@@ -3,7 +3,7 @@
 
 ghost use Rattle.std.specs.Prelude.{◌≡◌, ℕ, ◌<◌, ◌+◌, Option, Some, None, IfSome, IfNone, IfOk, OnSome, length, slice_get, replicate, map};
 ghost use Rattle.pipe_checks.specs.Graph.{links_at, IsRanking, IsAcyclic};
-ghost use Rattle.pipe_checks.specs.Search.{rank_over, known_rank, SomeUnranked, IsBounded};
+ghost use Rattle.pipe_checks.specs.inside.Search.{rank_over, known_rank, SomeUnranked, IsBounded};
 
 use crate::graph::{Links, known};
 use std::alloc::{AllocError, Global};

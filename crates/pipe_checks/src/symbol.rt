@@ -4,6 +4,7 @@
 ghost use Rattle.std.specs.Prelude.{◌≡◌, ◌++◌, ◌∷◌, [], ◌==◌, OnOk, IfOk, filter, not};
 ghost use Rattle.std.specs.Str.{bytes_eq};
 ghost use Rattle.pipe_tree.specs.Tree.{declaration, declarations};
+ghost use Rattle.pipe_checks.specs.Accesses.{is_plane};
 ghost use Rattle.pipe_checks.specs.Names.{number_of, names_of, item_names, names_from, is_param, stages_of, declared_at};
 
 use pipe_tokens::Name;
@@ -17,6 +18,27 @@ pub enum NameKind {
     Plane,
     Func,
     Accum,
+}
+
+impl NameKind {
+    /// Whether the name stands for a plane of the picture.
+    pub fn is_plane(self) -> bool
+        ensures { result ≡ is_plane self }
+    {
+        match self {
+            NameKind::Plane => true,
+            NameKind::Param | NameKind::Func | NameKind::Accum => false,
+        }
+    }
+
+    fn is_param(self) -> bool
+        ensures { result ≡ is_param self }
+    {
+        match self {
+            NameKind::Param => true,
+            NameKind::Plane | NameKind::Func | NameKind::Accum => false,
+        }
+    }
 }
 
 /// A name, what it stands for, and the number of the item that declares it.
@@ -86,22 +108,13 @@ pub(crate) fn declared_names(alloc: Global, items: &[Item]) -> Result<Vec<Symbol
     Ok(names)
 }
 
-fn is_param(kind: NameKind) -> bool
-    ensures { result ≡ is_param kind }
-{
-    match kind {
-        NameKind::Param => true,
-        NameKind::Plane | NameKind::Func | NameKind::Accum => false,
-    }
-}
-
 /// The parameters among the names.
 pub(crate) fn params_of(alloc: Global, names: &[Symbol]) -> Result<Vec<Symbol>, AllocError>
     ensures { IfOk result (λ v. v.items ≡ filter (λ d. is_param d.kind) names.now) }
 {
     names
         .iter()
-        .filter(|name| is_param(name.kind))
+        .filter(|name| name.kind.is_param())
         .copied()
         .collect(alloc)
 }
@@ -112,7 +125,7 @@ pub(crate) fn stages_of(alloc: Global, names: &[Symbol]) -> Result<Vec<Symbol>, 
 {
     names
         .iter()
-        .filter(|name| !is_param(name.kind))
+        .filter(|name| !name.kind.is_param())
         .copied()
         .collect(alloc)
 }

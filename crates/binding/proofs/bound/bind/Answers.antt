@@ -3,10 +3,8 @@ use Rattle.std.specs.Prelude.{map}
 use Rattle.pipe_tree.specs.Content.{content}
 use Rattle.pipe_checks.specs.declared.symbol.Symbol.{Symbol}
 use Rattle.pipe_checks.specs.Checking.{tree_in}
-use Rattle.job.specs.WellFormed.{IsJob}
 use Rattle.binding.specs.Binding.{IsJobOf}
-use Rattle.binding.specs.BindFaults.{IsSizeFault}
-use Rattle.binding.specs.Resolving.{program_of}
+use Rattle.binding.specs.BindFaults.{IsSizeFault, program_of}
 use Rattle.binding.proofs.Assembling.{bound_is_job, bound_is_said, late_fault}
 use Rattle.binding.proofs.bound.bind.Goals as goal
 
@@ -17,11 +15,7 @@ new-requires c =
     (tree_in c.args.checked).limits c.height.ensures.within c.in-None.ensures.none.0 c.in-None.ensures.none.1
 
 pub returns-in-Ok-print-clause-job : goal.returns-in-Ok-print-clause-job
-returns-in-Ok-print-clause-job c =
-    let known = c.bound_parts.ensures.checked in
-    subst IsJob (sym c.new.ensures.pipeline)
-    (bound_is_job (content (tree_in c.args.checked)) (program_of c.args.checked c.args.params.now) c.args.picture c.args.sides c.in-Ok.parts known.named known.stages known.ranks c.in-Ok.ensures.ok
-    (tree_in c.args.checked).limits c.height.ensures.within c.in-None.ensures.none.0 c.in-None.ensures.none.1)
+returns-in-Ok-print-clause-job c = c.new.result.well
 
 pub returns-in-Ok-print-clause-says : goal.returns-in-Ok-print-clause-says
 returns-in-Ok-print-clause-says c = λ names.

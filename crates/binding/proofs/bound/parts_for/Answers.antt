@@ -4,8 +4,8 @@ use Rattle.pipe_checks.specs.Checking.{tree_in}
 use Rattle.pipe_bounds.specs.InBounds.{IsInBounds}
 use Rattle.binding.specs.Binding.{settings_for, AreSmall}
 use Rattle.binding.specs.Fits.{ExtentsFit}
-use Rattle.binding.specs.Parts.{ArePartsOf}
-use Rattle.binding.specs.Resolving.{program_of}
+use Rattle.binding.specs.inside.Parts.{ArePartsOf}
+use Rattle.binding.specs.BindFaults.{program_of}
 use Rattle.binding.proofs.bound.parts_for.Goals as goal
 
 pub returns-in-Ok-clause-ok : goal.returns-in-Ok-clause-ok

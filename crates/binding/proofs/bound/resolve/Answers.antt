@@ -2,8 +2,8 @@ use Rattle.std.proofs.Common.{◌≡◌, ◌∙◌, ap, sym, subst}
 use Rattle.pipe_tree.specs.Tree.{declarations}
 use Rattle.pipe_tree.specs.Content.{items_of, content}
 use Rattle.pipe_checks.specs.Checking.{tree_in}
-use Rattle.binding.specs.Ranges.{AreReady}
-use Rattle.binding.specs.Resolving.{program_of}
+use Rattle.binding.specs.inside.Ranges.{AreReady}
+use Rattle.binding.specs.BindFaults.{program_of}
 use Rattle.binding.proofs.Readying.{ready}
 use Rattle.binding.proofs.bound.resolve.Goals as goal
 

@@ -1,4 +1,4 @@
-use Rattle.binding.proofs.OneJob.{one_job, bound_job_is}
+use Rattle.binding.proofs.BoundProgramsAreJobs.{one_job, bound_job_is}
 use Rattle.binding.proofs.laws.bound_programs_are_jobs.Goals as goal
 
 pub returns-clause-one : goal.returns-clause-one

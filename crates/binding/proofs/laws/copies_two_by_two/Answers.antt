@@ -5,7 +5,7 @@ use Rattle.std.proofs.lemmas.Bool.{false≢true}
 use Rattle.pipe_tree.specs.Tree.{Declaration}
 use Rattle.pipe_checks.specs.declared.symbol.Symbol.{Symbol}
 use Rattle.pipe_checks.specs.Graph.{links_at}
-use Rattle.pipe_checks.specs.Search.{rank_over}
+use Rattle.pipe_checks.specs.inside.Search.{rank_over}
 use Rattle.pipe_checks.proofs.Numbering.{ranking-from_recurrence}
 use Rattle.pipe_checks.specs.Names.{declared_names, number_of}
 use Rattle.pipe_checks.specs.Accesses.{graph_of}

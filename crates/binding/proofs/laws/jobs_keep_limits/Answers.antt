@@ -1,4 +1,4 @@
-use Rattle.binding.proofs.SmallLaws.{small_job}
+use Rattle.binding.proofs.JobsKeepLimits.{small_job}
 use Rattle.binding.proofs.laws.jobs_keep_limits.Goals as goal
 
 pub returns : goal.returns

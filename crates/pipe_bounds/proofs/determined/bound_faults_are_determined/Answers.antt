@@ -1,5 +1,5 @@
 -- The first fault of each kind is one, and no two kinds stand together.
-use Rattle.pipe_bounds.proofs.OneFault.{one_fault, no_fault}
+use Rattle.pipe_bounds.proofs.BoundFaultsAreDetermined.{one_fault, no_fault}
 use Rattle.pipe_bounds.proofs.determined.bound_faults_are_determined.Goals as goal
 
 pub returns-clause-one : goal.returns-clause-one

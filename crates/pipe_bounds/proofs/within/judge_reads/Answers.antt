@@ -8,7 +8,7 @@ use Rattle.pipe_checks.specs.declared.symbol.Symbol.{Symbol}
 use Rattle.pipe_bounds.specs.declared.fault.BoundFault.TheVariants.{Memory}
 use Rattle.pipe_bounds.specs.InBounds.{IsFirstCase, StageStays, StaysAt, declared_cases, stage_cases}
 use Rattle.pipe_bounds.specs.StageBounds.{HasBoxes, domains_in}
-use Rattle.pipe_bounds.specs.Taken.{InDomainRanges}
+use Rattle.pipe_bounds.specs.inside.Taken.{InDomainRanges}
 use Rattle.pipe_bounds.proofs.Firsts.{first_stage}
 use Rattle.pipe_bounds.proofs.Spanning.{near_domain}
 use Rattle.pipe_bounds.proofs.Stages.{bounds_here, domain_here}

@@ -6,7 +6,7 @@ use Rattle.pipe_checks.specs.declared.symbol.Symbol.{Symbol}
 use Rattle.pipe_checks.specs.Names.{is_param}
 use Rattle.pipe_checks.specs.Accesses.{links_from}
 use Rattle.pipe_checks.specs.Checking.{is_result}
-use Rattle.pipe_checks.specs.Search.{IsCyclic}
+use Rattle.pipe_checks.specs.inside.Search.{IsCyclic}
 use Rattle.pipe_checks.proofs.Faulting.{cyclic_fault}
 use Rattle.pipe_checks.proofs.checked.findings.Goals as goal
 

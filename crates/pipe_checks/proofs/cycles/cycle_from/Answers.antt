@@ -1,6 +1,6 @@
 use Rattle.std.proofs.Common.{ℕ, ◌≤◌, subst, sym}
 use Rattle.pipe_checks.specs.Links.{Links}
-use Rattle.pipe_checks.specs.Search.{SomeAt, IsWayBack}
+use Rattle.pipe_checks.specs.inside.Search.{SomeAt, IsWayBack}
 use Rattle.pipe_checks.proofs.Ranking.{links_read}
 use Rattle.pipe_checks.proofs.Closing.{shortest_from, no_cycle_from}
 use Rattle.pipe_checks.proofs.cycles.cycle_from.Goals as goal

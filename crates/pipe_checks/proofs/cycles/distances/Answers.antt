@@ -1,6 +1,6 @@
 use Rattle.std.proofs.Common.{arith, rules, sym, ◌∙◌, subst}
 use Rattle.std.proofs.lemmas.Bool.{false≢true}
-use Rattle.pipe_checks.specs.Search.{LeadsOn, IsStepFrom}
+use Rattle.pipe_checks.specs.inside.Search.{LeadsOn, IsStepFrom}
 use Rattle.pipe_checks.proofs.Distances.{known_at_first, room_at_first, one_level, fewer_unknown, all_known}
 use Rattle.pipe_checks.proofs.cycles.distances.Goals as goal
 

@@ -1,5 +1,5 @@
 use Rattle.std.proofs.Common.{◌+◌, ◌≤◌, length}
-use Rattle.pipe_checks.specs.Search.{unknowns}
+use Rattle.pipe_checks.specs.inside.Search.{unknowns}
 use Rattle.pipe_checks.proofs.Distances.{KnownUpTo}
 use Rattle.pipe_checks.proofs.cycles.distances.Given as goal
 

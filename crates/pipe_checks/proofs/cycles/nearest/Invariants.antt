@@ -1,5 +1,5 @@
 use Rattle.std.proofs.Common.{ℕ, ◌<◌, ◌≤◌, ◌≡◌, Some, IfSome, IfNone, get_or, slice_get}
-use Rattle.pipe_checks.specs.Search.{SomeAt}
+use Rattle.pipe_checks.specs.inside.Search.{SomeAt}
 use Rattle.pipe_checks.proofs.cycles.nearest.Given as goal
 
 abbrev pub invariant-loop-stage : goal.invariant-loop-stage

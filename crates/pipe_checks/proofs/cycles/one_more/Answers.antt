@@ -1,5 +1,5 @@
 use Rattle.std.proofs.Common.{rules}
-use Rattle.pipe_checks.specs.Search.{IsStepAt}
+use Rattle.pipe_checks.specs.inside.Search.{IsStepAt}
 use Rattle.pipe_checks.proofs.Unknown.{pushed}
 use Rattle.pipe_checks.proofs.cycles.one_more.Goals as goal
 

@@ -1,5 +1,5 @@
 use Rattle.std.proofs.Common.{ℕ, ◌≡◌, Option, Some, length, slice_get}
-use Rattle.pipe_checks.specs.Search.{IsStepAt}
+use Rattle.pipe_checks.specs.inside.Search.{IsStepAt}
 use Rattle.pipe_checks.proofs.cycles.one_more.Given as goal
 
 abbrev pub invariant-loop-stage : goal.invariant-loop-stage

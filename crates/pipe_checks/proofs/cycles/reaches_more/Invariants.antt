@@ -1,6 +1,6 @@
 use Rattle.std.proofs.Common.{ℕ, ◌<◌, ◌≡◌, Some, None, slice_get}
 use Rattle.pipe_checks.specs.Graph.{links_at}
-use Rattle.pipe_checks.specs.Search.{SomeAt}
+use Rattle.pipe_checks.specs.inside.Search.{SomeAt}
 use Rattle.pipe_checks.proofs.cycles.reaches_more.Given as goal
 
 abbrev pub invariant-loop-stage : goal.invariant-loop-stage

@@ -2,7 +2,7 @@ use Rattle.std.proofs.Common.{◌+◌, ◌≡◌, max, map, drop, Some, None, ge
 use Rattle.std.proofs.lemmas.Option.{none-some, same_Some}
 use borrow.Author.Count.{below_more}
 use Rattle.domains.specs.Greatest.{greatest}
-use Rattle.pipe_checks.specs.Search.{known_rank, SomeUnranked}
+use Rattle.pipe_checks.specs.inside.Search.{known_rank, SomeUnranked}
 use Rattle.pipe_checks.proofs.Ranking.{above_step, known_is, known_past, none_of_them}
 use Rattle.pipe_checks.proofs.ranks.rank_above.Goals as goal
 use Rattle.pipe_checks.proofs.ranks.rank_above.Goals.{in-Some-Some, in-None}

@@ -1,6 +1,6 @@
 use Rattle.std.proofs.Common.{ℕ, ◌<◌, ◌^◌, ◌+◌, max, ◌≡◌, Some, None, map, drop, get_or, slice_get}
 use Rattle.domains.specs.Greatest.{greatest}
-use Rattle.pipe_checks.specs.Search.{known_rank}
+use Rattle.pipe_checks.specs.inside.Search.{known_rank}
 use Rattle.pipe_checks.proofs.ranks.rank_above.Given as goal
 
 abbrev pub invariant-loop-stage : goal.invariant-loop-stage

@@ -2,7 +2,7 @@ use Rattle.std.proofs.Common.{ℕ, ◌≡◌, Option, Some, None, slice_get, sym
 use Rattle.std.proofs.lemmas.Option.{IfSome_then}
 use Rattle.std.specs.Global.{Vec}
 use Rattle.pipe_checks.specs.Graph.{links_at, IsAcyclic}
-use Rattle.pipe_checks.specs.Search.{known_rank, rank_over, SomeUnranked, AreRanked}
+use Rattle.pipe_checks.specs.inside.Search.{known_rank, rank_over, SomeUnranked, AreRanked}
 use Rattle.pipe_checks.proofs.Ranking.{ranked_more, ranked_fewer, ranked_start, ranking_of, stuck_is_cyclic}
 use Rattle.pipe_checks.proofs.Unknown.{none_then}
 use Rattle.domains.proofs.Places.{ok_then}

@@ -1,4 +1,4 @@
-use Rattle.pipe_checks.specs.Search.{AreRanked, unknowns}
+use Rattle.pipe_checks.specs.inside.Search.{AreRanked, unknowns}
 use Rattle.pipe_checks.proofs.ranks.ranks.Given as goal
 
 abbrev pub invariant-loop-stage : goal.invariant-loop-stage

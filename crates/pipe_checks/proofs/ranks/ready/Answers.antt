@@ -1,7 +1,7 @@
 use Rattle.std.proofs.Common.{None, arith, sym, subst}
 use Rattle.std.proofs.lemmas.Option.{slice_get_within}
 use borrow.Author.Count.{below_more}
-use Rattle.pipe_checks.specs.Search.{SomeUnranked}
+use Rattle.pipe_checks.specs.inside.Search.{SomeUnranked}
 use Rattle.pipe_checks.proofs.Unknown.{known_at}
 use Rattle.pipe_checks.proofs.Ranking.{links_read}
 use Rattle.pipe_checks.proofs.ranks.ready.Goals as goal

@@ -1,6 +1,6 @@
 use Rattle.std.proofs.Common.{ℕ, ◌<◌, ◌≡◌, Some, None, slice_get}
 use Rattle.pipe_checks.specs.Graph.{links_at}
-use Rattle.pipe_checks.specs.Search.{SomeUnranked}
+use Rattle.pipe_checks.specs.inside.Search.{SomeUnranked}
 use Rattle.pipe_checks.proofs.ranks.ready.Given as goal
 
 abbrev pub invariant-loop-stage : goal.invariant-loop-stage

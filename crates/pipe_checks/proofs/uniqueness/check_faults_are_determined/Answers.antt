@@ -1,5 +1,5 @@
 -- The first fault of each kind is one, and no two kinds stand together.
-use Rattle.pipe_checks.proofs.FirstFault.{one_fault, no_fault}
+use Rattle.pipe_checks.proofs.CheckFaultsAreDetermined.{one_fault, no_fault}
 use Rattle.pipe_checks.proofs.uniqueness.check_faults_are_determined.Goals as goal
 
 pub returns-clause-one : goal.returns-clause-one

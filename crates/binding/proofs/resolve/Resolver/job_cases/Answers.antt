@@ -4,8 +4,8 @@ use Rattle.std.proofs.lemmas.Option.{slice_get-map}
 use Rattle.domains.specs.declared.area.Area.{Area}
 use Rattle.domains.proofs.Places.{here_is, all_at}
 use Rattle.pipe_tree.specs.Tree.{branch, branches}
-use Rattle.binding.specs.Ranges.{IsRangedBranch, box_in}
-use Rattle.binding.specs.Resolving.{program_in, variables_in}
+use Rattle.binding.specs.inside.Ranges.{IsRangedBranch, box_in}
+use Rattle.binding.specs.inside.Resolving.{program_in, variables_in}
 use Rattle.binding.proofs.resolve.Resolver.job_cases.Goals as goal
 
 pub job_case-requires-clause-ranged : goal.job_case-requires-clause-ranged

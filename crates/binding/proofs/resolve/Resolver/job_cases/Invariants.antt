@@ -2,7 +2,7 @@ use Rattle.std.proofs.Common.{◌≡◌, map, take}
 use Rattle.pipe_tree.specs.Tree.{branches}
 use Rattle.binding.specs.Binding.{case_of}
 use Rattle.job.specs.Views.{case_view}
-use Rattle.binding.specs.Resolving.{program_in, variables_in}
+use Rattle.binding.specs.inside.Resolving.{program_in, variables_in}
 use Rattle.binding.proofs.resolve.Resolver.job_cases.Given as goal
 
 abbrev pub invariant-loop-number : goal.invariant-loop-number

@@ -2,7 +2,7 @@ use Rattle.std.proofs.Common.{◌≡◌, drop}
 use Rattle.std.specs.List.{flat_map}
 use Rattle.pipe_tree.specs.Tree.{declarations}
 use Rattle.binding.specs.Binding.{item_outputs}
-use Rattle.binding.specs.Resolving.{program_in}
+use Rattle.binding.specs.inside.Resolving.{program_in}
 use Rattle.binding.proofs.resolve.Resolver.output.Given as goal
 
 abbrev pub invariant-loop-item : goal.invariant-loop-item

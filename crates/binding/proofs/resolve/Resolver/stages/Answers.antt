@@ -3,8 +3,8 @@ use Rattle.std.specs.Option.{option_map}
 use Rattle.std.proofs.lemmas.Option.{slice_get-map}
 use Rattle.pipe_tree.specs.Tree.{declaration, declarations}
 use Rattle.domains.proofs.Places.{here_is}
-use Rattle.binding.specs.Ranges.{IsRangedItem, IsBoundItem}
-use Rattle.binding.specs.Resolving.{program_in}
+use Rattle.binding.specs.inside.Ranges.{IsRangedItem, IsBoundItem}
+use Rattle.binding.specs.inside.Resolving.{program_in}
 use Rattle.domains.proofs.Places.{all_at}
 use Rattle.binding.proofs.resolve.Resolver.stages.Goals as goal
 

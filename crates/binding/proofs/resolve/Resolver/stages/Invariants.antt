@@ -3,7 +3,7 @@ use Rattle.std.specs.List.{flat_map}
 use Rattle.pipe_tree.specs.Tree.{declarations}
 use Rattle.binding.specs.Binding.{item_stages}
 use Rattle.job.specs.Views.{stage_view}
-use Rattle.binding.specs.Resolving.{program_in}
+use Rattle.binding.specs.inside.Resolving.{program_in}
 use Rattle.binding.proofs.resolve.Resolver.stages.Given as goal
 
 abbrev pub invariant-loop-item : goal.invariant-loop-item

@@ -1,7 +1,7 @@
 use Rattle.std.proofs.Common.{◌≡◌, map, take}
 use Rattle.binding.specs.Binding.{test_of}
 use Rattle.job.specs.Views.{test_view}
-use Rattle.binding.specs.Resolving.{program_in, variables_in}
+use Rattle.binding.specs.inside.Resolving.{program_in, variables_in}
 use Rattle.binding.proofs.resolve.Resolver.tests.Given as goal
 
 abbrev pub invariant-loop-test : goal.invariant-loop-test

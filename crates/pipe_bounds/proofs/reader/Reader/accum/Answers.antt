@@ -4,7 +4,7 @@ use Rattle.pipe_tree.specs.Tree.{view}
 use Rattle.pipe_checks.specs.declared.access.Access.{Access}
 use Rattle.pipe_checks.specs.Accesses.{accesses_of}
 use Rattle.pipe_bounds.specs.InBounds.{whole_case}
-use Rattle.pipe_bounds.specs.Taken.{AreSound, AnswersReads}
+use Rattle.pipe_bounds.specs.inside.Taken.{AreSound, AnswersReads}
 use Rattle.pipe_bounds.proofs.Firsts.{one_case}
 use Rattle.pipe_bounds.specs.StageBounds.{domains_in}
 use Rattle.pipe_bounds.proofs.reader.Reader.accum.Goals as goal

@@ -1,7 +1,7 @@
 use Rattle.std.proofs.Common.{List, ◌∙◌, subst}
 use Rattle.domains.specs.Area.{HoldsPoint}
 use Rattle.pipe_checks.specs.declared.access.Access.{Access}
-use Rattle.pipe_bounds.specs.Taken.{AnswersReads}
+use Rattle.pipe_bounds.specs.inside.Taken.{AnswersReads}
 use Rattle.pipe_bounds.specs.StageBounds.{domains_in}
 use Rattle.pipe_bounds.proofs.reader.Reader.expr.Goals as goal
 

@@ -7,7 +7,7 @@ use Rattle.pipe_tree.specs.Tree.{view, branches, cases_of}
 use Rattle.pipe_bounds.specs.declared.fault.BoundFault.TheVariants.{Memory}
 use Rattle.pipe_checks.specs.Accesses.{accesses_of}
 use Rattle.pipe_bounds.specs.InBounds.{IsFirstCase, branch_case, whole_case, otherwise_cases}
-use Rattle.pipe_bounds.specs.Taken.{AreSoundCases, AnswersCases}
+use Rattle.pipe_bounds.specs.inside.Taken.{AreSoundCases, AnswersCases}
 use Rattle.pipe_bounds.proofs.Firsts.{cases_end, cases_more, front_fault, over_whole}
 use Rattle.domains.proofs.Places.{slice_get-end}
 use Rattle.pipe_bounds.specs.StageBounds.{AreBoxes, domains_in}

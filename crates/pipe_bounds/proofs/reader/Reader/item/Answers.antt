@@ -3,7 +3,7 @@ use Rattle.pipe_tree.specs.declared.tree.Item.{Item}
 use Rattle.pipe_tree.specs.Tree.{declaration}
 use Rattle.pipe_bounds.specs.InBounds.{item_cases}
 use Rattle.pipe_bounds.specs.StageBounds.{HasBoxes, domains_in}
-use Rattle.pipe_bounds.specs.Taken.{AreSoundCases, AnswersCases}
+use Rattle.pipe_bounds.specs.inside.Taken.{AreSoundCases, AnswersCases}
 use Rattle.pipe_bounds.proofs.reader.Reader.item.Goals as goal
 
 pub accum-requires-clause-sound : goal.accum-requires-clause-sound

@@ -21,7 +21,7 @@ use Rattle.pipe_checks.specs.Names.{stages_of}
 use Rattle.pipe_checks.specs.Accesses.{stage_read}
 use Rattle.pipe_bounds.specs.Within.{AllSet, IsFirstUnset, IsStageDomain, HaveDomains, IsFirstFaultyDomain}
 use Rattle.pipe_bounds.specs.InBounds.{ReadCase, IsInBox, TakesRow, TakesColumn, Stays, AllStay, StageStays, StaysAt, AreInBounds, StaysAlong, AreExtremes, Leaves, TellsRead, IsFirstRead, IsFirstCase, IsFirstStage, IsFirstDeparture, IsBoundFault, IsInBounds, stage_cases, scale_of}
-use Rattle.pipe_bounds.specs.Taken.{TellsDomain, domain_fault}
+use Rattle.pipe_bounds.specs.inside.Taken.{TellsDomain, domain_fault}
 use Rattle.pipe_bounds.proofs.OneDomain.{not_ok_and_err, same_area, same_fault}
 
 -- ---- lists

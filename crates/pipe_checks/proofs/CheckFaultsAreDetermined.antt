@@ -19,7 +19,7 @@ use Rattle.pipe_checks.specs.Graph.{IsShortestFrom, IsShortestCycle}
 use Rattle.pipe_checks.specs.Uses.{Verdict}
 use Rattle.pipe_checks.specs.Checking.{NoneTwice, IsFirstTwice, verdict_of, IsFirstWrong, is_result, IsNamed, IsFault, IsCheckedOf}
 use Rattle.pipe_checks.specs.declared.checked.Checked.{Checked}
-use Rattle.pipe_checks.specs.Search.{fault_of}
+use Rattle.pipe_checks.specs.inside.Search.{fault_of}
 use Rattle.pipe_checks.proofs.Rising.{no_ranked_cycle}
 
 -- ---- each fault by itself
