@@ -65,6 +65,7 @@ impl From<Error> for Refusal {
 /// What the words, without the program's own name, ask for. They are refused as usage only where they ask for nothing.
 pub fn request_of(alloc: Global, words: &[String]) -> Result<Request, Refusal>
     ensures asked { IfOk result (IsRequestOf words.now) }
+    ensures task { IfOk result (λ request. AsksFor words.now request.task) }
     ensures usage { IfErr result (λ refusal. refusal ≡ refusals.Usage
         → (request : RequestType) → ¬ IsRequestOf words.now request) }
 {
