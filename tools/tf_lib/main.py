@@ -15,7 +15,7 @@ from .running import Ended, run
 from .stages import stages_of
 from .text import Refused
 from .tune import tune
-from .usage import COMMANDS, DRAWING, OWN_OPTIONS, Command, help_text, valued
+from .usage import COMMANDS, DRAWING, OPTIONS, OWN_OPTIONS, Command, help_text, valued
 
 SETTING = re.compile(r"[^=]*=.*", re.S)
 OWN = {it.name: it.value for it in OWN_OPTIONS}
@@ -48,7 +48,7 @@ def asked(words: list[str]) -> Asked:
         if name in OWN:
             found.own[name] = own_value(name, value if is_joined else None, rest)
         elif name.startswith("--"):
-            found.words += [word, *([rest.pop(0)] if rest and not is_joined and valued().get(name) else [])]
+            found.words += [word, *([rest.pop(0)] if not is_joined and takes_next(name, rest) else [])]
         elif not found.name and "--join" not in found.own:
             found.name = word
         elif SETTING.fullmatch(word) and not os.path.exists(word):
@@ -56,6 +56,12 @@ def asked(words: list[str]) -> Asked:
         else:
             found.files.append(word)
     return found
+
+
+def takes_next(name: str, rest: list[str]) -> bool:
+    """Whether an option of the program takes the next word: by its name, or where nobody knows it and the word is a number."""
+    known = {it.name for it in OPTIONS}
+    return bool(rest) and (name in valued() if name in known else rest[0].isdigit())
 
 
 def own_value(name: str, joined_value: str | None, rest: list[str]) -> str:
