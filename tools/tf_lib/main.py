@@ -116,11 +116,11 @@ class Call:
 
     def perform(self) -> int:
         """Runs a command of the program, and puts what it writes where it belongs."""
-        if self.asked.name == "eval":
-            self.warn_of_samples()
         ended = self.run()
         if ended.status:
             return self.explain(ended)
+        if self.asked.name == "eval":
+            self.warn_of_samples()
         self.deliver(ended.written)
         return 0
 
