@@ -137,7 +137,9 @@ class Call:
     def deliver(self, written: bytes) -> None:
         """The picture goes to the file that is named, and lines behind it to standard output."""
         found = picture_of(written) if written.startswith((b"P5\n", b"P6\n")) else None
-        if self.asked.target is None:
+        if found and "--print" in self.asked.own:
+            give(found[0].numbers().encode() + found[1])
+        elif self.asked.target is None:
             if found and sys.stdout.isatty():
                 raise Refused("a picture would go to the terminal: name a file for it, as -o result.png", 1)
             give(written)

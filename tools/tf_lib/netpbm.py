@@ -57,6 +57,13 @@ class Picture:
             found.byteswap()
         return found
 
+    def numbers(self) -> str:
+        """Its samples in decimal digits, a row of points a line, in columns."""
+        every, width = self.samples(), len(str(max(self.samples())))
+        length = self.cols * self.parts
+        rows = (every[at : at + length] for at in range(0, len(every), length))
+        return "".join(" ".join(str(it).rjust(width) for it in row) + "\n" for row in rows)
+
     def scaled(self, most: int) -> "Picture":
         """The same picture with another greatest sample: each sample times the new one, divided by the old, rounded."""
         if most == self.most:

@@ -62,6 +62,7 @@ DRAWING = {
 OWN_OPTIONS = (
     Option("-o", "FILE", "where the picture goes (.png, .pgm, .ppm; .jpg and .tif through another tool), or the drawing or the joined "
            "input; it takes its name only when all went well"),
+    Option("--print", "", "prints the samples of the result as rows of numbers, and writes no picture"),
     Option("--grey", "", "makes one grey plane of a picture in colours, before the program sees it"),
     Option("--time", "", "tells how long the program ran"),
     Option("--memory", "", "tells how much memory the program held at most"),
