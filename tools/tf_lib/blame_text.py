@@ -49,7 +49,7 @@ def unexpected(found: re.Match[str], at: Situation) -> Blame:
     place = text.place(offset, len(here.text))
     if here.kind == "end":
         return Blame([place], ends_early(before))
-    return Blame([place], not_here(here, before, wanted_at(text.data, offset)))
+    return Blame([place], not_here(here, before, wanted_at(given, offset)))
 
 
 def tokens_before(data: bytes, offset: int) -> list[Token]:
@@ -72,10 +72,10 @@ def open_marks(before: list[Token]) -> int:
     return sum((it.text in "([{") - (it.text in ")]}") for it in before if it.kind == "mark")
 
 
-def wanted_at(data: bytes, offset: int) -> tuple[str, ...]:
+def wanted_at(given: list[Token], offset: int) -> tuple[str, ...]:
     """What could stand at an offset, as far as the grammar's descent tells it."""
     try:
-        Parser(tokens(data)).program()
+        Parser([*given, Token("end", "", given[-1].end if given else 0)]).program()
     except Unreadable as fault:
         return fault.wanted if fault.token.offset == offset else ()
     return ()
@@ -92,6 +92,12 @@ def not_here(here: Token, before: list[Token], wanted: tuple[str, ...]) -> str:
         return f"{here.text} is a word of the language, and names nothing: choose another name."
     if here.text == "case" and last == ";":
         return "else is the last case: put this case before it."
+    if here.text == "else" and last == ";":
+        return "A function has one else: take one of the two out."
+    if here.text == "/" and len(before) > 1 and before[-1].kind == "number" and before[-2].text in ("+", "-"):
+        return "Where an index adds and divides, the sum stands in parentheses: (x+1)/2."
+    if wanted == ("/",):
+        return "Parentheses in an index stand before a divisor alone: write x+1, or (x+1)/2."
     if here.text == "or":
         return "There is no or: write a case for each of the two, with the same expression."
     if wanted:

@@ -197,9 +197,11 @@ class Parser:
         self.take(";")
 
     def image_item(self) -> None:
-        self.item.names = self.parted(self.name)
+        self.item.names = self.one_or_three()
         self.take("(")
-        self.item.extents = self.parted(self.affine)
+        self.item.extents = [self.affine()]
+        self.take(",")
+        self.item.extents.append(self.affine())
         self.take(")")
         self.take(";")
 
@@ -240,15 +242,25 @@ class Parser:
         self.end_case(word.offset)
 
     def output_item(self) -> None:
-        self.item.names = self.parted(self.name)
+        self.item.names = self.one_or_three()
         self.item.uses += [Use("function", it) for it in self.item.names]
         self.take("max")
         self.item.most = self.literal(1, 65535)
         self.take(";")
 
+    def one_or_three(self) -> list[Token]:
+        """A name, or three with commas between them."""
+        found = [self.name()]
+        while len(found) < 3 and self.peek().text == "," or len(found) == 2:
+            self.take(",")
+            found.append(self.name())
+        return found
+
     def both_variables(self) -> None:
         self.take("(")
-        self.parted(self.variable)
+        self.variable()
+        self.take(",")
+        self.variable()
         self.take(")")
 
     def variable(self) -> None:
@@ -368,7 +380,9 @@ class Parser:
             self.literal(0, 4096)
         if grouped:
             self.take(")")
-        if self.takes("/"):
+            self.take("/")
+            self.literal(1, 16)
+        elif self.takes("/"):
             self.literal(1, 16)
         return self.span_from(start)
 
