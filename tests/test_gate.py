@@ -30,8 +30,8 @@ STUBS = {
     "tests/test_gate.py": "echo '1 passed, 0 failed'",
     "tests/run_cases": "cat \"$1\"\necho '6 passed, 1 failed'\nexit 1",
     "examples/expected": "exit 0",
-    **{it: "echo '1 passed, 0 failed'" for it in ("tests/test_pages", "tools/make_usage", "tests/test_tf", "tests/test_errors", "tests/test_guide",
-                                                  "docs/gallery/make")},
+    **{it: "echo '1 passed, 0 failed'" for it in ("tests/test_pages", "tools/make_usage", "tests/test_tf", "tests/test_errors",
+                                                  "tests/test_guide", "docs/gallery/make")},
     "examples/show": "echo 'a difference'\nexit 3",
 }
 

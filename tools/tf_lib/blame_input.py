@@ -100,6 +100,7 @@ def sample_place(place: Place) -> Place | str:
     if head and head.is_raw and place.offset >= head.end:
         width = head.parts * (1 if head.most < 256 else 2)
         point = (place.offset - head.end) // width
-        where = f"row {point // head.cols}, column {point % head.cols}, both from 0" if point < head.rows * head.cols else "behind the last point"
+        is_inside = point < head.rows * head.cols
+        where = f"row {point // head.cols}, column {point % head.cols}, both from 0" if is_inside else "behind the last point"
         return f"{place.text.name}: byte {place.offset} of the picture ({where})"
     return place

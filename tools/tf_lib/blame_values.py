@@ -80,7 +80,8 @@ def empty_domain(found: re.Match[str], at: Situation) -> Blame:
     if item is None or ends is None:
         return Blame(declared(found["name"], at), f"{found['name']} has no points: its intervals have to hold a number at least.")
     has = f"[{ends.low} .. {ends.high}]" if item.kind != "image" else str(ends.high + 1)
-    cure = f"The {ends.counts} of {found['name']} are {has}{at_values(at)}, which is none: the picture is too small for it, or the ends are crossed."
+    cure = (f"The {ends.counts} of {found['name']} are {has}{at_values(at)}, which is none: the picture is too small for it, "
+            "or the ends are crossed.")
     return Blame([at.text().place(ends.start, ends.length)], cure)
 
 

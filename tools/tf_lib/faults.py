@@ -7,6 +7,7 @@ from . import blame_text as of_text
 from . import blame_values as of_values
 from .blame import Blame, Situation
 
+GIVEN = r" (?P<name>.*)"
 OFFSET, ITEM, NAME = r" at (?P<at>\d+)", r" item (?P<item>\d+)", r" (?P<name>\S+)"
 READ = NAME + r" case (?P<case>\d+) read (?P<read>\d+) (?P<axis>rows|columns) least (?P<least>-?\d+) greatest (?P<greatest>-?\d+)"
 TABLE: dict[str, Callable[[re.Match[str], Situation], Blame]] = {
@@ -16,8 +17,8 @@ TABLE: dict[str, Callable[[re.Match[str], Situation], Blame]] = {
     r"input failed": of_input.input_failed,
     r"memory": of_input.memory,
     r"picture: \d+ (?P<fault>\w+)" + OFFSET: of_input.picture,
-    r"parameter: 1 NoSuchParam" + NAME: of_values.no_such_param,
-    r"parameter: 2 SetTwice" + NAME: of_values.set_twice,
+    r"parameter: 1 NoSuchParam" + GIVEN: of_values.no_such_param,
+    r"parameter: 2 SetTwice" + GIVEN: of_values.set_twice,
     r"program: 1 NotAscii" + OFFSET: of_text.not_ascii,
     r"program: 2 BadToken" + OFFSET: of_text.bad_token,
     r"program: 3 Unexpected" + OFFSET: of_text.unexpected,
@@ -46,7 +47,7 @@ TABLE: dict[str, Callable[[re.Match[str], Situation], Blame]] = {
 def explained(line: str, situation: Situation) -> list[str]:
     """The fault line, the places that it blames with their lines, and one sentence of cure."""
     for pattern, blame in TABLE.items():
-        found = re.fullmatch(pattern, line)
+        found = re.fullmatch(pattern, line, re.S)
         if found:
             return [line, *blame(found, situation).lines()]
     return [line]

@@ -104,7 +104,8 @@ def dot(stages: dict[str, Stage]) -> bytes:
     lines = ["digraph stages {", "  node [shape=box, style=filled, fontname=Helvetica];"]
     for name in [it for it in stages if home[it] == it]:
         members = [it for it in stages.values() if home[it.name] == name]
-        lines += [f"  subgraph cluster_{name} {{ style=dashed;", *map(dot_stage, members), "  }"] if len(members) > 1 else map(dot_stage, members)
+        frame = (f"  subgraph cluster_{name} {{ style=dashed;", "  }") if len(members) > 1 else ()
+        lines += [*frame[:1], *map(dot_stage, members), *frame[1:]]
     lines += [f"  {read} -> {it.name};" for it in stages.values() for read in it.reads]
     return "\n".join([*lines, "}", ""]).encode()
 

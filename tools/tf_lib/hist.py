@@ -14,7 +14,8 @@ def chosen(lines: str, name: str | None) -> re.Match[str]:
     found = [it for it in map(LINE.fullmatch, lines.splitlines()) if it]
     wanted = [it for it in found if name in (None, it[1])]
     if not wanted:
-        raise Refused(f"there is no accumulator{f' {name}' if name else ''} to draw; there are: {', '.join(it[1] for it in found) or 'none'}", 1)
+        asked_for, there = f" {name}" if name else "", ", ".join(it[1] for it in found) or "none"
+        raise Refused(f"there is no accumulator{asked_for} to draw; there are: {there}", 1)
     return wanted[0]
 
 

@@ -1,11 +1,10 @@
 """From the user's files to the input of `tilefarm`: the program, a line `%%`, and the picture."""
-import os
 import sys
 import tempfile
 from dataclasses import dataclass
 
 from . import converters, png
-from .netpbm import Header, header_of
+from .netpbm import Header, header_of, picture_of
 from .text import Refused, Text, content
 from .usage import Command
 
@@ -91,8 +90,7 @@ def picture_section(path: str, grey: bool, said: list[str]) -> Section:
 
 
 def own_picture(path: str, data: bytes, grey: bool) -> Section:
-    from .netpbm import picture_of
-
+    """A PGM or PPM picture as it stands, and one in colours made grey where that is asked."""
     found = picture_of(data) if grey else None
     if found is None or found[0].parts == 1:
         return Section(Text(path, data), data)
@@ -116,26 +114,3 @@ def whole_input(command: Command, path: str) -> Input:
             break
         at = end + len(SEPARATOR)
     return Input(sections, data)
-
-
-def put(path: str, data: bytes) -> None:
-    """Writes a file that takes its name once all of it is there."""
-    folder, name = os.path.split(os.path.abspath(path))
-    try:
-        handle, made = tempfile.mkstemp(prefix=f".{name}.", dir=folder)
-        try:
-            with os.fdopen(handle, "wb") as file:
-                file.write(data)
-            os.chmod(made, 0o666 & ~umask())
-            os.replace(made, path)
-        except BaseException:
-            os.unlink(made)
-            raise
-    except OSError as error:
-        raise Refused(f"{path}: {error.strerror}", 4) from error
-
-
-def umask() -> int:
-    now = os.umask(0)
-    os.umask(now)
-    return now
