@@ -8,7 +8,7 @@ class Drawing:
     """Shapes in the order in which they are drawn, on a white ground."""
 
     def __init__(self, width: float, height: float):
-        self.width, self.height, self.shapes = width, height, []
+        self.left, self.width, self.height, self.shapes = 0.0, width, height, []
 
     def box(self, x: float, y: float, width: float, height: float, fill: str, line: str = "#444", dash: str = "") -> None:
         dashes = f" stroke-dasharray='{dash}'" if dash else ""
@@ -30,6 +30,11 @@ class Drawing:
         self.shapes.append(f"<path d='M{x:g},{y:g} C{x:g},{y + bend:g} {to_x:g},{to_y - bend:g} {to_x:g},{to_y:g}' fill='none' "
                            "stroke='#666' marker-end='url(#tip)'/>")
 
+    def way(self, points: list[tuple[float, float]]) -> None:
+        """Straight lines from point to point, with a tip at the last."""
+        through = " ".join(f"{x:g},{y:g}" for x, y in points)
+        self.shapes.append(f"<polyline points='{through}' fill='none' stroke='#999' marker-end='url(#tip)'/>")
+
     def line(self, x: float, y: float, to_x: float, to_y: float) -> None:
         self.shapes.append(f"<line x1='{x:g}' y1='{y:g}' x2='{to_x:g}' y2='{to_y:g}' stroke='#444'/>")
 
@@ -37,6 +42,6 @@ class Drawing:
         tip = ("<defs><marker id='tip' viewBox='0 0 8 8' refX='8' refY='4' markerWidth='7' markerHeight='7' orient='auto'>"
                "<path d='M0,0 L8,4 L0,8 z' fill='#666'/></marker></defs>")
         head = (f"<svg xmlns='http://www.w3.org/2000/svg' width='{self.width:g}' height='{self.height:g}' "
-                f"viewBox='0 0 {self.width:g} {self.height:g}'>")
-        ground = "<rect width='100%' height='100%' fill='white'/>"
+                f"viewBox='{self.left:g} 0 {self.width:g} {self.height:g}'>")
+        ground = f"<rect x='{self.left:g}' width='100%' height='100%' fill='white'/>"
         return "\n".join([head, tip, ground, *self.shapes, "</svg>", ""]).encode()
