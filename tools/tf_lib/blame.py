@@ -4,7 +4,8 @@ from functools import cached_property
 from typing import NamedTuple
 
 from .joining import Input
-from .program import Program, known_program
+from .parser import known_program
+from .program import Program
 from .settings import given_values, settings
 from .text import Place, Text
 

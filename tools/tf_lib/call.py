@@ -7,7 +7,7 @@ from .faults import explained
 from .joining import Input, joined
 from .netpbm import picture_of
 from .output import PICTURES, encoded, ending, give, put, tell
-from .program import known_program
+from .parser import known_program
 from .running import Ended, run
 from .stages import stages_of
 from .text import Refused

@@ -2,8 +2,9 @@
 import re
 from typing import Callable
 
+from . import blame_grammar as of_text
 from . import blame_input as of_input
-from . import blame_text as of_text
+from . import blame_names as of_names
 from . import blame_values as of_values
 from .blame import Blame, Situation
 
@@ -26,13 +27,13 @@ TABLE: dict[str, Callable[[re.Match[str], Situation], Blame]] = {
     r"program: 5 TooDeep" + OFFSET: of_text.too_deep,
     r"program: 6 TooLong" + OFFSET: of_text.too_long,
     r"program: 7 TooMany" + OFFSET: of_text.too_many,
-    r"check: 1 Unknown" + ITEM: of_text.unknown,
-    r"check: 2 Twice" + ITEM: of_text.twice,
-    r"check: 3 Kind" + ITEM: of_text.kind,
-    r"check: 4 BadKernel" + ITEM: of_text.bad_kernel,
-    r"check: 5 BadLiteral" + ITEM: of_text.bad_literal,
-    r"check: 6 NoResult": of_text.no_result,
-    r"check: 7 Cycle(?P<names>( \S+)+)": of_text.cycle,
+    r"check: 1 Unknown" + ITEM: of_names.unknown,
+    r"check: 2 Twice" + ITEM: of_names.twice,
+    r"check: 3 Kind" + ITEM: of_names.kind,
+    r"check: 4 BadKernel" + ITEM: of_names.bad_kernel,
+    r"check: 5 BadLiteral" + ITEM: of_names.bad_literal,
+    r"check: 6 NoResult": of_names.no_result,
+    r"check: 7 Cycle(?P<names>( \S+)+)": of_names.cycle,
     r"bounds: 1 ParamUnset" + NAME: of_values.unset,
     r"bounds: 2 EmptyDomain" + NAME: of_values.empty_domain,
     r"bounds: 3 DomainTooWide" + NAME: of_values.domain_too_wide,
