@@ -8,7 +8,8 @@ from .program import Affine, Case, Interval, Item, Kernel, Number, Program, Read
 from .tokens import Token, Unreadable, tokens
 
 MOST = 2147483647
-LEVELS = ("min", "max", "abs", "clamp", "select")
+# the words of expressions that take parentheses, and how many expressions stand behind the first (of select behind the condition)
+CALLS = {"min": 1, "max": 1, "abs": 0, "clamp": 2, "select": 2}
 
 
 def program_of(data: bytes) -> Program:
@@ -228,7 +229,7 @@ class Parser:
         it = self.peek()
         if it.kind == "number":
             self.number()
-        elif it.text == "(" or it.text in LEVELS or it.text == "stencil" or it.kind == "name":
+        elif it.text == "(" or it.text in CALLS or it.text == "stencil" or it.kind == "name":
             self.built(self.take())
         else:
             raise Unreadable(it, ("an expression",))
@@ -238,7 +239,7 @@ class Parser:
         if it.text == "(":
             self.expression()
             self.take(")")
-        elif it.text in LEVELS:
+        elif it.text in CALLS:
             self.call(it)
         elif it.text == "stencil":
             self.stencil(it)
@@ -251,7 +252,8 @@ class Parser:
         if word.text == "select":
             self.take("<=", ">=", "==")
             self.expression()
-        while self.takes(","):
+        for _ in range(CALLS[word.text]):
+            self.take(",")
             self.expression()
         self.take(")")
 
