@@ -1,4 +1,4 @@
-.PHONY: build cases check demo edits test
+.PHONY: build cases check demo edits test tools
 program := crates/tilefarm/out/tilefarm
 
 # Evaluates the edge detector on its picture, without any proof, and shows the program, the picture and the result.
@@ -34,6 +34,10 @@ build:
 # The conformance cases, on the program that stands built.
 cases: | $(program)
 	@tests/run_cases $(program)
+
+# What stands round the program, on the one that stands built: tf, the pages, the errors' texts, the guide and the gallery.
+tools: | $(program)
+	@tests/test_pages && tools/make_usage --check && tests/test_tf && tests/test_errors && tests/test_guide && docs/gallery/make --check
 
 $(program):
 	@tests/build

@@ -185,10 +185,16 @@ def steps(clone: str, times: Times) -> list[Step]:
         done.append(bodies.step(time.monotonic() - began))
     done.append(run("tests of the runner", clone, ["tests/test_run_edits.py"]))
     done.append(run("tests of the gate", clone, ["tests/test_gate.py"]))
+    done.append(run("pages", clone, ["tests/test_pages"]))
+    done.append(run("tables, man pages, completions", clone, ["tools/make_usage", "--check"]))
     if not done[0].failed:
         done.append(run("conformance cases", clone, ["tests/run_cases", *PROGRAMS]))
         done.append(run("results of the examples", clone, ["examples/expected"]))
         done.append(run("page of the examples", clone, ["examples/show", "--check", BUILT]))
+        done.append(run("tests of tf", clone, ["tests/test_tf", BUILT]))
+        done.append(run("texts of the errors", clone, ["tests/test_errors", BUILT]))
+        done.append(run("commands of the guide", clone, ["tests/test_guide", BUILT]))
+        done.append(run("gallery", clone, ["docs/gallery/make", "--check", BUILT]))
     return done
 
 
@@ -224,7 +230,7 @@ def main() -> int:
     tell("== gate: step by step", *(it.line() for it in done), f"gate: {minutes(time.monotonic() - began)} by the clock in all")
     failed = sum(it.failed for it in done)
     if done[0].failed:
-        tell("gate: not tried, since a proof failed: wrong bodies, conformance cases, examples")
+        tell("gate: not tried, since a proof failed: wrong bodies, conformance cases, examples, tf, errors, guide, gallery")
     tell(f"{sum(it.passed for it in done)} passed, {failed} failed")
     return 1 if failed else 0
 

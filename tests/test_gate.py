@@ -37,6 +37,8 @@ STUBS = {
     "tests/test_gate.py": "echo '1 passed, 0 failed'",
     "tests/run_cases": "cat \"$1\"\necho '6 passed, 1 failed'\nexit 1",
     "examples/expected": "exit 0",
+    **{it: "echo '1 passed, 0 failed'" for it in ("tests/test_pages", "tools/make_usage", "tests/test_tf", "tests/test_errors",
+                                                  "tests/test_guide", "docs/gallery/make")},
     "examples/show": "echo 'a difference'\nexit 3",
 }
 
@@ -80,8 +82,8 @@ class Gate(unittest.TestCase):
         write(f"{self.top}/crates/small/src/lib.rt", "changed")
         status, lines = self.gate(PROVES)
         self.assertEqual(status, 1)
-        # proofs 3, edits 3, tests 5 and 1, cases 6 and one that fails, the results 1, and the page fails
-        self.assertEqual(lines[-1], "19 passed, 2 failed")
+        # proofs 3, edits 3, tests 5 and 1, cases 6 and one that fails, the results 1, the page fails, and six steps of one
+        self.assertEqual(lines[-1], "25 passed, 2 failed")
         self.assertIn("gate: HEAD is judged, and not these changes, which are not committed:", lines)
         self.assertIn(" M crates/small/src/lib.rt", lines)
         self.assertIn("small 0:01 1 of 1 2 1:01 0:30", [" ".join(it.split()) for it in lines])
@@ -95,8 +97,8 @@ class Gate(unittest.TestCase):
     def test_without_the_proofs_nothing_stands_on_them(self):
         status, lines = self.gate(REFUSES)
         self.assertEqual(status, 1)
-        self.assertEqual(lines[-1], "7 passed, 1 failed")
-        self.assertIn("gate: not tried, since a proof failed: wrong bodies, conformance cases, examples", lines)
+        self.assertEqual(lines[-1], "9 passed, 1 failed")
+        self.assertIn("gate: not tried, since a proof failed: wrong bodies, conformance cases, examples, tf, errors, guide, gallery", lines)
         self.assertFalse(os.path.exists(f"{self.top}/crates/tilefarm/out"))
 
     def test_a_missing_tool_is_named_at_once(self):

@@ -1,0 +1,12 @@
+# completion of tf for bash: source this file
+_tf() {
+  local word=${COMP_WORDS[COMP_CWORD]}
+  if [[ $word == -* ]]; then
+    COMPREPLY=($(compgen -W "--rows --cols --percent --stored -o --print --grey --time --memory --join --of --rounds --help" -- "$word"))
+  elif [[ $COMP_CWORD == 1 ]]; then
+    COMPREPLY=($(compgen -W "eval check plan graph hist tune" -- "$word"))
+  else
+    COMPREPLY=($(compgen -f -- "$word"))
+  fi
+}
+complete -o filenames -F _tf tf

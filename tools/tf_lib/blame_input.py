@@ -1,0 +1,106 @@
+"""Faults of the words, of the input as a whole, and of the picture."""
+import re
+
+from .blame import Blame, Situation
+from .netpbm import header_of
+from .text import Place
+from .usage import COMMANDS, OPTIONS
+
+RANGES = {"--rows": (1, 1024), "--cols": (1, 1024), "--percent": (0, 10000)}
+PICTURE_CURES = {
+    "OtherFormat": "This is no picture that tf knows: PGM and PPM begin with P2, P3, P5 or P6, and PNG, JPEG and TIFF are converted.",
+    "HeaderCut": "The file ends inside its header: kind, width, height, greatest sample, and one white byte.",
+    "BadNumber": "Here a number in decimal digits, white space or (in the header) a comment may stand, and nothing else.",
+    "BadSize": "Width and height are 1 to 4096: make the picture smaller, for example by magick IN -resize 4096x4096 OUT.",
+    "BadMax": "The greatest sample is 1 to 65535.",
+    "CommentBehindDigit": "No comment stands directly behind the greatest sample: put it before that number.",
+    "RasterCut": "The file ends before its last sample: it was cut off, or its width or height is wrong.",
+    "SampleTooBig": "This sample is above the greatest sample of the header: raise that number, or lower the sample.",
+    "TrailingBytes": "The picture is complete before this byte: take the rest out, or mend width and height.",
+}
+
+
+def usage(found: re.Match[str], at: Situation) -> Blame:
+    word, cure = refused_word(at.words)
+    return Blame([at.word(word)] if word else [], cure)
+
+
+def refused_word(words: list[str]) -> tuple[str, str]:
+    """The first word that the program refuses, and what would be right."""
+    if not words or words[0] not in COMMANDS:
+        return (words[0] if words else ""), f"The first word is a command: {', '.join(COMMANDS)}."
+    rest, seen = list(words[1:]), set()
+    while rest:
+        word = rest.pop(0)
+        name, is_joined, joined = word.partition("=")
+        if name.startswith("--"):
+            fault = option_fault(name, joined if is_joined else None, rest, seen)
+            if fault:
+                return word, fault
+        elif not is_joined:
+            return word, "A word that is no option gives a parameter its value, as R=8."
+        elif not is_value(joined):
+            return word, "A value is an optional - and digits, from -2147483648 to 2147483647."
+    return "", "See tf --help for what a command takes."
+
+
+def option_fault(name: str, value: str | None, rest: list[str], seen: set[str]) -> str:
+    """What is wrong with an option, if something is. Its value is taken from the words behind it."""
+    known = {it.name: it.value for it in OPTIONS}
+    if name not in known:
+        return f"There is no option {name}: there are {', '.join(known)}."
+    if name in seen:
+        return f"{name} is given twice: take one out."
+    seen.add(name)
+    if not known[name]:
+        return f"{name} takes no value." if value is not None else ""
+    value = rest.pop(0) if value is None and rest else value
+    least, most = RANGES.get(name, (0, 4294967295))
+    right = value is not None and value.isdigit() and least <= int(value) <= most
+    return "" if right else f"{name} takes a number from {least} to {most}, in digits alone."
+
+
+def is_value(text: str) -> bool:
+    digits = text.removeprefix("-")
+    return digits.isascii() and digits.isdigit() and -(2**31) <= int(text) < 2**31
+
+
+def no_separator(found: re.Match[str], at: Situation) -> Blame:
+    name = at.text().name
+    cure = f"The input has no line that is exactly %%: name the picture behind the program, as tf eval {name} photo.png."
+    return Blame([at.text().place(len(at.text().data))], cure)
+
+
+def input_too_long(found: re.Match[str], at: Situation) -> Blame:
+    return Blame([], "An input has at most 536,870,912 bytes: take a smaller picture, or a raw one in place of a plain one.")
+
+
+def input_failed(found: re.Match[str], at: Situation) -> Blame:
+    return Blame([], "Standard input could not be read to its end: is it a file that can be read?")
+
+
+def memory(found: re.Match[str], at: Situation) -> Blame:
+    return Blame([], "Memory ran out: end other programs, or take a smaller picture; without --stored less is held at once.")
+
+
+def picture(found: re.Match[str], at: Situation) -> Blame:
+    section = at.input.section("picture")
+    cure = PICTURE_CURES.get(found["fault"], "")
+    if section is None:
+        return Blame([], cure)
+    if not section.is_own:
+        return Blame([section.text.name], f"{cure} (This picture was converted; the offset counts in the PGM or PPM that was made.)")
+    return Blame([sample_place(section.text.place(int(found["at"])))], cure)
+
+
+def sample_place(place: Place) -> Place | str:
+    """The place in a header or a plain raster; of a raw raster the byte and its point, as lines mean nothing there."""
+    data = place.text.data
+    head = header_of(data)
+    if head and head.is_raw and place.offset >= head.end:
+        width = head.parts * (1 if head.most < 256 else 2)
+        point = (place.offset - head.end) // width
+        is_inside = point < head.rows * head.cols
+        where = f"row {point // head.cols}, column {point % head.cols}, both from 0" if is_inside else "behind the last point"
+        return f"{place.text.name}: byte {place.offset} of the picture ({where})"
+    return place

@@ -1,0 +1,108 @@
+"""PGM and PPM pictures, as far as tf needs them: their header, and the samples of raw ones."""
+import re
+from array import array
+from dataclasses import dataclass
+from typing import NamedTuple
+import sys
+
+GAP = rb"(?:[ \t\r\n]|#[^\r\n]*[\r\n])+"
+HEADER = re.compile(rb"P([2356])" + GAP + rb"([0-9]+)" + GAP + rb"([0-9]+)" + GAP + rb"([0-9]+)[ \t\r\n]")
+MOST_SIDE = 4096
+
+
+class Header(NamedTuple):
+    """What stands before a raster, and where that begins."""
+
+    is_raw: bool
+    parts: int
+    cols: int
+    rows: int
+    most: int
+    end: int
+
+    def length(self) -> int:
+        """The bytes of a raw raster."""
+        return self.cols * self.rows * self.parts * (1 if self.most < 256 else 2)
+
+
+def header_of(data: bytes) -> Header | None:
+    """The header, where the bytes begin with one."""
+    found = HEADER.match(data)
+    if not found:
+        return None
+    kind, cols, rows, most = (int(found[at]) for at in (1, 2, 3, 4))
+    return Header(kind > 3, 3 if kind in (3, 6) else 1, cols, rows, most, found.end())
+
+
+@dataclass
+class Picture:
+    """Samples row by row, one or three a point; a sample is a byte, or two where `most` is 256 or more."""
+
+    cols: int
+    rows: int
+    parts: int
+    most: int
+    raster: bytes
+
+    def raw(self) -> bytes:
+        """The picture as `tilefarm` writes pictures."""
+        return b"P%d\n%d %d\n%d\n" % (5 if self.parts == 1 else 6, self.cols, self.rows, self.most) + self.raster
+
+    def samples(self) -> array:
+        """Its samples as numbers."""
+        if self.most < 256:
+            return array("B", self.raster)
+        found = array("H", self.raster)
+        if sys.byteorder == "little":
+            found.byteswap()
+        return found
+
+    def numbers(self) -> str:
+        """Its samples in decimal digits, a row of points a line, in columns."""
+        every, width = self.samples(), len(str(max(self.samples())))
+        length = self.cols * self.parts
+        rows = (every[at : at + length] for at in range(0, len(every), length))
+        return "".join(" ".join(str(it).rjust(width) for it in row) + "\n" for row in rows)
+
+    def scaled(self, most: int) -> "Picture":
+        """The same picture with another greatest sample: each sample times the new one, divided by the old, rounded."""
+        if most == self.most:
+            return self
+        table = [(value * most + self.most // 2) // self.most for value in range(self.most + 1)]
+        return Picture(self.cols, self.rows, self.parts, most, bytes_of([table[it] for it in self.samples()], most))
+
+    def grey(self) -> "Picture":
+        """One plane of three: 299 parts of red, 587 of green and 114 of blue in a thousand, rounded."""
+        if self.parts == 1:
+            return self
+        every = self.samples()
+        points = zip(every[0::3], every[1::3], every[2::3])
+        return Picture(self.cols, self.rows, 1, self.most,
+                       bytes_of([(299 * r + 587 * g + 114 * b + 500) // 1000 for r, g, b in points], self.most))
+
+
+def bytes_of(samples: list[int], most: int) -> bytes:
+    """Samples as a raster."""
+    if most < 256:
+        return bytes(samples)
+    found = array("H", samples)
+    if sys.byteorder == "little":
+        found.byteswap()
+    return found.tobytes()
+
+
+def picture_of(data: bytes) -> tuple[Picture, bytes] | None:
+    """The raw or plain picture that the bytes begin with, and what stands behind a raw one."""
+    head = header_of(data)
+    if head is None:
+        return None
+    if head.is_raw:
+        raster, rest = data[head.end : head.end + head.length()], data[head.end + head.length() :]
+    else:
+        words = data[head.end :].split()
+        if not all(it.isdigit() and int(it) <= head.most for it in words):
+            return None
+        raster, rest = bytes_of([int(it) for it in words], head.most), b""
+    if len(raster) != head.length():
+        return None
+    return Picture(head.cols, head.rows, head.parts, head.most, raster), rest

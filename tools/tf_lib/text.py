@@ -1,0 +1,90 @@
+"""Files as a person sees them: lines and columns, and the line with a mark below it."""
+from dataclasses import dataclass
+from pathlib import Path
+
+WIDEST = 100
+
+
+class Refused(Exception):
+    """tf itself cannot go on: what it says to the user, and the status that it ends with."""
+
+    def __init__(self, message: str, status: int = 2):
+        super().__init__(message)
+        self.status = status
+
+
+def content(path: str) -> bytes:
+    """The bytes of a file."""
+    try:
+        return Path(path).read_bytes()
+    except OSError as error:
+        raise Refused(f"{path}: {error.strerror}") from error
+
+
+@dataclass(frozen=True)
+class Text:
+    """A text of a file. `first` is where it begins in that file, for the texts that are parts of one."""
+
+    name: str
+    data: bytes
+    first: int = 0
+    whole: bytes | None = None
+
+    def place(self, offset: int, length: int = 1) -> "Place":
+        """The place of so many bytes of this text."""
+        return Place(self, min(offset, len(self.data)), max(length, 1))
+
+
+@dataclass(frozen=True)
+class Place:
+    """Where something stands: lines and columns count from 1, and columns count characters."""
+
+    text: Text
+    offset: int
+    length: int = 1
+
+    def bytes_of_file(self) -> tuple[bytes, int]:
+        """The bytes of the whole file, and the offset there."""
+        whole = self.text.data if self.text.whole is None else self.text.whole
+        return whole, self.text.first + self.offset
+
+    def line_start(self) -> int:
+        """Where the line begins. The end of a text that ends in LF belongs to its last line."""
+        whole, at = self.bytes_of_file()
+        if self.offset == len(self.text.data) and at > 0 and whole[at - 1 : at] == b"\n":
+            at -= 1
+        return whole.rfind(b"\n", 0, at) + 1
+
+    def line(self) -> str:
+        """The line of the place, without its end."""
+        whole, _ = self.bytes_of_file()
+        start = self.line_start()
+        end = whole.find(b"\n", start)
+        return shown(whole[start : len(whole) if end < 0 else end].rstrip(b"\r"))
+
+    def column(self) -> int:
+        """The column, from 1."""
+        whole, at = self.bytes_of_file()
+        start = self.line_start()
+        end = whole.find(b"\n", start)
+        return len(shown(whole[start : min(at, len(whole) if end < 0 else end)])) + 1
+
+    def spot(self) -> str:
+        """`file:line:column`."""
+        whole, _ = self.bytes_of_file()
+        number = whole.count(b"\n", 0, self.line_start()) + 1
+        return f"{self.text.name}:{number}:{self.column()}"
+
+    def drawing(self) -> list[str]:
+        """The spot, the line, and a caret below the place."""
+        line, column = self.line(), self.column() - 1
+        start = max(0, column - WIDEST // 2) if len(line) > WIDEST else 0
+        part = line[start : start + WIDEST]
+        length = max(1, min(self.length, len(part) - (column - start)))
+        return [self.spot(), f"    {part}", f"    {' ' * (column - start)}{'^' * length}"]
+
+
+def shown(data: bytes) -> str:
+    """Bytes as characters, one each where they are ASCII: a TAB as a blank, what cannot be printed as `?`."""
+    text = data.decode("utf-8", "replace")
+    return "".join(it if it.isprintable() else " " if it == "\t" else "?" for it in text)

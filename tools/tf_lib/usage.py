@@ -1,0 +1,113 @@
+"""The one list of commands, options, statuses and limits. The usage texts, the man pages, the completions and the tables of the
+documents are made from it (tools/make_usage)."""
+from typing import NamedTuple
+
+
+class Command(NamedTuple):
+    """A command of `tilefarm`. `files` are the files that its words name, in their order; `sections` are the parts of its
+    input in theirs. A section is a program, a picture, or another text that is passed on as it stands."""
+
+    name: str
+    files: tuple[str, ...]
+    sections: tuple[str, ...]
+    writes: str
+
+
+class Option(NamedTuple):
+    """An option, the word for its value if it takes one, and what it says."""
+
+    name: str
+    value: str
+    says: str
+
+
+class Status(NamedTuple):
+    number: int
+    when: str
+    lines: str
+
+
+ONE = ("program", "picture")
+COMMANDS = {
+    it.name: it
+    for it in (
+        Command("eval", ONE, ONE, "the result: a raw PGM picture, or a raw PPM where the output names three functions, if there is an "
+                "output; then for each accumulator a line `NAME LO..HI: b b b`"),
+        Command("check", ONE, ONE, "`program HEX` and `input HEX`, the identities; then for each plane, function and accumulator a "
+                "line `stage N KIND NAME R0..R1 C0..C1 tiles T`"),
+        Command("plan", ONE, ONE, "for each function and accumulator `inlined NAME`, or `stored NAME cost C` with the number of points "
+                "that its tiles compute"),
+    )
+}
+OPTIONS = (
+    Option("--rows", "H", "rows of a tile, 1 to 1024; 64 unless given"),
+    Option("--cols", "W", "columns of a tile, 1 to 1024; 64 unless given"),
+    Option("--percent", "P", "how many percent more points may be computed where a function is inlined, 0 to 10,000; 40 unless given"),
+    Option("--stored", "", "inlines nothing"),
+)
+STATUSES = (
+    Status(0, "done", "what the command writes"),
+    Status(1, "the command line is refused", "`usage: ..`, or `parameter: N NAME P`"),
+    Status(2, "the input cannot be read", "`input: no separator`, `input: too long`, `picture: N NAME at OFFSET`"),
+    Status(3, "the program is refused", "`program: N NAME at OFFSET`, `check: ..`, `bounds: ..`, `bind: ..`"),
+    Status(4, "input or output failed", "`input failed`; nothing where the output failed"),
+    Status(5, "memory ran out", "`memory`"),
+)
+DRAWING = {
+    "graph": "draws the stages: what is inlined in the frame of the stage that computes it, and tiles and cost of what is stored "
+             "(SVG, or DOT where the file ends in .dot)",
+    "hist": "draws an accumulator's line as bars (SVG)",
+    "tune": "times sides of tiles and percentages, and says which are best here",
+}
+OWN_OPTIONS = (
+    Option("-o", "FILE", "where the picture goes (.png, .pgm, .ppm; .jpg and .tif through another tool), or the drawing or the joined "
+           "input; it takes its name only when all went well"),
+    Option("--print", "", "prints the samples of the result as rows of numbers, and writes no picture"),
+    Option("--grey", "", "makes one grey plane of a picture in colours, before the program sees it"),
+    Option("--time", "", "tells how long the program ran"),
+    Option("--memory", "", "tells how much memory the program held at most"),
+    Option("--join", "", "only joins program and picture, and runs nothing: tf --join PROGRAM PICTURE -o INPUT"),
+    Option("--of", "NAME", "of hist: the accumulator to draw; the first unless given"),
+    Option("--rounds", "N", "of tune: how often each setting is timed; 3 unless given"),
+    Option("--help", "", "prints this"),
+)
+LIMITS = (
+    ("text; name", "65,536 bytes; 32 bytes"),
+    ("stages, planes among them; parameters", "64 each"),
+    ("sides of the picture and of the result; greatest sample", "1 to 4096; 1 to 65535"),
+    ("cases of a function; expression nodes of a program", "16; 4,096"),
+    ("sides of a kernel", "odd, 1 to 15"),
+    ("ends of an interval; bins", "within 16,384 of 0; 4,096"),
+    ("tiles of a stage", "65,536"),
+)
+
+
+def valued() -> dict[str, str]:
+    """The options that take a value, the program's and tf's own, and the word for the value."""
+    return {it.name: it.value for it in (*OPTIONS, *OWN_OPTIONS) if it.value}
+
+
+def help_text() -> str:
+    """What `tf --help` prints."""
+    lines = ["usage: tf COMMAND PROGRAM [PICTURE] [-o FILE] [OPTIONS] [NAME=VALUE]...", "",
+             "Runs tilefarm on a program and a picture, shows faults in your own files, and draws what it is told.",
+             "PICTURE is PNG, PGM or PPM; other formats are read through ImageMagick, libvips or netpbm. Without it",
+             "PROGRAM is a whole input, with the line %% and the picture behind it.", "", "Commands of tilefarm:"]
+    lines += [row(it.name, it.writes.replace("`", "")) for it in COMMANDS.values()]
+    lines += ["", "Commands of tf:", *(row(name, says) for name, says in DRAWING.items())]
+    lines += ["", "Options of tilefarm:", *(row(f"{it.name} {it.value}", it.says) for it in OPTIONS)]
+    lines += ["", "Options of tf:", *(row(f"{it.name} {it.value}", it.says) for it in OWN_OPTIONS)]
+    lines += ["", "Exit status:", *(row(str(it.number), it.when) for it in STATUSES), "",
+              "The program is $TILEFARM, or crates/tilefarm/out/tilefarm of this repository, or tilefarm on the path."]
+    return "\n".join(lines) + "\n"
+
+
+def row(left: str, right: str, width: int = 100, margin: int = 14) -> str:
+    """A line of a list, broken at blanks."""
+    lines, line = [], f"  {left.strip():{margin}}"
+    for word in right.split():
+        if len(line) + 1 + len(word) > width:
+            lines.append(line)
+            line = " " * (margin + 2)
+        line += f" {word}"
+    return "\n".join([*lines, line])
