@@ -1,5 +1,5 @@
 -- What contracts see of a program on its way to a job.
-use Rattle.std.specs.Prelude.{List, map}
+use Rattle.std.specs.Prelude.{map}
 use Rattle.pipe_tree.specs.declared.tree.Output.{Output as OutputText}
 use Rattle.job.specs.Pipeline.{Output}
 use Rattle.binding.specs.declared.resolve.Variables.{Variables as KeptVariables}
