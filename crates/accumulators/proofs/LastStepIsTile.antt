@@ -10,7 +10,8 @@ use Rattle.domains.specs.declared.area.Area.{Area}
 use Rattle.domains.specs.declared.grid.Grid.{Grid}
 use Rattle.job.specs.Pipeline.{Pipeline}
 use Rattle.grouping.specs.Costs.{inner_steps}
-use Rattle.overlap_tiles.specs.Plans.{Layout, IsTileAt, IsTileLayout, target_over}
+use Rattle.overlap_tiles.specs.Plans.{Layout, IsTileAt, IsTileLayout}
+use Rattle.grouping.specs.Targets.{target_over}
 
 -- the last of a list that is made of elements
 last_made : {X Y : Type 0} (f : X → Y) (xs : List X) (inner : List Y) (y : Y) → map f xs ≡ inner ++ y ∷ []

@@ -8,13 +8,11 @@ use Rattle.std.proofs.lemmas.List.{append-nil, map-append}
 use Rattle.std.proofs.lemmas.Simd.{map-map}
 use Rattle.domains.specs.Pairs.{pairs}
 use Rattle.std.proofs.lemmas.Option.{none-some, same_Some}
-use Rattle.domains.proofs.Lengths.{len_is}
 use Rattle.domains.specs.Span.{Ends, Holds, len_of, numbers_from, numbers_of}
 use Rattle.domains.specs.Area.{HoldsPoint, points_of}
 use Rattle.domains.specs.declared.area.Area.{Area}
 use Rattle.job.specs.Answers.{samples}
 use Rattle.job.specs.Pipeline.{Pipeline, Stage}
-use Rattle.job.specs.WellFormed.{IsJob, InDomainRange}
 use Rattle.tile_eval.proofs.Rasters.{nth_held}
 use Rattle.tile_eval.specs.Rows.{EachPlace, at}
 use Rattle.tile_run.specs.KnownTiles.{KnownTiles}
@@ -75,17 +73,10 @@ all_made h area count made whole so =
 
 -- ---- rows of stored tiles
 
--- a span that is near has few numbers
-pub few_numbers : (s : Ends) → InDomainRange s → len_of s ≤ 100000
-few_numbers s near = let least = near.least in let most = near.most in let ends = len_is s near.span in omega (arith, ints)
-
 module _ (job : Pipeline) (inlining : List Bool) (g : ℕ) (domain : Area) (stored : IsStoredStage job inlining g)
     (there : option_map (λ (s : Stage). s.domain) (slice_get job.stages g) ≡ Some domain) where
   own_domain : stored.0.domain ≡ domain
   own_domain = same_Some stored.0.domain domain (sym (ap (option_map (λ (s : Stage). s.domain)) stored.1.there) ∙ there)
-
-  pub near_columns : IsJob job → InDomainRange domain.cols
-  near_columns good = subst (λ (a : Area). InDomainRange a.cols) own_domain (good.stages g stored.0 stored.1.there).cols
 
   -- the points of a row of the domain
   pub row_stored : (given : KnownTiles) → GivesAllTiles job inlining given → (row first : ℤ) (place count : ℕ) → place < len_of domain.rows

@@ -17,12 +17,12 @@ use Rattle.job.specs.Values.{value}
 use Rattle.job.specs.WellFormed.{IsJob}
 use Rattle.grouping.specs.Costs.{scratch, most_scratch}
 use Rattle.grouping.specs.Schedules.{is_inlined, is_function, is_function_body}
-use Rattle.grouping.specs.Targets.{Target, is_boxed}
+use Rattle.grouping.specs.Targets.{Target, is_boxed, target_over}
 use Rattle.overlap_tiles.specs.Needs.{IsNeeded}
-use Rattle.overlap_tiles.specs.Plans.{Layout, IsTileAt, IsTileFault, IsTileLayout, target_over}
+use Rattle.overlap_tiles.specs.Plans.{Layout, IsTileAt, IsTileFault, IsTileLayout}
 use Rattle.overlap_tiles.specs.declared.fault.PlanFault.TheVariants.{ScratchTooBig}
-use Rattle.overlap_tiles.proofs.Needing.{from_needs}
-use Rattle.overlap_tiles.proofs.Tiling.{has_grid}
+use Rattle.overlap_tiles.proofs.NeedsAreExact.{from_needs}
+use Rattle.grouping.proofs.TilesAreTargets.{gridded}
 use Rattle.tile_eval.proofs.Rasters.{raster_len}
 use Rattle.tile_run.specs.KnownTiles.{KnownTiles, AreTrue, AreWhole}
 use Rattle.tile_run.specs.Runs.{NeedsGiven}
@@ -71,7 +71,7 @@ module _ (job : Pipeline) (g : ℕ) (way : Fold) (bins : Ends) (grid : Grid) (is
 
     gives : (n : Tile) → IsNeeded of_tile n → (xs : List ℤ) × (given n.stage n.row n.col ≡ Some xs)
     gives n needed =
-        let at = has_grid job n.stage needed.grid needed.there in
+        let at = gridded job n.stage needed.grid needed.there in
         let both = and_parts (is_boxed of_tile n.stage) (not (is_inlined inlining n.stage)) needed.stored in
         let boxed = and_parts (is_function job n.stage) (not (eqb n.stage g)) both.0 in
         let stored : IsStoredFunction job inlining n.stage at.stage = record {

@@ -9,9 +9,9 @@ use Rattle.job.specs.Reads.{BodyReads}
 use Rattle.job.specs.Totals.{totals_over}
 use Rattle.job.specs.WellFormed.{IsJob}
 use Rattle.grouping.specs.Schedules.{is_inlined}
-use Rattle.grouping.specs.Targets.{Target, IsTarget, box}
-use Rattle.overlap_tiles.specs.Plans.{Layout, IsTileLayout, target_over}
-use Rattle.overlap_tiles.proofs.Tiling.{tile_is_target}
+use Rattle.grouping.specs.Targets.{Target, IsTarget, box, target_over}
+use Rattle.overlap_tiles.specs.Plans.{Layout, IsTileLayout}
+use Rattle.overlap_tiles.proofs.TilesAreTargets.{tile_is_target}
 use Rattle.tile_run.specs.KnownTiles.{KnownTiles, AreTrue}
 use Rattle.tile_run.specs.Local.{IsAtHand}
 use Rattle.tile_run.specs.Runs.{NeedsGiven}

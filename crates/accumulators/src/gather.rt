@@ -17,7 +17,7 @@ use crate::starts::starts;
 use domains::Area;
 use job::Accumulator;
 use std::alloc::{AllocError, Global};
-use tile_eval::{RowSource, RowStart, formula_room, formula_row};
+use tile_eval::{RowSource, RowSpan, formula_room, formula_row};
 
 // Room for the operands of both formulas at `n` points, if that many numbers can be counted.
 fn room_along(accumulator: &Accumulator, n: usize) -> Option<usize>
@@ -32,7 +32,7 @@ fn room_along(accumulator: &Accumulator, n: usize) -> Option<usize>
 fn gather_row<S: RowSource>(
     source: &S,
     accumulator: &Accumulator,
-    start: &RowStart,
+    points: &RowSpan,
     bins: &mut [i64],
     values: &mut [i32],
     bins_of: &mut [i32],
@@ -41,14 +41,14 @@ fn gather_row<S: RowSource>(
     requires some { 0 < length values.old }
     requires one_length { length bins_of.old ≡ length values.old }
     requires bins { length bins.old ≡ len_of accumulator.now.bins }
-    requires most { (start.now.col +ℤ pos (length values.old)) ≤ℤ pos 16385 }
+    requires fits { length values.old ≡ points.now.len }
     requires formulas { HasFormulas accumulator.now }
-    requires reads { EachPlace (length values.old) (λ k. ReadsAt (S.has source.now) accumulator.now start.now.row (start.now.col +ℤ pos k)) }
+    requires reads { EachPlace (length values.old) (λ k. ReadsAt (S.has source.now) accumulator.now points.now.row (points.now.col +ℤ pos k)) }
     requires room { HasRoomAlong accumulator.now (length values.old) (length temps.old) }
-    ensures { TookPoints (S.samples source.now) accumulator.now (points_along start.now.row start.now.col (length values.old)) bins.old bins.new }
+    ensures { TookPoints (S.samples source.now) accumulator.now (points_along points.now.row points.now.col (length values.old)) bins.old bins.new }
 {
-    formula_row(source, accumulator.value(), start, values, temps);
-    formula_row(source, accumulator.bin(), start, bins_of, temps);
+    formula_row(source, accumulator.value(), points, values, temps);
+    formula_row(source, accumulator.bin(), points, bins_of, temps);
     take_values(
         accumulator.fold(),
         accumulator.bins(),
@@ -79,8 +79,8 @@ fn gather_rows<S: RowSource>(
     ensures { TookPoints (S.samples source.now) accumulator.now (points_of area.now) bins.old bins.new }
 {
     for i in 0..area.rows.len() as usize {
-        let start = RowStart::at(area, i);
-        gather_row(source, accumulator, &start, bins, values, bins_of, temps);
+        let points = RowSpan::at(area, i);
+        gather_row(source, accumulator, &points, bins, values, bins_of, temps);
     }
 }
 

@@ -113,7 +113,6 @@ impl Computed<'_> {
         first: i32,
         max: u16,
     ) -> Result<(), AllocError>
-        requires short { length line.old ≤ 100000 }
         requires stored { IsStoredLine (pipeline_in self.now.job.now) (stored_tiles self.now.stored.now.stages.items) stage row first (length line.old) }
         ensures { OnOk result (plane.new.items ≡ plane.old.items ++ map (λ c. sample_of max (value (pipeline_in self.now.job.now) stage row c)) (numbers_from first (length line.old))) }
     {

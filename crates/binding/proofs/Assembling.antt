@@ -12,7 +12,7 @@ use Rattle.job.specs.Pipeline.{Stage, Output, Parameter, Pipeline}
 use Rattle.pipe_checks.specs.declared.symbol.Symbol.{Symbol}
 use Rattle.pipe_checks.specs.Names.{params_of, stages_of}
 use Rattle.pipe_checks.specs.Graph.{IsRanking}
-use Rattle.pipe_checks.specs.Sites.{graph_of}
+use Rattle.pipe_checks.specs.Accesses.{graph_of}
 use Rattle.pipe_checks.specs.Checking.{IsNamed}
 use Rattle.binding.specs.Binding.{Program, settings_for, job_of, IsJobOf}
 use Rattle.binding.specs.Fits.{ShapesFit, TilesFit}

@@ -1,5 +1,5 @@
 -- The domains of stages are those of their items, and what they read stays in bounds.
-use Rattle.std.proofs.Common.{ℕ, zero, suc, arith, ◌+◌, ◌<◌, ◌≤◌, ◌%◌, ◌/◌, ◌≡◌, ℤ, pos, ◌+ℤ◌, ◌-ℤ◌, Bool, true, false, List, [], ◌∷◌, ◌++◌, length, Option, Some, None, Ok, map, slice_get, subst, ap, sym, ◌∙◌, refl}
+use Rattle.std.proofs.Common.{ℕ, suc, arith, ◌+◌, ◌<◌, ◌≤◌, ◌%◌, ◌/◌, ◌≡◌, ℤ, pos, ◌+ℤ◌, ◌-ℤ◌, Bool, true, false, List, [], ◌∷◌, ◌++◌, length, Option, Some, None, Ok, map, slice_get, subst, ap, sym, ◌∙◌, refl}
 use Rattle.std.specs.Prelude.{All, if◌then◌else◌}
 use Rattle.std.specs.List.{flat_map, AllZip}
 use Rattle.std.specs.Option.{option_map, ForSome}
@@ -18,25 +18,26 @@ use Rattle.pipe_tree.specs.declared.tree.Test.TheVariants.{Compare, Remainder}
 use Rattle.pipe_tree.specs.Tree as tree
 use Rattle.pipe_tree.specs.Tree.{Node, Branch, Function, Accumulator, Declaration}
 use Rattle.pipe_checks.specs.declared.symbol.Symbol.{Symbol}
-use Rattle.pipe_checks.specs.declared.site.Site.{Site}
-use Rattle.pipe_checks.specs.declared.site.Site.TheVariants as site
+use Rattle.pipe_checks.specs.declared.access.Access.{Access}
+use Rattle.pipe_checks.specs.declared.access.Access.TheVariants as access
 use Rattle.pipe_bounds.specs.Settings.{affine_value}
 use Rattle.pipe_bounds.specs.Domains.{IsSpanFrom, IsSides, IsDomain}
 use Rattle.pipe_bounds.specs.Within.{HaveDomains}
 use Rattle.pipe_checks.specs.Names.{declared_names, stages_of}
-use Rattle.pipe_checks.specs.Sites as sites
-use Rattle.pipe_checks.specs.Sites.{width_of, sites_of}
+use Rattle.pipe_checks.specs.Accesses as accesses
+use Rattle.pipe_checks.specs.Accesses.{width_of, accesses_of}
 use Rattle.pipe_bounds.specs.Boxes as boxes
 use Rattle.pipe_bounds.specs.Boxes.{Meets}
 use Rattle.domains.specs.Cuts.{IsCutArea}
-use Rattle.pipe_bounds.specs.InBounds.{ReadCase, branch_case, whole_case, otherwise_cases, item_cases, declared_cases, IsInBox, IsAbout, TakesRow, TakesColumn, IsWithin, AllStay, StageStays, AreInBounds}
+use Rattle.pipe_bounds.specs.InBounds.{ReadCase, branch_case, whole_case, otherwise_cases, item_cases, declared_cases, IsInBox, IsAbout, TakesRow, TakesColumn, IsWithin, AllStay, StageStays, AreInBounds, scale_of}
 use Rattle.pipe_checks.proofs.Accepted.{IsReadableKind, IsSound, IsSoundBranch, IsSoundItem}
+use Rattle.pipe_bounds.proofs.Stages.{some_within}
 use Rattle.job.specs.Formula.{row, column}
 use Rattle.job.specs.Pipeline.{Stage}
 use Rattle.job.specs.Values.{along, factors, kernel_row, kernel_column}
 use Rattle.job.specs.Reads.{Read, point, window, reads_in, EachTaken, EachRead, CaseReads, BodyReads}
 use Rattle.job.specs.Boxes.{Relates, BoundsHold}
-use Rattle.binding.specs.Binding.{Program, Variables, variables_of, axis_of, scale_of, formula_of, test_of, case_of, area_of, item_stages, function_stage, accumulator_stage}
+use Rattle.binding.specs.Binding.{Program, Variables, variables_of, axis_of, formula_of, test_of, case_of, area_of, item_stages, function_stage, accumulator_stage}
 use Rattle.job.specs.WellFormed.{IsValued, IsReadable, InDomainRange}
 use Rattle.job.proofs.Agreeing.{All-left, All-right}
 use Rattle.job.proofs.BoxLaws.{box_is_cut}
@@ -64,7 +65,7 @@ span_near first last e h =
 last_is : (side : ℤ) (e : Ends) → IsSides side e → side -ℤ pos 1 ≡ e.hi
 last_is side e h = let hi = h.hi in omega (arith, ints)
 
-sides_are : (side : ℤ) (e : Ends) → IsSides side e → record { lo = pos 0; hi = side -ℤ pos 1 } ≡ e
+pub sides_are : (side : ℤ) (e : Ends) → IsSides side e → record { lo = pos 0; hi = side -ℤ pos 1 } ≡ e
 sides_are side e h =
     let low : ℤ → Ends = λ v. record { lo = v; hi = side -ℤ pos 1 } in
     let high : ℤ → Ends = λ v. record { lo = e.lo; hi = v } in
@@ -79,7 +80,7 @@ sides_near side e h =
       most = omega (arith, ints);
     }
 
-area_is : (rows cols : Ends) (a : Area) → rows ≡ a.rows → cols ≡ a.cols → record { rows = rows; cols = cols } ≡ a
+pub area_is : (rows cols : Ends) (a : Area) → rows ≡ a.rows → cols ≡ a.cols → record { rows = rows; cols = cols } ≡ a
 area_is rows cols a r c =
     let down : Ends → Area = λ e. record { rows = e; cols = cols } in
     let right : Ends → Area = λ e. record { rows = a.rows; cols = e } in
@@ -108,11 +109,6 @@ domain_of p (tree.accumulator c) x s a is h = record {
   cols = span_near _ _ a.cols h.2.1;
 }
 domain_of p (tree.output o) x s a is h = absurd is
-
-some_within : {X : Type 0} (xs : List X) (g : ℕ) → g < length xs → (x : X) × (slice_get xs g ≡ Some x)
-some_within [] g l = absurd (omega arith)
-some_within (x ∷ xs) zero l = (x, refl)
-some_within (x ∷ xs) (suc g) l = some_within xs g (omega arith)
 
 -- ---- tests
 
@@ -173,18 +169,18 @@ module _ (ds : List Declaration) (p : Program) (own : p.stages ≡ stages_of ds)
       }
 
   -- all that y takes at the point lies within
-  abbrev IsTakenWithin : Site → ℤ → ℤ → Type 0
-  IsTakenWithin y r c = (u v : ℤ) → TakesRow y r u → TakesColumn y c v → IsWithin areas (sites.stage_read y) u v
+  abbrev IsTakenWithin : Access → ℤ → ℤ → Type 0
+  IsTakenWithin y r c = (u v : ℤ) → TakesRow y r u → TakesColumn y c v → IsWithin areas (accesses.stage_read y) u v
 
-  each_taken : (x : Read) (y : Site) → IsSame ds x y → (r c : ℤ) → IsTakenWithin y r c → EachTaken (IsReadable (flat_map (item_stages p) ds)) x r c
-  each_taken (point g i j) (site.Read h k l) s r c taken =
+  each_taken : (x : Read) (y : Access) → IsSame ds x y → (r c : ℤ) → IsTakenWithin y r c → EachTaken (IsReadable (flat_map (item_stages p) ds)) x r c
+  each_taken (point g i j) (access.Read h k l) s r c taken =
       subst (λ (n : ℕ). IsReadable (flat_map (item_stages p) ds) n (index_at i r) (index_at j c)) (sym s.0)
       (subst (λ (q : Scale). IsReadable (flat_map (item_stages p) ds) h (index_at q r) (index_at j c)) (sym s.1)
       (subst (λ (q : Scale). IsReadable (flat_map (item_stages p) ds) h (index_at (scale_of k) r) (index_at q c)) (sym s.2)
       (readable h _ _ s.3 (taken (index_at (scale_of k) r) (index_at (scale_of l) c) refl refl))))
-  each_taken (point g i j) (site.Stencil h m n) s r c taken = absurd s
-  each_taken (window g kernel) (site.Read h k l) s r c taken = absurd s
-  each_taken (window g kernel) (site.Stencil h m n) s r c taken = λ a b la lb.
+  each_taken (point g i j) (access.Stencil h m n) s r c taken = absurd s
+  each_taken (window g kernel) (access.Read h k l) s r c taken = absurd s
+  each_taken (window g kernel) (access.Stencil h m n) s r c taken = λ a b la lb.
       subst (λ (q : ℕ). IsReadable (flat_map (item_stages p) ds) q (kernel_row kernel r a) (kernel_column kernel c b)) (sym s.0)
       (readable h (kernel_row kernel r a) (kernel_column kernel c b) s.4 (taken (kernel_row kernel r a) (kernel_column kernel c b)
       (subst (λ (q : ℕ). IsAbout (q / 2) r (kernel_row kernel r a)) (sym s.1) (about r (length kernel) a (length kernel / 2) refl s.3.height.0 la))
@@ -194,7 +190,7 @@ module _ (ds : List Declaration) (p : Program) (own : p.stages ≡ stages_of ds)
       shorter : {b m n : ℕ} → m ≡ n → b < m → b < n
       shorter e l = omega arith
 
-  all_taken : (xs : List Read) (ys : List Site) → AllZip (IsSame ds) xs ys → (r c : ℤ) → ((m : ℕ) (y : Site) → slice_get ys m ≡ Some y → IsTakenWithin y r c) → All (λ x. EachTaken (IsReadable (flat_map (item_stages p) ds)) x r c) xs
+  all_taken : (xs : List Read) (ys : List Access) → AllZip (IsSame ds) xs ys → (r c : ℤ) → ((m : ℕ) (y : Access) → slice_get ys m ≡ Some y → IsTakenWithin y r c) → All (λ x. EachTaken (IsReadable (flat_map (item_stages p) ds)) x r c) xs
   all_taken [] ys h r c taken = All-nil (λ x. EachTaken (IsReadable (flat_map (item_stages p) ds)) x r c)
   all_taken (x ∷ xs) [] h r c taken = absurd h
   all_taken (x ∷ xs) (y ∷ ys) h r c taken =
@@ -203,12 +199,12 @@ module _ (ds : List Declaration) (p : Program) (own : p.stages ≡ stages_of ds)
   -- ---- of functions
 
   module _ (vars : Variables) (domain : Area) (r c : ℤ) (inside : HoldsPoint domain r c) where
-    case_reads : (b : Branch) → IsSound (declared_names ds) b.value → AllStay areas (IsInBox p.settings domain (branch_case (stages_of ds) vars.row_name b)) (sites_of (stages_of ds) b.value) → CaseReads (IsReadable (flat_map (item_stages p) ds)) (case_of p vars domain b) r c
+    case_reads : (b : Branch) → IsSound (declared_names ds) b.value → AllStay areas (IsInBox p.settings domain (branch_case (stages_of ds) vars.row_name b)) (accesses_of (stages_of ds) b.value) → CaseReads (IsReadable (flat_map (item_stages p) ds)) (case_of p vars domain b) r c
     case_reads b sound stays = λ box is within.
         let tests = map (test_of p vars) b.condition in
         let cut : IsCutArea (BoundsHold tests) domain (Some box) = subst (IsCutArea (BoundsHold tests) domain) is (box_is_cut domain tests) in
         let here = (cut r c).0 within in
-        all_taken (reads_in (formula_of p vars b.value)) (sites_of (stages_of ds) b.value) (reads_same ds p own vars b.value sound) r c
+        all_taken (reads_in (formula_of p vars b.value)) (accesses_of (stages_of ds) b.value) (reads_same ds p own vars b.value sound) r c
         (λ m y there. stays m y there r c (here.0, bounds_hold p vars b.condition r c here.1))
 
     cases_read : (bs : List Branch) (rest : List ReadCase) → All (IsSoundBranch (declared_names ds)) bs → StageStays p.settings areas domain (map (branch_case (stages_of ds) vars.row_name) bs ++ rest) → All (λ q. CaseReads (IsReadable (flat_map (item_stages p) ds)) q r c) (map (case_of p vars domain) bs)
@@ -222,15 +218,15 @@ module _ (ds : List Declaration) (p : Program) (own : p.stages ≡ stages_of ds)
     rest_stays [] rest stays = stays
     rest_stays (b ∷ bs) rest stays = rest_stays bs rest (λ n x there. stays (suc n) x there)
 
-    whole_reads : (a : Node) → IsSound (declared_names ds) a → AllStay areas (IsInBox p.settings domain (whole_case vars.row_name (sites_of (stages_of ds) a))) (sites_of (stages_of ds) a) → EachRead (IsReadable (flat_map (item_stages p) ds)) (formula_of p vars a) r c
+    whole_reads : (a : Node) → IsSound (declared_names ds) a → AllStay areas (IsInBox p.settings domain (whole_case vars.row_name (accesses_of (stages_of ds) a))) (accesses_of (stages_of ds) a) → EachRead (IsReadable (flat_map (item_stages p) ds)) (formula_of p vars a) r c
     whole_reads a sound stays =
-        all_taken (reads_in (formula_of p vars a)) (sites_of (stages_of ds) a) (reads_same ds p own vars a sound) r c (λ m y there. stays m y there r c (inside, tt))
+        all_taken (reads_in (formula_of p vars a)) (accesses_of (stages_of ds) a) (reads_same ds p own vars a sound) r c (λ m y there. stays m y there r c (inside, tt))
 
     otherwise_reads : (o : Option Node) → ForSome o (IsSound (declared_names ds)) → StageStays p.settings areas domain (otherwise_cases (stages_of ds) vars.row_name o) → ForSome (option_map (formula_of p vars) o) (λ f. EachRead (IsReadable (flat_map (item_stages p) ds)) f r c)
     otherwise_reads None sound stays = λ f is. absurd (none-some f is)
     otherwise_reads (Some a) sound stays = λ f is.
         subst (λ g. EachRead (IsReadable (flat_map (item_stages p) ds)) g r c) (same_Some (formula_of p vars a) f is)
-        (whole_reads a (sound a refl) (stays 0 (whole_case vars.row_name (sites_of (stages_of ds) a)) refl))
+        (whole_reads a (sound a refl) (stays 0 (whole_case vars.row_name (accesses_of (stages_of ds) a)) refl))
 
   function_reads : (f : Function) → IsSoundItem (declared_names ds) (tree.function f) → StageStays p.settings areas (function_stage p f).domain (item_cases (stages_of ds) (tree.function f)) → (r c : ℤ) → HoldsPoint (function_stage p f).domain r c → BodyReads (IsReadable (flat_map (item_stages p) ds)) (function_stage p f).body r c
   function_reads f sound stays r c inside =
@@ -245,9 +241,9 @@ module _ (ds : List Declaration) (p : Program) (own : p.stages ≡ stages_of ds)
       let P : Read → Type 0 = λ x. EachTaken (IsReadable (flat_map (item_stages p) ds)) x r c in
       let v = reads_in (formula_of p vars a.value) in
       let b = reads_in (formula_of p vars a.bin) in
-      let here = whole_case a.row.name (sites_of (stages_of ds) a.value ++ sites_of (stages_of ds) a.bin) in
-      let all : All P (v ++ b) = all_taken (v ++ b) (sites_of (stages_of ds) a.value ++ sites_of (stages_of ds) a.bin)
-      (zip_append (IsSame ds) v b (sites_of (stages_of ds) a.value) (sites_of (stages_of ds) a.bin) (reads_same ds p own vars a.value sound.0) (reads_same ds p own vars a.bin sound.1))
+      let here = whole_case a.row.name (accesses_of (stages_of ds) a.value ++ accesses_of (stages_of ds) a.bin) in
+      let all : All P (v ++ b) = all_taken (v ++ b) (accesses_of (stages_of ds) a.value ++ accesses_of (stages_of ds) a.bin)
+      (zip_append (IsSame ds) v b (accesses_of (stages_of ds) a.value) (accesses_of (stages_of ds) a.bin) (reads_same ds p own vars a.value sound.0) (reads_same ds p own vars a.bin sound.1))
       r c (λ m y there. stays 0 here refl m y there r c (inside, tt)) in
       (All-left P v b all, All-right P v b all)
 

@@ -30,7 +30,7 @@ use Rattle.pipe_bounds.specs.Settings.{affine_value}
 use Rattle.pipe_bounds.specs.Domains.{IsSpanFrom, IsDomain}
 use Rattle.pipe_checks.specs.Graph.{IsRanking}
 use Rattle.pipe_checks.specs.Names.{names_of, item_names, names_from, is_param, declared_names, stages_of, number_of}
-use Rattle.pipe_checks.specs.Sites.{is_plane, graph_of}
+use Rattle.pipe_checks.specs.Accesses.{is_plane, graph_of}
 use Rattle.pipe_checks.specs.Checking.{IsNamed}
 use Rattle.pipe_checks.proofs.Places.{position_within}
 use Rattle.pipe_checks.proofs.Numbering.{ranking-recurs}

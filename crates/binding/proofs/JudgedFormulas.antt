@@ -1,13 +1,11 @@
 -- What an accepted item says is a formula, and its tests are tests.
-use Rattle.std.proofs.Common.{ℕ, arith, ◌≤◌, ◌≡◌, ℤ, pos, ◌≤ℤ◌, FitsSigned, w32, Bool, true, false, List, [], ◌∷◌, length, Option, Some, None, slice_get, subst, ◌∙◌, refl}
+use Rattle.std.proofs.Common.{ℕ, arith, ◌≤◌, ◌≡◌, ℤ, pos, FitsSigned, w32, Bool, true, false, List, [], ◌∷◌, length, Option, Some, None, slice_get, subst, ◌∙◌, refl}
 use Rattle.std.specs.Prelude.{All, if◌then◌else◌, map, unwrap_or}
 use Rattle.std.specs.Str.{bytes_eq}
 use Rattle.std.proofs.lemmas.Int.{ints}
 use Rattle.std.proofs.lemmas.List.Elements.{All-nil, All-cons, All-head, All-tail, All-weaker}
-use Rattle.domains.specs.Index.{IsIndex}
 use Rattle.domains.specs.declared.operators.LiteralOp.{LiteralOp}
 use Rattle.domains.specs.declared.operators.LiteralOp.TheVariants.{Div, Rem, Shl, Shr}
-use Rattle.pipe_tree.specs.declared.tree.Index.{Index}
 use Rattle.pipe_tree.specs.declared.tree.Test.{Test}
 use Rattle.pipe_tree.specs.declared.tree.Test.TheVariants.{Compare, Remainder}
 use Rattle.pipe_tree.specs.Tree as tree
@@ -15,11 +13,12 @@ use Rattle.pipe_tree.specs.Tree.{Node}
 use Rattle.pipe_checks.specs.declared.symbol.Symbol.{Symbol}
 use Rattle.pipe_bounds.specs.declared.params.Setting.{Setting}
 use Rattle.pipe_bounds.specs.Settings.{place_in, value_at, value_in, param_value}
-use Rattle.pipe_checks.specs.Sites.{width_of}
-use Rattle.pipe_checks.proofs.Accepted.{IsWithin, IsSoundIndex, IsSoundKernel, IsSoundLiteral, IsSound, IsSoundTest}
+use Rattle.pipe_checks.specs.Accesses.{width_of}
+use Rattle.pipe_checks.proofs.Accepted.{IsWithin, IsSoundKernel, IsSoundLiteral, IsSound, IsSoundTest}
 use Rattle.job.specs.Formula.{row, column, number, coordinate}
 use Rattle.job.specs.Values.{factors}
-use Rattle.binding.specs.Binding.{Program, Variables, scale_of, name_formula, formula_of, test_of, AreSmall}
+use Rattle.binding.specs.Binding.{Program, Variables, name_formula, formula_of, test_of, AreSmall}
+use Rattle.pipe_bounds.proofs.Sounding.{index_is}
 use Rattle.job.specs.WellFormed.{IsDivisor, IsLiteral, IsKernelSide, IsKernel, IsFormula, IsTest}
 use Rattle.job.proofs.Fitting.{from_bounds}
 
@@ -46,22 +45,6 @@ kernel_is kernel h = record {
   height = h.height;
   width = subst IsKernelSide (width_is kernel) h.width;
   one_width = All-weaker (λ r. length r ≡ width_of kernel) (λ r. length r ≡ length (factors kernel 0)) (λ r same. same ∙ width_is kernel) kernel h.one_width;
-}
-
-up : (n : ℕ) → 1 ≤ n → pos 1 ≤ℤ pos n
-up n h = omega (arith, ints)
-
-down : (n : ℕ) → n ≤ 16 → pos n ≤ℤ pos 16
-down n h = omega (arith, ints)
-
-pub index_is : (i : Index) → IsSoundIndex i → IsIndex (scale_of i)
-index_is i h = record {
-  mul_least = up i.mul h.mul.0;
-  mul_most = down i.mul h.mul.1;
-  add_least = h.add.0;
-  add_most = h.add.1;
-  div_least = up i.div h.div.0;
-  div_most = down i.div h.div.1;
 }
 
 -- ---- the values of parameters

@@ -1,24 +1,30 @@
--- The items of a checked program that is in bounds have numbers in range, and domains.
-use Rattle.std.proofs.Common.{ℕ, zero, suc, Bool, arith, ◌+◌, ◌<◌, ◌≡◌, List, [], ◌∷◌, ◌++◌, length, Some, Ok, filter, slice_get, subst, ap, sym, ◌∙◌, refl}
-use Rattle.std.specs.Prelude.{All, not, slice_index_or}
-use Rattle.std.proofs.lemmas.Option.{none-some, same_Some, slice_get_within, slice_get-get_or}
+-- The items of a checked program that is in bounds have numbers in range, and what was found of their stages stands under their names.
+use Rattle.std.proofs.Common.{ℕ, zero, suc, Bool, arith, ◌+◌, ◌≡◌, List, [], ◌∷◌, ◌++◌, length, Option, Some, filter, map, slice_get, subst, ap, sym, ◌∙◌, refl}
+use Rattle.std.specs.Prelude.{All, IfSome, not, slice_index_or, unwrap_or}
+use Rattle.std.specs.Option.{option_map}
+use Rattle.std.proofs.lemmas.List.{length-map}
+use Rattle.std.proofs.lemmas.Option.{none-some, same_Some, slice_get_within, slice_get-get_or, slice_get-map}
 use Rattle.std.proofs.lemmas.List.Elements.{All-weaker, filter-append}
+use Rattle.domains.specs.Area.{IsArea}
 use Rattle.domains.specs.declared.area.Area.{Area}
+use Rattle.pipe_tree.specs.declared.tree.Image.{Image}
 use Rattle.pipe_tree.specs.declared.tree.Names.{Names}
 use Rattle.pipe_tree.specs.declared.tree.Names.TheVariants.{One, Three}
 use Rattle.pipe_tree.specs.Tree as tree
-use Rattle.pipe_tree.specs.Tree.{Node, Branch, Declaration}
+use Rattle.pipe_tree.specs.Tree.{Node, Branch, Function, Accumulator, Declaration}
 use Rattle.pipe_checks.specs.declared.symbol.Symbol.{Symbol}
-use Rattle.pipe_bounds.specs.declared.params.Setting.{Setting}
-use Rattle.pipe_checks.specs.Names.{names_of, item_names, names_from, is_param, declared_names, stages_of}
-use Rattle.pipe_bounds.specs.Domains.{IsDomain}
-use Rattle.pipe_bounds.specs.Within.{HaveDomains}
-use Rattle.pipe_bounds.specs.InBounds.{IsInBounds}
+use Rattle.pipe_checks.specs.Names.{names_of, item_names, names_from, is_param, declared_names, stages_of, number_of}
 use Rattle.pipe_checks.specs.Checking.{IsNamed}
 use Rattle.pipe_checks.proofs.Accepted.{IsSound, IsSoundBranch, IsSoundItem, sound_item}
-use Rattle.binding.specs.Ranges.{IsRanged, IsRangedBranch, IsRangedItem, HasDomain, AreReady}
-use Rattle.binding.specs.Resolving.{IsStageItem}
-use Rattle.binding.proofs.JudgedFormulas.{index_is}
+use Rattle.pipe_bounds.specs.StageBounds.{StageBounds, AreBoxes, IsBoundsOf, AreBoundsOf}
+use Rattle.pipe_bounds.proofs.OneFault.{same_list}
+use Rattle.pipe_bounds.proofs.Sounding.{index_is}
+use Rattle.pipe_bounds.proofs.Stages.{some_within}
+use Rattle.binding.specs.Binding.{Program, Variables, variables_of, stage_number, names_in}
+use Rattle.binding.specs.Ranges.{IsRanged, IsRangedBranch, IsRangedItem, HasBounds, box_in, IsPlaneBounds, IsFunctionBounds, IsAccumulatorBounds, HavePlanes, IsBoundItem, AreReady}
+use Rattle.binding.proofs.BoundLaws.{ends_are, sides_are, area_is, span_near}
+use Rattle.binding.proofs.Boxing.{part_is}
+use Rattle.binding.proofs.NumberLaws.{number_at}
 
 -- ---- numbers
 
@@ -47,41 +53,59 @@ ranged_items ds named = λ k d l.
     let x = slice_index_or ds k d in
     ranged_item (declared_names ds) x (sound_item (declared_names ds) x (named.good k x (slice_get-get_or ds k d l)))
 
--- ---- domains
+-- ---- what was found of a stage stands under its name
 
 abbrev keeps : Symbol → Bool
 keeps d = not (is_param d.kind)
 
--- where the items begin with number n, item k is that of a stage
-pub record IsStaged (n : ℕ) (ds : List Declaration) (k : ℕ) : Type 0 where
+-- the names of the stages that an item declares
+abbrev stage_names : Declaration → List (List ℕ)
+stage_names (tree.param p) = []
+stage_names (tree.image i) = names_in i.names
+stage_names (tree.function f) = f.name ∷ []
+stage_names (tree.accumulator a) = a.name ∷ []
+stage_names (tree.output o) = []
+
+-- where the items begin with number n, a stage of item k has this name
+pub record IsStaged (n : ℕ) (ds : List Declaration) (k : ℕ) (x : List ℕ) : Type 0 where
   pub stage : ℕ
   pub declared : Symbol
   pub there : slice_get (filter keeps (names_from n ds)) stage ≡ Some declared
   pub item : declared.item ≡ n + k
+  pub name : declared.name ≡ x
 
-planes_staged : (n : ℕ) (ns : Names) (others : List Symbol) → (s : Symbol) × (slice_get (filter keeps (names_of n ns ++ others)) 0 ≡ Some s) × (s.item ≡ n)
-planes_staged n (One x) others = (_, refl, refl)
-planes_staged n (Three x y z) others = (_, refl, refl)
+abbrev IsFirst : ℕ → List Symbol → ℕ → List ℕ → Type 0
+IsFirst n symbols j x = (s : Symbol) × (slice_get (filter keeps symbols) j ≡ Some s) × (s.item ≡ n) × (s.name ≡ x)
 
-first_staged : (n : ℕ) (d : Declaration) (others : List Symbol) → IsStageItem d → (s : Symbol) × (slice_get (filter keeps (item_names n d ++ others)) 0 ≡ Some s) × (s.item ≡ n)
-first_staged n (tree.param x) others is = absurd is
-first_staged n (tree.image i) others is = planes_staged n i.names others
-first_staged n (tree.function f) others is = (_, refl, refl)
-first_staged n (tree.accumulator a) others is = (_, refl, refl)
-first_staged n (tree.output o) others is = absurd is
+planes_first : (n : ℕ) (ns : Names) (others : List Symbol) (j : ℕ) (x : List ℕ) → slice_get (names_in ns) j ≡ Some x → IsFirst n (names_of n ns ++ others) j x
+planes_first n (One y) others zero x e = (_, refl, refl, same_Some y x e)
+planes_first n (One y) others (suc j) x e = absurd (none-some x e)
+planes_first n (Three y z w) others zero x e = (_, refl, refl, same_Some y x e)
+planes_first n (Three y z w) others (suc zero) x e = (_, refl, refl, same_Some z x e)
+planes_first n (Three y z w) others (suc (suc zero)) x e = (_, refl, refl, same_Some w x e)
+planes_first n (Three y z w) others (suc (suc (suc j))) x e = absurd (none-some x e)
+
+item_first : (n : ℕ) (d : Declaration) (others : List Symbol) (j : ℕ) (x : List ℕ) → slice_get (stage_names d) j ≡ Some x → IsFirst n (item_names n d ++ others) j x
+item_first n (tree.param p) others j x e = absurd (none-some x e)
+item_first n (tree.image i) others j x e = planes_first n i.names others j x e
+item_first n (tree.function f) others zero x e = (_, refl, refl, same_Some f.name x e)
+item_first n (tree.function f) others (suc j) x e = absurd (none-some x e)
+item_first n (tree.accumulator a) others zero x e = (_, refl, refl, same_Some a.name x e)
+item_first n (tree.accumulator a) others (suc j) x e = absurd (none-some x e)
+item_first n (tree.output o) others j x e = absurd (none-some x e)
 
 behind : {X : Type 0} (xs ys : List X) (j k : ℕ) → k ≡ length xs + j → slice_get (xs ++ ys) k ≡ slice_get ys j
 behind {X} [] ys j k e = let same : k ≡ j = omega (arith, e) in ap (λ (n : ℕ). slice_get ys n) same
 behind (x ∷ xs) ys j zero e = absurd (omega (arith, e))
 behind (x ∷ xs) ys j (suc k) e = behind xs ys j k (omega (arith, e))
 
-staged : (n : ℕ) (ds : List Declaration) (k : ℕ) (d : Declaration) → slice_get ds k ≡ Some d → IsStageItem d → IsStaged n ds k
-staged n [] k d there is = absurd (none-some d there)
-staged n (e ∷ ds) zero d there is =
-    let r = first_staged n e (names_from (n + 1) ds) (subst IsStageItem (sym (same_Some e d there)) is) in
-    record { stage = 0; declared = r.0; there = r.1; item = r.2 ∙ omega arith }
-staged n (e ∷ ds) (suc k) d there is =
-    let r = staged (n + 1) ds k d there is in
+staged : (n : ℕ) (ds : List Declaration) (k : ℕ) (d : Declaration) (j : ℕ) (x : List ℕ) → slice_get ds k ≡ Some d → slice_get (stage_names d) j ≡ Some x → IsStaged n ds k x
+staged n [] k d j x there named = absurd (none-some d there)
+staged n (e ∷ ds) zero d j x there named =
+    let r = item_first n e (names_from (n + 1) ds) j x (ap (λ (y : Declaration). slice_get (stage_names y) j) (same_Some e d there) ∙ named) in
+    record { stage = j; declared = r.0; there = r.1; item = r.2 ∙ omega arith; name = r.3 }
+staged n (e ∷ ds) (suc k) d j x there named =
+    let r = staged (n + 1) ds k d j x there named in
     let here = filter keeps (item_names n e) in
     let others = filter keeps (names_from (n + 1) ds) in
     let item = r.item in
@@ -90,34 +114,77 @@ staged n (e ∷ ds) (suc k) d there is =
       declared = r.declared;
       there = ap (λ (xs : List Symbol). slice_get xs (length here + r.stage)) (filter-append keeps (item_names n e) (names_from (n + 1) ds)) ∙ behind here others r.stage (length here + r.stage) refl ∙ r.there;
       item = omega arith;
+      name = r.name;
     }
 
-some_within : {X : Type 0} (xs : List X) (g : ℕ) → g < length xs → (x : X) × (slice_get xs g ≡ Some x)
-some_within [] g l = absurd (omega arith)
-some_within (x ∷ xs) zero l = (x, refl)
-some_within (x ∷ xs) (suc g) l = some_within xs g (omega arith)
+-- ---- what was found is what the job takes of it
 
-module _ (ss : List Setting) (ds : List Declaration) (areas : List Area) (domains : HaveDomains ss ds (stages_of ds) areas) where
-  area_of_item : (k : ℕ) (d : Declaration) → slice_get ds k ≡ Some d → IsStageItem d → (a : Area) × IsDomain ss d (Ok a)
-  area_of_item k d there is =
-      let r = staged 0 ds k d there is in
-      let inside : r.stage < length areas = omega (arith, domains.each, slice_get_within (stages_of ds) r.stage r.declared r.there) in
-      let a = some_within areas r.stage inside in
-      let h = domains.domain r.stage r.declared a.0 r.there a.1 in
+module _ (p : Program) where
+  plane_bounds : (i : Image) (b : StageBounds) → IsBoundsOf p.settings (tree.image i) b → IsPlaneBounds p i b
+  plane_bounds i b h = sym (area_is _ _ b.domain (sides_are _ b.domain.rows h.domain.0) (sides_are _ b.domain.cols h.domain.1))
+
+  module _ (own : Variables) (domain : Area) (area : IsArea domain) (cases : List Branch) (boxes : List (Option Area)) (h : AreBoxes p.settings own.row_name domain cases boxes) where
+    box_at : (n : ℕ) (o q : Option Area) → slice_get boxes n ≡ Some o → slice_get (map (box_in p own domain) cases) n ≡ Some q → o ≡ q
+    box_at n o q at_o at_q =
+        let c = some_within cases n (omega (arith, h.each, slice_get_within boxes n o at_o)) in
+        let box = h.box n c.0 o c.1 at_o in
+        part_is p own domain c.0.condition o area box.points (λ a e. subst (λ (z : Option Area). IfSome z IsArea) e box.area)
+        ∙ same_Some (box_in p own domain c.0) q (sym (slice_get-map (box_in p own domain) cases n ∙ ap (option_map (box_in p own domain)) c.1) ∙ at_q)
+
+    boxes_are : boxes ≡ map (box_in p own domain) cases
+    boxes_are = same_list boxes (map (box_in p own domain) cases) (h.each ∙ sym (length-map cases (box_in p own domain))) box_at
+
+  function_bounds : (f : Function) (b : StageBounds) → IsBoundsOf p.settings (tree.function f) b → IsFunctionBounds p f b
+  function_bounds f b h =
+      let area : IsArea b.domain = record { rows = (span_near _ _ b.domain.rows h.domain.0).span; cols = (span_near _ _ b.domain.cols h.domain.1).span } in
+      record {
+        domain = sym (area_is _ _ b.domain (ends_are _ _ b.domain.rows h.domain.0) (ends_are _ _ b.domain.cols h.domain.1));
+        boxes = boxes_are (variables_of f.row f.column) b.domain area f.cases b.boxes h.boxes;
+      }
+
+  accumulator_bounds : (a : Accumulator) (b : StageBounds) → IsBoundsOf p.settings (tree.accumulator a) b → IsAccumulatorBounds p a b
+  accumulator_bounds a b h = record {
+    domain = sym (area_is _ _ b.domain (ends_are _ _ b.domain.rows h.domain.2.0) (ends_are _ _ b.domain.cols h.domain.2.1));
+    bins = h.bins.1 ∙ ap Some (sym (ends_are _ _ h.bins.0 h.bins.2.0));
+  }
+
+module _ (ds : List Declaration) (p : Program) (own : p.stages ≡ stages_of ds) (named : IsNamed ds) (found : List StageBounds) (all : AreBoundsOf p.settings ds (stages_of ds) found) where
+  place_of : (r : ℕ) (s : Symbol) (x : List ℕ) → slice_get (stages_of ds) r ≡ Some s → s.name ≡ x → stage_number p x ≡ r
+  place_of r s x there name =
+      ap (λ (xs : List Symbol). unwrap_or (number_of xs x) 0) own
+      ∙ ap (λ (y : List ℕ). unwrap_or (number_of (stages_of ds) y) 0) (sym name)
+      ∙ ap (λ (o : Option ℕ). unwrap_or o 0) (number_at ds named.once r s there)
+
+  bounds_of : (Is : StageBounds → Type 0) (k : ℕ) (d : Declaration) (j : ℕ) (x : List ℕ) → slice_get ds k ≡ Some d → slice_get (stage_names d) j ≡ Some x → ((b : StageBounds) → IsBoundsOf p.settings d b → Is b) → HasBounds p found x Is
+  bounds_of Is k d j x there name says =
+      let r = staged 0 ds k d j x there name in
+      let b = some_within found r.stage (omega (arith, all.each, slice_get_within (stages_of ds) r.stage r.declared r.there)) in
+      let h = all.stage r.stage r.declared b.0 r.there b.1 in
       let item = r.item in
       let number : r.declared.item ≡ k = omega arith in
       let same : h.0 ≡ d = same_Some h.0 d (sym h.1 ∙ (ap (slice_get ds) number ∙ there)) in
-      (a.0, subst (λ (e : Declaration). IsDomain ss e (Ok a.0)) same h.2)
+      record {
+        bounds = b.0;
+        there = ap (slice_get found) (place_of r.stage r.declared x r.there r.name) ∙ b.1;
+        is = says b.0 (subst (λ (e : Declaration). IsBoundsOf p.settings e b.0) same h.2);
+      }
 
-  domain_of_item : (k : ℕ) (d : Declaration) → slice_get ds k ≡ Some d → HasDomain ss d
-  domain_of_item k (tree.param x) there = tt
-  domain_of_item k (tree.image i) there = area_of_item k (tree.image i) there tt
-  domain_of_item k (tree.function f) there = area_of_item k (tree.function f) there tt
-  domain_of_item k (tree.accumulator a) there = area_of_item k (tree.accumulator a) there tt
-  domain_of_item k (tree.output o) there = tt
+  planes_of : (k : ℕ) (i : Image) (ns : Names) → slice_get ds k ≡ Some (tree.image i) → i.names ≡ ns → HavePlanes p found i ns
+  planes_of k i (One x) there e =
+      bounds_of (IsPlaneBounds p i) k (tree.image i) 0 x there (ap (λ (ns : Names). slice_get (names_in ns) 0) e) (plane_bounds p i)
+  planes_of k i (Three x y z) there e =
+      let one = λ (j : ℕ) (w : List ℕ) (at : slice_get (names_in i.names) j ≡ Some w). bounds_of (IsPlaneBounds p i) k (tree.image i) j w there at (plane_bounds p i) in
+      (one 0 x (ap (λ (ns : Names). slice_get (names_in ns) 0) e), one 1 y (ap (λ (ns : Names). slice_get (names_in ns) 1) e), one 2 z (ap (λ (ns : Names). slice_get (names_in ns) 2) e))
 
-pub ready : (ss : List Setting) (ds : List Declaration) → IsNamed ds → IsInBounds ss ds → AreReady ss ds
-ready ss ds named bounds = record {
-  ranged = ranged_items ds named;
-  domains = λ k d l. domain_of_item ss ds bounds.areas bounds.domains k (slice_index_or ds k d) (slice_get-get_or ds k d l);
-}
+  bound_item : (k : ℕ) (d : Declaration) → slice_get ds k ≡ Some d → IsBoundItem p found d
+  bound_item k (tree.param x) there = tt
+  bound_item k (tree.image i) there = planes_of k i i.names there refl
+  bound_item k (tree.function f) there = bounds_of (IsFunctionBounds p f) k (tree.function f) 0 f.name there refl (function_bounds p f)
+  bound_item k (tree.accumulator a) there = bounds_of (IsAccumulatorBounds p a) k (tree.accumulator a) 0 a.name there refl (accumulator_bounds p a)
+  bound_item k (tree.output o) there = tt
+
+  pub ready : AreReady p found ds
+  ready = record {
+    ranged = ranged_items ds named;
+    bound = λ k d l. bound_item k (slice_index_or ds k d) (slice_get-get_or ds k d l);
+  }

@@ -16,7 +16,7 @@ use Rattle.pipe_checks.specs.declared.symbol.Symbol.{Symbol}
 use Rattle.pipe_checks.specs.declared.symbol.NameKind.TheVariants.{Plane, Func, Accum}
 use Rattle.pipe_checks.specs.Graph.{links_at}
 use Rattle.pipe_checks.specs.Names.{names_of, item_names, names_from, is_param, declared_names, stages_of, number_of}
-use Rattle.pipe_checks.specs.Sites.{links_of, graph_of}
+use Rattle.pipe_checks.specs.Accesses.{links_of, graph_of}
 use Rattle.pipe_checks.specs.Checking.{NoneTwice}
 use Rattle.job.specs.Pipeline.{Stage, rank_of}
 use Rattle.binding.specs.Binding.{Program, rank_named, plane_stage, function_stage, accumulator_stage, names_in, item_stages}

@@ -5,14 +5,12 @@ use Rattle.std.specs.List.{flat_map}
 use Rattle.std.specs.Option.{option_map, option_map_or}
 use Rattle.std.specs.Str.{bytes_eq}
 use Rattle.domains.specs.Span.{Ends}
-use Rattle.domains.specs.Index.{Scale}
 use Rattle.domains.specs.Sides.{Sides}
 use Rattle.domains.specs.declared.area.Area.{Area}
 use Rattle.netpbm.specs.Image.{Image as Picture}
 use Rattle.pipe_tree.specs.declared.tree.Term.{Term}
 use Rattle.pipe_tree.specs.declared.tree.Test.{Test as TestText}
 use Rattle.pipe_tree.specs.declared.tree.Test.TheVariants.{Compare, Remainder}
-use Rattle.pipe_tree.specs.declared.tree.Index.{Index}
 use Rattle.pipe_tree.specs.declared.tree.AffineSpan.{AffineSpan}
 use Rattle.pipe_tree.specs.declared.tree.Variable.{Variable}
 use Rattle.pipe_tree.specs.declared.tree.Names.{Names}
@@ -22,12 +20,13 @@ use Rattle.pipe_tree.specs.Tree as tree
 use Rattle.pipe_tree.specs.Tree.{Node, Branch, Function, Accumulator, Declaration}
 use Rattle.pipe_checks.specs.declared.symbol.Symbol.{Symbol}
 use Rattle.pipe_bounds.specs.declared.params.Setting.{Setting}
+use Rattle.pipe_bounds.specs.InBounds.{scale_of}
 use Rattle.pipe_bounds.specs.Settings.{affine_value, param_value}
 use Rattle.pipe_checks.specs.Names.{params_of, stages_of, number_of}
 use Rattle.pipe_checks.specs.Checking.{IsNamed}
 use Rattle.pipe_bounds.specs.Within.{AllSet}
 use Rattle.pipe_checks.specs.Graph.{IsRanking}
-use Rattle.pipe_checks.specs.Sites.{graph_of, is_plane}
+use Rattle.pipe_checks.specs.Accesses.{graph_of, is_plane}
 use Rattle.job.specs.Formula.{Axis, row, column, Formula, number, coordinate, read, neg, binary, literal, abs, clamp, select, stencil, Test, compare, remainder}
 use Rattle.job.specs.Pipeline.{JobCase, plane, function, accumulator, Stage, Output, Parameter, Pipeline}
 use Rattle.job.specs.Boxes.{box_of}
@@ -95,9 +94,6 @@ name_formula p own x =
 
 -- ---- items
 
-abbrev pub scale_of : Index → Scale
-scale_of i = record { mul = pos i.mul; add = i.add; div = pos i.div }
-
 abbrev pub formula_of : Program → Variables → Node → Formula
 formula_of p own (tree.number n) = number (pos n)
 formula_of p own (tree.variable x) = name_formula p own x
@@ -130,9 +126,12 @@ area_of p x y = record { rows = ends_of p x.span; cols = ends_of p y.span }
 abbrev pub extent_of : Program → List Term → Ends
 extent_of p terms = record { lo = pos 0; hi = affine_value p.settings terms -ℤ pos 1 }
 
+-- from 0 on, so many rows and columns
+abbrev pub plane_area : Program → Image → Area
+plane_area p i = record { rows = extent_of p i.rows; cols = extent_of p i.columns }
+
 abbrev pub plane_stage : Program → Image → List ℕ → Stage
-plane_stage p i x =
-    record { name = x; rank = rank_named p x; domain = record { rows = extent_of p i.rows; cols = extent_of p i.columns }; body = plane (plane_number p x) }
+plane_stage p i x = record { name = x; rank = rank_named p x; domain = plane_area p i; body = plane (plane_number p x) }
 
 abbrev pub function_stage : Program → Function → Stage
 function_stage p f =

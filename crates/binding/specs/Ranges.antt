@@ -1,12 +1,16 @@
 -- What is known of the items of a program that was checked and is in bounds.
-use Rattle.std.specs.Prelude.{◌<◌, ◌^◌, Ok, List, All}
+use Rattle.std.specs.Prelude.{ℕ, ◌<◌, ◌^◌, ◌≡◌, Option, Some, List, All, map, slice_get}
 use Rattle.std.specs.Option.{ForSome}
 use Rattle.domains.specs.Index.{IsIndex}
 use Rattle.domains.specs.declared.area.Area.{Area}
-use Rattle.pipe_tree.specs.Tree.{Node, number, variable, read, neg, binary, literal, abs, clamp, select, stencil, Branch, Declaration, param, image, function, accumulator, output}
-use Rattle.pipe_bounds.specs.declared.params.Setting.{Setting}
-use Rattle.pipe_bounds.specs.Domains.{IsDomain}
-use Rattle.binding.specs.Binding.{scale_of}
+use Rattle.pipe_tree.specs.declared.tree.Image.{Image}
+use Rattle.pipe_tree.specs.declared.tree.Names.{Names}
+use Rattle.pipe_tree.specs.declared.tree.Names.TheVariants.{One, Three}
+use Rattle.pipe_tree.specs.Tree.{Function, Accumulator, Node, number, variable, read, neg, binary, literal, abs, clamp, select, stencil, Branch, Declaration, param, image, function, accumulator, output}
+use Rattle.pipe_bounds.specs.StageBounds.{StageBounds}
+use Rattle.job.specs.Boxes.{box_of}
+use Rattle.binding.specs.Binding.{Program, Variables, variables_of, stage_number, test_of, ends_of, area_of, plane_area}
+use Rattle.pipe_bounds.specs.InBounds.{scale_of}
 
 -- its numbers fit 32 bits, and its indices are in range
 abbrev pub IsRanged : Node → Type 0
@@ -32,15 +36,42 @@ IsRangedItem (function f) = All IsRangedBranch f.cases × ForSome f.otherwise Is
 IsRangedItem (accumulator a) = IsRanged a.value × IsRanged a.bin
 IsRangedItem (output o) = Unit {0}
 
--- an item has a domain, if it declares stages
-abbrev pub HasDomain : List Setting → Declaration → Type 0
-HasDomain settings (param p) = Unit {0}
-HasDomain settings (image i) = (a : Area) × IsDomain settings (image i) (Ok a)
-HasDomain settings (function f) = (a : Area) × IsDomain settings (function f) (Ok a)
-HasDomain settings (accumulator f) = (a : Area) × IsDomain settings (accumulator f) (Ok a)
-HasDomain settings (output o) = Unit {0}
+-- ---- what was found of its stages, by the names that stand for them
+
+-- of the stage of this name
+pub record HasBounds (p : Program) (found : List StageBounds) (x : List ℕ) (Is : StageBounds → Type 0) : Type 0 where
+  pub bounds : StageBounds
+  pub there : slice_get found (stage_number p x) ≡ Some bounds
+  pub is : Is bounds
+
+abbrev pub IsPlaneBounds : Program → Image → StageBounds → Type 0
+IsPlaneBounds p i b = b.domain ≡ plane_area p i
+
+-- the box of a case in a domain
+abbrev pub box_in : Program → Variables → Area → Branch → Option Area
+box_in p own domain b = box_of domain (map (test_of p own) b.condition)
+
+pub record IsFunctionBounds (p : Program) (f : Function) (b : StageBounds) : Type 0 where
+  pub domain : b.domain ≡ area_of p f.row f.column
+  pub boxes : b.boxes ≡ map (box_in p (variables_of f.row f.column) b.domain) f.cases
+
+pub record IsAccumulatorBounds (p : Program) (a : Accumulator) (b : StageBounds) : Type 0 where
+  pub domain : b.domain ≡ area_of p a.row a.column
+  pub bins : b.bins ≡ Some (ends_of p a.bins)
+
+abbrev pub HavePlanes : Program → List StageBounds → Image → Names → Type 0
+HavePlanes p found i (One x) = HasBounds p found x (IsPlaneBounds p i)
+HavePlanes p found i (Three x y z) =
+    HasBounds p found x (IsPlaneBounds p i) × HasBounds p found y (IsPlaneBounds p i) × HasBounds p found z (IsPlaneBounds p i)
+
+abbrev pub IsBoundItem : Program → List StageBounds → Declaration → Type 0
+IsBoundItem p found (param x) = Unit {0}
+IsBoundItem p found (image i) = HavePlanes p found i i.names
+IsBoundItem p found (function f) = HasBounds p found f.name (IsFunctionBounds p f)
+IsBoundItem p found (accumulator a) = HasBounds p found a.name (IsAccumulatorBounds p a)
+IsBoundItem p found (output o) = Unit {0}
 
 -- all this holds of each item
-pub record AreReady (settings : List Setting) (items : List Declaration) : Type 0 where
+pub record AreReady (p : Program) (found : List StageBounds) (items : List Declaration) : Type 0 where
   pub ranged : All IsRangedItem items
-  pub domains : All (HasDomain settings) items
+  pub bound : All (IsBoundItem p found) items

@@ -4,7 +4,9 @@
 ghost use Rattle.std.specs.Prelude.{◌≡◌, ◌≢◌, ◌⊎◌, [], ◌∷◌, IfOk, IfErr, OnOk, map};
 ghost use Rattle.pipe_tree.specs.Content.{content};
 ghost use Rattle.pipe_checks.specs.Checking.{IsCheckedOf, tree_in, params_in};
+ghost use Rattle.pipe_checks.specs.Names.{stages_of};
 ghost use Rattle.pipe_bounds.specs.InBounds.{IsInBounds};
+ghost use Rattle.pipe_bounds.specs.StageBounds.{AreBoundsOf};
 ghost use Rattle.binding.specs.declared.fault.BindFault.TheVariants.{Bounds, Memory};
 ghost use Rattle.binding.specs.Fits.{PlanesFit, ExtentsFit};
 ghost use Rattle.binding.specs.BindFaults.{IsUnnamed, IsEarlyFault, IsBound, IsBindFault};
@@ -27,7 +29,7 @@ use crate::sizes::size_fault;
 use domains::TileSides;
 use job::{BoundPipeline, Job, Output, Parameter, Stage};
 use netpbm::Picture;
-use pipe_bounds::{BoundFault, Params, bounds};
+use pipe_bounds::{BoundFault, Params, StageBounds, bounds_by_stage};
 use pipe_checks::Checked;
 use pipe_print::print;
 use pipe_tree::Image;
@@ -50,14 +52,20 @@ fn bound_fault(fault: BoundFault) -> BindFault
     }
 }
 
-fn resolve(alloc: Global, checked: &Checked, params: &Params) -> Result<Parts, AllocError>
-    requires { IsInBounds params.now (content (tree_in checked.now)) }
+fn resolve(
+    alloc: Global,
+    checked: &Checked,
+    params: &Params,
+    found: &[StageBounds],
+) -> Result<Parts, AllocError>
+    requires { AreBoundsOf params.now (content (tree_in checked.now)) (stages_of (content (tree_in checked.now))) found.now }
     ensures { IfOk result (ArePartsOf (program_of checked.now params.now) (content (tree_in checked.now))) }
 {
     let resolver = Resolver {
         alloc,
         checked,
         params,
+        found,
     };
     let items = checked.tree().items();
     Ok(Parts {
@@ -67,21 +75,25 @@ fn resolve(alloc: Global, checked: &Checked, params: &Params) -> Result<Parts, A
     })
 }
 
-// Whether the program is in bounds and the picture fits.
+// What is found of the stages, where the program is in bounds and the picture fits.
 fn judge(
     alloc: Global,
     checked: &Checked,
     params: &Params,
     image: &Image,
     picture: &Picture,
-) -> Result<(), BindFault>
+) -> Result<Vec<StageBounds>, BindFault>
+    ensures found { IfOk result (λ v. AreBoundsOf params.now (content (tree_in checked.now)) (stages_of (content (tree_in checked.now))) v.items) }
     ensures bounds { OnOk result (IsInBounds params.now (content (tree_in checked.now))) }
     ensures image { OnOk result (IsImage picture.now) }
     ensures picture { OnOk result (PlanesFit image.now picture.now × ExtentsFit params.now image.now picture.now) }
     ensures fault { IfErr result (λ f. (f ≡ Memory) ⊎ IsEarlyFault params.now (content (tree_in checked.now)) image.now picture.now f) }
 {
-    match bounds(alloc, checked, params) {
-        Ok(()) => judge_picture(params, image, picture),
+    match bounds_by_stage(alloc, checked, params) {
+        Ok(found) => {
+            judge_picture(params, image, picture)?;
+            Ok(found)
+        }
         Err(fault) => Err(bound_fault(fault)),
     }
 }
@@ -98,8 +110,8 @@ fn parts_for(
     ensures fault { IfErr result (λ f. (f ≡ Memory) ⊎ IsPartsFault (content (tree_in checked.now)) (program_of checked.now params.now) picture.now f) }
 {
     let settled = settings_for(alloc, image, picture, params)?;
-    judge(alloc, checked, &settled, image, picture)?;
-    match resolve(alloc, checked, &settled) {
+    let found = judge(alloc, checked, &settled, image, picture)?;
+    match resolve(alloc, checked, &settled, &found) {
         Ok(parts) => Ok(parts),
         Err(_) => Err(BindFault::Memory),
     }

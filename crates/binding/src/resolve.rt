@@ -2,17 +2,15 @@
 //! Names to numbers: formulas and tests of a program at the values of its parameters.
 
 ghost use Rattle.std.specs.Prelude.{◌≡◌, ◌<◌, ◌^◌, pos, IfOk, filter, map};
-ghost use Rattle.domains.specs.Index.{IsIndex};
 ghost use Rattle.pipe_tree.specs.Tree.{view};
-ghost use Rattle.pipe_checks.specs.Sites.{is_plane};
-ghost use Rattle.binding.specs.Binding.{stage_number, rank_named, plane_number, axis_of, name_formula, scale_of, formula_of, test_of};
+ghost use Rattle.pipe_checks.specs.Accesses.{is_plane};
+ghost use Rattle.binding.specs.Binding.{stage_number, rank_named, plane_number, axis_of, name_formula, formula_of, test_of};
 ghost use Rattle.binding.specs.Ranges.{IsRanged};
 ghost use Rattle.job.specs.Views.{axis_view, formula_view, test_view};
 ghost use Rattle.binding.specs.Resolving.{program_in, variables_in};
 
-use domains::Index;
 use job::{Axis, Factors, Formula, Kernel, Test};
-use pipe_bounds::{Params, affine_value};
+use pipe_bounds::{Params, StageBounds, affine_value, index_of};
 use pipe_checks::{Checked, NameKind, Symbol, is_same, number_of};
 use pipe_tokens::Name;
 use pipe_tree::Expr;
@@ -52,19 +50,6 @@ fn number_of_text(number: u32) -> i32
     number as i32
 }
 
-// An index of the text.
-fn index_of(index: &pipe_tree::Index) -> Index
-    requires { IsIndex (scale_of index.now) }
-    ensures { result ≡ scale_of index.now }
-{
-    let mul = number_of_text(index.mul);
-    let div = number_of_text(index.div);
-    match Index::new(mul, index.add, div) {
-        Some(index) => index,
-        None => unreachable!(),
-    }
-}
-
 fn axis_of(own: &Variables, name: &Name) -> Axis
     ensures { axis_view result ≡ axis_of (variables_in own.now) name.now }
 {
@@ -92,12 +77,13 @@ fn kernel_of(alloc: Global, kernel: &pipe_tree::Kernel) -> Result<Kernel, AllocE
     Ok(Kernel::new(rows))
 }
 
-/// A program at the values of its parameters.
+/// A program at the values of its parameters, and what was found of each of its stages.
 #[derive(Drop)]
 pub(crate) struct Resolver<'a> {
     pub alloc: Global,
     pub checked: &'a Checked,
     pub params: &'a Params,
+    pub found: &'a [StageBounds],
 }
 
 impl Resolver<'_> {

@@ -1,51 +1,45 @@
 #![tactic(auto)]
 //! The stages that items declare.
 
-ghost use Rattle.std.specs.Prelude.{◌≡◌, ◌++◌, All, IfOk, OnOk, map};
+ghost use Rattle.std.specs.Prelude.{◌≡◌, ◌<◌, ◌++◌, All, Some, IfOk, OnOk, length, map, slice_get};
 ghost use Rattle.std.specs.List.{flat_map};
 ghost use Rattle.std.specs.Option.{option_map, ForSome};
 ghost use Rattle.pipe_tree.specs.Tree.{function, accumulator, view, branch, branches, function_of, accumulator_of, declaration, declarations};
-ghost use Rattle.domains.specs.Area.{IsArea};
-ghost use Rattle.job.specs.Boxes.{box_of};
-ghost use Rattle.binding.specs.Binding.{formula_of, test_of, case_of, ends_of, area_of, plane_stage, function_stage, accumulator_stage, names_in, item_stages};
-ghost use Rattle.binding.specs.Ranges.{IsRanged, IsRangedBranch, IsRangedItem, HasDomain, AreReady};
+ghost use Rattle.binding.specs.Binding.{stage_number, formula_of, case_of, plane_stage, function_stage, accumulator_stage, names_in, item_stages};
+ghost use Rattle.binding.specs.Ranges.{IsRanged, IsRangedBranch, IsRangedItem, HasBounds, box_in, IsPlaneBounds, HavePlanes, IsBoundItem, AreReady};
 ghost use Rattle.job.specs.Views.{formula_view, case_view, stage_view};
-ghost use Rattle.binding.specs.Resolving.{program_in, variables_in, plane_area, IsStageItem, IsItemDomain};
+ghost use Rattle.binding.specs.Resolving.{program_in, variables_in};
 
 use crate::resolve::{Resolver, Variables};
-use domains::{Area, Span};
 use job::{Accumulator, Body, Formula, Function, JobCase, Stage};
-use pipe_bounds::{bins, case_box, stage_domain};
+use pipe_bounds::StageBounds;
 use pipe_tokens::Name;
 use pipe_tree::{Accum, Case, Expr, Func, Image, Item, Names, Test};
 use std::alloc::AllocError;
 
-// An area has a point.
-fn is_known(area: &Area)
-    ensures { IsArea area.now }
-{
-    let _ = (area.rows.lo(), area.cols.lo());
-}
-
 impl Resolver<'_> {
-    // The points of the domain that the tests of bounds leave.
-    fn part(&self, own: &Variables, domain: &Area, tests: &[Test]) -> Option<Area>
-        ensures { result ≡ box_of domain.now (map (test_of (program_in self.now) (variables_in own.now)) tests.now) }
+    // What was found of the stage of this name.
+    fn bounds(&self, name: &Name) -> &StageBounds
+        requires { stage_number (program_in self.now) name.now < length self.now.found.now }
+        ensures { slice_get self.now.found.now (stage_number (program_in self.now) name.now) ≡ Some result.now }
     {
-        is_known(domain);
-        let left = case_box(self.params, &own.row, domain, tests)?;
-        is_known(&left);
-        Some(left)
+        &self.found[self.stage_number(name)]
     }
 
-    fn piece(&self, own: &Variables, domain: &Area, case: &Case) -> Result<JobCase, AllocError>
-        requires { IsRangedBranch (branch case.now) }
-        ensures { IfOk result (λ p. case_view p ≡ case_of (program_in self.now) (variables_in own.now) domain.now (branch case.now)) }
+    fn job_case(
+        &self,
+        own: &Variables,
+        bounds: &StageBounds,
+        number: usize,
+        case: &Case,
+    ) -> Result<JobCase, AllocError>
+        requires ranged { IsRangedBranch (branch case.now) }
+        requires boxed { slice_get bounds.now.boxes number ≡ Some (box_in (program_in self.now) (variables_in own.now) bounds.now.domain (branch case.now)) }
+        ensures { IfOk result (λ p. case_view p ≡ case_of (program_in self.now) (variables_in own.now) bounds.now.domain (branch case.now)) }
     {
-        let tests = case.condition.tests();
         Ok(JobCase::new(
-            self.part(own, domain, tests),
-            self.tests(own, tests)?,
+            bounds.boxes()[number],
+            self.tests(own, case.condition.tests())?,
             self.formula(own, &case.value)?,
         ))
     }
@@ -53,15 +47,16 @@ impl Resolver<'_> {
     fn job_cases(
         &self,
         own: &Variables,
-        domain: &Area,
+        bounds: &StageBounds,
         cases: &[Case],
     ) -> Result<Vec<JobCase>, AllocError>
-        requires { All IsRangedBranch (branches cases.now) }
-        ensures { IfOk result (λ v. map case_view v.items ≡ map (case_of (program_in self.now) (variables_in own.now) domain.now) (branches cases.now)) }
+        requires ranged { All IsRangedBranch (branches cases.now) }
+        requires boxed { bounds.now.boxes ≡ map (box_in (program_in self.now) (variables_in own.now) bounds.now.domain) (branches cases.now) }
+        ensures { IfOk result (λ v. map case_view v.items ≡ map (case_of (program_in self.now) (variables_in own.now) bounds.now.domain) (branches cases.now)) }
     {
         let mut job_cases = Vec::new(self.alloc);
-        for case in cases {
-            job_cases.push(self.piece(own, domain, case)?)?;
+        for (number, case) in cases.iter().enumerate() {
+            job_cases.push(self.job_case(own, bounds, number, case)?)?;
         }
         Ok(job_cases)
     }
@@ -80,97 +75,70 @@ impl Resolver<'_> {
         }
     }
 
-    // The domain of an item that declares stages.
-    fn domain(&self, item: &Item) -> Area
-        requires some { HasDomain self.now.params.now (declaration item.now) }
-        requires stage { IsStageItem (declaration item.now) }
-        ensures { IsItemDomain (program_in self.now) (declaration item.now) result }
-    {
-        match stage_domain(self.params, item) {
-            Ok(area) => area,
-            Err(_) => unreachable!(),
-        }
-    }
-
-    fn bins(&self, accum: &Accum) -> Span
-        requires { HasDomain self.now.params.now (accumulator (accumulator_of accum.now)) }
-        ensures { result ≡ ends_of (program_in self.now) accum.now.bins }
-    {
-        match bins(self.params, accum) {
-            Ok(span) => span,
-            Err(_) => unreachable!(),
-        }
-    }
-
-    fn plane(&self, image: &Image, name: &Name, domain: &Area) -> Result<Stage, AllocError>
-        requires { domain.now ≡ plane_area (program_in self.now) image.now }
+    fn plane(&self, image: &Image, name: &Name) -> Result<Stage, AllocError>
+        requires { HasBounds (program_in self.now) self.now.found.now name.now (IsPlaneBounds (program_in self.now) image.now) }
         ensures { IfOk result (λ s. stage_view s ≡ plane_stage (program_in self.now) image.now name.now) }
     {
         Ok(Stage::new(
             *name,
             self.rank(name),
-            *domain,
+            *self.bounds(name).domain(),
             Body::Plane(self.plane_number(name)?),
         ))
     }
 
-    fn function(&self, func: &Func, domain: &Area) -> Result<Stage, AllocError>
+    fn function(&self, func: &Func) -> Result<Stage, AllocError>
         requires ranged { IsRangedItem (function (function_of func.now)) }
-        requires domain { domain.now ≡ area_of (program_in self.now) func.now.row func.now.column }
+        requires bound { IsBoundItem (program_in self.now) self.now.found.now (function (function_of func.now)) }
         ensures { IfOk result (λ s. stage_view s ≡ function_stage (program_in self.now) (function_of func.now)) }
     {
         let own = Variables {
             row: func.row.name,
             column: func.column.name,
         };
-        let job_cases = self.job_cases(&own, domain, func.cases.list())?;
+        let bounds = self.bounds(&func.name);
+        let job_cases = self.job_cases(&own, bounds, func.cases.list())?;
         let otherwise = self.otherwise(&own, &func.otherwise)?;
         Ok(Stage::new(
             func.name,
             self.rank(&func.name),
-            *domain,
+            *bounds.domain(),
             Body::Function(Function::new(job_cases, otherwise)),
         ))
     }
 
-    fn accumulator(&self, accum: &Accum, domain: &Area) -> Result<Stage, AllocError>
+    fn accumulator(&self, accum: &Accum) -> Result<Stage, AllocError>
         requires ranged { IsRangedItem (accumulator (accumulator_of accum.now)) }
-        requires some { HasDomain self.now.params.now (accumulator (accumulator_of accum.now)) }
-        requires domain { domain.now ≡ area_of (program_in self.now) accum.now.row accum.now.column }
+        requires bound { IsBoundItem (program_in self.now) self.now.found.now (accumulator (accumulator_of accum.now)) }
         ensures { IfOk result (λ s. stage_view s ≡ accumulator_stage (program_in self.now) (accumulator_of accum.now)) }
     {
         let own = Variables {
             row: accum.row.name,
             column: accum.column.name,
         };
-        let bins = self.bins(accum);
+        let bounds = self.bounds(&accum.name);
         let value = self.formula(&own, &accum.value)?;
         let bin = self.formula(&own, &accum.bin)?;
         Ok(Stage::new(
             accum.name,
             self.rank(&accum.name),
-            *domain,
-            Body::Accumulator(Accumulator::new(accum.fold, bins, value, bin)),
+            *bounds.domain(),
+            Body::Accumulator(Accumulator::new(accum.fold, bounds.bins().unwrap(), value, bin)),
         ))
     }
 
-    fn add_planes(
-        &self,
-        stages: &mut Vec<Stage>,
-        image: &Image,
-        domain: &Area,
-    ) -> Result<(), AllocError>
-        requires { domain.now ≡ plane_area (program_in self.now) image.now }
+    fn add_planes(&self, stages: &mut Vec<Stage>, image: &Image) -> Result<(), AllocError>
+        requires { HavePlanes (program_in self.now) self.now.found.now image.now image.now.names }
         ensures { OnOk result (map stage_view stages.new.items ≡ map stage_view stages.old.items ++ map (plane_stage (program_in self.now) image.now) (names_in image.now.names)) }
     {
         match &image.names {
             Names::One(name) => {
-                stages.push(self.plane(image, name, domain)?)?;
+                stages.push(self.plane(image, name)?)?;
             }
             Names::Three(red, green, blue) => {
-                stages.push(self.plane(image, red, domain)?)?;
-                stages.push(self.plane(image, green, domain)?)?;
-                stages.push(self.plane(image, blue, domain)?)?;
+                stages.push(self.plane(image, red)?)?;
+                stages.push(self.plane(image, green)?)?;
+                stages.push(self.plane(image, blue)?)?;
             }
         }
         Ok(())
@@ -178,22 +146,13 @@ impl Resolver<'_> {
 
     fn add_item(&self, stages: &mut Vec<Stage>, item: &Item) -> Result<(), AllocError>
         requires ranged { IsRangedItem (declaration item.now) }
-        requires domain { HasDomain self.now.params.now (declaration item.now) }
+        requires bound { IsBoundItem (program_in self.now) self.now.found.now (declaration item.now) }
         ensures { OnOk result (map stage_view stages.new.items ≡ map stage_view stages.old.items ++ item_stages (program_in self.now) (declaration item.now)) }
     {
         match item {
-            Item::Image(image) => {
-                let domain = self.domain(item);
-                self.add_planes(stages, image, &domain)?;
-            }
-            Item::Func(func) => {
-                let domain = self.domain(item);
-                stages.push(self.function(func, &domain)?)?;
-            }
-            Item::Accum(accum) => {
-                let domain = self.domain(item);
-                stages.push(self.accumulator(accum, &domain)?)?;
-            }
+            Item::Image(image) => self.add_planes(stages, image)?,
+            Item::Func(func) => stages.push(self.function(func)?)?,
+            Item::Accum(accum) => stages.push(self.accumulator(accum)?)?,
             Item::Param(_) | Item::Output(_) => {}
         }
         Ok(())
@@ -201,7 +160,7 @@ impl Resolver<'_> {
 
     /// The stages of all items, in the order of the text.
     pub fn stages(&self, items: &[Item]) -> Result<Vec<Stage>, AllocError>
-        requires { AreReady self.now.params.now (declarations items.now) }
+        requires { AreReady (program_in self.now) self.now.found.now (declarations items.now) }
         ensures { IfOk result (λ v. map stage_view v.items ≡ flat_map (item_stages (program_in self.now)) (declarations items.now)) }
     {
         let mut stages = Vec::new(self.alloc);

@@ -1,0 +1,3 @@
+pub mod AskedRequest
+pub mod ChosenOptions
+pub mod SpelledParameters

@@ -1,1 +1,4 @@
+pub mod Asking
 pub mod Tasks
+pub mod Usage
+pub mod Values

@@ -3,6 +3,8 @@
 
 mod options;
 mod tasks;
+mod usage;
+mod values;
 mod words;
 
 pub use options::{Options, Percent};

@@ -30,6 +30,7 @@ impl Percent {
     /// So many percent; none above 10,000.
     pub fn new(percent: u32) -> Option<Percent>
         ensures some { IfSome result (λ p. p ≡ percent) }
+        ensures within { IfSome result (λ p. p ≤ 10000) }
         ensures none { IfNone result (10000 < percent) }
     {
         if percent <= MOST_PERCENT {

@@ -1,7 +1,8 @@
 //! What the program can be asked to do.
 
-ghost use Rattle.std.specs.Prelude.{IfSome};
+ghost use Rattle.std.specs.Prelude.{IfNone, IfSome};
 ghost use Rattle.command_line.specs.Tasks.{AsksFor};
+ghost use Rattle.command_line.specs.declared.tasks.Task.{Task as TaskType};
 
 /// What the program is asked to do.
 #[derive(Clone, Copy, Debug, PartialEq, Eq)]
@@ -16,7 +17,8 @@ pub enum Task {
 
 /// What the first word asks for.
 pub fn task_of(words: &[String]) -> Option<Task>
-    ensures { IfSome result (AsksFor words.now) }
+    ensures some { IfSome result (AsksFor words.now) }
+    ensures none { IfNone result ((task : TaskType) → ¬ AsksFor words.now task) }
 {
     let word = words.first()?;
     match word.as_str() {

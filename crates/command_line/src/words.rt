@@ -1,12 +1,22 @@
 //! What the words of the command line ask for.
 
-ghost use Rattle.std.specs.Prelude.{IfOk};
+ghost use Rattle.std.specs.Prelude.{◌≡◌, ◌≢◌, IfOk, IfErr, IfSome, IfNone, List, ℕ, map};
+ghost use Rattle.std.specs.List.{list_any};
+ghost use Rattle.clap.specs.Words.{first_of, found_of, kind_of, rows_of};
+ghost use Rattle.clap.specs.declared.error.kind.ErrorKind.TheVariants.{OutOfMemory};
+ghost use Rattle.command_line.specs.Asking.{AreOptions, AreParameters, AreParametersIn, Given, IsRequestOf, is_separator};
 ghost use Rattle.command_line.specs.Tasks.{AsksFor};
+ghost use Rattle.command_line.specs.Values.{IsChosen, is_true};
+ghost use Rattle.command_line.specs.declared.options.Options.{Options as OptionsType};
+ghost use Rattle.command_line.specs.declared.words.Request.{Request as RequestType};
+ghost use Rattle.command_line.specs.declared.words.Refusal.TheVariants as refusals;
 
 use crate::options::{Options, Percent};
 use crate::tasks::{Task, task_of};
+use crate::usage::usage;
+use crate::values::{is_true, number_of, parameter};
 use clap::error::ErrorKind;
-use clap::{Arg, ArgAction, ArgMatches, Command, Error};
+use clap::{ArgMatches, Error};
 use domains::TileSides;
 use std::alloc::{AllocError, AllocFailed, Global};
 
@@ -26,18 +36,24 @@ pub enum Refusal {
 }
 
 impl From<AllocError> for Refusal {
+    ghost from_gives = { λ _ refusal. refusal ≡ refusals.Memory };
+
     fn from(_error: AllocError) -> Refusal {
         Refusal::Memory
     }
 }
 
 impl<T: Drop> From<AllocFailed<T>> for Refusal {
+    ghost from_gives = { λ _ refusal. refusal ≡ refusals.Memory };
+
     fn from(_error: AllocFailed<T>) -> Refusal {
         Refusal::Memory
     }
 }
 
 impl From<Error> for Refusal {
+    ghost from_gives = { λ error refusal. refusal ≡ refusals.Usage → kind_of error ≢ OutOfMemory };
+
     fn from(error: Error) -> Refusal {
         match error.kind() {
             ErrorKind::OutOfMemory => Refusal::Memory,
@@ -46,106 +62,101 @@ impl From<Error> for Refusal {
     }
 }
 
-/// What the words, without the program's own name, ask for.
+/// What the words, without the program's own name, ask for. They are refused as usage only where they ask for nothing.
 pub fn request_of(alloc: Global, words: &[String]) -> Result<Request, Refusal>
-    ensures { IfOk result (λ request. AsksFor words.now request.task) }
+    ensures asked { IfOk result (IsRequestOf words.now) }
+    ensures usage { IfErr result (λ refusal. refusal ≡ refusals.Usage
+        → (request : RequestType) → ¬ IsRequestOf words.now request) }
 {
-    if words.iter().any(|word| word.as_str() == "--") {
+    if has_separator(words) {
         return Err(Refusal::Usage);
     }
     let Some(task) = task_of(words) else {
         return Err(Refusal::Usage);
     };
-    let matches = program(alloc)?.try_get_matches_from(words)?;
-    match matches.subcommand() {
-        Some((_, given)) => Ok(Request {
-            task,
-            options: options_of(given)?,
-            parameters: given_parameters(alloc, given)?,
-        }),
-        None => Err(Refusal::Usage),
-    }
-}
-
-fn program<'a>(alloc: Global) -> Result<Command<'a>, AllocError> {
-    Command::new(alloc, "tilefarm")
-        .no_binary_name(true)
-        .disable_help_flag(true)
-        .disable_help_subcommand(true)
-        .subcommand_required(true)
-        .subcommand(subcommand(alloc, "eval")?)?
-        .subcommand(subcommand(alloc, "check")?)?
-        .subcommand(subcommand(alloc, "plan")?)
-}
-
-/// A command that takes options and values of parameters.
-fn subcommand<'a>(alloc: Global, name: &'a str) -> Result<Command<'a>, AllocError> {
-    let parameters = Arg::new(alloc, "NAME=VALUE")
-        .action(ArgAction::Append)
-        .num_args(0..);
-    Command::new(alloc, name)
-        .disable_help_flag(true)
-        .arg(number(alloc, "rows"))?
-        .arg(number(alloc, "cols"))?
-        .arg(number(alloc, "percent"))?
-        .arg(flag(alloc, "stored"))?
-        .arg(parameters)
-}
-
-/// An option that takes a number.
-fn number<'a>(alloc: Global, name: &'a str) -> Arg<'a> {
-    Arg::new(alloc, name).long(name).action(ArgAction::Set)
-}
-
-/// An option that takes nothing.
-fn flag<'a>(alloc: Global, name: &'a str) -> Arg<'a> {
-    Arg::new(alloc, name).long(name).action(ArgAction::SetTrue)
-}
-
-/// How the command is to be run; what is not given is as usual.
-fn options_of(given: &ArgMatches) -> Result<Options, Refusal> {
-    let usual = Options::usual();
-    let rows = number_of(given, "rows", usual.sides.height())?;
-    let cols = number_of(given, "cols", usual.sides.width())?;
-    let percent = number_of(given, "percent", usual.percent.get())?;
-    Ok(Options {
-        sides: TileSides::new(rows, cols).ok_or(Refusal::Usage)?,
-        percent: Percent::new(percent).ok_or(Refusal::Usage)?,
-        stored: given.get_flag("stored"),
+    let matches = usage(alloc)?.try_get_matches_from(words)?;
+    let Some((_, given)) = matches.subcommand() else {
+        return Err(Refusal::Usage);
+    };
+    let Some(options) = options_of(given) else {
+        return Err(Refusal::Usage);
+    };
+    Ok(Request {
+        task,
+        options,
+        parameters: parameters_of(alloc, given)?,
     })
 }
 
-/// The number that an option was given, in digits alone.
-fn number_of(given: &ArgMatches, name: &str, usual: u32) -> Result<u32, Refusal> {
-    match given.get_str(name) {
-        Some(digits) if digits.starts_with('+') => Err(Refusal::Usage),
-        Some(digits) => digits.parse().or(Err(Refusal::Usage)),
-        None => Ok(usual),
+/// Whether a word is `--`, which ends the options of other programs and is none of this one's.
+fn has_separator(words: &[String]) -> bool
+    ensures { result ≡ list_any is_separator words.now }
+{
+    for word in words {
+        if word.as_str() == "--" {
+            return true;
+        }
     }
+    false
+}
+
+/// How the command is to be run; what is not given is as usual.
+fn options_of(given: &ArgMatches) -> Option<Options>
+    ensures some { IfSome result (AreOptions (rows_of (found_of given.now))) }
+    ensures none { IfNone result ((options : OptionsType)
+        → ¬ AreOptions (rows_of (found_of given.now)) options) }
+{
+    let usual = Options::usual();
+    let rows = number_in(given, "rows", usual.sides.height())?;
+    let cols = number_in(given, "cols", usual.sides.width())?;
+    let percent = number_in(given, "percent", usual.percent.get())?;
+    Some(Options {
+        sides: TileSides::new(rows, cols)?,
+        percent: Percent::new(percent)?,
+        stored: flag_in(given, "stored"),
+    })
+}
+
+/// The number of the option of this name.
+fn number_in(given: &ArgMatches, name: &str, usual: u32) -> Option<u32>
+    ensures some { IfSome result (IsChosen (first_of name.now (rows_of (found_of given.now))) usual) }
+    ensures none { IfNone result ((n : ℕ)
+        → ¬ IsChosen (first_of name.now (rows_of (found_of given.now))) usual n) }
+{
+    number_of(given.get_str(name), usual)
+}
+
+/// Whether the flag of this name was given.
+fn flag_in(given: &ArgMatches, name: &str) -> bool
+    ensures { result ≡ is_true (first_of name.now (rows_of (found_of given.now))) }
+{
+    is_true(given.get_str(name))
 }
 
 /// The values that parameters are given.
-fn given_parameters(alloc: Global, given: &ArgMatches) -> Result<Vec<(String, i32)>, Refusal> {
-    let mut parameters = Vec::new(alloc);
-    if let Some(words) = given.get_strs("NAME=VALUE") {
-        for word in words {
-            let Some((name, value)) = word.split_once('=') else {
-                return Err(Refusal::Usage);
-            };
-            let Some(value) = value_of(value) else {
-                return Err(Refusal::Usage);
-            };
-            parameters.push((String::from_str(alloc, name)?, value))?;
-        }
+fn parameters_of(alloc: Global, given: &ArgMatches) -> Result<Vec<(String, i32)>, Refusal>
+    ensures some { IfOk result (λ parameters. AreParametersIn (rows_of (found_of given.now)) parameters.items) }
+    ensures usage { IfErr result (λ refusal. refusal ≡ refusals.Usage
+        → (parameters : List Given) → ¬ AreParametersIn (rows_of (found_of given.now)) parameters) }
+{
+    match given.get_strs("NAME=VALUE") {
+        Some(words) => parameters_among(alloc, words),
+        None => Ok(Vec::new(alloc)),
     }
-    Ok(parameters)
 }
 
-/// The number that the text spells: an optional `-` and digits, within 32 bits.
-fn value_of(text: &str) -> Option<i32> {
-    if text.starts_with('+') {
-        None
-    } else {
-        text.parse().ok()
+/// The values that the words give to parameters, one each.
+fn parameters_among(alloc: Global, words: &[&str]) -> Result<Vec<(String, i32)>, Refusal>
+    ensures some { IfOk result (λ parameters. AreParameters (map (λ w. w.now) words.now) parameters.items) }
+    ensures usage { IfErr result (λ refusal. refusal ≡ refusals.Usage
+        → (parameters : List Given) → ¬ AreParameters (map (λ w. w.now) words.now) parameters) }
+{
+    let mut parameters = Vec::new(alloc);
+    for word in words {
+        let Some((name, value)) = parameter(word) else {
+            return Err(Refusal::Usage);
+        };
+        parameters.push((String::from_str(alloc, name)?, value))?;
     }
+    Ok(parameters)
 }

@@ -1,10 +1,9 @@
 //! What a job answers, by tiles.
 
-ghost use Rattle.std.specs.Prelude.{◌≡◌, ◌≤◌, IfOk, length};
+ghost use Rattle.std.specs.Prelude.{◌≡◌, IfOk};
 ghost use Rattle.accumulators.specs.Answers.{IsAnswer};
 ghost use Rattle.grouping.specs.Inlining.{AllFitScratch, IsScheduleOf};
 ghost use Rattle.job.specs.Kept.{pipeline_in};
-ghost use Rattle.job.specs.WellFormed.{IsJob};
 ghost use Rattle.tile_run.specs.KnownTiles.{AreTrue};
 ghost use Rattle.tile_run.specs.Stored.{stored_tiles, GivesAllTiles};
 ghost use Rattle.commands.specs.Replies.{reply_bytes};
@@ -22,8 +21,6 @@ use tile_run::{RunFault, Stored, run_all};
 
 /// The result of a job: the picture of its output, if it has one, and a line for each of its accumulators.
 pub fn evaluate(alloc: Global, job: &Job, options: &Options) -> Result<Reply, AllocError>
-    requires job { IsJob (pipeline_in job.now) }
-    requires few { length (pipeline_in job.now).stages ≤ 65536 }
     ensures { IfOk result (λ reply. reply_bytes reply ≡ result_bytes (pipeline_in job.now)) }
 {
     let schedule = schedule_of(alloc, job, options)?;
@@ -34,8 +31,6 @@ pub fn evaluate(alloc: Global, job: &Job, options: &Options) -> Result<Reply, Al
 
 /// The answer of a job by a schedule of which each tile has room in scratch memory. The stored tiles are let go.
 fn answer(alloc: Global, job: &Job, schedule: &Schedule) -> Result<Answer, AllocError>
-    requires job { IsJob (pipeline_in job.now) }
-    requires few { length (pipeline_in job.now).stages ≤ 65536 }
     requires schedule { IsScheduleOf (pipeline_in job.now) schedule.now }
     requires fit { AllFitScratch (pipeline_in job.now) schedule.now.inlining }
     ensures { IfOk result (IsAnswer (pipeline_in job.now)) }
@@ -50,8 +45,6 @@ fn answer(alloc: Global, job: &Job, schedule: &Schedule) -> Result<Answer, Alloc
 
 /// All tiles of the stored functions.
 fn run(alloc: Global, job: &Job, schedule: &Schedule) -> Result<Stored, AllocError>
-    requires job { IsJob (pipeline_in job.now) }
-    requires few { length (pipeline_in job.now).stages ≤ 65536 }
     requires schedule { IsScheduleOf (pipeline_in job.now) schedule.now }
     requires fit { AllFitScratch (pipeline_in job.now) schedule.now.inlining }
     ensures all { IfOk result (λ stored. GivesAllTiles (pipeline_in job.now) schedule.now.inlining (stored_tiles stored.stages.items)) }

@@ -8,9 +8,7 @@ ghost use Rattle.command_line.specs.Tasks.{AsksFor};
 ghost use Rattle.commands.specs.Sayings.{saying_of};
 ghost use Rattle.command_line.specs.declared.tasks.Task.{Task};
 
-use crate::check::check_stream;
-use crate::eval::eval_stream;
-use crate::plan::plan_stream;
+use crate::task_stream::{check_stream, eval_stream, plan_stream};
 use command_line::{Refusal, Request, Task, request_of};
 use inputs::StreamFault;
 use std::alloc::Global;

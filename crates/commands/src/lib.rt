@@ -2,17 +2,14 @@
 #![tactic(auto)]
 
 mod answer;
-mod check;
 mod command;
-mod eval;
-mod plan;
 mod plan_lines;
 mod reply;
 mod schedules;
 mod stage_lines;
+mod task_reply;
+mod task_stream;
 mod totals;
 
-pub use check::check_stream;
 pub use command::run_command;
-pub use eval::eval_stream;
-pub use plan::plan_stream;
+pub use task_stream::{check_stream, eval_stream, plan_stream};

@@ -20,6 +20,21 @@ pub struct Reply {
     pub lines: Vec<u8>,
 }
 
+impl Reply {
+    ghost use Rattle.std.specs.Prelude.{◌≡◌};
+    ghost use Rattle.commands.specs.Replies.{reply_bytes};
+
+    /// Lines alone.
+    pub fn of_lines(lines: Vec<u8>) -> Reply
+        ensures { reply_bytes result ≡ lines.items }
+    {
+        Reply {
+            picture: None,
+            lines,
+        }
+    }
+}
+
 /// Writes the raw spelling of the picture, if there is one, and the lines behind it. It takes no memory.
 pub fn write_reply<W: Sink>(reply: &Reply, writer: &mut W) -> Result<(), StreamFault>
     ensures ok { OnOk result (Appends (W.contents writer.old) (W.contents writer.new) (reply_bytes reply.now)) }

@@ -3,7 +3,6 @@
 ghost use Rattle.std.specs.Prelude.{◌≡◌, IfOk};
 ghost use Rattle.grouping.specs.Inlining.{AllFitScratch, IsScheduleOf};
 ghost use Rattle.job.specs.Kept.{pipeline_in};
-ghost use Rattle.job.specs.WellFormed.{IsJob};
 ghost use Rattle.commands.specs.Planning.{inlining_asked};
 
 use command_line::Options;
@@ -13,7 +12,6 @@ use std::alloc::{AllocError, Global};
 
 /// The schedule that stores all functions, or else the greedy one. Each of its tiles has room in scratch memory.
 pub fn schedule_of(alloc: Global, job: &Job, options: &Options) -> Result<Schedule, AllocError>
-    requires { IsJob (pipeline_in job.now) }
     ensures schedule { IfOk result (IsScheduleOf (pipeline_in job.now)) }
     ensures fits { IfOk result (λ s. AllFitScratch (pipeline_in job.now) s.inlining) }
     ensures inlining { IfOk result (λ s. s.inlining ≡ inlining_asked options.now.stored options.now.percent (pipeline_in job.now)) }

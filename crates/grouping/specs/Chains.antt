@@ -4,14 +4,15 @@ use Rattle.std.specs.List.{fold}
 use Rattle.job.specs.Pipeline.{Pipeline}
 use Rattle.grouping.specs.Order.{backward}
 use Rattle.grouping.specs.Schedules.{is_inlined}
-use Rattle.grouping.specs.Greedy.{does_read, Grouping, nothing_chosen, visited}
+use Rattle.grouping.specs.Greedy.{does_read, Grouping, initial_grouping, visited}
 
 -- a chain of reads leads from stage t through inlined functions alone: to t itself, and from each stage r that it leads to
 -- on to each inlined function x that r reads
 pub data ChainLeads (job : Pipeline) (inlining : List Bool) (t : ℕ) : ℕ → Type 0 where
   itself : ChainLeads job inlining t t
-  on : (r x : ℕ) → ChainLeads job inlining t r → does_read job x r ≡ true → is_inlined inlining x ≡ true → ChainLeads job inlining t x
+  on : (r x : ℕ) → ChainLeads job inlining t r → does_read job x r ≡ true → is_inlined inlining x ≡ true
+      → ChainLeads job inlining t x
 
 -- what is chosen when the first k stages have been visited
-abbrev pub chosen_after : Pipeline → ℕ → ℕ → Grouping
-chosen_after job percent k = fold (visited job percent) (nothing_chosen job) (take k (backward job.stages))
+abbrev pub grouping_after : Pipeline → ℕ → ℕ → Grouping
+grouping_after job percent k = fold (visited job percent) (initial_grouping job) (take k (backward job.stages))

@@ -1,13 +1,13 @@
 -- How many points a tile computes.
-use Rattle.std.specs.Prelude.{ℕ, ◌≤◌, Bool, ◌&&◌, not, if◌then◌else◌, Option, Some, None, List, [], ◌∷◌, ◌++◌, map, filter, slice_get, All}
-use Rattle.std.specs.List.{sum}
+use Rattle.std.specs.Prelude.{ℕ, ◌≤◌, nat_le, Bool, true, ◌&&◌, not, if◌then◌else◌, Option, Some, None, List, [], ◌∷◌, ◌++◌, map, filter, slice_get, All}
+use Rattle.std.specs.List.{sum, list_all}
 use Rattle.domains.specs.Area.{point_count}
 use Rattle.domains.specs.Tiles.{tile_area, tiles_of}
 use Rattle.domains.specs.declared.area.Area.{Area}
 use Rattle.job.specs.Pipeline.{Stage, Pipeline}
 use Rattle.job.specs.Answers.{grid_of, has_tiles}
 use Rattle.grouping.specs.Schedules.{is_inlined}
-use Rattle.grouping.specs.Targets.{Target, boxes}
+use Rattle.grouping.specs.Targets.{Target, target_over, boxes}
 
 abbrev pub points_in : List (ℕ × Area) → ℕ
 points_in steps = sum (map (λ s. point_count s.1) steps)
@@ -36,7 +36,7 @@ points t = points_in (steps t)
 -- a stage over each of its tiles, row by row
 abbrev pub tile_targets : Pipeline → List Bool → ℕ → Stage → List Target
 tile_targets job inlining g s =
-    map (λ tile. record { job = job; inlining = inlining; stage = g; region = tile_area (grid_of job s) tile.0 tile.1 }) (tiles_of (grid_of job s))
+    map (λ tile. target_over job inlining g (tile_area (grid_of job s) tile.0 tile.1)) (tiles_of (grid_of job s))
 
 -- the points of a stage's tiles together
 abbrev pub cost_of : Pipeline → List Bool → ℕ → Stage → ℕ
@@ -49,6 +49,18 @@ stage_cost job inlining g (Some s) = if has_tiles s.body && not (is_inlined inli
 
 abbrev pub cost : Pipeline → List Bool → ℕ → Option ℕ
 cost job inlining g = stage_cost job inlining g (slice_get job.stages g)
+
+-- ---- room in scratch memory
+
+-- what is inlined in a target has room
+abbrev pub has_scratch : Target → Bool
+has_scratch t = nat_le (scratch t) most_scratch
+
+-- so it has in each tile of a stage that has a cost
+abbrev pub stage_fits : Pipeline → List Bool → ℕ → Option Stage → Bool
+stage_fits job inlining g None = true
+stage_fits job inlining g (Some s) =
+    if has_tiles s.body && not (is_inlined inlining g) then list_all has_scratch (tile_targets job inlining g s) else true
 
 -- no tile of the stage has more in scratch memory than there may be
 abbrev pub FitsScratch : Pipeline → List Bool → ℕ → Stage → Type 0

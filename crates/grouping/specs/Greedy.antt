@@ -1,4 +1,4 @@
--- The greedy choice: functions are visited from the last to the first in dependence order, and each is inlined where all its
+-- The greedy grouping: functions are visited from the last to the first in dependence order, and each is inlined where all its
 -- readers are computed in the tiles of one stage, that pays, and there is room.
 use Rattle.std.specs.Prelude.{ℕ, ◌+◌, ◌*◌, ◌==◌, nat_le, Bool, true, ◌&&◌, not, if◌then◌else◌, Option, Some, None, List, [], ◌∷◌, filter, length, slice_get, slice_set, slice_index_or}
 use Rattle.std.specs.List.{fold, list_any, list_all, range_with_len}
@@ -8,8 +8,7 @@ use Rattle.job.specs.Reads.{Read, stage_read, reads_of}
 use Rattle.job.specs.Answers.{is_output}
 use Rattle.grouping.specs.Order.{backward}
 use Rattle.grouping.specs.Schedules.{is_function, all_stored}
-use Rattle.grouping.specs.Costs.{cost}
-use Rattle.grouping.specs.Tallies.{stage_fits}
+use Rattle.grouping.specs.Costs.{cost, stage_fits}
 
 -- ---- readers
 
@@ -25,7 +24,7 @@ does_read job g r = list_any (λ x. stage_read x == g) (reads_at job r)
 abbrev pub readers : Pipeline → ℕ → List ℕ
 readers job g = filter (does_read job g) (backward job.stages)
 
--- ---- choices
+-- ---- groups
 
 -- which functions are inlined, and the group of each stage: the stored stage in whose tiles it is computed. Planes, which have no
 -- tiles, are their own
@@ -34,8 +33,8 @@ pub record Grouping : Type 0 where
   pub groups : List ℕ
 
 -- each stage is stored, and its own group
-abbrev pub nothing_chosen : Pipeline → Grouping
-nothing_chosen job = record { inlining = all_stored job; groups = range_with_len 0 (length job.stages) }
+abbrev pub initial_grouping : Pipeline → Grouping
+initial_grouping job = record { inlining = all_stored job; groups = range_with_len 0 (length job.stages) }
 
 abbrev pub group : Grouping → ℕ → ℕ
 group c g = slice_index_or c.groups g g
@@ -51,13 +50,15 @@ with_inlined c g h = record { inlining = slice_set c.inlining g true; groups = s
 
 -- ---- the rule
 
--- the points of a stage's tiles together; none where it has no cost
-abbrev pub points_of : Pipeline → List Bool → ℕ → ℕ
-points_of job inlining g = option_map_or (λ n. n) (cost job inlining g) 0
+-- the cost of a stage; 0 where it has none
+abbrev pub cost_or_zero : Pipeline → List Bool → ℕ → ℕ
+cost_or_zero job inlining g = option_map_or (λ n. n) (cost job inlining g) 0
 
 -- with g inlined, h takes at most so many percent more points than both take apart
 abbrev pub pays : Pipeline → ℕ → List Bool → ℕ → ℕ → Bool
-pays job percent inlining g h = nat_le (100 * points_of job (slice_set inlining g true) h) ((100 + percent) * (points_of job inlining h + points_of job inlining g))
+pays job percent inlining g h =
+    nat_le (100 * cost_or_zero job (slice_set inlining g true) h)
+    ((100 + percent) * (cost_or_zero job inlining h + cost_or_zero job inlining g))
 
 -- with g inlined, each tile of h has room in scratch memory
 abbrev pub has_room : Pipeline → List Bool → ℕ → ℕ → Bool
@@ -66,15 +67,17 @@ has_room job inlining g h = stage_fits job (slice_set inlining g true) h (slice_
 -- stage g is inlined in the group of its readers, if they have one, where the rule allows it
 abbrev pub inlined_if : Pipeline → ℕ → Grouping → ℕ → Option ℕ → Grouping
 inlined_if job percent c g None = c
-inlined_if job percent c g (Some h) = if pays job percent c.inlining g h && has_room job c.inlining g h then with_inlined c g h else c
+inlined_if job percent c g (Some h) =
+    if pays job percent c.inlining g h && has_room job c.inlining g h then with_inlined c g h else c
 
--- a function that is no output is inlined where its readers have one group, that pays, and the home's tiles have room
+-- a function that is no output is inlined where its readers have one group, that pays, and the group's tiles have room
 abbrev pub visited : Pipeline → ℕ → Grouping → ℕ → Grouping
-visited job percent c g = if is_function job g && not (is_output job g) then inlined_if job percent c g (common_group c (readers job g)) else c
+visited job percent c g =
+    if is_function job g && not (is_output job g) then inlined_if job percent c g (common_group c (readers job g)) else c
 
-abbrev pub greedy_choice : Pipeline → ℕ → Grouping
-greedy_choice job percent = fold (visited job percent) (nothing_chosen job) (backward job.stages)
+abbrev pub greedy_grouping : Pipeline → ℕ → Grouping
+greedy_grouping job percent = fold (visited job percent) (initial_grouping job) (backward job.stages)
 
 -- for each stage whether it is inlined when all have been visited
 unfoldable pub greedy_inlining : Pipeline → ℕ → List Bool
-greedy_inlining job percent = (greedy_choice job percent).inlining
+greedy_inlining job percent = (greedy_grouping job percent).inlining

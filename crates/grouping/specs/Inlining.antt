@@ -1,4 +1,4 @@
--- A schedule as contracts see it: a flag for each stage, whether it is inlined; what each stage costs; and whether each tile is
+-- A schedule as contracts see it: for each stage, whether it is inlined; what each stage costs; and whether each tile is
 -- known to have room in scratch memory.
 use Rattle.std.specs.Prelude.{ℕ, ◌<◌, ◌≡◌, Bool, true, false, ◌&&◌, not, Option, Some, List, map, length, slice_get}
 use Rattle.std.specs.List.{range_with_len}
@@ -21,9 +21,10 @@ costs_of job inlining = map (cost job inlining) (range_with_len 0 (length job.st
 -- no tile of a stage that has a cost has more in scratch memory than there may be
 abbrev pub AllFitScratch : Pipeline → List Bool → Type 0
 AllFitScratch job inlining =
-    (g : ℕ) (s : Stage) → slice_get job.stages g ≡ Some s → (has_tiles s.body && not (is_inlined inlining g)) ≡ true → FitsScratch job inlining g s
+    (g : ℕ) (s : Stage) → slice_get job.stages g ≡ Some s → (has_tiles s.body && not (is_inlined inlining g)) ≡ true
+    → FitsScratch job inlining g s
 
--- its inlining are a schedule of the job, and its costs are the job's. If it says so, each tile has room
+-- what it inlines makes a schedule of the job, and its costs are the job's. If it says so, each tile has room
 pub record IsScheduleOf (job : Pipeline) (s : Inlining) : Type 0 where
   pub inlining : IsSchedule job s.inlining
   pub costs : s.costs ≡ costs_of job s.inlining
@@ -41,7 +42,7 @@ pub record IsInlinedOutput (job : Pipeline) (inlining : List Bool) (g : ℕ) : T
   pub output : is_output job g ≡ true
   pub least : (k : ℕ) → k < g → is_inlined inlining k ≡ true → is_output job k ≡ false
 
--- why the inlining that are asked for make no schedule
+-- why what is asked for makes no schedule
 abbrev pub IsScheduleFault : Pipeline → List Bool → ScheduleFault → Type 0
 IsScheduleFault job asked (OutputInlined g) = IsInlinedOutput job (inlining_for job asked) g
 IsScheduleFault job asked Memory = Unit {0}

@@ -2,12 +2,9 @@ pub mod Order
 pub mod Schedules
 pub mod Demands
 pub mod Targets
-pub mod Walks
 pub mod Costs
 pub mod Inlining
 pub mod Faults
-pub mod Tallies
 pub mod Greedy
 pub mod Chains
-pub mod Standings
-pub mod Trials
+pub mod inside

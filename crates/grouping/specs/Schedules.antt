@@ -1,4 +1,5 @@
--- A schedule has a flag for each stage: whether it is computed anew inside each tile that needs it, or stored once.
+-- Schedules. A schedule says of each stage whether it is inlined, that is computed anew inside each tile that needs it, or stored
+-- once.
 use Rattle.std.specs.Prelude.{ℕ, ◌≡◌, Bool, true, false, ◌&&◌, List, map, length, slice_get, slice_index_or}
 use Rattle.std.specs.List.{range_with_len}
 use Rattle.std.specs.Option.{option_map_or}
@@ -16,13 +17,13 @@ is_function_body (accumulator fold bins value bin) = false
 abbrev pub is_function : Pipeline → ℕ → Bool
 is_function job g = option_map_or (λ s. is_function_body s.body) (slice_get job.stages g) false
 
--- a flag for each stage; only functions are inlined, and no output
+-- it says so of each stage; only functions are inlined, and no output
 pub record IsSchedule (job : Pipeline) (inlining : List Bool) : Type 0 where
   pub each : length inlining ≡ length job.stages
   pub functions : (g : ℕ) → is_inlined inlining g ≡ true → is_function job g ≡ true
   pub inner : (g : ℕ) → is_inlined inlining g ≡ true → is_output job g ≡ false
 
--- inlining as they count: those of planes and accumulators are read as false
+-- what is inlined where these are asked for: of them the functions alone
 abbrev pub inlining_for : Pipeline → List Bool → List Bool
 inlining_for job asked = map (λ g. is_inlined asked g && is_function job g) (range_with_len 0 (length job.stages))
 

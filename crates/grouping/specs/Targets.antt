@@ -16,6 +16,9 @@ pub record Target : Type 0 where
   pub stage : ℕ
   pub region : Area
 
+abbrev pub target_over : Pipeline → List Bool → ℕ → Area → Target
+target_over job inlining g region = record { job = job; inlining = inlining; stage = g; region = region }
+
 -- the region lies in the domain of the stage
 pub record IsTarget (t : Target) : Type 0 where
   pub owner : Stage

@@ -9,13 +9,13 @@ ghost use Rattle.job.specs.Kept.{pipeline_in};
 ghost use Rattle.job.specs.Views.{stage_view};
 ghost use Rattle.job.specs.Reads.{stage_read, reads_of};
 ghost use Rattle.job.specs.ReadViews.{read_view};
-ghost use Rattle.job.specs.WellFormed.{IsJob};
 ghost use Rattle.grouping.specs.Order.{in_order};
 ghost use Rattle.grouping.specs.Targets.{IsTarget, box};
-ghost use Rattle.grouping.specs.Walks.{target_of, cut_hull};
+ghost use Rattle.grouping.specs.inside.Walks.{target_of, cut_hull};
 ghost use Rattle.grouping.specs.Costs.{scratch, most_scratch, cost};
 ghost use Rattle.grouping.specs.Inlining.{AllFitScratch, costs_of};
-ghost use Rattle.grouping.specs.Tallies.{row_areas, areas_of_tiles, over, inner_points, points_over, all_have_scratch, stage_fits, reads_stored};
+ghost use Rattle.grouping.specs.Costs.{stage_fits};
+ghost use Rattle.grouping.specs.inside.Tallies.{row_areas, areas_of_tiles, over, inner_points, points_over, all_have_scratch, reads_stored};
 
 use crate::inlining::InlinedStages;
 use crate::order::in_order;
@@ -27,8 +27,8 @@ use std::alloc::{AllocError, Global};
 /// The most points that a tile may have in scratch memory.
 pub const MOST_SCRATCH: u64 = 67_108_864;
 
-// Puts the areas of the tiles in row `i` behind others.
-#[tactic(auto, using(crate::proofs::Costing::row_more))]
+// Puts the areas of the tiles in row `i` after the others.
+#[tactic(auto, using(crate::proofs::CostsAddUp::row_more))]
 fn add_row(areas: &mut Vec<Area>, grid: &Grid, i: u32) -> Result<(), AllocError>
     requires { i < tile_rows grid.now }
     ensures { OnOk result (areas.new.items ≡ areas.old.items ++ row_areas grid.now i (tile_cols grid.now)) }
@@ -89,7 +89,6 @@ impl<'a> TargetWalk<'a> {
 
 impl TargetWalk<'_> {
     fn inner_points(&self, hulls: &[Option<Area>], number: usize) -> u64
-        requires job { IsJob (pipeline_in self.now.job.now) }
         requires boxes { (g : ℕ) → cut_hull (pipeline_in self.now.job.now).stages hulls.now g ≡ box (target_of self.now) g }
         ensures { result ≡ inner_points (target_of self.now) number }
     {
@@ -104,7 +103,6 @@ impl TargetWalk<'_> {
     }
 
     fn inner_sum(&self, hulls: &[Option<Area>], numbers: &[usize]) -> Result<u64, AllocError>
-        requires job { IsJob (pipeline_in self.now.job.now) }
         requires boxes { (g : ℕ) → cut_hull (pipeline_in self.now.job.now).stages hulls.now g ≡ box (target_of self.now) g }
         ensures { IfOk result (λ n. n ≡ sum (map (inner_points (target_of self.now)) numbers.now)) }
     {
@@ -118,7 +116,6 @@ impl TargetWalk<'_> {
 
     // The points of the boxes of what is inlined.
     pub(crate) fn scratch(&self, alloc: Global, order: &[usize]) -> Result<u64, AllocError>
-        requires job { IsJob (pipeline_in self.now.job.now) }
         requires target { IsTarget (target_of self.now) }
         requires order { order.now ≡ in_order (pipeline_in self.now.job.now).stages }
         ensures { IfOk result (λ n. n ≡ scratch (target_of self.now)) }
@@ -134,7 +131,6 @@ impl TargetWalk<'_> {
         order: &[usize],
         is_alone: bool,
     ) -> Result<u64, AllocError>
-        requires job { IsJob (pipeline_in self.now.job.now) }
         requires target { IsTarget (target_of self.now) }
         requires order { order.now ≡ in_order (pipeline_in self.now.job.now).stages }
         requires alone { is_alone ≡ true → scratch (target_of self.now) ≡ 0 }
@@ -148,7 +144,7 @@ impl TargetWalk<'_> {
     }
 
     // What the stage takes over each of these areas.
-    #[tactic(auto, using(crate::proofs::Costing::points_is))]
+    #[tactic(auto, using(crate::proofs::CostsAddUp::points_is))]
     fn tally(
         &self,
         alloc: Global,
@@ -156,7 +152,6 @@ impl TargetWalk<'_> {
         areas: &[Area],
         is_alone: bool,
     ) -> Result<Tally, AllocError>
-        requires job { IsJob (pipeline_in self.now.job.now) }
         requires targets { All (λ a. IsTarget (over (target_of self.now) a)) areas.now }
         requires order { order.now ≡ in_order (pipeline_in self.now.job.now).stages }
         requires alone { is_alone ≡ true → (a : Area) → scratch (over (target_of self.now) a) ≡ 0 }
@@ -206,7 +201,6 @@ pub(crate) fn tally_of(
     order: &[usize],
     number: usize,
 ) -> Result<Option<Tally>, AllocError>
-    requires job { IsJob (pipeline_in job.now) }
     requires order { order.now ≡ in_order (pipeline_in job.now).stages }
     ensures cost { IfOk result (λ t. option_map (λ t. t.points) t ≡ cost (pipeline_in job.now) inlining.now number) }
     ensures fits { IfOk result (λ t. option_map_or (λ t. t.fits) t true ≡ stage_fits (pipeline_in job.now) inlining.now number (slice_get (pipeline_in job.now).stages number)) }
@@ -260,7 +254,6 @@ pub(crate) fn costs_of(
     job: &Job,
     inlining: &InlinedStages,
 ) -> Result<Survey, AllocError>
-    requires { IsJob (pipeline_in job.now) }
     ensures costs { IfOk result (λ s. s.costs.items ≡ costs_of (pipeline_in job.now) inlining.now) }
     ensures fits { IfOk result (λ s. s.fits ≡ true → AllFitScratch (pipeline_in job.now) inlining.now) }
 {

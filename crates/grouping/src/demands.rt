@@ -10,7 +10,7 @@ ghost use Rattle.job.specs.Values.{factors};
 ghost use Rattle.job.specs.Views.{formula_view, case_view, body_view};
 ghost use Rattle.job.specs.WellFormed.{InDomainRange, IsKernel, IsFormula};
 ghost use Rattle.grouping.specs.Demands.{meet_of_areas, widened, image_under, grown_by, formula_demands, case_demands, other_demands, body_demands};
-ghost use Rattle.grouping.specs.Walks.{InDomainRanges, demanded, demanded_all};
+ghost use Rattle.grouping.specs.inside.Walks.{InDomainRanges, demanded, demanded_all};
 
 use domains::{Area, Index, Span};
 use job::{Body, Formula, Function, JobCase, Kernel};
@@ -20,9 +20,7 @@ pub(crate) fn common(one: &Area, other: &Area) -> Option<Area>
     ensures is { result ≡ meet_of_areas one.now other.now }
     ensures near { InDomainRanges other.now → IfSome result InDomainRanges }
 {
-    let rows = one.rows.meet(&other.rows)?;
-    let cols = one.cols.meet(&other.cols)?;
-    Some(Area { rows, cols })
+    one.meet(other)
 }
 
 // The number so many below.

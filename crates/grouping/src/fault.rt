@@ -1,15 +1,15 @@
 #![tactic(auto)]
-//! Why inlining make no schedule.
+//! Why there is no schedule.
 
 ghost use Rattle.std.specs.Prelude.{◌≡◌};
 
 use std::alloc::AllocError;
 use thiserror::Error;
 
-/// Why inlining make no schedule of a job.
+/// Why a job has no schedule that inlines what is asked for.
 #[derive(Clone, Copy, Debug, PartialEq, Eq, Error)]
 pub enum ScheduleFault {
-    /// 1: the least output that is flagged. Outputs are stored.
+    /// 1: the least output that is asked for. Outputs are stored.
     #[error("stage {0} is an output, and cannot be inlined")]
     OutputInlined(usize),
     /// 2: no memory was left.

@@ -5,13 +5,12 @@ ghost use Rattle.std.specs.Prelude.{◌≡◌, ◌≤◌, ◌<◌, ◌+◌, ◌*
 ghost use Rattle.std.specs.Option.{option_map_or};
 ghost use Rattle.std.specs.List.{list_all};
 ghost use Rattle.job.specs.Kept.{pipeline_in};
-ghost use Rattle.job.specs.WellFormed.{IsJob};
 ghost use Rattle.grouping.specs.Order.{backward};
 ghost use Rattle.grouping.specs.Schedules.{is_inlined, all_stored, IsSchedule};
 ghost use Rattle.grouping.specs.Inlining.{costs_of, AllFitScratch};
-ghost use Rattle.grouping.specs.Greedy.{nothing_chosen, common_group, group, visited, inlined_if, with_inlined, greedy_inlining};
-ghost use Rattle.grouping.specs.Standings.{areas_at, Stands, AllStand, LiesBehind};
-ghost use Rattle.grouping.specs.Trials.{choice_of, points_at, IsCandidate};
+ghost use Rattle.grouping.specs.Greedy.{initial_grouping, common_group, group, visited, inlined_if, with_inlined, greedy_inlining};
+ghost use Rattle.grouping.specs.inside.Standings.{areas_at, Stands, AllStand, NoneInlinedBelow};
+ghost use Rattle.grouping.specs.inside.Trials.{grouping_of, kept_cost, IsCandidate};
 ghost use Rattle.grouping.specs.declared.standing.Standing.TheVariants.{Stored, Inlined};
 
 use crate::costs::costs_of;
@@ -25,7 +24,7 @@ use std::alloc::{AllocError, Global};
 
 /// What is chosen so far: which functions are inlined, the group of each stage, and how each stage stands.
 #[derive(Drop)]
-pub(crate) struct Grouping {
+pub(crate) struct Grouper {
     pub(crate) inlining: InlinedStages,
     pub(crate) groups: Vec<usize>,
     pub(crate) standings: Vec<Standing>,
@@ -37,7 +36,6 @@ pub(crate) fn greedy_inlining(
     job: &Job,
     percent: u32,
 ) -> Result<InlinedStages, AllocError>
-    requires job { IsJob (pipeline_in job.now) }
     requires percent { percent ≤ 10000 }
     ensures inlining { IfOk result (λ f. f ≡ greedy_inlining (pipeline_in job.now) percent) }
     ensures schedule { IfOk result (IsSchedule (pipeline_in job.now)) }
@@ -45,19 +43,18 @@ pub(crate) fn greedy_inlining(
 {
     let mut order = in_order(alloc, job.stages())?;
     order.reverse();
-    let mut choice = Grouping::none(alloc, job)?;
+    let mut grouping = Grouper::none(alloc, job)?;
     for number in &order {
-        choice.visit(alloc, job, &order, *number, percent)?;
+        grouping.visit(alloc, job, &order, *number, percent)?;
     }
-    Ok(choice.inlining)
+    Ok(grouping.inlining)
 }
 
-impl Grouping {
+impl Grouper {
     // Each stage is stored.
-    fn none(alloc: Global, job: &Job) -> Result<Grouping, AllocError>
-        requires { IsJob (pipeline_in job.now) }
-        ensures choice { IfOk result (λ c. choice_of c ≡ nothing_chosen (pipeline_in job.now)) }
-        ensures stand { IfOk result (λ c. AllStand (pipeline_in job.now) (choice_of c) c.standings.items) }
+    fn none(alloc: Global, job: &Job) -> Result<Grouper, AllocError>
+        ensures grouping { IfOk result (λ c. grouping_of c ≡ initial_grouping (pipeline_in job.now)) }
+        ensures stand { IfOk result (λ c. AllStand (pipeline_in job.now) (grouping_of c) c.standings.items) }
     {
         let inlining = InlinedStages::all_stored(alloc, job)?;
         let survey = costs_of(alloc, job, &inlining)?;
@@ -67,7 +64,7 @@ impl Grouping {
             groups.push(number)?;
             standings.push(stored(alloc, job, &survey.costs, number)?)?;
         }
-        Ok(Grouping {
+        Ok(Grouper {
             inlining,
             groups,
             standings,
@@ -83,15 +80,14 @@ impl Grouping {
         number: usize,
         percent: u32,
     ) -> Result<(), AllocError>
-        requires job { IsJob (pipeline_in job.now) }
         requires percent { percent ≤ 10000 }
         requires order { order.now ≡ backward (pipeline_in job.now).stages }
-        requires stand { AllStand (pipeline_in job.now) (choice_of self.old) self.old.standings.items }
+        requires stand { AllStand (pipeline_in job.now) (grouping_of self.old) self.old.standings.items }
         requires there { number < length (pipeline_in job.now).stages }
         requires stored { is_inlined self.old.inlining number ≡ false }
-        requires behind { LiesBehind (pipeline_in job.now) self.old.inlining number }
-        ensures choice { OnOk result (choice_of self.new ≡ visited (pipeline_in job.now) percent (choice_of self.old) number) }
-        ensures stand { OnOk result (AllStand (pipeline_in job.now) (choice_of self.new) self.new.standings.items) }
+        requires behind { NoneInlinedBelow (pipeline_in job.now) self.old.inlining number }
+        ensures grouping { OnOk result (grouping_of self.new ≡ visited (pipeline_in job.now) percent (grouping_of self.old) number) }
+        ensures stand { OnOk result (AllStand (pipeline_in job.now) (grouping_of self.new) self.new.standings.items) }
     {
         if !is_function(job, number) || is_output(job, number) {
             return Ok(());
@@ -116,16 +112,15 @@ impl Grouping {
         candidate: &Candidate,
         percent: u32,
     ) -> Result<(), AllocError>
-        requires job { IsJob (pipeline_in job.now) }
         requires percent { percent ≤ 10000 }
-        requires stand { AllStand (pipeline_in job.now) (choice_of self.old) self.old.standings.items }
-        requires candidate { IsCandidate (pipeline_in job.now) (choice_of self.old) candidate.now }
-        ensures choice { OnOk result (choice_of self.new ≡ inlined_if (pipeline_in job.now) percent (choice_of self.old) candidate.now.number (Some candidate.now.group)) }
-        ensures stand { OnOk result (AllStand (pipeline_in job.now) (choice_of self.new) self.new.standings.items) }
+        requires stand { AllStand (pipeline_in job.now) (grouping_of self.old) self.old.standings.items }
+        requires candidate { IsCandidate (pipeline_in job.now) (grouping_of self.old) candidate.now }
+        ensures grouping { OnOk result (grouping_of self.new ≡ inlined_if (pipeline_in job.now) percent (grouping_of self.old) candidate.now.number (Some candidate.now.group)) }
+        ensures stand { OnOk result (AllStand (pipeline_in job.now) (grouping_of self.new) self.new.standings.items) }
     {
         let trial = self.trial(alloc, job, candidate)?;
-        let own = self.points(candidate.group);
-        let apart = self.points(candidate.number);
+        let own = self.kept_cost(candidate.group);
+        let apart = self.kept_cost(candidate.number);
         if pays(own, apart, trial.added, percent) && trial.fits() {
             let points = sum_of(own, trial.added)?;
             self.inline(candidate, trial, points);
@@ -138,7 +133,7 @@ impl Grouping {
         requires number { candidate.now.number < length self.old.standings.items }
         requires group { candidate.now.group < length self.old.standings.items }
         requires groups { candidate.now.number < length self.old.groups.items }
-        ensures choice { choice_of self.new ≡ with_inlined (choice_of self.old) candidate.now.number candidate.now.group }
+        ensures grouping { grouping_of self.new ≡ with_inlined (grouping_of self.old) candidate.now.number candidate.now.group }
         ensures standings { self.new.standings.items ≡ slice_set (slice_set self.old.standings.items candidate.now.number (Inlined trial.boxes)) candidate.now.group (Stored points trial.scratch) }
     {
         self.inlining.set(candidate.number, true);
@@ -148,18 +143,18 @@ impl Grouping {
     }
 
     // What the tiles of a stored stage take together.
-    fn points(&self, number: usize) -> u64
-        ensures { result ≡ points_at (slice_get self.now.standings.items number) }
+    fn kept_cost(&self, number: usize) -> u64
+        ensures { result ≡ kept_cost (slice_get self.now.standings.items number) }
     {
         match self.standings.get(number) {
-            Some(Standing::Stored(points, _)) => *points,
-            _ => 0,
+            Some(standing) => standing.cost(),
+            None => 0,
         }
     }
 
     // The stored stage in whose tiles a stage is computed.
     fn group(&self, number: usize) -> usize
-        ensures { result ≡ group (choice_of self.now) number }
+        ensures { result ≡ group (grouping_of self.now) number }
     {
         match self.groups.get(number) {
             Some(group) => *group,
@@ -169,7 +164,7 @@ impl Grouping {
 
     // The one group of all these stages, if there are any and they have one.
     fn common_group(&self, readers: &[usize]) -> Option<usize>
-        ensures { result ≡ common_group (choice_of self.now) readers.now }
+        ensures { result ≡ common_group (grouping_of self.now) readers.now }
     {
         let first = self.group(*readers.first()?);
         if self.all_at(first, readers) {
@@ -180,7 +175,7 @@ impl Grouping {
     }
 
     fn all_at(&self, place: usize, stages: &[usize]) -> bool
-        ensures { result ≡ list_all (λ g. group (choice_of self.now) g == place) stages.now }
+        ensures { result ≡ list_all (λ g. group (grouping_of self.now) g == place) stages.now }
     {
         stages.iter().all(|stage| self.group(*stage) == place)
     }
@@ -209,16 +204,15 @@ fn stored(
     costs: &[Option<u64>],
     number: usize,
 ) -> Result<Standing, AllocError>
-    requires job { IsJob (pipeline_in job.now) }
     requires costs { costs.now ≡ costs_of (pipeline_in job.now) (all_stored (pipeline_in job.now)) }
-    ensures { IfOk result (Stands (pipeline_in job.now) (nothing_chosen (pipeline_in job.now)) number) }
+    ensures { IfOk result (Stands (pipeline_in job.now) (initial_grouping (pipeline_in job.now)) number) }
 {
-    let points = points_in(costs, number);
+    let points = cost_at(costs, number);
     Ok(Standing::Stored(points, no_scratch(alloc, job, number)?))
 }
 
 // The cost of a stage, if it has one.
-fn points_in(costs: &[Option<u64>], number: usize) -> u64
+fn cost_at(costs: &[Option<u64>], number: usize) -> u64
     ensures { result ≡ option_map_or (λ n. n) (slice_index_or costs.now number None) 0 }
 {
     match costs.get(number) {

@@ -1,7 +1,7 @@
 #![tactic(auto)]
-//! A flag for each stage: whether it is inlined.
+//! Which stages are inlined.
 
-ghost use Rattle.std.specs.Prelude.{◌≡◌, ◌&&◌, ◌==◌, ℕ, true, false, slice_set, IfOk, IfSome, IfNone};
+ghost use Rattle.std.specs.Prelude.{◌≡◌, ◌&&◌, ◌==◌, false, slice_set, IfOk, IfSome, IfNone};
 ghost use Rattle.std.specs.List.{list_any};
 ghost use Rattle.job.specs.Kept.{pipeline_in};
 ghost use Rattle.job.specs.Answers.{is_output};
@@ -11,7 +11,7 @@ use job::{Job, StageKind};
 use std::alloc::{AllocError, Global};
 use std::marker::Model;
 
-/// Whether each stage is inlined. Contracts see the list of inlining.
+/// Whether each stage is inlined. Contracts see a list of that.
 #[derive(Debug, Drop)]
 pub(crate) struct InlinedStages {
     inlining: Vec<bool>,
@@ -30,7 +30,7 @@ impl InlinedStages {
     ghost use Rattle.grouping.specs.Schedules.{is_inlined, inlining_for, all_stored};
     ghost use Rattle.grouping.specs.Inlining.{StoresOutputs, IsInlinedOutput};
 
-    /// InlinedStages by which each stage is stored.
+    /// Each stage is stored.
     pub(crate) fn all_stored(alloc: Global, job: &Job) -> Result<InlinedStages, AllocError>
         ensures { IfOk result (λ f. f ≡ all_stored (pipeline_in job.now)) }
     {
@@ -41,8 +41,8 @@ impl InlinedStages {
         Ok(InlinedStages { inlining })
     }
 
-    /// The inlining that are asked for; those of planes and accumulators count as false.
-    #[tactic(auto, using(crate::proofs::Counting::map_range_more))]
+    /// The stages that are asked for, but for planes and accumulators.
+    #[tactic(auto, using(crate::proofs::Lists::map_range_more))]
     pub(crate) fn asked(
         alloc: Global,
         job: &Job,
@@ -61,15 +61,15 @@ impl InlinedStages {
     pub(crate) fn inlined(&self, stage: usize) -> bool
         ensures { result ≡ is_inlined self.now stage }
     {
-        is_flagged(&self.inlining, stage)
+        is_among_inlined(&self.inlining, stage)
     }
 
-    /// Sets the flag of the stage of this number.
-    pub(crate) fn set(&mut self, stage: usize, flag: bool)
-        ensures { self.new ≡ slice_set self.old stage flag }
+    /// Inlines the stage of this number, or stores it.
+    pub(crate) fn set(&mut self, stage: usize, is_inlined: bool)
+        ensures { self.new ≡ slice_set self.old stage is_inlined }
     {
         if stage < self.inlining.len() {
-            self.inlining[stage] = flag;
+            self.inlining[stage] = is_inlined;
         }
     }
 
@@ -87,11 +87,11 @@ impl InlinedStages {
     }
 }
 
-fn is_flagged(inlining: &[bool], number: usize) -> bool
+fn is_among_inlined(inlining: &[bool], number: usize) -> bool
     ensures { result ≡ is_inlined inlining.now number }
 {
     match inlining.get(number) {
-        Some(flag) => *flag,
+        Some(inlined) => *inlined,
         None => false,
     }
 }
@@ -99,7 +99,7 @@ fn is_flagged(inlining: &[bool], number: usize) -> bool
 fn is_asked(job: &Job, asked: &[bool], number: usize) -> bool
     ensures { result ≡ (is_inlined asked.now number && is_function (pipeline_in job.now) number) }
 {
-    is_flagged(asked, number) && is_function(job, number)
+    is_among_inlined(asked, number) && is_function(job, number)
 }
 
 /// Whether the stage of this number is a function.

@@ -9,13 +9,13 @@ ghost use Rattle.job.specs.Pipeline.{Stage, Pipeline};
 ghost use Rattle.job.specs.Readers.{grid_at};
 ghost use Rattle.job.specs.Reads.{stage_read, reads_of, IsRanked};
 ghost use Rattle.job.specs.WellFormed.{IsJob};
-ghost use Rattle.grouping.specs.Chains.{ChainLeads, chosen_after};
+ghost use Rattle.grouping.specs.Chains.{ChainLeads, grouping_after};
 ghost use Rattle.grouping.specs.Costs.{scratch, points};
 ghost use Rattle.grouping.specs.Demands.{IsHullOfAll, hull_of_all};
-ghost use Rattle.grouping.specs.Greedy.{greedy_choice, greedy_inlining, group};
+ghost use Rattle.grouping.specs.Greedy.{greedy_grouping, greedy_inlining, group};
 ghost use Rattle.grouping.specs.Order.{ComesBefore, in_order};
 ghost use Rattle.grouping.specs.Schedules.{all_stored, is_inlined};
-ghost use Rattle.grouping.specs.Targets.{Target, IsTarget, IsListed, HasWhatItReads, box_by, box, region, boxes};
+ghost use Rattle.grouping.specs.Targets.{Target, target_over, IsTarget, IsListed, HasWhatItReads, box_by, box, region, boxes};
 
 /// The box of a stage is the hull of what the stages in the target demand of it, each over its own region, cut to its domain.
 pub fn boxes_follow_the_rule()
@@ -42,7 +42,7 @@ pub fn hulls_are_least()
 
 /// Each tile of a stage is a target.
 pub fn tiles_are_targets()
-    ensures { (job : Pipeline) (inlining : List Bool) (g i j : ℕ) (grid : Grid) → IsJob job → grid_at job g ≡ Some grid → HasTile grid i j → IsTarget (record { job = job; inlining = inlining; stage = g; region = tile_area grid i j }) }
+    ensures { (job : Pipeline) (inlining : List Bool) (g i j : ℕ) (grid : Grid) → IsJob job → grid_at job g ≡ Some grid → HasTile grid i j → IsTarget (target_over job inlining g (tile_area grid i j)) }
 {}
 
 /// Boxes, and the regions of all that is in a target, are areas that lie in the domains. What is listed are functions with
@@ -59,10 +59,10 @@ pub fn stored_stages_take_no_scratch()
     ensures points { (t : Target) → t.inlining ≡ all_stored t.job → points t ≡ point_count t.region }
 {}
 
-/// The greedy choice has each stage at group in a stored stage: the one from which a chain of reads leads to it through inlined
-/// functions alone. Homes follow chains so on the way, too, when some stages have been visited.
+/// The greedy grouping has each stage in the group of a stored stage: the one from which a chain of reads leads to it through
+/// inlined functions alone. So groups follow chains on the way, too, when some stages have been visited.
 pub fn groups_follow_chains()
-    ensures stored { (job : Pipeline) (percent x : ℕ) → IsJob job → is_inlined (greedy_inlining job percent) (group (greedy_choice job percent) x) ≡ false }
-    ensures chains { (job : Pipeline) (percent t x : ℕ) → IsJob job → is_inlined (greedy_inlining job percent) t ≡ false → ChainLeads job (greedy_inlining job percent) t x ↔ (group (greedy_choice job percent) x ≡ t) }
-    ensures on_the_way { (job : Pipeline) (percent k t x : ℕ) → IsJob job → is_inlined (chosen_after job percent k).inlining t ≡ false → ChainLeads job (chosen_after job percent k).inlining t x ↔ (group (chosen_after job percent k) x ≡ t) }
+    ensures stored { (job : Pipeline) (percent x : ℕ) → IsJob job → is_inlined (greedy_inlining job percent) (group (greedy_grouping job percent) x) ≡ false }
+    ensures chains { (job : Pipeline) (percent t x : ℕ) → IsJob job → is_inlined (greedy_inlining job percent) t ≡ false → ChainLeads job (greedy_inlining job percent) t x ↔ (group (greedy_grouping job percent) x ≡ t) }
+    ensures on_the_way { (job : Pipeline) (percent k t x : ℕ) → IsJob job → is_inlined (grouping_after job percent k).inlining t ≡ false → ChainLeads job (grouping_after job percent k).inlining t x ↔ (group (grouping_after job percent k) x ≡ t) }
 {}

@@ -16,5 +16,5 @@ mod trial;
 
 pub use costs::MOST_SCRATCH;
 pub use fault::ScheduleFault;
-pub use order::in_order;
+pub use order::{in_order, last_rank};
 pub use schedule::Schedule;

@@ -33,9 +33,8 @@ impl Model for Schedule {
 
 impl Schedule {
     ghost use Rattle.job.specs.Kept.{pipeline_in};
-    ghost use Rattle.job.specs.WellFormed.{IsJob};
     ghost use Rattle.grouping.specs.Schedules.{is_inlined, inlining_for, all_stored, IsSchedule};
-    ghost use Rattle.grouping.specs.Targets.{IsTarget, boxes};
+    ghost use Rattle.grouping.specs.Targets.{IsTarget, target_over, boxes};
     ghost use Rattle.grouping.specs.Costs.{scratch};
     ghost use Rattle.grouping.specs.Greedy.{greedy_inlining};
     ghost use Rattle.grouping.specs.Inlining.{IsScheduleOf, IsScheduleFault, AllFitScratch};
@@ -46,7 +45,6 @@ impl Schedule {
     ///
     /// Fails only where memory is refused, or where a cost has more than 64 bits; no program of 64 stages has such a cost.
     pub fn stored(alloc: Global, job: &Job) -> Result<Schedule, AllocError>
-        requires { IsJob (pipeline_in job.now) }
         ensures stored { IfOk result (λ s. s.inlining ≡ all_stored (pipeline_in job.now)) }
         ensures fits { IfOk result (λ s. AllFitScratch (pipeline_in job.now) s.inlining) }
         ensures schedule { IfOk result (IsScheduleOf (pipeline_in job.now)) }
@@ -56,15 +54,14 @@ impl Schedule {
         Ok(schedule)
     }
 
-    /// The schedule that inlines the flagged functions. There is a flag for each stage; those of planes and accumulators
-    /// count as false.
+    /// The schedule that inlines the functions that are asked for. `inlining` says of each stage whether it is asked for; for
+    /// planes and accumulators that counts as no.
     ///
     /// # Errors
     ///
-    /// Names the least output that is flagged. Else fails only where memory is refused, or where a cost has more than 64
+    /// Names the least output that is asked for. Else fails only where memory is refused, or where a cost has more than 64
     /// bits; no program of 64 stages has such a cost.
     pub fn of(alloc: Global, job: &Job, inlining: &[bool]) -> Result<Schedule, ScheduleFault>
-        requires job { IsJob (pipeline_in job.now) }
         requires each { length inlining.now ≡ length (pipeline_in job.now).stages }
         ensures inlining { IfOk result (λ s. s.inlining ≡ inlining_for (pipeline_in job.now) inlining.now) }
         ensures schedule { IfOk result (IsScheduleOf (pipeline_in job.now)) }
@@ -85,7 +82,6 @@ impl Schedule {
     ///
     /// Fails only where memory is refused, or where a cost has more than 64 bits; no program of 64 stages has such a cost.
     pub fn greedy(alloc: Global, job: &Job, percent: u32) -> Result<Schedule, AllocError>
-        requires job { IsJob (pipeline_in job.now) }
         requires percent { percent ≤ 10000 }
         ensures greedy { IfOk result (λ s. s.inlining ≡ greedy_inlining (pipeline_in job.now) percent) }
         ensures schedule { IfOk result (IsScheduleOf (pipeline_in job.now)) }
@@ -97,7 +93,6 @@ impl Schedule {
     }
 
     fn with_costs(alloc: Global, job: &Job, inlining: InlinedStages) -> Result<Schedule, AllocError>
-        requires job { IsJob (pipeline_in job.now) }
         requires schedule { IsSchedule (pipeline_in job.now) inlining }
         ensures inlining { IfOk result (λ s. s.inlining ≡ inlining) }
         ensures schedule { IfOk result (IsScheduleOf (pipeline_in job.now)) }
@@ -148,9 +143,8 @@ impl Schedule {
         target: usize,
         region: Area,
     ) -> Result<Vec<(usize, Area)>, AllocError>
-        requires job { IsJob (pipeline_in job.now) }
-        requires target { IsTarget (record { job = pipeline_in job.now; inlining = self.now.inlining; stage = target; region = region }) }
-        ensures { IfOk result (λ found. found.items ≡ boxes (record { job = pipeline_in job.now; inlining = self.now.inlining; stage = target; region = region })) }
+        requires target { IsTarget (target_over (pipeline_in job.now) self.now.inlining target region) }
+        ensures { IfOk result (λ found. found.items ≡ boxes (target_over (pipeline_in job.now) self.now.inlining target region)) }
     {
         let walk = TargetWalk {
             job,
@@ -160,6 +154,7 @@ impl Schedule {
         };
         walk.boxes(alloc)
     }
+
     /// How many points the boxes of what is inlined have together, for a target over a region of its domain.
     ///
     /// # Errors
@@ -172,9 +167,8 @@ impl Schedule {
         target: usize,
         region: Area,
     ) -> Result<u64, AllocError>
-        requires job { IsJob (pipeline_in job.now) }
-        requires target { IsTarget (record { job = pipeline_in job.now; inlining = self.now.inlining; stage = target; region = region }) }
-        ensures { IfOk result (λ n. n ≡ scratch (record { job = pipeline_in job.now; inlining = self.now.inlining; stage = target; region = region })) }
+        requires target { IsTarget (target_over (pipeline_in job.now) self.now.inlining target region) }
+        ensures { IfOk result (λ n. n ≡ scratch (target_over (pipeline_in job.now) self.now.inlining target region)) }
     {
         let walk = TargetWalk {
             job,

@@ -1,5 +1,8 @@
 #![tactic(auto)]
-//! How a stage stands while the greedy choice is made.
+//! How a stage stands while the greedy rule goes on.
+
+ghost use Rattle.std.specs.Prelude.{◌≡◌, Some};
+ghost use Rattle.grouping.specs.inside.Trials.{kept_cost, kept_box, kept_scratch};
 
 use domains::Area;
 
@@ -10,4 +13,36 @@ pub(crate) enum Standing {
     Stored(u64, Vec<u64>),
     /// Inlined: its box in each tile of its group.
     Inlined(Vec<Option<Area>>),
+}
+
+impl Standing {
+    /// What the tiles of a stored stage take together.
+    pub(crate) fn cost(&self) -> u64
+        ensures { result ≡ kept_cost (Some self.now) }
+    {
+        match self {
+            Standing::Stored(points, _) => *points,
+            Standing::Inlined(_) => 0,
+        }
+    }
+
+    /// The box of an inlined function in a tile of its group.
+    pub(crate) fn box_at(&self, place: usize) -> Option<Area>
+        ensures { result ≡ kept_box (Some self.now) place }
+    {
+        match self {
+            Standing::Stored(_, _) => None,
+            Standing::Inlined(boxes) => *boxes.get(place)?,
+        }
+    }
+
+    /// What a tile of a stored stage has in scratch memory.
+    pub(crate) fn scratch_at(&self, place: usize) -> u64
+        ensures { result ≡ kept_scratch (Some self.now) place }
+    {
+        match self {
+            Standing::Stored(_, scratch) => scratch.get(place).copied().unwrap_or(0),
+            Standing::Inlined(_) => 0,
+        }
+    }
 }

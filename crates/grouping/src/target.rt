@@ -22,9 +22,8 @@ pub(crate) struct TargetWalk<'a> {
 
 impl TargetWalk<'_> {
     ghost use Rattle.job.specs.Kept.{pipeline_in};
-    ghost use Rattle.job.specs.WellFormed.{IsJob};
     ghost use Rattle.grouping.specs.Targets.{IsTarget, region_by, stage_demands, with_number, is_boxed, boxes};
-    ghost use Rattle.grouping.specs.Walks.{InDomainRanges, target_of, demanded_all, no_hulls, cut_hull, walked_one, walked, numbered_hull};
+    ghost use Rattle.grouping.specs.inside.Walks.{InDomainRanges, target_of, demanded_all, no_hulls, cut_hull, walked_one, walked, numbered_hull};
 
     // The hull of what is demanded of a stage, cut to its domain.
     pub(crate) fn box_of(&self, hulls: &[Option<Area>], number: usize) -> Option<Area>
@@ -54,7 +53,6 @@ impl TargetWalk<'_> {
 
     // What a stage in the target demands comes in.
     fn visit(&self, hulls: &mut [Option<Area>], number: usize)
-        requires job { IsJob (pipeline_in self.now.job.now) }
         requires target { IsTarget (target_of self.now) }
         ensures { hulls.new ≡ walked_one (target_of self.now) hulls.old number }
     {
@@ -64,7 +62,6 @@ impl TargetWalk<'_> {
 
     // What a stage demands over a region, if it has one, comes in.
     pub(crate) fn demand(&self, hulls: &mut [Option<Area>], number: usize, region: Option<Area>)
-        requires job { IsJob (pipeline_in self.now.job.now) }
         requires near { IfSome region InDomainRanges }
         ensures { hulls.new ≡ demanded_all hulls.old (stage_demands (slice_get (pipeline_in self.now.job.now).stages number) region) }
     {
@@ -76,7 +73,6 @@ impl TargetWalk<'_> {
     }
 
     fn walk(&self, hulls: &mut [Option<Area>], numbers: &[usize])
-        requires job { IsJob (pipeline_in self.now.job.now) }
         requires target { IsTarget (target_of self.now) }
         ensures { hulls.new ≡ walked (target_of self.now) hulls.old numbers.now }
     {
@@ -101,7 +97,6 @@ impl TargetWalk<'_> {
         alloc: Global,
         order: &[usize],
     ) -> Result<Vec<Option<Area>>, AllocError>
-        requires job { IsJob (pipeline_in self.now.job.now) }
         requires target { IsTarget (target_of self.now) }
         ensures { IfOk result (λ hulls. hulls.items ≡ walked (target_of self.now) (no_hulls (pipeline_in self.now.job.now).stages) (reverse order.now)) }
     {
@@ -120,7 +115,6 @@ impl TargetWalk<'_> {
 
     // The box of a function other than the target, if it has one.
     fn needed(&self, hulls: &[Option<Area>], number: usize) -> Option<Area>
-        requires { IsJob (pipeline_in self.now.job.now) }
         ensures { with_number number result ≡ numbered_hull (target_of self.now) hulls.now number }
     {
         if self.is_boxed(number) {
@@ -137,7 +131,6 @@ impl TargetWalk<'_> {
         hulls: &[Option<Area>],
         order: &[usize],
     ) -> Result<Vec<(usize, Area)>, AllocError>
-        requires { IsJob (pipeline_in self.now.job.now) }
         ensures { IfOk result (λ found. found.items ≡ flat_map (numbered_hull (target_of self.now) hulls.now) order.now) }
     {
         let mut found = Vec::new(alloc);
@@ -151,7 +144,6 @@ impl TargetWalk<'_> {
 
     /// The functions but the target that have a box, with their boxes, in dependence order.
     pub(crate) fn boxes(&self, alloc: Global) -> Result<Vec<(usize, Area)>, AllocError>
-        requires job { IsJob (pipeline_in self.now.job.now) }
         requires target { IsTarget (target_of self.now) }
         ensures { IfOk result (λ found. found.items ≡ boxes (target_of self.now)) }
     {

@@ -4,17 +4,15 @@
 ghost use Rattle.std.specs.Prelude.{◌≡◌, ◌<◌, ◌+◌, ◌++◌, ◌∷◌, [], nat_le, length, slice_get, slice_set, Some, None, All, IfOk, OnOk, IfSome};
 ghost use Rattle.std.specs.List.{flat_map, list_all};
 ghost use Rattle.job.specs.Kept.{pipeline_in};
-ghost use Rattle.job.specs.WellFormed.{IsJob};
 ghost use Rattle.grouping.specs.Costs.{most_scratch};
 ghost use Rattle.grouping.specs.Greedy.{group};
-ghost use Rattle.grouping.specs.Standings.{target_at, areas_at, AllStand};
-ghost use Rattle.grouping.specs.Targets.{IsTarget, region, box, demands_by};
-ghost use Rattle.grouping.specs.Trials.{choice_of, box_at, scratch_at, points_of_box, IsCandidate, IsTrialOf};
-ghost use Rattle.grouping.specs.Walks.{InDomainRanges, demanded_all, target_of};
+ghost use Rattle.grouping.specs.inside.Standings.{areas_at, AllStand};
+ghost use Rattle.grouping.specs.Targets.{IsTarget, region, box, demands_by, target_over};
+ghost use Rattle.grouping.specs.inside.Trials.{grouping_of, kept_box, kept_scratch, points_of_box, IsCandidate, IsTrialOf};
+ghost use Rattle.grouping.specs.inside.Walks.{InDomainRanges, demanded_all, target_of};
 
 use crate::costs::{MOST_SCRATCH, areas_of_tiles};
-use crate::greedy::Grouping;
-use crate::standing::Standing;
+use crate::greedy::Grouper;
 use crate::target::TargetWalk;
 use domains::Area;
 use job::Job;
@@ -57,7 +55,7 @@ impl Trial {
         ensures added { OnOk result (self.new.added ≡ self.old.added + points_of_box area) }
         ensures scratch { OnOk result (self.new.scratch.items ≡ self.old.scratch.items ++ (before + points_of_box area) ∷ []) }
     {
-        let points = points_of(&area);
+        let points = points_of_box(&area);
         self.boxes.push(area)?;
         self.added = self.added.checked_add(points).ok_or(AllocError)?;
         self.scratch
@@ -73,7 +71,7 @@ impl Trial {
     }
 }
 
-fn points_of(area: &Option<Area>) -> u64
+fn points_of_box(area: &Option<Area>) -> u64
     ensures { result ≡ points_of_box area.now }
 {
     match area {
@@ -82,7 +80,7 @@ fn points_of(area: &Option<Area>) -> u64
     }
 }
 
-impl Grouping {
+impl Grouper {
     /// What inlining a function would take.
     pub(crate) fn trial(
         &self,
@@ -90,9 +88,8 @@ impl Grouping {
         job: &Job,
         candidate: &Candidate,
     ) -> Result<Trial, AllocError>
-        requires job { IsJob (pipeline_in job.now) }
-        requires stand { AllStand (pipeline_in job.now) (choice_of self.now) self.now.standings.items }
-        requires candidate { IsCandidate (pipeline_in job.now) (choice_of self.now) candidate.now }
+        requires stand { AllStand (pipeline_in job.now) (grouping_of self.now) self.now.standings.items }
+        requires candidate { IsCandidate (pipeline_in job.now) (grouping_of self.now) candidate.now }
         ensures { IfOk result (IsTrialOf (pipeline_in job.now) self.now.inlining candidate.now.group candidate.now.number) }
     {
         let tiles = tiles_of(alloc, job, candidate.group)?;
@@ -109,9 +106,8 @@ impl Grouping {
         tiles: &[Area],
         hulls: &mut [Option<Area>],
     ) -> Result<Trial, AllocError>
-        requires job { IsJob (pipeline_in job.now) }
-        requires stand { AllStand (pipeline_in job.now) (choice_of self.now) self.now.standings.items }
-        requires candidate { IsCandidate (pipeline_in job.now) (choice_of self.now) candidate.now }
+        requires stand { AllStand (pipeline_in job.now) (grouping_of self.now) self.now.standings.items }
+        requires candidate { IsCandidate (pipeline_in job.now) (grouping_of self.now) candidate.now }
         requires tiles { tiles.now ≡ areas_at (pipeline_in job.now) candidate.now.group }
         requires hulls { length hulls.old ≡ length (pipeline_in job.now).stages }
         ensures { IfOk result (IsTrialOf (pipeline_in job.now) self.now.inlining candidate.now.group candidate.now.number) }
@@ -119,7 +115,7 @@ impl Grouping {
         let mut trial = Trial::none(alloc);
         for (place, tile) in tiles.iter().enumerate() {
             let area = self.box_in(job, candidate, place, tile, hulls);
-            trial.add(area, self.scratch_in(candidate.group, place))?;
+            trial.add(area, self.kept_scratch(candidate.group, place))?;
         }
         Ok(trial)
     }
@@ -133,12 +129,11 @@ impl Grouping {
         tile: &Area,
         hulls: &mut [Option<Area>],
     ) -> Option<Area>
-        requires job { IsJob (pipeline_in job.now) }
-        requires stand { AllStand (pipeline_in job.now) (choice_of self.now) self.now.standings.items }
-        requires candidate { IsCandidate (pipeline_in job.now) (choice_of self.now) candidate.now }
+        requires stand { AllStand (pipeline_in job.now) (grouping_of self.now) self.now.standings.items }
+        requires candidate { IsCandidate (pipeline_in job.now) (grouping_of self.now) candidate.now }
         requires tile { slice_get (areas_at (pipeline_in job.now) candidate.now.group) place ≡ Some tile.now }
         requires hulls { length hulls.old ≡ length (pipeline_in job.now).stages }
-        ensures is { result ≡ box (target_at (pipeline_in job.now) self.now.inlining candidate.now.group tile.now) candidate.now.number }
+        ensures is { result ≡ box (target_over (pipeline_in job.now) self.now.inlining candidate.now.group tile.now) candidate.now.number }
         ensures room { length hulls.new ≡ length hulls.old }
     {
         let walk = TargetWalk {
@@ -160,13 +155,12 @@ impl Grouping {
         readers: &[usize],
         place: usize,
     )
-        requires job { IsJob (pipeline_in walk.now.job.now) }
         requires target { IsTarget (target_of walk.now) }
         requires inlining { walk.now.schedule.now ≡ self.now.inlining }
-        requires stand { AllStand (pipeline_in walk.now.job.now) (choice_of self.now) self.now.standings.items }
+        requires stand { AllStand (pipeline_in walk.now.job.now) (grouping_of self.now) self.now.standings.items }
         requires tile { slice_get (areas_at (pipeline_in walk.now.job.now) walk.now.stage) place ≡ Some walk.now.region }
         requires readers { All (λ r. r < length (pipeline_in walk.now.job.now).stages) readers.now }
-        requires groups { All (λ r. group (choice_of self.now) r ≡ walk.now.stage) readers.now }
+        requires groups { All (λ r. group (grouping_of self.now) r ≡ walk.now.stage) readers.now }
         ensures { hulls.new ≡ demanded_all hulls.old (flat_map (demands_by (target_of walk.now) (box (target_of walk.now))) readers.now) }
     {
         for reader in readers {
@@ -176,40 +170,36 @@ impl Grouping {
 
     // The region of a stage in a tile of its group.
     fn region_in(&self, walk: &TargetWalk<'_>, reader: usize, place: usize) -> Option<Area>
-        requires job { IsJob (pipeline_in walk.now.job.now) }
         requires target { IsTarget (target_of walk.now) }
         requires inlining { walk.now.schedule.now ≡ self.now.inlining }
-        requires stand { AllStand (pipeline_in walk.now.job.now) (choice_of self.now) self.now.standings.items }
+        requires stand { AllStand (pipeline_in walk.now.job.now) (grouping_of self.now) self.now.standings.items }
         requires tile { slice_get (areas_at (pipeline_in walk.now.job.now) walk.now.stage) place ≡ Some walk.now.region }
         requires there { reader < length (pipeline_in walk.now.job.now).stages }
-        requires group { group (choice_of self.now) reader ≡ walk.now.stage }
+        requires group { group (grouping_of self.now) reader ≡ walk.now.stage }
         ensures is { result ≡ region (target_of walk.now) reader }
         ensures near { IfSome result InDomainRanges }
     {
         if reader == walk.stage {
             Some(walk.region)
         } else {
-            self.box_at(reader, place)
+            self.kept_box(reader, place)
         }
     }
 
     // The box of a function that was inlined, in a tile of its group.
-    fn box_at(&self, number: usize, place: usize) -> Option<Area>
-        ensures { result ≡ box_at (slice_get self.now.standings.items number) place }
+    fn kept_box(&self, number: usize, place: usize) -> Option<Area>
+        ensures { result ≡ kept_box (slice_get self.now.standings.items number) place }
     {
-        match self.standings.get(number) {
-            Some(Standing::Inlined(boxes)) => *boxes.get(place)?,
-            _ => None,
-        }
+        self.standings.get(number)?.box_at(place)
     }
 
     // What a tile of a stored stage has in scratch memory.
-    fn scratch_in(&self, group: usize, place: usize) -> u64
-        ensures { result ≡ scratch_at (slice_get self.now.standings.items group) place }
+    fn kept_scratch(&self, group: usize, place: usize) -> u64
+        ensures { result ≡ kept_scratch (slice_get self.now.standings.items group) place }
     {
         match self.standings.get(group) {
-            Some(Standing::Stored(_, scratch)) => scratch.get(place).copied().unwrap_or(0),
-            _ => 0,
+            Some(standing) => standing.scratch_at(place),
+            None => 0,
         }
     }
 }

@@ -19,7 +19,7 @@ use Rattle.pipe_checks.specs.CheckedProgram.{CheckedProgram}
 use Rattle.pipe_checks.specs.Checking.{IsCheckedOf, params_in, ranks_in, stages_in, tree_in}
 use Rattle.pipe_checks.specs.Graph.{IsRanking}
 use Rattle.pipe_checks.specs.Names.{params_of, stages_of}
-use Rattle.pipe_checks.specs.Sites.{graph_of}
+use Rattle.pipe_checks.specs.Accesses.{graph_of}
 use Rattle.pipe_bounds.specs.Unset.{unset}
 use Rattle.pipe_checks.specs.declared.symbol.Symbol.{Symbol}
 use Rattle.pipe_bounds.specs.declared.params.Setting.{Setting}

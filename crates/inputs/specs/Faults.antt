@@ -11,7 +11,7 @@ use Rattle.pipe_tree.specs.declared.fault.ParseFault.TheVariants as texts
 use Rattle.pipe_checks.specs.Checking.{IsFault as IsProgramFault}
 use Rattle.pipe_checks.specs.Graph.{IsRanking}
 use Rattle.pipe_checks.specs.Names.{params_of, stages_of}
-use Rattle.pipe_checks.specs.Sites.{graph_of}
+use Rattle.pipe_checks.specs.Accesses.{graph_of}
 use Rattle.pipe_checks.specs.declared.symbol.Symbol.{Symbol}
 use Rattle.pipe_bounds.specs.declared.fault.BoundFault.{BoundFault}
 use Rattle.pipe_bounds.specs.declared.fault.BoundFault.TheVariants as bounds

@@ -10,7 +10,7 @@ use Rattle.pipe_bounds.specs.declared.params.Setting.{Setting}
 use Rattle.pipe_checks.specs.Checking.{IsNamed, is_result}
 use Rattle.pipe_checks.specs.Graph.{IsRanking}
 use Rattle.pipe_checks.specs.Names.{stages_of}
-use Rattle.pipe_checks.specs.Sites.{graph_of}
+use Rattle.pipe_checks.specs.Accesses.{graph_of}
 use Rattle.binding.specs.BindFaults.{IsBound}
 use Rattle.binding.specs.Binding.{Program, IsJobOf}
 use Rattle.job.specs.Pipeline.{Pipeline}

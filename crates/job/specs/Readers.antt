@@ -1,11 +1,11 @@
 -- What is told of a stage.
-use Rattle.std.specs.Prelude.{ℕ, if◌then◌else◌, Option, Some, None, slice_get}
+use Rattle.std.specs.Prelude.{ℕ, if◌then◌else◌, Option, Some, None, List, slice_get}
 use Rattle.domains.specs.Span.{Ends}
 use Rattle.domains.specs.declared.grid.Grid.{Grid}
 use Rattle.domains.specs.declared.operators.Fold.{Fold}
 use Rattle.job.specs.declared.job.StageKind.{StageKind}
 use Rattle.job.specs.declared.job.StageKind.TheVariants.{Plane, Function, Accumulator}
-use Rattle.job.specs.Pipeline.{Body, plane, function, accumulator, Stage, Pipeline}
+use Rattle.job.specs.Pipeline.{JobCase, Body, plane, function, accumulator, Stage, Pipeline}
 use Rattle.job.specs.Answers.{grid_of, has_tiles}
 
 abbrev pub body_kind : Body → StageKind
@@ -27,6 +27,12 @@ bins_of (plane n) = None
 bins_of (function cases otherwise) = None
 bins_of (accumulator fold bins value bin) = Some bins
 
+-- the cases of a function
+abbrev pub cases_of : Body → Option (List JobCase)
+cases_of (plane n) = None
+cases_of (function cases otherwise) = Some cases
+cases_of (accumulator fold bins value bin) = None
+
 -- functions and accumulators have tiles
 abbrev pub stage_grid : Pipeline → Option Stage → Option Grid
 stage_grid job None = None
@@ -42,3 +48,7 @@ stage_fold (Some s) = fold_of s.body
 abbrev pub stage_bins : Option Stage → Option Ends
 stage_bins None = None
 stage_bins (Some s) = bins_of s.body
+
+abbrev pub stage_cases : Option Stage → Option (List JobCase)
+stage_cases None = None
+stage_cases (Some s) = cases_of s.body

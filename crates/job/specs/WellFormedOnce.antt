@@ -1,6 +1,5 @@
 -- A job is well formed in one way: any two proofs of `IsJob` are equal.
-use Rattle.std.specs.Prelude.{ℕ, ◌≤◌, ◌≡◌, ◌⊎◌, ℤ, Option, Some, None, List, length, slice_get, FitsSigned, All}
-use Rattle.std.specs.Int.{w32}
+use Rattle.std.specs.Prelude.{ℕ, ◌≡◌, ◌⊎◌, ℤ, Option, Some, None, List, slice_get}
 use Rattle.std.specs.Option.{is_some}
 use Rattle.std.proofs.Common.{refl, sym, ap, ◌∙◌, inl, inr, true≢false, arith}
 use mathlib.Core.Path.{path_j}
@@ -17,7 +16,7 @@ use Rattle.job.specs.Boxes.{AreBoxed}
 use Rattle.job.specs.Formula.{Formula, number, coordinate, read, neg, binary, literal, abs, clamp, select, stencil, Test, compare, remainder}
 use Rattle.job.specs.Pipeline.{Body, plane, function, accumulator, Stage, Output, Pipeline}
 use Rattle.job.specs.Reads.{Read, point, window, EachTaken, BodyReads}
-use Rattle.job.specs.WellFormed.{IsLiteral, IsKernel, IsFormula, IsTest, IsValued, IsFunction, IsReadable, IsBody, IsStage, IsOutputPlane, IsOutput, IsJob}
+use Rattle.job.specs.WellFormed.{IsLiteral, IsFormula, IsTest, IsValued, IsFunction, IsReadable, IsBody, IsStage, IsOutputPlane, IsOutput, IsJob}
 
 -- ---- what a place holds
 

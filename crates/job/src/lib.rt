@@ -8,6 +8,7 @@ mod hashing;
 mod job;
 pub mod laws;
 mod outputs;
+mod readers;
 mod reads;
 mod stage;
 pub mod worked;

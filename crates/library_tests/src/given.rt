@@ -1,10 +1,9 @@
 #![tactic(auto)]
 //! Tiles by their plans, from what is given.
 
-ghost use Rattle.std.specs.Prelude.{◌≡◌, ◌≤◌, length, IfOk};
+ghost use Rattle.std.specs.Prelude.{◌≡◌, IfOk};
 ghost use Rattle.grouping.specs.Schedules.{is_function};
 ghost use Rattle.job.specs.Kept.{pipeline_in, program_id_in};
-ghost use Rattle.job.specs.WellFormed.{IsJob};
 ghost use Rattle.tile_run.specs.KnownTiles.{AreWhole};
 ghost use Rattle.tile_run.specs.Runs.{IsFunctionPlan};
 ghost use Rattle.tile_run.specs.Stored.{stored_tiles};
@@ -60,8 +59,6 @@ fn plan_of_function<'a>(
     row: u32,
     col: u32,
 ) -> Result<TilePlan<'a>, Fail>
-    requires job { IsJob (pipeline_in job.now) }
-    requires few { length (pipeline_in job.now).stages ≤ 65536 }
     ensures { IfOk result (IsFunctionPlan (program_id_in job.now) (pipeline_in job.now)) }
 {
     if !is_function(job, stage) {
@@ -80,8 +77,6 @@ fn plan_of_accumulator<'a>(
     row: u32,
     col: u32,
 ) -> Result<TilePlan<'a>, Fail>
-    requires job { IsJob (pipeline_in job.now) }
-    requires few { length (pipeline_in job.now).stages ≤ 65536 }
     ensures { IfOk result (IsAccumulatorPlan (program_id_in job.now) (pipeline_in job.now)) }
 {
     if !is_accumulator(job, stage) {
@@ -99,8 +94,6 @@ fn numbers<K: Known>(
     tile: (usize, u32, u32),
     known: &K,
 ) -> Result<Vec<i32>, Fail>
-    requires job { IsJob (pipeline_in job.now) }
-    requires few { length (pipeline_in job.now).stages ≤ 65536 }
     requires whole { AreWhole (pipeline_in job.now) (K.given known.now) }
 {
     let plan = plan_of_function(alloc, job, schedule, tile.0, tile.1, tile.2)?;
@@ -115,10 +108,7 @@ fn has_bins(
     schedule: &Schedule,
     tile: (usize, u32, u32),
     wanted: &str,
-) -> Result<(), Fail>
-    requires job { IsJob (pipeline_in job.now) }
-    requires few { length (pipeline_in job.now).stages ≤ 65536 }
-{
+) -> Result<(), Fail> {
     let plan = plan_of_accumulator(alloc, job, schedule, tile.0, tile.1, tile.2)?;
     let mut scratch = Scratch::new(alloc);
     let bins = partial(alloc, job, &plan, &mut scratch, &Nothing)?;
@@ -133,8 +123,6 @@ fn compare(
     stored: &Stored,
     stage: usize,
 ) -> Result<(), Fail>
-    requires job { IsJob (pipeline_in job.now) }
-    requires few { length (pipeline_in job.now).stages ≤ 65536 }
     requires whole { AreWhole (pipeline_in job.now) (stored_tiles stored.now.stages.items) }
 {
     let grid = job.grid(stage).ok_or("no grid")?;
@@ -150,9 +138,7 @@ fn compare(
 }
 
 // Compares the tiles of two stored functions, each of which reads an inlined one.
-fn compare_both(alloc: Global, job: &Job) -> Result<(), Fail>
-    requires { IsJob (pipeline_in job.now) }
-{
+fn compare_both(alloc: Global, job: &Job) -> Result<(), Fail> {
     let schedule = schedule_of(alloc, job, &[false, true, false, true, false])?;
     let stored = run(alloc, job, &schedule)?;
     compare(alloc, job, &schedule, &stored, 2)?;
@@ -166,9 +152,7 @@ fn tiles_by_their_plans_are_those_of_a_run(rt: HostRuntime) -> Result<(), Fail> 
     compare_both(alloc, &job)
 }
 
-fn are_gathered(alloc: Global, job: &Job) -> Result<(), Fail>
-    requires { IsJob (pipeline_in job.now) }
-{
+fn are_gathered(alloc: Global, job: &Job) -> Result<(), Fail> {
     has_few_stages(job)?;
     let schedule = chosen(alloc, job, false)?;
     has_bins(alloc, job, &schedule, (1, 0, 0), "[1, 2, 1, 0]")?;
@@ -182,9 +166,7 @@ fn partials_are_gathered_over_a_tile_alone(rt: HostRuntime) -> Result<(), Fail> 
     are_gathered(alloc, &job)
 }
 
-fn are_computed(alloc: Global, job: &Job) -> Result<(), Fail>
-    requires { IsJob (pipeline_in job.now) }
-{
+fn are_computed(alloc: Global, job: &Job) -> Result<(), Fail> {
     has_few_stages(job)?;
     let schedule = schedule_of(alloc, job, &[false, true, false])?;
     let made = numbers(alloc, job, &schedule, (2, 0, 0), &Nothing)?;
@@ -212,10 +194,7 @@ fn missing_of_function(
     job: &Job,
     schedule: &Schedule,
     stage: usize,
-) -> Result<Option<Key>, Fail>
-    requires job { IsJob (pipeline_in job.now) }
-    requires few { length (pipeline_in job.now).stages ≤ 65536 }
-{
+) -> Result<Option<Key>, Fail> {
     let plan = plan_of_function(alloc, job, schedule, stage, 0, 0)?;
     let mut scratch = Scratch::new(alloc);
     let made = run_tile(alloc, job, &plan, &mut scratch, &Nothing);
@@ -228,19 +207,14 @@ fn missing_of_accumulator(
     job: &Job,
     schedule: &Schedule,
     stage: usize,
-) -> Result<Option<Key>, Fail>
-    requires job { IsJob (pipeline_in job.now) }
-    requires few { length (pipeline_in job.now).stages ≤ 65536 }
-{
+) -> Result<Option<Key>, Fail> {
     let plan = plan_of_accumulator(alloc, job, schedule, stage, 0, 0)?;
     let mut scratch = Scratch::new(alloc);
     let made = partial(alloc, job, &plan, &mut scratch, &Nothing);
     Ok(missing(&made))
 }
 
-fn least_is_named(alloc: Global, job: &Job) -> Result<(), Fail>
-    requires { IsJob (pipeline_in job.now) }
-{
+fn least_is_named(alloc: Global, job: &Job) -> Result<(), Fail> {
     has_few_stages(job)?;
     let schedule = schedule_of(alloc, job, &[false, false, false, false])?;
     let of_function = missing_of_function(alloc, job, &schedule, 2)?;

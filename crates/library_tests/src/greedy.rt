@@ -3,7 +3,6 @@
 
 ghost use Rattle.std.specs.Prelude.{◌≤◌};
 ghost use Rattle.job.specs.Kept.{pipeline_in};
-ghost use Rattle.job.specs.WellFormed.{IsJob};
 
 use crate::bound_jobs::job_of;
 use crate::wanted::{holds, tells};
@@ -50,7 +49,6 @@ fn makes(alloc: Global, job: &Job, schedule: &Schedule, wanted: &str) -> Result<
 
 // Compares the choices of the greedy schedule of a job.
 fn chooses(alloc: Global, job: &Job, percent: u32, wanted: &str) -> Result<(), Fail>
-    requires job { IsJob (pipeline_in job.now) }
     requires percent { percent ≤ 10000 }
 {
     let schedule = Schedule::greedy(alloc, job, percent)?;
@@ -81,9 +79,7 @@ fn inlines_where_that_takes_few_points(rt: HostRuntime) -> Result<(), Fail> {
 }
 
 // InlinedStages that inline the output are refused.
-fn refuses_to_inline(alloc: Global, job: &Job) -> Result<(), Fail>
-    requires { IsJob (pipeline_in job.now) }
-{
+fn refuses_to_inline(alloc: Global, job: &Job) -> Result<(), Fail> {
     let all = [true, true, true];
     if all.len() != job.stages().len() {
         return Err(Fail::new("not as many inlining as stages"));
@@ -179,9 +175,7 @@ fn long_chain(alloc: Global) -> Result<String, Fail> {
 }
 
 // Whether a long chain's first function and the last that is read are inlined, and what the last function costs.
-fn has_ends(alloc: Global, job: &Job, wanted: &str) -> Result<(), Fail>
-    requires { IsJob (pipeline_in job.now) }
-{
+fn has_ends(alloc: Global, job: &Job, wanted: &str) -> Result<(), Fail> {
     let schedule = Schedule::greedy(alloc, job, 40)?;
     let ends = (schedule.inlined(1), schedule.inlined(49), schedule.cost(50));
     tells(alloc, &ends, wanted)

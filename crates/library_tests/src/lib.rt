@@ -23,6 +23,8 @@ mod runs;
 #[cfg(test)]
 mod schedules;
 #[cfg(test)]
+mod stops;
+#[cfg(test)]
 mod texts;
 #[cfg(test)]
 mod tiles;

@@ -2,7 +2,6 @@
 //! Plans of tiles.
 
 ghost use Rattle.job.specs.Kept.{pipeline_in};
-ghost use Rattle.job.specs.WellFormed.{IsJob};
 
 use crate::areas::ends;
 use crate::bound_jobs::job_of;
@@ -122,9 +121,7 @@ fn is_planned(
     inlining: &[bool],
     tile: Tile,
     wanted: &str,
-) -> Result<(), Fail>
-    requires { IsJob (pipeline_in job.now) }
-{
+) -> Result<(), Fail> {
     has_few_stages(job)?;
     let schedule = schedule_of(alloc, job, inlining)?;
     match TilePlan::of(alloc, job, &schedule, tile.0, tile.1, tile.2) {

@@ -4,7 +4,6 @@
 ghost use Rattle.std.specs.Prelude.{◌≡◌, ◌≤◌, length, IfOk};
 ghost use Rattle.grouping.specs.Inlining.{IsScheduleOf};
 ghost use Rattle.job.specs.Kept.{pipeline_in};
-ghost use Rattle.job.specs.WellFormed.{IsJob};
 ghost use Rattle.tile_run.specs.KnownTiles.{AreTrue};
 ghost use Rattle.tile_run.specs.Stored.{stored_tiles, GivesAllTiles};
 
@@ -26,7 +25,6 @@ pub(crate) fn has_few_stages(job: &Job) -> Result<(), Fail>
 
 /// The schedule of these inlining, one for each stage.
 pub(crate) fn schedule_of(alloc: Global, job: &Job, inlining: &[bool]) -> Result<Schedule, Fail>
-    requires { IsJob (pipeline_in job.now) }
     ensures { IfOk result (IsScheduleOf (pipeline_in job.now)) }
 {
     if inlining.len() != job.stages().len() {
@@ -37,7 +35,6 @@ pub(crate) fn schedule_of(alloc: Global, job: &Job, inlining: &[bool]) -> Result
 
 /// The schedule that inlines wherever it may, or that stores all.
 pub(crate) fn chosen(alloc: Global, job: &Job, inline: bool) -> Result<Schedule, Fail>
-    requires { IsJob (pipeline_in job.now) }
     ensures { IfOk result (IsScheduleOf (pipeline_in job.now)) }
 {
     if inline {
@@ -49,7 +46,6 @@ pub(crate) fn chosen(alloc: Global, job: &Job, inline: bool) -> Result<Schedule,
 
 /// The tiles of a job's stored functions.
 pub(crate) fn run(alloc: Global, job: &Job, schedule: &Schedule) -> Result<Stored, Fail>
-    requires job { IsJob (pipeline_in job.now) }
     requires schedule { IsScheduleOf (pipeline_in job.now) schedule.now }
     ensures few { IfOk result (λ _. length (pipeline_in job.now).stages ≤ 64) }
     ensures all { IfOk result (λ stored. GivesAllTiles (pipeline_in job.now) schedule.now.inlining (stored_tiles stored.stages.items)) }

@@ -2,7 +2,6 @@
 //! Boxes of what a tile needs.
 
 ghost use Rattle.job.specs.Kept.{pipeline_in};
-ghost use Rattle.job.specs.WellFormed.{IsJob};
 
 use crate::areas::ends;
 use crate::bound_jobs::job_of;
@@ -29,16 +28,14 @@ func a(x in [1..6], y in [1..6]) { else : stencil(I, 1, [[1,1,1],[1,1,1],[1,1,1]
 output c max 65535;";
 
 // Compares the functions that the first tile of a stage needs, with the ends of their boxes.
-#[tactic(auto, using(grouping::proofs::Tiles::tile_is_target))]
+#[tactic(auto, using(grouping::proofs::TilesAreTargets::tile_is_target))]
 fn has_boxes(
     alloc: Global,
     job: &Job,
     schedule: &Schedule,
     stage: usize,
     wanted: &str,
-) -> Result<(), Fail>
-    requires { IsJob (pipeline_in job.now) }
-{
+) -> Result<(), Fail> {
     let grid = job.grid(stage).ok_or("no grid")?;
     let tile = grid.tile(0, 0).ok_or("no tile")?;
     let boxes = schedule.boxes(alloc, job, stage, tile)?;
@@ -53,9 +50,7 @@ fn are_boxes(alloc: Global, boxes: &[(usize, Area)], wanted: &str) -> Result<(),
     tells(alloc, &found, wanted)
 }
 
-fn has_ring(alloc: Global, job: &Job) -> Result<(), Fail>
-    requires { IsJob (pipeline_in job.now) }
-{
+fn has_ring(alloc: Global, job: &Job) -> Result<(), Fail> {
     let schedule = chosen(alloc, job, false)?;
     has_boxes(alloc, job, &schedule, 1, "[(2, (1, 4, 1, 4))]")
 }
@@ -66,9 +61,7 @@ fn a_tile_needs_a_ring_around_it(rt: HostRuntime) -> Result<(), Fail> {
     has_ring(rt.alloc(), &job)
 }
 
-fn has_rings(alloc: Global, job: &Job) -> Result<(), Fail>
-    requires { IsJob (pipeline_in job.now) }
-{
+fn has_rings(alloc: Global, job: &Job) -> Result<(), Fail> {
     let schedule = schedule_of(alloc, job, &[false, false, true, true])?;
     has_boxes(
         alloc,

@@ -2,7 +2,6 @@
 //! Tiles beside whole stages.
 
 ghost use Rattle.job.specs.Kept.{pipeline_in};
-ghost use Rattle.job.specs.WellFormed.{IsJob};
 
 use crate::bound_jobs::job_of;
 use crate::plans::TOO_BIG;
@@ -76,9 +75,12 @@ fn have(
 }
 
 // Whether the tiles of a stage are parts of the stage as a whole.
-fn are_parts(alloc: Global, job: &Job, stored: &Stored, stage: usize) -> Result<Option<bool>, Fail>
-    requires { IsJob (pipeline_in job.now) }
-{
+fn are_parts(
+    alloc: Global,
+    job: &Job,
+    stored: &Stored,
+    stage: usize,
+) -> Result<Option<bool>, Fail> {
     let sides = (job.sides().height() as usize, job.sides().width() as usize);
     let Some(domain) = job.domain(stage) else {
         return Ok(None);
@@ -91,9 +93,7 @@ fn are_parts(alloc: Global, job: &Job, stored: &Stored, stage: usize) -> Result<
 }
 
 // Compares the tiles of each stored function with the function as a whole.
-fn compare(alloc: Global, job: &Job, schedule: &Schedule, stored: &Stored) -> Result<(), Fail>
-    requires { IsJob (pipeline_in job.now) }
-{
+fn compare(alloc: Global, job: &Job, schedule: &Schedule, stored: &Stored) -> Result<(), Fail> {
     for stage in 0..job.stages().len() {
         if job.kind(stage) == Some(StageKind::Function) && !schedule.inlined(stage) {
             holds(
@@ -106,9 +106,7 @@ fn compare(alloc: Global, job: &Job, schedule: &Schedule, stored: &Stored) -> Re
 }
 
 // Compares at the schedule that inlines the functions that are read, or that stores all.
-fn compare_at(alloc: Global, job: &Job, inline: bool) -> Result<(), Fail>
-    requires { IsJob (pipeline_in job.now) }
-{
+fn compare_at(alloc: Global, job: &Job, inline: bool) -> Result<(), Fail> {
     let schedule = chosen(alloc, job, inline)?;
     for stage in 1..4usize {
         holds(
@@ -150,9 +148,7 @@ output g max 255;";
 const DOUBLED: [i32; 16] = [0, 0, 2, 2, 0, 0, 2, 2, 8, 8, 10, 10, 8, 8, 10, 10];
 
 // The halves and the doubles as whole stages.
-fn have_whole(alloc: Global, job: &Job) -> Result<(), Fail>
-    requires { IsJob (pipeline_in job.now) }
-{
+fn have_whole(alloc: Global, job: &Job) -> Result<(), Fail> {
     let (halves, doubles) = (plain(alloc, job, 1)?, plain(alloc, job, 2)?);
     tells(alloc, &halves, "[0, 2, 8, 10]")?;
     holds(
@@ -162,9 +158,7 @@ fn have_whole(alloc: Global, job: &Job) -> Result<(), Fail>
 }
 
 // The doubles by tiles, where the halves are stored or inlined.
-fn have_tiles(alloc: Global, job: &Job, inlined: bool) -> Result<(), Fail>
-    requires { IsJob (pipeline_in job.now) }
-{
+fn have_tiles(alloc: Global, job: &Job, inlined: bool) -> Result<(), Fail> {
     let schedule = schedule_of(alloc, job, &[false, inlined, false])?;
     let stored = run(alloc, job, &schedule)?;
     holds(
@@ -174,9 +168,7 @@ fn have_tiles(alloc: Global, job: &Job, inlined: bool) -> Result<(), Fail>
     holds(have(&stored, 2, (1, 1), 4, &DOUBLED), "tiles are doubled")
 }
 
-fn have_all(alloc: Global, job: &Job) -> Result<(), Fail>
-    requires { IsJob (pipeline_in job.now) }
-{
+fn have_all(alloc: Global, job: &Job) -> Result<(), Fail> {
     have_whole(alloc, job)?;
     have_tiles(alloc, job, false)?;
     have_tiles(alloc, job, true)
@@ -202,9 +194,7 @@ fn is_without_room(job: &Job, run: &Result<Stored, RunFault>) -> Option<bool> {
     Some(refusal(run)? == RunFault::ScratchTooBig(job.key(2, 0, 0)?))
 }
 
-fn has_no_room(alloc: Global, job: &Job) -> Result<(), Fail>
-    requires { IsJob (pipeline_in job.now) }
-{
+fn has_no_room(alloc: Global, job: &Job) -> Result<(), Fail> {
     has_few_stages(job)?;
     let schedule = schedule_of(alloc, job, &[false, true, false])?;
     let run = run_all(alloc, job, &schedule);

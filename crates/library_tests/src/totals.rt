@@ -2,7 +2,6 @@
 //! Accumulators over tiles, joined, and whole.
 
 ghost use Rattle.job.specs.Kept.{pipeline_in};
-ghost use Rattle.job.specs.WellFormed.{IsJob};
 
 use crate::bound_jobs::job_of;
 use crate::runs::{chosen, run};
@@ -34,9 +33,7 @@ output b max 255;";
 const SIXTEEN: &[u8] = b"P2 4 4 15 0 1 2 3 4 5 6 7 8 9 10 11 15 13 12 14";
 
 // The answer of a job at the schedule that inlines wherever it may, or that stores all.
-fn answer_by_tiles(alloc: Global, job: &Job, inline: bool) -> Result<Answer, Fail>
-    requires { IsJob (pipeline_in job.now) }
-{
+fn answer_by_tiles(alloc: Global, job: &Job, inline: bool) -> Result<Answer, Fail> {
     let schedule = chosen(alloc, job, inline)?;
     let stored = run(alloc, job, &schedule)?;
     Ok(answer_of(alloc, job, &schedule, &stored)?)
@@ -53,9 +50,7 @@ fn answer(
     answer_by_tiles(alloc, &job, inline)
 }
 
-fn has_whole(alloc: Global, job: &Job, wanted: &str) -> Result<(), Fail>
-    requires { IsJob (pipeline_in job.now) }
-{
+fn has_whole(alloc: Global, job: &Job, wanted: &str) -> Result<(), Fail> {
     let bins = whole(alloc, job, 1)?;
     tells(alloc, &bins, wanted)
 }

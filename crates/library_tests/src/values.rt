@@ -25,17 +25,13 @@ fn halved(alloc: Global) -> Result<Job, Fail>
     job_of(alloc, HALVED, &[], RISING, (1, 1))
 }
 
-fn has_stage(alloc: Global, job: &Job, stage: usize, wanted: &str) -> Result<(), Fail>
-    requires { IsJob (pipeline_in job.now) }
-{
+fn has_stage(alloc: Global, job: &Job, stage: usize, wanted: &str) -> Result<(), Fail> {
     let values = plain(alloc, job, stage)?;
     tells(alloc, &values, wanted)
 }
 
 // Of an accumulator, and of what is no stage, there are no values.
-fn has_values(alloc: Global, job: &Job) -> Result<(), Fail>
-    requires { IsJob (pipeline_in job.now) }
-{
+fn has_values(alloc: Global, job: &Job) -> Result<(), Fail> {
     let samples = "[0, 1, 2, 3, 4, 5, 6, 7, 8, 9, 10, 11, 12, 13, 14, 15]";
     has_stage(alloc, job, 0, samples)?;
     has_stage(alloc, job, 1, "[0, 2, 8, 10]")?;
@@ -55,16 +51,12 @@ fn values_of_a_stage(rt: HostRuntime) -> Result<(), Fail> {
     has_values(rt.alloc(), &job)
 }
 
-fn has_stages(alloc: Global, job: &Job, stages: &[usize], wanted: &str) -> Result<(), Fail>
-    requires { IsJob (pipeline_in job.now) }
-{
+fn has_stages(alloc: Global, job: &Job, stages: &[usize], wanted: &str) -> Result<(), Fail> {
     let values = plain_all(alloc, job, stages)?;
     tells(alloc, &values, wanted)
 }
 
-fn has_all_values(alloc: Global, job: &Job) -> Result<(), Fail>
-    requires { IsJob (pipeline_in job.now) }
-{
+fn has_all_values(alloc: Global, job: &Job) -> Result<(), Fail> {
     has_stages(
         alloc,
         job,

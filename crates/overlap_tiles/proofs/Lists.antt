@@ -1,25 +1,20 @@
 -- Lists that are made of lists or of other elements.
-use Rattle.std.proofs.Common.{suc, ◌≡◌, inl, inr, subst, arith, List, [], ◌∷◌, ◌++◌, map}
+use Rattle.std.proofs.Common.{◌≡◌, inl, inr, arith, List, [], ◌∷◌, ◌++◌, map}
 use Rattle.std.specs.Prelude.{All, AllPairs, Contains}
 use Rattle.std.specs.List.{flat_map}
 use Rattle.std.proofs.lemmas.List.Elements.{All-append, All-map, All-weaker, All-contains, All-contains_itself, Contains-append_right, Contains-append_cases}
 use Rattle.std.proofs.lemmas.List.Kept.{AllPairs-cons}
 use Rattle.domains.proofs.PairLists.{Contains-here, Contains-cases}
+use Rattle.grouping.proofs.Lists.{AllPairs-head, AllPairs-tail}
 
 -- ---- what is in a list
 
-pub Contains-from_flat_map : {X A : Type 0} → (f : X → List A) (xs : List X) (y : A) → Contains (flat_map f xs) y → (x : X) × Contains xs x × Contains (f x) y
+pub Contains-from_flat_map : {X A : Type 0} → (f : X → List A) (xs : List X) (y : A) → Contains (flat_map f xs) y
+    → (x : X) × Contains xs x × Contains (f x) y
 Contains-from_flat_map f [] y h = absurd (omega (arith, h.1))
 Contains-from_flat_map f (z ∷ zs) y h = elim (Contains-append_cases (f z) (flat_map f zs) y h) [
   | inl k ↦ (z, Contains-here z zs, k)
   | inr k ↦ (let rest = Contains-from_flat_map f zs y k in (rest.0, Contains-append_right (z ∷ []) zs rest.0 rest.1, rest.2))
-]
-
-pub Contains-map : {X Y : Type 0} → (f : X → Y) (xs : List X) (x : X) → Contains xs x → Contains (map f xs) (f x)
-Contains-map f [] x h = absurd (omega (arith, h.1))
-Contains-map f (z ∷ zs) x h = elim (Contains-cases z zs x h) [
-  | inl e ↦ subst (λ w. Contains (map f (z ∷ zs)) (f w)) e (Contains-here (f z) (map f zs))
-  | inr m ↦ Contains-append_right (f z ∷ []) (map f zs) (f x) (Contains-map f zs x m)
 ]
 
 pub Contains-from_map : {X Y : Type 0} → (f : X → Y) (xs : List X) (y : Y) → Contains (map f xs) y → (x : X) × Contains xs x × (f x ≡ y)
@@ -35,20 +30,16 @@ All-from_contains P xs h = All-weaker (Contains xs) P h xs (All-contains_itself 
 
 -- ---- in order
 
-AllPairs-tail : {A : Type 0} → (R : A → A → Type 0) (x : A) (xs : List A) → AllPairs R (x ∷ xs) → AllPairs R xs
-AllPairs-tail R x xs h = λ i j d p q. h (suc i) (suc j) d (omega arith) (omega arith)
-
-AllPairs-head : {A : Type 0} → (R : A → A → Type 0) (x : A) (xs : List A) → AllPairs R (x ∷ xs) → All (R x) xs
-AllPairs-head R x xs h = λ k d p. h 0 (suc k) d (omega arith) (omega arith)
-
-pub AllPairs-append : {A : Type 0} → (R : A → A → Type 0) (xs ys : List A) → AllPairs R xs → AllPairs R ys → ((x y : A) → Contains xs x → Contains ys y → R x y) → AllPairs R (xs ++ ys)
+pub AllPairs-append : {A : Type 0} → (R : A → A → Type 0) (xs ys : List A) → AllPairs R xs → AllPairs R ys
+    → ((x y : A) → Contains xs x → Contains ys y → R x y) → AllPairs R (xs ++ ys)
 AllPairs-append R [] ys h k before = k
 AllPairs-append R (x ∷ xs) ys h k before =
     AllPairs-cons R x (xs ++ ys)
     (All-append (R x) xs ys (AllPairs-head R x xs h) (All-from_contains (R x) ys (λ y m. before x y (Contains-here x xs) m)))
     (AllPairs-append R xs ys (AllPairs-tail R x xs h) k (λ z y n m. before z y (Contains-append_right (x ∷ []) xs z n) m))
 
-pub AllPairs-flat_map : {X A : Type 0} → (S : X → X → Type 0) (R : A → A → Type 0) (f : X → List A) (xs : List X) → AllPairs S xs → ((x : X) → AllPairs R (f x))
+pub AllPairs-flat_map : {X A : Type 0} → (S : X → X → Type 0) (R : A → A → Type 0) (f : X → List A) (xs : List X) → AllPairs S xs
+    → ((x : X) → AllPairs R (f x))
     → ((x y : X) → S x y → (a b : A) → Contains (f x) a → Contains (f y) b → R a b) → AllPairs R (flat_map f xs)
 AllPairs-flat_map S R f [] h each before = λ i j d p q. absurd (omega (arith, q))
 AllPairs-flat_map S R f (x ∷ xs) h each before =
@@ -57,7 +48,8 @@ AllPairs-flat_map S R f (x ∷ xs) h each before =
     let later = Contains-from_flat_map f xs b there in
     before x later.0 (All-contains (S x) xs later.0 (AllPairs-head S x xs h) later.1) a b here later.2)
 
-pub AllPairs-map : {X A : Type 0} → (S : X → X → Type 0) (R : A → A → Type 0) (f : X → A) (xs : List X) → AllPairs S xs → ((x y : X) → S x y → R (f x) (f y)) → AllPairs R (map f xs)
+pub AllPairs-map : {X A : Type 0} → (S : X → X → Type 0) (R : A → A → Type 0) (f : X → A) (xs : List X) → AllPairs S xs
+    → ((x y : X) → S x y → R (f x) (f y)) → AllPairs R (map f xs)
 AllPairs-map S R f [] h before = λ i j d p q. absurd (omega (arith, q))
 AllPairs-map S R f (x ∷ xs) h before =
     AllPairs-cons R (f x) (map f xs)

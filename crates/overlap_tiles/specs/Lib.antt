@@ -1,7 +1,8 @@
+pub mod Faults
 pub mod Needs
 pub mod Views
-pub mod Made
 pub mod Lives
 pub mod Ranges
 pub mod Plans
 pub mod Available
+pub mod inside

@@ -8,7 +8,7 @@ use Rattle.job.specs.Answers.{Tile}
 use Rattle.identity.specs.declared.key.Key.{Key}
 use Rattle.job.specs.Identity.{HasTileAt}
 use Rattle.job.specs.Readers.{grid_at}
-use Rattle.grouping.specs.Targets.{Target}
+use Rattle.grouping.specs.Targets.{Target, target_over}
 use Rattle.grouping.specs.Costs.{steps, points, scratch, most_scratch}
 use Rattle.overlap_tiles.specs.declared.fault.PlanFault.{PlanFault}
 use Rattle.overlap_tiles.specs.declared.fault.PlanFault.TheVariants.{NoSuchTile, ScratchTooBig, Memory}
@@ -76,9 +76,6 @@ pub record IsTileAt (job : Pipeline) (g i j : ℕ) (area : Area) : Type 0 where
   pub there : grid_at job g ≡ Some grid
   pub tile : HasTile grid i j
   pub is : area ≡ tile_area grid i j
-
-abbrev pub target_over : Pipeline → List Bool → ℕ → Area → Target
-target_over job inlining g area = record { job = job; inlining = inlining; stage = g; region = area }
 
 -- the layout is that of this tile
 pub record IsTileLayout (job : Pipeline) (inlining : List Bool) (g i j : ℕ) (l : Layout) : Type 0 where

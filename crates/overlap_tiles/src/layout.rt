@@ -5,16 +5,15 @@ ghost use Rattle.std.specs.Prelude.{◌≡◌, map, IfOk, IfErr, IfSome, IfNone}
 ghost use Rattle.domains.specs.Area.{IsArea};
 ghost use Rattle.job.specs.Identity.{HasTileAt};
 ghost use Rattle.job.specs.Kept.{pipeline_in};
-ghost use Rattle.job.specs.WellFormed.{IsJob};
 ghost use Rattle.grouping.specs.Schedules.{is_inlined};
-ghost use Rattle.grouping.specs.Targets.{boxes};
-ghost use Rattle.overlap_tiles.specs.Plans.{IsTileAt, IsTileLayout, IsFittingLayout, IsTargetFault, IsPlanFault, target_over};
+ghost use Rattle.grouping.specs.Targets.{boxes, target_over};
+ghost use Rattle.overlap_tiles.specs.Plans.{IsTileAt, IsTileLayout, IsFittingLayout, IsTargetFault, IsPlanFault};
 ghost use Rattle.overlap_tiles.specs.Views.{step_view, need_view};
 
 use crate::fault::PlanFault;
 use crate::needs::{Need, needs};
 use crate::ranges::end_to_end;
-use crate::steps::{Step, inner_steps, points, scratch_points};
+use crate::steps::{Step, inner_steps, points, scratch_points, with_target};
 use domains::Area;
 use grouping::Schedule;
 use job::Job;
@@ -67,7 +66,6 @@ impl<'a> Layout<'a> {
         row: u32,
         col: u32,
     ) -> Result<Layout<'a>, PlanFault>
-        requires { IsJob (pipeline_in job.now) }
         ensures layout { IfOk result (IsTileLayout (pipeline_in job.now) schedule.now.inlining stage row col) }
         ensures fault { IfErr result (IsPlanFault (pipeline_in job.now) schedule.now.inlining stage row col) }
     {
@@ -92,17 +90,17 @@ impl<'a> Layout<'a> {
         ensures layout { IfOk result (IsFittingLayout (target_over (pipeline_in job.now) schedule.now.inlining target.stage target.area)) }
         ensures fault { IfErr result (IsTargetFault (target_over (pipeline_in job.now) schedule.now.inlining target.stage target.area)) }
     {
-        let mut steps = inner_steps(alloc, schedule, found)?;
+        let steps = inner_steps(alloc, schedule, found)?;
         let Some(scratch) = scratch_points(&steps) else {
             return Err(PlanFault::ScratchTooBig);
         };
         let ranges = end_to_end(alloc, &steps)?;
         let needs = needs(alloc, job, schedule, found)?;
-        steps.push(target)?;
+        let all = with_target(steps, target)?;
         Ok(Layout {
             schedule,
             needs,
-            steps,
+            steps: all,
             points: scratch + points(&target.area),
             ranges,
             scratch: scratch as usize,
@@ -110,7 +108,7 @@ impl<'a> Layout<'a> {
     }
 
     /// The tiles of stored functions that it reads, each once: stage by stage, and those of a stage row by row.
-    pub fn needs(&self) -> &[Need]
+    pub(crate) fn needs(&self) -> &[Need]
         ensures { map need_view result.now ≡ self.now.needs }
     {
         &self.needs
@@ -124,21 +122,21 @@ impl<'a> Layout<'a> {
     }
 
     /// How many points that is.
-    pub fn points(&self) -> u64
+    pub(crate) fn points(&self) -> u64
         ensures { result ≡ self.now.points }
     {
         self.points
     }
 
     /// Where the steps but the last lie in scratch memory, each by its start and its length.
-    pub fn ranges(&self) -> &[(usize, usize)]
+    pub(crate) fn ranges(&self) -> &[(usize, usize)]
         ensures { result.now ≡ self.now.ranges }
     {
         &self.ranges
     }
 
     /// How many points the scratch memory has.
-    pub fn scratch(&self) -> usize
+    pub(crate) fn scratch(&self) -> usize
         ensures { result ≡ self.now.scratch }
     {
         self.scratch

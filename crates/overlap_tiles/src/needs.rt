@@ -5,7 +5,7 @@ ghost use Rattle.std.specs.Prelude.{◌≡◌, ◌++◌, length, map, IfOk, OnOk
 ghost use Rattle.std.specs.List.{flat_map, range_with_len};
 ghost use Rattle.job.specs.Kept.{pipeline_in};
 ghost use Rattle.overlap_tiles.specs.Needs.{tile_of_stage};
-ghost use Rattle.overlap_tiles.specs.Made.{area_in, stage_needs};
+ghost use Rattle.overlap_tiles.specs.inside.Made.{area_in, stage_needs};
 ghost use Rattle.overlap_tiles.specs.Views.{need_view};
 
 use domains::Area;

@@ -1,10 +1,9 @@
 #![tactic(auto)]
 //! The plan of a tile.
 
-ghost use Rattle.std.specs.Prelude.{◌≡◌, ◌≤◌, ℕ, Bool, List, length, map, IfOk, IfErr};
+ghost use Rattle.std.specs.Prelude.{◌≡◌, ℕ, Bool, List, map, IfOk, IfErr};
 ghost use Rattle.job.specs.Kept.{pipeline_in, program_id_in};
 ghost use Rattle.job.specs.Pipeline.{Pipeline};
-ghost use Rattle.job.specs.WellFormed.{IsJob};
 ghost use Rattle.overlap_tiles.specs.Needs.{key_tile};
 ghost use Rattle.overlap_tiles.specs.Plans.{IsTileLayout, IsTilePlan, IsPlanFault, layout_of};
 ghost use Rattle.overlap_tiles.specs.Views.{step_view};
@@ -52,8 +51,6 @@ impl<'a> TilePlan<'a> {
         row: u32,
         col: u32,
     ) -> Result<TilePlan<'a>, PlanFault>
-        requires job { IsJob (pipeline_in job.now) }
-        requires few { length (pipeline_in job.now).stages ≤ 65536 }
         ensures plan { IfOk result (IsTilePlan (program_id_in job.now) (pipeline_in job.now) schedule.now.inlining stage row col) }
         ensures fault { IfErr result (IsPlanFault (pipeline_in job.now) schedule.now.inlining stage row col) }
     {

@@ -4,7 +4,7 @@
 ghost use Rattle.std.specs.Prelude.{◌≡◌, ◌≤◌, map, IfOk};
 ghost use Rattle.domains.specs.Area.{point_count};
 ghost use Rattle.grouping.specs.Costs.{points_in, most_scratch};
-ghost use Rattle.overlap_tiles.specs.Made.{end_to_end};
+ghost use Rattle.overlap_tiles.specs.inside.Made.{end_to_end};
 ghost use Rattle.overlap_tiles.specs.Views.{step_view};
 
 use crate::steps::{Step, points};

@@ -1,8 +1,8 @@
 #![tactic(auto)]
 //! What is computed for a tile, step by step.
 
-ghost use Rattle.std.specs.Prelude.{◌≡◌, ◌≤◌, ◌<◌, ◌^◌, map, filter, IfOk, IfSome, IfNone};
-ghost use Rattle.domains.specs.Area.{IsArea, point_count};
+ghost use Rattle.std.specs.Prelude.{◌≡◌, ◌≤◌, ◌<◌, ◌^◌, ◌++◌, ◌∷◌, [], map, filter, IfOk, IfSome, IfNone};
+ghost use Rattle.domains.specs.Area.{point_count};
 ghost use Rattle.grouping.specs.Schedules.{is_inlined};
 ghost use Rattle.grouping.specs.Costs.{points_in, most_scratch};
 ghost use Rattle.overlap_tiles.specs.Views.{step_view};
@@ -36,8 +36,17 @@ pub(crate) fn inner_steps(
     Ok(steps)
 }
 
+/// These steps, and at last the target.
+pub(crate) fn with_target(steps: Vec<Step>, target: Step) -> Result<Vec<Step>, AllocError>
+    ensures { IfOk result (λ all. all.items ≡ steps.items ++ target ∷ []) }
+{
+    let mut all = steps;
+    all.push(target)?;
+    Ok(all)
+}
+
 // An area has few enough points that many areas can be counted.
-#[tactic(auto, using(crate::proofs::Counting::few_points))]
+#[tactic(auto, using(crate::proofs::PointsAreFew::few_points))]
 pub(crate) fn points(area: &Area) -> u64
     ensures number { result ≡ point_count area.now }
     ensures few { result < 2 ^ 43 }

@@ -1,7 +1,6 @@
 -- Spans and areas that are cut by tests.
-use Rattle.std.proofs.Common.{ℕ, ◌+◌, ◌<◌, ℤ, ◌≤ℤ◌, ◌≡◌, ◌↔◌, true, false, cond, Option, Some, None, List, ◌∷◌, length, drop, get_or, sym, ◌∙◌, ap, subst}
+use Rattle.std.proofs.Common.{ℕ, ℤ, ◌≤ℤ◌, ◌≡◌, ◌↔◌, true, false, cond, Option, Some, None, List, ◌∷◌, sym, subst}
 use Rattle.std.specs.Str.{bytes_eq}
-use Rattle.std.proofs.lemmas.List.{drop_more}
 use Rattle.domains.specs.Span.{Ends}
 use Rattle.domains.specs.Area.{HoldsPoint}
 use Rattle.domains.specs.declared.area.Area.{Area}

@@ -14,18 +14,18 @@ use Rattle.pipe_bounds.specs.declared.fault.Axis.TheVariants.{Rows, Columns}
 use Rattle.pipe_bounds.specs.declared.fault.BoundFault.{BoundFault}
 use Rattle.pipe_bounds.specs.declared.fault.BoundFault.TheVariants.{Memory}
 use Rattle.pipe_bounds.specs.declared.params.Setting.{Setting}
-use Rattle.pipe_checks.specs.declared.site.Site.{Site}
+use Rattle.pipe_checks.specs.declared.access.Access.{Access}
 use Rattle.pipe_bounds.specs.InBounds.{ReadCase, IsInBox, Stays, AllStay, StageStays, StaysAt, IsTakenAlong, Leaves, TellsRead, IsFirstRead, IsFirstCase, IsFirstStage, stage_cases, branch_case, whole_case}
 use Rattle.pipe_bounds.specs.Taken.{AnswersReads, AnswersCases}
 use Rattle.domains.proofs.Places.{slice_get-end}
 
 -- ---- where a loop stops
 
-pub first_read : (areas : List Area) (Box : ℤ → ℤ → Type 0) (sites : List Site) (k n m : ℕ) (site : Site) (f : BoundFault) → slice_get sites m ≡ Some site → ((i : ℕ) (y : Site) → i < m → slice_get sites i ≡ Some y → Stays areas Box y) → (f ≡ Memory) ⊎ TellsRead areas Box site k n m f → (f ≡ Memory) ⊎ IsFirstRead areas Box sites k n f
-first_read areas Box sites k n m site f there before (inl e) = inl e
-first_read areas Box sites k n m site f there before (inr tells) = inr (record { number = m; site = site; there = there; before = before; tells = tells })
+pub first_read : (areas : List Area) (Box : ℤ → ℤ → Type 0) (accesses : List Access) (k n m : ℕ) (access : Access) (f : BoundFault) → slice_get accesses m ≡ Some access → ((i : ℕ) (y : Access) → i < m → slice_get accesses i ≡ Some y → Stays areas Box y) → (f ≡ Memory) ⊎ TellsRead areas Box access k n m f → (f ≡ Memory) ⊎ IsFirstRead areas Box accesses k n f
+first_read areas Box accesses k n m access f there before (inl e) = inl e
+first_read areas Box accesses k n m access f there before (inr tells) = inr (record { number = m; access = access; there = there; before = before; tells = tells })
 
-pub first_case : (ss : List Setting) (areas : List Area) (domain : Area) (cases : List ReadCase) (k n : ℕ) (x : ReadCase) (f : BoundFault) → slice_get cases n ≡ Some x → ((i : ℕ) (y : ReadCase) → i < n → slice_get cases i ≡ Some y → AllStay areas (IsInBox ss domain y) y.sites) → (f ≡ Memory) ⊎ IsFirstRead areas (IsInBox ss domain x) x.sites k n f → (f ≡ Memory) ⊎ IsFirstCase ss areas domain cases k f
+pub first_case : (ss : List Setting) (areas : List Area) (domain : Area) (cases : List ReadCase) (k n : ℕ) (x : ReadCase) (f : BoundFault) → slice_get cases n ≡ Some x → ((i : ℕ) (y : ReadCase) → i < n → slice_get cases i ≡ Some y → AllStay areas (IsInBox ss domain y) y.accesses) → (f ≡ Memory) ⊎ IsFirstRead areas (IsInBox ss domain x) x.accesses k n f → (f ≡ Memory) ⊎ IsFirstCase ss areas domain cases k f
 first_case ss areas domain cases k n x f there before (inl e) = inl e
 first_case ss areas domain cases k n x f there before (inr read) = inr (record { number = n; place = x; there = there; before = before; read = read })
 
@@ -35,21 +35,21 @@ first_stage ss ds stages areas k s domain f there has before (inr case) = inr (r
 
 -- ---- two boxes with the same points
 
-taken_too : (P Q : ℤ → ℤ → Type 0) (site : Site) (axis : Axis) (v : ℤ) → ((r c : ℤ) → P r c → Q r c) → IsTakenAlong P site axis v → IsTakenAlong Q site axis v
-taken_too P Q site Rows v h t = (t.0, t.1, h t.0 t.1 t.2, t.3)
-taken_too P Q site Columns v h t = (t.0, t.1, h t.0 t.1 t.2, t.3)
+taken_too : (P Q : ℤ → ℤ → Type 0) (access : Access) (axis : Axis) (v : ℤ) → ((r c : ℤ) → P r c → Q r c) → IsTakenAlong P access axis v → IsTakenAlong Q access axis v
+taken_too P Q access Rows v h t = (t.0, t.1, h t.0 t.1 t.2, t.3)
+taken_too P Q access Columns v h t = (t.0, t.1, h t.0 t.1 t.2, t.3)
 
-leaves_too : (areas : List Area) (P Q : ℤ → ℤ → Type 0) (site : Site) (axis : Axis) (least greatest : ℤ) → ((r c : ℤ) → P r c ↔ Q r c) → Leaves areas P site axis least greatest → Leaves areas Q site axis least greatest
-leaves_too areas P Q site axis least greatest same h = record {
+leaves_too : (areas : List Area) (P Q : ℤ → ℤ → Type 0) (access : Access) (axis : Axis) (least greatest : ℤ) → ((r c : ℤ) → P r c ↔ Q r c) → Leaves areas P access axis least greatest → Leaves areas Q access axis least greatest
+leaves_too areas P Q access axis least greatest same h = record {
   domain = h.domain;
   there = h.there;
-  leaves = λ stays. h.leaves (λ v taken. stays v (taken_too P Q site axis v to taken));
+  leaves = λ stays. h.leaves (λ v taken. stays v (taken_too P Q access axis v to taken));
   extremes = record {
-    first = taken_too P Q site axis least to h.extremes.first;
-    last = taken_too P Q site axis greatest to h.extremes.last;
-    between = λ v taken. h.extremes.between v (taken_too Q P site axis v back taken);
+    first = taken_too P Q access axis least to h.extremes.first;
+    last = taken_too P Q access axis greatest to h.extremes.last;
+    between = λ v taken. h.extremes.between v (taken_too Q P access axis v back taken);
   };
-  rows = λ e v taken. h.rows e v (taken_too Q P site Rows v back taken);
+  rows = λ e v taken. h.rows e v (taken_too Q P access Rows v back taken);
 }
   where
     to : (r c : ℤ) → P r c → Q r c
@@ -58,24 +58,24 @@ leaves_too areas P Q site axis least greatest same h = record {
     back : (r c : ℤ) → Q r c → P r c
     back r c q = (same r c).1 q
 
-tells_too : (areas : List Area) (P Q : ℤ → ℤ → Type 0) (site : Site) (k n m : ℕ) (f : BoundFault) → ((r c : ℤ) → P r c ↔ Q r c) → TellsRead areas P site k n m f → TellsRead areas Q site k n m f
-tells_too areas P Q site k n m f same h = record {
+tells_too : (areas : List Area) (P Q : ℤ → ℤ → Type 0) (access : Access) (k n m : ℕ) (f : BoundFault) → ((r c : ℤ) → P r c ↔ Q r c) → TellsRead areas P access k n m f → TellsRead areas Q access k n m f
+tells_too areas P Q access k n m f same h = record {
   axis = h.axis;
   least = h.least;
   greatest = h.greatest;
   told = h.told;
-  leaves = leaves_too areas P Q site h.axis h.least h.greatest same h.leaves;
+  leaves = leaves_too areas P Q access h.axis h.least h.greatest same h.leaves;
 }
 
-pub same_box : (areas : List Area) (P Q : ℤ → ℤ → Type 0) (sites : List Site) (k n : ℕ) (answer : Result (Unit {0}) BoundFault) → ((r c : ℤ) → P r c ↔ Q r c) → AnswersReads areas P sites k n answer → AnswersReads areas Q sites k n answer
-same_box areas P Q sites k n (Ok u) same h = λ m site there r c q. h m site there r c ((same r c).1 q)
-same_box areas P Q sites k n (Err f) same (inl e) = inl e
-same_box areas P Q sites k n (Err f) same (inr h) = inr (record {
+pub same_box : (areas : List Area) (P Q : ℤ → ℤ → Type 0) (accesses : List Access) (k n : ℕ) (answer : Result (Unit {0}) BoundFault) → ((r c : ℤ) → P r c ↔ Q r c) → AnswersReads areas P accesses k n answer → AnswersReads areas Q accesses k n answer
+same_box areas P Q accesses k n (Ok u) same h = λ m access there r c q. h m access there r c ((same r c).1 q)
+same_box areas P Q accesses k n (Err f) same (inl e) = inl e
+same_box areas P Q accesses k n (Err f) same (inr h) = inr (record {
   number = h.number;
-  site = h.site;
+  access = h.access;
   there = h.there;
   before = λ m y less there r c q. h.before m y less there r c ((same r c).1 q);
-  tells = tells_too areas P Q h.site k n h.number f same h.tells;
+  tells = tells_too areas P Q h.access k n h.number f same h.tells;
 })
 
 -- ---- cases one behind the other
@@ -98,11 +98,11 @@ before_end : {X : Type 0} (P : X → Type 0) (xs ys : List X) (i : ℕ) (x : X) 
 before_end P xs ys i x h less there = h i x (sym (slice_get-append xs ys i less) ∙ there)
 
 -- one case more
-pub cases_more : (ss : List Setting) (areas : List Area) (domain : Area) (xs : List ReadCase) (y : ReadCase) (k n : ℕ) (answer : Result (Unit {0}) BoundFault) → n ≡ length xs → StageStays ss areas domain xs → AnswersReads areas (IsInBox ss domain y) y.sites k n answer → AnswersCases ss areas domain (xs ++ y ∷ []) k answer
+pub cases_more : (ss : List Setting) (areas : List Area) (domain : Area) (xs : List ReadCase) (y : ReadCase) (k n : ℕ) (answer : Result (Unit {0}) BoundFault) → n ≡ length xs → StageStays ss areas domain xs → AnswersReads areas (IsInBox ss domain y) y.accesses k n answer → AnswersCases ss areas domain (xs ++ y ∷ []) k answer
 cases_more ss areas domain xs y k n (Ok u) e before h = all
   where
     Good : ReadCase → Type 0
-    Good x = AllStay areas (IsInBox ss domain x) x.sites
+    Good x = AllStay areas (IsInBox ss domain x) x.accesses
 
     all : (i : ℕ) (x : ReadCase) → slice_get (xs ++ y ∷ []) i ≡ Some x → Good x
     all i x there = by_place (cases_lt i (length xs))
@@ -117,8 +117,8 @@ cases_more ss areas domain xs y k n (Err f) e before (inr h) = inr (record {
   number = length xs;
   place = y;
   there = slice_get-end xs y;
-  before = λ i x less there. before_end (λ (z : ReadCase). AllStay areas (IsInBox ss domain z) z.sites) xs (y ∷ []) i x before less there;
-  read = subst (λ i. IsFirstRead areas (IsInBox ss domain y) y.sites k i f) e h;
+  before = λ i x less there. before_end (λ (z : ReadCase). AllStay areas (IsInBox ss domain z) z.accesses) xs (y ∷ []) i x before less there;
+  read = subst (λ i. IsFirstRead areas (IsInBox ss domain y) y.accesses k i f) e h;
 })
 
 -- the first case of a front is the first of the whole
@@ -138,11 +138,11 @@ front_fault ss areas domain xs ys k f (inl e) = inl e
 front_fault ss areas domain xs ys k f (inr h) = inr (front_first ss areas domain xs ys k f h)
 
 -- what stands under no condition is judged over the whole domain
-pub over_whole : (ss : List Setting) (areas : List Area) (domain : Area) (row : List ℕ) (sites : List Site) (k n : ℕ) (answer : Result (Unit {0}) BoundFault) → AnswersReads areas (HoldsPoint domain) sites k n answer → AnswersReads areas (IsInBox ss domain (whole_case row sites)) sites k n answer
-over_whole ss areas domain row sites k n answer h =
-    same_box areas (HoldsPoint domain) (IsInBox ss domain (whole_case row sites)) sites k n answer (λ r c. ((λ p. (p, tt)), (λ p. p.0))) h
+pub over_whole : (ss : List Setting) (areas : List Area) (domain : Area) (row : List ℕ) (accesses : List Access) (k n : ℕ) (answer : Result (Unit {0}) BoundFault) → AnswersReads areas (HoldsPoint domain) accesses k n answer → AnswersReads areas (IsInBox ss domain (whole_case row accesses)) accesses k n answer
+over_whole ss areas domain row accesses k n answer h =
+    same_box areas (HoldsPoint domain) (IsInBox ss domain (whole_case row accesses)) accesses k n answer (λ r c. ((λ p. (p, tt)), (λ p. p.0))) h
 
 -- an item with one case
-pub one_case : (ss : List Setting) (areas : List Area) (domain : Area) (row : List ℕ) (sites : List Site) (k : ℕ) (answer : Result (Unit {0}) BoundFault) → AnswersReads areas (HoldsPoint domain) sites k 0 answer → AnswersCases ss areas domain (whole_case row sites ∷ []) k answer
-one_case ss areas domain row sites k answer h =
-    cases_more ss areas domain [] (whole_case row sites) k 0 answer refl (λ n x there. absurd (none-some x there)) (over_whole ss areas domain row sites k 0 answer h)
+pub one_case : (ss : List Setting) (areas : List Area) (domain : Area) (row : List ℕ) (accesses : List Access) (k : ℕ) (answer : Result (Unit {0}) BoundFault) → AnswersReads areas (HoldsPoint domain) accesses k 0 answer → AnswersCases ss areas domain (whole_case row accesses ∷ []) k answer
+one_case ss areas domain row accesses k answer h =
+    cases_more ss areas domain [] (whole_case row accesses) k 0 answer refl (λ n x there. absurd (none-some x there)) (over_whole ss areas domain row accesses k 0 answer h)

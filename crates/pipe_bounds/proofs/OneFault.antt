@@ -15,10 +15,10 @@ use Rattle.pipe_bounds.specs.declared.fault.Axis.TheVariants.{Rows, Columns}
 use Rattle.pipe_bounds.specs.declared.fault.BoundFault.{BoundFault}
 use Rattle.pipe_bounds.specs.declared.fault.BoundFault.TheVariants.{ParamUnset, EmptyDomain, DomainTooWide, OutOfBounds, Memory}
 use Rattle.pipe_bounds.specs.declared.params.Setting.{Setting}
-use Rattle.pipe_checks.specs.declared.site.Site.{Site}
-use Rattle.pipe_checks.specs.declared.site.Site.TheVariants.{Read, Stencil}
+use Rattle.pipe_checks.specs.declared.access.Access.{Access}
+use Rattle.pipe_checks.specs.declared.access.Access.TheVariants.{Read, Stencil}
 use Rattle.pipe_checks.specs.Names.{stages_of}
-use Rattle.pipe_checks.specs.Sites.{stage_read}
+use Rattle.pipe_checks.specs.Accesses.{stage_read}
 use Rattle.pipe_bounds.specs.Within.{AllSet, IsFirstUnset, IsStageDomain, HaveDomains, IsFirstFaultyDomain}
 use Rattle.pipe_bounds.specs.InBounds.{ReadCase, IsInBox, TakesRow, TakesColumn, Stays, AllStay, StageStays, StaysAt, AreInBounds, StaysAlong, AreExtremes, Leaves, TellsRead, IsFirstRead, IsFirstCase, IsFirstStage, IsFirstDeparture, IsBoundFault, IsInBounds, stage_cases, scale_of}
 use Rattle.pipe_bounds.specs.Taken.{TellsDomain, domain_fault}
@@ -38,7 +38,7 @@ one_first Good xs m n x y at_m at_n before_m before_n bad_m bad_n = by_place (ca
 same_place : {X : Type 0} (xs : List X) (m n : ℕ) (x y : X) → slice_get xs m ≡ Some x → slice_get xs n ≡ Some y → m ≡ n → x ≡ y
 same_place xs m n x y at_m at_n e = same_Some x y (sym at_m ∙ ap (slice_get xs) e ∙ at_n)
 
-same_list : {X : Type 0} (xs ys : List X) → length xs ≡ length ys → ((i : ℕ) (x y : X) → slice_get xs i ≡ Some x → slice_get ys i ≡ Some y → x ≡ y) → xs ≡ ys
+pub same_list : {X : Type 0} (xs ys : List X) → length xs ≡ length ys → ((i : ℕ) (x y : X) → slice_get xs i ≡ Some x → slice_get ys i ≡ Some y → x ≡ y) → xs ≡ ys
 same_list [] [] e h = refl
 same_list [] (y ∷ ys) e h = absurd (omega (arith, e))
 same_list (x ∷ xs) [] e h = absurd (omega (arith, e))
@@ -66,26 +66,26 @@ no_domains ss ds stages areas fault k h first = by_area (slice_get_cases areas k
 
 -- ---- reads
 
-some_row : (site : Site) (r : ℤ) → (x : ℤ) × TakesRow site r x
+some_row : (access : Access) (r : ℤ) → (x : ℤ) × TakesRow access r x
 some_row (Read g i j) r = (index_at (scale_of i) r, refl)
 some_row (Stencil g m n) r = (r, (omega (arith, ints), omega (arith, ints)))
 
-some_column : (site : Site) (c : ℤ) → (y : ℤ) × TakesColumn site c y
+some_column : (access : Access) (c : ℤ) → (y : ℤ) × TakesColumn access c y
 some_column (Read g i j) c = (index_at (scale_of j) c, refl)
 some_column (Stencil g m n) c = (c, (omega (arith, ints), omega (arith, ints)))
 
-stays_along : (areas : List Area) (Box : ℤ → ℤ → Type 0) (site : Site) (domain : Area) (axis : Axis) → slice_get areas (stage_read site) ≡ Some domain → Stays areas Box site → StaysAlong Box site domain axis
-stays_along areas Box site domain Rows there stays v taken =
-    let column = some_column site taken.1 in
+stays_along : (areas : List Area) (Box : ℤ → ℤ → Type 0) (access : Access) (domain : Area) (axis : Axis) → slice_get areas (stage_read access) ≡ Some domain → Stays areas Box access → StaysAlong Box access domain axis
+stays_along areas Box access domain Rows there stays v taken =
+    let column = some_column access taken.1 in
     let within = stays taken.0 taken.1 taken.2 v column.0 taken.3 column.1 in
     subst (λ (a : Area). Holds a.rows v) (same_Some within.domain domain (sym within.there ∙ there)) within.holds.0
-stays_along areas Box site domain Columns there stays v taken =
-    let row = some_row site taken.0 in
+stays_along areas Box access domain Columns there stays v taken =
+    let row = some_row access taken.0 in
     let within = stays taken.0 taken.1 taken.2 row.0 v row.1 taken.3 in
     subst (λ (a : Area). Holds a.cols v) (same_Some within.domain domain (sym within.there ∙ there)) within.holds.1
 
-read_not_stays : (areas : List Area) (Box : ℤ → ℤ → Type 0) (site : Site) (k n m : ℕ) (f : BoundFault) → TellsRead areas Box site k n m f → Stays areas Box site → ⊥
-read_not_stays areas Box site k n m f h stays = h.leaves.leaves (stays_along areas Box site h.leaves.domain h.axis h.leaves.there stays)
+read_not_stays : (areas : List Area) (Box : ℤ → ℤ → Type 0) (access : Access) (k n m : ℕ) (f : BoundFault) → TellsRead areas Box access k n m f → Stays areas Box access → ⊥
+read_not_stays areas Box access k n m f h stays = h.leaves.leaves (stays_along areas Box access h.leaves.domain h.axis h.leaves.there stays)
 
 same_extremes : (Is : ℤ → Type 0) (a b c d : ℤ) → AreExtremes Is a b → AreExtremes Is c d → (a ≡ c) × (b ≡ d)
 same_extremes Is a b c d h g =
@@ -95,41 +95,41 @@ same_extremes Is a b c d h g =
     let last_too = g.between b h.last in
     (omega (arith, ints), omega (arith, ints))
 
-same_leaving : (areas : List Area) (Box : ℤ → ℤ → Type 0) (site : Site) (k n m : ℕ) (axis other : Axis) (a b c d : ℤ) → Leaves areas Box site axis a b → Leaves areas Box site other c d → OutOfBounds k n m axis a b ≡ OutOfBounds k n m other c d
-same_leaving areas Box site k n m Rows Rows a b c d h g = let e = same_extremes _ a b c d h.extremes g.extremes in λ i. OutOfBounds k n m Rows (e.0 i) (e.1 i)
-same_leaving areas Box site k n m Columns Columns a b c d h g = let e = same_extremes _ a b c d h.extremes g.extremes in λ i. OutOfBounds k n m Columns (e.0 i) (e.1 i)
-same_leaving areas Box site k n m Rows Columns a b c d h g =
-    absurd (h.leaves (subst (λ (x : Area). StaysAlong Box site x Rows) (same_Some g.domain h.domain (sym g.there ∙ h.there)) (g.rows refl)))
-same_leaving areas Box site k n m Columns Rows a b c d h g =
-    absurd (g.leaves (subst (λ (x : Area). StaysAlong Box site x Rows) (same_Some h.domain g.domain (sym h.there ∙ g.there)) (h.rows refl)))
+same_leaving : (areas : List Area) (Box : ℤ → ℤ → Type 0) (access : Access) (k n m : ℕ) (axis other : Axis) (a b c d : ℤ) → Leaves areas Box access axis a b → Leaves areas Box access other c d → OutOfBounds k n m axis a b ≡ OutOfBounds k n m other c d
+same_leaving areas Box access k n m Rows Rows a b c d h g = let e = same_extremes _ a b c d h.extremes g.extremes in λ i. OutOfBounds k n m Rows (e.0 i) (e.1 i)
+same_leaving areas Box access k n m Columns Columns a b c d h g = let e = same_extremes _ a b c d h.extremes g.extremes in λ i. OutOfBounds k n m Columns (e.0 i) (e.1 i)
+same_leaving areas Box access k n m Rows Columns a b c d h g =
+    absurd (h.leaves (subst (λ (x : Area). StaysAlong Box access x Rows) (same_Some g.domain h.domain (sym g.there ∙ h.there)) (g.rows refl)))
+same_leaving areas Box access k n m Columns Rows a b c d h g =
+    absurd (g.leaves (subst (λ (x : Area). StaysAlong Box access x Rows) (same_Some h.domain g.domain (sym h.there ∙ g.there)) (h.rows refl)))
 
-same_tells : (areas : List Area) (Box : ℤ → ℤ → Type 0) (site : Site) (k n m : ℕ) (f g : BoundFault) → TellsRead areas Box site k n m f → TellsRead areas Box site k n m g → f ≡ g
-same_tells areas Box site k n m f g h e =
-    h.told ∙ same_leaving areas Box site k n m h.axis e.axis h.least h.greatest e.least e.greatest h.leaves e.leaves ∙ sym e.told
+same_tells : (areas : List Area) (Box : ℤ → ℤ → Type 0) (access : Access) (k n m : ℕ) (f g : BoundFault) → TellsRead areas Box access k n m f → TellsRead areas Box access k n m g → f ≡ g
+same_tells areas Box access k n m f g h e =
+    h.told ∙ same_leaving areas Box access k n m h.axis e.axis h.least h.greatest e.least e.greatest h.leaves e.leaves ∙ sym e.told
 
-one_read : (areas : List Area) (Box : ℤ → ℤ → Type 0) (sites : List Site) (k n : ℕ) (f g : BoundFault) → IsFirstRead areas Box sites k n f → IsFirstRead areas Box sites k n g → f ≡ g
-one_read areas Box sites k n f g h e =
-    let number = one_first (λ m x. Stays areas Box x) sites h.number e.number h.site e.site h.there e.there h.before e.before (read_not_stays areas Box h.site k n h.number f h.tells) (read_not_stays areas Box e.site k n e.number g e.tells) in
-    let site = same_place sites h.number e.number h.site e.site h.there e.there number in
-    same_tells areas Box h.site k n h.number f g h.tells
-    (subst (λ (x : Site). TellsRead areas Box x k n h.number g) (sym site) (subst (λ m. TellsRead areas Box e.site k n m g) (sym number) e.tells))
+one_read : (areas : List Area) (Box : ℤ → ℤ → Type 0) (accesses : List Access) (k n : ℕ) (f g : BoundFault) → IsFirstRead areas Box accesses k n f → IsFirstRead areas Box accesses k n g → f ≡ g
+one_read areas Box accesses k n f g h e =
+    let number = one_first (λ m x. Stays areas Box x) accesses h.number e.number h.access e.access h.there e.there h.before e.before (read_not_stays areas Box h.access k n h.number f h.tells) (read_not_stays areas Box e.access k n e.number g e.tells) in
+    let access = same_place accesses h.number e.number h.access e.access h.there e.there number in
+    same_tells areas Box h.access k n h.number f g h.tells
+    (subst (λ (x : Access). TellsRead areas Box x k n h.number g) (sym access) (subst (λ m. TellsRead areas Box e.access k n m g) (sym number) e.tells))
 
 -- ---- cases
 
-case_not_stays : (areas : List Area) (Box : ℤ → ℤ → Type 0) (sites : List Site) (k n : ℕ) (f : BoundFault) → IsFirstRead areas Box sites k n f → AllStay areas Box sites → ⊥
-case_not_stays areas Box sites k n f h all = read_not_stays areas Box h.site k n h.number f h.tells (all h.number h.site h.there)
+case_not_stays : (areas : List Area) (Box : ℤ → ℤ → Type 0) (accesses : List Access) (k n : ℕ) (f : BoundFault) → IsFirstRead areas Box accesses k n f → AllStay areas Box accesses → ⊥
+case_not_stays areas Box accesses k n f h all = read_not_stays areas Box h.access k n h.number f h.tells (all h.number h.access h.there)
 
 one_case : (ss : List Setting) (areas : List Area) (domain : Area) (cases : List ReadCase) (k : ℕ) (f g : BoundFault) → IsFirstCase ss areas domain cases k f → IsFirstCase ss areas domain cases k g → f ≡ g
 one_case ss areas domain cases k f g h e =
-    let number = one_first (λ n (x : ReadCase). AllStay areas (IsInBox ss domain x) x.sites) cases h.number e.number h.place e.place h.there e.there h.before e.before (case_not_stays areas (IsInBox ss domain h.place) h.place.sites k h.number f h.read) (case_not_stays areas (IsInBox ss domain e.place) e.place.sites k e.number g e.read) in
+    let number = one_first (λ n (x : ReadCase). AllStay areas (IsInBox ss domain x) x.accesses) cases h.number e.number h.place e.place h.there e.there h.before e.before (case_not_stays areas (IsInBox ss domain h.place) h.place.accesses k h.number f h.read) (case_not_stays areas (IsInBox ss domain e.place) e.place.accesses k e.number g e.read) in
     let place = same_place cases h.number e.number h.place e.place h.there e.there number in
-    let read = subst (λ (x : ReadCase). IsFirstRead areas (IsInBox ss domain x) x.sites k h.number g) (sym place) (subst (λ n. IsFirstRead areas (IsInBox ss domain e.place) e.place.sites k n g) (sym number) e.read) in
-    one_read areas (IsInBox ss domain h.place) h.place.sites k h.number f g h.read read
+    let read = subst (λ (x : ReadCase). IsFirstRead areas (IsInBox ss domain x) x.accesses k h.number g) (sym place) (subst (λ n. IsFirstRead areas (IsInBox ss domain e.place) e.place.accesses k n g) (sym number) e.read) in
+    one_read areas (IsInBox ss domain h.place) h.place.accesses k h.number f g h.read read
 
 -- ---- stages
 
 stage_not_stays : (ss : List Setting) (areas : List Area) (domain : Area) (cases : List ReadCase) (k : ℕ) (f : BoundFault) → IsFirstCase ss areas domain cases k f → StageStays ss areas domain cases → ⊥
-stage_not_stays ss areas domain cases k f h all = case_not_stays areas (IsInBox ss domain h.place) h.place.sites k h.number f h.read (all h.number h.place h.there)
+stage_not_stays ss areas domain cases k f h all = case_not_stays areas (IsInBox ss domain h.place) h.place.accesses k h.number f h.read (all h.number h.place h.there)
 
 at_not_stays : (ss : List Setting) (ds : List Declaration) (stages : List Symbol) (areas : List Area) (f : BoundFault) (h : IsFirstStage ss ds stages areas f) → StaysAt ss ds stages areas h.number h.stage → ⊥
 at_not_stays ss ds stages areas f h all = stage_not_stays ss areas h.domain (stage_cases ds stages h.stage) h.number f h.case (all h.domain h.has)

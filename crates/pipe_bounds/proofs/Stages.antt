@@ -1,22 +1,90 @@
 -- Parameters that all have values, and stages that all have domains.
-use Rattle.std.proofs.Common.{ℕ, ℤ, pos, ◌<◌, ◌≡◌, true, Option, Some, None, is_some, Ok, List, length, get_or, slice_get, refl, sym, ◌∙◌, ap, arith}
+use Rattle.std.proofs.Common.{ℕ, zero, suc, ℤ, ◌<◌, ◌≡◌, ◌⊎◌, inl, inr, true, Option, Some, None, is_some, Result, Ok, Err, List, [], ◌∷◌, length, slice_get, refl, sym, ◌∙◌, ap, subst, arith}
+use Rattle.std.specs.Option.{option_map}
 use Rattle.std.proofs.lemmas.Bool.{false≢true}
-use Rattle.std.proofs.lemmas.Option.{slice_get_read, slice_get-get_or}
+use Rattle.std.proofs.lemmas.List.{length-map}
+use Rattle.std.proofs.lemmas.Option.{same_Some, slice_get-map, slice_get_within}
 use Rattle.domains.specs.declared.area.Area.{Area}
 use Rattle.pipe_tree.specs.Tree.{Declaration}
 use Rattle.pipe_checks.specs.declared.symbol.Symbol.{Symbol}
 use Rattle.pipe_bounds.specs.declared.params.Setting.{Setting}
-use Rattle.pipe_bounds.specs.Within.{IsStageDomain}
+use Rattle.pipe_bounds.specs.StageBounds.{StageBounds, domains_in, IsBoundsOf, AreBoundsOf}
+use Rattle.pipe_bounds.specs.declared.fault.BoundFault.{BoundFault}
+use Rattle.pipe_bounds.specs.declared.fault.BoundFault.TheVariants.{Memory}
+use Rattle.pipe_checks.specs.Names.{stages_of}
+use Rattle.pipe_bounds.specs.InBounds.{AreInBounds, IsBoundFault, IsFirstStage, IsInBounds}
+use Rattle.pipe_bounds.specs.Within.{AllSet, IsStageDomain, HaveDomains}
 
 pub some_of : (o : Option ℤ) → is_some o ≡ true → (v : ℤ) × (o ≡ Some v)
 some_of None e = absurd (false≢true e)
 some_of (Some v) e = (v, refl)
 
-some_area : Area
-some_area = record { rows = record { lo = pos 0; hi = pos 0 }; cols = record { lo = pos 0; hi = pos 0 } }
+-- a fault is the same fault where another answer stands beside it
+pub still_err : {X Y : Type 0} (f g : BoundFault) → ◌≡◌ {A = Result X BoundFault} (Err f) (Err g) → ◌≡◌ {A = Result Y BoundFault} (Err f) (Err g)
+still_err f g e = let same : f ≡ g = cc in ap Err same
+
+pub some_within : {X : Type 0} (xs : List X) (i : ℕ) → i < length xs → (x : X) × (slice_get xs i ≡ Some x)
+some_within [] i h = absurd (omega arith)
+some_within (x ∷ xs) zero h = (x, refl)
+some_within (x ∷ xs) (suc i) h = some_within xs i (omega arith)
+
+domain_of : (ss : List Setting) (ds : List Declaration) (s : Symbol) (b : StageBounds) → (d : Declaration) × (slice_get ds s.item ≡ Some d) × IsBoundsOf ss d b → IsStageDomain ss ds s (Ok b.domain)
+domain_of ss ds s b h = (h.0, h.1, h.2.domain)
 
 -- where the first stages have their domains in a list, each of them has one
-pub domains_before : (ss : List Setting) (ds : List Declaration) (stages : List Symbol) (areas : List Area) (k : ℕ) → length areas ≡ k → ((i : ℕ) (s : Symbol) (a : Area) → slice_get stages i ≡ Some s → slice_get areas i ≡ Some a → IsStageDomain ss ds s (Ok a)) → (i : ℕ) (s : Symbol) → i < k → slice_get stages i ≡ Some s → (a : Area) × IsStageDomain ss ds s (Ok a)
-domains_before ss ds stages areas k each domain i s less there =
-    let has = slice_get-get_or areas i some_area (omega (arith, each, less)) in
-    (get_or areas i some_area, domain i s (get_or areas i some_area) there has)
+pub domains_before : (ss : List Setting) (ds : List Declaration) (stages : List Symbol) (found : List StageBounds) (k : ℕ) → length found ≡ k → ((i : ℕ) (s : Symbol) (b : StageBounds) → slice_get stages i ≡ Some s → slice_get found i ≡ Some b → (d : Declaration) × (slice_get ds s.item ≡ Some d) × IsBoundsOf ss d b) → (i : ℕ) (s : Symbol) → i < k → slice_get stages i ≡ Some s → (a : Area) × IsStageDomain ss ds s (Ok a)
+domains_before ss ds stages found k each stage i s less there =
+    let b = some_within found i (omega (arith, each, less)) in
+    (b.0.domain, domain_of ss ds s b.0 (stage i s b.0 there b.1))
+
+-- the domains that were found are those of the stages
+pub found_domains : (ss : List Setting) (ds : List Declaration) (stages : List Symbol) (found : List StageBounds) → AreBoundsOf ss ds stages found → HaveDomains ss ds stages (domains_in found)
+found_domains ss ds stages found h = record { each = length-map found (λ (b : StageBounds). b.domain) ∙ h.each; domain = domain }
+  where
+    domain : (k : ℕ) (s : Symbol) (a : Area) → slice_get stages k ≡ Some s → slice_get (domains_in found) k ≡ Some a → IsStageDomain ss ds s (Ok a)
+    domain k s a there has =
+        let b = some_within found k (omega (arith, h.each, slice_get_within stages k s there)) in
+        let same : b.0.domain ≡ a = same_Some b.0.domain a (sym (slice_get-map (λ (x : StageBounds). x.domain) found k ∙ ap (option_map (λ (x : StageBounds). x.domain)) b.1) ∙ has) in
+        subst (λ (x : Area). IsStageDomain ss ds s (Ok x)) same (domain_of ss ds s b.0 (h.stage k s b.0 there b.1))
+
+-- what was found of the stage that a loop has before it
+pub bounds_here : (ss : List Setting) (ds : List Declaration) (stages : List Symbol) (found : List StageBounds) (k : ℕ) (s : Symbol) (d : Declaration) (b : StageBounds) → AreBoundsOf ss ds stages found → slice_get stages k ≡ Some s → slice_get ds s.item ≡ Some d → slice_get found k ≡ Some b → IsBoundsOf ss d b
+bounds_here ss ds stages found k s d b h stage item there =
+    let here = h.stage k s b stage there in
+    subst (λ (e : Declaration). IsBoundsOf ss e b) (same_Some here.0 d (sym here.1 ∙ item)) here.2
+
+pub domain_here : (found : List StageBounds) (k : ℕ) (b : StageBounds) (a : Area) → slice_get found k ≡ Some b → a ≡ b.domain → slice_get (domains_in found) k ≡ Some a
+domain_here found k b a there is =
+    slice_get-map (λ (x : StageBounds). x.domain) found k ∙ ap (option_map (λ (x : StageBounds). x.domain)) there ∙ ap Some (sym is)
+
+-- ---- the whole program
+
+-- what holds of the items and the stages that a program has
+on_program : (P : List Declaration → List Symbol → Type 0) (ds items : List Declaration) (stages : List Symbol) → items ≡ ds → stages ≡ stages_of ds → P items stages → P ds (stages_of ds)
+on_program P ds items stages same is p = subst (P ds) is (subst (λ (es : List Declaration). P es stages) same p)
+
+module _ (ss : List Setting) (ds items : List Declaration) (stages : List Symbol) (same : items ≡ ds) (is : stages ≡ stages_of ds) (found : List StageBounds) (h : AreBoundsOf ss items stages found) where
+  pub found_is : AreBoundsOf ss ds (stages_of ds) found
+  found_is = on_program (λ es xs. AreBoundsOf ss es xs found) ds items stages same is h
+
+  pub in_bounds : AllSet ss → AreInBounds ss items stages (domains_in found) → IsInBounds ss ds
+  in_bounds set stays = record {
+    set = set;
+    areas = domains_in found;
+    domains = found_domains ss ds (stages_of ds) found found_is;
+    stays = on_program (λ es xs. AreInBounds ss es xs (domains_in found)) ds items stages same is stays;
+  }
+
+  pub departs : (f : BoundFault) → AllSet ss → (f ≡ Memory) ⊎ IsFirstStage ss items stages (domains_in found) f → IsBoundFault ss ds f
+  departs f set (inl e) = subst (IsBoundFault ss ds) (sym e) tt
+  departs f set (inr first) =
+      let here = on_program (λ es xs. IsFirstStage ss es xs (domains_in found) f) ds items stages same is first in
+      let told = here.case.read.tells.told in
+      subst (IsBoundFault ss ds) (sym told) (
+        set,
+        record {
+          areas = domains_in found;
+          domains = found_domains ss ds (stages_of ds) found found_is;
+          stage = subst (IsFirstStage ss ds (stages_of ds) (domains_in found)) told here;
+        },
+      )

@@ -1,9 +1,6 @@
 -- The box of a case: the points of a domain at which the tests of bounds hold.
-use Rattle.std.specs.Prelude.{ℕ, ℤ, ◌≤ℤ◌, ◌↔◌, Option, Some, None, if◌then◌else◌, List, [], ◌∷◌}
+use Rattle.std.specs.Prelude.{ℕ, ℤ, ◌≤ℤ◌, if◌then◌else◌, List, [], ◌∷◌}
 use Rattle.std.specs.Str.{bytes_eq}
-use Rattle.domains.specs.Span.{Ends, Holds}
-use Rattle.domains.specs.Area.{HoldsPoint}
-use Rattle.domains.specs.declared.area.Area.{Area}
 use Rattle.domains.specs.declared.operators.Relation.{Relation}
 use Rattle.domains.specs.declared.operators.Relation.TheVariants.{AtMost, AtLeast, Equals}
 use Rattle.pipe_tree.specs.declared.tree.Test.{Test}

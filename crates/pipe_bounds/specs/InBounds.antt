@@ -14,11 +14,11 @@ use Rattle.pipe_bounds.specs.declared.fault.BoundFault.{BoundFault}
 use Rattle.pipe_bounds.specs.declared.fault.BoundFault.TheVariants.{ParamUnset, EmptyDomain, DomainTooWide, OutOfBounds, Memory}
 use Rattle.pipe_bounds.specs.declared.domain.IntervalFault.TheVariants.{Empty, TooWide}
 use Rattle.pipe_bounds.specs.declared.params.Setting.{Setting}
-use Rattle.pipe_checks.specs.declared.site.Site.{Site}
-use Rattle.pipe_checks.specs.declared.site.Site.TheVariants.{Read, Stencil}
+use Rattle.pipe_checks.specs.declared.access.Access.{Access}
+use Rattle.pipe_checks.specs.declared.access.Access.TheVariants.{Read, Stencil}
 use Rattle.pipe_bounds.specs.Boxes.{BoundsHold}
 use Rattle.pipe_checks.specs.Names.{stages_of}
-use Rattle.pipe_checks.specs.Sites.{sites_of, stage_read}
+use Rattle.pipe_checks.specs.Accesses.{accesses_of, stage_read}
 use Rattle.pipe_bounds.specs.Within.{AllSet, IsFirstUnset, HaveDomains, IsFirstFaultyDomain}
 
 -- ---- cases
@@ -27,25 +27,25 @@ use Rattle.pipe_bounds.specs.Within.{AllSet, IsFirstUnset, HaveDomains, IsFirstF
 pub record ReadCase : Type 0 where
   pub row : List ℕ
   pub tests : List Test
-  pub sites : List Site
+  pub accesses : List Access
 
 abbrev pub branch_case : List Symbol → List ℕ → Branch → ReadCase
-branch_case stages row b = record { row = row; tests = b.condition; sites = sites_of stages b.value }
+branch_case stages row b = record { row = row; tests = b.condition; accesses = accesses_of stages b.value }
 
 -- what stands under no condition
-abbrev pub whole_case : List ℕ → List Site → ReadCase
-whole_case row sites = record { row = row; tests = []; sites = sites }
+abbrev pub whole_case : List ℕ → List Access → ReadCase
+whole_case row accesses = record { row = row; tests = []; accesses = accesses }
 
 abbrev pub otherwise_cases : List Symbol → List ℕ → Option Node → List ReadCase
 otherwise_cases stages row None = []
-otherwise_cases stages row (Some a) = whole_case row (sites_of stages a) ∷ []
+otherwise_cases stages row (Some a) = whole_case row (accesses_of stages a) ∷ []
 
 -- the cases of an item by their numbers: `else` stands behind the others, and an accumulator is one case
 abbrev pub item_cases : List Symbol → Declaration → List ReadCase
 item_cases stages (param p) = []
 item_cases stages (image i) = []
 item_cases stages (function f) = map (branch_case stages f.row.name) f.cases ++ otherwise_cases stages f.row.name f.otherwise
-item_cases stages (accumulator a) = whole_case a.row.name (sites_of stages a.value ++ sites_of stages a.bin) ∷ []
+item_cases stages (accumulator a) = whole_case a.row.name (accesses_of stages a.value ++ accesses_of stages a.bin) ∷ []
 item_cases stages (output o) = []
 
 abbrev pub declared_cases : List Symbol → Option Declaration → List ReadCase
@@ -71,11 +71,11 @@ abbrev pub IsAbout : ℕ → ℤ → ℤ → Type 0
 IsAbout n v w = (v ≤ℤ (w +ℤ pos n)) × (w ≤ℤ (v +ℤ pos n))
 
 -- the rows that are taken at row r: one by an index, and as many as the kernel has by a stencil
-abbrev pub TakesRow : Site → ℤ → ℤ → Type 0
+abbrev pub TakesRow : Access → ℤ → ℤ → Type 0
 TakesRow (Read g i j) r x = x ≡ index_at (scale_of i) r
 TakesRow (Stencil g m n) r x = IsAbout (m / 2) r x
 
-abbrev pub TakesColumn : Site → ℤ → ℤ → Type 0
+abbrev pub TakesColumn : Access → ℤ → ℤ → Type 0
 TakesColumn (Read g i j) c y = y ≡ index_at (scale_of j) c
 TakesColumn (Stencil g m n) c y = IsAbout (n / 2) c y
 
@@ -88,17 +88,17 @@ pub record IsWithin (areas : List Area) (g : ℕ) (x y : ℤ) : Type 0 where
   pub holds : HoldsPoint domain x y
 
 -- at each point of the box, each point that is taken lies in the domain of the stage that is read
-abbrev pub Stays : List Area → (ℤ → ℤ → Type 0) → Site → Type 0
-Stays areas Box site =
-    (r c : ℤ) → Box r c → (x y : ℤ) → TakesRow site r x → TakesColumn site c y → IsWithin areas (stage_read site) x y
+abbrev pub Stays : List Area → (ℤ → ℤ → Type 0) → Access → Type 0
+Stays areas Box access =
+    (r c : ℤ) → Box r c → (x y : ℤ) → TakesRow access r x → TakesColumn access c y → IsWithin areas (stage_read access) x y
 
-abbrev pub AllStay : List Area → (ℤ → ℤ → Type 0) → List Site → Type 0
-AllStay areas Box sites = (m : ℕ) (site : Site) → slice_get sites m ≡ Some site → Stays areas Box site
+abbrev pub AllStay : List Area → (ℤ → ℤ → Type 0) → List Access → Type 0
+AllStay areas Box accesses = (m : ℕ) (access : Access) → slice_get accesses m ≡ Some access → Stays areas Box access
 
 -- each read of each case of a stage stays
 abbrev pub StageStays : List Setting → List Area → Area → List ReadCase → Type 0
 StageStays ss areas domain cases =
-    (n : ℕ) (x : ReadCase) → slice_get cases n ≡ Some x → AllStay areas (IsInBox ss domain x) x.sites
+    (n : ℕ) (x : ReadCase) → slice_get cases n ≡ Some x → AllStay areas (IsInBox ss domain x) x.accesses
 
 -- and so for stage k
 abbrev pub StaysAt : List Setting → List Declaration → List Symbol → List Area → ℕ → Symbol → Type 0
@@ -117,17 +117,17 @@ pub record IsInBounds (ss : List Setting) (ds : List Declaration) : Type 0 where
 -- ---- a read that leaves
 
 -- a number that is taken along an axis at some point of the box
-abbrev pub IsTakenAlong : (ℤ → ℤ → Type 0) → Site → Axis → ℤ → Type 0
-IsTakenAlong Box site Rows v = (r c : ℤ) × Box r c × TakesRow site r v
-IsTakenAlong Box site Columns v = (r c : ℤ) × Box r c × TakesColumn site c v
+abbrev pub IsTakenAlong : (ℤ → ℤ → Type 0) → Access → Axis → ℤ → Type 0
+IsTakenAlong Box access Rows v = (r c : ℤ) × Box r c × TakesRow access r v
+IsTakenAlong Box access Columns v = (r c : ℤ) × Box r c × TakesColumn access c v
 
 abbrev pub side_of : Axis → Area → Ends
 side_of Rows a = a.rows
 side_of Columns a = a.cols
 
 -- all that is taken along an axis lies in the domain
-abbrev pub StaysAlong : (ℤ → ℤ → Type 0) → Site → Area → Axis → Type 0
-StaysAlong Box site domain axis = (v : ℤ) → IsTakenAlong Box site axis v → Holds (side_of axis domain) v
+abbrev pub StaysAlong : (ℤ → ℤ → Type 0) → Access → Area → Axis → Type 0
+StaysAlong Box access domain axis = (v : ℤ) → IsTakenAlong Box access axis v → Holds (side_of axis domain) v
 
 -- the least and the greatest of some numbers
 pub record AreExtremes (Is : ℤ → Type 0) (least greatest : ℤ) : Type 0 where
@@ -137,38 +137,38 @@ pub record AreExtremes (Is : ℤ → Type 0) (least greatest : ℤ) : Type 0 whe
 
 -- a read leaves the domain of what it reads along this axis, and takes numbers from the least to the greatest along it. The
 -- columns are told only where it stays along the rows
-pub record Leaves (areas : List Area) (Box : ℤ → ℤ → Type 0) (site : Site) (axis : Axis) (least greatest : ℤ) : Type 0 where
+pub record Leaves (areas : List Area) (Box : ℤ → ℤ → Type 0) (access : Access) (axis : Axis) (least greatest : ℤ) : Type 0 where
   pub domain : Area
-  pub there : slice_get areas (stage_read site) ≡ Some domain
-  pub leaves : ¬ (StaysAlong Box site domain axis)
-  pub extremes : AreExtremes (IsTakenAlong Box site axis) least greatest
-  pub rows : axis ≡ Columns → StaysAlong Box site domain Rows
+  pub there : slice_get areas (stage_read access) ≡ Some domain
+  pub leaves : ¬ (StaysAlong Box access domain axis)
+  pub extremes : AreExtremes (IsTakenAlong Box access axis) least greatest
+  pub rows : axis ≡ Columns → StaysAlong Box access domain Rows
 
 -- ---- the first read that leaves
 
 -- f tells of read m of case n of stage k that it leaves
-pub record TellsRead (areas : List Area) (Box : ℤ → ℤ → Type 0) (site : Site) (k n m : ℕ) (f : BoundFault) : Type 0 where
+pub record TellsRead (areas : List Area) (Box : ℤ → ℤ → Type 0) (access : Access) (k n m : ℕ) (f : BoundFault) : Type 0 where
   pub axis : Axis
   pub least : ℤ
   pub greatest : ℤ
   pub told : f ≡ OutOfBounds k n m axis least greatest
-  pub leaves : Leaves areas Box site axis least greatest
+  pub leaves : Leaves areas Box access axis least greatest
 
 -- of the reads of case n of stage k: those before it stay
-pub record IsFirstRead (areas : List Area) (Box : ℤ → ℤ → Type 0) (sites : List Site) (k n : ℕ) (f : BoundFault) : Type 0 where
+pub record IsFirstRead (areas : List Area) (Box : ℤ → ℤ → Type 0) (accesses : List Access) (k n : ℕ) (f : BoundFault) : Type 0 where
   pub number : ℕ
-  pub site : Site
-  pub there : slice_get sites number ≡ Some site
-  pub before : (m : ℕ) (y : Site) → m < number → slice_get sites m ≡ Some y → Stays areas Box y
-  pub tells : TellsRead areas Box site k n number f
+  pub access : Access
+  pub there : slice_get accesses number ≡ Some access
+  pub before : (m : ℕ) (y : Access) → m < number → slice_get accesses m ≡ Some y → Stays areas Box y
+  pub tells : TellsRead areas Box access k n number f
 
 -- of the cases of stage k
 pub record IsFirstCase (ss : List Setting) (areas : List Area) (domain : Area) (cases : List ReadCase) (k : ℕ) (f : BoundFault) : Type 0 where
   pub number : ℕ
   pub place : ReadCase
   pub there : slice_get cases number ≡ Some place
-  pub before : (n : ℕ) (y : ReadCase) → n < number → slice_get cases n ≡ Some y → AllStay areas (IsInBox ss domain y) y.sites
-  pub read : IsFirstRead areas (IsInBox ss domain place) place.sites k number f
+  pub before : (n : ℕ) (y : ReadCase) → n < number → slice_get cases n ≡ Some y → AllStay areas (IsInBox ss domain y) y.accesses
+  pub read : IsFirstRead areas (IsInBox ss domain place) place.accesses k number f
 
 -- of the stages
 pub record IsFirstStage (ss : List Setting) (ds : List Declaration) (stages : List Symbol) (areas : List Area) (f : BoundFault) : Type 0 where

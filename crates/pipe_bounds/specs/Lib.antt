@@ -3,6 +3,7 @@ pub mod Settings
 pub mod Unset
 pub mod Boxes
 pub mod Domains
+pub mod StageBounds
 pub mod Within
 pub mod InBounds
 pub mod Taken

@@ -12,10 +12,13 @@ use Rattle.pipe_bounds.specs.declared.fault.Axis.TheVariants.{Rows, Columns}
 use Rattle.pipe_bounds.specs.declared.fault.BoundFault.{BoundFault}
 use Rattle.pipe_bounds.specs.declared.fault.BoundFault.TheVariants.{EmptyDomain, DomainTooWide, Memory}
 use Rattle.pipe_bounds.specs.declared.params.Setting.{Setting}
-use Rattle.pipe_checks.specs.declared.site.Site.{Site}
-use Rattle.pipe_checks.specs.declared.site.Site.TheVariants.{Read, Stencil}
+use Rattle.pipe_checks.specs.declared.access.Access.{Access}
+use Rattle.pipe_checks.specs.declared.access.Access.TheVariants.{Read, Stencil}
 use Rattle.pipe_bounds.specs.declared.taken.Departure.{Departure}
 use Rattle.pipe_bounds.specs.InBounds.{ReadCase, AllStay, StageStays, IsFirstRead, IsFirstCase, item_cases, scale_of}
+use Rattle.pipe_bounds.specs.declared.domain.Place.{Place}
+use Rattle.pipe_bounds.specs.Domains.{IsDomain}
+use Rattle.pipe_bounds.specs.StageBounds.{HasBins}
 use Rattle.pipe_bounds.specs.Within.{IsFirstFaultyDomain}
 
 -- ---- what is taken
@@ -26,7 +29,7 @@ pub record IsWidened (n : ℕ) (s t : Ends) : Type 0 where
   pub hi : t.hi ≡ s.hi +ℤ pos n
 
 -- t goes from the least to the greatest index that a read or a stencil takes over the points of an area, on each axis
-abbrev pub IsTaken : Site → Area → Area → Type 0
+abbrev pub IsTaken : Access → Area → Area → Type 0
 IsTaken (Read g i j) a t = IsImage (scale_of i) a.rows t.rows × IsImage (scale_of j) a.cols t.cols
 IsTaken (Stencil g m n) a t = IsWidened (m / 2) a.rows t.rows × IsWidened (n / 2) a.cols t.cols
 
@@ -59,15 +62,15 @@ abbrev pub InDomainRanges : Area → Type 0
 InDomainRanges a = InDomainRange a.rows × InDomainRange a.cols
 
 -- a read of one of so many stages at indices in their ranges, or a stencil with short sides
-abbrev pub IsSound : ℕ → Site → Type 0
+abbrev pub IsSound : ℕ → Access → Type 0
 IsSound count (Read g i j) = (g < count) × IsIndex (scale_of i) × IsIndex (scale_of j)
 IsSound count (Stencil g m n) = (g < count) × (m ≤ 15) × (n ≤ 15)
 
-abbrev pub AreSound : ℕ → List Site → Type 0
-AreSound count sites = (m : ℕ) (site : Site) → slice_get sites m ≡ Some site → IsSound count site
+abbrev pub AreSound : ℕ → List Access → Type 0
+AreSound count accesses = (m : ℕ) (access : Access) → slice_get accesses m ≡ Some access → IsSound count access
 
 abbrev pub AreSoundCases : ℕ → List ReadCase → Type 0
-AreSoundCases count cases = (n : ℕ) (x : ReadCase) → slice_get cases n ≡ Some x → AreSound count x.sites
+AreSoundCases count cases = (n : ℕ) (x : ReadCase) → slice_get cases n ≡ Some x → AreSound count x.accesses
 
 abbrev pub AreSoundItems : List Symbol → List Declaration → Type 0
 AreSoundItems stages ds = (k : ℕ) (d : Declaration) → slice_get ds k ≡ Some d → AreSoundCases (length stages) (item_cases stages d)
@@ -75,6 +78,15 @@ AreSoundItems stages ds = (k : ℕ) (d : Declaration) → slice_get ds k ≡ Som
 -- each stage is declared by an item
 abbrev pub AreDeclared : List Declaration → List Symbol → Type 0
 AreDeclared ds stages = (k : ℕ) (s : Symbol) → slice_get stages k ≡ Some s → s.item < length ds
+
+-- ---- where the stages of an item lie
+
+abbrev pub IsPlace : List Setting → Declaration → Place → Type 0
+IsPlace ss d place = IsDomain ss d (Ok place.domain) × HasBins ss d place.bins
+
+abbrev pub IsPlaced : List Setting → Declaration → Result Place IntervalFault → Type 0
+IsPlaced ss d (Ok place) = IsPlace ss d place
+IsPlaced ss d (Err f) = IsDomain ss d (Err f)
 
 -- ---- what is answered
 
@@ -84,8 +96,8 @@ IsAnswer Good Wrong (Ok x) = Good x
 IsAnswer Good Wrong (Err f) = (f ≡ Memory) ⊎ Wrong f
 
 -- of the reads of case n of stage k over a box
-abbrev pub AnswersReads : List Area → (ℤ → ℤ → Type 0) → List Site → ℕ → ℕ → Result (Unit {0}) BoundFault → Type 0
-AnswersReads areas Box sites k n r = IsAnswer (λ u. AllStay areas Box sites) (IsFirstRead areas Box sites k n) r
+abbrev pub AnswersReads : List Area → (ℤ → ℤ → Type 0) → List Access → ℕ → ℕ → Result (Unit {0}) BoundFault → Type 0
+AnswersReads areas Box accesses k n r = IsAnswer (λ u. AllStay areas Box accesses) (IsFirstRead areas Box accesses k n) r
 
 -- of the cases of stage k
 abbrev pub AnswersCases : List Setting → List Area → Area → List ReadCase → ℕ → Result (Unit {0}) BoundFault → Type 0

@@ -1,9 +1,10 @@
 #![tactic(auto)]
 //! The box of a case: the points of the domain that its tests of bounds leave.
 
-ghost use Rattle.std.specs.Prelude.{◌≡◌, ◌≤ℤ◌, IfSome};
-ghost use Rattle.domains.specs.Span.{IsSubspan};
-ghost use Rattle.pipe_bounds.specs.Boxes.{Meets, BoundHolds, BoundsHold};
+ghost use Rattle.std.specs.Prelude.{◌≡◌, ◌≤ℤ◌, IfOk};
+ghost use Rattle.pipe_tree.specs.Tree.{branches};
+ghost use Rattle.pipe_bounds.specs.Boxes.{Meets, BoundHolds};
+ghost use Rattle.pipe_bounds.specs.StageBounds.{IsBox, AreBoxes};
 ghost use Rattle.domains.specs.Cuts.{IsCut, IsCutArea};
 ghost use Rattle.pipe_bounds.specs.Settings.{affine_value};
 
@@ -12,7 +13,8 @@ use crate::params::Params;
 use domains::{Area, Relation, Span};
 use pipe_checks::is_same;
 use pipe_tokens::Name;
-use pipe_tree::Test;
+use pipe_tree::{Case, Test};
+use std::alloc::{AllocError, Global};
 
 fn at_most(span: &Span, bound: i128) -> Option<Span>
     ensures { IsCut (λ v. v ≤ℤ bound) span.now result }
@@ -49,8 +51,7 @@ fn cut_span(span: &Span, relation: Relation, bound: i128) -> Option<Span>
 }
 
 fn cut(params: &Params, row: &Name, area: &Area, test: &Test) -> Option<Area>
-    ensures points { IsCutArea (BoundHolds params.now row.now test.now) area.now result }
-    ensures within { IfSome result (λ m. IsSubspan m.rows area.now.rows × IsSubspan m.cols area.now.cols) }
+    ensures { IsCutArea (BoundHolds params.now row.now test.now) area.now result }
 {
     match test {
         Test::Compare(name, relation, bound) => {
@@ -73,15 +74,32 @@ fn cut(params: &Params, row: &Name, area: &Area, test: &Test) -> Option<Area>
     }
 }
 
-/// The points of a domain at which all tests of bounds hold, of a case whose variable of the rows is `row`; any other name is
-/// the variable of the columns. Tests of a remainder leave all points.
-pub fn case_box(params: &Params, row: &Name, domain: &Area, tests: &[Test]) -> Option<Area>
-    ensures points { IsCutArea (BoundsHold params.now row.now tests.now) domain.now result }
-    ensures within { IfSome result (λ m. IsSubspan m.rows domain.now.rows × IsSubspan m.cols domain.now.cols) }
+// The points of a domain at which all tests of bounds hold, of a case whose variable of the rows is `row`; any other name is
+// the variable of the columns. Tests of a remainder leave all points.
+fn case_box(params: &Params, row: &Name, domain: &Area, tests: &[Test]) -> Option<Area>
+    ensures { IsBox params.now row.now domain.now tests.now result }
 {
     let mut left = *domain;
     for test in tests {
         left = cut(params, row, &left, test)?;
     }
+    let _ = left.points();
     Some(left)
+}
+
+/// The boxes of the cases of a function, in the order of the text.
+pub(crate) fn case_boxes(
+    alloc: Global,
+    params: &Params,
+    row: &Name,
+    domain: &Area,
+    cases: &[Case],
+) -> Result<Vec<Option<Area>>, AllocError>
+    ensures { IfOk result (λ v. AreBoxes params.now row.now domain.now (branches cases.now) v.items) }
+{
+    let mut boxes = Vec::new(alloc);
+    for case in cases {
+        boxes.push(case_box(params, row, domain, case.condition.tests()))?;
+    }
+    Ok(boxes)
 }

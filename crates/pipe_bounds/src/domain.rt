@@ -1,9 +1,10 @@
 #![tactic(auto)]
-//! The domains of stages.
+//! Where stages lie: their domains, and the bins of accumulators.
 
-ghost use Rattle.std.specs.Prelude.{◌≡◌};
-ghost use Rattle.pipe_bounds.specs.Domains.{IsInterval, IsExtent, IsBins, IsDomain, IsArea, IsSpanOf};
+ghost use Rattle.std.specs.Prelude.{◌≡◌, None};
+ghost use Rattle.pipe_bounds.specs.Domains.{IsInterval, IsExtent, IsBins, IsArea, IsSpanOf};
 ghost use Rattle.pipe_bounds.specs.Settings.{affine_value};
+ghost use Rattle.pipe_bounds.specs.Taken.{IsPlaced};
 ghost use Rattle.pipe_tree.specs.Tree.{declaration, accumulator, accumulator_of};
 
 use crate::affine::affine_value;
@@ -12,18 +13,25 @@ use domains::{Area, Span};
 use pipe_tree::{Accum, Affine, AffineSpan, Func, Image, Item};
 
 /// The ends of a domain and of the bins lie from `-MAX_END` to `MAX_END`.
-pub const MAX_END: i128 = 16384;
+const MAX_END: i128 = 16384;
 
 /// The greatest extent of a picture, and the most bins.
-pub const MAX_SIZE: i128 = 4096;
+const MAX_SIZE: i128 = 4096;
 
 /// Why an interval is none.
 #[derive(Clone, Copy, Debug, PartialEq, Eq)]
-pub enum IntervalFault {
+pub(crate) enum IntervalFault {
     /// Its last number is below its first.
     Empty,
     /// It reaches too far.
     TooWide,
+}
+
+/// The domain of a plane or a function; the reduction domain of an accumulator, and its bins.
+#[derive(Clone, Copy, Debug)]
+pub(crate) struct Place {
+    pub(crate) domain: Area,
+    pub(crate) bins: Option<Span>,
 }
 
 fn interval(first: i128, last: i128) -> Result<Span, IntervalFault>
@@ -68,8 +76,8 @@ fn extent_of(params: &Params, side: &Affine) -> Result<Span, IntervalFault>
     extent(affine_value(params, side))
 }
 
-/// The bins of an accumulator.
-pub fn bins(params: &Params, accum: &Accum) -> Result<Span, IntervalFault>
+// The bins of an accumulator.
+fn bins(params: &Params, accum: &Accum) -> Result<Span, IntervalFault>
     ensures { IsBins (affine_value params.now accum.now.bins.first) (affine_value params.now accum.now.bins.last) result }
 {
     let bins = interval_of(params, &accum.bins)?;
@@ -96,23 +104,32 @@ fn func_domain(params: &Params, func: &Func) -> Result<Area, IntervalFault>
     Ok(Area { rows, cols })
 }
 
-fn accum_domain(params: &Params, accum: &Accum) -> Result<Area, IntervalFault>
-    ensures { IsDomain params.now (accumulator (accumulator_of accum.now)) result }
+fn accum_place(params: &Params, accum: &Accum) -> Result<Place, IntervalFault>
+    ensures { IsPlaced params.now (accumulator (accumulator_of accum.now)) result }
 {
-    let _ = bins(params, accum)?;
+    let bins = bins(params, accum)?;
     let rows = interval_of(params, &accum.row.span)?;
     let cols = interval_of(params, &accum.column.span)?;
-    Ok(Area { rows, cols })
+    Ok(Place {
+        domain: Area { rows, cols },
+        bins: Some(bins),
+    })
 }
 
-/// The domain of a plane or a function, and the reduction domain of an accumulator.
-pub fn stage_domain(params: &Params, item: &Item) -> Result<Area, IntervalFault>
-    ensures { IsDomain params.now (declaration item.now) result }
+fn without_bins(domain: Area) -> Place
+    ensures { result ≡ record { domain = domain; bins = None } }
+{
+    Place { domain, bins: None }
+}
+
+/// Where the stages lie that an item declares.
+pub(crate) fn place_of(params: &Params, item: &Item) -> Result<Place, IntervalFault>
+    ensures { IsPlaced params.now (declaration item.now) result }
 {
     match item {
-        Item::Image(image) => image_domain(params, image),
-        Item::Func(func) => func_domain(params, func),
-        Item::Accum(accum) => accum_domain(params, accum),
+        Item::Image(image) => Ok(without_bins(image_domain(params, image)?)),
+        Item::Func(func) => Ok(without_bins(func_domain(params, func)?)),
+        Item::Accum(accum) => accum_place(params, accum),
         Item::Param(_) | Item::Output(_) => Err(IntervalFault::Empty),
     }
 }

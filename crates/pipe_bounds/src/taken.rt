@@ -9,8 +9,9 @@ ghost use Rattle.pipe_bounds.specs.InBounds.{scale_of};
 ghost use Rattle.pipe_bounds.specs.Taken.{IsWidened, IsTaken, IsDeparting, InDomainRange, InDomainRanges, IsSound};
 
 use crate::fault::Axis;
-use domains::{Area, Index, Span};
-use pipe_checks::Site;
+use crate::index::index_of;
+use domains::{Area, Span};
+use pipe_checks::Access;
 
 /// The numbers of domains lie within this of 0.
 const MAX_REACH: i32 = 16384;
@@ -21,16 +22,6 @@ pub(crate) struct Departure {
     pub(crate) axis: Axis,
     pub(crate) least: i32,
     pub(crate) greatest: i32,
-}
-
-fn index_of(index: &pipe_tree::Index) -> Index
-    requires { IsIndex (scale_of index.now) }
-    ensures { result ≡ scale_of index.now }
-{
-    match Index::new(index.mul as i32, index.add, index.div as i32) {
-        Some(index) => index,
-        None => unreachable!(),
-    }
 }
 
 // The numbers that an index takes over a span.
@@ -62,18 +53,18 @@ fn widened(span: &Span, side: usize) -> Span
 }
 
 /// The rows and columns that a read takes over the points of an area.
-pub(crate) fn taken(site: &Site, area: &Area) -> Area
-    requires sound { (count : ℕ) × IsSound count site.now }
+pub(crate) fn taken(access: &Access, area: &Area) -> Area
+    requires sound { (count : ℕ) × IsSound count access.now }
     requires near { InDomainRanges area.now }
-    ensures taken { IsTaken site.now area.now result }
+    ensures taken { IsTaken access.now area.now result }
     ensures within { IsArea area.now }
 {
-    match site {
-        Site::Read(_, row, column) => Area {
+    match access {
+        Access::Read(_, row, column) => Area {
             rows: image_of(row, &area.rows),
             cols: image_of(column, &area.cols),
         },
-        Site::Stencil(_, rows, columns) => Area {
+        Access::Stencil(_, rows, columns) => Area {
             rows: widened(&area.rows, *rows),
             cols: widened(&area.cols, *columns),
         },

@@ -1,20 +1,22 @@
 #![tactic(auto)]
 //! Whether a program means something at the values of its parameters.
 
-ghost use Rattle.std.specs.Prelude.{◌≡◌, ℕ, OnOk, IfErr, Err};
+ghost use Rattle.std.specs.Prelude.{◌≡◌, ℕ, OnOk, IfOk, IfErr, Err};
 ghost use Rattle.pipe_bounds.specs.declared.fault.BoundFault.TheVariants.{ParamUnset};
 ghost use Rattle.pipe_checks.specs.Checking.{tree_in};
 ghost use Rattle.pipe_tree.specs.Tree.{declarations};
 ghost use Rattle.pipe_tree.specs.Content.{content};
 ghost use Rattle.pipe_bounds.specs.InBounds.{AreInBounds, IsBoundFault, IsFirstStage, IsInBounds};
 ghost use Rattle.pipe_bounds.specs.Taken.{AreDeclared, AreSoundItems, IsAnswer};
-ghost use Rattle.pipe_bounds.specs.Within.{AreSet, HaveDomains, IsFirstUnset};
+ghost use Rattle.pipe_bounds.specs.Within.{AreSet, IsFirstUnset};
+ghost use Rattle.pipe_bounds.specs.StageBounds.{AreBoundsOf, domains_in};
+ghost use Rattle.pipe_checks.specs.Names.{stages_of};
 
 use crate::fault::BoundFault;
+use crate::finding::bounds_of_stages;
 use crate::params::Params;
 use crate::reader::Reader;
-use crate::stage_domains::domains_of;
-use domains::Area;
+use crate::stage_bounds::StageBounds;
 use pipe_checks::{Checked, Symbol};
 use pipe_tree::Item;
 use std::alloc::Global;
@@ -35,25 +37,47 @@ fn judge_reads(
     params: &Params,
     items: &[Item],
     stages: &[Symbol],
-    domains: &[Area],
+    found: &[StageBounds],
 ) -> Result<(), BoundFault>
     requires declared { AreDeclared (declarations items.now) stages.now }
     requires sound { AreSoundItems stages.now (declarations items.now) }
-    requires domains { HaveDomains params.now (declarations items.now) stages.now domains.now }
-    ensures { IsAnswer (λ _. AreInBounds params.now (declarations items.now) stages.now domains.now) (IsFirstStage params.now (declarations items.now) stages.now domains.now) result }
+    requires found { AreBoundsOf params.now (declarations items.now) stages.now found.now }
+    ensures { IsAnswer (λ _. AreInBounds params.now (declarations items.now) stages.now (domains_in found.now)) (IsFirstStage params.now (declarations items.now) stages.now (domains_in found.now)) result }
 {
     for (stage, declared) in stages.iter().enumerate() {
+        let here = &found[stage];
         let reader = Reader {
             alloc,
             params,
             stages,
-            domains,
+            found,
             stage,
-            domain: &domains[stage],
+            domain: here.domain(),
+            boxes: here.boxes(),
         };
         reader.item(&items[declared.item])?;
     }
     Ok(())
+}
+
+/// What is found of each stage, by its number, where the program means something at the values of its parameters; else the
+/// first fault. Both are as `bounds` has them.
+pub fn bounds_by_stage(
+    alloc: Global,
+    checked: &Checked,
+    params: &Params,
+) -> Result<Vec<StageBounds>, BoundFault>
+    ensures ok { OnOk result (IsInBounds params.now (content (tree_in checked.now))) }
+    ensures found { IfOk result (λ v. AreBoundsOf params.now (content (tree_in checked.now)) (stages_of (content (tree_in checked.now))) v.items) }
+    ensures fault { IfErr result (IsBoundFault params.now (content (tree_in checked.now))) }
+    ensures unset { (n : ℕ) → IsFirstUnset params.now n → result ≡ Err (ParamUnset n) }
+{
+    all_set(params)?;
+    let items = checked.tree().items();
+    let stages = checked.stages();
+    let found = bounds_of_stages(alloc, params, items, stages)?;
+    judge_reads(alloc, params, items, stages, &found)?;
+    Ok(found)
 }
 
 /// Whether the program means something at the values of its parameters: all have values, each stage has a domain, and at each
@@ -65,9 +89,6 @@ pub fn bounds(alloc: Global, checked: &Checked, params: &Params) -> Result<(), B
     ensures fault { IfErr result (IsBoundFault params.now (content (tree_in checked.now))) }
     ensures unset { (n : ℕ) → IsFirstUnset params.now n → result ≡ Err (ParamUnset n) }
 {
-    all_set(params)?;
-    let items = checked.tree().items();
-    let stages = checked.stages();
-    let domains = domains_of(alloc, params, items, stages)?;
-    judge_reads(alloc, params, items, stages, &domains)
+    let _ = bounds_by_stage(alloc, checked, params)?;
+    Ok(())
 }

@@ -23,14 +23,14 @@ use Rattle.pipe_checks.specs.declared.symbol.NameKind.TheVariants.{Param, Plane,
 use Rattle.pipe_checks.specs.declared.fault.Violation.{Violation}
 use Rattle.pipe_checks.specs.declared.fault.Violation.TheVariants.{Kind, BadKernel, BadLiteral}
 use Rattle.pipe_checks.specs.declared.uses.Locals.{Locals}
-use Rattle.pipe_checks.specs.declared.uses.NameRole.TheVariants as standing
+use Rattle.pipe_checks.specs.declared.uses.NameRole.TheVariants as role
 use Rattle.pipe_checks.specs.declared.uses.Expected.{Expected}
-use Rattle.pipe_checks.specs.declared.uses.Expected.TheVariants as wanted
+use Rattle.pipe_checks.specs.declared.uses.Expected.TheVariants as expected
 use Rattle.pipe_checks.specs.Names.{declared_at}
-use Rattle.pipe_checks.specs.Sites.{width_of}
-use Rattle.pipe_checks.specs.Twice.{own_of}
+use Rattle.pipe_checks.specs.Accesses.{width_of}
+use Rattle.pipe_checks.specs.Twice.{locals_of}
 use Rattle.pipe_checks.specs.Checking.{verdict_of}
-use Rattle.pipe_checks.specs.Uses.{Verdict, and_then, is_it, standing_of, declared_standing, allows, kind_verdict, name_verdict, greatest_number, range_verdict, below_verdict, add_verdict, literal_verdict, is_side, kernel_verdict, span_verdict, index_verdict, expr_verdict, test_verdict, tests_verdict, branch_verdict, branches_verdict, otherwise_verdict, outputs_verdict}
+use Rattle.pipe_checks.specs.Uses.{Verdict, and_then, is_it, role_of, declared_role, allows, kind_verdict, name_verdict, greatest_number, range_verdict, below_verdict, add_verdict, literal_verdict, is_side, kernel_verdict, span_verdict, index_verdict, expr_verdict, test_verdict, tests_verdict, branch_verdict, branches_verdict, otherwise_verdict, outputs_verdict}
 
 -- ---- what is known
 
@@ -156,103 +156,103 @@ kernel_ok k h =
 -- ---- names
 
 -- what a place allows that takes no variable
-by_kind : (w : Expected) (IsKind : NameKind → Type 0) → ((k : NameKind) → allows w (standing_of k) ≡ true → IsKind k) → allows w standing.Row ≡ false → allows w standing.Column ≡ false → (names : List Symbol) (own : Locals) (x : List ℕ) → name_verdict names own x w ≡ Ok tt → IsNameOf IsKind names x
-by_kind w IsKind kinds no_row no_column names own x = by (is_it own.row x) (is_it own.column x) (declared_at names x) refl
+by_kind : (w : Expected) (IsKind : NameKind → Type 0) → ((k : NameKind) → allows w (role_of k) ≡ true → IsKind k) → allows w role.Row ≡ false → allows w role.Column ≡ false → (names : List Symbol) (locals : Locals) (x : List ℕ) → name_verdict names locals x w ≡ Ok tt → IsNameOf IsKind names x
+by_kind w IsKind kinds no_row no_column names locals x = by (is_it locals.row x) (is_it locals.column x) (declared_at names x) refl
   where
-    declared_by : (d : Symbol) → declared_at names x ≡ Some d → kind_verdict w (Some (standing_of d.kind)) ≡ Ok tt → IsNameOf IsKind names x
-    declared_by d found h = record { declared = d; found = found; kind = kinds d.kind (if_ok (allows w (standing_of d.kind)) Kind h) }
+    declared_by : (d : Symbol) → declared_at names x ≡ Some d → kind_verdict w (Some (role_of d.kind)) ≡ Ok tt → IsNameOf IsKind names x
+    declared_by d found h = record { declared = d; found = found; kind = kinds d.kind (if_ok (allows w (role_of d.kind)) Kind h) }
 
-    by : (b c : Bool) (o : Option Symbol) → declared_at names x ≡ o → kind_verdict w (if b then Some standing.Row else (if c then Some standing.Column else declared_standing o)) ≡ Ok tt → IsNameOf IsKind names x
-    by true c o found h = let ok = if_ok (allows w standing.Row) Kind h in absurd (cc)
-    by false true o found h = let ok = if_ok (allows w standing.Column) Kind h in absurd (cc)
+    by : (b c : Bool) (o : Option Symbol) → declared_at names x ≡ o → kind_verdict w (if b then Some role.Row else (if c then Some role.Column else declared_role o)) ≡ Ok tt → IsNameOf IsKind names x
+    by true c o found h = let ok = if_ok (allows w role.Row) Kind h in absurd (cc)
+    by false true o found h = let ok = if_ok (allows w role.Column) Kind h in absurd (cc)
     by false false None found h = absurd (cc)
     by false false (Some d) found h = declared_by d found h
 
-readable_kind : (k : NameKind) → allows wanted.Readable (standing_of k) ≡ true → IsReadableKind k
+readable_kind : (k : NameKind) → allows expected.Readable (role_of k) ≡ true → IsReadableKind k
 readable_kind Param h = absurd (false≢true h)
 readable_kind Plane h = tt
 readable_kind Func h = tt
 readable_kind Accum h = absurd (false≢true h)
 
-func_kind : (k : NameKind) → allows wanted.Func (standing_of k) ≡ true → IsFuncKind k
+func_kind : (k : NameKind) → allows expected.Func (role_of k) ≡ true → IsFuncKind k
 func_kind Param h = absurd (false≢true h)
 func_kind Plane h = absurd (false≢true h)
 func_kind Func h = tt
 func_kind Accum h = absurd (false≢true h)
 
-module _ (names : List Symbol) (own : Locals) where
-  readable_name : (x : List ℕ) → name_verdict names own x wanted.Readable ≡ Ok tt → IsNameOf IsReadableKind names x
-  readable_name = by_kind wanted.Readable IsReadableKind readable_kind refl refl names own
+module _ (names : List Symbol) (locals : Locals) where
+  readable_name : (x : List ℕ) → name_verdict names locals x expected.Readable ≡ Ok tt → IsNameOf IsReadableKind names x
+  readable_name = by_kind expected.Readable IsReadableKind readable_kind refl refl names locals
 
-  func_name : (x : List ℕ) → name_verdict names own x wanted.Func ≡ Ok tt → IsNameOf IsFuncKind names x
-  func_name = by_kind wanted.Func IsFuncKind func_kind refl refl names own
+  func_name : (x : List ℕ) → name_verdict names locals x expected.Func ≡ Ok tt → IsNameOf IsFuncKind names x
+  func_name = by_kind expected.Func IsFuncKind func_kind refl refl names locals
 
-  index_ok : (i : Index) (w : Expected) → index_verdict names own i w ≡ Ok tt → IsSoundIndex i
+  index_ok : (i : Index) (w : Expected) → index_verdict names locals i w ≡ Ok tt → IsSoundIndex i
   index_ok i w h =
-      let first = and_then_ok (range_verdict i.mul 1 16) (and_then (name_verdict names own i.name w) (and_then (add_verdict i.add) (range_verdict i.div 1 16))) h in
-      let second = and_then_ok (name_verdict names own i.name w) (and_then (add_verdict i.add) (range_verdict i.div 1 16)) first.1 in
+      let first = and_then_ok (range_verdict i.mul 1 16) (and_then (name_verdict names locals i.name w) (and_then (add_verdict i.add) (range_verdict i.div 1 16))) h in
+      let second = and_then_ok (name_verdict names locals i.name w) (and_then (add_verdict i.add) (range_verdict i.div 1 16)) first.1 in
       let third = and_then_ok (add_verdict i.add) (range_verdict i.div 1 16) second.1 in
       record { mul = range_ok i.mul 1 16 first.0; add = add_ok i.add third.0; div = range_ok i.div 1 16 third.1 }
 
   -- ---- expressions
 
-  sound : (a : Node) → expr_verdict names own a ≡ Ok tt → IsSound names a
+  sound : (a : Node) → expr_verdict names locals a ≡ Ok tt → IsSound names a
   sound (tree.number n) h = (range_ok n 0 greatest_number h).1
   sound (tree.variable x) h = tt
   sound (tree.read x i j) h =
-      let first = and_then_ok (name_verdict names own x wanted.Readable) (and_then (index_verdict names own i wanted.Row) (index_verdict names own j wanted.Column)) h in
-      let second = and_then_ok (index_verdict names own i wanted.Row) (index_verdict names own j wanted.Column) first.1 in
-      (readable_name x first.0, index_ok i wanted.Row second.0, index_ok j wanted.Column second.1)
+      let first = and_then_ok (name_verdict names locals x expected.Readable) (and_then (index_verdict names locals i expected.Row) (index_verdict names locals j expected.Column)) h in
+      let second = and_then_ok (index_verdict names locals i expected.Row) (index_verdict names locals j expected.Column) first.1 in
+      (readable_name x first.0, index_ok i expected.Row second.0, index_ok j expected.Column second.1)
   sound (tree.neg a) h = sound a h
-  sound (tree.binary op a b) h = let both = and_then_ok (expr_verdict names own a) (expr_verdict names own b) h in (sound a both.0, sound b both.1)
-  sound (tree.literal op a n) h = let both = and_then_ok (expr_verdict names own a) (literal_verdict op n) h in (sound a both.0, literal_ok op n both.1)
+  sound (tree.binary op a b) h = let both = and_then_ok (expr_verdict names locals a) (expr_verdict names locals b) h in (sound a both.0, sound b both.1)
+  sound (tree.literal op a n) h = let both = and_then_ok (expr_verdict names locals a) (literal_verdict op n) h in (sound a both.0, literal_ok op n both.1)
   sound (tree.abs a) h = sound a h
   sound (tree.clamp a b c) h =
-      let first = and_then_ok (expr_verdict names own a) (and_then (expr_verdict names own b) (expr_verdict names own c)) h in
-      let second = and_then_ok (expr_verdict names own b) (expr_verdict names own c) first.1 in
+      let first = and_then_ok (expr_verdict names locals a) (and_then (expr_verdict names locals b) (expr_verdict names locals c)) h in
+      let second = and_then_ok (expr_verdict names locals b) (expr_verdict names locals c) first.1 in
       (sound a first.0, sound b second.0, sound c second.1)
   sound (tree.select a r b c d) h =
-      let first = and_then_ok (expr_verdict names own a) (and_then (expr_verdict names own b) (and_then (expr_verdict names own c) (expr_verdict names own d))) h in
-      let second = and_then_ok (expr_verdict names own b) (and_then (expr_verdict names own c) (expr_verdict names own d)) first.1 in
-      let third = and_then_ok (expr_verdict names own c) (expr_verdict names own d) second.1 in
+      let first = and_then_ok (expr_verdict names locals a) (and_then (expr_verdict names locals b) (and_then (expr_verdict names locals c) (expr_verdict names locals d))) h in
+      let second = and_then_ok (expr_verdict names locals b) (and_then (expr_verdict names locals c) (expr_verdict names locals d)) first.1 in
+      let third = and_then_ok (expr_verdict names locals c) (expr_verdict names locals d) second.1 in
       (sound a first.0, sound b second.0, sound c third.0, sound d third.1)
   sound (tree.stencil x d k) h =
-      let first = and_then_ok (name_verdict names own x wanted.Readable) (and_then (range_verdict d 1 greatest_number) (kernel_verdict k)) h in
+      let first = and_then_ok (name_verdict names locals x expected.Readable) (and_then (range_verdict d 1 greatest_number) (kernel_verdict k)) h in
       let second = and_then_ok (range_verdict d 1 greatest_number) (kernel_verdict k) first.1 in
       (readable_name x first.0, range_ok d 1 greatest_number second.0, kernel_ok k second.1)
 
-  sound_test : (t : Test) → test_verdict names own t ≡ Ok tt → IsSoundTest t
+  sound_test : (t : Test) → test_verdict names locals t ≡ Ok tt → IsSoundTest t
   sound_test (Compare x relation bound) h = tt
   sound_test (Remainder x m r) h =
-      let first = and_then_ok (name_verdict names own x wanted.Variable) (and_then (range_verdict m 1 greatest_number) (below_verdict r m)) h in
+      let first = and_then_ok (name_verdict names locals x expected.Variable) (and_then (range_verdict m 1 greatest_number) (below_verdict r m)) h in
       let second = and_then_ok (range_verdict m 1 greatest_number) (below_verdict r m) first.1 in
       (range_ok m 1 greatest_number second.0, is_below r m (if_ok (nat_lt r m) BadLiteral second.1))
 
-  sound_tests : (ts : List Test) → tests_verdict names own ts ≡ Ok tt → All IsSoundTest ts
+  sound_tests : (ts : List Test) → tests_verdict names locals ts ≡ Ok tt → All IsSoundTest ts
   sound_tests [] h = All-nil IsSoundTest
   sound_tests (t ∷ ts) h =
-      let both = and_then_ok (test_verdict names own t) (tests_verdict names own ts) h in
+      let both = and_then_ok (test_verdict names locals t) (tests_verdict names locals ts) h in
       All-cons IsSoundTest t ts (sound_test t both.0) (sound_tests ts both.1)
 
-  sound_branches : (bs : List Branch) → branches_verdict names own bs ≡ Ok tt → All (IsSoundBranch names) bs
+  sound_branches : (bs : List Branch) → branches_verdict names locals bs ≡ Ok tt → All (IsSoundBranch names) bs
   sound_branches [] h = All-nil (IsSoundBranch names)
   sound_branches (b ∷ bs) h =
-      let both = and_then_ok (branch_verdict names own b) (branches_verdict names own bs) h in
-      let parts = and_then_ok (tests_verdict names own b.condition) (expr_verdict names own b.value) both.0 in
+      let both = and_then_ok (branch_verdict names locals b) (branches_verdict names locals bs) h in
+      let parts = and_then_ok (tests_verdict names locals b.condition) (expr_verdict names locals b.value) both.0 in
       All-cons (IsSoundBranch names) b bs (record { tests = sound_tests b.condition parts.0; value = sound b.value parts.1 }) (sound_branches bs both.1)
 
-  sound_otherwise : (o : Option Node) → otherwise_verdict names own o ≡ Ok tt → ForSome o (IsSound names)
+  sound_otherwise : (o : Option Node) → otherwise_verdict names locals o ≡ Ok tt → ForSome o (IsSound names)
   sound_otherwise None h = λ a is. absurd (cc)
   sound_otherwise (Some a) h = λ b is. subst_sound a b (cc) (sound a h)
     where
       subst_sound : (a b : Node) → a ≡ b → IsSound names a → IsSound names b
       subst_sound a b e s = rw (← e) s
 
-  outputs_ok : (ns : Names) → outputs_verdict names own ns ≡ Ok tt → AreFuncs names ns
+  outputs_ok : (ns : Names) → outputs_verdict names locals ns ≡ Ok tt → AreFuncs names ns
   outputs_ok (One x) h = func_name x h
   outputs_ok (Three x y z) h =
-      let first = and_then_ok (name_verdict names own x wanted.Func) (and_then (name_verdict names own y wanted.Func) (name_verdict names own z wanted.Func)) h in
-      let second = and_then_ok (name_verdict names own y wanted.Func) (name_verdict names own z wanted.Func) first.1 in
+      let first = and_then_ok (name_verdict names locals x expected.Func) (and_then (name_verdict names locals y expected.Func) (name_verdict names locals z expected.Func)) h in
+      let second = and_then_ok (name_verdict names locals y expected.Func) (name_verdict names locals z expected.Func) first.1 in
       (func_name x first.0, func_name y second.0, func_name z second.1)
 
 -- ---- items
@@ -261,19 +261,19 @@ pub sound_item : (names : List Symbol) (d : Declaration) → verdict_of names d 
 sound_item names (tree.param p) h = tt
 sound_item names (tree.image i) h = tt
 sound_item names (tree.function f) h =
-    let own = own_of (tree.function f) in
-    let first = and_then_ok (span_verdict names own f.row.span) (and_then (span_verdict names own f.column.span) (and_then (branches_verdict names own f.cases) (otherwise_verdict names own f.otherwise))) h in
-    let second = and_then_ok (span_verdict names own f.column.span) (and_then (branches_verdict names own f.cases) (otherwise_verdict names own f.otherwise)) first.1 in
-    let third = and_then_ok (branches_verdict names own f.cases) (otherwise_verdict names own f.otherwise) second.1 in
-    (sound_branches names own f.cases third.0, sound_otherwise names own f.otherwise third.1)
+    let locals = locals_of (tree.function f) in
+    let first = and_then_ok (span_verdict names locals f.row.span) (and_then (span_verdict names locals f.column.span) (and_then (branches_verdict names locals f.cases) (otherwise_verdict names locals f.otherwise))) h in
+    let second = and_then_ok (span_verdict names locals f.column.span) (and_then (branches_verdict names locals f.cases) (otherwise_verdict names locals f.otherwise)) first.1 in
+    let third = and_then_ok (branches_verdict names locals f.cases) (otherwise_verdict names locals f.otherwise) second.1 in
+    (sound_branches names locals f.cases third.0, sound_otherwise names locals f.otherwise third.1)
 sound_item names (tree.accumulator a) h =
-    let own = own_of (tree.accumulator a) in
-    let first = and_then_ok (span_verdict names own a.bins) (and_then (span_verdict names own a.row.span) (and_then (span_verdict names own a.column.span) (and_then (expr_verdict names own a.value) (expr_verdict names own a.bin)))) h in
-    let second = and_then_ok (span_verdict names own a.row.span) (and_then (span_verdict names own a.column.span) (and_then (expr_verdict names own a.value) (expr_verdict names own a.bin))) first.1 in
-    let third = and_then_ok (span_verdict names own a.column.span) (and_then (expr_verdict names own a.value) (expr_verdict names own a.bin)) second.1 in
-    let last = and_then_ok (expr_verdict names own a.value) (expr_verdict names own a.bin) third.1 in
-    (sound names own a.value last.0, sound names own a.bin last.1)
+    let locals = locals_of (tree.accumulator a) in
+    let first = and_then_ok (span_verdict names locals a.bins) (and_then (span_verdict names locals a.row.span) (and_then (span_verdict names locals a.column.span) (and_then (expr_verdict names locals a.value) (expr_verdict names locals a.bin)))) h in
+    let second = and_then_ok (span_verdict names locals a.row.span) (and_then (span_verdict names locals a.column.span) (and_then (expr_verdict names locals a.value) (expr_verdict names locals a.bin))) first.1 in
+    let third = and_then_ok (span_verdict names locals a.column.span) (and_then (expr_verdict names locals a.value) (expr_verdict names locals a.bin)) second.1 in
+    let last = and_then_ok (expr_verdict names locals a.value) (expr_verdict names locals a.bin) third.1 in
+    (sound names locals a.value last.0, sound names locals a.bin last.1)
 sound_item names (tree.output o) h =
-    let own = own_of (tree.output o) in
-    let both = and_then_ok (outputs_verdict names own o.names) (range_verdict o.max 1 65535) h in
-    (outputs_ok names own o.names both.0, range_ok o.max 1 65535 both.1)
+    let locals = locals_of (tree.output o) in
+    let both = and_then_ok (outputs_verdict names locals o.names) (range_verdict o.max 1 65535) h in
+    (outputs_ok names locals o.names both.0, range_ok o.max 1 65535 both.1)

@@ -3,12 +3,12 @@ use Rattle.std.proofs.Common.{ℕ, ◌≡◌, true, Result, Ok, Err, OnOk, IfErr
 use Rattle.std.specs.List.{list_any}
 use Rattle.pipe_tree.specs.Tree.{Declaration}
 use Rattle.pipe_checks.specs.declared.fault.Violation.{Violation}
-use Rattle.pipe_checks.specs.declared.fault.Violation.TheVariants as misuse
+use Rattle.pipe_checks.specs.declared.fault.Violation.TheVariants as violation
 use Rattle.pipe_checks.specs.declared.fault.CheckFault.{CheckFault}
 use Rattle.pipe_checks.specs.declared.fault.CheckFault.TheVariants.{Unknown, Twice, Kind, BadKernel, BadLiteral, NoResult, Cycle, Memory}
 use Rattle.pipe_checks.specs.declared.symbol.Symbol.{Symbol}
 use Rattle.pipe_checks.specs.Names.{declared_names}
-use Rattle.pipe_checks.specs.Sites.{graph_of}
+use Rattle.pipe_checks.specs.Accesses.{graph_of}
 use Rattle.pipe_checks.specs.Checking.{NoneTwice, IsFirstTwice, AllGood, IsFirstWrong, is_result, IsNamed, IsFault}
 use Rattle.pipe_checks.specs.Search.{fault_of, IsJudged, IsCyclic}
 
@@ -27,10 +27,10 @@ judged_fault names ds (Err f) same once h = subst (IsFault ds) (sym h.2) (by_wro
     named_once = subst (λ ns. NoneTwice ns ds) same once
 
     by_wrong : (w : Violation) (n : ℕ) → IsFirstWrong (declared_names ds) ds w n → IsFault ds (fault_of w n)
-    by_wrong misuse.Unknown n first = (named_once, first)
-    by_wrong misuse.Kind n first = (named_once, first)
-    by_wrong misuse.BadKernel n first = (named_once, first)
-    by_wrong misuse.BadLiteral n first = (named_once, first)
+    by_wrong violation.Unknown n first = (named_once, first)
+    by_wrong violation.Kind n first = (named_once, first)
+    by_wrong violation.BadKernel n first = (named_once, first)
+    by_wrong violation.BadLiteral n first = (named_once, first)
 
 pub cyclic_fault : (ds : List Declaration) (f : CheckFault) → IsNamed ds → list_any is_result ds ≡ true → IsCyclic (graph_of ds) f → IsFault ds f
 cyclic_fault ds (Cycle c) named result h = (named, result, h)

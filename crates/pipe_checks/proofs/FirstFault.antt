@@ -9,12 +9,12 @@ use Rattle.pipe_tree.specs.Tree.{Declaration}
 use Rattle.pipe_tree.specs.Content.{content}
 use Rattle.pipe_checks.specs.declared.symbol.Symbol.{Symbol}
 use Rattle.pipe_checks.specs.declared.fault.Violation.{Violation}
-use Rattle.pipe_checks.specs.declared.fault.Violation.TheVariants as misuse
+use Rattle.pipe_checks.specs.declared.fault.Violation.TheVariants as violation
 use Rattle.pipe_checks.specs.declared.fault.CheckFault.{CheckFault}
 use Rattle.pipe_checks.specs.declared.fault.CheckFault.TheVariants.{Unknown, Twice, Kind, BadKernel, BadLiteral, NoResult, Cycle, Memory}
 use Rattle.pipe_checks.specs.Links.{Links}
 use Rattle.pipe_checks.specs.Names.{declared_names}
-use Rattle.pipe_checks.specs.Sites.{graph_of}
+use Rattle.pipe_checks.specs.Accesses.{graph_of}
 use Rattle.pipe_checks.specs.Graph.{IsShortestFrom, IsShortestCycle}
 use Rattle.pipe_checks.specs.Uses.{Verdict}
 use Rattle.pipe_checks.specs.Checking.{NoneTwice, IsFirstTwice, verdict_of, IsFirstWrong, is_result, IsNamed, IsFault, IsCheckedOf}
@@ -83,10 +83,10 @@ data Told (ds : List Declaration) (f : CheckFault) : Type 0 where
 
 told : (ds : List Declaration) (f : CheckFault) → IsFault ds f → f ≢ Memory → Told ds f
 told ds (Twice n) h m = TwiceTold n h refl
-told ds (Unknown n) h m = WrongTold misuse.Unknown n h.0 h.1 refl
-told ds (Kind n) h m = WrongTold misuse.Kind n h.0 h.1 refl
-told ds (BadKernel n) h m = WrongTold misuse.BadKernel n h.0 h.1 refl
-told ds (BadLiteral n) h m = WrongTold misuse.BadLiteral n h.0 h.1 refl
+told ds (Unknown n) h m = WrongTold violation.Unknown n h.0 h.1 refl
+told ds (Kind n) h m = WrongTold violation.Kind n h.0 h.1 refl
+told ds (BadKernel n) h m = WrongTold violation.BadKernel n h.0 h.1 refl
+told ds (BadLiteral n) h m = WrongTold violation.BadLiteral n h.0 h.1 refl
 told ds NoResult h m = ResultTold h.0 h.1 refl
 told ds (Cycle c) h m = CycleTold c h.0 h.1 h.2 refl
 told ds Memory h m = absurd (m refl)
@@ -122,10 +122,10 @@ one_fault ds a b h k n m = same_told ds a b (told ds a h n) (told ds b k m)
 
 pub no_fault : (tree : Tree) (checked : Checked) (f : CheckFault) → IsCheckedOf tree checked → IsFault (content tree) f → f ≡ Memory
 no_fault tree checked (Twice n) c h = absurd (not_twice (content tree) n c.named.once h)
-no_fault tree checked (Unknown n) c h = absurd (not_wrong (content tree) misuse.Unknown n c.named h.1)
-no_fault tree checked (Kind n) c h = absurd (not_wrong (content tree) misuse.Kind n c.named h.1)
-no_fault tree checked (BadKernel n) c h = absurd (not_wrong (content tree) misuse.BadKernel n c.named h.1)
-no_fault tree checked (BadLiteral n) c h = absurd (not_wrong (content tree) misuse.BadLiteral n c.named h.1)
+no_fault tree checked (Unknown n) c h = absurd (not_wrong (content tree) violation.Unknown n c.named h.1)
+no_fault tree checked (Kind n) c h = absurd (not_wrong (content tree) violation.Kind n c.named h.1)
+no_fault tree checked (BadKernel n) c h = absurd (not_wrong (content tree) violation.BadKernel n c.named h.1)
+no_fault tree checked (BadLiteral n) c h = absurd (not_wrong (content tree) violation.BadLiteral n c.named h.1)
 no_fault tree checked NoResult c h = absurd (false≢true (sym h.1 ∙ c.result))
 no_fault tree checked (Cycle d) c h = absurd (no_ranked_cycle (content tree) _ d c.ranks.ranked h.2.from_start.cycle)
 no_fault tree checked Memory c h = refl

@@ -1,10 +1,9 @@
 -- Places in lists.
-use Rattle.std.proofs.Common.{ℕ, ◌+◌, ◌<◌, ◌≤◌, ◌≡◌, ◌⊎◌, inl, inr, Bool, List, ◌∷◌, Some, Ok, Err, ◌||◌, refl, length, drop, get_or, slice_get, position, sym, ◌∙◌, ap, subst, arith, nat_lt}
+use Rattle.std.proofs.Common.{ℕ, ◌+◌, ◌<◌, ◌≤◌, ◌≡◌, Bool, List, ◌∷◌, Some, Ok, Err, ◌||◌, refl, length, drop, get_or, slice_get, position, sym, ◌∙◌, ap, subst, arith, nat_lt}
 use Rattle.std.specs.List.{position_or_len, list_any}
 use Rattle.std.specs.Option.{option_map}
-use Rattle.std.proofs.lemmas.Bool.{cases_lt}
 use Rattle.std.proofs.lemmas.List.{length-map}
-use Rattle.std.proofs.lemmas.Option.{cond_some, same_Some, slice_get_within, slice_get-get_or, slice_get-map}
+use Rattle.std.proofs.lemmas.Option.{cond_some, slice_get_within, slice_get-get_or, slice_get-map}
 use Rattle.pipe_tree.specs.declared.tree.Item.{Item}
 use Rattle.pipe_tree.specs.Tree.{Declaration, declaration, declarations}
 use Rattle.pipe_checks.specs.declared.symbol.Symbol.{Symbol}

@@ -1,5 +1,5 @@
 -- Stages that have ranks lie on no cycle.
-use Rattle.std.proofs.Common.{ℕ, zero, suc, ◌+◌, ◌-◌, ◌<◌, ◌≤◌, ◌≡◌, ◌⊎◌, inl, inr, true, false, List, [], ◌∷◌, map, length, Some, None, get_or, slice_get, slice_index, sym, ◌∙◌, ap, refl, subst, arith}
+use Rattle.std.proofs.Common.{ℕ, zero, suc, ◌+◌, ◌-◌, ◌<◌, ◌≤◌, ◌≡◌, ◌⊎◌, inl, inr, true, List, [], ◌∷◌, map, length, Some, None, get_or, slice_get, slice_index, sym, ◌∙◌, ap, refl, subst, arith}
 use Rattle.std.specs.Prelude.{All, Contains}
 use Rattle.std.specs.List.{AllByRecursion}
 use Rattle.std.specs.Option.{option_map}
@@ -13,7 +13,7 @@ use Rattle.pipe_tree.specs.Tree.{Declaration, param, image, function, accumulato
 use Rattle.pipe_checks.specs.declared.symbol.Symbol.{Symbol}
 use Rattle.pipe_checks.specs.Links.{Links}
 use Rattle.pipe_checks.specs.Names.{names_of, item_names, names_from, declared_names, stages_of}
-use Rattle.pipe_checks.specs.Sites.{item_sites, stage_read, is_plane, reads_of, links_of, graph_of}
+use Rattle.pipe_checks.specs.Accesses.{item_accesses, stage_read, is_plane, reads_of, links_of, graph_of}
 use Rattle.pipe_checks.specs.Graph.{links_at, IsPlane, Reads, IsRanked, IsCycle}
 use Rattle.pipe_checks.proofs.Distances.{reads_within}
 
@@ -21,11 +21,11 @@ use Rattle.pipe_checks.proofs.Distances.{reads_within}
 
 -- where x is a plane, the item that declares it has no reads; the items begin with number n
 abbrev Blank : ℕ → List Declaration → Symbol → Type 0
-Blank n ds x = is_plane x.kind ≡ true → (k : ℕ) × (x.item ≡ n + k) × (d : Declaration) × (slice_get ds k ≡ Some d) × ((names : List Symbol) → item_sites names d ≡ [])
+Blank n ds x = is_plane x.kind ≡ true → (k : ℕ) × (x.item ≡ n + k) × (d : Declaration) × (slice_get ds k ≡ Some d) × ((names : List Symbol) → item_accesses names d ≡ [])
 
 -- the names of an item, by the item alone
 abbrev BlankHere : ℕ → Declaration → Symbol → Type 0
-BlankHere n d x = is_plane x.kind ≡ true → (x.item ≡ n) × ((names : List Symbol) → item_sites names d ≡ [])
+BlankHere n d x = is_plane x.kind ≡ true → (x.item ≡ n) × ((names : List Symbol) → item_accesses names d ≡ [])
 
 blank_here : (n : ℕ) (d : Declaration) → AllByRecursion (BlankHere n d) (item_names n d)
 blank_here n (param p) = ((λ e. absurd (false≢true e)), tt)

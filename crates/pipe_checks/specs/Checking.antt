@@ -6,15 +6,15 @@ use Rattle.pipe_tree.specs.Tree.{Declaration, param, image, function, accumulato
 use Rattle.pipe_tree.specs.Content.{content}
 use Rattle.pipe_checks.specs.declared.symbol.Symbol.{Symbol}
 use Rattle.pipe_checks.specs.declared.fault.Violation.{Violation}
-use Rattle.pipe_checks.specs.declared.fault.Violation.TheVariants as misuse
+use Rattle.pipe_checks.specs.declared.fault.Violation.TheVariants as violation
 use Rattle.pipe_checks.specs.declared.fault.CheckFault.{CheckFault}
 use Rattle.pipe_checks.specs.declared.fault.CheckFault.TheVariants.{Unknown, Twice, Kind, BadKernel, BadLiteral, NoResult, Cycle, Memory}
 use Rattle.pipe_checks.specs.declared.checked.Checked.{Checked}
 use Rattle.pipe_checks.specs.Links.{Links}
 use Rattle.pipe_checks.specs.Graph.{IsRanking, IsShortestCycle}
 use Rattle.pipe_checks.specs.Names.{declared_names, params_of, stages_of, number_of}
-use Rattle.pipe_checks.specs.Sites.{graph_of}
-use Rattle.pipe_checks.specs.Twice.{own_of, varies_again}
+use Rattle.pipe_checks.specs.Accesses.{graph_of}
+use Rattle.pipe_checks.specs.Twice.{locals_of, varies_again}
 use Rattle.pipe_checks.specs.Uses.{Verdict, item_verdict}
 
 -- ---- names that stand for two things
@@ -28,7 +28,7 @@ pub record DeclaresAgain (names : List Symbol) (n : ℕ) : Type 0 where
   pub before : IsTrue (is_some (number_of (take place names) again.name))
 
 abbrev pub IsTwice : List Symbol → ℕ → Declaration → Type 0
-IsTwice names n d = DeclaresAgain names n ⊎ IsTrue (varies_again names (own_of d))
+IsTwice names n d = DeclaresAgain names n ⊎ IsTrue (varies_again names (locals_of d))
 
 abbrev pub NoneTwice : List Symbol → List Declaration → Type 0
 NoneTwice names ds = (k : ℕ) (d : Declaration) → slice_get ds k ≡ Some d → ¬ (IsTwice names k d)
@@ -43,7 +43,7 @@ pub record IsFirstTwice (names : List Symbol) (ds : List Declaration) (n : ℕ) 
 -- ---- places that do not hold what they want
 
 abbrev pub verdict_of : List Symbol → Declaration → Verdict
-verdict_of names d = item_verdict names (own_of d) d
+verdict_of names d = item_verdict names (locals_of d) d
 
 abbrev pub AllGood : List Symbol → List Declaration → Type 0
 AllGood names ds = (k : ℕ) (d : Declaration) → slice_get ds k ≡ Some d → verdict_of names d ≡ Ok tt
@@ -72,10 +72,10 @@ pub record IsNamed (ds : List Declaration) : Type 0 where
 -- the first fault of a program, but for memory
 abbrev pub IsFault : List Declaration → CheckFault → Type 0
 IsFault ds (Twice n) = IsFirstTwice (declared_names ds) ds n
-IsFault ds (Unknown n) = NoneTwice (declared_names ds) ds × IsFirstWrong (declared_names ds) ds misuse.Unknown n
-IsFault ds (Kind n) = NoneTwice (declared_names ds) ds × IsFirstWrong (declared_names ds) ds misuse.Kind n
-IsFault ds (BadKernel n) = NoneTwice (declared_names ds) ds × IsFirstWrong (declared_names ds) ds misuse.BadKernel n
-IsFault ds (BadLiteral n) = NoneTwice (declared_names ds) ds × IsFirstWrong (declared_names ds) ds misuse.BadLiteral n
+IsFault ds (Unknown n) = NoneTwice (declared_names ds) ds × IsFirstWrong (declared_names ds) ds violation.Unknown n
+IsFault ds (Kind n) = NoneTwice (declared_names ds) ds × IsFirstWrong (declared_names ds) ds violation.Kind n
+IsFault ds (BadKernel n) = NoneTwice (declared_names ds) ds × IsFirstWrong (declared_names ds) ds violation.BadKernel n
+IsFault ds (BadLiteral n) = NoneTwice (declared_names ds) ds × IsFirstWrong (declared_names ds) ds violation.BadLiteral n
 IsFault ds NoResult = IsNamed ds × (list_any is_result ds ≡ false)
 IsFault ds (Cycle c) = IsNamed ds × (list_any is_result ds ≡ true) × IsShortestCycle (graph_of ds) c
 IsFault ds Memory = Unit {0}

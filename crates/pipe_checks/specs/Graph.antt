@@ -1,5 +1,5 @@
 -- Which stages read which, the ranks of stages, and cycles of reads. Stages are known by their numbers.
-use Rattle.std.specs.Prelude.{ℕ, zero, suc, ◌+◌, ◌-◌, ◌<◌, ◌≤◌, max, ◌≡◌, true, false, List, [], ◌∷◌, length, slice_index, slice_index_or, Contains}
+use Rattle.std.specs.Prelude.{ℕ, zero, suc, ◌+◌, ◌-◌, ◌<◌, ◌≤◌, ◌≡◌, true, false, List, [], length, slice_index, slice_index_or, Contains}
 use Rattle.pipe_checks.specs.Links.{Links}
 
 -- the stage of this number; a number that no stage has reads nothing

@@ -3,9 +3,8 @@ pub mod Links
 pub mod CheckedProgram
 pub mod Graph
 pub mod Names
-pub mod Sites
+pub mod Accesses
 pub mod Uses
-pub mod Wants
 pub mod Twice
 pub mod Checking
 pub mod Search

@@ -7,10 +7,10 @@ use Rattle.pipe_checks.specs.declared.fault.CheckFault.TheVariants.{Unknown, Twi
 use Rattle.pipe_checks.specs.declared.symbol.Symbol.{Symbol}
 use Rattle.pipe_checks.specs.declared.checked.Found.{Found}
 use Rattle.pipe_checks.specs.declared.fault.Violation.{Violation}
-use Rattle.pipe_checks.specs.declared.fault.Violation.TheVariants as misuse
+use Rattle.pipe_checks.specs.declared.fault.Violation.TheVariants as violation
 use Rattle.pipe_checks.specs.Links.{Links}
 use Rattle.pipe_checks.specs.Names.{params_of, stages_of}
-use Rattle.pipe_checks.specs.Sites.{graph_of}
+use Rattle.pipe_checks.specs.Accesses.{graph_of}
 use Rattle.pipe_checks.specs.Graph.{links_at, Reads, Way, IsRanking, IsShortestCycle}
 use Rattle.domains.specs.Greatest.{greatest}
 use Rattle.pipe_checks.specs.Checking.{is_result, AllGood, IsFirstWrong, IsNamed}
@@ -86,10 +86,10 @@ pub record IsWayBack (g : List Links) (start : ℕ) (far : List (Option ℕ)) (l
 -- ---- a whole program
 
 abbrev pub fault_of : Violation → ℕ → CheckFault
-fault_of misuse.Unknown n = Unknown n
-fault_of misuse.Kind n = Kind n
-fault_of misuse.BadKernel n = BadKernel n
-fault_of misuse.BadLiteral n = BadLiteral n
+fault_of violation.Unknown n = Unknown n
+fault_of violation.Kind n = Kind n
+fault_of violation.BadKernel n = BadKernel n
+fault_of violation.BadLiteral n = BadLiteral n
 
 -- all places are good, or this is the fault of the first that is not
 abbrev pub IsJudged : List Symbol → List Declaration → Result (Unit {0}) CheckFault → Type 0

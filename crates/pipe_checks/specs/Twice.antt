@@ -7,12 +7,12 @@ use Rattle.pipe_checks.specs.declared.uses.Locals.{Locals}
 use Rattle.pipe_checks.specs.Names.{number_of}
 
 -- the variables of an item
-abbrev pub own_of : Declaration → Locals
-own_of (param p) = record { row = None; column = None }
-own_of (image i) = record { row = None; column = None }
-own_of (function f) = record { row = Some f.row.name; column = Some f.column.name }
-own_of (accumulator a) = record { row = Some a.row.name; column = Some a.column.name }
-own_of (output o) = record { row = None; column = None }
+abbrev pub locals_of : Declaration → Locals
+locals_of (param p) = record { row = None; column = None }
+locals_of (image i) = record { row = None; column = None }
+locals_of (function f) = record { row = Some f.row.name; column = Some f.column.name }
+locals_of (accumulator a) = record { row = Some a.row.name; column = Some a.column.name }
+locals_of (output o) = record { row = None; column = None }
 
 abbrev pub is_declared : List Symbol → Option (List ℕ) → Bool
 is_declared names None = false
@@ -24,4 +24,4 @@ are_same x y = false
 
 -- a variable equals its fellow or a declared name
 abbrev pub varies_again : List Symbol → Locals → Bool
-varies_again names own = are_same own.row own.column || is_declared names own.row || is_declared names own.column
+varies_again names locals = are_same locals.row locals.column || is_declared names locals.row || is_declared names locals.column

@@ -16,7 +16,7 @@ use crate::fault::{CheckFault, Cycle, Violation};
 use crate::graph::{Links, graph};
 use crate::ranks::ranks;
 use crate::symbol::{Symbol, declared_names, params_of, stages_of};
-use crate::twice::{first_twice, own_of};
+use crate::twice::{first_twice, locals_of};
 use crate::uses::judge_item;
 use pipe_tree::{Item, Tree};
 use std::alloc::Global;
@@ -91,10 +91,10 @@ impl Checked {
     }
 }
 
-fn fault_at(misuse: Violation, item: usize) -> CheckFault
-    ensures { result ≡ fault_of misuse item }
+fn fault_at(violation: Violation, item: usize) -> CheckFault
+    ensures { result ≡ fault_of violation item }
 {
-    match misuse {
+    match violation {
         Violation::Unknown => CheckFault::Unknown(item),
         Violation::Kind => CheckFault::Kind(item),
         Violation::BadKernel => CheckFault::BadKernel(item),
@@ -105,15 +105,15 @@ fn fault_at(misuse: Violation, item: usize) -> CheckFault
 fn judge(names: &[Symbol], item: &Item) -> Result<(), Violation>
     ensures { result ≡ verdict_of names.now (declaration item.now) }
 {
-    judge_item(names, &own_of(item), item)
+    judge_item(names, &locals_of(item), item)
 }
 
 fn judge_all(declared: &[Symbol], items: &[Item]) -> Result<(), CheckFault>
     ensures { IsJudged declared.now (declarations items.now) result }
 {
     for (number, item) in items.iter().enumerate() {
-        if let Err(misuse) = judge(declared, item) {
-            return Err(fault_at(misuse, number));
+        if let Err(violation) = judge(declared, item) {
+            return Err(fault_at(violation, number));
         }
     }
     Ok(())

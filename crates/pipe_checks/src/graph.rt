@@ -4,9 +4,9 @@
 ghost use Rattle.std.specs.Prelude.{◌≡◌, ◌++◌, OnOk, IfOk, map, slice_get};
 ghost use Rattle.std.specs.Option.{option_map};
 ghost use Rattle.pipe_tree.specs.Tree.{view, branches, declaration, declarations};
-ghost use Rattle.pipe_checks.specs.Sites.{branch_sites, otherwise_sites, item_sites, stage_read, is_plane, links_of, links_from};
+ghost use Rattle.pipe_checks.specs.Accesses.{branch_accesses, otherwise_accesses, item_accesses, stage_read, is_plane, links_of, links_from};
 
-use crate::site::{Site, add_sites, stage_read};
+use crate::access::{Access, add_accesses};
 use crate::symbol::{NameKind, Symbol};
 use pipe_tree::{Case, Expr, Item};
 use std::alloc::{AllocError, Global};
@@ -50,35 +50,35 @@ pub(crate) fn known(list: &[Option<usize>], stage: usize) -> Option<Option<usize
     list.get(stage).copied()
 }
 
-fn add_cases(found: &mut Vec<Site>, stages: &[Symbol], cases: &[Case]) -> Result<(), AllocError>
-    ensures { OnOk result (found.new.items ≡ found.old.items ++ branch_sites stages.now (branches cases.now)) }
+fn add_cases(found: &mut Vec<Access>, stages: &[Symbol], cases: &[Case]) -> Result<(), AllocError>
+    ensures { OnOk result (found.new.items ≡ found.old.items ++ branch_accesses stages.now (branches cases.now)) }
 {
     for case in cases {
-        add_sites(found, stages, &case.value)?;
+        add_accesses(found, stages, &case.value)?;
     }
     Ok(())
 }
 
 fn add_otherwise(
-    found: &mut Vec<Site>,
+    found: &mut Vec<Access>,
     stages: &[Symbol],
     otherwise: &Option<Expr>,
 ) -> Result<(), AllocError>
-    ensures { OnOk result (found.new.items ≡ found.old.items ++ otherwise_sites stages.now (option_map view otherwise.now)) }
+    ensures { OnOk result (found.new.items ≡ found.old.items ++ otherwise_accesses stages.now (option_map view otherwise.now)) }
 {
     match otherwise {
-        Some(value) => add_sites(found, stages, value),
+        Some(value) => add_accesses(found, stages, value),
         None => Ok(()),
     }
 }
 
 /// The reads and stencils of all expressions of an item.
-pub(crate) fn item_sites(
+pub(crate) fn item_accesses(
     alloc: Global,
     stages: &[Symbol],
     item: &Item,
-) -> Result<Vec<Site>, AllocError>
-    ensures { IfOk result (λ v. v.items ≡ item_sites stages.now (declaration item.now)) }
+) -> Result<Vec<Access>, AllocError>
+    ensures { IfOk result (λ v. v.items ≡ item_accesses stages.now (declaration item.now)) }
 {
     let mut found = Vec::new(alloc);
     match item {
@@ -87,18 +87,18 @@ pub(crate) fn item_sites(
             add_otherwise(&mut found, stages, &func.otherwise)?;
         }
         Item::Accum(accum) => {
-            add_sites(&mut found, stages, &accum.value)?;
-            add_sites(&mut found, stages, &accum.bin)?;
+            add_accesses(&mut found, stages, &accum.value)?;
+            add_accesses(&mut found, stages, &accum.bin)?;
         }
         Item::Param(_) | Item::Image(_) | Item::Output(_) => {}
     }
     Ok(found)
 }
 
-fn stages_read(alloc: Global, sites: &[Site]) -> Result<Vec<usize>, AllocError>
-    ensures { IfOk result (λ v. v.items ≡ map stage_read sites.now) }
+fn stages_read(alloc: Global, accesses: &[Access]) -> Result<Vec<usize>, AllocError>
+    ensures { IfOk result (λ v. v.items ≡ map stage_read accesses.now) }
 {
-    sites.iter().map(|site| stage_read(site)).collect(alloc)
+    accesses.iter().map(|access| access.stage()).collect(alloc)
 }
 
 fn is_plane(kind: NameKind) -> bool
@@ -119,7 +119,7 @@ fn links_of(
     ensures { IfOk result (λ l. l ≡ links_of (declarations items.now) stages.now stage.now) }
 {
     let reads = match items.get(stage.item) {
-        Some(item) => stages_read(alloc, &item_sites(alloc, stages, item)?)?,
+        Some(item) => stages_read(alloc, &item_accesses(alloc, stages, item)?)?,
         None => Vec::new(alloc),
     };
     Ok(Links {

@@ -4,7 +4,7 @@
 ghost use Rattle.std.specs.Prelude.{◌≡◌, IsTrue, IfSome, IfNone};
 ghost use Rattle.pipe_tree.specs.Tree.{declaration, declarations};
 ghost use Rattle.pipe_checks.specs.Checking.{DeclaresAgain, IsFirstTwice, NoneTwice};
-ghost use Rattle.pipe_checks.specs.Twice.{own_of, is_declared, are_same, varies_again};
+ghost use Rattle.pipe_checks.specs.Twice.{locals_of, is_declared, are_same, varies_again};
 
 use crate::symbol::{Symbol, is_same, number_of};
 use crate::uses::Locals;
@@ -12,8 +12,8 @@ use pipe_tokens::Name;
 use pipe_tree::Item;
 
 /// The variables of an item, if it has them.
-pub(crate) fn own_of(item: &Item) -> Locals
-    ensures { result ≡ own_of (declaration item.now) }
+pub(crate) fn locals_of(item: &Item) -> Locals
+    ensures { result ≡ locals_of (declaration item.now) }
 {
     match item {
         Item::Func(func) => Locals {
@@ -64,12 +64,12 @@ fn are_same(row: &Option<Name>, column: &Option<Name>) -> bool
 }
 
 // Whether a variable equals its fellow or a declared name.
-fn varies_again(names: &[Symbol], own: &Locals) -> bool
-    ensures { result ≡ varies_again names.now own.now }
+fn varies_again(names: &[Symbol], locals: &Locals) -> bool
+    ensures { result ≡ varies_again names.now locals.now }
 {
-    are_same(&own.row, &own.column)
-        || is_declared(names, &own.row)
-        || is_declared(names, &own.column)
+    are_same(&locals.row, &locals.column)
+        || is_declared(names, &locals.row)
+        || is_declared(names, &locals.column)
 }
 
 /// The first item with a name that stands for two things.
@@ -78,7 +78,7 @@ pub(crate) fn first_twice(names: &[Symbol], items: &[Item]) -> Option<usize>
     ensures none { IfNone result (NoneTwice names.now (declarations items.now)) }
 {
     for (number, item) in items.iter().enumerate() {
-        if declares_again(names, number) || varies_again(names, &own_of(item)) {
+        if declares_again(names, number) || varies_again(names, &locals_of(item)) {
             return Some(number);
         }
     }

@@ -5,10 +5,10 @@ ghost use Rattle.std.specs.Prelude.{◌≡◌, ◌==◌, length};
 ghost use Rattle.std.specs.List.{list_all};
 ghost use Rattle.std.specs.Option.{option_map};
 ghost use Rattle.pipe_tree.specs.Tree.{view, branch, branches, function_of, accumulator_of, declaration};
-ghost use Rattle.pipe_checks.specs.Uses.{is_it, allows, standing_of, standing_at, range_verdict, below_verdict, add_verdict, is_side, kernel_verdict, literal_verdict, name_verdict, factor_verdict, affine_verdict, span_verdict, index_verdict, read_verdict, stencil_verdict, expr_verdict, test_verdict, tests_verdict, branch_verdict, branches_verdict, otherwise_verdict, function_verdict, accumulator_verdict, outputs_verdict, item_verdict};
+ghost use Rattle.pipe_checks.specs.Uses.{is_it, allows, role_of, role_at, range_verdict, below_verdict, add_verdict, is_side, kernel_verdict, literal_verdict, name_verdict, factor_verdict, affine_verdict, span_verdict, index_verdict, read_verdict, stencil_verdict, expr_verdict, test_verdict, tests_verdict, branch_verdict, branches_verdict, otherwise_verdict, function_verdict, accumulator_verdict, outputs_verdict, item_verdict};
 
+use crate::access::width_of;
 use crate::fault::Violation;
-use crate::site::width_of;
 use crate::symbol::{NameKind, Symbol, declared_at, is_same};
 use domains::LiteralOp;
 use pipe_tokens::Name;
@@ -34,7 +34,7 @@ pub const MAX_SIDE: usize = 15;
 /// The greatest of an output's greatest samples.
 pub const MAX_SAMPLE: u32 = 65535;
 
-/// What a name stands for in an item.
+/// What a name stands for in an item: its part there.
 #[derive(Clone, Copy, Debug, PartialEq, Eq)]
 pub(crate) enum NameRole {
     Param,
@@ -65,20 +65,17 @@ pub(crate) enum Expected {
 }
 
 impl Expected {
-    fn allows(self, standing: NameRole) -> bool
-        ensures { result ≡ allows self standing }
+    fn allows(self, role: NameRole) -> bool
+        ensures { result ≡ allows self role }
     {
         match self {
-            Expected::Param => matches!(standing, NameRole::Param),
-            Expected::Readable => matches!(standing, NameRole::Plane | NameRole::Func),
-            Expected::Func => matches!(standing, NameRole::Func),
-            Expected::Number => matches!(
-                standing,
-                NameRole::Row | NameRole::Column | NameRole::Param
-            ),
-            Expected::Row => matches!(standing, NameRole::Row),
-            Expected::Column => matches!(standing, NameRole::Column),
-            Expected::Variable => matches!(standing, NameRole::Row | NameRole::Column),
+            Expected::Param => matches!(role, NameRole::Param),
+            Expected::Readable => matches!(role, NameRole::Plane | NameRole::Func),
+            Expected::Func => matches!(role, NameRole::Func),
+            Expected::Number => matches!(role, NameRole::Row | NameRole::Column | NameRole::Param),
+            Expected::Row => matches!(role, NameRole::Row),
+            Expected::Column => matches!(role, NameRole::Column),
+            Expected::Variable => matches!(role, NameRole::Row | NameRole::Column),
         }
     }
 }
@@ -94,13 +91,13 @@ fn is_it(variable: &Option<Name>, name: &Name) -> bool
     ensures { result ≡ is_it variable.now name.now }
 {
     match variable {
-        Some(own) => is_same(own, name),
+        Some(variable) => is_same(variable, name),
         None => false,
     }
 }
 
-fn standing_of(kind: NameKind) -> NameRole
-    ensures { result ≡ standing_of kind }
+fn role_of(kind: NameKind) -> NameRole
+    ensures { result ≡ role_of kind }
 {
     match kind {
         NameKind::Param => NameRole::Param,
@@ -174,32 +171,32 @@ fn judge_literal(op: LiteralOp, number: u32) -> Result<(), Violation>
     }
 }
 
-fn standing_at(names: &[Symbol], own: &Locals, name: &Name) -> Option<NameRole>
-    ensures { result ≡ standing_at names.now own.now name.now }
+fn role_at(names: &[Symbol], locals: &Locals, name: &Name) -> Option<NameRole>
+    ensures { result ≡ role_at names.now locals.now name.now }
 {
-    if is_it(&own.row, name) {
+    if is_it(&locals.row, name) {
         return Some(NameRole::Row);
     }
-    if is_it(&own.column, name) {
+    if is_it(&locals.column, name) {
         return Some(NameRole::Column);
     }
     match declared_at(names, name) {
-        Some(declared) => Some(standing_of(declared.kind)),
+        Some(declared) => Some(role_of(declared.kind)),
         None => None,
     }
 }
 
 fn judge_name(
     names: &[Symbol],
-    own: &Locals,
+    locals: &Locals,
     name: &Name,
-    wanted: Expected,
+    expected: Expected,
 ) -> Result<(), Violation>
-    ensures { result ≡ name_verdict names.now own.now name.now wanted }
+    ensures { result ≡ name_verdict names.now locals.now name.now expected }
 {
-    match standing_at(names, own, name) {
-        Some(standing) => {
-            if wanted.allows(standing) {
+    match role_at(names, locals, name) {
+        Some(role) => {
+            if expected.allows(role) {
                 Ok(())
             } else {
                 Err(Violation::Kind)
@@ -209,204 +206,206 @@ fn judge_name(
     }
 }
 
-fn judge_factor(names: &[Symbol], own: &Locals, name: &Option<Name>) -> Result<(), Violation>
-    ensures { result ≡ factor_verdict names.now own.now name.now }
+fn judge_factor(names: &[Symbol], locals: &Locals, name: &Option<Name>) -> Result<(), Violation>
+    ensures { result ≡ factor_verdict names.now locals.now name.now }
 {
     match name {
-        Some(name) => judge_name(names, own, name, Expected::Param),
+        Some(name) => judge_name(names, locals, name, Expected::Param),
         None => Ok(()),
     }
 }
 
-fn judge_affine(names: &[Symbol], own: &Locals, affine: &Affine) -> Result<(), Violation>
-    ensures { result ≡ affine_verdict names.now own.now affine.now }
+fn judge_affine(names: &[Symbol], locals: &Locals, affine: &Affine) -> Result<(), Violation>
+    ensures { result ≡ affine_verdict names.now locals.now affine.now }
 {
     for term in affine.terms() {
-        judge_factor(names, own, &term.name)?;
+        judge_factor(names, locals, &term.name)?;
     }
     Ok(())
 }
 
-fn judge_span(names: &[Symbol], own: &Locals, span: &AffineSpan) -> Result<(), Violation>
-    ensures { result ≡ span_verdict names.now own.now span.now }
+fn judge_span(names: &[Symbol], locals: &Locals, span: &AffineSpan) -> Result<(), Violation>
+    ensures { result ≡ span_verdict names.now locals.now span.now }
 {
-    judge_affine(names, own, &span.first)?;
-    judge_affine(names, own, &span.last)
+    judge_affine(names, locals, &span.first)?;
+    judge_affine(names, locals, &span.last)
 }
 
 fn judge_index(
     names: &[Symbol],
-    own: &Locals,
+    locals: &Locals,
     index: &Index,
-    wanted: Expected,
+    expected: Expected,
 ) -> Result<(), Violation>
-    ensures { result ≡ index_verdict names.now own.now index.now wanted }
+    ensures { result ≡ index_verdict names.now locals.now index.now expected }
 {
     judge_range(index.mul, 1, MAX_SCALE)?;
-    judge_name(names, own, &index.name, wanted)?;
+    judge_name(names, locals, &index.name, expected)?;
     judge_add(index.add)?;
     judge_range(index.div, 1, MAX_SCALE)
 }
 
 fn judge_read(
     names: &[Symbol],
-    own: &Locals,
+    locals: &Locals,
     name: &Name,
     row: &Index,
     column: &Index,
 ) -> Result<(), Violation>
-    ensures { result ≡ read_verdict names.now own.now name.now row.now column.now }
+    ensures { result ≡ read_verdict names.now locals.now name.now row.now column.now }
 {
-    judge_name(names, own, name, Expected::Readable)?;
-    judge_index(names, own, row, Expected::Row)?;
-    judge_index(names, own, column, Expected::Column)
+    judge_name(names, locals, name, Expected::Readable)?;
+    judge_index(names, locals, row, Expected::Row)?;
+    judge_index(names, locals, column, Expected::Column)
 }
 
 fn judge_stencil(
     names: &[Symbol],
-    own: &Locals,
+    locals: &Locals,
     name: &Name,
     divisor: u32,
     kernel: &Kernel,
 ) -> Result<(), Violation>
-    ensures { result ≡ stencil_verdict names.now own.now name.now divisor kernel.now }
+    ensures { result ≡ stencil_verdict names.now locals.now name.now divisor kernel.now }
 {
-    judge_name(names, own, name, Expected::Readable)?;
+    judge_name(names, locals, name, Expected::Readable)?;
     judge_range(divisor, 1, MAX_NUMBER)?;
     judge_kernel(kernel)
 }
 
-fn judge_expr(names: &[Symbol], own: &Locals, expr: &Expr) -> Result<(), Violation>
-    ensures { result ≡ expr_verdict names.now own.now (view expr.now) }
+fn judge_expr(names: &[Symbol], locals: &Locals, expr: &Expr) -> Result<(), Violation>
+    ensures { result ≡ expr_verdict names.now locals.now (view expr.now) }
 {
     match expr {
         Expr::Number(number) => judge_range(*number, 0, MAX_NUMBER),
-        Expr::Name(name) => judge_name(names, own, name, Expected::Number),
-        Expr::Read(name, row, column) => judge_read(names, own, name, row, column),
-        Expr::Neg(operand) | Expr::Abs(operand) => judge_expr(names, own, operand),
+        Expr::Name(name) => judge_name(names, locals, name, Expected::Number),
+        Expr::Read(name, row, column) => judge_read(names, locals, name, row, column),
+        Expr::Neg(operand) | Expr::Abs(operand) => judge_expr(names, locals, operand),
         Expr::Binary(_, left, right) => {
-            judge_expr(names, own, left)?;
-            judge_expr(names, own, right)
+            judge_expr(names, locals, left)?;
+            judge_expr(names, locals, right)
         }
         Expr::Literal(op, operand, number) => {
-            judge_expr(names, own, operand)?;
+            judge_expr(names, locals, operand)?;
             judge_literal(*op, *number)
         }
         Expr::Clamp(value, least, greatest) => {
-            judge_expr(names, own, value)?;
-            judge_expr(names, own, least)?;
-            judge_expr(names, own, greatest)
+            judge_expr(names, locals, value)?;
+            judge_expr(names, locals, least)?;
+            judge_expr(names, locals, greatest)
         }
         Expr::Select(left, _, right, then, otherwise) => {
-            judge_expr(names, own, left)?;
-            judge_expr(names, own, right)?;
-            judge_expr(names, own, then)?;
-            judge_expr(names, own, otherwise)
+            judge_expr(names, locals, left)?;
+            judge_expr(names, locals, right)?;
+            judge_expr(names, locals, then)?;
+            judge_expr(names, locals, otherwise)
         }
-        Expr::Stencil(name, divisor, kernel) => judge_stencil(names, own, name, *divisor, kernel),
+        Expr::Stencil(name, divisor, kernel) => judge_stencil(
+            names, locals, name, *divisor, kernel,
+        ),
     }
 }
 
-fn judge_test(names: &[Symbol], own: &Locals, test: &Test) -> Result<(), Violation>
-    ensures { result ≡ test_verdict names.now own.now test.now }
+fn judge_test(names: &[Symbol], locals: &Locals, test: &Test) -> Result<(), Violation>
+    ensures { result ≡ test_verdict names.now locals.now test.now }
 {
     match test {
         Test::Compare(name, _, bound) => {
-            judge_name(names, own, name, Expected::Variable)?;
-            judge_affine(names, own, bound)
+            judge_name(names, locals, name, Expected::Variable)?;
+            judge_affine(names, locals, bound)
         }
         Test::Remainder(name, modulus, remainder) => {
-            judge_name(names, own, name, Expected::Variable)?;
+            judge_name(names, locals, name, Expected::Variable)?;
             judge_range(*modulus, 1, MAX_NUMBER)?;
             judge_below(*remainder, *modulus)
         }
     }
 }
 
-fn judge_tests(names: &[Symbol], own: &Locals, tests: &[Test]) -> Result<(), Violation>
-    ensures { result ≡ tests_verdict names.now own.now tests.now }
+fn judge_tests(names: &[Symbol], locals: &Locals, tests: &[Test]) -> Result<(), Violation>
+    ensures { result ≡ tests_verdict names.now locals.now tests.now }
 {
     for test in tests {
-        judge_test(names, own, test)?;
+        judge_test(names, locals, test)?;
     }
     Ok(())
 }
 
-fn judge_case(names: &[Symbol], own: &Locals, case: &Case) -> Result<(), Violation>
-    ensures { result ≡ branch_verdict names.now own.now (branch case.now) }
+fn judge_case(names: &[Symbol], locals: &Locals, case: &Case) -> Result<(), Violation>
+    ensures { result ≡ branch_verdict names.now locals.now (branch case.now) }
 {
-    judge_tests(names, own, case.condition.tests())?;
-    judge_expr(names, own, &case.value)
+    judge_tests(names, locals, case.condition.tests())?;
+    judge_expr(names, locals, &case.value)
 }
 
-fn judge_cases(names: &[Symbol], own: &Locals, cases: &[Case]) -> Result<(), Violation>
-    ensures { result ≡ branches_verdict names.now own.now (branches cases.now) }
+fn judge_cases(names: &[Symbol], locals: &Locals, cases: &[Case]) -> Result<(), Violation>
+    ensures { result ≡ branches_verdict names.now locals.now (branches cases.now) }
 {
     for case in cases {
-        judge_case(names, own, case)?;
+        judge_case(names, locals, case)?;
     }
     Ok(())
 }
 
 fn judge_otherwise(
     names: &[Symbol],
-    own: &Locals,
+    locals: &Locals,
     otherwise: &Option<Expr>,
 ) -> Result<(), Violation>
-    ensures { result ≡ otherwise_verdict names.now own.now (option_map view otherwise.now) }
+    ensures { result ≡ otherwise_verdict names.now locals.now (option_map view otherwise.now) }
 {
     match otherwise {
-        Some(value) => judge_expr(names, own, value),
+        Some(value) => judge_expr(names, locals, value),
         None => Ok(()),
     }
 }
 
-fn judge_func(names: &[Symbol], own: &Locals, func: &Func) -> Result<(), Violation>
-    ensures { result ≡ function_verdict names.now own.now (function_of func.now) }
+fn judge_func(names: &[Symbol], locals: &Locals, func: &Func) -> Result<(), Violation>
+    ensures { result ≡ function_verdict names.now locals.now (function_of func.now) }
 {
-    judge_span(names, own, &func.row.span)?;
-    judge_span(names, own, &func.column.span)?;
-    judge_cases(names, own, func.cases.list())?;
-    judge_otherwise(names, own, &func.otherwise)
+    judge_span(names, locals, &func.row.span)?;
+    judge_span(names, locals, &func.column.span)?;
+    judge_cases(names, locals, func.cases.list())?;
+    judge_otherwise(names, locals, &func.otherwise)
 }
 
-fn judge_accum(names: &[Symbol], own: &Locals, accum: &Accum) -> Result<(), Violation>
-    ensures { result ≡ accumulator_verdict names.now own.now (accumulator_of accum.now) }
+fn judge_accum(names: &[Symbol], locals: &Locals, accum: &Accum) -> Result<(), Violation>
+    ensures { result ≡ accumulator_verdict names.now locals.now (accumulator_of accum.now) }
 {
-    judge_span(names, own, &accum.bins)?;
-    judge_span(names, own, &accum.row.span)?;
-    judge_span(names, own, &accum.column.span)?;
-    judge_expr(names, own, &accum.value)?;
-    judge_expr(names, own, &accum.bin)
+    judge_span(names, locals, &accum.bins)?;
+    judge_span(names, locals, &accum.row.span)?;
+    judge_span(names, locals, &accum.column.span)?;
+    judge_expr(names, locals, &accum.value)?;
+    judge_expr(names, locals, &accum.bin)
 }
 
-fn judge_outputs(names: &[Symbol], own: &Locals, outputs: &Names) -> Result<(), Violation>
-    ensures { result ≡ outputs_verdict names.now own.now outputs.now }
+fn judge_outputs(names: &[Symbol], locals: &Locals, outputs: &Names) -> Result<(), Violation>
+    ensures { result ≡ outputs_verdict names.now locals.now outputs.now }
 {
     match outputs {
-        Names::One(name) => judge_name(names, own, name, Expected::Func),
+        Names::One(name) => judge_name(names, locals, name, Expected::Func),
         Names::Three(red, green, blue) => {
-            judge_name(names, own, red, Expected::Func)?;
-            judge_name(names, own, green, Expected::Func)?;
-            judge_name(names, own, blue, Expected::Func)
+            judge_name(names, locals, red, Expected::Func)?;
+            judge_name(names, locals, green, Expected::Func)?;
+            judge_name(names, locals, blue, Expected::Func)
         }
     }
 }
 
 /// The first place of the item that does not hold what it wants, as a fault.
-pub(crate) fn judge_item(names: &[Symbol], own: &Locals, item: &Item) -> Result<(), Violation>
-    ensures { result ≡ item_verdict names.now own.now (declaration item.now) }
+pub(crate) fn judge_item(names: &[Symbol], locals: &Locals, item: &Item) -> Result<(), Violation>
+    ensures { result ≡ item_verdict names.now locals.now (declaration item.now) }
 {
     match item {
         Item::Param(_) => Ok(()),
         Item::Image(image) => {
-            judge_affine(names, own, &image.rows)?;
-            judge_affine(names, own, &image.columns)
+            judge_affine(names, locals, &image.rows)?;
+            judge_affine(names, locals, &image.columns)
         }
-        Item::Func(func) => judge_func(names, own, func),
-        Item::Accum(accum) => judge_accum(names, own, accum),
+        Item::Func(func) => judge_func(names, locals, func),
+        Item::Accum(accum) => judge_accum(names, locals, accum),
         Item::Output(output) => {
-            judge_outputs(names, own, &output.names)?;
+            judge_outputs(names, locals, &output.names)?;
             judge_range(output.max, 1, MAX_SAMPLE)
         }
     }

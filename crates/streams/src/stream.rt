@@ -28,15 +28,15 @@ pub trait Sink {
     // The bytes that were written so far, where they are known.
     ghost contents: { Self → Option (List ℕ) };
 
-    // How many calls have failed or taken nothing so far, in 64 bits.
+    // How many calls have failed so far, in 64 bits. A call that takes none of some bytes has failed.
     ghost failures: { Self → ℕ };
 
     /// Takes bytes from the front of `buf`, and says how many. A call that fails takes nothing. It
-    /// adds one to the count, and so does one that answers 0.
+    /// adds one to the count, and so does one that answers 0 where `buf` is not empty.
     fn write(&mut self, buf: &[u8]) -> io::Result<usize>
         ensures bound { WritesAtMost result buf.now }
         ensures bytes { WriteAppends (contents self.old) (contents self.new) result buf.now }
-        ensures counted { CountsWrite result (failures self.old) (failures self.new) };
+        ensures counted { CountsWrite result buf.now (failures self.old) (failures self.new) };
 }
 
 /// A reader or writer of std with its count of failed calls, from 0. The count has 64 bits: behind
@@ -79,7 +79,7 @@ impl<T: Write> Sink for Metered<T> {
 
     fn write(&mut self, buf: &[u8]) -> io::Result<usize> {
         match self.inner.write(buf) {
-            Ok(0) => {
+            Ok(0) if !buf.is_empty() => {
                 self.failures = self.failures.wrapping_add(1);
                 Ok(0)
             }

@@ -1,17 +1,18 @@
 -- Where the tests of a case hold along a row of points.
 use Rattle.std.proofs.Common.{arith, ℕ, ℤ, zero, suc, map, ◌≡◌, ◌+◌, ◌-◌, ◌<◌, ◌≤◌, ◌⊎◌, inl, inr, pos, ◌+ℤ◌, ◌-ℤ◌, ◌≤ℤ◌, ◌↔◌, List, [], ◌∷◌, Bool, true, false, Option, Some, length, take, drop, subst, sym, ap, ◌∙◌, refl}
-use Rattle.std.specs.Prelude.{◌&&◌, if◌then◌else◌, slice_index_or}
+use Rattle.std.specs.Prelude.{if◌then◌else◌, slice_index_or}
 use Rattle.std.specs.Option.{option_map_or}
 use Rattle.std.proofs.lemmas.Int.{ints}
 use Rattle.std.proofs.lemmas.Bool.{cases_lt}
 use Rattle.std.proofs.lemmas.Grind.{common_steps}
 use borrow.Rule.Slice.PartMut.{put_mid}
 use Rattle.domains.specs.Span.{Ends, Holds, IsMeet}
-use Rattle.job.specs.Formula.{Formula, Test}
+use Rattle.job.specs.Formula.{Formula}
 use Rattle.job.specs.Pipeline.{JobCase}
-use Rattle.job.specs.Values.{Valuation, is_passed, all_passed, formula_value, chosen}
-use Rattle.tile_eval.specs.Rows.{at}
-use Rattle.tile_eval.specs.Cases.{function_value, IsRoomy}
+use Rattle.job.specs.Values.{Valuation, all_passed, formula_value, chosen}
+use Rattle.row_kernels.specs.Rows.{at}
+use Rattle.tile_eval.specs.Cases.{function_value}
+use Rattle.tile_eval.specs.inside.Cases.{IsRoomy}
 use Rattle.tile_eval.proofs.Gathering.{room_less}
 
 -- ---- a part of a row
@@ -46,14 +47,7 @@ pub chosen_first : (passed : Bool) (f : Formula) (o : Option Formula) (v : Formu
 chosen_first true f o v = refl
 chosen_first false f o v = refl
 
--- ---- lists of tests and cases
-
--- the tests from one on: that one, and those behind it
-pub passed_step : {X : Type 0} (f : X → Test) (xs : List X) (i : ℕ) (x : X) (r c : ℤ) → i < length xs → x ≡ slice_index_or xs i x
-    → all_passed (map f (drop i xs)) r c ≡ (is_passed (f x) r c && all_passed (map f (drop (suc i) xs)) r c)
-passed_step f [] i x r c l e = absurd (omega arith)
-passed_step f (y ∷ ys) zero x r c l e = ap (λ z. is_passed (f z) r c && all_passed (map f ys) r c) (sym e)
-passed_step f (y ∷ ys) (suc i) x r c l e = passed_step f ys i x r c (omega arith) e
+-- ---- lists of cases
 
 -- the cases from one on
 pub chosen_step : {X : Type 0} (f : X → JobCase) (xs : List X) (i : ℕ) (x : X) (env : Valuation) (otherwise : Option Formula) (r c : ℤ) → i < length xs → x ≡ slice_index_or xs i x
@@ -79,7 +73,7 @@ overlap_inside cols points m col n a b k meet is e f l = (
   (λ h. let low = h.0 in let high = h.1 in ((meet (col +ℤ pos k)).0 (omega (arith, ints), omega (arith, ints))).0),
 )
 
--- ---- a row that begins behind another
+-- ---- a row that begins further on
 
 pub cut_len : (a b : ℕ) (xs : List ℤ) → a < b → b ≤ length xs → length (take (b - a) (drop a xs)) ≡ b - a
 cut_len a b xs o le = grind (arith, common_steps)
@@ -91,11 +85,11 @@ column_is : (c col : ℤ) (a j k : ℕ) → c ≡ col +ℤ pos a → a + j ≡ k
 column_is c col a j k e f = omega (arith, ints)
 
 -- what holds at a point holds of the same point, counted from further on, and back
-pub to_behind : (P : ℤ → ℤ → Type 0) (row col r c : ℤ) (a j k : ℕ) → r ≡ row → c ≡ col +ℤ pos a → a + j ≡ k → P row (col +ℤ pos k) → P r (c +ℤ pos j)
-to_behind P row col r c a j k e f s h = subst (λ (z : ℤ). P z (c +ℤ pos j)) (sym e) (subst (λ (z : ℤ). P row z) (sym (column_is c col a j k f s)) h)
+pub to_after : (P : ℤ → ℤ → Type 0) (row col r c : ℤ) (a j k : ℕ) → r ≡ row → c ≡ col +ℤ pos a → a + j ≡ k → P row (col +ℤ pos k) → P r (c +ℤ pos j)
+to_after P row col r c a j k e f s h = subst (λ (z : ℤ). P z (c +ℤ pos j)) (sym e) (subst (λ (z : ℤ). P row z) (sym (column_is c col a j k f s)) h)
 
-pub from_behind : (P : ℤ → ℤ → Type 0) (row col r c : ℤ) (a j k : ℕ) → r ≡ row → c ≡ col +ℤ pos a → a + j ≡ k → P r (c +ℤ pos j) → P row (col +ℤ pos k)
-from_behind P row col r c a j k e f s h = subst (λ (z : ℤ). P row z) (column_is c col a j k f s) (subst (λ (z : ℤ). P z (c +ℤ pos j)) e h)
+pub from_after : (P : ℤ → ℤ → Type 0) (row col r c : ℤ) (a j k : ℕ) → r ≡ row → c ≡ col +ℤ pos a → a + j ≡ k → P r (c +ℤ pos j) → P row (col +ℤ pos k)
+from_after P row col r c a j k e f s h = subst (λ (z : ℤ). P row z) (column_is c col a j k f s) (subst (λ (z : ℤ). P z (c +ℤ pos j)) e h)
 
 pub roomy_less : (n m room : ℕ) (p : JobCase) → m ≤ n → IsRoomy n room p → IsRoomy m room p
 roomy_less n m room p le is =

@@ -1,4 +1,4 @@
--- Stages that are known lend the values of the job.
+-- Stages that are known give the values of the job.
 use Rattle.std.proofs.Common.{arith, true, false, eqb, ℕ, zero, suc, ◌+◌, ◌≡◌, ◌<◌, ◌≤◌, ◌⊎◌, inl, inr, ℤ, List, [], ◌∷◌, Option, Some, None, length, set, replicate, slice_get, subst, sym, ap, ◌∙◌, refl}
 use Rattle.std.specs.Option.{option_eq, option_map, option_map_or}
 use Rattle.std.proofs.lemmas.Bool.{cases_eq, cases_lt, eqb-true}
@@ -17,9 +17,10 @@ use Rattle.job.specs.Reads.{Read, point, window, stage_read, EachTaken, SameAt, 
 use Rattle.job.specs.WellFormed.{IsReadable, IsValued, IsBody, IsJob, picture_area}
 use Rattle.job.proofs.Unrolling.{rank_is, reads_fall}
 use Rattle.job.proofs.Solving.{body_value-agrees_there, BodyReads-both, ranked_is, value_solves}
-use Rattle.tile_eval.specs.Rows.{at}
+use Rattle.row_kernels.specs.Rows.{at}
 use Rattle.tile_eval.specs.Cases.{function_value}
-use Rattle.tile_eval.specs.Buffer.{raster, values_on, stage_values, place_of, sample_in, IsKnownAt, IsWholeOf, AreKnown, IsKept}
+use Rattle.tile_eval.specs.Buffer.{raster, values_on, stage_values, place_of, sample_in, IsKnownAt, IsWholeOf, AreKnown}
+use Rattle.tile_eval.specs.inside.Kept.{IsKept}
 use Rattle.tile_eval.specs.declared.buffers.Buffer.{Buffer}
 use Rattle.tile_eval.proofs.Rasters.{raster_len, raster_at, raster_same}
 

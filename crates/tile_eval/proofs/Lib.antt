@@ -1,14 +1,10 @@
 pub mod Sums
-pub mod Writing
 pub mod Gathering
 pub mod Covering
-pub mod Columns
 pub mod Grid
 pub mod Rasters
 pub mod Sampling
 pub mod Domains
 pub mod Rooms
 pub mod Knowing
-pub mod Places
-pub mod Leaving
-pub mod Reciprocals
+pub mod KnownSamples

@@ -12,7 +12,7 @@ use Rattle.netpbm.specs.Image.{Image, IsImage}
 use Rattle.netpbm.specs.Planes.{samples_of}
 use Rattle.job.specs.Values.{sample_at}
 use Rattle.job.specs.WellFormed.{picture_area}
-use Rattle.tile_eval.specs.Rows.{at}
+use Rattle.row_kernels.specs.Rows.{at}
 use Rattle.tile_eval.specs.Buffer.{raster}
 use Rattle.tile_eval.proofs.Rasters.{raster_of}
 

@@ -1,14 +1,13 @@
 -- Values of stages on their whole domains.
-use Rattle.std.specs.Prelude.{ℕ, ◌<◌, ◌+◌, ◌*◌, ◌≡◌, ℤ, pos, Option, Some, None, List, [], map, length, slice_get}
-use Rattle.std.specs.Int.{int_gap}
+use Rattle.std.specs.Prelude.{ℕ, ◌<◌, ◌≡◌, ℤ, pos, Option, Some, None, List, [], map, length, slice_get}
 use Rattle.std.specs.Option.{option_map_or}
-use Rattle.domains.specs.Span.{len_of}
 use Rattle.domains.specs.Area.{HoldsPoint, points_of}
 use Rattle.domains.specs.declared.area.Area.{Area}
 use Rattle.job.specs.Pipeline.{Body, plane, function, accumulator, Stage, Pipeline}
 use Rattle.job.specs.Values.{value}
 use Rattle.job.specs.WellFormed.{IsValued}
-use Rattle.tile_eval.specs.Rows.{at}
+use Rattle.row_kernels.specs.Rows.{at}
+pub use Rattle.row_kernels.specs.Places.{place_of}
 use Rattle.tile_eval.specs.declared.buffers.Buffer.{Buffer}
 
 -- the values of f at the points of an area, row by row
@@ -26,10 +25,6 @@ abbrev pub stage_values : Pipeline → ℕ → List ℤ
 stage_values job g = option_map_or (λ s. values_on job g s.domain s.body) (slice_get job.stages g) []
 
 -- ---- stages that are known
-
--- the place of a point in the values of an area
-abbrev pub place_of : Area → ℤ → ℤ → ℕ
-place_of area r c = int_gap area.rows.lo r * len_of area.cols + int_gap area.cols.lo c
 
 -- the value at a point
 abbrev pub sample_in : Option (Option Buffer) → ℤ → ℤ → ℤ
@@ -57,8 +52,3 @@ pub record AreKnown (job : Pipeline) (rank : ℕ) (buffers : List (Option Buffer
   pub right : (g : ℕ) (whole : Buffer) → slice_get buffers g ≡ Some (Some whole) → IsWholeOf job g whole
   pub lower : (g : ℕ) (s : Stage) → slice_get job.stages g ≡ Some s → IsValued s.body → s.rank < rank
       → (whole : Buffer) × (slice_get buffers g ≡ Some (Some whole))
-
--- what is kept of stage g: its values on its domain, if it has any
-pub record IsKept (job : Pipeline) (g : ℕ) (kept : Option Buffer) : Type 0 where
-  pub right : (whole : Buffer) → kept ≡ Some whole → IsWholeOf job g whole
-  pub valued : (s : Stage) → slice_get job.stages g ≡ Some s → IsValued s.body → (whole : Buffer) × (kept ≡ Some whole)

@@ -3,6 +3,4 @@ pub mod Reading
 pub mod Cases
 pub mod Buffer
 pub mod Counted
-pub mod RowMask
-pub mod Reciprocal
-pub mod Stencil
+pub mod inside

@@ -3,7 +3,7 @@ use Rattle.std.specs.Prelude.{ℕ, suc, ◌+◌, ◌-◌, ◌<◌, ◌≤◌, �
 use Rattle.domains.specs.Index.{index_at}
 use Rattle.job.specs.Formula.{Formula, number, coordinate, read, neg, binary, literal, abs, clamp, select, stencil}
 use Rattle.job.specs.Values.{factors, kernel_row, kernel_column}
-use Rattle.tile_eval.specs.Rows.{EachPlace}
+use Rattle.row_kernels.specs.Rows.{EachPlace}
 
 -- the samples under a kernel about the n points of row r from column c on are there
 abbrev pub KernelWithin : (ℤ → ℤ → Type 0) → List (List ℤ) → ℤ → ℤ → ℕ → Type 0

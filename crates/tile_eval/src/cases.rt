@@ -8,56 +8,54 @@ ghost use Rattle.job.specs.Values.{all_passed, formula_value};
 ghost use Rattle.job.specs.Reads.{EachRead};
 ghost use Rattle.job.specs.WellFormed.{IsFormula};
 ghost use Rattle.job.specs.Views.{case_view, formula_view};
-ghost use Rattle.tile_eval.specs.Rows.{EachPlace, at};
+ghost use Rattle.row_kernels.specs.Rows.{EachPlace, at};
 ghost use Rattle.tile_eval.specs.Reading.{HasRoom};
-ghost use Rattle.tile_eval.specs.Cases.{InBox, IsReady, IsRoomy, function_value};
+ghost use Rattle.tile_eval.specs.Cases.{InBox, function_value};
+ghost use Rattle.tile_eval.specs.inside.Cases.{IsReady, IsRoomy};
 
-use crate::guards::{RowMask, take_where, where_passed};
-use crate::kernels::fill;
 use crate::rows::row;
 use crate::source::RowSource;
-use crate::start::RowStart;
 use domains::Area;
 use job::{Formula, JobCase};
+use row_kernels::{RowMask, RowSpan, fill, take_where, where_passed};
 
 // From where and up to where a row of points lies in an area.
-fn overlap(area: &Area, start: &RowStart, n: usize) -> Option<(usize, usize)>
-    requires some { 0 < n }
-    requires most { (start.now.col +ℤ pos n) ≤ℤ pos 16385 }
-    ensures some { IfSome result (λ p. (p.0 < p.1) × (p.1 ≤ n)) }
-    ensures inside { IfSome result (λ p. (k : ℕ) → k < n → HoldsPoint area.now start.now.row (start.now.col +ℤ pos k) ↔ ((p.0 ≤ k) × (k < p.1))) }
-    ensures none { IfNone result ((k : ℕ) → k < n → ¬ (HoldsPoint area.now start.now.row (start.now.col +ℤ pos k))) }
+fn overlap(area: &Area, points: &RowSpan) -> Option<(usize, usize)>
+    requires { 0 < points.now.len }
+    ensures some { IfSome result (λ p. (p.0 < p.1) × (p.1 ≤ points.now.len)) }
+    ensures inside { IfSome result (λ p. (k : ℕ) → k < points.now.len → HoldsPoint area.now points.now.row (points.now.col +ℤ pos k) ↔ ((p.0 ≤ k) × (k < p.1))) }
+    ensures none { IfNone result ((k : ℕ) → k < points.now.len → ¬ (HoldsPoint area.now points.now.row (points.now.col +ℤ pos k))) }
 {
-    if !area.rows.holds(start.row) {
+    if !area.rows.holds(points.row) {
         return None;
     }
-    let points = start.span(n)?;
-    let common = area.cols.meet(&points)?;
-    Some((start.gap(common.lo()), start.gap(common.hi()) + 1))
+    let columns = points.columns()?;
+    let common = area.cols.meet(&columns)?;
+    Some((points.gap(common.lo()), points.gap(common.hi()) + 1))
 }
 
 // A case over a row that lies in its box.
 fn part_row<S: RowSource>(
     source: &S,
     case: &JobCase,
-    start: &RowStart,
+    points: &RowSpan,
     out: &mut [i32],
     temps: &mut [i32],
 )
     requires some { 0 < length out.old }
-    requires most { (start.now.col +ℤ pos (length out.old)) ≤ℤ pos 16385 }
-    requires inside { EachPlace (length out.old) (λ k. InBox (case_view case.now).box start.now.row (start.now.col +ℤ pos k)) }
-    requires ready { EachPlace (length out.old) (λ k. IsReady (S.has source.now) (case_view case.now) start.now.row (start.now.col +ℤ pos k)) }
+    requires fits { length out.old ≡ points.now.len }
+    requires inside { EachPlace (length out.old) (λ k. InBox (case_view case.now).box points.now.row (points.now.col +ℤ pos k)) }
+    requires ready { EachPlace (length out.old) (λ k. IsReady (S.has source.now) (case_view case.now) points.now.row (points.now.col +ℤ pos k)) }
     requires roomy { IsRoomy (length out.old) (length temps.old) (case_view case.now) }
-    ensures { EachPlace (length out.old) (λ k. at out.new k ≡ (if all_passed (case_view case.now).tests start.now.row (start.now.col +ℤ pos k) then formula_value (S.samples source.now) (case_view case.now).formula start.now.row (start.now.col +ℤ pos k) else at out.old k)) }
+    ensures { EachPlace (length out.old) (λ k. at out.new k ≡ (if all_passed (case_view case.now).tests points.now.row (points.now.col +ℤ pos k) then formula_value (S.samples source.now) (case_view case.now).formula points.now.row (points.now.col +ℤ pos k) else at out.old k)) }
 {
-    match where_passed(case.tests(), start) {
+    match where_passed(case.tests(), points) {
         RowMask::Nowhere => {}
-        RowMask::Everywhere => row(source, case.formula(), start, out, temps),
+        RowMask::Everywhere => row(source, case.formula(), points, out, temps),
         passed => {
             let (mine, rest) = temps.split_at_mut(out.len());
-            row(source, case.formula(), start, mine, rest);
-            take_where(out, mine, case.tests(), passed, start);
+            row(source, case.formula(), points, mine, rest);
+            take_where(out, mine, case.tests(), passed, points);
         }
     }
 }
@@ -66,20 +64,26 @@ fn part_row<S: RowSource>(
 pub fn case_row<S: RowSource>(
     source: &S,
     case: &JobCase,
-    start: &RowStart,
+    points: &RowSpan,
     out: &mut [i32],
     temps: &mut [i32],
 )
-    requires most { (start.now.col +ℤ pos (length out.old)) ≤ℤ pos 16385 }
+    requires fits { length out.old ≡ points.now.len }
     requires some { 0 < length out.old }
-    requires case { EachPlace (length out.old) (λ k. IsReady (S.has source.now) (case_view case.now) start.now.row (start.now.col +ℤ pos k)) × IsRoomy (length out.old) (length temps.old) (case_view case.now) }
-    ensures { EachPlace (length out.old) (λ k. at out.new k ≡ (if all_passed (case_view case.now).tests start.now.row (start.now.col +ℤ pos k) then formula_value (S.samples source.now) (case_view case.now).formula start.now.row (start.now.col +ℤ pos k) else at out.old k)) }
+    requires case { EachPlace (length out.old) (λ k. IsReady (S.has source.now) (case_view case.now) points.now.row (points.now.col +ℤ pos k)) × IsRoomy (length out.old) (length temps.old) (case_view case.now) }
+    ensures { EachPlace (length out.old) (λ k. at out.new k ≡ (if all_passed (case_view case.now).tests points.now.row (points.now.col +ℤ pos k) then formula_value (S.samples source.now) (case_view case.now).formula points.now.row (points.now.col +ℤ pos k) else at out.old k)) }
 {
     let Some(area) = case.area() else {
         return;
     };
-    if let Some((from, to)) = overlap(area, start, out.len()) {
-        part_row(source, case, &start.behind(from), &mut out[from..to], temps);
+    if let Some((from, to)) = overlap(area, points) {
+        part_row(
+            source,
+            case,
+            &points.part(from, to),
+            &mut out[from..to],
+            temps,
+        );
     }
 }
 
@@ -87,17 +91,17 @@ pub fn case_row<S: RowSource>(
 fn other_row<S: RowSource>(
     source: &S,
     otherwise: &Option<Formula>,
-    start: &RowStart,
+    points: &RowSpan,
     out: &mut [i32],
     temps: &mut [i32],
 )
     requires some { 0 < length out.old }
-    requires most { (start.now.col +ℤ pos (length out.old)) ≤ℤ pos 16385 }
-    requires other { ForSome (option_map formula_view otherwise.now) (λ f. EachPlace (length out.old) (λ k. EachRead (S.has source.now) f start.now.row (start.now.col +ℤ pos k)) × IsFormula f × HasRoom f (length out.old) (length temps.old)) }
-    ensures { EachPlace (length out.old) (λ k. at out.new k ≡ option_map_or (λ f. formula_value (S.samples source.now) f start.now.row (start.now.col +ℤ pos k)) (option_map formula_view otherwise.now) (pos 0)) }
+    requires fits { length out.old ≡ points.now.len }
+    requires other { ForSome (option_map formula_view otherwise.now) (λ f. EachPlace (length out.old) (λ k. EachRead (S.has source.now) f points.now.row (points.now.col +ℤ pos k)) × IsFormula f × HasRoom f (length out.old) (length temps.old)) }
+    ensures { EachPlace (length out.old) (λ k. at out.new k ≡ option_map_or (λ f. formula_value (S.samples source.now) f points.now.row (points.now.col +ℤ pos k)) (option_map formula_view otherwise.now) (pos 0)) }
 {
     match otherwise {
-        Some(formula) => row(source, formula, start, out, temps),
+        Some(formula) => row(source, formula, points, out, temps),
         None => fill(out, 0),
     }
 }
@@ -107,18 +111,18 @@ pub fn cases_row<S: RowSource>(
     source: &S,
     cases: &[JobCase],
     otherwise: &Option<Formula>,
-    start: &RowStart,
+    points: &RowSpan,
     out: &mut [i32],
     temps: &mut [i32],
 )
     requires some { 0 < length out.old }
-    requires most { (start.now.col +ℤ pos (length out.old)) ≤ℤ pos 16385 }
-    requires cases { All (λ p. EachPlace (length out.old) (λ k. IsReady (S.has source.now) (case_view p) start.now.row (start.now.col +ℤ pos k)) × IsRoomy (length out.old) (length temps.old) (case_view p)) cases.now }
-    requires other { ForSome (option_map formula_view otherwise.now) (λ f. EachPlace (length out.old) (λ k. EachRead (S.has source.now) f start.now.row (start.now.col +ℤ pos k)) × IsFormula f × HasRoom f (length out.old) (length temps.old)) }
-    ensures { EachPlace (length out.old) (λ k. at out.new k ≡ function_value (S.samples source.now) (map case_view cases.now) (option_map formula_view otherwise.now) start.now.row (start.now.col +ℤ pos k)) }
+    requires fits { length out.old ≡ points.now.len }
+    requires cases { All (λ p. EachPlace (length out.old) (λ k. IsReady (S.has source.now) (case_view p) points.now.row (points.now.col +ℤ pos k)) × IsRoomy (length out.old) (length temps.old) (case_view p)) cases.now }
+    requires other { ForSome (option_map formula_view otherwise.now) (λ f. EachPlace (length out.old) (λ k. EachRead (S.has source.now) f points.now.row (points.now.col +ℤ pos k)) × IsFormula f × HasRoom f (length out.old) (length temps.old)) }
+    ensures { EachPlace (length out.old) (λ k. at out.new k ≡ function_value (S.samples source.now) (map case_view cases.now) (option_map formula_view otherwise.now) points.now.row (points.now.col +ℤ pos k)) }
 {
-    other_row(source, otherwise, start, out, temps);
+    other_row(source, otherwise, points, out, temps);
     for i in (0..cases.len()).rev() {
-        case_row(source, &cases[i], start, out, temps);
+        case_row(source, &cases[i], points, out, temps);
     }
 }

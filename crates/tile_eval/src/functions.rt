@@ -10,29 +10,17 @@ ghost use Rattle.job.specs.Pipeline.{function as by_cases};
 ghost use Rattle.job.specs.Reads.{BodyReads, formulas_of};
 ghost use Rattle.job.specs.Views.{case_view, formula_view};
 ghost use Rattle.job.specs.WellFormed.{IsFormula, InDomainRange, IsTest};
-ghost use Rattle.tile_eval.specs.Cases.{AreBoxedAround, HasFunctionRoom, function_value};
+ghost use Rattle.tile_eval.specs.Cases.{AreBoxedAround, function_value};
+ghost use Rattle.tile_eval.specs.inside.Cases.{HasFunctionRoom};
 ghost use Rattle.tile_eval.specs.Buffer.{raster};
 
 use crate::areas::function_area;
 use crate::room::function_room;
 use crate::source::RowSource;
-use crate::start::RowStart;
 use domains::Area;
 use job::Function;
+use row_kernels::RowSpan;
 use std::alloc::{AllocError, Global};
-
-// The first point of an area.
-fn corner(area: &Area) -> RowStart
-    requires rows { InDomainRange area.now.rows }
-    requires cols { InDomainRange area.now.cols }
-    ensures row { result.row ≡ area.now.rows.lo }
-    ensures col { result.col ≡ area.now.cols.lo }
-{
-    RowStart {
-        row: area.rows.lo(),
-        col: area.cols.lo(),
-    }
-}
 
 // Writes the values of a function on an area, row by row.
 fn fill_area<S: RowSource>(
@@ -52,10 +40,9 @@ fn fill_area<S: RowSource>(
     requires room { HasFunctionRoom (len_of area.now.cols) (length temps.old) (map case_view function.now.cases.items) (option_map formula_view function.now.otherwise) }
     ensures { out.new ≡ raster area.now (function_value (S.samples source.now) (map case_view function.now.cases.items) (option_map formula_view function.now.otherwise)) }
 {
-    let start = corner(area);
+    let first = RowSpan::top(area);
     let rows = area.rows.len() as usize;
-    let cols = area.cols.len() as usize;
-    function_area(source, function, &start, rows, cols, out, temps);
+    function_area(source, function, &first, rows, out, temps);
 }
 
 /// The values of a function on an area of its domain, row by row, in a vector whose memory is used again, as that of the
@@ -83,27 +70,6 @@ pub fn area_into<S: RowSource>(
     Ok(())
 }
 
-/// The values of a function on an area of its domain, row by row.
-pub fn area_values<S: RowSource>(
-    alloc: Global,
-    source: &S,
-    function: &Function,
-    area: &Area,
-) -> Result<Vec<i32>, AllocError>
-    requires rows { InDomainRange area.now.rows }
-    requires cols { InDomainRange area.now.cols }
-    requires tests { All (λ p. All IsTest p.tests) (map case_view function.now.cases.items) }
-    requires formulas { All IsFormula (formulas_of (by_cases (map case_view function.now.cases.items) (option_map formula_view function.now.otherwise))) }
-    requires boxes { AreBoxedAround area.now (by_cases (map case_view function.now.cases.items) (option_map formula_view function.now.otherwise)) }
-    requires reads { (r c : ℤ) → HoldsPoint area.now r c → BodyReads (S.has source.now) (by_cases (map case_view function.now.cases.items) (option_map formula_view function.now.otherwise)) r c }
-    ensures { IfOk result (λ values. values.items ≡ raster area.now (function_value (S.samples source.now) (map case_view function.now.cases.items) (option_map formula_view function.now.otherwise))) }
-{
-    let mut values = Vec::new(alloc);
-    let mut temps = Vec::new(alloc);
-    area_into(source, function, area, &mut values, &mut temps)?;
-    Ok(values)
-}
-
 /// The values of a function on its domain, row by row.
 pub fn function_values<S: RowSource>(
     alloc: Global,
@@ -119,5 +85,8 @@ pub fn function_values<S: RowSource>(
     requires reads { (r c : ℤ) → HoldsPoint domain.now r c → BodyReads (S.has source.now) (by_cases (map case_view function.now.cases.items) (option_map formula_view function.now.otherwise)) r c }
     ensures { IfOk result (λ values. values.items ≡ raster domain.now (function_value (S.samples source.now) (map case_view function.now.cases.items) (option_map formula_view function.now.otherwise))) }
 {
-    area_values(alloc, source, function, domain)
+    let mut values = Vec::new(alloc);
+    let mut temps = Vec::new(alloc);
+    area_into(source, function, domain, &mut values, &mut temps)?;
+    Ok(values)
 }

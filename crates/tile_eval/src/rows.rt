@@ -2,67 +2,29 @@
 //! Formulas along rows of points.
 
 ghost use Rattle.std.specs.Prelude.{◌≡◌, ◌≤◌, ◌-◌, ◌+ℤ◌, ◌≤ℤ◌, ℤ, pos, length, IfSome};
-ghost use Rattle.job.specs.Values.{Valuation, binary_value, literal_value, formula_value};
-ghost use Rattle.job.specs.WellFormed.{IsLiteral, IsFormula};
+ghost use Rattle.job.specs.Values.{Valuation, binary_value, formula_value};
+ghost use Rattle.job.specs.WellFormed.{IsFormula};
 ghost use Rattle.job.specs.Views.{formula_view};
-ghost use Rattle.tile_eval.specs.Rows.{EachPlace, at};
+ghost use Rattle.row_kernels.specs.Rows.{EachPlace, at};
 ghost use Rattle.tile_eval.specs.Reading.{ReadsWithin, HasRoom};
 
 use crate::reads::{given_row, read_row};
 use crate::source::RowSource;
-use crate::start::RowStart;
 use crate::stencil::stencil_row;
-use crate::{constants, kernels};
-use domains::{BinaryOp, LiteralOp};
+use domains::BinaryOp;
 use job::{Axis, Formula};
-
-/// Joins a row with the row of the right operands.
-pub fn combine(op: BinaryOp, out: &mut [i32], right: &[i32])
-    requires { length right.now ≡ length out.old }
-    ensures { EachPlace (length out.old) (λ k. at out.new k ≡ binary_value op (at out.old k) (at right.now k)) }
-{
-    match op {
-        BinaryOp::Add => kernels::add(out, right),
-        BinaryOp::Sub => kernels::subtract(out, right),
-        BinaryOp::Mul => kernels::multiply(out, right),
-        BinaryOp::Min => kernels::least(out, right),
-        BinaryOp::Max => kernels::greatest(out, right),
-    }
-}
-
-/// Joins a row with one number, the right operand of each.
-pub fn combine_number(op: BinaryOp, out: &mut [i32], number: i32)
-    ensures { EachPlace (length out.old) (λ k. at out.new k ≡ binary_value op (at out.old k) number) }
-{
-    match op {
-        BinaryOp::Add => constants::add_number(out, number),
-        BinaryOp::Sub => constants::subtract_number(out, number),
-        BinaryOp::Mul => constants::multiply_number(out, number),
-        BinaryOp::Min => constants::cut_above(out, number),
-        BinaryOp::Max => constants::cut_below(out, number),
-    }
-}
-
-/// Joins a row with a number of the text.
-pub fn combine_literal(op: LiteralOp, out: &mut [i32], number: u32)
-    requires { IsLiteral op number }
-    ensures { EachPlace (length out.old) (λ k. at out.new k ≡ literal_value op (at out.old k) number) }
-{
-    match op {
-        LiteralOp::Div => kernels::divide_by(out, number),
-        LiteralOp::Rem => kernels::leave_remainder(out, number as i32),
-        LiteralOp::Shl => kernels::shift_left(out, number),
-        LiteralOp::Shr => kernels::shift_right(out, number),
-    }
-}
+use row_kernels::{
+    RowSpan, combine, combine_literal, combine_number, count_up, cut, cut_between, fill,
+    keep_related, make_absolute, negate,
+};
 
 // The number that a formula is all along a row of points, if it is one.
-fn number_along(formula: &Formula, start: &RowStart) -> Option<i32>
-    ensures { IfSome result (λ number. (env : Valuation) (c : ℤ) → formula_value env (formula_view formula.now) start.now.row c ≡ number) }
+fn number_along(formula: &Formula, points: &RowSpan) -> Option<i32>
+    ensures { IfSome result (λ number. (env : Valuation) (c : ℤ) → formula_value env (formula_view formula.now) points.now.row c ≡ number) }
 {
     match formula {
         Formula::Number(number) => Some(*number),
-        Formula::Coordinate(Axis::Row) => Some(start.row),
+        Formula::Coordinate(Axis::Row) => Some(points.row),
         _ => None,
     }
 }
@@ -72,21 +34,21 @@ fn number_along(formula: &Formula, start: &RowStart) -> Option<i32>
 fn operand<'a, S: RowSource>(
     source: &'a S,
     formula: &Formula,
-    start: &RowStart,
+    points: &RowSpan,
     own: &'a mut [i32],
     temps: &mut [i32],
 ) -> &'a [i32]
-    requires most { (start.now.col +ℤ pos (length own.old)) ≤ℤ pos 16385 }
+    requires fits { length own.old ≡ points.now.len }
     requires formula { IsFormula (formula_view formula.now) }
-    requires reads { ReadsWithin (S.has source.now) (formula_view formula.now) start.now.row start.now.col (length own.old) }
+    requires reads { ReadsWithin (S.has source.now) (formula_view formula.now) points.now.row points.now.col (length own.old) }
     requires room { HasRoom (formula_view formula.now) (length own.old) (length temps.old) }
     ensures count { length result.now ≡ length own.old }
-    ensures values { EachPlace (length own.old) (λ k. at result.now k ≡ formula_value (S.samples source.now) (formula_view formula.now) start.now.row (start.now.col +ℤ pos k)) }
+    ensures values { EachPlace (length own.old) (λ k. at result.now k ≡ formula_value (S.samples source.now) (formula_view formula.now) points.now.row (points.now.col +ℤ pos k)) }
 {
-    if let Some(line) = given_row(source, formula, start, own.len()) {
+    if let Some(line) = given_row(source, formula, points) {
         return line;
     }
-    row(source, formula, start, own, temps);
+    row(source, formula, points, own, temps);
     own
 }
 
@@ -96,22 +58,22 @@ fn join_right<S: RowSource>(
     source: &S,
     op: BinaryOp,
     right: &Formula,
-    start: &RowStart,
+    points: &RowSpan,
     out: &mut [i32],
     temps: &mut [i32],
 )
-    requires most { (start.now.col +ℤ pos (length out.old)) ≤ℤ pos 16385 }
+    requires fits { length out.old ≡ points.now.len }
     requires formula { IsFormula (formula_view right.now) }
-    requires reads { ReadsWithin (S.has source.now) (formula_view right.now) start.now.row start.now.col (length out.old) }
+    requires reads { ReadsWithin (S.has source.now) (formula_view right.now) points.now.row points.now.col (length out.old) }
     requires own { length out.old ≤ length temps.old }
     requires room { HasRoom (formula_view right.now) (length out.old) (length temps.old - length out.old) }
-    ensures { EachPlace (length out.old) (λ k. at out.new k ≡ binary_value op (at out.old k) (formula_value (S.samples source.now) (formula_view right.now) start.now.row (start.now.col +ℤ pos k))) }
+    ensures { EachPlace (length out.old) (λ k. at out.new k ≡ binary_value op (at out.old k) (formula_value (S.samples source.now) (formula_view right.now) points.now.row (points.now.col +ℤ pos k))) }
 {
-    if let Some(number) = number_along(right, start) {
+    if let Some(number) = number_along(right, points) {
         combine_number(op, out, number);
     } else {
         let (own, rest) = temps.split_at_mut(out.len());
-        combine(op, out, operand(source, right, start, own, rest));
+        combine(op, out, operand(source, right, points, own, rest));
     }
 }
 
@@ -120,63 +82,66 @@ fn join_right<S: RowSource>(
 pub fn row<S: RowSource>(
     source: &S,
     formula: &Formula,
-    start: &RowStart,
+    points: &RowSpan,
     out: &mut [i32],
     temps: &mut [i32],
 )
-    requires most { (start.now.col +ℤ pos (length out.old)) ≤ℤ pos 16385 }
+    requires fits { length out.old ≡ points.now.len }
     requires formula { IsFormula (formula_view formula.now) }
-    requires reads { ReadsWithin (S.has source.now) (formula_view formula.now) start.now.row start.now.col (length out.old) }
+    requires reads { ReadsWithin (S.has source.now) (formula_view formula.now) points.now.row points.now.col (length out.old) }
     requires room { HasRoom (formula_view formula.now) (length out.old) (length temps.old) }
-    ensures { EachPlace (length out.old) (λ k. at out.new k ≡ formula_value (S.samples source.now) (formula_view formula.now) start.now.row (start.now.col +ℤ pos k)) }
+    ensures { EachPlace (length out.old) (λ k. at out.new k ≡ formula_value (S.samples source.now) (formula_view formula.now) points.now.row (points.now.col +ℤ pos k)) }
 {
     match formula {
-        Formula::Number(number) => kernels::fill(out, *number),
-        Formula::Coordinate(Axis::Row) => kernels::fill(out, start.row),
-        Formula::Coordinate(Axis::Column) => kernels::count_up(out, start.col),
-        Formula::Read(stage, i, j) => read_row(source, *stage, i, j, start, out),
+        Formula::Number(number) => fill(out, *number),
+        Formula::Coordinate(Axis::Row) => fill(out, points.row),
+        Formula::Coordinate(Axis::Column) => count_up(out, points.col),
+        Formula::Read(stage, i, j) => read_row(source, *stage, i, j, points, out),
         Formula::Neg(a) => {
-            row(source, a, start, out, temps);
-            kernels::negate(out);
+            row(source, a, points, out, temps);
+            negate(out);
         }
         Formula::Binary(op, a, b) => {
-            row(source, a, start, out, temps);
-            join_right(source, *op, b, start, out, temps);
+            row(source, a, points, out, temps);
+            join_right(source, *op, b, points, out, temps);
         }
         Formula::Literal(op, a, number) => {
-            row(source, a, start, out, temps);
+            row(source, a, points, out, temps);
             combine_literal(*op, out, *number);
         }
         Formula::Abs(a) => {
-            row(source, a, start, out, temps);
-            kernels::make_absolute(out);
+            row(source, a, points, out, temps);
+            make_absolute(out);
         }
         Formula::Clamp(a, low, high) => {
-            row(source, a, start, out, temps);
-            if let (Some(low), Some(high)) = (number_along(low, start), number_along(high, start)) {
-                constants::cut_between(out, low, high);
+            row(source, a, points, out, temps);
+            if let (Some(low), Some(high)) = (
+                number_along(low, points),
+                number_along(high, points),
+            ) {
+                cut_between(out, low, high);
             } else {
                 let n = out.len();
                 let (least, rest) = temps.split_at_mut(n);
                 let (greatest, rest) = rest.split_at_mut(n);
-                let least = operand(source, low, start, least, rest);
-                let greatest = operand(source, high, start, greatest, rest);
-                kernels::cut(out, least, greatest);
+                let least = operand(source, low, points, least, rest);
+                let greatest = operand(source, high, points, greatest, rest);
+                cut(out, least, greatest);
             }
         }
         Formula::Select(a, relation, b, first, second) => {
-            row(source, first, start, out, temps);
+            row(source, first, points, out, temps);
             let n = out.len();
             let (left, rest) = temps.split_at_mut(n);
             let (right, rest) = rest.split_at_mut(n);
             let (other, rest) = rest.split_at_mut(n);
-            let left = operand(source, a, start, left, rest);
-            let right = operand(source, b, start, right, rest);
-            let other = operand(source, second, start, other, rest);
-            kernels::keep_related(out, left, *relation, right, other);
+            let left = operand(source, a, points, left, rest);
+            let right = operand(source, b, points, right, rest);
+            let other = operand(source, second, points, other, rest);
+            keep_related(out, left, *relation, right, other);
         }
         Formula::Stencil(stage, divisor, kernel) => {
-            stencil_row(source, *stage, *divisor, kernel, start, out, temps)
+            stencil_row(source, *stage, *divisor, kernel, points, out, temps)
         }
     }
 }

@@ -3,10 +3,10 @@
 
 ghost use Rattle.std.specs.Prelude.{◌≡◌, ◌≤◌, ℕ, ℤ, ◌+ℤ◌, ◌≤ℤ◌, pos, length, IfSome};
 ghost use Rattle.domains.specs.Index.{index_at};
-ghost use Rattle.tile_eval.specs.Rows.{EachPlace, at};
+ghost use Rattle.row_kernels.specs.Rows.{EachPlace, at};
 
-use crate::start::RowStart;
 use domains::Index;
+use row_kernels::RowSpan;
 
 /// Gives the samples of stages.
 pub trait RowSource {
@@ -17,24 +17,22 @@ pub trait RowSource {
 
     /// Writes the samples of a stage along a row, from a column on.
     fn read_row(&self, stage: usize, row: i32, first: i32, out: &mut [i32])
-        requires short { length out.old ≤ 100000 }
-        requires there { EachPlace (length out.old) (λ k. has self.now stage row (first +ℤ pos k)) }
+        requires { EachPlace (length out.old) (λ k. has self.now stage row (first +ℤ pos k)) }
         ensures { EachPlace (length out.old) (λ k. at out.new k ≡ samples self.now stage row (first +ℤ pos k)) };
 
     /// The samples of a stage along a row, from a column on, where they lie side by side in memory.
     fn borrow_row(&self, stage: usize, row: i32, first: i32, count: usize) -> Option<&[i32]>
-        requires short { count ≤ 100000 }
-        requires there { EachPlace count (λ k. has self.now stage row (first +ℤ pos k)) }
+        requires { EachPlace count (λ k. has self.now stage row (first +ℤ pos k)) }
         ensures { IfSome result (λ line. (length line.now ≡ count) × EachPlace count (λ k. at line.now k ≡ samples self.now stage row (first +ℤ pos k))) };
 
-    /// Writes the samples of a stage along a row, at the columns that an index takes at columns from a start on.
-    fn gather(&self, stage: usize, row: i32, col: &Index, start: &RowStart, out: &mut [i32])
-        requires most { (start.now.col +ℤ pos (length out.old)) ≤ℤ pos 16385 }
-        requires there { EachPlace (length out.old) (λ k. has self.now stage row (index_at col.now (start.now.col +ℤ pos k))) }
-        ensures { EachPlace (length out.old) (λ k. at out.new k ≡ samples self.now stage row (index_at col.now (start.now.col +ℤ pos k))) }
+    /// Writes the samples of a stage along a row, at the columns that an index takes at the columns of some points.
+    fn gather(&self, stage: usize, row: i32, col: &Index, points: &RowSpan, out: &mut [i32])
+        requires fits { length out.old ≡ points.now.len }
+        requires there { EachPlace (length out.old) (λ k. has self.now stage row (index_at col.now (points.now.col +ℤ pos k))) }
+        ensures { EachPlace (length out.old) (λ k. at out.new k ≡ samples self.now stage row (index_at col.now (points.now.col +ℤ pos k))) }
     {
         for k in 0..out.len() {
-            out[k] = self.sample(stage, row, col.at(start.column(k)));
+            out[k] = self.sample(stage, row, col.at(points.column(k)));
         }
     }
 

@@ -4,8 +4,8 @@
 ghost use Rattle.std.specs.Prelude.{◌≡◌, ◌≤◌, ◌+◌, map, replicate, All, None, IfOk};
 ghost use Rattle.job.specs.Kept.{pipeline_in};
 ghost use Rattle.job.specs.Pipeline.{rank_of};
-ghost use Rattle.job.specs.WellFormed.{IsJob};
-ghost use Rattle.tile_eval.specs.Buffer.{stage_values, AreKnown, IsKept};
+ghost use Rattle.tile_eval.specs.Buffer.{stage_values, AreKnown};
+ghost use Rattle.tile_eval.specs.inside.Kept.{IsKept};
 
 use crate::buffers::{Buffer, StageBuffers};
 use crate::functions::function_values;
@@ -27,7 +27,6 @@ impl StageBuffers {
 
     /// The planes and functions of the ranks below this one.
     pub fn below(alloc: Global, job: &Job, rank: usize) -> Result<StageBuffers, AllocError>
-        requires { IsJob (pipeline_in job.now) }
         ensures { IfOk result (λ known. AreKnown (pipeline_in job.now) rank known.buffers.items) }
     {
         let mut known = StageBuffers::none(alloc, job.stages().len())?;
@@ -39,7 +38,6 @@ impl StageBuffers {
 
     // Those of this rank besides, where those of lower ranks are known.
     fn add_rank(&mut self, alloc: Global, job: &Job, rank: usize) -> Result<(), AllocError>
-        requires job { IsJob (pipeline_in job.now) }
         requires lower { AreKnown (pipeline_in job.now) rank self.old.buffers.items }
         ensures { IfOk result (λ done. AreKnown (pipeline_in job.now) (rank + 1) self.new.buffers.items) }
     {
@@ -53,7 +51,6 @@ impl StageBuffers {
 
     // What is kept of the stage of this number: its values on its domain, if it has any.
     fn kept(&self, alloc: Global, job: &Job, number: usize) -> Result<Option<Buffer>, AllocError>
-        requires job { IsJob (pipeline_in job.now) }
         requires lower { AreKnown (pipeline_in job.now) (rank_of (pipeline_in job.now).stages number) self.now.buffers.items }
         ensures { IfOk result (λ kept. IsKept (pipeline_in job.now) number kept) }
     {
@@ -68,7 +65,6 @@ impl StageBuffers {
 
     // The values of the stage of this number, from those that it reads.
     fn computed(&self, alloc: Global, job: &Job, number: usize) -> Result<Vec<i32>, AllocError>
-        requires job { IsJob (pipeline_in job.now) }
         requires lower { AreKnown (pipeline_in job.now) (rank_of (pipeline_in job.now).stages number) self.now.buffers.items }
         ensures { IfOk result (λ values. values.items ≡ stage_values (pipeline_in job.now) number) }
     {
@@ -84,7 +80,6 @@ impl StageBuffers {
 
     // The same, copied where they are known.
     fn values_of(&self, alloc: Global, job: &Job, number: usize) -> Result<Vec<i32>, AllocError>
-        requires job { IsJob (pipeline_in job.now) }
         requires lower { AreKnown (pipeline_in job.now) (rank_of (pipeline_in job.now).stages number) self.now.buffers.items }
         ensures { IfOk result (λ values. values.items ≡ stage_values (pipeline_in job.now) number) }
     {
@@ -110,7 +105,6 @@ fn greatest_rank(job: &Job, stages: &[usize]) -> usize
 /// whole before.
 /// There are none where no stage has this number, or an accumulator does.
 pub fn plain(alloc: Global, job: &Job, stage: usize) -> Result<Vec<i32>, AllocError>
-    requires { IsJob (pipeline_in job.now) }
     ensures { IfOk result (λ values. values.items ≡ stage_values (pipeline_in job.now) stage) }
 {
     let rank = job.rank(stage).unwrap_or(0);
@@ -119,7 +113,6 @@ pub fn plain(alloc: Global, job: &Job, stage: usize) -> Result<Vec<i32>, AllocEr
 
 /// The values of several stages; what they read is computed once.
 pub fn plain_all(alloc: Global, job: &Job, stages: &[usize]) -> Result<Vec<Vec<i32>>, AllocError>
-    requires { IsJob (pipeline_in job.now) }
     ensures { IfOk result (λ all. map (λ values. values.items) all.items ≡ map (stage_values (pipeline_in job.now)) stages.now) }
 {
     let known = StageBuffers::below(alloc, job, greatest_rank(job, stages))?;

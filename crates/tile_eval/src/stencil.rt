@@ -1,52 +1,17 @@
 #![tactic(auto)]
 //! Stencils along rows of points.
 
-ghost use Rattle.std.specs.Prelude.{◌≡◌, ◌≤◌, ◌<◌, ◌+◌, ◌+ℤ◌, ◌*ℤ◌, ℤ, pos, length, IfSome, IsTrue};
+ghost use Rattle.std.specs.Prelude.{◌≡◌, ◌≤◌, ◌<◌, ◌+◌, ◌+ℤ◌, ℤ, pos, length, IfSome, IsTrue};
 ghost use Rattle.domains.specs.Arithmetic.{wrapped, floor_div};
 ghost use Rattle.job.specs.Values.{kernel_row, kernel_column, weighted_sum};
 ghost use Rattle.job.specs.WellFormed.{IsDivisor, IsKernel};
-ghost use Rattle.tile_eval.specs.Rows.{EachPlace, at};
+ghost use Rattle.row_kernels.specs.Rows.{EachPlace, at};
 ghost use Rattle.tile_eval.specs.Reading.{KernelWithin};
-ghost use Rattle.tile_eval.specs.Stencil.{tap_sum, row_sum, IsUnder};
+ghost use Rattle.tile_eval.specs.inside.Stencil.{row_sum, IsUnder};
 
-use crate::kernels::{add, add_scaled, divide_by, fill};
 use crate::source::RowSource;
-use crate::start::RowStart;
-use crate::stencil3x3::{Kernel3x3, Triple};
 use job::Kernel;
-
-// Adds the products of a factor and the samples of a line.
-fn add_tap(out: &mut [i32], line: &[i32], factor: i32)
-    requires { length line.now ≡ length out.old }
-    ensures { EachPlace (length out.old) (λ k. (s : ℤ) → at out.old k ≡ wrapped s → at out.new k ≡ wrapped (s +ℤ factor *ℤ at line.now k)) }
-{
-    match factor {
-        0 => {}
-        1 => add(out, line),
-        _ => add_scaled(out, line, factor),
-    }
-}
-
-// Adds the products of factors and the samples of a line, a factor at a time.
-fn add_each_tap(out: &mut [i32], line: &[i32], factors: &[i32])
-    requires { length line.now + 1 ≡ length out.old + length factors.now }
-    ensures { EachPlace (length out.old) (λ k. (s : ℤ) → at out.old k ≡ wrapped s → at out.new k ≡ wrapped (s +ℤ tap_sum factors.now line.now k)) }
-{
-    for b in 0..factors.len() {
-        add_tap(out, &line[b..b + out.len()], factors[b]);
-    }
-}
-
-/// Adds the products of factors and the samples of a line, which begins with those of the first factor.
-pub fn add_taps(out: &mut [i32], line: &[i32], factors: &[i32])
-    requires { length line.now + 1 ≡ length out.old + length factors.now }
-    ensures { EachPlace (length out.old) (λ k. (s : ℤ) → at out.old k ≡ wrapped s → at out.new k ≡ wrapped (s +ℤ tap_sum factors.now line.now k)) }
-{
-    match Triple::of(factors) {
-        Some(triple) => triple.add_sums(out, line),
-        None => add_each_tap(out, line, factors),
-    }
-}
+use row_kernels::{Kernel3x3, RowSpan, add_taps, divide_by, fill};
 
 /// The samples under a row of a kernel about a row of points.
 pub fn kernel_line<S: RowSource>(
@@ -54,18 +19,17 @@ pub fn kernel_line<S: RowSource>(
     stage: usize,
     kernel: &Kernel,
     a: usize,
-    start: &RowStart,
+    points: &RowSpan,
     line: &mut [i32],
 )
     requires kernel { IsKernel kernel.now }
     requires a { a < length kernel.now }
-    requires short { length line.old ≤ 100000 }
-    requires reads { EachPlace (length line.old) (λ j. S.has source.now stage (kernel_row kernel.now start.now.row a) (kernel_column kernel.now start.now.col j)) }
-    ensures { IsUnder kernel.now (S.samples source.now stage) start.now.row start.now.col a line.new }
+    requires reads { EachPlace (length line.old) (λ j. S.has source.now stage (kernel_row kernel.now points.now.row a) (kernel_column kernel.now points.now.col j)) }
+    ensures { IsUnder kernel.now (S.samples source.now stage) points.now.row points.now.col a line.new }
 {
     let rows = kernel.rows();
-    let row = start.row_under(rows.len(), a);
-    let col = start.col_under(rows[0].factors().len());
+    let row = points.row_under(rows.len(), a);
+    let col = points.col_under(rows[0].factors().len());
     source.read_row(stage, row, col, line);
 }
 
@@ -75,18 +39,17 @@ fn borrowed_line<'a, S: RowSource>(
     stage: usize,
     kernel: &Kernel,
     a: usize,
-    start: &RowStart,
+    points: &RowSpan,
     count: usize,
 ) -> Option<&'a [i32]>
     requires kernel { IsKernel kernel.now }
     requires a { a < length kernel.now }
-    requires short { count ≤ 100000 }
-    requires reads { EachPlace count (λ j. S.has source.now stage (kernel_row kernel.now start.now.row a) (kernel_column kernel.now start.now.col j)) }
-    ensures { IfSome result (λ line. (length line.now ≡ count) × IsUnder kernel.now (S.samples source.now stage) start.now.row start.now.col a line.now) }
+    requires reads { EachPlace count (λ j. S.has source.now stage (kernel_row kernel.now points.now.row a) (kernel_column kernel.now points.now.col j)) }
+    ensures { IfSome result (λ line. (length line.now ≡ count) × IsUnder kernel.now (S.samples source.now stage) points.now.row points.now.col a line.now) }
 {
     let rows = kernel.rows();
-    let row = start.row_under(rows.len(), a);
-    let col = start.col_under(rows[0].factors().len());
+    let row = points.row_under(rows.len(), a);
+    let col = points.col_under(rows[0].factors().len());
     source.borrow_row(stage, row, col, count)
 }
 
@@ -96,24 +59,23 @@ fn add_kernel_row<S: RowSource>(
     stage: usize,
     kernel: &Kernel,
     a: usize,
-    start: &RowStart,
+    points: &RowSpan,
     out: &mut [i32],
     temps: &mut [i32],
 )
     requires kernel { IsKernel kernel.now }
     requires a { a < length kernel.now }
-    requires short { length out.old ≤ 40000 }
-    requires reads { KernelWithin (S.has source.now stage) kernel.now start.now.row start.now.col (length out.old) }
+    requires reads { KernelWithin (S.has source.now stage) kernel.now points.now.row points.now.col (length out.old) }
     requires room { length out.old + 14 ≤ length temps.old }
-    ensures { EachPlace (length out.old) (λ k. (s : ℤ) → at out.old k ≡ wrapped s → at out.new k ≡ wrapped (s +ℤ row_sum kernel.now (S.samples source.now stage) start.now.row (start.now.col +ℤ pos k) a)) }
+    ensures { EachPlace (length out.old) (λ k. (s : ℤ) → at out.old k ≡ wrapped s → at out.new k ≡ wrapped (s +ℤ row_sum kernel.now (S.samples source.now stage) points.now.row (points.now.col +ℤ pos k) a)) }
 {
     let factors = kernel.rows()[a].factors();
     let count = out.len() + factors.len() - 1;
-    match borrowed_line(source, stage, kernel, a, start, count) {
+    match borrowed_line(source, stage, kernel, a, points, count) {
         Some(line) => add_taps(out, line, factors),
         None => {
             let line = &mut temps[..count];
-            kernel_line(source, stage, kernel, a, start, line);
+            kernel_line(source, stage, kernel, a, points, line);
             add_taps(out, line, factors);
         }
     }
@@ -124,43 +86,41 @@ fn sums_by_rows<S: RowSource>(
     source: &S,
     stage: usize,
     kernel: &Kernel,
-    start: &RowStart,
+    points: &RowSpan,
     out: &mut [i32],
     temps: &mut [i32],
 )
     requires kernel { IsKernel kernel.now }
-    requires short { length out.old ≤ 40000 }
-    requires reads { KernelWithin (S.has source.now stage) kernel.now start.now.row start.now.col (length out.old) }
+    requires reads { KernelWithin (S.has source.now stage) kernel.now points.now.row points.now.col (length out.old) }
     requires room { length out.old + 14 ≤ length temps.old }
-    ensures { EachPlace (length out.old) (λ k. at out.new k ≡ wrapped (weighted_sum kernel.now (S.samples source.now stage) start.now.row (start.now.col +ℤ pos k))) }
+    ensures { EachPlace (length out.old) (λ k. at out.new k ≡ wrapped (weighted_sum kernel.now (S.samples source.now stage) points.now.row (points.now.col +ℤ pos k))) }
 {
     fill(out, 0);
     for a in 0..kernel.rows().len() {
-        add_kernel_row(source, stage, kernel, a, start, out, temps);
+        add_kernel_row(source, stage, kernel, a, points, out, temps);
     }
 }
 
-/// The sums of a stencil along a row of points, all rows of the kernel at once. Answers false, and writes nothing, unless the kernel has three
-/// rows of three factors and the source gives all that it reads.
+/// The sums of a stencil along a row of points, all rows of the kernel at once. Answers false, and writes nothing, unless the
+/// kernel has three rows of three factors and the source gives all that it reads.
 fn sums_at_once<S: RowSource>(
     source: &S,
     stage: usize,
     kernel: &Kernel,
-    start: &RowStart,
+    points: &RowSpan,
     out: &mut [i32],
 ) -> bool
     requires kernel { IsKernel kernel.now }
-    requires short { length out.old ≤ 40000 }
-    requires reads { KernelWithin (S.has source.now stage) kernel.now start.now.row start.now.col (length out.old) }
-    ensures { IsTrue result → EachPlace (length out.old) (λ k. at out.new k ≡ wrapped (weighted_sum kernel.now (S.samples source.now stage) start.now.row (start.now.col +ℤ pos k))) }
+    requires reads { KernelWithin (S.has source.now stage) kernel.now points.now.row points.now.col (length out.old) }
+    ensures { IsTrue result → EachPlace (length out.old) (λ k. at out.new k ≡ wrapped (weighted_sum kernel.now (S.samples source.now stage) points.now.row (points.now.col +ℤ pos k))) }
 {
     let Some(square) = Kernel3x3::of(kernel) else {
         return false;
     };
     let count = out.len() + 2;
-    let top = borrowed_line(source, stage, kernel, 0, start, count);
-    let middle = borrowed_line(source, stage, kernel, 1, start, count);
-    let bottom = borrowed_line(source, stage, kernel, 2, start, count);
+    let top = borrowed_line(source, stage, kernel, 0, points, count);
+    let middle = borrowed_line(source, stage, kernel, 1, points, count);
+    let bottom = borrowed_line(source, stage, kernel, 2, points, count);
     match (top, middle, bottom) {
         (Some(top), Some(middle), Some(bottom)) => {
             square.write_sums(out, top, middle, bottom);
@@ -176,19 +136,18 @@ pub fn stencil_row<S: RowSource>(
     stage: usize,
     divisor: u32,
     kernel: &Kernel,
-    start: &RowStart,
+    points: &RowSpan,
     out: &mut [i32],
     temps: &mut [i32],
 )
     requires divisor { IsDivisor divisor }
     requires kernel { IsKernel kernel.now }
-    requires short { length out.old ≤ 40000 }
-    requires reads { KernelWithin (S.has source.now stage) kernel.now start.now.row start.now.col (length out.old) }
+    requires reads { KernelWithin (S.has source.now stage) kernel.now points.now.row points.now.col (length out.old) }
     requires room { length out.old + 14 ≤ length temps.old }
-    ensures { EachPlace (length out.old) (λ k. at out.new k ≡ floor_div (wrapped (weighted_sum kernel.now (S.samples source.now stage) start.now.row (start.now.col +ℤ pos k))) (pos divisor)) }
+    ensures { EachPlace (length out.old) (λ k. at out.new k ≡ floor_div (wrapped (weighted_sum kernel.now (S.samples source.now stage) points.now.row (points.now.col +ℤ pos k))) (pos divisor)) }
 {
-    if !sums_at_once(source, stage, kernel, start, out) {
-        sums_by_rows(source, stage, kernel, start, out, temps);
+    if !sums_at_once(source, stage, kernel, points, out) {
+        sums_by_rows(source, stage, kernel, points, out, temps);
     }
     divide_by(out, divisor);
 }

@@ -18,13 +18,13 @@ use Rattle.grouping.specs.Costs.{scratch, most_scratch, tile_targets}
 use Rattle.grouping.specs.Inlining.{Inlining, IsScheduleOf}
 use Rattle.grouping.specs.Order.{in_order}
 use Rattle.grouping.specs.Schedules.{is_inlined, is_function, is_function_body, IsSchedule}
-use Rattle.grouping.specs.Targets.{Target}
-use Rattle.grouping.proofs.Hulls.{Contains-flat_map}
-use Rattle.grouping.proofs.Ordering.{order_has}
+use Rattle.grouping.specs.Targets.{Target, target_over}
+use Rattle.grouping.proofs.Lists.{Contains-flat_map, Contains-map}
+use Rattle.grouping.proofs.OrderHasEachStage.{order_has}
 use Rattle.overlap_tiles.specs.Needs.{key_of, tile_of_stage}
-use Rattle.overlap_tiles.specs.Plans.{IsTileAt, target_over}
-use Rattle.overlap_tiles.proofs.Lists.{Contains-map, Contains-from_map, Contains-from_flat_map}
-use Rattle.overlap_tiles.proofs.Tiling.{has_grid}
+use Rattle.overlap_tiles.specs.Plans.{IsTileAt}
+use Rattle.overlap_tiles.proofs.Lists.{Contains-from_map, Contains-from_flat_map}
+use Rattle.grouping.proofs.TilesAreTargets.{gridded}
 use Rattle.tile_run.specs.declared.room.Work.{Work}
 use Rattle.tile_run.specs.declared.room.Work.TheVariants.{Functions, Accumulators}
 use Rattle.tile_run.specs.inside.Running.{StoredFit}
@@ -38,7 +38,7 @@ use Rattle.tile_run.proofs.LayoutsPrepare.{none_found}
 pub big_is : (job : Pipeline) (inlining : List Bool) (g i j : ℕ) (area : Area) → IsTileAt job g i j area
     → too_big job inlining (tile_of_stage g (i, j)) ≡ not (nat_le (scratch (target_over job inlining g area)) most_scratch)
 big_is job inlining g i j area is =
-    let at = has_grid job g is.grid is.there in
+    let at = gridded job g is.grid is.there in
     let same : tile_area (grid_of job at.stage) i j ≡ area = ap (λ (d : Grid). tile_area d i j) at.is ∙ sym is.is in
     ap (λ (o : Option Stage). option_map_or (λ s. not (nat_le (scratch_of_tile job inlining (tile_of_stage g (i, j)) s) most_scratch)) o
     false) at.there
@@ -116,7 +116,7 @@ first_key program job inlining g grid at o found =
 -- the numbers of stages have 16 bits
 pub number_fits : (job : Pipeline) → IsJob job → (g : ℕ) (grid : Grid) → grid_at job g ≡ Some grid → g < 65536
 number_fits job good g grid there =
-    let at = has_grid job g grid there in
+    let at = gridded job g grid there in
     let low = slice_get_within job.stages g at.stage at.there in
     let few = good.few_stages in
     omega arith

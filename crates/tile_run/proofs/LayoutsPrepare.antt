@@ -15,13 +15,13 @@ use Rattle.job.specs.Answers.{Tile}
 use Rattle.job.specs.Pipeline.{Pipeline}
 use Rattle.job.specs.WellFormed.{IsJob}
 use Rattle.grouping.specs.Costs.{inner_steps}
-use Rattle.grouping.specs.Targets.{Target, IsTarget}
+use Rattle.grouping.specs.Targets.{Target, IsTarget, target_over}
 use Rattle.overlap_tiles.specs.declared.steps.Step.{Step}
 use Rattle.overlap_tiles.specs.Needs.{key_tile, needs}
-use Rattle.overlap_tiles.specs.Plans.{Layout, IsTileAt, IsTileLayout, target_over}
+use Rattle.overlap_tiles.specs.Plans.{Layout, IsTileAt, IsTileLayout}
 use Rattle.overlap_tiles.specs.Views.{step_view}
 use Rattle.overlap_tiles.proofs.Lists.{Contains-from_map}
-use Rattle.overlap_tiles.proofs.Tiling.{tile_is_target}
+use Rattle.overlap_tiles.proofs.TilesAreTargets.{tile_is_target}
 use Rattle.tile_eval.specs.Buffer.{raster}
 use Rattle.tile_eval.specs.declared.buffers.Buffer.{Buffer}
 use Rattle.tile_run.specs.KnownTiles.{KnownTiles}

@@ -19,11 +19,11 @@ use Rattle.job.proofs.Steps.{All-both}
 use Rattle.job.proofs.Solving.{ranked_is}
 use Rattle.grouping.specs.Schedules.{is_inlined, is_function, is_function_body}
 use Rattle.grouping.specs.Targets.{Target, IsTarget, is_boxed, box, region, IsInBox}
-use Rattle.grouping.proofs.Needs.{has_what_it_reads}
-use Rattle.grouping.proofs.Inside.{region_in_domain}
+use Rattle.grouping.proofs.BoxesHoldWhatIsRead.{has_what_it_reads}
+use Rattle.grouping.proofs.BoxesLieInDomains.{region_in_domain}
 use Rattle.overlap_tiles.specs.Needs.{IsNeeded}
-use Rattle.overlap_tiles.proofs.Lower.{box_low}
-use Rattle.overlap_tiles.proofs.Tiling.{grid_fits}
+use Rattle.overlap_tiles.proofs.BoxesAreLower.{box_low}
+use Rattle.grouping.proofs.TilesAreTargets.{grid_fits}
 use Rattle.tile_eval.specs.Buffer.{raster}
 use Rattle.tile_eval.proofs.Rasters.{raster_same}
 use Rattle.tile_run.specs.KnownTiles.{KnownTiles, AreTrue, IsGivenAt}

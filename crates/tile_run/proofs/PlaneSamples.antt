@@ -9,7 +9,7 @@ use Rattle.netpbm.specs.Image.{Image}
 use Rattle.job.specs.Values.{sample_at}
 use Rattle.job.specs.WellFormed.{picture_area}
 use Rattle.tile_eval.specs.Rows.{EachPlace}
-use Rattle.tile_eval.proofs.Columns.{columns_step}
+use Rattle.row_kernels.proofs.Columns.{columns_step}
 
 abs_below : (v : ℤ) (n : ℕ) → pos 0 ≤ℤ v → v ≤ℤ (pos n -ℤ pos 1) → unsigned_abs v < n
 abs_below (pos m) n lo hi = omega (arith, ints)

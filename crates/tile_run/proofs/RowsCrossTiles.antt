@@ -14,7 +14,7 @@ use Rattle.domains.specs.declared.area.Area.{Area}
 use Rattle.domains.specs.declared.grid.Grid.{Grid}
 use Rattle.domains.proofs.Indices.{index_rises}
 use Rattle.domains.proofs.PartsOfSpans.{place_only}
-use Rattle.tile_eval.specs.declared.blocks.BufferView.{BufferView}
+use Rattle.row_kernels.specs.declared.buffer_view.BufferView.{BufferView}
 use Rattle.tile_eval.specs.Rows.{EachPlace, at}
 use Rattle.tile_eval.specs.Buffer.{place_of}
 use Rattle.tile_run.specs.KnownTiles.{KnownTiles, number_in, number_at, IsGivenAt}
@@ -130,10 +130,6 @@ first_held s x c first (suc k) l = absurd (omega arith)
 pub more_held : (s : Ends) (x : Scale) (c : ℤ) (j : ℕ) → IsIndex x → Holds s (index_at x c) → Holds s (index_at x (c +ℤ pos j))
     → EachPlace (j + 1) (λ k. Holds s (index_at x (c +ℤ pos k)))
 more_held s x c j is first last k l = between_held s x c j k is first last (omega arith)
-
--- a part ends no further than the row
-pub part_most : (c m : ℤ) (n : ℕ) (out : List ℤ) → n ≤ length out → (c +ℤ pos (length out)) ≤ℤ m → (c +ℤ pos (length (take n out))) ≤ℤ m
-part_most c m n out le most = omega (arith, ints, take_len n out le)
 
 -- within the area of a block
 pub picked_held : (a : Area) (cols : Ends) (r c : ℤ) (f : ℕ → ℤ) (n : ℕ) (out : List ℤ) → HoldsPoint a r c → cols ≡ a.cols → n ≤ length out

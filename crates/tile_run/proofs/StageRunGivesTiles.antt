@@ -15,13 +15,13 @@ use Rattle.job.proofs.Solving.{ranked_is}
 use Rattle.job.proofs.Unrolling.{rank_is}
 use Rattle.grouping.specs.Order.{greatest_rank}
 use Rattle.grouping.specs.Schedules.{is_inlined, is_function, is_function_body}
-use Rattle.grouping.specs.Targets.{Target, is_boxed}
-use Rattle.grouping.proofs.Rule.{rank_below}
+use Rattle.grouping.specs.Targets.{Target, is_boxed, target_over}
+use Rattle.grouping.proofs.BoxesFollowTheRule.{rank_below}
 use Rattle.overlap_tiles.specs.Needs.{IsNeeded}
-use Rattle.overlap_tiles.specs.Plans.{Layout, IsTileLayout, target_over}
-use Rattle.overlap_tiles.proofs.Lower.{box_low}
-use Rattle.overlap_tiles.proofs.Needing.{from_needs}
-use Rattle.overlap_tiles.proofs.Tiling.{has_grid}
+use Rattle.overlap_tiles.specs.Plans.{Layout, IsTileLayout}
+use Rattle.overlap_tiles.proofs.BoxesAreLower.{box_low}
+use Rattle.overlap_tiles.proofs.NeedsAreExact.{from_needs}
+use Rattle.grouping.proofs.TilesAreTargets.{gridded}
 use Rattle.tile_eval.specs.Buffer.{raster}
 use Rattle.tile_eval.proofs.Rasters.{raster_len}
 use Rattle.tile_run.specs.KnownTiles.{AreWhole}
@@ -52,7 +52,7 @@ module _ (job : Pipeline) (inlining : List Bool) (stages : List Tiles) (g : ℕ)
     -- each tile that it needs is stored
     gives : (n : Tile) → IsNeeded of_tile n → (xs : List ℤ) × (stored_tiles stages n.stage n.row n.col ≡ Some xs)
     gives n needed =
-        let at = has_grid job n.stage needed.grid needed.there in
+        let at = gridded job n.stage needed.grid needed.there in
         let both = and_parts (is_boxed of_tile n.stage) (not (is_inlined inlining n.stage)) needed.stored in
         let boxed = and_parts (is_function job n.stage) (not (eqb n.stage g)) both.0 in
         let function : IsStoredFunction job inlining n.stage at.stage = record {
@@ -72,7 +72,7 @@ module _ (job : Pipeline) (inlining : List Bool) (stages : List Tiles) (g : ℕ)
 
     same_area : is.area ≡ tile_area grid i j
     same_area =
-        let at = has_grid job g is.tile.grid is.tile.there in
+        let at = gridded job g is.tile.grid is.tile.there in
         let same : is.tile.grid ≡ grid = sym at.is ∙ ap (grid_of job) (same_Some at.stage ready.stage
         (sym at.there ∙ ready.function.there)) ∙ sym ready.parted in
         is.tile.is ∙ ap (λ (d : Grid). tile_area d i j) same

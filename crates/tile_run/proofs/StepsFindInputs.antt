@@ -21,10 +21,10 @@ use Rattle.grouping.specs.Targets.{Target, IsTarget, is_boxed, boxes}
 use Rattle.grouping.specs.Costs.{inner_steps, steps}
 use Rattle.overlap_tiles.specs.Available.{IsPlaneAt, IsInNeededTile, IsAvailable}
 use Rattle.overlap_tiles.specs.Needs.{needs}
-use Rattle.overlap_tiles.proofs.Needing.{from_needs}
-use Rattle.overlap_tiles.proofs.Reading.{Both, both_body, reads_available, step_in_domain, step_region}
-use Rattle.overlap_tiles.proofs.Rising.{box_listed}
-use Rattle.overlap_tiles.proofs.Tiling.{grid_fits}
+use Rattle.overlap_tiles.proofs.NeedsAreExact.{from_needs}
+use Rattle.overlap_tiles.proofs.StepsHaveWhatTheyRead.{Both, both_body, reads_available, step_in_domain, step_region}
+use Rattle.overlap_tiles.proofs.StepsRise.{box_listed}
+use Rattle.grouping.proofs.TilesAreTargets.{grid_fits}
 use Rattle.tile_eval.specs.Buffer.{IsKnownAt}
 use Rattle.tile_eval.specs.declared.buffers.Buffer.{Buffer}
 use Rattle.tile_run.specs.KnownTiles.{KnownTiles, IsGiven, IsGivenAt}

@@ -6,11 +6,11 @@ use Rattle.job.specs.Answers.{Tile}
 use Rattle.job.specs.Pipeline.{Pipeline}
 use Rattle.job.specs.Values.{value}
 use Rattle.job.specs.WellFormed.{IsJob}
-use Rattle.grouping.specs.Targets.{Target}
+use Rattle.grouping.specs.Targets.{Target, target_over}
 use Rattle.overlap_tiles.specs.Needs.{IsNeeded}
-use Rattle.overlap_tiles.specs.Plans.{Layout, IsTileLayout, target_over}
-use Rattle.overlap_tiles.proofs.Needing.{to_needs}
-use Rattle.overlap_tiles.proofs.Tiling.{tile_is_target}
+use Rattle.overlap_tiles.specs.Plans.{Layout, IsTileLayout}
+use Rattle.overlap_tiles.proofs.NeedsAreExact.{to_needs}
+use Rattle.overlap_tiles.proofs.TilesAreTargets.{tile_is_target}
 use Rattle.tile_eval.specs.Buffer.{raster}
 use Rattle.tile_run.specs.KnownTiles.{KnownTiles, AreTrue}
 use Rattle.tile_run.specs.Runs.{NeedsGiven, AreLocalOn, AreValuesOn}

@@ -15,7 +15,7 @@ use Rattle.job.specs.WellFormed.{IsFormula, IsTest, InDomainRange, IsBody, IsSta
 use Rattle.tile_eval.specs.Cases.{AreBoxedAround, function_value}
 use Rattle.tile_eval.specs.Buffer.{raster, place_of, sample_in, IsKnownAt}
 use Rattle.tile_eval.specs.Rows.{at}
-use Rattle.tile_eval.proofs.Places.{known_within}
+use Rattle.tile_eval.proofs.KnownSamples.{known_within}
 use Rattle.tile_eval.specs.declared.buffers.Buffer.{Buffer}
 use Rattle.tile_eval.specs.declared.buffers.StageBuffers.{StageBuffers}
 use Rattle.tile_eval.proofs.Rasters.{raster_same, raster_at}

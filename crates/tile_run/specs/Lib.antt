@@ -1,3 +1,4 @@
+pub mod Faults
 pub mod KnownTiles
 pub mod Local
 pub mod Prepared

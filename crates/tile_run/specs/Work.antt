@@ -9,11 +9,11 @@ use Rattle.grouping.specs.Costs.{scratch, most_scratch}
 use Rattle.grouping.specs.Order.{in_order}
 use Rattle.grouping.specs.Schedules.{is_inlined, is_function}
 use Rattle.overlap_tiles.specs.Needs.{key_of}
-use Rattle.overlap_tiles.specs.Plans.{target_over}
 use Rattle.tile_run.specs.declared.room.Work.{Work}
 use Rattle.tile_run.specs.declared.room.Work.TheVariants.{Functions, Accumulators}
 use Rattle.tile_run.specs.declared.fault.RunFault.{RunFault}
 use Rattle.tile_run.specs.declared.fault.RunFault.TheVariants.{ScratchTooBig, Memory}
+use Rattle.grouping.specs.Targets.{target_over}
 
 -- ---- the stages whose tiles are made
 

@@ -10,12 +10,36 @@ use thiserror::Error;
 /// Why a tile is not computed.
 #[derive(Clone, Copy, Debug, PartialEq, Eq, Error)]
 pub enum EvalFault {
-    /// The tile of this key is needed and not given; no lesser one is.
+    /// 1: the tile of this key is needed and not given; no lesser one is.
     #[error("a tile that is needed is not there")]
     Missing(Key),
-    /// No memory was left.
+    /// 2: no memory was left.
     #[error("out of memory")]
     Memory,
+}
+
+impl EvalFault {
+    ghost use Rattle.tile_run.specs.Faults.{eval_number, eval_name};
+
+    /// The fault's number, 1 or 2.
+    pub fn number(self) -> u8
+        ensures { result ≡ eval_number self }
+    {
+        match self {
+            EvalFault::Missing(_) => 1,
+            EvalFault::Memory => 2,
+        }
+    }
+
+    /// The fault's name, as it is printed.
+    pub fn name(self) -> &'static str
+        ensures { result.now ≡ eval_name self }
+    {
+        match self {
+            EvalFault::Missing(_) => "Missing",
+            EvalFault::Memory => "Memory",
+        }
+    }
 }
 
 impl From<AllocError> for EvalFault {
@@ -32,13 +56,37 @@ impl From<AllocError> for EvalFault {
 /// Why the tiles of a job are not made.
 #[derive(Clone, Copy, Debug, PartialEq, Eq, Error)]
 pub enum RunFault {
-    /// The boxes of what is inlined into the tile of this key have more points together than `grouping::MOST_SCRATCH`; of no tile
+    /// 1: the boxes of what is inlined into the tile of this key have more points together than `grouping::MOST_SCRATCH`; of no tile
     /// before it do they.
     #[error("a tile takes too much scratch memory")]
     ScratchTooBig(Key),
-    /// No memory was left.
+    /// 2: no memory was left.
     #[error("out of memory")]
     Memory,
+}
+
+impl RunFault {
+    ghost use Rattle.tile_run.specs.Faults.{run_number, run_name};
+
+    /// The fault's number, 1 or 2.
+    pub fn number(self) -> u8
+        ensures { result ≡ run_number self }
+    {
+        match self {
+            RunFault::ScratchTooBig(_) => 1,
+            RunFault::Memory => 2,
+        }
+    }
+
+    /// The fault's name, as it is printed.
+    pub fn name(self) -> &'static str
+        ensures { result.now ≡ run_name self }
+    {
+        match self {
+            RunFault::ScratchTooBig(_) => "ScratchTooBig",
+            RunFault::Memory => "Memory",
+        }
+    }
 }
 
 impl From<AllocError> for RunFault {

@@ -7,7 +7,6 @@ ghost use Rattle.job.specs.Kept.{pipeline_in, program_id_in};
 ghost use Rattle.job.specs.Pipeline.{rank_of};
 ghost use Rattle.job.specs.Views.{stage_view};
 ghost use Rattle.grouping.specs.Inlining.{IsScheduleOf};
-ghost use Rattle.grouping.specs.Order.{greatest_rank};
 ghost use Rattle.grouping.specs.Schedules.{is_inlined, is_function_body};
 ghost use Rattle.overlap_tiles.specs.Plans.{IsTileLayout};
 ghost use Rattle.tile_run.specs.inside.Running.{row_numbers, tile_values, row_values, grid_values, AreTilesOf, AreStored, IsStageReady, StoredFit};
@@ -21,7 +20,7 @@ use crate::room::{Work, first_too_big};
 use crate::stored::{Stored, TileRow, Tiles};
 use crate::tile_job::TileJob;
 use domains::Grid;
-use grouping::Schedule;
+use grouping::{Schedule, last_rank};
 use job::{Job, Stage, StageKind};
 use overlap_tiles::{Layout, PlanFault};
 use std::alloc::{AllocError, Global};
@@ -190,16 +189,6 @@ fn is_stored(schedule: &Schedule, number: usize, stage: &Stage) -> bool
     ensures other { result ≡ false → is_function_body (stage_view stage.now).body ≡ true → is_inlined schedule.now.inlining number ≡ true }
 {
     stage.kind() == StageKind::Function && !schedule.inlined(number)
-}
-
-fn last_rank(stages: &[Stage]) -> usize
-    ensures { result ≡ greatest_rank (map stage_view stages.now) }
-{
-    let mut last = 0;
-    for stage in stages {
-        last = stage.rank().max(last);
-    }
-    last
 }
 
 /// All tiles of the stored functions of a job: those of a rank after those of lower ranks.

@@ -10,7 +10,7 @@ ghost use Rattle.tile_eval.specs.Rows.{EachPlace, at};
 
 use domains::Index;
 use netpbm::Picture;
-use tile_eval::RowStart;
+use row_kernels::{RowSpan, step_of};
 
 // Takes the samples from a place on.
 fn widen(samples: &[u16], place: usize, out: &mut [i32])
@@ -30,14 +30,6 @@ fn widen_every(samples: &[u16], place: usize, step: usize, out: &mut [i32])
     for k in 0..out.len() {
         out[k] = i32::from(samples[place + k * step]);
     }
-}
-
-// What a column is multiplied by.
-#[tactic(auto, using(std::proofs::lemmas::Int::ints))]
-fn step_of(col: &Index) -> usize
-    ensures { col.now.mul ≡ pos result }
-{
-    col.mul() as usize
 }
 
 // The place of a sample among those of a plane.
@@ -71,24 +63,24 @@ pub(crate) fn plane_row(picture: &Picture, plane: usize, row: i32, first: i32, o
     }
 }
 
-/// The samples of a plane along a row, at the columns that an index takes at columns from a start on.
+/// The samples of a plane along a row, at the columns that an index takes at the columns of some points.
 pub(crate) fn plane_gather(
     picture: &Picture,
     plane: usize,
     row: i32,
     col: &Index,
-    start: &RowStart,
+    points: &RowSpan,
     out: &mut [i32],
 )
     requires plane { plane < length picture.now.planes }
-    requires most { (start.now.col +ℤ pos (length out.old)) ≤ℤ pos 16385 }
-    requires there { EachPlace (length out.old) (λ k. HoldsPoint (picture_area picture.now) row (index_at col.now (start.now.col +ℤ pos k))) }
-    ensures { EachPlace (length out.old) (λ k. at out.new k ≡ sample_at picture.now plane row (index_at col.now (start.now.col +ℤ pos k))) }
+    requires fits { length out.old ≡ points.now.len }
+    requires there { EachPlace (length out.old) (λ k. HoldsPoint (picture_area picture.now) row (index_at col.now (points.now.col +ℤ pos k))) }
+    ensures { EachPlace (length out.old) (λ k. at out.new k ≡ sample_at picture.now plane row (index_at col.now (points.now.col +ℤ pos k))) }
 {
     if col.div() == 1 && !out.is_empty() {
-        plane_steps(picture, plane, row, col, start, out);
+        plane_steps(picture, plane, row, col, points, out);
     } else {
-        plane_samples(picture, plane, row, col, start, out);
+        plane_samples(picture, plane, row, col, points, out);
     }
 }
 
@@ -98,16 +90,16 @@ fn plane_steps(
     plane: usize,
     row: i32,
     col: &Index,
-    start: &RowStart,
+    points: &RowSpan,
     out: &mut [i32],
 )
     requires plane { plane < length picture.now.planes }
     requires div { col.now.div ≡ pos 1 }
     requires some { 0 < length out.old }
-    requires there { EachPlace (length out.old) (λ k. HoldsPoint (picture_area picture.now) row (index_at col.now (start.now.col +ℤ pos k))) }
-    ensures { EachPlace (length out.old) (λ k. at out.new k ≡ sample_at picture.now plane row (index_at col.now (start.now.col +ℤ pos k))) }
+    requires there { EachPlace (length out.old) (λ k. HoldsPoint (picture_area picture.now) row (index_at col.now (points.now.col +ℤ pos k))) }
+    ensures { EachPlace (length out.old) (λ k. at out.new k ≡ sample_at picture.now plane row (index_at col.now (points.now.col +ℤ pos k))) }
 {
-    let place = place_in(picture, row, start.col_at(col));
+    let place = place_in(picture, row, points.col_at(col));
     widen_every(plane_of(picture, plane), place, step_of(col), out);
 }
 
@@ -117,16 +109,16 @@ fn plane_samples(
     plane: usize,
     row: i32,
     col: &Index,
-    start: &RowStart,
+    points: &RowSpan,
     out: &mut [i32],
 )
     requires plane { plane < length picture.now.planes }
-    requires most { (start.now.col +ℤ pos (length out.old)) ≤ℤ pos 16385 }
-    requires there { EachPlace (length out.old) (λ k. HoldsPoint (picture_area picture.now) row (index_at col.now (start.now.col +ℤ pos k))) }
-    ensures { EachPlace (length out.old) (λ k. at out.new k ≡ sample_at picture.now plane row (index_at col.now (start.now.col +ℤ pos k))) }
+    requires fits { length out.old ≡ points.now.len }
+    requires there { EachPlace (length out.old) (λ k. HoldsPoint (picture_area picture.now) row (index_at col.now (points.now.col +ℤ pos k))) }
+    ensures { EachPlace (length out.old) (λ k. at out.new k ≡ sample_at picture.now plane row (index_at col.now (points.now.col +ℤ pos k))) }
 {
     for k in 0..out.len() {
-        out[k] = plane_sample(picture, plane, row, col.at(start.column(k)));
+        out[k] = plane_sample(picture, plane, row, col.at(points.column(k)));
     }
 }
 

@@ -15,7 +15,6 @@ use job::Job;
 impl Stored {
     /// Writes the values of a function along a row of its domain, from a column on, where all its tiles are stored.
     pub fn read_row(&self, job: &Job, stage: usize, row: i32, first: i32, out: &mut [i32])
-        requires short { length out.old ≤ 100000 }
         requires stored { IsStoredLine (pipeline_in job.now) (stored_tiles self.now.stages.items) stage row first (length out.old) }
         ensures { EachPlace (length out.old) (λ k. at out.new k ≡ value (pipeline_in job.now) stage row (first +ℤ pos k)) }
     {

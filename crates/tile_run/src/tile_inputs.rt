@@ -11,7 +11,7 @@ use crate::tile_job::TileJob;
 use domains::{Area, Index};
 use job::{Body, Function};
 use std::alloc::AllocError;
-use tile_eval::{RowSource, RowStart, StageBuffers, area_into};
+use tile_eval::{RowSource, RowSpan, StageBuffers, area_into};
 
 /// What a tile reads: planes of its job, tiles that are given of functions that are stored, and boxes of functions that are inlined.
 #[derive(Drop)]
@@ -79,7 +79,7 @@ impl<K: Known> RowSource for TileInputs<'_, K> {
         }
     }
 
-    fn gather(&self, stage: usize, row: i32, col: &Index, start: &RowStart, out: &mut [i32]) {
+    fn gather(&self, stage: usize, row: i32, col: &Index, points: &RowSpan, out: &mut [i32]) {
         let Some(found) = self.tile.job.stage(stage) else {
             return;
         };
@@ -89,13 +89,13 @@ impl<K: Known> RowSource for TileInputs<'_, K> {
                 *plane,
                 row,
                 col,
-                start,
+                points,
                 out,
             ),
             Body::Function(_) if self.tile.layout.inlined(stage) => {
-                self.boxes.gather(stage, row, col, start, out);
+                self.boxes.gather(stage, row, col, points, out);
             }
-            Body::Function(_) => self.tile.given(stage, found).gather(row, col, start, out),
+            Body::Function(_) => self.tile.given(stage, found).gather(row, col, points, out),
             Body::Accumulator(_) => {}
         }
     }

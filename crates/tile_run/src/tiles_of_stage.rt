@@ -12,7 +12,7 @@ ghost use Rattle.tile_run.specs.inside.Tiles.{IsTileAbout};
 
 use crate::known::Known;
 use domains::{Grid, Index, Span};
-use tile_eval::{BufferView, RowStart};
+use row_kernels::{BufferView, RowSpan, number_after};
 
 /// The tiles of one stage that are given.
 #[derive(Drop)]
@@ -22,17 +22,6 @@ pub(crate) struct TilesOfStage<'a, K: Known> {
     pub(crate) grid: Grid,
     ghost area: { IsArea grid.area },
     ghost whole: { HasWholeTiles (K.given known.now) stage grid },
-}
-
-// The number `k` behind `first`.
-#[inline]
-#[tactic(auto, using(std::proofs::lemmas::Int::ints))]
-fn behind(first: i32, k: usize) -> i32
-    requires few { k ≤ 100000 }
-    requires most { first ≤ℤ pos 1048576 }
-    ensures { result ≡ first +ℤ pos k }
-{
-    first + k as i32
 }
 
 // How many numbers of a span there are from this one on, but at most so many.
@@ -47,21 +36,20 @@ fn reach(span: &Span, first: i32, most: usize) -> usize
     most.min((span.hi() - first) as usize + 1)
 }
 
-// How many columns, from the first on, an index takes into a span, but at most so many. An index never falls: it takes the columns
-// between two that it takes into the span there too, so the last is found by halving.
-fn taken(span: &Span, col: &Index, start: &RowStart, most: usize) -> usize
-    requires held { Holds span.now (index_at col.now start.now.col) }
-    requires some { 0 < most }
-    requires most { (start.now.col +ℤ pos most) ≤ℤ pos 16385 }
+// How many of some points, from the first on, an index takes into a span. An index never falls: it takes the columns between two
+// that it takes into the span there too, so the last is found by halving.
+fn taken(span: &Span, col: &Index, points: &RowSpan) -> usize
+    requires held { Holds span.now (index_at col.now points.now.col) }
+    requires some { 0 < points.now.len }
     ensures some { 0 < result }
-    ensures most { result ≤ most }
-    ensures within { EachPlace result (λ k. Holds span.now (index_at col.now (start.now.col +ℤ pos k))) }
+    ensures most { result ≤ points.now.len }
+    ensures within { EachPlace result (λ k. Holds span.now (index_at col.now (points.now.col +ℤ pos k))) }
 {
     let mut held = 1;
-    let mut end = most;
+    let mut end = points.len;
     while held < end {
         let middle = held + (end - held) / 2;
-        if span.holds(col.at(start.column(middle))) {
+        if span.holds(col.at(points.column(middle))) {
             held = middle + 1;
         } else {
             end = middle;
@@ -98,7 +86,6 @@ impl<'a, K: Known> TilesOfStage<'a, K> {
     // Writes the numbers along a row as far as the tile of its first point goes, and tells how many these are.
     fn part(&self, row: i32, first: i32, out: &mut [i32]) -> usize
         requires some { 0 < length out.old }
-        requires short { length out.old ≤ 100000 }
         requires there { EachPlace (length out.old) (λ k. IsGivenAt (K.given self.now.known.now) self.now.stage self.now.grid row (first +ℤ pos k)) }
         ensures some { 0 < result }
         ensures most { result ≤ length out.old }
@@ -116,45 +103,44 @@ impl<'a, K: Known> TilesOfStage<'a, K> {
 
     /// Writes the numbers along a row, from a column on.
     pub(crate) fn read_row(&self, row: i32, first: i32, out: &mut [i32])
-        requires short { length out.old ≤ 100000 }
-        requires there { EachPlace (length out.old) (λ k. IsGivenAt (K.given self.now.known.now) self.now.stage self.now.grid row (first +ℤ pos k)) }
+        requires { EachPlace (length out.old) (λ k. IsGivenAt (K.given self.now.known.now) self.now.stage self.now.grid row (first +ℤ pos k)) }
         ensures { EachPlace (length out.old) (λ k. at out.new k ≡ number_at (K.given self.now.known.now) self.now.stage self.now.grid row (first +ℤ pos k)) }
     {
         let mut done = 0;
         while done < out.len() {
-            done += self.part(row, behind(first, done), &mut out[done..]);
+            done += self.part(row, number_after(first, done), &mut out[done..]);
         }
     }
 
     // Writes the numbers along a row, at the columns that an index takes, as far as the tile of the first of them goes, and tells
     // how many these are.
-    fn pick_part(&self, row: i32, col: &Index, start: &RowStart, out: &mut [i32]) -> usize
+    fn pick_part(&self, row: i32, col: &Index, points: &RowSpan, out: &mut [i32]) -> usize
         requires some { 0 < length out.old }
-        requires most { (start.now.col +ℤ pos (length out.old)) ≤ℤ pos 16385 }
-        requires there { EachPlace (length out.old) (λ k. IsGivenAt (K.given self.now.known.now) self.now.stage self.now.grid row (index_at col.now (start.now.col +ℤ pos k))) }
+        requires fits { length out.old ≡ points.now.len }
+        requires there { EachPlace (length out.old) (λ k. IsGivenAt (K.given self.now.known.now) self.now.stage self.now.grid row (index_at col.now (points.now.col +ℤ pos k))) }
         ensures some { 0 < result }
         ensures most { result ≤ length out.old }
-        ensures numbers { EachPlace result (λ k. at out.new k ≡ number_at (K.given self.now.known.now) self.now.stage self.now.grid row (index_at col.now (start.now.col +ℤ pos k))) }
+        ensures numbers { EachPlace result (λ k. at out.new k ≡ number_at (K.given self.now.known.now) self.now.stage self.now.grid row (index_at col.now (points.now.col +ℤ pos k))) }
     {
-        match self.block(row, start.col_at(col)) {
+        match self.block(row, points.col_at(col)) {
             Some(block) => {
-                let count = taken(block.columns(), col, start, out.len());
-                block.gather(row, col, start, &mut out[..count]);
+                let count = taken(block.columns(), col, points);
+                block.gather(row, col, &points.first(count), &mut out[..count]);
                 count
             }
             None => out.len(),
         }
     }
 
-    /// Writes the numbers along a row, at the columns that an index takes at columns from a start on.
-    pub(crate) fn gather(&self, row: i32, col: &Index, start: &RowStart, out: &mut [i32])
-        requires most { (start.now.col +ℤ pos (length out.old)) ≤ℤ pos 16385 }
-        requires there { EachPlace (length out.old) (λ k. IsGivenAt (K.given self.now.known.now) self.now.stage self.now.grid row (index_at col.now (start.now.col +ℤ pos k))) }
-        ensures { EachPlace (length out.old) (λ k. at out.new k ≡ number_at (K.given self.now.known.now) self.now.stage self.now.grid row (index_at col.now (start.now.col +ℤ pos k))) }
+    /// Writes the numbers along a row, at the columns that an index takes at the columns of some points.
+    pub(crate) fn gather(&self, row: i32, col: &Index, points: &RowSpan, out: &mut [i32])
+        requires fits { length out.old ≡ points.now.len }
+        requires there { EachPlace (length out.old) (λ k. IsGivenAt (K.given self.now.known.now) self.now.stage self.now.grid row (index_at col.now (points.now.col +ℤ pos k))) }
+        ensures { EachPlace (length out.old) (λ k. at out.new k ≡ number_at (K.given self.now.known.now) self.now.stage self.now.grid row (index_at col.now (points.now.col +ℤ pos k))) }
     {
         let mut done = 0;
         while done < out.len() {
-            done += self.pick_part(row, col, &start.behind(done), &mut out[done..]);
+            done += self.pick_part(row, col, &points.part(done, out.len()), &mut out[done..]);
         }
     }
 

@@ -3,7 +3,7 @@ use Rattle.std.specs.Prelude.{ℕ, ℤ, ◌≡◌, Some}
 use Rattle.domains.specs.Area.{HoldsPoint}
 use Rattle.domains.specs.Tiles.{tile_area, tile_at}
 use Rattle.domains.specs.declared.grid.Grid.{Grid}
-use Rattle.tile_eval.specs.declared.blocks.BufferView.{BufferView}
+use Rattle.row_kernels.specs.declared.buffer_view.BufferView.{BufferView}
 use Rattle.tile_run.specs.KnownTiles.{KnownTiles}
 
 -- the numbers of the tile in which the point lies

@@ -13,7 +13,7 @@ use Rattle.accumulators.proofs.gather.gather_row.Goals as goal
 pub row-requires-clause-reads : goal.row-requires-clause-reads
 row-requires-clause-reads g c =
     let has = g.S.RowSource.has c.args.source.now in
-    let start = c.args.start.now in
+    let start = c.args.points.now in
     let n = length c.args.values.now in
     let own = c.args.accumulator.now.value in
     subst (λ (f : KeptFormula). ReadsWithin has (formula_view f) start.row start.col n) (sym c.value.ensures)
@@ -22,7 +22,7 @@ row-requires-clause-reads g c =
 pub row-requires-2-clause-reads : goal.row-requires-2-clause-reads
 row-requires-2-clause-reads g c =
     let has = g.S.RowSource.has c.args.source.now in
-    let start = c.args.start.now in
+    let start = c.args.points.now in
     let own = c.args.accumulator.now.bin in
     subst (λ (n : ℕ). ReadsWithin has (formula_view c.bin.result.now) start.row start.col n) (sym c.requires.one_length)
     (subst (λ (f : KeptFormula). ReadsWithin has (formula_view f) start.row start.col (length c.args.values.now)) (sym c.bin.ensures)
@@ -33,8 +33,8 @@ pub returns : goal.returns
 returns g c = λ j h.
     let env : Valuation = g.S.RowSource.samples c.args.source.now in
     let a = c.args.accumulator.now in
-    let r : ℤ = c.args.start.now.row in
-    let x : ℤ = c.args.start.now.col in
+    let r : ℤ = c.args.points.now.row in
+    let x : ℤ = c.args.points.now.col in
     let n : ℕ = length c.args.values.now in
     let value : ℤ → ℤ → ℤ = formula_value env (formula_view a.value) in
     let bin : ℤ → ℤ → ℤ = formula_value env (formula_view a.bin) in

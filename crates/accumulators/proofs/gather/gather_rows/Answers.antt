@@ -11,7 +11,7 @@ use Rattle.accumulators.proofs.gather.gather_rows.Goals as goal
 pub gather_row-requires-clause-reads : goal.gather_row-requires-clause-reads
 gather_row-requires-clause-reads g c = λ k l.
     let area = c.args.area.now in
-    let start = c.at-start in
+    let start = c.at-points in
     let below : c.loop-i.i < len_of area.rows = omega (arith, c.len-i-end.ensures.number) in
     let before : k < len_of area.cols = omega (arith, c.loop-i.auto.values, c.requires.width) in
     let reads = c.requires.reads (area.rows.lo +ℤ pos c.loop-i.i) (area.cols.lo +ℤ pos k)
@@ -26,7 +26,7 @@ loop-i-preserved g c = λ j h.
     let env : Valuation = g.S.RowSource.samples c.args.source.now in
     let a = c.args.accumulator.now in
     let area = c.args.area.now in
-    let start = c.at-start in
+    let start = c.at-points in
     let value : ℤ → ℤ → ℤ = formula_value env (formula_view a.value) in
     let bin : ℤ → ℤ → ℤ = formula_value env (formula_view a.bin) in
     let b : ℤ = a.bins.lo +ℤ pos j in

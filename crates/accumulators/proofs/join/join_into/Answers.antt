@@ -2,7 +2,7 @@ use Rattle.std.proofs.Common.{rules, arith, ℕ, ◌≡◌, ◌≢◌, ◌<◌, 
 use Rattle.std.proofs.lemmas.Int.{to_z-of_z}
 use Rattle.job.specs.Totals.{joined}
 use Rattle.tile_eval.specs.Rows.{at}
-use Rattle.tile_eval.proofs.Writing.{EachPlace-more}
+use Rattle.row_kernels.proofs.Writing.{EachPlace-more}
 use Rattle.accumulators.proofs.JoinInto.{joined_by_places}
 use Rattle.accumulators.proofs.join.join_into.Goals as goal
 

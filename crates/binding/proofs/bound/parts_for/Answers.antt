@@ -18,9 +18,9 @@ returns-in-Ok-clause-ok c =
       image = image;
       declared = c.requires;
       are = subst (λ ss. ArePartsOf (program_of c.args.checked.now ss) items c.in-Ok.parts) same c.in-Ok.ensures;
-      bounds = subst (λ ss. IsInBounds ss items) same c.in_ok-judge.ensures.bounds;
-      real = c.in_ok-judge.ensures.image;
+      bounds = subst (λ ss. IsInBounds ss items) same c.in_ok-found.ensures.bounds;
+      real = c.in_ok-found.ensures.image;
       small = subst (λ ss. AreSmall ss) same c.in_ok-settled.ensures.small;
-      planes = c.in_ok-judge.ensures.picture.0;
-      extents = subst (λ ss. ExtentsFit ss image c.args.picture.now) same c.in_ok-judge.ensures.picture.1;
+      planes = c.in_ok-found.ensures.picture.0;
+      extents = subst (λ ss. ExtentsFit ss image c.args.picture.now) same c.in_ok-found.ensures.picture.1;
     }

@@ -3,11 +3,14 @@ use Rattle.pipe_tree.specs.Tree.{declarations}
 use Rattle.pipe_tree.specs.Content.{items_of, content}
 use Rattle.pipe_checks.specs.Checking.{tree_in}
 use Rattle.binding.specs.Ranges.{AreReady}
+use Rattle.binding.specs.Resolving.{program_of}
 use Rattle.binding.proofs.Readying.{ready}
 use Rattle.binding.proofs.bound.resolve.Goals as goal
 
 pub stages-requires : goal.stages-requires
 stages-requires c =
     let tree = tree_in c.args.checked.now in
+    let p = program_of c.args.checked.now c.args.params.now in
+    let known = c.tree.ensures.checked in
     let same : declarations c.items-items.result.now ≡ content tree = ap declarations (c.items-items.ensures ∙ ap items_of c.tree.ensures.program) in
-    subst (AreReady c.args.params.now) (sym same) (ready c.args.params.now (content tree) c.tree.ensures.checked.named c.requires)
+    subst (AreReady p c.args.found.now) (sym same) (ready (content tree) p known.stages known.named c.args.found.now c.requires)

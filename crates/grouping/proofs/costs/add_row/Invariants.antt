@@ -1,5 +1,5 @@
 use Rattle.std.proofs.Common.{◌≡◌, ◌++◌}
-use Rattle.grouping.specs.Tallies.{row_areas}
+use Rattle.grouping.specs.inside.Tallies.{row_areas}
 use Rattle.grouping.proofs.costs.add_row.Given as goal
 
 abbrev pub invariant-loop-j : goal.invariant-loop-j

@@ -1,7 +1,7 @@
 use Rattle.std.proofs.Common.{◌≡◌}
 use Rattle.std.specs.List.{flat_map, range_with_len}
 use Rattle.domains.specs.Tiles.{tile_cols}
-use Rattle.grouping.specs.Tallies.{row_areas}
+use Rattle.grouping.specs.inside.Tallies.{row_areas}
 use Rattle.grouping.proofs.costs.areas_of_tiles.Given as goal
 
 abbrev pub invariant-loop-i : goal.invariant-loop-i

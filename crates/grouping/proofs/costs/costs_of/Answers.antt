@@ -1,14 +1,13 @@
-use Rattle.std.proofs.Common.{◌≡◌, ◌++◌, ◌∷◌, [], ◌&&◌, ap, sym, ◌∙◌}
+use Rattle.std.proofs.Common.{◌≡◌, ◌++◌, ◌∷◌, [], ◌&&◌, ap, sym, ◌∙◌, arith, map, length}
 use Rattle.std.specs.List.{range_with_len}
-use Rattle.std.proofs.Common.{arith, map, length}
 use Rattle.std.proofs.lemmas.List.{length-map}
 use Rattle.job.specs.Views.{stage_view}
 use Rattle.std.specs.Prelude.{slice_get}
 use Rattle.job.specs.Kept.{pipeline_in}
-use Rattle.grouping.specs.Costs.{cost}
-use Rattle.grouping.specs.Tallies.{stage_fits, all_stages_fit}
-use Rattle.grouping.proofs.Counting.{map_range_more}
-use Rattle.grouping.proofs.Costing.{all_more, all_fit}
+use Rattle.grouping.specs.Costs.{cost, stage_fits}
+use Rattle.grouping.specs.inside.Tallies.{all_stages_fit}
+use Rattle.grouping.proofs.Lists.{map_range_more}
+use Rattle.grouping.proofs.CostsAddUp.{all_more, all_fit}
 use Rattle.grouping.proofs.costs.costs_of.Goals as goal
 
 pub loop-number-preserved : goal.loop-number-preserved
@@ -18,7 +17,8 @@ loop-number-preserved c =
     let n = c.loop-number.number in
     let before = c.loop-number.invariant in (
       c.in_ok-add.ensures.costs ∙ (λ i. before.0 i ++ c.in_ok-tally_of.ensures.cost i ∷ []) ∙ sym (map_range_more (cost job inlining) n),
-      c.in_ok-add.ensures.fits ∙ (λ i. before.1 i && c.in_ok-tally_of.ensures.fits i) ∙ sym (all_more (λ g. stage_fits job inlining g (slice_get job.stages g)) n),
+      c.in_ok-add.ensures.fits ∙ (λ i. before.1 i && c.in_ok-tally_of.ensures.fits i)
+          ∙ sym (all_more (λ g. stage_fits job inlining g (slice_get job.stages g)) n),
     )
 
 pub returns-clause-fits : goal.returns-clause-fits
@@ -27,5 +27,6 @@ returns-clause-fits c =
     let inlining = c.args.inlining.now in
     let stages = c.stages-number-end.result.now in
     let counted : length (map stage_view stages) ≡ length job.stages = ap length c.stages-number-end.ensures in
-    let last : c.loop-number.number ≡ length job.stages = omega (arith, counted, length-map stages stage_view, c.loop-number-test.false, c.loop-number.auto.number-end) in
+    let last : c.loop-number.number ≡ length job.stages = omega
+    (arith, counted, length-map stages stage_view, c.loop-number-test.false, c.loop-number.auto.number-end) in
     λ fits. all_fit job inlining (ap (λ n. all_stages_fit job inlining (range_with_len 0 n)) (sym last) ∙ sym c.loop-number.invariant.1 ∙ fits)

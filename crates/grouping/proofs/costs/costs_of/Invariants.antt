@@ -2,7 +2,7 @@ use Rattle.std.proofs.Common.{◌≡◌, map}
 use Rattle.std.specs.List.{range_with_len}
 use Rattle.job.specs.Kept.{pipeline_in}
 use Rattle.grouping.specs.Costs.{cost}
-use Rattle.grouping.specs.Tallies.{all_stages_fit}
+use Rattle.grouping.specs.inside.Tallies.{all_stages_fit}
 use Rattle.grouping.proofs.costs.costs_of.Given as goal
 
 abbrev pub invariant-loop-number : goal.invariant-loop-number

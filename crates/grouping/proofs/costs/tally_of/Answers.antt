@@ -1,23 +1,32 @@
 use Rattle.std.specs.Prelude.{slice_get}
 use Rattle.std.specs.Option.{option_map}
 use Rattle.job.specs.Views.{stage_view}
-use Rattle.grouping.proofs.Alone.{alone_takes_none}
+use Rattle.grouping.proofs.AloneTakesNone.{alone_takes_none}
 use Rattle.std.proofs.Common.{◌≡◌, Some, ap, sym, ◌∙◌}
 use Rattle.job.specs.Kept.{pipeline_in}
-use Rattle.grouping.specs.Tallies.{points_over}
-use Rattle.grouping.proofs.Costing.{targets_from, cost_from}
+use Rattle.grouping.specs.inside.Tallies.{points_over, all_have_scratch}
+use Rattle.grouping.proofs.CostsAddUp.{targets_from, cost_from, fits_from}
 use Rattle.grouping.proofs.costs.tally_of.Goals as goal
 
 pub tally-requires-clause-targets : goal.tally-requires-clause-targets
 tally-requires-clause-targets c =
-    targets_from (pipeline_in c.args.job.now) c.args.inlining.now c.args.number c.in-Some.grid c.deref.result.now c.requires.job (sym c.grid.ensures ∙ c.in-Some.is) (c.deref.ensures.value ∙ c.in_ok-areas.ensures)
+    targets_from (pipeline_in c.args.job.now) c.args.inlining.now c.args.number c.in-Some.grid c.deref.result.now c.args.job.now.well
+    (sym c.grid.ensures ∙ c.in-Some.is) (c.deref.ensures.value ∙ c.in_ok-areas.ensures)
 
 pub returns-clause-cost : goal.returns-clause-cost
 returns-clause-cost c =
-    cost_from (pipeline_in c.args.job.now) c.args.inlining.now c.args.number c.in-Some.grid c.in_ok-tally.field-0.points (sym c.grid.ensures ∙ c.in-Some.is) (cc) (c.in_ok-tally.ensures.points ∙ ap (points_over (record { job = pipeline_in c.args.job.now; inlining = c.args.inlining.now; stage = c.args.number; region = c.in-Some.grid.area })) (c.deref.ensures.value ∙ c.in_ok-areas.ensures))
+    cost_from (pipeline_in c.args.job.now) c.args.inlining.now c.args.number c.in-Some.grid c.in_ok-tally.field-0.points
+    (sym c.grid.ensures ∙ c.in-Some.is) (cc) (c.in_ok-tally.ensures.points ∙ ap (points_over (record { job = pipeline_in c.args.job.now; inlining = c.args.inlining.now; stage = c.args.number; region = c.in-Some.grid.area })) (c.deref.ensures.value ∙ c.in_ok-areas.ensures))
+
+pub returns-clause-fits : goal.returns-clause-fits
+returns-clause-fits c =
+    fits_from (pipeline_in c.args.job.now) c.args.inlining.now c.args.number c.in-Some.grid c.in_ok-tally.field-0.fits
+    (sym c.grid.ensures ∙ c.in-Some.is) (cc) (c.in_ok-tally.ensures.fits ∙ ap (all_have_scratch (record { job = pipeline_in c.args.job.now; inlining = c.args.inlining.now; stage = c.args.number; region = c.in-Some.grid.area })) (c.deref.ensures.value ∙ c.in_ok-areas.ensures))
 
 pub tally-requires-clause-alone : goal.tally-requires-clause-alone
 tally-requires-clause-alone c =
     let job = pipeline_in c.args.job.now in
-    let there : slice_get job.stages c.args.number ≡ Some (stage_view c.in-Some-stage.stage.now) = sym c.stage.ensures ∙ ap (option_map (λ s. stage_view s.now)) c.in-Some-stage.is in
-    λ holds a. alone_takes_none (record { job = job; inlining = c.args.inlining.now; stage = c.args.number; region = a }) (stage_view c.in-Some-stage.stage.now) there (sym c.in_ok-is_alone.ensures ∙ holds)
+    let there : slice_get job.stages c.args.number ≡ Some (stage_view c.in-Some-stage.stage.now) = sym c.stage.ensures
+    ∙ ap (option_map (λ s. stage_view s.now)) c.in-Some-stage.is in
+    λ holds a. alone_takes_none (record { job = job; inlining = c.args.inlining.now; stage = c.args.number; region = a })
+    (stage_view c.in-Some-stage.stage.now) there (sym c.in_ok-is_alone.ensures ∙ holds)

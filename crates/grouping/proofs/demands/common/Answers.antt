@@ -1,9 +1,14 @@
-use Rattle.std.proofs.Common.{arith, ◌≡◌, None}
+use Rattle.std.proofs.Common.{◌≡◌}
 use Rattle.grouping.specs.Demands.{meet_of_areas}
-use Rattle.grouping.proofs.Areas.{cols_apart}
+use Rattle.grouping.proofs.AreasMeet.{meet_is, near_if_meet}
 use Rattle.grouping.proofs.demands.common.Goals as goal
+use Rattle.grouping.proofs.demands.common.Goals.{After-meet}
 
-pub returns-in_err-cols : goal.returns-in_err-cols
-returns-in_err-cols c =
-    let apart : meet_of_areas c.args.one.now c.args.other.now ≡ None = cols_apart c.args.one.now c.args.other.now c.in_err-cols.ensures.both.0 c.in_err-cols.ensures.both.1 c.in_err-cols.ensures.none in
-    grind (arith, apart)
+is_meet : (c : After-meet) → c.meet.result ≡ meet_of_areas c.args.one.now c.args.other.now
+is_meet c = meet_is c.args.one.now c.args.other.now c.meet.result c.meet.ensures.spans c.meet.ensures.within c.meet.ensures.none
+
+pub returns-clause-is : goal.returns-clause-is
+returns-clause-is c = is_meet c
+
+pub returns-clause-near : goal.returns-clause-near
+returns-clause-near c = near_if_meet c.args.one.now c.args.other.now c.meet.result (is_meet c)

@@ -1,10 +1,9 @@
 use Rattle.std.proofs.Common.{ap, map, ◌∙◌, refl}
 use Rattle.std.specs.Option.{option_map}
 use Rattle.std.proofs.lemmas.Option.{slice_get-map}
-use Rattle.domains.proofs.Places.{here_is}
+use Rattle.domains.proofs.Places.{here_is, all_at}
 use Rattle.job.specs.Views.{case_view}
 use Rattle.job.specs.WellFormed.{IsFormula}
-use Rattle.domains.proofs.Places.{all_at}
 use Rattle.grouping.proofs.demands.demand_cases.Goals as goal
 
 pub demand_case-requires-clause-formula : goal.demand_case-requires-clause-formula

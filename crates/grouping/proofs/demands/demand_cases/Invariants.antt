@@ -2,7 +2,7 @@ use Rattle.std.proofs.Common.{◌≡◌, drop, map}
 use Rattle.std.specs.List.{flat_map}
 use Rattle.job.specs.Views.{case_view}
 use Rattle.grouping.specs.Demands.{case_demands}
-use Rattle.grouping.specs.Walks.{demanded_all}
+use Rattle.grouping.specs.inside.Walks.{demanded_all}
 use Rattle.grouping.proofs.demands.demand_cases.Given as goal
 
 abbrev pub invariant-loop-case : goal.invariant-loop-case

@@ -1,4 +1,4 @@
-use Rattle.grouping.proofs.Chains.{groups_are_stored, groups_at_last, groups_after}
+use Rattle.grouping.proofs.GroupsFollowChains.{groups_are_stored, groups_at_last, groups_after}
 use Rattle.grouping.proofs.laws.groups_follow_chains.Goals as goal
 
 pub returns-clause-stored : goal.returns-clause-stored

@@ -5,4 +5,5 @@ use Rattle.grouping.proofs.readers.readers_of.Given as goal
 
 abbrev pub invariant-loop-reader : goal.invariant-loop-reader
 invariant-loop-reader l =
-    l.readers.items ++ filter (does_read (pipeline_in l.job) l.number) (drop l.reader-index l.stages) ≡ filter (does_read (pipeline_in l.job) l.number) l.stages
+    l.readers.items ++ filter (does_read (pipeline_in l.job) l.number) (drop l.reader-index l.stages) ≡ filter
+    (does_read (pipeline_in l.job) l.number) l.stages

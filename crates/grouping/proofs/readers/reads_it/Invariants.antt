@@ -7,4 +7,5 @@ use Rattle.grouping.proofs.readers.reads_it.Given as goal
 
 abbrev pub invariant-loop-read : goal.invariant-loop-read
 invariant-loop-read l =
-    list_any (λ x. stage_read x == l.number) (map read_view (drop l.read-index l.read-items)) ≡ list_any (λ x. stage_read x == l.number) (reads_of (stage_view l.stage).body)
+    list_any (λ x. stage_read x == l.number) (map read_view (drop l.read-index l.read-items)) ≡ list_any (λ x. stage_read x == l.number)
+    (reads_of (stage_view l.stage).body)

@@ -1,5 +1,5 @@
-use Rattle.overlap_tiles.proofs.KeyOrder.{keys_rise}
-use Rattle.overlap_tiles.proofs.Needing.{from_needs, to_needs, needs_rise}
+use Rattle.overlap_tiles.proofs.KeysRise.{keys_rise}
+use Rattle.overlap_tiles.proofs.NeedsAreExact.{from_needs, to_needs, needs_rise}
 use Rattle.overlap_tiles.proofs.laws.needs_are_exact.Goals as goal
 
 pub returns-clause-all : goal.returns-clause-all

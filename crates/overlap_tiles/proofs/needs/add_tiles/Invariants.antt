@@ -5,4 +5,5 @@ use Rattle.overlap_tiles.proofs.needs.add_tiles.Given as goal
 
 abbrev pub invariant-loop-tile : goal.invariant-loop-tile
 invariant-loop-tile l =
-    map need_view l.needs.items ++ map (tile_of_stage l.stage) (drop l.tile-index l.tiles) ≡ map need_view l.fn.needs.items ++ map (tile_of_stage l.stage) l.tiles
+    map need_view l.needs.items ++ map (tile_of_stage l.stage) (drop l.tile-index l.tiles) ≡ map need_view l.fn.needs.items ++ map
+    (tile_of_stage l.stage) l.tiles

@@ -1,7 +1,7 @@
 use Rattle.std.proofs.Common.{◌≡◌, map}
 use Rattle.std.specs.List.{flat_map, range_with_len}
 use Rattle.job.specs.Kept.{pipeline_in}
-use Rattle.overlap_tiles.specs.Made.{stage_needs}
+use Rattle.overlap_tiles.specs.inside.Made.{stage_needs}
 use Rattle.overlap_tiles.specs.Views.{need_view}
 use Rattle.overlap_tiles.proofs.needs.needs.Given as goal
 

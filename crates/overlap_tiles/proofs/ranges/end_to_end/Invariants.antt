@@ -3,7 +3,7 @@ use Rattle.std.specs.Prelude.{fold}
 use Rattle.domains.specs.Area.{point_count}
 use Rattle.grouping.specs.Costs.{points_in}
 use Rattle.overlap_tiles.specs.Views.{step_view}
-use Rattle.overlap_tiles.specs.Made.{end_to_end}
+use Rattle.overlap_tiles.specs.inside.Made.{end_to_end}
 use Rattle.overlap_tiles.proofs.ranges.end_to_end.Given as goal
 
 abbrev pub invariant-loop-step : goal.invariant-loop-step

@@ -6,4 +6,5 @@ use Rattle.overlap_tiles.proofs.steps.inner_steps.Given as goal
 
 abbrev pub invariant-loop-found : goal.invariant-loop-found
 invariant-loop-found l =
-    map step_view l.steps.items ++ filter (λ s. is_inlined l.schedule.inlining s.0) (drop l.found-index l.boxes) ≡ filter (λ s. is_inlined l.schedule.inlining s.0) l.boxes
+    map step_view l.steps.items ++ filter (λ s. is_inlined l.schedule.inlining s.0) (drop l.found-index l.boxes) ≡ filter
+    (λ s. is_inlined l.schedule.inlining s.0) l.boxes

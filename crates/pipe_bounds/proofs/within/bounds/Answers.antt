@@ -1,23 +1,9 @@
-use Rattle.std.proofs.Common.{◌∙◌, ap}
-use Rattle.pipe_tree.specs.Tree.{declarations}
-use Rattle.pipe_tree.specs.Content.{content, items_of}
-use Rattle.pipe_checks.specs.Checking.{tree_in}
-use Rattle.pipe_bounds.proofs.Sounding.{checked_declared, checked_sound}
+use Rattle.std.proofs.lemmas.Result.{err_from_is_err_and}
+use Rattle.pipe_bounds.specs.declared.fault.BoundFault.TheVariants.{ParamUnset}
+use Rattle.pipe_bounds.proofs.Stages.{still_err}
 use Rattle.pipe_bounds.proofs.within.bounds.Goals as goal
 
-pub domains_of-requires : goal.domains_of-requires
-domains_of-requires c =
-    let items = ap declarations (c.items-items.ensures ∙ ap items_of c.tree.ensures.program) in
-    let stages = c.stages-stages.ensures ∙ c.tree.ensures.checked.stages in
-    checked_declared (content (tree_in c.args.checked.now)) (declarations c.items-items.result.now) c.stages-stages.result.now items stages
-
-pub judge_reads-requires-clause-declared : goal.judge_reads-requires-clause-declared
-judge_reads-requires-clause-declared c =
-    let items = ap declarations (c.items-items.ensures ∙ ap items_of c.tree.ensures.program) in
-    let stages = c.stages-stages.ensures ∙ c.tree.ensures.checked.stages in
-    checked_declared (content (tree_in c.args.checked.now)) (declarations c.items-items.result.now) c.stages-stages.result.now items stages
-
-pub judge_reads-requires-clause-sound : goal.judge_reads-requires-clause-sound
-judge_reads-requires-clause-sound c =
-    let items = ap declarations (c.items-items.ensures ∙ ap items_of c.tree.ensures.program) in
-    checked_sound (content (tree_in c.args.checked.now)) (declarations c.items-items.result.now) c.stages-stages.result.now items c.tree.ensures.checked.named.good
+pub returns-in_err-bounds_by_stage-clause-unset : goal.returns-in_err-bounds_by_stage-clause-unset
+returns-in_err-bounds_by_stage-clause-unset c = λ n first.
+    let p = err_from_is_err_and c.from_residual.result c.from_residual.ensures.1 in
+    rw (p.1, p.2) (still_err c.in_err-bounds_by_stage.field-0.0 (ParamUnset n) (c.in_err-bounds_by_stage.ensures.unset n first))

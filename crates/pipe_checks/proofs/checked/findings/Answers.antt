@@ -4,7 +4,7 @@ use Rattle.std.proofs.lemmas.Result.{err_from_is_err_and}
 use Rattle.pipe_tree.specs.Tree.{declarations}
 use Rattle.pipe_checks.specs.declared.symbol.Symbol.{Symbol}
 use Rattle.pipe_checks.specs.Names.{is_param}
-use Rattle.pipe_checks.specs.Sites.{links_from}
+use Rattle.pipe_checks.specs.Accesses.{links_from}
 use Rattle.pipe_checks.specs.Checking.{is_result}
 use Rattle.pipe_checks.specs.Search.{IsCyclic}
 use Rattle.pipe_checks.proofs.Faulting.{cyclic_fault}

@@ -1,6 +1,6 @@
 use Rattle.std.proofs.Common.{◌≡◌, map, take}
 use Rattle.pipe_tree.specs.Tree.{declarations}
-use Rattle.pipe_checks.specs.Sites.{links_of}
+use Rattle.pipe_checks.specs.Accesses.{links_of}
 use Rattle.pipe_checks.proofs.graph.graph.Given as goal
 
 abbrev pub invariant-loop-stage : goal.invariant-loop-stage

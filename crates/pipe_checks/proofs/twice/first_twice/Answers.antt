@@ -13,7 +13,7 @@ returns-then-declares_again-clause-first c =
     first_twice_is c.args.names.now c.args.items.now c.loop-number.number _ c.loop-number-test.true c.index-items-number.is
     (elim c.then-declares_again.branch [
       | then-declares_again-via-then-declares_again w ↦ inl (c.declares_again.ensures.yes w.if-declares_again.true)
-      | then-declares_again-via-else-declares_again+then-varies_again w ↦ inr (sym (w.varies_again.ensures ∙ ap (varies_again c.args.names.now) w.own_of.ensures) ∙ w.if-varies_again.true)
+      | then-declares_again-via-else-declares_again+then-varies_again w ↦ inr (sym (w.varies_again.ensures ∙ ap (varies_again c.args.names.now) w.locals_of.ensures) ∙ w.if-varies_again.true)
     ])
     c.loop-number.invariant
 
@@ -23,7 +23,7 @@ loop-number-preserved c =
     (declaration_at c.args.items.now c.loop-number.number _ c.loop-number-test.true c.index-items-number.is)
     (λ h. elim h [
       | inl a ↦ false≢true (sym c.if-declares_again.false ∙ c.declares_again.ensures.no a)
-      | inr v ↦ false≢true (sym c.if-varies_again.false ∙ c.varies_again.ensures ∙ ap (varies_again c.args.names.now) c.own_of.ensures ∙ v)
+      | inr v ↦ false≢true (sym c.if-varies_again.false ∙ c.varies_again.ensures ∙ ap (varies_again c.args.names.now) c.locals_of.ensures ∙ v)
     ])
     c.loop-number.invariant
 

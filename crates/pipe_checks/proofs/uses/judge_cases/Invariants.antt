@@ -4,4 +4,4 @@ use Rattle.pipe_checks.specs.Uses.{branches_verdict}
 use Rattle.pipe_checks.proofs.uses.judge_cases.Given as goal
 
 abbrev pub invariant-loop-case : goal.invariant-loop-case
-invariant-loop-case l = branches_verdict l.names l.own (branches (drop l.case-index l.cases)) ≡ branches_verdict l.names l.own (branches l.cases)
+invariant-loop-case l = branches_verdict l.names l.locals (branches (drop l.case-index l.cases)) ≡ branches_verdict l.names l.locals (branches l.cases)

@@ -1,10 +1,10 @@
 use Rattle.std.proofs.Common.{◌≡◌, ℕ, ◌<◌, ◌+ℤ◌, ◌*◌, ◌+◌, pos, map}
 use Rattle.std.specs.Option.{option_map}
 use Rattle.job.specs.Views.{case_view, formula_view}
-use Rattle.tile_eval.specs.Rows.{EachPlace, at}
+use Rattle.row_kernels.specs.Rows.{EachPlace, at}
 use Rattle.tile_eval.specs.Cases.{function_value}
 use Rattle.tile_eval.proofs.areas.function_area.Given as goal
 
 abbrev pub invariant-loop-i : goal.invariant-loop-i
 invariant-loop-i g l =
-    (i : ℕ) → i < l.i → EachPlace l.fn.cols (λ k. at l.out (i * l.fn.cols + k) ≡ function_value (g.S.RowSource.samples l.fn.source) (map case_view l.fn.function.cases.items) (option_map formula_view l.fn.function.otherwise) (l.fn.start.row +ℤ pos i) (l.fn.start.col +ℤ pos k))
+    (i : ℕ) → i < l.i → EachPlace l.fn.points.len (λ k. at l.out (i * l.fn.points.len + k) ≡ function_value (g.S.RowSource.samples l.fn.source) (map case_view l.fn.function.cases.items) (option_map formula_view l.fn.function.otherwise) (l.fn.points.row +ℤ pos i) (l.fn.points.col +ℤ pos k))

@@ -15,8 +15,8 @@ where_passed-requires g c =
 
 pub row-requires-clause-reads : goal.row-requires-clause-reads
 row-requires-clause-reads g c =
-    subst (λ (f : KeptFormula). ReadsWithin (g.S.RowSource.has c.args.source.now) (formula_view f) c.args.start.now.row c.args.start.now.col (length c.args.out.now)) (sym c.formula.ensures)
-    (reads_along (g.S.RowSource.has c.args.source.now) c.args.start.now.row c.args.start.now.col (length c.args.out.now) (formula_view c.args.case.now.formula) c.requires.some c.requires.roomy.formula (λ k l. (c.requires.ready k l).reads (c.requires.inside k l)))
+    subst (λ (f : KeptFormula). ReadsWithin (g.S.RowSource.has c.args.source.now) (formula_view f) c.args.points.now.row c.args.points.now.col (length c.args.out.now)) (sym c.formula.ensures)
+    (reads_along (g.S.RowSource.has c.args.source.now) c.args.points.now.row c.args.points.now.col (length c.args.out.now) (formula_view c.args.case.now.formula) c.requires.some c.requires.roomy.formula (λ k l. (c.requires.ready k l).reads (c.requires.inside k l)))
 
 pub row-requires-clause-room : goal.row-requires-clause-room
 row-requires-clause-room g c =
@@ -28,8 +28,8 @@ row-requires-clause-room g c =
 pub row-requires-in_default-clause-reads : goal.row-requires-in_default-clause-reads
 row-requires-in_default-clause-reads g c =
     let len : length c.split_at_mut-mine.result.0.now ≡ length c.args.out.now = search rules in
-    rw len (subst (λ (f : KeptFormula). ReadsWithin (g.S.RowSource.has c.args.source.now) (formula_view f) c.args.start.now.row c.args.start.now.col (length c.args.out.now)) (sym c.formula-in_default.ensures)
-    (reads_along (g.S.RowSource.has c.args.source.now) c.args.start.now.row c.args.start.now.col (length c.args.out.now) (formula_view c.args.case.now.formula) c.requires.some c.requires.roomy.formula (λ k l. (c.requires.ready k l).reads (c.requires.inside k l))))
+    rw len (subst (λ (f : KeptFormula). ReadsWithin (g.S.RowSource.has c.args.source.now) (formula_view f) c.args.points.now.row c.args.points.now.col (length c.args.out.now)) (sym c.formula-in_default.ensures)
+    (reads_along (g.S.RowSource.has c.args.source.now) c.args.points.now.row c.args.points.now.col (length c.args.out.now) (formula_view c.args.case.now.formula) c.requires.some c.requires.roomy.formula (λ k l. (c.requires.ready k l).reads (c.requires.inside k l))))
 
 pub take_where-requires-clause-tests : goal.take_where-requires-clause-tests
 take_where-requires-clause-tests g c =

@@ -2,7 +2,8 @@ use Rattle.std.proofs.Common.{rules, sym, subst}
 use Rattle.job.specs.declared.formula.Formula.{Formula as KeptFormula}
 use Rattle.job.specs.Formula.{binary, clamp, select}
 use Rattle.job.specs.Views.{formula_view}
-use Rattle.tile_eval.specs.Counted.{IsCounted, IsLeast}
+use Rattle.tile_eval.specs.Counted.{IsLeast}
+use Rattle.tile_eval.specs.inside.Counted.{IsCounted}
 use Rattle.tile_eval.specs.Reading.{HasRoom}
 use Rattle.tile_eval.proofs.Rooms.{room_of, formula_counted, counted_formula}
 use Rattle.tile_eval.proofs.room.+formula_room.Goals as goal

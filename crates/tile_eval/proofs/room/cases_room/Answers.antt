@@ -2,7 +2,7 @@ use Rattle.std.proofs.Common.{rules, ◌≤◌, length, List, subst, sym, add-on
 use Rattle.std.proofs.lemmas.List.{take_all}
 use Rattle.job.specs.declared.stage.JobCase.{JobCase as KeptCase}
 use Rattle.job.specs.Views.{formula_view}
-use Rattle.tile_eval.specs.Counted.{IsCounted}
+use Rattle.tile_eval.specs.inside.Counted.{IsCounted}
 use Rattle.tile_eval.proofs.Rooms.{room_of, cases_room_of, cases_room_next, cases_from, formula_counted, counted_least}
 use Rattle.tile_eval.proofs.room.cases_room.Goals as goal
 

@@ -1,5 +1,5 @@
 use Rattle.std.proofs.Common.{take}
-use Rattle.tile_eval.specs.Counted.{IsCounted}
+use Rattle.tile_eval.specs.inside.Counted.{IsCounted}
 use Rattle.tile_eval.proofs.Rooms.{cases_room_of}
 use Rattle.tile_eval.proofs.room.cases_room.Given as goal
 

@@ -1,7 +1,7 @@
 use Rattle.std.proofs.Common.{arith, ℤ, ◌+ℤ◌, List, ◌∙◌, ap}
 use Rattle.domains.specs.Arithmetic.{wrapped}
 use Rattle.job.specs.Values.{factors}
-use Rattle.tile_eval.specs.Stencil.{tap_sum}
+use Rattle.row_kernels.specs.Stencil.{tap_sum}
 use Rattle.tile_eval.proofs.Sums.{square_sum}
 use Rattle.tile_eval.proofs.stencil.sums_at_once.Goals as goal
 
@@ -13,5 +13,5 @@ returns-in-Some-Some-Some g c = λ t k h.
     let bottom = rw lines.is-2 at c.borrowed_line-bottom.ensures in
     c.write_sums.ensures k h
     ∙ ap (λ (ks : List (List ℤ)). wrapped (tap_sum (factors ks 0) lines.top.now k +ℤ tap_sum (factors ks 1) lines.middle.now k +ℤ tap_sum (factors ks 2) lines.bottom.now k)) c.in-Some.ensures.is
-    ∙ ap wrapped (square_sum c.args.kernel.now (g.S.RowSource.samples c.args.source.now c.args.stage) c.args.start.now.row c.args.start.now.col k lines.top.now lines.middle.now lines.bottom.now
+    ∙ ap wrapped (square_sum c.args.kernel.now (g.S.RowSource.samples c.args.source.now c.args.stage) c.args.points.now.row c.args.points.now.col k lines.top.now lines.middle.now lines.bottom.now
     c.in-Some.ensures.square top.1 middle.1 bottom.1 (omega arith) (omega arith) (omega arith))

@@ -1,5 +1,5 @@
 use Rattle.overlap_tiles.specs.Needs.{needed_keys, IsKeyBefore}
-use Rattle.overlap_tiles.proofs.KeyOrder.{keys_rise}
+use Rattle.overlap_tiles.proofs.KeysRise.{keys_rise}
 use Rattle.tile_run.specs.Runs.{is_missing}
 use Rattle.tile_run.proofs.LayoutsPrepare.{found_least}
 use Rattle.tile_run.proofs.laws.first_missing_is_least.Goals as goal

@@ -4,7 +4,7 @@ use Rattle.domains.specs.Area.{HoldsPoint}
 use Rattle.domains.specs.Index.{index_at}
 use Rattle.job.specs.Values.{sample_at}
 use Rattle.job.specs.WellFormed.{picture_area}
-use Rattle.tile_eval.proofs.Writing.{EachPlace-more}
+use Rattle.row_kernels.proofs.Writing.{EachPlace-more}
 use Rattle.tile_run.proofs.samples.plane_samples.Goals as goal
 
 pub plane_sample-requires-clause-there : goal.plane_sample-requires-clause-there
@@ -13,7 +13,7 @@ plane_sample-requires-clause-there c =
     let found : FitsSigned w32 c.at.result = search rules in
     let at_k : FitsSigned w32 c.column.result = search rules in
     let lt : c.loop-k.k < length c.args.out.now = omega (arith, c.loop-k.auto.out) in
-    let col : to_z w32 (of_z w32 c.at.result) ≡ index_at c.args.col.now (c.args.start.now.col +ℤ pos c.loop-k.k) =
+    let col : to_z w32 (of_z w32 c.at.result) ≡ index_at c.args.col.now (c.args.points.now.col +ℤ pos c.loop-k.k) =
     to_z-of_z w32 _ found ∙ c.at.ensures.value ∙ ap (index_at c.args.col.now) (to_z-of_z w32 _ at_k ∙ c.column.ensures) in
     rw (to_z-of_z w32 c.args.row row) (subst (λ (z : ℤ). HoldsPoint (picture_area c.args.picture.now) c.args.row z) (sym col)
     (c.requires.there c.loop-k.k lt))
@@ -25,7 +25,7 @@ loop-k-preserved c =
     let at_k : FitsSigned w32 c.column.result = search rules in
     let lt : c.loop-k.k < length c.loop-k.out = omega arith in
     EachPlace-more (λ j. sample_at c.args.picture.now c.args.plane (to_z w32 (of_z w32 c.args.row))
-    (index_at c.args.col.now (c.args.start.now.col +ℤ pos j))) c.loop-k.out c.loop-k.k _ lt
+    (index_at c.args.col.now (c.args.points.now.col +ℤ pos j))) c.loop-k.out c.loop-k.k _ lt
     (to_z-of_z w32 _ value ∙ c.plane_sample.ensures
     ∙ ap (sample_at c.args.picture.now c.args.plane (to_z w32 (of_z w32 c.args.row)))
     (to_z-of_z w32 _ found ∙ c.at.ensures.value ∙ ap (index_at c.args.col.now) (to_z-of_z w32 _ at_k ∙ c.column.ensures)))

@@ -6,4 +6,4 @@ use Rattle.tile_run.proofs.samples.plane_samples.Given as goal
 
 abbrev pub invariant-loop-k : goal.invariant-loop-k
 invariant-loop-k l =
-    EachPlace l.k (λ j. at l.out j ≡ sample_at l.fn.picture l.fn.plane l.fn.row (index_at l.fn.col (l.fn.start.col +ℤ pos j)))
+    EachPlace l.k (λ j. at l.out j ≡ sample_at l.fn.picture l.fn.plane l.fn.row (index_at l.fn.col (l.fn.points.col +ℤ pos j)))

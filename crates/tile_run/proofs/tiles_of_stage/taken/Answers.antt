@@ -10,7 +10,7 @@ loop-held-init c = record {
   some = search rules;
   ordered = search rules;
   most = search rules;
-  within = first_held c.args.span.now c.args.col.now c.args.start.now.col c.requires.held;
+  within = first_held c.args.span.now c.args.col.now c.args.points.now.col c.requires.held;
 }
 
 pub loop-held-preserved-then-holds : goal.loop-held-preserved-then-holds
@@ -18,12 +18,11 @@ loop-held-preserved-then-holds c =
     let middle : ℕ = c.loop-held.held + (c.loop-held.end - c.loop-held.held) / 2 in
     let found : FitsSigned w32 c.at.result = search rules in
     let at_k : FitsSigned w32 c.column.result = search rules in
-    let col : to_z w32 (of_z w32 c.at.result) ≡ index_at c.args.col.now (c.args.start.now.col +ℤ pos middle) =
+    let col : to_z w32 (of_z w32 c.at.result) ≡ index_at c.args.col.now (c.args.points.now.col +ℤ pos middle) =
     to_z-of_z w32 _ found ∙ c.at.ensures.value ∙ ap (index_at c.args.col.now) (to_z-of_z w32 _ at_k ∙ c.column.ensures) in
     record {
       some = omega arith;
       ordered = omega arith;
       most = c.loop-held.invariant.most;
-      within = more_held c.args.span.now c.args.col.now c.args.start.now.col middle c.at.ensures.within c.requires.held
-          (subst (Holds c.args.span.now) col (c.holds.ensures.0 c.if-holds.true));
+      within = more_held c.args.span.now c.args.col.now c.args.points.now.col middle c.at.ensures.within c.requires.held (subst (Holds c.args.span.now) col (c.holds.ensures.0 c.if-holds.true));
     }

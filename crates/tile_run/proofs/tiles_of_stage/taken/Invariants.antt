@@ -8,8 +8,8 @@ abbrev pub invariant-loop-held : goal.invariant-loop-held
 invariant-loop-held l = record {
   some : 0 < l.held;
   ordered : l.held ≤ l.end;
-  most : l.end ≤ l.fn.most;
-  within : EachPlace l.held (λ k. Holds l.fn.span (index_at l.fn.col (l.fn.start.col +ℤ pos k)));
+  most : l.end ≤ l.fn.points.len;
+  within : EachPlace l.held (λ k. Holds l.fn.span (index_at l.fn.col (l.fn.points.col +ℤ pos k)));
 }
 
 abbrev pub decreases-loop-held : goal.decreases-loop-held

@@ -5,7 +5,7 @@ use Rattle.domains.specs.Span.{len_of, numbers_from, numbers_of}
 use Rattle.job.specs.Kept.{pipeline_in}
 use Rattle.tile_run.specs.Stored.{stored_tiles}
 use Rattle.accumulators.proofs.PictureOfAnswer.{sample_at}
-use Rattle.accumulators.proofs.PlanesRowByRow.{rest_of, none_made, row_made, all_made, few_numbers, near_columns, row_stored}
+use Rattle.accumulators.proofs.PlanesRowByRow.{rest_of, none_made, row_made, all_made, row_stored}
 use Rattle.accumulators.proofs.computed.Computed.plane_over.Goals as goal
 
 pub loop-place-init : goal.loop-place-init
@@ -15,15 +15,8 @@ loop-place-init c =
     (numbers_of c.args.domain.now.cols)) c.in_ok-plane.ensures.items
     ∙ none_made h c.args.domain.now
 
-pub push_row-requires-clause-short : goal.push_row-requires-clause-short
-push_row-requires-clause-short c =
-    let near = near_columns (pipeline_in c.args.self.now.job.now) c.args.self.now.schedule.now.inlining c.args.stage c.args.domain.now
-    c.requires.stored c.requires.domain c.args.self.now.job.now.well in
-    let few : len_of c.args.domain.now.cols ≤ 100000 = few_numbers c.args.domain.now.cols near in
-    omega (arith, c.loop-place.auto.line, c.as_mut_slice-line.ensures.len, c.in_ok-room.ensures.len, c.len.ensures.number)
-
-pub push_row-requires-clause-stored : goal.push_row-requires-clause-stored
-push_row-requires-clause-stored c =
+pub push_row-requires : goal.push_row-requires
+push_row-requires c =
     let area = c.args.domain.now in
     let row_fits : FitsSigned w32 c.number_at-row.result = search rules in
     let first_fits : FitsSigned w32 c.lo-first.result = search rules in
@@ -35,12 +28,14 @@ push_row-requires-clause-stored c =
       c.in_ok-room.ensures.len,
       c.len.ensures.number,
     ) in
-    row_stored (pipeline_in c.args.self.now.job.now) c.args.self.now.schedule.now.inlining c.args.stage area c.requires.stored
-    c.requires.domain (stored_tiles c.args.self.now.stored.now.stages.items) c.requires.computed.all
-    (to_z w32 (of_z w32 c.number_at-row.result)) (to_z w32 (of_z w32 c.lo-first.result)) c.loop-place.place (length c.loop-place.line)
-    within
-    (to_z-of_z w32 c.number_at-row.result row_fits ∙ c.number_at-row.ensures) (to_z-of_z w32 c.lo-first.result first_fits
-    ∙ c.lo-first.ensures.end) long
+    record {
+      stored = row_stored (pipeline_in c.args.self.now.job.now) c.args.self.now.schedule.now.inlining c.args.stage area c.requires.stored
+          c.requires.domain (stored_tiles c.args.self.now.stored.now.stages.items) c.requires.computed.all
+          (to_z w32 (of_z w32 c.number_at-row.result)) (to_z w32 (of_z w32 c.lo-first.result)) c.loop-place.place (length c.loop-place.line)
+          within
+          (to_z-of_z w32 c.number_at-row.result row_fits ∙ c.number_at-row.ensures) (to_z-of_z w32 c.lo-first.result first_fits
+          ∙ c.lo-first.ensures.end) long;
+    }
 
 pub loop-place-preserved : goal.loop-place-preserved
 loop-place-preserved c =

@@ -3,7 +3,8 @@ use Rattle.std.specs.Option.{option_map}
 use Rattle.std.proofs.lemmas.Option.{slice_get-map}
 use Rattle.pipe_tree.specs.Tree.{declaration, declarations}
 use Rattle.domains.proofs.Places.{here_is}
-use Rattle.binding.specs.Ranges.{IsRangedItem, HasDomain}
+use Rattle.binding.specs.Ranges.{IsRangedItem, IsBoundItem}
+use Rattle.binding.specs.Resolving.{program_in}
 use Rattle.domains.proofs.Places.{all_at}
 use Rattle.binding.proofs.resolve.Resolver.stages.Goals as goal
 
@@ -14,9 +15,9 @@ add_item-requires-clause-ranged c =
     all_at IsRangedItem (declarations items) n (declaration c.item-item.result) c.requires.ranged
     (slice_get-map declaration items n ∙ ap (option_map declaration) (here_is items items n _ refl c.loop-item-test.true c.item-item.is))
 
-pub add_item-requires-clause-domain : goal.add_item-requires-clause-domain
-add_item-requires-clause-domain c =
+pub add_item-requires-clause-bound : goal.add_item-requires-clause-bound
+add_item-requires-clause-bound c =
     let items = c.args.items.now in
     let n = c.loop-item.item-index in
-    all_at (HasDomain c.args.self.now.params.now) (declarations items) n (declaration c.item-item.result) c.requires.domains
+    all_at (IsBoundItem (program_in c.args.self.now) c.args.self.now.found.now) (declarations items) n (declaration c.item-item.result) c.requires.bound
     (slice_get-map declaration items n ∙ ap (option_map declaration) (here_is items items n _ refl c.loop-item-test.true c.item-item.is))

@@ -2,11 +2,14 @@ use Rattle.std.proofs.Common.{subst, sym, ◌∙◌}
 use Rattle.job.specs.Kept.{pipeline_in}
 use Rattle.grouping.specs.Schedules.{IsSchedule}
 use Rattle.grouping.specs.Inlining.{AllFitScratch}
-use Rattle.grouping.proofs.Scheduling.{stored_is, stored_fits}
+use Rattle.grouping.proofs.AskedIsSchedule.{stored_is, stored_fits}
 use Rattle.grouping.proofs.schedule.Schedule.stored.Goals as goal
 
-pub with_costs-requires-clause-schedule : goal.with_costs-requires-clause-schedule
-with_costs-requires-clause-schedule c = subst (IsSchedule (pipeline_in c.args.job.now)) (sym c.in_ok-inlining.ensures) (stored_is (pipeline_in c.args.job.now))
+pub with_costs-requires : goal.with_costs-requires
+with_costs-requires c =
+    record { schedule = subst (IsSchedule (pipeline_in c.args.job.now)) (sym c.in_ok-inlining.ensures) (stored_is (pipeline_in c.args.job.now)) }
 
 pub returns-clause-fits : goal.returns-clause-fits
-returns-clause-fits c = subst (AllFitScratch (pipeline_in c.args.job.now)) (sym (c.in_ok-schedule.ensures.inlining ∙ c.in_ok-inlining.ensures)) (stored_fits (pipeline_in c.args.job.now))
+returns-clause-fits c =
+    subst (AllFitScratch (pipeline_in c.args.job.now)) (sym (c.in_ok-schedule.ensures.inlining ∙ c.in_ok-inlining.ensures))
+    (stored_fits (pipeline_in c.args.job.now))

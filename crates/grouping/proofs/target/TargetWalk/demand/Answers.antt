@@ -11,5 +11,6 @@ use Rattle.grouping.proofs.target.TargetWalk.demand.Goals as goal
 pub demand_all-requires-clause-formulas : goal.demand_all-requires-clause-formulas
 demand_all-requires-clause-formulas c =
     let s = stage_view c.in-Some-stage.stage.now in
-    let stage = c.requires.job.stages c.args.number s (sym c.stage.ensures ∙ ap (option_map (λ (r : Bor KeptStage). stage_view r.now)) c.in-Some-stage.is) in
+    let stage = c.args.self.now.job.now.well.stages c.args.number s
+    (sym c.stage.ensures ∙ ap (option_map (λ (r : Bor KeptStage). stage_view r.now)) c.in-Some-stage.is) in
     subst (λ (b : KeptBody). All IsFormula (formulas_of (body_view b))) (sym c.body.ensures) stage.formulas

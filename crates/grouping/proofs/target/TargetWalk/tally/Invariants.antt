@@ -1,6 +1,6 @@
 use Rattle.std.proofs.Common.{◌≡◌, ◌+◌, ◌&&◌, drop}
-use Rattle.grouping.specs.Walks.{target_of}
-use Rattle.grouping.specs.Tallies.{points_over, all_have_scratch}
+use Rattle.grouping.specs.inside.Walks.{target_of}
+use Rattle.grouping.specs.inside.Tallies.{points_over, all_have_scratch}
 use Rattle.grouping.proofs.target.TargetWalk.tally.Given as goal
 
 abbrev pub invariant-loop-area : goal.invariant-loop-area

@@ -1,5 +1,5 @@
 use Rattle.std.proofs.Common.{◌≡◌, drop}
-use Rattle.grouping.specs.Walks.{target_of, walked}
+use Rattle.grouping.specs.inside.Walks.{target_of, walked}
 use Rattle.grouping.proofs.target.TargetWalk.walk.Given as goal
 
 abbrev pub invariant-loop-number : goal.invariant-loop-number

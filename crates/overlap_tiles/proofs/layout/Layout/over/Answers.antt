@@ -8,11 +8,11 @@ use Rattle.job.specs.Kept.{pipeline_in}
 use Rattle.grouping.specs.Schedules.{is_inlined}
 use Rattle.grouping.specs.Costs.{points_in, most_scratch}
 use Rattle.overlap_tiles.specs.declared.steps.Step.{Step}
-use Rattle.overlap_tiles.specs.Made.{stage_needs, end_to_end}
-use Rattle.overlap_tiles.specs.Plans.{target_over}
+use Rattle.overlap_tiles.specs.inside.Made.{stage_needs, end_to_end}
 use Rattle.overlap_tiles.specs.Views.{step_view}
-use Rattle.overlap_tiles.proofs.Planning.{is_layout}
+use Rattle.overlap_tiles.proofs.MadeIsLayout.{is_layout}
 use Rattle.overlap_tiles.proofs.layout.Layout.over.Goals as goal
+use Rattle.grouping.specs.Targets.{target_over}
 
 pub returns-clause-layout : goal.returns-clause-layout
 returns-clause-layout c =
@@ -27,11 +27,13 @@ returns-clause-layout c =
       layout = is_layout t _ (record {
         inner = inner;
         kept = kept;
-        needs = c.in_ok-needs.ensures ∙ ap (λ (bs : List (ℕ × Area)). flat_map (stage_needs job inlining bs) (range_with_len 0 (length job.stages))) c.requires.boxes;
-        steps = ap (map step_view) c.in_ok-push.ensures.items ∙ map_push step_view c.in_ok-steps.steps.items c.args.target;
+        needs = c.in_ok-needs.ensures
+            ∙ ap (λ (bs : List (ℕ × Area)). flat_map (stage_needs job inlining bs) (range_with_len 0 (length job.stages))) c.requires.boxes;
+        steps = ap (map step_view) c.in_ok-all.ensures ∙ map_push step_view c.in_ok-steps.steps.items c.args.target;
         scratch = number;
         points = ap (λ (n : ℕ). n + c.points.result) number ∙ ap (λ (n : ℕ). points_in inner + n) c.points.ensures.number;
-        ranges = c.in_ok-ranges.ensures ∙ ap (λ (ss : List Step). end_to_end 0 (map (λ s. point_count s.1) (map step_view ss))) c.deref-2.ensures.value;
+        ranges = c.in_ok-ranges.ensures
+            ∙ ap (λ (ss : List Step). end_to_end 0 (map (λ s. point_count s.1) (map step_view ss))) c.deref-2.ensures.value;
         inlining = refl;
       });
       fits = subst (λ (n : ℕ). n ≤ most_scratch) (number ∙ ap points_in kept) few;

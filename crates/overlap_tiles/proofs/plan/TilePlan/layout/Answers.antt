@@ -1,6 +1,6 @@
 use Rattle.std.proofs.Common.{◌≡◌, subst, rules}
 use Rattle.overlap_tiles.specs.Plans.{IsTileLayout, layout_of}
-use Rattle.overlap_tiles.proofs.Planning.{layout_in}
+use Rattle.overlap_tiles.proofs.MadeIsLayout.{layout_in}
 use Rattle.overlap_tiles.proofs.plan.TilePlan.layout.Goals as goal
 
 pub returns-clause-tile : goal.returns-clause-tile

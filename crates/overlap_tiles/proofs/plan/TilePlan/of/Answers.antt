@@ -1,14 +1,14 @@
 use Rattle.std.proofs.Common.{◌∙◌, ap, map}
 use Rattle.job.specs.Kept.{pipeline_in, program_id_in}
 use Rattle.overlap_tiles.specs.Needs.{key_tile}
-use Rattle.overlap_tiles.specs.Plans.{target_over}
-use Rattle.overlap_tiles.proofs.Planning.{tiles_back, numbers_fit}
+use Rattle.overlap_tiles.proofs.MadeIsLayout.{tiles_back, numbers_fit}
 use Rattle.overlap_tiles.proofs.plan.TilePlan.of.Goals as goal
+use Rattle.grouping.specs.Targets.{target_over}
 
 pub keys-requires : goal.keys-requires
 keys-requires c =
     let is = c.in_ok-layout.ensures.layout in
-    numbers_fit (target_over (pipeline_in c.args.job.now) c.args.schedule.now.inlining c.args.stage is.area) c.needs.result.now c.requires.job c.requires.few (c.needs.ensures ∙ is.layout.layout.needs)
+    numbers_fit (target_over (pipeline_in c.args.job.now) c.args.schedule.now.inlining c.args.stage is.area) c.needs.result.now c.args.job.now.well (c.needs.ensures ∙ is.layout.layout.needs)
 
 pub invariant_of-result : goal.invariant_of-result
 invariant_of-result c =

@@ -24,31 +24,31 @@ plane_values-requires c =
     let s : Stage = stage_view c.in-Some.stage.now in
     let there : slice_get job.stages c.args.number ≡ Some s = sym c.in-Some.ensures in
     let is : s.body ≡ plane c.in-Plane.plane = ap body_view (sym c.body.ensures ∙ c.in-Plane.is) in
-    subst (λ (p : Image). c.in-Plane.plane < length p.planes) (sym c.picture.ensures) (subst (IsBody job.picture s.domain) is (c.requires.job.stages c.args.number s there).body).0
+    subst (λ (p : Image). c.in-Plane.plane < length p.planes) (sym c.picture.ensures) (subst (IsBody job.picture s.domain) is (c.args.job.now.well.stages c.args.number s there).body).0
 
 pub function_values-requires-clause-rows : goal.function_values-requires-clause-rows
 function_values-requires-clause-rows c =
-    subst (λ (a : Area). InDomainRange a.rows) (sym c.domain.ensures) (c.requires.job.stages c.args.number (stage_view c.in-Some.stage.now) (sym c.in-Some.ensures)).rows
+    subst (λ (a : Area). InDomainRange a.rows) (sym c.domain.ensures) (c.args.job.now.well.stages c.args.number (stage_view c.in-Some.stage.now) (sym c.in-Some.ensures)).rows
 
 pub function_values-requires-clause-cols : goal.function_values-requires-clause-cols
 function_values-requires-clause-cols c =
-    subst (λ (a : Area). InDomainRange a.cols) (sym c.domain.ensures) (c.requires.job.stages c.args.number (stage_view c.in-Some.stage.now) (sym c.in-Some.ensures)).cols
+    subst (λ (a : Area). InDomainRange a.cols) (sym c.domain.ensures) (c.args.job.now.well.stages c.args.number (stage_view c.in-Some.stage.now) (sym c.in-Some.ensures)).cols
 
 pub function_values-requires-clause-tests : goal.function_values-requires-clause-tests
 function_values-requires-clause-tests c =
     let s : Stage = stage_view c.in-Some.stage.now in
-    subst (IsBody (pipeline_in c.args.job.now).picture s.domain) (ap body_view (sym c.body.ensures ∙ c.in-Function.is)) (c.requires.job.stages c.args.number s (sym c.in-Some.ensures)).body
+    subst (IsBody (pipeline_in c.args.job.now).picture s.domain) (ap body_view (sym c.body.ensures ∙ c.in-Function.is)) (c.args.job.now.well.stages c.args.number s (sym c.in-Some.ensures)).body
 
 pub function_values-requires-clause-formulas : goal.function_values-requires-clause-formulas
 function_values-requires-clause-formulas c =
     let s : Stage = stage_view c.in-Some.stage.now in
-    subst (λ (b : Body). All IsFormula (formulas_of b)) (ap body_view (sym c.body.ensures ∙ c.in-Function.is)) (c.requires.job.stages c.args.number s (sym c.in-Some.ensures)).formulas
+    subst (λ (b : Body). All IsFormula (formulas_of b)) (ap body_view (sym c.body.ensures ∙ c.in-Function.is)) (c.args.job.now.well.stages c.args.number s (sym c.in-Some.ensures)).formulas
 
 pub function_values-requires-clause-boxes : goal.function_values-requires-clause-boxes
 function_values-requires-clause-boxes c =
     let s : Stage = stage_view c.in-Some.stage.now in
     subst (AreBoxed c.domain.result.now) (ap body_view (sym c.body.ensures ∙ c.in-Function.is))
-    (subst (λ (a : Area). AreBoxed a s.body) (sym c.domain.ensures) (c.requires.job.stages c.args.number s (sym c.in-Some.ensures)).boxes)
+    (subst (λ (a : Area). AreBoxed a s.body) (sym c.domain.ensures) (c.args.job.now.well.stages c.args.number s (sym c.in-Some.ensures)).boxes)
 
 pub function_values-requires-clause-reads : goal.function_values-requires-clause-reads
 function_values-requires-clause-reads c =
@@ -57,7 +57,7 @@ function_values-requires-clause-reads c =
     let buffers = c.args.self.now.buffers.items in
     λ r k inside.
     subst (λ (b : Body). BodyReads (IsKnownAt buffers) b r k) (ap body_view (sym c.body.ensures ∙ c.in-Function.is))
-    (reads_below job c.requires.job (IsKnownAt buffers) c.args.number s (sym c.in-Some.ensures)
+    (reads_below job c.args.job.now.well (IsKnownAt buffers) c.args.number s (sym c.in-Some.ensures)
     (known_at job (rank_of job.stages c.args.number) buffers c.requires.lower) r k
     (subst (λ (a : Area). HoldsPoint a r k) c.domain.ensures inside))
 
@@ -69,7 +69,7 @@ returns-in-Plane c =
     let is : s.body ≡ plane c.in-Plane.plane = ap body_view (sym c.body.ensures ∙ c.in-Plane.is) in
     IfOk-weaker c.plane_values.result _ (λ (values : Vec ℤ). values.items ≡ stage_values job c.args.number) (λ values e.
     e ∙ ap (λ (p : Image). raster (picture_area p) (sample_at p c.in-Plane.plane)) c.picture.ensures
-    ∙ planes_known job c.requires.job c.args.number s there c.in-Plane.plane is
+    ∙ planes_known job c.args.job.now.well c.args.number s there c.in-Plane.plane is
     ∙ sym (stage_values_is job c.args.number s there))
     c.plane_values.ensures
 
@@ -85,6 +85,6 @@ returns-in-Function c =
     let buffers = c.args.self.now.buffers.items in
     IfOk-weaker c.function_values.result _ (λ (values : Vec ℤ). values.items ≡ stage_values job c.args.number) (λ values e.
     e ∙ ap (λ (a : Area). raster a (function_value (λ g r k. sample_in (slice_get buffers g) r k) cases otherwise)) c.domain.ensures
-    ∙ functions_known job c.requires.job c.args.number s there buffers c.requires.lower cases otherwise is
+    ∙ functions_known job c.args.job.now.well c.args.number s there buffers c.requires.lower cases otherwise is
     ∙ sym (stage_values_is job c.args.number s there))
     c.function_values.ensures

@@ -24,8 +24,8 @@ invariant_of-tiles c =
           (line_whole job c.args.job.now.well given c.args.stage c.args.row c.args.first (length c.args.out.now) line);
     }
 
-pub read_row-requires-clause-there : goal.read_row-requires-clause-there
-read_row-requires-clause-there c =
+pub read_row-requires : goal.read_row-requires
+read_row-requires c =
     let row : FitsSigned w32 c.args.row = search rules in
     let first : FitsSigned w32 c.args.first = search rules in
     let job = pipeline_in c.args.job.now in

@@ -21,7 +21,7 @@ borrow_row-requires-in-Function-2 g c = λ k h.
     given_by given (g.K.Known.given c.given.result.known.now) c.args.stage c.given.result.stage (grid_of job s) c.given.result.grid
     c.args.row (c.args.first +ℤ pos k) _ _ (ap g.K.Known.given c.given.ensures.known) c.given.ensures.stage c.given.ensures.grid
     (to_z-of_z w32 c.args.row row) (ap (λ (z : ℤ). z +ℤ pos k) (to_z-of_z w32 c.args.first first))
-    (of_stored job inlining given (IsKnownAt buffers) c.args.stage c.args.row (c.args.first +ℤ pos k) s there (c.requires.there k h) _ _
+    (of_stored job inlining given (IsKnownAt buffers) c.args.stage c.args.row (c.args.first +ℤ pos k) s there (c.requires k h) _ _
     (function_body c.in_ok-found.found.now c.body.result.now c.in-Function-2.field-0 c.body.ensures c.in-Function-2.is)
     (sym c.inlined.ensures ∙ c.if-inlined.false))
 

@@ -33,12 +33,12 @@ plane_gather-requires-clause-there g c =
     let row : FitsSigned w32 c.args.row = search rules in
     let there : slice_get job.stages c.args.stage ≡ Some s = sym c.in-Some.ensures in
     rw (to_z-of_z w32 c.args.row row) (λ k h.
-    subst (λ (p : Image). HoldsPoint (picture_area p) c.args.row (index_at c.args.col.now (c.args.start.now.col +ℤ pos k)))
+    subst (λ (p : Image). HoldsPoint (picture_area p) c.args.row (index_at c.args.col.now (c.args.points.now.col +ℤ pos k)))
     (sym c.picture.ensures)
     ((planes_lie job tile.job.now.well c.args.stage c.in-Plane.plane s there
     (plane_body c.in-Some.found.now c.body.result.now c.in-Plane.plane c.body.ensures c.in-Plane.is)).1 c.args.row
-    (index_at c.args.col.now (c.args.start.now.col +ℤ pos k))
-    (of_plane job inlining given (IsKnownAt buffers) c.args.stage c.args.row (index_at c.args.col.now (c.args.start.now.col +ℤ pos k)) s
+    (index_at c.args.col.now (c.args.points.now.col +ℤ pos k))
+    (of_plane job inlining given (IsKnownAt buffers) c.args.stage c.args.row (index_at c.args.col.now (c.args.points.now.col +ℤ pos k)) s
     there (c.requires.there k h) c.in-Plane.plane
     (plane_body c.in-Some.found.now c.body.result.now c.in-Plane.plane c.body.ensures c.in-Plane.is))))
 
@@ -53,7 +53,7 @@ gather-requires-clause-there g c =
     let row : FitsSigned w32 c.args.row = search rules in
     let there : slice_get job.stages c.args.stage ≡ Some s = sym c.in-Some.ensures in
     rw (to_z-of_z w32 c.args.row row) (λ k h.
-    of_inlined job inlining given (IsKnownAt buffers) c.args.stage c.args.row (index_at c.args.col.now (c.args.start.now.col +ℤ pos k)) s
+    of_inlined job inlining given (IsKnownAt buffers) c.args.stage c.args.row (index_at c.args.col.now (c.args.points.now.col +ℤ pos k)) s
     there (c.requires.there k h) _ _ (function_body c.in-Some.found.now c.body.result.now c.in-Function.field-0 c.body.ensures
     c.in-Function.is) (sym c.inlined.ensures ∙ c.if-inlined.true))
 
@@ -68,9 +68,9 @@ gather-requires-in-Function-2-clause-there g c = λ k h.
     let row : FitsSigned w32 c.args.row = search rules in
     let there : slice_get job.stages c.args.stage ≡ Some s = sym c.in-Some.ensures in
     given_by given (g.K.Known.given c.given.result.known.now) c.args.stage c.given.result.stage (grid_of job s) c.given.result.grid
-    c.args.row (index_at c.args.col.now (c.args.start.now.col +ℤ pos k)) _ _ (ap g.K.Known.given c.given.ensures.known)
+    c.args.row (index_at c.args.col.now (c.args.points.now.col +ℤ pos k)) _ _ (ap g.K.Known.given c.given.ensures.known)
     c.given.ensures.stage c.given.ensures.grid (to_z-of_z w32 c.args.row row) refl
-    (of_stored job inlining given (IsKnownAt buffers) c.args.stage c.args.row (index_at c.args.col.now (c.args.start.now.col +ℤ pos k)) s
+    (of_stored job inlining given (IsKnownAt buffers) c.args.stage c.args.row (index_at c.args.col.now (c.args.points.now.col +ℤ pos k)) s
     there (c.requires.there k h) _ _ (function_body c.in-Some.found.now c.body.result.now c.in-Function-2.field-0 c.body.ensures
     c.in-Function-2.is) (sym c.inlined.ensures ∙ c.if-inlined.false))
 
@@ -86,9 +86,9 @@ returns-in-Function g c = λ k h.
     let there : slice_get job.stages c.args.stage ≡ Some s = sym c.in-Some.ensures in
     c.gather.ensures k h
     ∙ (λ i. sample_in (slice_get buffers c.args.stage) (to_z-of_z w32 c.args.row row i)
-    (index_at c.args.col.now (c.args.start.now.col +ℤ pos k)))
+    (index_at c.args.col.now (c.args.points.now.col +ℤ pos k)))
     ∙ sym (read_inlined job inlining given (λ h i j. sample_in (slice_get buffers h) i j) c.args.stage s there c.args.row
-    (index_at c.args.col.now (c.args.start.now.col +ℤ pos k)) _ _
+    (index_at c.args.col.now (c.args.points.now.col +ℤ pos k)) _ _
     (function_body c.in-Some.found.now c.body.result.now c.in-Function.field-0 c.body.ensures c.in-Function.is) (sym c.inlined.ensures
     ∙ c.if-inlined.true))
 
@@ -104,10 +104,10 @@ returns-in-Function-2 g c = λ k h.
     let there : slice_get job.stages c.args.stage ≡ Some s = sym c.in-Some.ensures in
     c.gather-in-Function-2.ensures k h
     ∙ number_by given (g.K.Known.given c.given.result.known.now) c.args.stage c.given.result.stage (grid_of job s) c.given.result.grid
-    c.args.row (index_at c.args.col.now (c.args.start.now.col +ℤ pos k)) _ _ (ap g.K.Known.given c.given.ensures.known)
+    c.args.row (index_at c.args.col.now (c.args.points.now.col +ℤ pos k)) _ _ (ap g.K.Known.given c.given.ensures.known)
     c.given.ensures.stage c.given.ensures.grid (to_z-of_z w32 c.args.row row) refl
     ∙ sym (read_stored job inlining given (λ h i j. sample_in (slice_get buffers h) i j) c.args.stage s there c.args.row
-    (index_at c.args.col.now (c.args.start.now.col +ℤ pos k)) _ _
+    (index_at c.args.col.now (c.args.points.now.col +ℤ pos k)) _ _
     (function_body c.in-Some.found.now c.body.result.now c.in-Function-2.field-0 c.body.ensures c.in-Function-2.is)
     (sym c.inlined.ensures ∙ c.if-inlined.false))
 
@@ -123,7 +123,7 @@ returns-in-Plane g c = λ k h.
     let there : slice_get job.stages c.args.stage ≡ Some s = sym c.in-Some.ensures in
     c.plane_gather.ensures k h
     ∙ (λ i. sample_at (c.picture.ensures i) c.in-Plane.plane (to_z-of_z w32 c.args.row row i)
-    (index_at c.args.col.now (c.args.start.now.col +ℤ pos k)))
+    (index_at c.args.col.now (c.args.points.now.col +ℤ pos k)))
     ∙ sym (read_plane job inlining given (λ h i j. sample_in (slice_get buffers h) i j) c.args.stage s there c.args.row
-    (index_at c.args.col.now (c.args.start.now.col +ℤ pos k)) c.in-Plane.plane
+    (index_at c.args.col.now (c.args.points.now.col +ℤ pos k)) c.in-Plane.plane
     (plane_body c.in-Some.found.now c.body.result.now c.in-Plane.plane c.body.ensures c.in-Plane.is))

@@ -36,11 +36,11 @@ plane_row-requires-clause-there g c =
     ((planes_lie job tile.job.now.well c.args.stage c.in-Plane.plane s there
     (plane_body c.in-Some.found.now c.body.result.now c.in-Plane.plane c.body.ensures c.in-Plane.is)).1 c.args.row
     (c.args.first +ℤ pos k)
-    (of_plane job inlining given (IsKnownAt buffers) c.args.stage c.args.row (c.args.first +ℤ pos k) s there (c.requires.there k h)
+    (of_plane job inlining given (IsKnownAt buffers) c.args.stage c.args.row (c.args.first +ℤ pos k) s there (c.requires k h)
     c.in-Plane.plane (plane_body c.in-Some.found.now c.body.result.now c.in-Plane.plane c.body.ensures c.in-Plane.is)))))
 
-pub read_row-requires-clause-there : goal.read_row-requires-clause-there
-read_row-requires-clause-there g c =
+pub read_row-requires : goal.read_row-requires
+read_row-requires g c =
     let tile = c.args.self.now.tile in
     let job = pipeline_in tile.job.now in
     let inlining = tile.layout.now.inlining in
@@ -51,12 +51,12 @@ read_row-requires-clause-there g c =
     let first : FitsSigned w32 c.args.first = search rules in
     let there : slice_get job.stages c.args.stage ≡ Some s = sym c.in-Some.ensures in
     rw (to_z-of_z w32 c.args.row row) (rw (to_z-of_z w32 c.args.first first) (λ k h.
-    of_inlined job inlining given (IsKnownAt buffers) c.args.stage c.args.row (c.args.first +ℤ pos k) s there (c.requires.there k h) _ _
+    of_inlined job inlining given (IsKnownAt buffers) c.args.stage c.args.row (c.args.first +ℤ pos k) s there (c.requires k h) _ _
     (function_body c.in-Some.found.now c.body.result.now c.in-Function.field-0 c.body.ensures c.in-Function.is) (sym c.inlined.ensures
     ∙ c.if-inlined.true)))
 
-pub read_row-requires-in-Function-2-clause-there : goal.read_row-requires-in-Function-2-clause-there
-read_row-requires-in-Function-2-clause-there g c = λ k h.
+pub read_row-requires-in-Function-2 : goal.read_row-requires-in-Function-2
+read_row-requires-in-Function-2 g c = λ k h.
     let tile = c.args.self.now.tile in
     let job = pipeline_in tile.job.now in
     let inlining = tile.layout.now.inlining in
@@ -69,7 +69,7 @@ read_row-requires-in-Function-2-clause-there g c = λ k h.
     given_by given (g.K.Known.given c.given.result.known.now) c.args.stage c.given.result.stage (grid_of job s) c.given.result.grid
     c.args.row (c.args.first +ℤ pos k) _ _ (ap g.K.Known.given c.given.ensures.known) c.given.ensures.stage c.given.ensures.grid
     (to_z-of_z w32 c.args.row row) (ap (λ (z : ℤ). z +ℤ pos k) (to_z-of_z w32 c.args.first first))
-    (of_stored job inlining given (IsKnownAt buffers) c.args.stage c.args.row (c.args.first +ℤ pos k) s there (c.requires.there k h) _ _
+    (of_stored job inlining given (IsKnownAt buffers) c.args.stage c.args.row (c.args.first +ℤ pos k) s there (c.requires k h) _ _
     (function_body c.in-Some.found.now c.body.result.now c.in-Function-2.field-0 c.body.ensures c.in-Function-2.is)
     (sym c.inlined.ensures ∙ c.if-inlined.false))
 

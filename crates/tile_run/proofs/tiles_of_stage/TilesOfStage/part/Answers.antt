@@ -6,8 +6,8 @@ use Rattle.tile_run.specs.inside.Tiles.{IsTileAbout}
 use Rattle.tile_run.proofs.RowsCrossTiles.{same_about, part_held, part_number}
 use Rattle.tile_run.proofs.tiles_of_stage.TilesOfStage.part.Goals as goal
 
-pub read_row-requires-clause-there : goal.read_row-requires-clause-there
-read_row-requires-clause-there g c =
+pub read_row-requires : goal.read_row-requires
+read_row-requires g c =
     let row : FitsSigned w32 c.args.row = search rules in
     let first : FitsSigned w32 c.args.first = search rules in
     let about : IsTileAbout (g.K.Known.given c.args.self.now.known.now) c.args.self.now.stage c.args.self.now.grid c.args.row c.args.first

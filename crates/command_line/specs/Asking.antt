@@ -1,0 +1,55 @@
+-- What the words of a command line ask for.
+use Rattle.std.specs.Prelude.{◌≡◌, ◌≤◌, ℤ, Bool, false, Some, List, [], ◌∷◌, codes, map, option_map, unwrap_or, string_bytes}
+use Rattle.std.specs.List.{list_any}
+use Rattle.std.specs.Str.{bytes_eq}
+use Rattle.std.specs.declared.alloc.Global.{Global}
+use Rattle.std.specs.declared.string.String.{String}
+use Rattle.clap.specs.Words.{Row, Text, all_of, fault_of, first_of, subcommand_of}
+use Rattle.domains.specs.Sides.{IsSides}
+use Rattle.command_line.specs.Tasks.{AsksFor}
+use Rattle.command_line.specs.Usage.{usage}
+use Rattle.command_line.specs.Values.{IsChosen, SpellsParameter, is_true}
+use Rattle.command_line.specs.declared.options.Options.{Options}
+use Rattle.command_line.specs.declared.words.Request.{Request}
+
+-- a parameter's name and the value that it is given
+abbrev pub Given : Type 0
+Given = String Global × ℤ
+
+-- ---- options
+
+-- how a command is run, by the options that were given, and where one was not as usual: tiles of 64 rows and columns, 40 percent
+pub record AreOptions (rows : List Row) (options : Options) : Type 0 where
+  pub height : IsChosen (first_of (codes "rows") rows) 64 options.sides.height
+  pub width : IsChosen (first_of (codes "cols") rows) 64 options.sides.width
+  pub sides : IsSides options.sides
+  pub percent : IsChosen (first_of (codes "percent") rows) 40 options.percent
+  pub most : options.percent ≤ 10000
+  pub stored : options.stored ≡ is_true (first_of (codes "stored") rows)
+
+-- ---- parameters
+
+-- each word spells the name and the value of a parameter
+abbrev pub AreParameters : List Text → List Given → Type 0
+AreParameters [] [] = Unit {0}
+AreParameters (word ∷ words) ((name, value) ∷ given) = SpellsParameter word (string_bytes name) value × AreParameters words given
+AreParameters _ _ = ⊥
+
+abbrev pub AreParametersIn : List Row → List Given → Type 0
+AreParametersIn rows given = AreParameters (unwrap_or (all_of (codes "NAME=VALUE") rows) []) given
+
+-- ---- the whole
+
+abbrev pub is_separator : String Global → Bool
+is_separator word = bytes_eq (string_bytes word) (codes "--")
+
+-- The words are a command line of the usage text, and none is `--`. The first is the command; the others give its options and its
+-- parameters.
+pub record IsRequestOf (words : List (String Global)) (request : Request) : Type 0 where
+  pub accepted : fault_of usage (map string_bytes words) ≡ []
+  pub no_separator : list_any is_separator words ≡ false
+  pub task : AsksFor words request.task
+  pub rows : List Row
+  pub given : option_map (λ p. p.1) (subcommand_of usage (map string_bytes words)) ≡ Some rows
+  pub options : AreOptions rows request.options
+  pub parameters : AreParametersIn rows request.parameters.items

@@ -1,0 +1,63 @@
+//! The command line as the usage text tells it: the commands, and what each takes.
+
+ghost use Rattle.std.specs.Prelude.{◌≡◌, IfOk, false};
+ghost use Rattle.clap.specs.Words.{app_of, rule_of, shape_of};
+ghost use Rattle.clap.specs.declared.builder.Command.TheViews.{out-Command as fields_of};
+ghost use Rattle.command_line.specs.Usage.{command_shape, flag_option, number_option, parameter_words, usage};
+
+use clap::{Arg, ArgAction, Command};
+use std::alloc::{AllocError, Global};
+
+/// The program's commands. Of help there is the usage line alone, so clap adds none.
+pub fn usage<'a>(alloc: Global) -> Result<Command<'a>, AllocError>
+    ensures { IfOk result (λ c. app_of c ≡ usage) }
+{
+    Command::new(alloc, "tilefarm")
+        .no_binary_name(true)
+        .disable_help_flag(true)
+        .disable_help_subcommand(true)
+        .subcommand_required(true)
+        .subcommand(command(alloc, "eval")?)?
+        .subcommand(command(alloc, "check")?)?
+        .subcommand(command(alloc, "plan")?)
+}
+
+/// A command that takes options and values of parameters.
+fn command<'a>(alloc: Global, name: &'a str) -> Result<Command<'a>, AllocError>
+    ensures shape { IfOk result (λ c. shape_of c ≡ command_shape name.now) }
+    ensures local { IfOk result (λ c. (fields_of c).has_globals ≡ false) }
+{
+    Command::new(alloc, name)
+        .disable_help_flag(true)
+        .arg(number(alloc, "rows"))?
+        .arg(number(alloc, "cols"))?
+        .arg(number(alloc, "percent"))?
+        .arg(flag(alloc, "stored"))?
+        .arg(parameters(alloc))
+}
+
+/// An option that takes a number.
+fn number<'a>(alloc: Global, name: &'a str) -> Arg<'a>
+    ensures rule { rule_of result ≡ number_option name.entry.now }
+    ensures local { result.global ≡ false }
+{
+    Arg::new(alloc, name).long(name).action(ArgAction::Set)
+}
+
+/// An option that takes nothing.
+fn flag<'a>(alloc: Global, name: &'a str) -> Arg<'a>
+    ensures rule { rule_of result ≡ flag_option name.entry.now }
+    ensures local { result.global ≡ false }
+{
+    Arg::new(alloc, name).long(name).action(ArgAction::SetTrue)
+}
+
+/// The words that are no options, as many as there are.
+fn parameters<'a>(alloc: Global) -> Arg<'a>
+    ensures rule { rule_of result ≡ parameter_words }
+    ensures local { result.global ≡ false }
+{
+    Arg::new(alloc, "NAME=VALUE")
+        .action(ArgAction::Append)
+        .num_args(0..)
+}

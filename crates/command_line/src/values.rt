@@ -1,0 +1,58 @@
+//! What single words spell: numbers of options, and values of parameters.
+
+ghost use Rattle.std.specs.Prelude.{◌≡◌, ℕ, ℤ, IfSome, IfNone, option_map};
+ghost use Rattle.command_line.specs.Values.{IsChosen, SpellsNumber, SpellsParameter, SpellsValue, is_true};
+
+/// The number that an option was given, or the usual one where it was given none.
+pub fn number_of(given: Option<&str>, usual: u32) -> Option<u32>
+    ensures some { IfSome result (IsChosen (option_map (λ t. t.now) given.entry) usual) }
+    ensures none { IfNone result ((n : ℕ) → ¬ IsChosen (option_map (λ t. t.now) given.entry) usual n) }
+{
+    match given {
+        Some(digits) => number(digits),
+        None => Some(usual),
+    }
+}
+
+/// Whether a flag was given, which then stands for the word `true`.
+pub fn is_true(given: Option<&str>) -> bool
+    ensures { result ≡ is_true (option_map (λ t. t.now) given.entry) }
+{
+    match given {
+        Some(text) => text == "true",
+        None => false,
+    }
+}
+
+/// The number that the text spells in digits alone, within 32 bits.
+fn number(text: &str) -> Option<u32>
+    ensures some { IfSome result (SpellsNumber text.now) }
+    ensures none { IfNone result ((n : ℕ) → ¬ SpellsNumber text.now n) }
+{
+    if text.starts_with('+') {
+        None
+    } else {
+        text.parse().ok()
+    }
+}
+
+/// The number that the text spells: an optional `-` and digits, within 32 bits.
+fn value(text: &str) -> Option<i32>
+    ensures some { IfSome result (SpellsValue text.now) }
+    ensures none { IfNone result ((z : ℤ) → ¬ SpellsValue text.now z) }
+{
+    if text.starts_with('+') {
+        None
+    } else {
+        text.parse().ok()
+    }
+}
+
+/// The name and the value of a parameter: the name is all that stands before the first `=`.
+pub fn parameter(word: &str) -> Option<(&str, i32)>
+    ensures some { IfSome result (λ p. SpellsParameter word.now p.0.now p.1) }
+    ensures none { IfNone result ((name : _) (z : ℤ) → ¬ SpellsParameter word.now name z) }
+{
+    let (name, text) = word.split_once('=')?;
+    Some((name, value(text)?))
+}

@@ -1,0 +1,44 @@
+//! What each command has to write of a job.
+
+ghost use Rattle.std.specs.Prelude.{◌≡◌, IfOk, List};
+ghost use Rattle.job.specs.Kept.{pipeline_in, program_text_in};
+ghost use Rattle.pipe_print.specs.Canonical.{canonical};
+ghost use Rattle.pipe_tree.specs.Tree.{Declaration};
+ghost use Rattle.commands.specs.Planning.{IsPlan, inlining_asked};
+ghost use Rattle.commands.specs.Replies.{reply_bytes};
+ghost use Rattle.commands.specs.Sayings.{saying_of};
+
+use crate::answer::evaluate;
+use crate::plan_lines::plan_lines;
+use crate::reply::Reply;
+use crate::schedules::schedule_of;
+use crate::stage_lines::check_lines;
+use command_line::{Options, Task};
+use job::Job;
+use std::alloc::{AllocError, Global};
+
+/// What the command says of the job.
+pub fn task_reply(
+    alloc: Global,
+    task: Task,
+    options: &Options,
+    job: &Job,
+) -> Result<Reply, AllocError>
+    ensures { IfOk result (λ reply. (tree : List Declaration) → program_text_in job.now ≡ canonical tree
+        → saying_of task options.now.stored options.now.percent tree (pipeline_in job.now) (reply_bytes reply)) }
+{
+    match task {
+        Task::Eval => evaluate(alloc, job, options),
+        Task::Check => Ok(Reply::of_lines(check_lines(alloc, job)?)),
+        Task::Plan => Ok(Reply::of_lines(planned_lines(alloc, options, job)?)),
+    }
+}
+
+/// The lines of the schedule that the options ask for.
+fn planned_lines(alloc: Global, options: &Options, job: &Job) -> Result<Vec<u8>, AllocError>
+    ensures { let job = pipeline_in job.now in
+        IfOk result (λ lines. IsPlan job (inlining_asked options.now.stored options.now.percent job) lines.items) }
+{
+    let schedule = schedule_of(alloc, job, options)?;
+    plan_lines(alloc, job, &schedule)
+}

@@ -1,0 +1,113 @@
+//! The commands as they are run: from a reader to a writer.
+
+ghost use Rattle.std.specs.Prelude.{IfOk, IfErr};
+ghost use Rattle.inputs.specs.Faults.{IsFaultOf};
+ghost use Rattle.inputs.specs.Outcomes.{Writes, IsSaid, CountsRead, CountsWritten};
+ghost use Rattle.commands.specs.Listing.{SaysCheck};
+ghost use Rattle.commands.specs.Planning.{SaysPlan};
+ghost use Rattle.commands.specs.Replies.{reply_bytes};
+ghost use Rattle.commands.specs.Results.{SaysResult};
+ghost use Rattle.commands.specs.Sayings.{saying_of};
+
+use crate::reply::{Reply, write_reply};
+use crate::task_reply::task_reply;
+use command_line::{Options, Task};
+use inputs::{StreamFault, job_of, read_input};
+use std::alloc::Global;
+use streams::{Sink, Source};
+
+/// Reads a program and a picture, and writes a line for the identity of the program, one for the identity of what it is given,
+/// and one for each stage: its number, kind and name, its rows and columns, and how many tiles it has.
+///
+/// The input is the program's text, a line `%%` and the picture. `parameters` gives values of the program's parameters.
+pub fn check_stream<H: AllocGlobal, R: Source, W: Sink>(
+    rt: &H,
+    options: &Options,
+    parameters: &[(String, i32)],
+    reader: &mut R,
+    writer: &mut W,
+) -> Result<(), StreamFault>
+    // At `Ok` the writer took all lines, and where it failed a part of them. Any other fault has written
+    // nothing, and is the first fault of the input and the parameters.
+    ensures written { Writes SaysCheck (R.remaining reader.old) parameters.now options.now.sides result (W.contents writer.old) (W.contents writer.new) }
+    // A fault of the reader or the writer is answered where it failed, and nowhere else.
+    ensures read { CountsRead result (R.failures reader.old) (R.failures reader.new) }
+    ensures write { CountsWritten result (W.failures writer.old) (W.failures writer.new) }
+{
+    task_stream(rt, Task::Check, options, parameters, reader, writer)
+}
+
+/// Reads a program and a picture, and writes the result of running the program on the picture: the picture that it puts out, if
+/// it has an output, and behind it a line for each of its accumulators.
+///
+/// The input is the program's text, a line `%%` and the picture. `parameters` gives values of the program's parameters.
+pub fn eval_stream<H: AllocGlobal, R: Source, W: Sink>(
+    rt: &H,
+    options: &Options,
+    parameters: &[(String, i32)],
+    reader: &mut R,
+    writer: &mut W,
+) -> Result<(), StreamFault>
+    // At `Ok` the writer took the bytes of the result, and where it failed a part of them. Any other fault has written
+    // nothing, and is the first fault of the input and the parameters.
+    ensures written { Writes SaysResult (R.remaining reader.old) parameters.now options.now.sides result (W.contents writer.old) (W.contents writer.new) }
+    // A fault of the reader or the writer is answered where it failed, and nowhere else.
+    ensures read { CountsRead result (R.failures reader.old) (R.failures reader.new) }
+    ensures write { CountsWritten result (W.failures writer.old) (W.failures writer.new) }
+{
+    task_stream(rt, Task::Eval, options, parameters, reader, writer)
+}
+
+/// Reads a program and a picture, and writes a line for each function and each accumulator: that it is inlined, or that it is
+/// stored and how many points are computed for its tiles.
+///
+/// The input is the program's text, a line `%%` and the picture. `parameters` gives values of the program's parameters.
+pub fn plan_stream<H: AllocGlobal, R: Source, W: Sink>(
+    rt: &H,
+    options: &Options,
+    parameters: &[(String, i32)],
+    reader: &mut R,
+    writer: &mut W,
+) -> Result<(), StreamFault>
+    // At `Ok` the writer took all lines, and where it failed a part of them. Any other fault has written
+    // nothing, and is the first fault of the input and the parameters.
+    ensures written { Writes (SaysPlan options.now.stored options.now.percent) (R.remaining reader.old) parameters.now options.now.sides result (W.contents writer.old) (W.contents writer.new) }
+    // A fault of the reader or the writer is answered where it failed, and nowhere else.
+    ensures read { CountsRead result (R.failures reader.old) (R.failures reader.new) }
+    ensures write { CountsWritten result (W.failures writer.old) (W.failures writer.new) }
+{
+    task_stream(rt, Task::Plan, options, parameters, reader, writer)
+}
+
+/// Reads the input, and writes what the command says of it. All is computed before the first byte is written.
+fn task_stream<H: AllocGlobal, R: Source, W: Sink>(
+    rt: &H,
+    task: Task,
+    options: &Options,
+    parameters: &[(String, i32)],
+    reader: &mut R,
+    writer: &mut W,
+) -> Result<(), StreamFault>
+    ensures written { Writes (saying_of task options.now.stored options.now.percent) (R.remaining reader.old) parameters.now options.now.sides result (W.contents writer.old) (W.contents writer.new) }
+    ensures read { CountsRead result (R.failures reader.old) (R.failures reader.new) }
+    ensures write { CountsWritten result (W.failures writer.old) (W.failures writer.new) }
+{
+    let input = read_input(rt.alloc(), reader)?;
+    let reply = input_reply(rt.alloc(), task, options, parameters, input)?;
+    write_reply(&reply, writer)
+}
+
+/// What the command says of the job of the input.
+fn input_reply(
+    alloc: Global,
+    task: Task,
+    options: &Options,
+    given: &[(String, i32)],
+    input: Vec<u8>,
+) -> Result<Reply, StreamFault>
+    ensures said { IfOk result (λ reply. IsSaid (saying_of task options.now.stored options.now.percent) input.items given.now options.now.sides (reply_bytes reply)) }
+    ensures fault { IfErr result (IsFaultOf input.items given.now options.now.sides) }
+{
+    let job = job_of(alloc, options.sides, given, input)?;
+    Ok(task_reply(alloc, task, options, &job)?)
+}

@@ -1,0 +1,68 @@
+-- What is asked for makes a schedule; so does nothing.
+use Rattle.std.proofs.Common.{ℕ, ◌+◌, ◌<◌, ◌≤◌, arith, ◌≡◌, ◌⊎◌, inl, inr, Bool, true, false, ◌&&◌, List, [], ◌∷◌, cond, filter, get_or, map, length, refl, ap, sym, subst, ◌∙◌}
+use Rattle.std.proofs.lemmas.Bool.{false≢true, and_parts, cases_lt}
+use Rattle.std.proofs.Math.ListN as lists
+use Rattle.std.proofs.lemmas.List.{length-map, get_or_past}
+use Rattle.std.proofs.lemmas.List.FromFn.{get_or-map-range_with_len, length-map-range_with_len}
+use Rattle.job.specs.Pipeline.{Stage, Pipeline}
+use Rattle.grouping.specs.Schedules.{is_inlined, is_function, IsSchedule, inlining_for, all_stored}
+use Rattle.std.proofs.lemmas.List.Elements.{All-map}
+use Rattle.domains.specs.Tiles.{tile_area, tiles_of}
+use Rattle.job.specs.Answers.{grid_of}
+use Rattle.grouping.specs.Targets.{Target, boxes}
+use Rattle.grouping.specs.Costs.{points_in, scratch, most_scratch}
+use Rattle.grouping.specs.Inlining.{StoresOutputs, AllFitScratch}
+
+pub none_inlined : (stages : List Stage) (g : ℕ) → is_inlined (map (λ s. false) stages) g ≡ false
+none_inlined [] g = refl
+none_inlined (s ∷ stages) g = lists.get_or-map (λ (x : Stage). false) (s ∷ stages) g s
+
+-- a schedule may inline nothing
+pub stored_is : (job : Pipeline) → IsSchedule job (all_stored job)
+stored_is job =
+    record {
+      each = length-map job.stages (λ s. false);
+      functions = λ g inlined. absurd (false≢true (sym (none_inlined job.stages g) ∙ inlined));
+      inner = λ g inlined. absurd (false≢true (sym (none_inlined job.stages g) ∙ inlined));
+    }
+
+-- only functions are inlined
+functions_alone : (job : Pipeline) (asked : List Bool) (g : ℕ) → is_inlined (inlining_for job asked) g ≡ true → is_function job g ≡ true
+functions_alone job asked g inlined = by (cases_lt g (length job.stages))
+  where
+    by : (g < length job.stages) ⊎ (length job.stages ≤ g) → is_function job g ≡ true
+    by (inl below) =
+        let f : ℕ → Bool = λ k. is_inlined asked k && is_function job k in
+        let at : is_inlined (inlining_for job asked) g ≡ f g = get_or-map-range_with_len f 0 (length job.stages) g g false below
+        (let e : 0 + g ≡ g = omega arith in e) in
+        (and_parts (is_inlined asked g) (is_function job g) (sym at ∙ inlined)).1
+    by (inr past) =
+        let f : ℕ → Bool = λ k. is_inlined asked k && is_function job k in
+        let few : length (inlining_for job asked) ≤ g = subst (λ (n : ℕ). n ≤ g)
+        (sym (length-map-range_with_len f 0 (length job.stages))) past in
+        absurd (false≢true (sym (get_or_past (inlining_for job asked) g false few) ∙ inlined))
+
+pub asked_is : (job : Pipeline) (asked : List Bool) → StoresOutputs job (inlining_for job asked) → IsSchedule job (inlining_for job asked)
+asked_is job asked inner =
+    record {
+      each = length-map-range_with_len (λ k. is_inlined asked k && is_function job k) 0 (length job.stages);
+      functions = functions_alone job asked;
+      inner = inner;
+    }
+
+-- ---- room in scratch memory
+
+filter_none : {X : Type 0} (p : X → Bool) (xs : List X) → ((x : X) → p x ≡ false) → filter p xs ≡ []
+filter_none p [] h = refl
+filter_none p (x ∷ xs) h = ap (λ b. cond b (x ∷ filter p xs) (filter p xs)) (h x) ∙ filter_none p xs h
+
+-- where nothing is inlined nothing lies in scratch memory
+pub none_takes_none : (t : Target) → ((g : ℕ) → is_inlined t.inlining g ≡ false) → scratch t ≡ 0
+none_takes_none t none = ap points_in (filter_none (λ s. is_inlined t.inlining s.0) (boxes t) (λ s. none s.0))
+
+pub stored_fits : (job : Pipeline) → AllFitScratch job (all_stored job)
+stored_fits job g s there has =
+    let make : ℕ × ℕ → Target = λ x. record { job = job; inlining = all_stored job; stage = g; region = tile_area (grid_of job s) x.0 x.1 } in
+    All-map (λ t. scratch t ≤ most_scratch) make (tiles_of (grid_of job s))
+    (λ k d below. let e : scratch (make (get_or (tiles_of (grid_of job s)) k d)) ≡ 0 = none_takes_none (make (get_or (tiles_of (grid_of job s)) k d)) (none_inlined job.stages) in
+    subst (λ (n : ℕ). n ≤ most_scratch) (sym e) (omega arith))

@@ -1,0 +1,38 @@
+use Rattle.std.proofs.Common.{◌<◌, ℕ, List, Option, length, sym, ap, subst, ◌∙◌}
+use Rattle.std.specs.Prelude.{All}
+use Rattle.std.specs.List.{flat_map}
+use Rattle.domains.specs.declared.area.Area.{Area}
+use Rattle.job.specs.Kept.{pipeline_in}
+use Rattle.domains.proofs.Places.{all_at}
+use Rattle.grouping.specs.Targets.{Target, IsTarget, box, demands_by, target_over}
+use Rattle.grouping.specs.inside.Walks.{cut_hull, demanded_all}
+use Rattle.grouping.specs.inside.Standings.{areas_at}
+use Rattle.grouping.proofs.CostsGrow.{areas_are_targets}
+use Rattle.grouping.proofs.ReadersMakeBoxes.{cut_is_box}
+use Rattle.grouping.proofs.GreedyIsTheRule.{readers_there}
+use Rattle.grouping.proofs.greedy.Grouper.box_in.Goals as goal
+
+pub demand_all-requires-clause-target : goal.demand_all-requires-clause-target
+demand_all-requires-clause-target c =
+    let job = pipeline_in c.args.job.now in
+    let inlining = c.args.self.now.inlining in
+    let h = c.args.candidate.now.group in
+    all_at (λ a. IsTarget (target_over job inlining h a)) (areas_at job h) c.args.place c.args.tile.now
+    (areas_are_targets job inlining h c.args.job.now.well) c.requires.tile
+
+pub demand_all-requires-clause-readers : goal.demand_all-requires-clause-readers
+demand_all-requires-clause-readers c =
+    let job = pipeline_in c.args.job.now in
+    subst (λ (rs : List ℕ). All (λ r. r < length job.stages) rs) (sym (c.deref.ensures.value ∙ c.requires.candidate.read))
+    (readers_there job c.args.candidate.now.number)
+
+pub returns-clause-is : goal.returns-clause-is
+returns-clause-is c =
+    let job = pipeline_in c.args.job.now in
+    let g = c.args.candidate.now.number in
+    let t : Target = target_over job c.args.self.now.inlining c.args.candidate.now.group c.args.tile.now in
+    let there : g < length c.args.hulls.now = subst (λ (n : ℕ). g < n) (sym c.requires.hulls) c.requires.candidate.there in
+    let demanded = c.demand_all.ensures
+    ∙ (λ i. demanded_all (c.forget.ensures i) (flat_map (demands_by t (box t)) ((c.deref.ensures.value ∙ c.requires.candidate.read) i))) in
+    c.box_of.ensures.is ∙ ap (λ (hulls : List (Option Area)). cut_hull job.stages hulls g) demanded
+    ∙ cut_is_box t g c.args.hulls.now c.args.job.now.well there

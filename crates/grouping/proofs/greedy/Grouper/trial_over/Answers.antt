@@ -1,0 +1,63 @@
+use Rattle.std.proofs.Common.{◌≡◌, ◌<◌, ◌+◌, ◌++◌, ◌∷◌, [], suc, ℕ, List, Option, map, drop, length, get_or, arith, sym, ap, ◌∙◌, append_assoc}
+use Rattle.std.specs.List.{sum, sum_by}
+use Rattle.std.specs.Prelude.{slice_get, Some}
+use Rattle.std.proofs.Math.Seq.{drop-cons}
+use Rattle.std.proofs.lemmas.List.Sums.{sum-map, sum_by-append}
+use Rattle.std.proofs.lemmas.Option.{slice_get_read}
+use Rattle.domains.specs.declared.area.Area.{Area}
+use Rattle.job.specs.Kept.{pipeline_in}
+use Rattle.grouping.specs.Targets.{box, target_over}
+use Rattle.grouping.specs.Costs.{scratch}
+use Rattle.grouping.specs.Greedy.{common_group}
+use Rattle.grouping.specs.inside.Standings.{areas_at}
+use Rattle.grouping.specs.inside.Trials.{grouping_of, points_of_box}
+use Rattle.grouping.proofs.KeptIsBox.{kept_is_scratch}
+use Rattle.grouping.proofs.InlinedStands.{group_is}
+use Rattle.grouping.proofs.greedy.Grouper.trial_over.Goals as goal
+
+-- one element more is done
+mapped_more : {X : Type 0} (f : Area → X) (done : List X) (after : List X) (tiles : List Area) (k : ℕ) (a : Area) (all : List X)
+    → k < length tiles → a ≡ get_or tiles k a → after ≡ done ++ f a ∷ []
+    → done ++ map f (drop k tiles) ≡ all → after ++ map f (drop (k + 1) tiles) ≡ all
+mapped_more f done after tiles k a all low is one was =
+    let next : k + 1 ≡ suc k = omega arith in
+    let left : drop k tiles ≡ a ∷ drop (suc k) tiles = drop-cons tiles k a low ∙ ap (λ x. x ∷ drop (suc k) tiles) (sym is) in
+    ap (λ xs. xs ++ map f (drop (k + 1) tiles)) one
+    ∙ append_assoc done (f a ∷ []) (map f (drop (k + 1) tiles))
+    ∙ ap (λ j. done ++ (f a ∷ map f (drop j tiles))) next
+    ∙ ap (λ xs. done ++ map f xs) (sym left)
+    ∙ was
+
+sum_more : {X : Type 0} (f : X → ℕ) (xs after : List X) (x : X) (n m : ℕ) → after ≡ xs ++ x ∷ [] → n ≡ sum (map f xs) → m ≡ n + f x
+    → m ≡ sum (map f after)
+sum_more f xs after x n m one was is =
+    let single : sum (map f (x ∷ [])) ≡ f x = (let e : 0 + f x ≡ f x = omega arith in e) in
+    let last : sum_by f (x ∷ []) ≡ f x = sym (sum-map f (x ∷ [])) ∙ single in
+    let all : sum (map f after) ≡ sum_by f xs + f x = ap (λ ys. sum (map f ys)) one ∙ sum-map f (xs ++ x ∷ []) ∙ sum_by-append f xs (x ∷ [])
+    ∙ ap (λ k. sum_by f xs + k) last in
+    is ∙ ap (λ k. k + f x) (was ∙ sum-map f xs) ∙ sym all
+
+pub loop-place-preserved : goal.loop-place-preserved
+loop-place-preserved c =
+    let job = pipeline_in c.args.job.now in
+    let self = c.args.self.now in
+    let g = c.args.candidate.now.number in
+    let h = c.args.candidate.now.group in
+    let a = c.index-tiles-place.result in
+    let before = c.loop-place.invariant in
+    let tiles = c.args.tiles.now in
+    let shared = ap (common_group (grouping_of self)) (sym c.requires.candidate.read) ∙ c.requires.candidate.shared in
+    let at_group = group_is job (grouping_of self) self.standings.items g h c.args.job.now.well c.requires.stand shared in
+    let here : slice_get (areas_at job h) c.loop-place.place ≡ Some a = ap (λ (xs : List Area). slice_get xs c.loop-place.place)
+    (sym c.requires.tiles) ∙ slice_get_read tiles (length tiles) c.loop-place.place a
+    (λ i. length tiles) c.loop-place-test.true c.index-tiles-place.is in
+    let kept = c.kept_scratch.ensures ∙ kept_is_scratch job
+    (grouping_of self) self.standings.items h c.loop-place.place a c.requires.stand at_group.2 at_group.0 here in
+    let boxes = c.in_ok-add.ensures.boxes ∙ ap (λ (o : Option Area). c.loop-place.trial.boxes.items ++ o ∷ []) c.box_in-area.ensures.is in
+    let held = c.in_ok-add.ensures.scratch
+    ∙ (λ i. c.loop-place.trial.scratch.items ++ (kept i + points_of_box (c.box_in-area.ensures.is i)) ∷ []) in (
+      c.box_in-area.ensures.room ∙ before.0,
+      mapped_more (λ b. box (target_over job self.inlining h b) g) c.loop-place.trial.boxes.items c.add.new.self.boxes.items tiles c.loop-place.place a _ c.loop-place-test.true c.index-tiles-place.is boxes before.1,
+      sum_more points_of_box c.loop-place.trial.boxes.items c.add.new.self.boxes.items c.box_in-area.result c.loop-place.trial.added c.add.new.self.added c.in_ok-add.ensures.boxes before.2 c.in_ok-add.ensures.added,
+      mapped_more (λ b. scratch (target_over job self.inlining h b) + points_of_box (box (target_over job self.inlining h b) g)) c.loop-place.trial.scratch.items c.add.new.self.scratch.items tiles c.loop-place.place a _ c.loop-place-test.true c.index-tiles-place.is held before.3,
+    )

@@ -1,0 +1,100 @@
+use Rattle.std.proofs.Common.{◌≡◌, ◌+◌, ◌*◌, ℕ, Bool, true, false, ◌&&◌, nat_le, List, arith, refl, sym, ap, subst, ◌∙◌}
+use Rattle.std.specs.Prelude.{if◌then◌else◌, slice_get}
+use Rattle.job.specs.Kept.{pipeline_in}
+use Rattle.job.specs.Pipeline.{Pipeline}
+use Rattle.job.specs.WellFormed.{IsJob}
+use Rattle.grouping.specs.Greedy.{Grouping, common_group, pays, has_room, with_inlined}
+use Rattle.grouping.specs.inside.Standings.{AllStand}
+use Rattle.grouping.specs.inside.Trials.{grouping_of, kept_cost, IsCandidate, IsTrialOf}
+use Rattle.grouping.specs.declared.greedy.Grouper.{Grouper}
+use Rattle.grouping.specs.declared.standing.Standing.{Standing}
+use Rattle.grouping.specs.declared.standing.Standing.TheVariants.{Stored, Inlined}
+use Rattle.grouping.specs.declared.trial.Candidate.{Candidate}
+use Rattle.grouping.specs.declared.trial.Trial.{Trial}
+use Rattle.grouping.proofs.InlinedStands.{IsStep, group_is, function_stands, group_stands, all_stand, pays_is, fits_is, points_kept}
+use Rattle.grouping.proofs.greedy.Grouper.try_inline.Goals as goal
+use Rattle.grouping.proofs.greedy.Grouper.try_inline.Goals.{else-pays-via-then-pays+else-fits, else-pays-via-else-pays}
+
+step_of : (job : Pipeline) (c : Grouper) (k : Candidate) → IsJob job → AllStand job (grouping_of c) c.standings.items
+    → IsCandidate job (grouping_of c) k → IsStep job (grouping_of c) c.standings.items k.number k.group
+step_of job c k is stand candidate = record {
+  valid = is;
+  stand = stand;
+  there = candidate.there;
+  function = candidate.function;
+  stored = candidate.stored;
+  behind = candidate.behind;
+  shared = ap (common_group (grouping_of c)) (sym candidate.read) ∙ candidate.shared;
+}
+
+-- what the code weighs is the rule
+weighed : (job : Pipeline) (c : Grouping) (standings : List Standing) (g h percent own apart : ℕ) (t : Trial) (b : Bool)
+    → IsStep job c standings g h → IsTrialOf job c.inlining h g t
+    → own ≡ kept_cost (slice_get standings h) → apart ≡ kept_cost (slice_get standings g) → b ≡ nat_le (100 * (own + t.added))
+    ((100 + percent) * (own + apart)) → b ≡ pays job percent c.inlining g h
+weighed job c standings g h percent own apart t b step trial is_own is_apart is =
+    let at_group = group_is job c standings g h step.valid step.stand step.shared in
+    is ∙ pays_is step percent own apart t.added
+    (is_own ∙ points_kept job c standings h step.stand at_group.2 at_group.0)
+    (is_apart ∙ points_kept job c standings g step.stand step.there step.stored) trial.added
+
+pub inline-requires-clause-group : goal.inline-requires-clause-group
+inline-requires-clause-group c =
+    let step = step_of (pipeline_in c.args.job.now) c.args.self.now c.args.candidate.now c.args.job.now.well c.requires.stand c.requires.candidate in
+    let there = (group_is (pipeline_in c.args.job.now) (grouping_of c.args.self.now) c.args.self.now.standings.items c.args.candidate.now.number c.args.candidate.now.group step.valid step.stand step.shared).2 in
+    let all = step.stand.all in
+    omega arith
+
+pub returns-in_ok-points-clause-grouping : goal.returns-in_ok-points-clause-grouping
+returns-in_ok-points-clause-grouping c =
+    let job = pipeline_in c.args.job.now in
+    let self = c.args.self.now in
+    let g = c.args.candidate.now.number in
+    let h = c.args.candidate.now.group in
+    let step = step_of job self c.args.candidate.now c.args.job.now.well c.requires.stand c.requires.candidate in
+    let trial = c.in_ok-trial.ensures in
+    let it_pays = sym (weighed job (grouping_of self) self.standings.items g h c.args.percent c.kept_cost-own.result c.kept_cost-apart.result c.in_ok-trial.trial c.pays.result step trial c.kept_cost-own.ensures c.kept_cost-apart.ensures c.pays.ensures) ∙ c.if-pays.true in
+    let it_fits = sym (c.fits.ensures ∙ fits_is step c.in_ok-trial.trial.scratch.items trial.in_scratch) ∙ c.if-fits.true in
+    c.inline.ensures.grouping ∙ sym (λ i. if it_pays i && it_fits i then with_inlined (grouping_of self) g h else grouping_of self)
+
+pub returns-in_ok-points-clause-stand : goal.returns-in_ok-points-clause-stand
+returns-in_ok-points-clause-stand c =
+    let job = pipeline_in c.args.job.now in
+    let self = c.args.self.now in
+    let g = c.args.candidate.now.number in
+    let h = c.args.candidate.now.group in
+    let step = step_of job self c.args.candidate.now c.args.job.now.well c.requires.stand c.requires.candidate in
+    let at_group = group_is job (grouping_of self) self.standings.items g h step.valid step.stand step.shared in
+    let trial = c.in_ok-trial.ensures in
+    let points = c.in_ok-points.points in
+    let own = c.kept_cost-own.ensures ∙ points_kept job (grouping_of self) self.standings.items h step.stand at_group.2 at_group.0 in
+    let fits = sym c.fits.ensures ∙ c.if-fits.true in
+    let stand = all_stand step (Inlined c.in_ok-trial.trial.boxes) (Stored points c.in_ok-trial.trial.scratch)
+    (function_stands step c.in_ok-trial.trial.boxes.items trial.boxes)
+    (group_stands step points c.in_ok-trial.trial.scratch.items (c.in_ok-points.ensures ∙ (λ i. own i + trial.added i)) trial.in_scratch fits) in
+    subst (λ (d : Grouping). AllStand job d c.inline.new.self.standings.items) (sym c.inline.ensures.grouping)
+    (subst (AllStand job (with_inlined (grouping_of self) g h)) (sym c.inline.ensures.standings) stand)
+
+not_both : (a b : Bool) (x y : Grouping) → (a && b) ≡ false → y ≡ (if a && b then x else y)
+not_both a b x y e = sym (ap (λ d. if d then x else y) e)
+
+pub returns-else-pays-clause-grouping : goal.returns-else-pays-clause-grouping
+returns-else-pays-clause-grouping c =
+    let job = pipeline_in c.args.job.now in
+    let self = c.args.self.now in
+    let g = c.args.candidate.now.number in
+    let h = c.args.candidate.now.group in
+    let step = step_of job self c.args.candidate.now c.args.job.now.well c.requires.stand c.requires.candidate in
+    let trial = c.in_ok-trial.ensures in
+    let weighs = weighed job (grouping_of self) self.standings.items g h c.args.percent c.kept_cost-own.result c.kept_cost-apart.result c.in_ok-trial.trial c.pays.result step trial c.kept_cost-own.ensures c.kept_cost-apart.ensures c.pays.ensures in
+    not_both (pays job c.args.percent self.inlining g h) (has_room job self.inlining g h) (with_inlined (grouping_of self) g h)
+    (grouping_of self) (elim c.else-pays.branch [
+      | else-pays-via-then-pays+else-fits w ↦
+          let it_fits = sym (w.fits.ensures ∙ fits_is step c.in_ok-trial.trial.scratch.items trial.in_scratch) ∙ w.if-fits.false in
+          second_false (pays job c.args.percent self.inlining g h) (has_room job self.inlining g h) it_fits
+      | else-pays-via-else-pays w ↦ ap (λ b. b && has_room job self.inlining g h) (sym weighs ∙ w.if-pays.false)
+    ])
+  where
+    second_false : (a b : Bool) → b ≡ false → (a && b) ≡ false
+    second_false true b e = e
+    second_false false b e = refl

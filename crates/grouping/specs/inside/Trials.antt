@@ -1,0 +1,59 @@
+-- How the code tries a function: its boxes in the tiles of the group of its readers, and what they add to cost and scratch memory.
+use Rattle.std.specs.Prelude.{ℕ, ◌+◌, ◌<◌, ◌≡◌, Bool, true, false, Option, Some, None, List, map, length, slice_index_or}
+use Rattle.std.specs.List.{sum}
+use Rattle.std.specs.Option.{option_map_or}
+use Rattle.domains.specs.Area.{point_count}
+use Rattle.domains.specs.declared.area.Area.{Area}
+use Rattle.job.specs.Pipeline.{Pipeline}
+use Rattle.grouping.specs.Schedules.{is_inlined, is_function}
+use Rattle.grouping.specs.Targets.{box, target_over}
+use Rattle.grouping.specs.Costs.{scratch}
+use Rattle.grouping.specs.Greedy.{Grouping, readers, common_group}
+use Rattle.grouping.specs.inside.Standings.{areas_at, boxes_by_tile, NoneInlinedBelow}
+use Rattle.grouping.specs.declared.standing.Standing.{Standing}
+use Rattle.grouping.specs.declared.standing.Standing.TheVariants.{Stored, Inlined}
+use Rattle.grouping.specs.declared.greedy.Grouper.{Grouper}
+use Rattle.grouping.specs.declared.trial.Candidate.{Candidate}
+use Rattle.grouping.specs.declared.trial.Trial.{Trial}
+
+-- how contracts see the grouping so far
+abbrev pub grouping_of : Grouper → Grouping
+grouping_of c = record { inlining = c.inlining; groups = c.groups.items }
+
+-- the points of a box, if there is one
+abbrev pub points_of_box : Option Area → ℕ
+points_of_box o = option_map_or point_count o 0
+
+-- the cost that is kept for a stored stage
+abbrev pub kept_cost : Option Standing → ℕ
+kept_cost None = 0
+kept_cost (Some (Stored points tiles)) = points
+kept_cost (Some (Inlined tiles)) = 0
+
+-- the box that is kept for an inlined function in a tile of its group
+abbrev pub kept_box : Option Standing → ℕ → Option Area
+kept_box None place = None
+kept_box (Some (Stored points tiles)) place = None
+kept_box (Some (Inlined tiles)) place = slice_index_or tiles.items place None
+
+-- the points in scratch memory that are kept for a tile of a stored stage
+abbrev pub kept_scratch : Option Standing → ℕ → ℕ
+kept_scratch None place = 0
+kept_scratch (Some (Stored points tiles)) place = slice_index_or tiles.items place 0
+kept_scratch (Some (Inlined tiles)) place = 0
+
+-- a stored function, before any of lesser rank is inlined, with its readers and their one group
+pub record IsCandidate (job : Pipeline) (c : Grouping) (k : Candidate) : Type 0 where
+  pub there : k.number < length job.stages
+  pub function : is_function job k.number ≡ true
+  pub stored : is_inlined c.inlining k.number ≡ false
+  pub behind : NoneInlinedBelow job c.inlining k.number
+  pub read : k.readers.items ≡ readers job k.number
+  pub shared : common_group c k.readers.items ≡ Some k.group
+
+-- the boxes of stage g in the tiles of stage h, their points, and what each tile has in scratch memory with them
+pub record IsTrialOf (job : Pipeline) (inlining : List Bool) (h g : ℕ) (t : Trial) : Type 0 where
+  pub boxes : t.boxes.items ≡ boxes_by_tile job inlining h g
+  pub added : t.added ≡ sum (map points_of_box (boxes_by_tile job inlining h g))
+  pub in_scratch : t.scratch.items
+      ≡ map (λ a. scratch (target_over job inlining h a) + points_of_box (box (target_over job inlining h a) g)) (areas_at job h)

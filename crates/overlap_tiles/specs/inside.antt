@@ -1,0 +1,2 @@
+-- What inner contracts and proofs cite, and no public one.
+pub mod Made

@@ -1,0 +1,20 @@
+#![tactic(auto)]
+//! Indices of the text, over whole numbers.
+
+ghost use Rattle.std.specs.Prelude.{◌≡◌};
+ghost use Rattle.domains.specs.Index.{IsIndex};
+ghost use Rattle.pipe_bounds.specs.InBounds.{scale_of};
+
+use domains::Index;
+
+/// The index that the text writes, without the name of its variable. Its factor and its divisor are from 1 to 16, and what it
+/// adds from -4096 to 4096, as `check` sees to.
+pub fn index_of(index: &pipe_tree::Index) -> Index
+    requires { IsIndex (scale_of index.now) }
+    ensures { result ≡ scale_of index.now }
+{
+    match Index::new(index.mul as i32, index.add, index.div as i32) {
+        Some(index) => index,
+        None => unreachable!(),
+    }
+}

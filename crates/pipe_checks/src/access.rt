@@ -1,0 +1,121 @@
+#![tactic(auto)]
+//! What an expression accesses: its reads and stencils.
+
+ghost use Rattle.std.specs.Prelude.{◌≡◌, ◌++◌, OnOk, IfOk};
+ghost use Rattle.pipe_tree.specs.Tree.{view};
+ghost use Rattle.pipe_checks.specs.Names.{number_of};
+ghost use Rattle.pipe_checks.specs.Accesses.{read_at, stencil_at, width_of, accesses_of, stage_read};
+
+use crate::symbol::{Symbol, number_of};
+use pipe_tokens::Name;
+use pipe_tree::{Expr, Index, Kernel, Row};
+use std::alloc::{AllocError, Global};
+
+/// A read or a stencil in the text, with the number of the stage that is read. What a read of a job is besides, its indices
+/// over whole numbers or the kernel itself, comes once the names are resolved.
+#[derive(Clone, Copy, Debug)]
+pub enum Access {
+    /// A read at an index of the row and an index of the column.
+    Read(usize, Index, Index),
+    /// A stencil whose kernel has this many rows and columns.
+    Stencil(usize, usize, usize),
+}
+
+impl Access {
+    /// The number of the stage that is read.
+    pub fn stage(&self) -> usize
+        ensures { result ≡ stage_read self.now }
+    {
+        match self {
+            Access::Read(stage, _, _) | Access::Stencil(stage, _, _) => *stage,
+        }
+    }
+}
+
+fn add_read(
+    found: &mut Vec<Access>,
+    stages: &[Symbol],
+    name: &Name,
+    row: &Index,
+    column: &Index,
+) -> Result<(), AllocError>
+    ensures { OnOk result (found.new.items ≡ found.old.items ++ read_at (number_of stages.now name.now) row.now column.now) }
+{
+    match number_of(stages, name) {
+        Some(stage) => {
+            found.push(Access::Read(stage, *row, *column))?;
+            Ok(())
+        }
+        None => Ok(()),
+    }
+}
+
+/// How long the first row of a kernel is.
+pub(crate) fn width_of(rows: &[Row]) -> usize
+    ensures { result ≡ width_of rows.now }
+{
+    match rows {
+        [] => 0,
+        [first, ..] => first.entries().len(),
+    }
+}
+
+fn add_stencil(
+    found: &mut Vec<Access>,
+    stages: &[Symbol],
+    name: &Name,
+    kernel: &Kernel,
+) -> Result<(), AllocError>
+    ensures { OnOk result (found.new.items ≡ found.old.items ++ stencil_at (number_of stages.now name.now) kernel.now) }
+{
+    match number_of(stages, name) {
+        Some(stage) => {
+            found.push(Access::Stencil(stage, kernel.rows().len(), width_of(kernel.rows())))?;
+            Ok(())
+        }
+        None => Ok(()),
+    }
+}
+
+/// Adds the accesses of an expression, in the order of the text, after those that were found.
+pub fn add_accesses(
+    found: &mut Vec<Access>,
+    stages: &[Symbol],
+    expr: &Expr,
+) -> Result<(), AllocError>
+    ensures { OnOk result (found.new.items ≡ found.old.items ++ accesses_of stages.now (view expr.now)) }
+{
+    match expr {
+        Expr::Number(_) | Expr::Name(_) => Ok(()),
+        Expr::Read(name, row, column) => add_read(found, stages, name, row, column),
+        Expr::Neg(operand) | Expr::Abs(operand) | Expr::Literal(_, operand, _) => {
+            add_accesses(found, stages, operand)
+        }
+        Expr::Binary(_, left, right) => {
+            add_accesses(found, stages, left)?;
+            add_accesses(found, stages, right)
+        }
+        Expr::Clamp(value, least, greatest) => {
+            add_accesses(found, stages, value)?;
+            add_accesses(found, stages, least)?;
+            add_accesses(found, stages, greatest)
+        }
+        Expr::Select(left, _, right, then, otherwise) => {
+            add_accesses(found, stages, left)?;
+            add_accesses(found, stages, right)?;
+            add_accesses(found, stages, then)?;
+            add_accesses(found, stages, otherwise)
+        }
+        Expr::Stencil(name, _, kernel) => add_stencil(found, stages, name, kernel),
+    }
+}
+
+/// The reads and stencils of an expression in the order of the text. The stages are those of its program: a name that none
+/// of them has is passed over, of which a checked program has none. Fails where no memory is left.
+pub fn accesses(alloc: Global, stages: &[Symbol], expr: &Expr) -> Result<Vec<Access>, AllocError>
+    ensures { IfOk result (λ v. v.items ≡ accesses_of stages.now (view expr.now)) }
+{
+    let mut found = Vec::new(alloc);
+    add_accesses(&mut found, stages, expr)?;
+    Ok(found)
+}

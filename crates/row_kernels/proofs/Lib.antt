@@ -1,0 +1,7 @@
+pub mod Writing
+pub mod Columns
+pub mod Places
+pub mod Testing
+pub mod Leaving
+pub mod Reciprocals
+pub mod Taps

@@ -1,0 +1,67 @@
+use Rattle.std.proofs.Common.{arith, ℕ, ◌≡◌, ◌+◌, ◌-◌, ◌*◌, ◌/◌, ◌%◌, ◌^◌, add-one, ◌<◌, ◌≤◌, suc, ap, sym, ◌∙◌, le_trans, le_of_eq}
+use Rattle.row_kernels.specs.inside.Reciprocal.{IsReciprocal}
+use Rattle.std.proofs.lemmas.Nat.{one_shl, pow-add}
+use Rattle.std.proofs.Math.Nat.{mul_assoc, mul_comm, mul_right_comm, mul-add, suc-mul, mul-le-mul_right, mul-le-mul_left, mul-lt-mul_of_pos_right, le-div_iff_mul-le, div-lt_iff_lt-mul, le_antisymm, lt_of_mul-lt-mul_right, div-add-mod', div-mul-le_self, mod-lt}
+
+below_suc : (a b : ℕ) → a < suc b → a ≤ b
+below_suc a b h = omega arith
+
+-- the quotient is between two multiples
+pub quotient_is : (x p q : ℕ) → 0 < p → q * p ≤ x → x < suc q * p → x / p ≡ q
+quotient_is x p q pos low high = le_antisymm (below_suc (x / p) q ((div-lt_iff_lt-mul {k = p} {x = x} {y = suc q} pos).1 high)) ((le-div_iff_mul-le {k = p} {x = q} {y = x} pos).1 low)
+
+-- n divided by d is n times m, cut by p, where m * d lies above p by e and n * e stays below p
+pub by_product : (n d m e p : ℕ) → 0 < d → 0 < p → m * d ≡ p + e → n * e < p → (n * m) / p ≡ n / d
+by_product n d m e p dpos ppos is small =
+    let up : p ≤ p + e = omega arith in
+    let turn : n / d * (m * d) ≡ n / d * d * m = ap (λ (x : ℕ). n / d * x) (mul_comm m d) ∙ sym (mul_assoc (n / d) d m) in
+    let low : n / d * p ≤ n * m = le_trans (mul-le-mul_left (n / d) up) (le_trans (le_of_eq (ap (λ (x : ℕ). n / d * x) (sym is) ∙ turn)) (mul-le-mul_right m (div-mul-le_self n d))) in
+    let parts : n / d * d + n % d ≡ n = div-add-mod' n d in
+    let less : n % d < d = mod-lt n dpos in
+    let next : suc (n / d) * d ≡ n / d * d + d = suc-mul (n / d) d in
+    let over : suc n ≤ suc (n / d) * d = omega arith in
+    let wide : suc n * p ≤ suc (n / d) * d * p = mul-le-mul_right p over in
+    let whole : n * m * d ≡ n * p + n * e = mul_assoc n m d ∙ ap (λ (x : ℕ). n * x) is ∙ mul-add n p e in
+    let one_more : suc n * p ≡ n * p + p = suc-mul n p in
+    let swap : suc (n / d) * d * p ≡ suc (n / d) * p * d = mul_right_comm (suc (n / d)) d p in
+    let high : n * m * d < suc (n / d) * p * d = omega arith in
+    quotient_is (n * m) p (n / d) ppos low (lt_of_mul-lt-mul_right d high)
+
+-- ---- the factor for a divisor above k and at most 2 * k, with 2 ^ 32 * k as the power
+
+module _ (d k f : ℕ) (above : k < d) (below : d ≤ 2 * k) (few : k < 2147483648) (is : f ≡ 4294967296 * k / d + 1) where
+  pub factor_fits : f < 4294967296
+  factor_fits =
+      let short : 4294967296 * k < 4294967295 * d = omega arith in
+      let low : 4294967296 * k / d < 4294967295 = (div-lt_iff_lt-mul {k = d} {x = 4294967296 * k} {y = 4294967295} (omega arith)).1 short in
+      omega arith
+
+  pub factor_divides : (n : ℕ) → n < 2147483648 → n * f / (4294967296 * k) ≡ n / d
+  factor_divides n h =
+      let positive : 0 < d = omega arith in
+      let split : 4294967296 * k / d * d + 4294967296 * k % d ≡ 4294967296 * k = div-add-mod' (4294967296 * k) d in
+      let less : 4294967296 * k % d < d = mod-lt (4294967296 * k) positive in
+      let more : f * d ≡ 4294967296 * k / d * d + d = rw (is, add-one) (suc-mul (4294967296 * k / d) d) in
+      let over : f * d ≡ 4294967296 * k + (d - 4294967296 * k % d) = omega arith in
+      let small : n * (d - 4294967296 * k % d) ≤ n * (2 * k) = mul-le-mul_left n (omega arith) in
+      let whole : n * (2 * k) < 2147483648 * (2 * k) = mul-lt-mul_of_pos_right h (omega arith) in
+      by_product n d f (d - 4294967296 * k % d) (4294967296 * k) positive (omega arith) over (omega arith)
+
+-- as it is computed, from the bits of the number below the divisor
+module _ (d b e : ℕ) (some : 2 ≤ d) (most : d < 2147483648) (few : b < 32) (low : 2 ^ b ≤ d - 1) (high : d - 1 < 2 * 2 ^ b) (same : e ≡ d) where
+  above : 2 ^ b < d
+  above = omega arith
+
+  below : d ≤ 2 * 2 ^ b
+  below = omega arith
+
+  factor_is : 1 * 2 ^ (32 + b) % 18446744073709551616 / e + 1 ≡ 4294967296 * 2 ^ b / d + 1
+  factor_is = λ i. (one_shl (32 + b) 64 (omega arith) ∙ pow-add 2 32 b) i / same i + 1
+
+  pub computed_fits : 1 * 2 ^ (32 + b) % 18446744073709551616 / e + 1 < 4294967296
+  computed_fits = factor_fits d (2 ^ b) _ above below (omega arith) factor_is
+
+  pub computed_divides : IsReciprocal d (1 * 2 ^ (32 + b) % 18446744073709551616 / e + 1) (32 + b)
+  computed_divides n h =
+      ap (λ (p : ℕ). n * (1 * 2 ^ (32 + b) % 18446744073709551616 / e + 1) / p) (pow-add 2 32 b)
+      ∙ factor_divides d (2 ^ b) _ above below (omega arith) factor_is n h

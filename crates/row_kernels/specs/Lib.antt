@@ -1,0 +1,5 @@
+pub mod Rows
+pub mod Places
+pub mod RowMask
+pub mod Stencil
+pub mod inside

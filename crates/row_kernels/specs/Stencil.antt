@@ -1,0 +1,13 @@
+-- Rows of kernels along lines of numbers.
+use Rattle.std.specs.Prelude.{ℕ, ◌+◌, ◌≡◌, ℤ, ◌*ℤ◌, List, length}
+use Rattle.job.specs.Values.{sum_below, factors}
+use Rattle.row_kernels.specs.Rows.{EachPlace, at}
+
+-- the factors times the numbers from place k on, added up exactly
+abbrev pub tap_sum : List ℤ → List ℤ → ℕ → ℤ
+tap_sum stencil line k = sum_below (length stencil) (λ b. at stencil b *ℤ at line (k + b))
+
+-- three rows of three factors
+pub record Is3x3 (kernel : List (List ℤ)) : Type 0 where
+  pub height : length kernel ≡ 3
+  pub width : EachPlace 3 (λ a. length (factors kernel a) ≡ 3)

@@ -1,0 +1,171 @@
+#![tactic(auto)]
+//! Tests along rows of points.
+
+ghost use Rattle.std.specs.Prelude.{◌≡◌, ◌<◌, ◌+ℤ◌, ◌≤ℤ◌, ℤ, pos, length, map, All, if◌then◌else◌};
+ghost use Rattle.std.specs.Ordering.{int_eq};
+ghost use Rattle.domains.specs.Arithmetic.{floor_rem};
+ghost use Rattle.job.specs.Values.{along, is_related, is_passed, all_passed};
+ghost use Rattle.job.specs.Boxes.{BoundsHold};
+ghost use Rattle.job.specs.WellFormed.{IsDivisor, IsTest};
+ghost use Rattle.job.specs.Views.{axis_view, test_view};
+ghost use Rattle.row_kernels.specs.Rows.{EachPlace, at};
+ghost use Rattle.row_kernels.specs.RowMask.{HoldsWhere};
+
+use crate::row_span::RowSpan;
+use domains::Relation;
+use domains::arithmetic::floor_rem;
+use job::{Axis, Test};
+
+fn coordinate(axis: Axis, row: i32, col: i32) -> i32
+    ensures { result ≡ along (axis_view axis) row col }
+{
+    match axis {
+        Axis::Row => row,
+        Axis::Column => col,
+    }
+}
+
+fn is_related(relation: Relation, v: i128, bound: i128) -> bool
+    ensures { result ≡ is_related relation v bound }
+{
+    match relation {
+        Relation::AtMost => v <= bound,
+        Relation::AtLeast => v >= bound,
+        Relation::Equals => v == bound,
+    }
+}
+
+fn leaves(v: i32, modulus: u32, rest: u32) -> bool
+    requires modulus { IsDivisor modulus }
+    requires rest { rest < modulus }
+    ensures { result ≡ int_eq (floor_rem v (pos modulus)) (pos rest) }
+{
+    floor_rem(v, modulus as i32) == rest as i32
+}
+
+// Whether a test holds at the point.
+fn passes(test: &Test, row: i32, col: i32) -> bool
+    requires { IsTest (test_view test.now) }
+    ensures { result ≡ is_passed (test_view test.now) row col }
+{
+    match test {
+        Test::Compare(axis, relation, bound) => {
+            is_related(*relation, i128::from(coordinate(*axis, row, col)), *bound)
+        }
+        Test::Remainder(axis, modulus, rest) => leaves(
+            coordinate(*axis, row, col),
+            *modulus,
+            *rest,
+        ),
+    }
+}
+
+// Whether all tests hold at the point.
+fn all_pass(tests: &[Test], row: i32, col: i32) -> bool
+    requires { All (λ t. IsTest (test_view t)) tests.now }
+    ensures { result ≡ all_passed (map test_view tests.now) row col }
+{
+    for test in tests {
+        if !passes(test, row, col) {
+            return false;
+        }
+    }
+    true
+}
+
+/// Where in a row of points that lie in the bounds all tests hold.
+#[derive(Clone, Copy, Debug)]
+pub enum RowMask {
+    Nowhere,
+    Everywhere,
+    /// In the columns of which a division by the first number leaves the second.
+    Leaving(u32, u32),
+    /// Each point is to be tested.
+    Unknown,
+}
+
+/// Where in a row of points all tests hold, as far as this is told at once.
+pub fn where_passed(tests: &[Test], points: &RowSpan) -> RowMask
+    requires { All (λ t. IsTest (test_view t)) tests.now }
+    ensures { HoldsWhere result (map test_view tests.now) points.now.row }
+{
+    match tests {
+        [] => RowMask::Everywhere,
+        [Test::Compare(_, _, _), more @ ..] => where_passed(more, points),
+        [Test::Remainder(Axis::Row, modulus, rest), more @ ..] => {
+            if leaves(points.row, *modulus, *rest) {
+                where_passed(more, points)
+            } else {
+                RowMask::Nowhere
+            }
+        }
+        [Test::Remainder(Axis::Column, modulus, rest), more @ ..] => {
+            match where_passed(more, points) {
+                RowMask::Nowhere => RowMask::Nowhere,
+                RowMask::Everywhere => RowMask::Leaving(*modulus, *rest),
+                _ => RowMask::Unknown,
+            }
+        }
+    }
+}
+
+// What a division of a number leaves.
+fn left_of(v: i32, modulus: u32) -> u32
+    requires { IsDivisor modulus }
+    ensures number { pos result ≡ floor_rem v (pos modulus) }
+    ensures below { result < modulus }
+{
+    floor_rem(v, modulus as i32) as u32
+}
+
+// What it leaves of the next number.
+fn next_left(left: u32, modulus: u32) -> u32
+    requires modulus { IsDivisor modulus }
+    requires below { left < modulus }
+    ensures below { result < modulus }
+    ensures next { (v : ℤ) → pos left ≡ floor_rem v (pos modulus) → pos result ≡ floor_rem (v +ℤ pos 1) (pos modulus) }
+{
+    if left + 1 == modulus { 0 } else { left + 1 }
+}
+
+// Takes the numbers of the other row in the columns that leave this rest.
+fn take_leaving(out: &mut [i32], other: &[i32], modulus: u32, rest: u32, points: &RowSpan)
+    requires other { length other.now ≡ length out.old }
+    requires modulus { IsDivisor modulus }
+    ensures { EachPlace (length out.old) (λ k. at out.new k ≡ (if int_eq (floor_rem (points.now.col +ℤ pos k) (pos modulus)) (pos rest) then at other.now k else at out.old k)) }
+{
+    let mut left = left_of(points.col, modulus);
+    for k in 0..out.len() {
+        out[k] = if left == rest { other[k] } else { out[k] };
+        left = next_left(left, modulus);
+    }
+}
+
+// Takes the numbers of the other row where all tests hold, each point tested.
+fn take_passed(out: &mut [i32], other: &[i32], tests: &[Test], points: &RowSpan)
+    requires other { length other.now ≡ length out.old }
+    requires tests { All (λ t. IsTest (test_view t)) tests.now }
+    requires fits { length out.old ≡ points.now.len }
+    ensures { EachPlace (length out.old) (λ k. at out.new k ≡ (if all_passed (map test_view tests.now) points.now.row (points.now.col +ℤ pos k) then at other.now k else at out.old k)) }
+{
+    for k in 0..out.len() {
+        if all_pass(tests, points.row, points.column(k)) {
+            out[k] = other[k];
+        }
+    }
+}
+
+/// Takes the numbers of the other row where all tests hold, in a row of points that lie in the bounds.
+pub fn take_where(out: &mut [i32], other: &[i32], tests: &[Test], passed: RowMask, points: &RowSpan)
+    requires other { length other.now ≡ length out.old }
+    requires tests { All (λ t. IsTest (test_view t)) tests.now }
+    requires fits { length out.old ≡ points.now.len }
+    requires bounds { EachPlace (length out.old) (λ k. BoundsHold (map test_view tests.now) points.now.row (points.now.col +ℤ pos k)) }
+    requires passed { HoldsWhere passed (map test_view tests.now) points.now.row }
+    ensures { EachPlace (length out.old) (λ k. at out.new k ≡ (if all_passed (map test_view tests.now) points.now.row (points.now.col +ℤ pos k) then at other.now k else at out.old k)) }
+{
+    match passed {
+        RowMask::Leaving(modulus, rest) => take_leaving(out, other, modulus, rest, points),
+        _ => take_passed(out, other, tests, points),
+    }
+}

@@ -1,0 +1,82 @@
+#![tactic(auto)]
+//! Division by a number that stays the same, without a division at each number.
+
+ghost use Rattle.std.specs.Prelude.{◌≡◌, ◌<◌, ◌≤◌, ◌*◌, ◌/◌, ◌^◌, ◌+ℤ◌, pos};
+ghost use Rattle.domains.specs.Arithmetic.{floor_div, floor_rem};
+ghost use Rattle.row_kernels.specs.inside.Reciprocal.{IsReciprocal, distance, on_side};
+
+/// A divisor, with the factor whose product is cut by the last `shift` bits in place of a division.
+#[derive(Clone, Copy, Debug)]
+pub struct Reciprocal {
+    divisor: u32,
+    factor: u32,
+    shift: u32,
+    ghost few: { shift < 64 },
+    ghost least: { 2 ≤ divisor },
+    ghost most: { divisor < 2 ^ 31 },
+    ghost exact: { IsReciprocal divisor factor shift },
+}
+
+impl Reciprocal {
+    /// Of a divisor from 2 on.
+    pub fn new(divisor: u32) -> Reciprocal
+        requires least { 2 ≤ divisor }
+        requires most { divisor < 2 ^ 31 }
+        ensures { result.divisor ≡ divisor }
+    {
+        let shift = 32 + (divisor - 1).ilog2();
+        let factor = (1u64 << shift) / u64::from(divisor) + 1;
+        Reciprocal {
+            divisor,
+            factor: factor as u32,
+            shift,
+        }
+    }
+
+    /// `n / divisor`.
+    #[inline]
+    pub fn quotient(&self, n: u32) -> u32
+        requires { n < 2 ^ 31 }
+        ensures { result ≡ n / self.now.divisor }
+    {
+        ((u64::from(n) * u64::from(self.factor)) >> self.shift) as u32
+    }
+
+    /// `a / divisor`, rounded down.
+    #[inline]
+    pub fn floor_quotient(&self, a: i32) -> i32
+        ensures { result ≡ floor_div a (pos self.now.divisor) }
+    {
+        on_side(a, self.quotient(distance(a)))
+    }
+
+    /// What that division leaves, from 0 up to below the divisor.
+    #[inline]
+    pub fn floor_rest(&self, a: i32) -> i32
+        ensures { result ≡ floor_rem a (pos self.now.divisor) }
+    {
+        let n = distance(a);
+        let rest = n - self.quotient(n) * self.divisor;
+        (if a < 0 { self.divisor - 1 - rest } else { rest }) as i32
+    }
+}
+
+// How far a number lies from 0, and one below 0 from -1.
+#[inline]
+#[tactic(auto, using(std::proofs::lemmas::Int::ints))]
+fn distance(a: i32) -> u32
+    ensures is { result ≡ distance a }
+    ensures most { result < 2 ^ 31 }
+{
+    if a < 0 { (-1 - a) as u32 } else { a as u32 }
+}
+
+// The number that lies `n` from 0, and -1 - n on the other side, where `a` lies.
+#[inline]
+#[tactic(auto, using(std::proofs::lemmas::Int::ints))]
+fn on_side(a: i32, n: u32) -> i32
+    requires { n < 2 ^ 31 }
+    ensures { result ≡ on_side a n }
+{
+    if a < 0 { -1 - n as i32 } else { n as i32 }
+}

@@ -1,8 +1,0 @@
-use Rattle.std.proofs.Common.{◌≡◌, ◌+ℤ◌, pos}
-use Rattle.domains.specs.Index.{index_at}
-use Rattle.tile_eval.specs.Rows.{EachPlace, at}
-use Rattle.tile_eval.specs.Buffer.{place_of}
-use Rattle.tile_eval.proofs.blocks.BufferView.look_up.Given as goal
-
-abbrev pub invariant-loop-k : goal.invariant-loop-k
-invariant-loop-k l = EachPlace l.k (λ j. at l.out j ≡ at l.fn.self.values.now (place_of l.fn.self.area l.fn.row (index_at l.fn.col (l.fn.start.col +ℤ pos j))))

@@ -1,0 +1,11 @@
+use Rattle.std.proofs.Common.{rules, FitsSigned, w32}
+use Rattle.std.proofs.lemmas.Int.{to_z-of_z}
+use Rattle.tile_eval.proofs.KnownSamples.{known_within}
+use Rattle.tile_eval.proofs.buffer_source.StageBuffersRowSource.borrow_row.Goals as goal
+
+pub slice-requires : goal.slice-requires
+slice-requires c =
+    let row : FitsSigned w32 c.args.row = search rules in
+    let first : FitsSigned w32 c.args.first = search rules in
+    rw (to_z-of_z w32 c.args.row row) (rw (to_z-of_z w32 c.args.first first) (λ k h.
+    known_within c.args.self.now.buffers.items c.args.stage c.in_ok-whole.field-0.now c.view.result.area _ _ c.in_ok-whole.ensures.some c.view.ensures.area (c.requires k h)))

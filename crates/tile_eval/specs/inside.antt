@@ -1,0 +1,5 @@
+-- What clauses of inner functions cite, and no public clause does.
+pub mod Cases
+pub mod Stencil
+pub mod Counted
+pub mod Kept
