@@ -23,7 +23,7 @@ use Rattle.grouping.proofs.Lists.{Contains-flat_map, Contains-map}
 use Rattle.grouping.proofs.OrderHasEachStage.{order_has}
 use Rattle.overlap_tiles.specs.Needs.{key_of, tile_of_stage}
 use Rattle.overlap_tiles.specs.Plans.{IsTileAt}
-use Rattle.overlap_tiles.proofs.Lists.{Contains-from_map, Contains-from_flat_map, All-from_contains}
+use Rattle.overlap_tiles.proofs.Lists.{Contains-from_map, Contains-from_flat_map}
 use Rattle.grouping.proofs.TilesAreTargets.{gridded}
 use Rattle.tile_run.specs.declared.room.Work.{Work}
 use Rattle.tile_run.specs.declared.room.Work.TheVariants.{Functions, Accumulators}
@@ -116,7 +116,7 @@ first_key program job inlining g grid at o found =
 -- the numbers of stages have 16 bits
 pub number_fits : (job : Pipeline) → IsJob job → (g : ℕ) (grid : Grid) → grid_at job g ≡ Some grid → g < 65536
 number_fits job good g grid there =
-    let at = has_grid job g grid there in
+    let at = gridded job g grid there in
     let low = slice_get_within job.stages g at.stage at.there in
     let few = good.few_stages in
     omega arith

@@ -15,8 +15,8 @@ loop-place-init c =
     (numbers_of c.args.domain.now.cols)) c.in_ok-plane.ensures.items
     ∙ none_made h c.args.domain.now
 
-pub push_row-requires-clause-stored : goal.push_row-requires-clause-stored
-push_row-requires-clause-stored c =
+pub push_row-requires : goal.push_row-requires
+push_row-requires c =
     let area = c.args.domain.now in
     let row_fits : FitsSigned w32 c.number_at-row.result = search rules in
     let first_fits : FitsSigned w32 c.lo-first.result = search rules in
@@ -28,12 +28,14 @@ push_row-requires-clause-stored c =
       c.in_ok-room.ensures.len,
       c.len.ensures.number,
     ) in
-    row_stored (pipeline_in c.args.self.now.job.now) c.args.self.now.schedule.now.inlining c.args.stage area c.requires.stored
-    c.requires.domain (stored_tiles c.args.self.now.stored.now.stages.items) c.requires.computed.all
-    (to_z w32 (of_z w32 c.number_at-row.result)) (to_z w32 (of_z w32 c.lo-first.result)) c.loop-place.place (length c.loop-place.line)
-    within
-    (to_z-of_z w32 c.number_at-row.result row_fits ∙ c.number_at-row.ensures) (to_z-of_z w32 c.lo-first.result first_fits
-    ∙ c.lo-first.ensures.end) long
+    record {
+      stored = row_stored (pipeline_in c.args.self.now.job.now) c.args.self.now.schedule.now.inlining c.args.stage area c.requires.stored
+          c.requires.domain (stored_tiles c.args.self.now.stored.now.stages.items) c.requires.computed.all
+          (to_z w32 (of_z w32 c.number_at-row.result)) (to_z w32 (of_z w32 c.lo-first.result)) c.loop-place.place (length c.loop-place.line)
+          within
+          (to_z-of_z w32 c.number_at-row.result row_fits ∙ c.number_at-row.ensures) (to_z-of_z w32 c.lo-first.result first_fits
+          ∙ c.lo-first.ensures.end) long;
+    }
 
 pub loop-place-preserved : goal.loop-place-preserved
 loop-place-preserved c =

@@ -6,6 +6,7 @@ pub scratch-requires : goal.scratch-requires
 scratch-requires c =
     let found = c.in-Some.ensures.some in
     record {
-      target = tile_is_target (pipeline_in c.args.self.now.job.now) c.args.self.now.schedule.now.inlining c.args.self.now.stage c.args.row c.args.col c.in-Some.area c.args.self.now.job.now.well
+      target = tile_is_target (pipeline_in c.args.self.now.job.now) c.args.self.now.schedule.now.inlining c.args.self.now.stage c.args.row
+          c.args.col c.in-Some.area c.args.self.now.job.now.well
           (record { grid = c.args.self.now.grid; there = c.args.self.now.parted; tile = found.0; is = found.1 });
     }

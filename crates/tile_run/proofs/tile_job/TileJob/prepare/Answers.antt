@@ -2,8 +2,8 @@ use Rattle.std.proofs.Common.{◌≡◌, ℕ, List, map, length, sym, ◌∙◌,
 use Rattle.std.proofs.lemmas.List.{length-map}
 use Rattle.domains.specs.declared.area.Area.{Area}
 use Rattle.grouping.specs.Costs.{inner_steps}
+use Rattle.grouping.specs.Targets.{target_over}
 use Rattle.job.specs.Kept.{pipeline_in}
-use Rattle.overlap_tiles.specs.Plans.{target_over}
 use Rattle.overlap_tiles.specs.Views.{step_view}
 use Rattle.tile_run.specs.inside.Steps.{AreComputed, AreRunnable}
 use Rattle.tile_run.proofs.ValuesAreLocal.{prepared}

@@ -38,7 +38,5 @@ returns-in-None-clause-numbers g c =
     let row : FitsSigned w32 c.args.row = search rules in
     let first : FitsSigned w32 c.col_at.result = search rules in
     absurd (c.in-None.ensures.none (rw (to_z-of_z w32 c.args.row row)
-    (subst (λ (z : ℤ). IsGivenAt (g.K.Known.given c.args.self.now.known.now) c.args.self.now.stage c.args.self.now.grid c.args.row z)
-    (sym (to_z-of_z w32 _ first ∙ c.col_at.ensures))
-    (subst (λ (z : ℤ). IsGivenAt (g.K.Known.given c.args.self.now.known.now) c.args.self.now.stage c.args.self.now.grid c.args.row
-    (index_at c.args.col.now z)) (+ℤ_idr c.args.points.now.col) (c.requires.there 0 c.requires.some)))))
+    (subst (λ (z : ℤ). IsGivenAt (g.K.Known.given c.args.self.now.known.now) c.args.self.now.stage c.args.self.now.grid c.args.row z) (sym (to_z-of_z w32 _ first ∙ c.col_at.ensures))
+    (subst (λ (z : ℤ). IsGivenAt (g.K.Known.given c.args.self.now.known.now) c.args.self.now.stage c.args.self.now.grid c.args.row (index_at c.args.col.now z)) (+ℤ_idr c.args.points.now.col) (c.requires.there 0 c.requires.some)))))
