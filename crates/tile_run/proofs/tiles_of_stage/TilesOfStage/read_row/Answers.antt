@@ -32,8 +32,7 @@ part-done-requires-clause-there g c =
 pub loop-done-preserved : goal.loop-done-preserved
 loop-done-preserved g c =
     let fits : FitsSigned w32 c.number_after.result = search rules in
-    let column : to_z w32 (of_z w32 c.number_after.result)
-    ≡ to_z w32 (of_z w32 c.args.first) +ℤ pos c.loop-done.done = to_z-of_z w32 c.number_after.result fits ∙ c.number_after.ensures in
+    let column : to_z w32 (of_z w32 c.number_after.result) ≡ to_z w32 (of_z w32 c.args.first) +ℤ pos c.loop-done.done = to_z-of_z w32 c.number_after.result fits ∙ c.number_after.ensures in
     record {
       most = still_most (to_z w32 (of_z w32 c.args.first)) (to_z w32 (of_z w32 c.number_after.result)) c.loop-done.done c.loop-done.out c.loop-done.invariant.most column c.part-done.new.out c.part-done.result c.part-done.auto.out c.part-done.ensures.most;
       numbers =
