@@ -4,4 +4,5 @@ pub mod Lives
 pub mod Ranges
 pub mod Plans
 pub mod Available
+pub mod Faults
 pub mod inside
