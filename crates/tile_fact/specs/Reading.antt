@@ -3,7 +3,6 @@
 use Rattle.std.specs.Int.{w32, from_be_bytes}
 use Rattle.std.specs.Ordering.{is_lt}
 use Rattle.std.specs.Prelude.{ℕ, zero, suc, ◌+◌, ◌-◌, ◌*◌, nat_lt, Bool, true, ◌==◌, if◌then◌else◌, List, [], ◌∷◌, length, take, drop, Option, None, Some, Result, Ok, Err}
-use Rattle.identity.specs.declared.key.Key.{Key}
 use Rattle.tile_fact.specs.declared.fact.Fact.{Fact}
 use Rattle.tile_fact.specs.declared.fault.FactFault.{FactFault}
 use Rattle.tile_fact.specs.declared.fault.FactFault.TheVariants.{BadMagic, Cut, NotRising, BadKind, TooLong, TrailingBytes}
@@ -32,11 +31,6 @@ count_read total bytes = do
   part ← part_read total 4 bytes
   Ok (from_be_bytes w32 part.0, part.1)
 
-unfoldable pub key_read : ℕ → List ℕ → Result (Key × List ℕ) FactFault
-key_read total bytes = do
-  part ← part_read total 74 bytes
-  Ok (key_in part.0, part.1)
-
 unfoldable pub kind_read : ℕ → List ℕ → Result (Kind × List ℕ) FactFault
 kind_read total [] = Err (Cut total)
 kind_read total (zero ∷ bytes) = Ok (OfTile, bytes)
@@ -51,11 +45,11 @@ length_read total kind bytes = do
 
 unfoldable pub record_read : ℕ → List ℕ → Result (Fact × List ℕ) FactFault
 record_read total bytes = do
-  key ← key_read total bytes
+  key ← part_read total 74 bytes
   kind ← kind_read total key.1
   len ← length_read total kind.0 kind.1
   numbers ← part_read total (len.0 * bytes_each kind.0) len.1
-  Ok (fact_of key.0 kind.0 numbers.0, numbers.1)
+  Ok (fact_of (key_in key.0) kind.0 numbers.0, numbers.1)
 
 -- whether a fact is above the last one before it, if there is one
 abbrev pub is_above : Option Fact → Fact → Bool

@@ -5,9 +5,9 @@ ghost use Rattle.std.specs.Option.{option_map};
 ghost use Rattle.tile_fact.specs.FactFile.{magic, IsFactFile};
 ghost use Rattle.tile_fact.specs.Faults.{IsFault};
 ghost use Rattle.tile_fact.specs.Numbers.{fact_of};
-ghost use Rattle.tile_fact.specs.Gives.{Gives, Checks, IsRead, IsReadAs};
+ghost use Rattle.tile_fact.specs.Gives.{Gives, GivesInMemory, Checks, IsRead, IsReadAs};
 ghost use Rattle.tile_fact.specs.declared.fault.FactFault.TheVariants.{Memory};
-ghost use Rattle.tile_fact.specs.Reading.{is_above, magic_read, head_read, body_read};
+ghost use Rattle.tile_fact.specs.Reading.{is_above, magic_read, head_read, body_read, file_read};
 
 use crate::fact::Fact;
 use crate::fault::FactFault;
@@ -67,19 +67,28 @@ pub fn decode(alloc: Global, bytes: &[u8]) -> Result<FactFile, FactFault>
     // A fault is the first one of the bytes, at its place; memory is refused only for a fact file.
     ensures fault { IfErr result (IsFault bytes.now) }
 {
-    let total = bytes.len();
-    let (count, records) = read_head(bytes)?;
-    check_records(total, count, records)?;
-    let items = facts_of(alloc, total, count, records)?;
+    let items = read_file(alloc, bytes)?;
     Ok(FactFile {
         facts: Facts { items },
     })
 }
 
+// The facts or the fault that reading from the left gives.
+#[tactic(auto, unfolding(crate::specs::Reading::file_read))]
+fn read_file(alloc: Global, bytes: &[u8]) -> Result<Vec<Fact>, FactFault>
+    ensures { GivesInMemory (λ facts. facts.items) result (file_read bytes.now) }
+{
+    let total = bytes.len();
+    let (count, records) = read_head(bytes)?;
+    check_records(total, count, records)?;
+    facts_of(alloc, total, count, records)
+}
+
 // The count, and the bytes behind it.
 #[tactic(auto, unfolding(crate::specs::Reading::head_read))]
 fn read_head(bytes: &[u8]) -> Result<(u32, &[u8]), FactFault>
-    ensures { Gives (λ x. (x.0, x.1.now)) result (head_read bytes.now) }
+    ensures read { Gives (λ x. (x.0, x.1.now)) result (head_read bytes.now) }
+    ensures behind { IfOk result (λ x. length x.1.now ≤ length bytes.now) }
 {
     let rest = read_magic(bytes)?;
     read_count(bytes.len(), rest)
@@ -109,7 +118,12 @@ fn check_records(total: usize, count: u32, bytes: &[u8]) -> Result<(), FactFault
     let mut last: Option<Record> = None;
     let mut rest = bytes;
     for _ in 0..count {
-        let (record, behind) = read_record(total, rest)?;
+        // A `?` on a key beside a reference gets no proof.
+        let (label, numbers, behind) = match read_record(total, rest) {
+            Ok(read) => read,
+            Err(fault) => return Err(fault),
+        };
+        let record = Record { label, numbers };
         if !is_above(&last, &record) {
             return Err(FactFault::NotRising(total - rest.len()));
         }
@@ -124,8 +138,8 @@ fn check_records(total: usize, count: u32, bytes: &[u8]) -> Result<(), FactFault
 
 // Whether a record is above the last one before it, if there is one.
 fn is_above(last: &Option<Record<'_>>, next: &Record<'_>) -> bool
-    ensures { result ≡ is_above (option_map (λ r. fact_of r.key r.kind r.numbers.now) last.now)
-        (fact_of next.now.key next.now.kind next.now.numbers.now) }
+    ensures { result ≡ is_above (option_map (λ r. fact_of r.label.key r.label.kind r.numbers.now) last.now)
+        (fact_of next.now.label.key next.now.label.kind next.now.numbers.now) }
 {
     match last {
         None => true,
@@ -143,7 +157,12 @@ fn facts_of(alloc: Global, total: usize, count: u32, bytes: &[u8]) -> Result<Vec
     let mut facts = Vec::with_capacity(alloc, count as usize)?;
     let mut rest = bytes;
     for _ in 0..count {
-        let (record, behind) = read_record(total, rest)?;
+        // A `?` on a key beside a reference gets no proof.
+        let (label, numbers, behind) = match read_record(total, rest) {
+            Ok(read) => read,
+            Err(fault) => return Err(fault),
+        };
+        let record = Record { label, numbers };
         facts.push(record.to_fact(alloc)?)?;
         rest = behind;
     }

@@ -6,7 +6,7 @@ ghost use Rattle.tile_fact.specs.Bodies.{IsWithin};
 ghost use Rattle.tile_fact.specs.Gives.{Gives};
 ghost use Rattle.tile_fact.specs.Numbers.{key_in, body_in, fact_of};
 ghost use Rattle.tile_fact.specs.Order.{fact_cmp, body_cmp};
-ghost use Rattle.tile_fact.specs.Reading.{part_read, count_read, key_read, kind_read, length_read, record_read};
+ghost use Rattle.tile_fact.specs.Reading.{part_read, count_read, kind_read, length_read, record_read};
 
 use crate::body::Body;
 use crate::fact::Fact;
@@ -18,11 +18,17 @@ use identity::{InputId, Key, ProgramId};
 use std::alloc::{AllocError, Global};
 use std::cmp::Ordering;
 
+/// What a record says before its numbers.
+#[derive(Clone, Copy)]
+pub struct Label {
+    pub key: Key,
+    pub kind: Kind,
+}
+
 /// A record whose numbers are still bytes.
 #[derive(Clone, Copy)]
 pub struct Record<'a> {
-    pub key: Key,
-    pub kind: Kind,
+    pub label: Label,
     pub numbers: &'a [u8],
 }
 
@@ -30,25 +36,27 @@ impl<'a> Record<'a> {
     /// The order of the facts that the records spell.
     #[tactic(auto, unfolding(crate::specs::Order::fact_cmp))]
     pub fn compare(&self, other: &Record<'_>) -> Ordering
-        ensures { result ≡ fact_cmp (fact_of self.now.key self.now.kind self.now.numbers.now)
-            (fact_of other.now.key other.now.kind other.now.numbers.now) }
+        ensures { result ≡ fact_cmp (fact_of self.now.label.key self.now.label.kind self.now.numbers.now)
+            (fact_of other.now.label.key other.now.label.kind other.now.numbers.now) }
     {
-        match self.key.cmp(&other.key) {
-            Ordering::Equal => compare_numbers(self.kind, self.numbers, other.kind, other.numbers),
+        match self.label.key.cmp(&other.label.key) {
+            Ordering::Equal => {
+                compare_numbers(self.label.kind, self.numbers, other.label.kind, other.numbers)
+            }
             unequal => unequal,
         }
     }
 
     /// The fact that the record spells.
     pub fn to_fact(&self, alloc: Global) -> Result<Fact, AllocError>
-        requires { IsWithin (body_in self.now.kind self.now.numbers.now) }
-        ensures { IfOk result (λ fact. fact ≡ fact_of self.now.key self.now.kind self.now.numbers.now) }
+        requires { IsWithin (body_in self.now.label.kind self.now.numbers.now) }
+        ensures { IfOk result (λ fact. fact ≡ fact_of self.now.label.key self.now.label.kind self.now.numbers.now) }
     {
-        let body = match self.kind {
+        let body = match self.label.kind {
             Kind::OfTile => Body::Tile(Samples::new(samples_in(alloc, self.numbers)?)?),
             Kind::OfPartial => Body::Partial(Bins::new(bins_in(alloc, self.numbers)?)?),
         };
-        match Fact::new(self.key, body) {
+        match Fact::new(self.label.key, body) {
             Ok(fact) => Ok(fact),
             Err(_) => unreachable!(),
         }
@@ -67,19 +75,21 @@ fn compare_numbers(a_kind: Kind, a: &[u8], b_kind: Kind, b: &[u8]) -> Ordering
     }
 }
 
-/// The record in front of the bytes, which are the last of `total`, and the bytes behind it.
+/// The record in front of the bytes, which are the last of `total`: what it says before its numbers, the bytes of these, and
+/// the bytes behind it.
 #[tactic(auto, unfolding(crate::specs::Reading::record_read))]
-pub fn read_record(total: usize, bytes: &[u8]) -> Result<(Record<'_>, &[u8]), FactFault>
+pub fn read_record(total: usize, bytes: &[u8]) -> Result<(Label, &[u8], &[u8]), FactFault>
     requires { length bytes.now ≤ total }
-    ensures read { Gives (λ x. (fact_of x.0.key x.0.kind x.0.numbers.now, x.1.now)) result (record_read total bytes.now) }
-    ensures within { IfOk result (λ x. IsWithin (body_in x.0.kind x.0.numbers.now)) }
-    ensures behind { IfOk result (λ x. length x.1.now ≤ total) }
+    ensures read { Gives (λ x. (fact_of x.0.key x.0.kind x.1.now, x.2.now)) result (record_read total bytes.now) }
+    ensures within { IfOk result (λ x. IsWithin (body_in x.0.kind x.1.now)) }
+    ensures behind { IfOk result (λ x. length x.2.now ≤ total) }
 {
-    let (key, rest) = read_key(total, bytes)?;
+    let (part, rest) = read_part(total, 74, bytes)?;
+    let key = key_of(part);
     let (kind, rest) = read_kind(total, rest)?;
     let (len, rest) = read_length(total, kind, rest)?;
-    let (numbers, rest) = read_part(total, len * kind.bytes_each(), rest)?;
-    Ok((Record { key, kind, numbers }, rest))
+    let (numbers, behind) = read_part(total, len * kind.bytes_each(), rest)?;
+    Ok((Label { key, kind }, numbers, behind))
 }
 
 // So many bytes, and those behind them.
@@ -100,14 +110,6 @@ pub fn read_count(total: usize, bytes: &[u8]) -> Result<(u32, &[u8]), FactFault>
 {
     let (part, rest) = read_part(total, 4, bytes)?;
     Ok((number_at(part, 0), rest))
-}
-
-#[tactic(auto, unfolding(crate::specs::Reading::key_read))]
-fn read_key(total: usize, bytes: &[u8]) -> Result<(Key, &[u8]), FactFault>
-    ensures { Gives (λ x. (x.0, x.1.now)) result (key_read total bytes.now) }
-{
-    let (part, rest) = read_part(total, 74, bytes)?;
-    Ok((key_of(part), rest))
 }
 
 // The key that these bytes are.
