@@ -1,3 +1,7 @@
+pub mod BodyLaws
+pub mod BytesLaws
+pub mod FactLaws
+pub mod KeyLaws
 pub mod LoopLaws
 pub mod MagicLaws
 pub mod NumberLaws

@@ -91,13 +91,15 @@ fn read_head(bytes: &[u8]) -> Result<(u32, &[u8]), FactFault>
     ensures behind { IfOk result (λ x. length x.1.now ≤ length bytes.now) }
 {
     let rest = read_magic(bytes)?;
-    read_count(bytes.len(), rest)
+    let (count, rest) = read_count(bytes.len(), rest)?;
+    Ok((count, rest))
 }
 
 // The bytes behind the magic.
 #[tactic(auto, unfolding(crate::specs::Reading::magic_read))]
 fn read_magic(bytes: &[u8]) -> Result<&[u8], FactFault>
-    ensures { Gives (λ x. x.now) result (magic_read 0 magic bytes.now) }
+    ensures read { Gives (λ x. x.now) result (magic_read 0 magic bytes.now) }
+    ensures behind { IfOk result (λ x. length x.now ≤ length bytes.now) }
 {
     for at in 0..MAGIC.len() {
         if at == bytes.len() {

@@ -106,7 +106,8 @@ fn read_part(total: usize, len: usize, bytes: &[u8]) -> Result<(&[u8], &[u8]), F
 /// A count in four bytes, and the bytes behind it.
 #[tactic(auto, unfolding(crate::specs::Reading::count_read))]
 pub fn read_count(total: usize, bytes: &[u8]) -> Result<(u32, &[u8]), FactFault>
-    ensures { Gives (λ x. (x.0, x.1.now)) result (count_read total bytes.now) }
+    ensures read { Gives (λ x. (x.0, x.1.now)) result (count_read total bytes.now) }
+    ensures behind { IfOk result (λ x. length x.1.now ≤ length bytes.now) }
 {
     let (part, rest) = read_part(total, 4, bytes)?;
     Ok((number_at(part, 0), rest))
