@@ -116,6 +116,7 @@ numbers_back w limit s (suc n) bytes is fits =
   where
     longer : (n k l : ℕ) → l ≡ suc n * k → k ≤ l
     longer n k l e = omega (arith, suc_mul n k)
+
     shorter : (n k l : ℕ) → l ≡ suc n * k → l - k ≡ n * k
     shorter n k l e = omega (arith, suc_mul n k)
 
@@ -132,6 +133,7 @@ numbers_again w limit s (z ∷ zs) fits =
     let taken : take (byte_len w) (front ++ behind) ≡ front = take_at front behind (byte_len w) len in
     let left : drop (byte_len w) (front ++ behind) ≡ behind = drop_at front behind (byte_len w) len in
     let bits : from_be_bytes w front ≡ cast_unsigned w z = s.wide.again (cast_unsigned w z) (s.bits_below z fits.0) in
-    let first : number_in w (front ++ behind) ≡ z = rw (taken, bits) (to_z-of_z w z fits.0) in
-    (ap (first_numbers w (suc (length zs))) all ∙ rw (first, left, others.0) refl,
-        ap length all ∙ length-append front behind ∙ omega (arith, len, others.1, suc_mul (length zs) (byte_len w)))
+    let first : number_in w (front ++ behind) ≡ z = rw (taken, bits) (to_z-of_z w z fits.0) in (
+      ap (first_numbers w (suc (length zs))) all ∙ rw (first, left, others.0) refl,
+      ap length all ∙ length-append front behind ∙ omega (arith, len, others.1, suc_mul (length zs) (byte_len w)),
+    )

@@ -66,9 +66,10 @@ regroup fact rest =
 made_fact : (key : List ℕ) (kind : Kind) (len : ℕ) (raw : List ℕ) → length key ≡ 74 → AreBytes key → length raw ≡ len * bytes_each kind → len ≤ most kind → AreBytes raw
     → IsFact (fact_of (key_in key) kind raw) × (fact_record (fact_of (key_in key) kind raw) ≡ key ++ (kind_byte kind ∷ (to_be_bytes w32 len ++ raw)))
 made_fact key kind len raw key_len key_fits data_len fits data_fits =
-    let body = body_back kind len raw data_len data_fits in
-    (record { key = key_is key key_len key_fits; within = body_within kind raw len data_len fits; numbers = body.1 },
-        ap (λ (l : List ℕ). l ++ body_bytes (body_in kind raw)) (key_back key key_len key_fits) ∙ ap (λ (l : List ℕ). key ++ l) body.0)
+    let body = body_back kind len raw data_len data_fits in (
+      record { key = key_is key key_len key_fits; within = body_within kind raw len data_len fits; numbers = body.1 },
+      ap (λ (l : List ℕ). l ++ body_bytes (body_in kind raw)) (key_back key key_len key_fits) ∙ ap (λ (l : List ℕ). key ++ l) body.0,
+    )
 
 pub record_takes : (total : ℕ) (bytes : List ℕ) (fact : Fact) (rest : List ℕ) → AreBytes bytes → record_read total bytes ≡ Ok (fact, rest) → Taken bytes fact rest
 record_takes total bytes fact rest fits e =

@@ -94,15 +94,27 @@ lift_fault bytes count facts at rest (Cut i) h few f =
 lift_fault bytes count facts at rest (NotRising i) h few f = absurd f
 lift_fault bytes count facts at rest (BadKind i) h few (key, byte, body, whole, len, bad, place) =
     record {
-      start = at; key = key; byte = byte; body = body;
+      start = at;
+      key = key;
+      byte = byte;
+      body = body;
       awaits = record { count = count; facts = facts; has = subst (λ (l : List ℕ). HasRecords bytes count facts at l) whole h; few = few };
-      key_is = len; no_kind = bad; place = place;
+      key_is = len;
+      no_kind = bad;
+      place = place;
     }
 lift_fault bytes count facts at rest (TooLong i) h few (key, kind, len, behind, whole, key_len, fits, long, place) =
     record {
-      start = at; key = key; kind = kind; len = len; behind = behind;
+      start = at;
+      key = key;
+      kind = kind;
+      len = len;
+      behind = behind;
       awaits = record { count = count; facts = facts; has = subst (λ (l : List ℕ). HasRecords bytes count facts at l) whole h; few = few };
-      key_is = key_len; len_fits = fits; too_long = long; place = place;
+      key_is = key_len;
+      len_fits = fits;
+      too_long = long;
+      place = place;
     }
 lift_fault bytes count facts at rest (TrailingBytes i) h few f = absurd f
 lift_fault bytes count facts at rest Memory h few f = absurd f
@@ -112,11 +124,15 @@ low_fault : (bytes : List ℕ) (count : ℕ) (facts : List Fact) (at : ℕ) (res
 low_fault bytes count facts at rest fact behind h few t low =
     let place : length bytes - length rest ≡ at = omega (arith, h.place) in
     subst (λ (i : ℕ). IsFault bytes (NotRising i)) (sym place) (record {
-          count = count; facts = facts; fact = fact; behind = behind;
-          has = subst (λ (l : List ℕ). HasRecords bytes count facts at l) t.whole h;
-          few = few; fact_is = t.fact_is;
-          low = λ rises. true_false (sym (rises_last None facts fact rises) ∙ low);
-        })
+      count = count;
+      facts = facts;
+      fact = fact;
+      behind = behind;
+      has = subst (λ (l : List ℕ). HasRecords bytes count facts at l) t.whole h;
+      few = few;
+      fact_is = t.fact_is;
+      low = λ rises. true_false (sym (rises_last None facts fact rises) ∙ low);
+    })
   where
     true_false : true ≡ false → ⊥
     true_false e = cc
@@ -148,7 +164,7 @@ by_order n bytes count facts at rest h few next fact behind false is t = low_fau
 by_record : (n : ℕ) (bytes : List ℕ) (count : ℕ) (facts : List Fact) (at : ℕ) (rest : List ℕ) → HasRecords bytes count facts at rest → AreBytes rest → length facts < count
     → Next n bytes count facts rest → (r : Result (Fact × List ℕ) FactFault) → record_read (length bytes) rest ≡ r
     → View bytes count facts (r >>= λ first. cond (is_above (last_after None facts) first.0)
-        (records_read n (length bytes) (Some first.0) first.1 >>= λ others. Ok (first.0 ∷ others.0, others.1)) (Err (NotRising (length bytes - length rest))))
+    (records_read n (length bytes) (Some first.0) first.1 >>= λ others. Ok (first.0 ∷ others.0, others.1)) (Err (NotRising (length bytes - length rest))))
 by_record n bytes count facts at rest h fits few next (Ok x) is =
     by_order n bytes count facts at rest h few next x.0 x.1 (is_above (last_after None facts) x.0) refl (record_takes (length bytes) rest x.0 x.1 fits is)
 by_record n bytes count facts at rest h fits few next (Err e) is = lift_fault bytes count facts at rest e h few (record_faults (length bytes) at rest e h.place fits is)
@@ -161,5 +177,5 @@ records_view zero bytes count facts at rest h fits all =
 records_view (suc n) bytes count facts at rest h fits all =
     by_record n bytes count facts at rest h fits (omega arith)
     (λ fact behind t above. subst (λ (l : Option Fact). View bytes count (facts ++ fact ∷ []) (records_read n (length bytes) l behind)) (last_of_more None facts fact)
-        (records_view n bytes count (facts ++ fact ∷ []) _ behind (has_more bytes count facts at rest fact behind h t above) t.rest_bytes (omega (arith, length-append facts (fact ∷ [])))))
+    (records_view n bytes count (facts ++ fact ∷ []) _ behind (has_more bytes count facts at rest fact behind h t above) t.rest_bytes (omega (arith, length-append facts (fact ∷ [])))))
     (record_read (length bytes) rest) refl

@@ -54,8 +54,13 @@ take_part : (at len : ℕ) (bytes part rest : List ℕ) → drop at bytes ≡ pa
 take_part at len bytes part rest is count = ap (take len) is ∙ take_at part rest len count
 
 pub key_length : (key : Key) → IsKey key → length (key_bytes key) ≡ 74
-key_length key is = omega (arith, length-append key.program (key.input ++ (to_be_bytes w16 key.stage ++ (to_be_bytes w32 key.row ++ to_be_bytes w32 key.col))),
-    length-append key.input (to_be_bytes w16 key.stage ++ (to_be_bytes w32 key.row ++ to_be_bytes w32 key.col)), is.program.count, is.input.count)
+key_length key is = omega (
+  arith,
+  length-append key.program (key.input ++ (to_be_bytes w16 key.stage ++ (to_be_bytes w32 key.row ++ to_be_bytes w32 key.col))),
+  length-append key.input (to_be_bytes w16 key.stage ++ (to_be_bytes w32 key.row ++ to_be_bytes w32 key.col)),
+  is.program.count,
+  is.input.count,
+)
 
 one_key : (a b : Key) → a.program ≡ b.program → a.input ≡ b.input → a.stage ≡ b.stage → a.row ≡ b.row → a.col ≡ b.col → a ≡ b
 one_key a b p q s r c i = record { program = p i; input = q i; stage = s i; row = r i; col = c i }

@@ -80,10 +80,10 @@ length_fault : (total start : ℕ) (bytes key : List ℕ) (kind : Kind) (rest : 
 length_fault total start bytes key kind rest e place whole len fits h = elim (length_fails total kind rest e h) [
   | inl (short, is) ↦ subst (λ (d : FactFault). IsRecordFault total start bytes d) (sym is) (refl, inr (key, kind, rest, whole, len, inl short))
   | inr (x, read, long, is) ↦
-    let c = count_whole total rest x.0 x.1 fits read in
-    let at : total - length rest ≡ start + 75 = omega (arith, ap length whole, length-append key (kind_byte kind ∷ rest)) in
-    subst (λ (d : FactFault). IsRecordFault total start bytes d) (sym is)
-    (key, kind, x.0, x.1, whole ∙ ap (λ (l : List ℕ). key ++ (kind_byte kind ∷ l)) c.0, len, c.1, long, at)
+      let c = count_whole total rest x.0 x.1 fits read in
+      let at : total - length rest ≡ start + 75 = omega (arith, ap length whole, length-append key (kind_byte kind ∷ rest)) in
+      subst (λ (d : FactFault). IsRecordFault total start bytes d) (sym is)
+      (key, kind, x.0, x.1, whole ∙ ap (λ (l : List ℕ). key ++ (kind_byte kind ∷ l)) c.0, len, c.1, long, at)
 ]
 
 numbers_fault : (total start : ℕ) (bytes key : List ℕ) (kind : Kind) (n : ℕ) (rest : List ℕ) (e : FactFault) → bytes ≡ key ++ (kind_byte kind ∷ (to_be_bytes w32 n ++ rest)) → length key ≡ 74
@@ -91,7 +91,7 @@ numbers_fault : (total start : ℕ) (bytes key : List ℕ) (kind : Kind) (n : �
 numbers_fault total start bytes key kind n rest e whole len fits h =
     elim (bind_err (part_read total (n * bytes_each kind) rest) (λ numbers. Ok (fact_of (key_in key) kind numbers.0, numbers.1)) e h) [
       | inl f ↦ let c = part_cut total (n * bytes_each kind) rest e f in
-        subst (λ (d : FactFault). IsRecordFault total start bytes d) (sym c.1) (refl, inr (key, kind, to_be_bytes w32 n ++ rest, whole, len, inr (n, rest, refl, fits, c.0)))
+          subst (λ (d : FactFault). IsRecordFault total start bytes d) (sym c.1) (refl, inr (key, kind, to_be_bytes w32 n ++ rest, whole, len, inr (n, rest, refl, fits, c.0)))
       | inr (x, is, never) ↦ absurd (not_both _ _ never)
     ]
   where
@@ -103,20 +103,20 @@ record_faults total start bytes e place fits h =
     elim (bind_err (part_read total 74 bytes) (λ key. after_key total key.0 key.1) e (sym (by_steps total bytes) ∙ h)) [
       | inl f ↦ let c = part_cut total 74 bytes e f in subst (λ (d : FactFault). IsRecordFault total start bytes d) (sym c.1) (refl, inl (omega (arith, c.0)))
       | inr (key, read_key, f) ↦
-        let k = part_takes total 74 bytes key.0 key.1 read_key in
-        let key_fits = part_bytes _ _ _ _ k fits in
-        elim (bind_err (kind_read total key.1) (λ kind. after_kind total key.0 kind.0 kind.1) e f) [
-          | inl g ↦ kind_fault total start bytes key.0 key.1 e place k.whole k.len_is g
-          | inr (kind, read_kind, g) ↦
-            let d = kind_takes total key.1 kind.0 kind.1 read_kind in
-            let whole = k.whole ∙ ap (λ (l : List ℕ). key.0 ++ l) d in
-            let kind_fits = behind_bytes (kind_byte kind.0 ∷ []) kind.1 (subst (λ (l : List ℕ). AreBytes l) d key_fits.1) in
-            elim (bind_err (length_read total kind.0 kind.1) (λ len. after_len total key.0 kind.0 len.0 len.1) e g) [
-              | inl f2 ↦ length_fault total start bytes key.0 kind.0 kind.1 e place whole k.len_is kind_fits f2
-              | inr (len, read_len, f2) ↦
-                let l = length_takes total kind.0 kind.1 len.0 len.1 read_len in
-                let c = count_whole total kind.1 len.0 len.1 kind_fits l.0 in
-                numbers_fault total start bytes key.0 kind.0 len.0 len.1 e (whole ∙ ap (λ (m : List ℕ). key.0 ++ (kind_byte kind.0 ∷ m)) c.0) k.len_is l.1 f2
-            ]
-        ]
+          let k = part_takes total 74 bytes key.0 key.1 read_key in
+          let key_fits = part_bytes _ _ _ _ k fits in
+          elim (bind_err (kind_read total key.1) (λ kind. after_kind total key.0 kind.0 kind.1) e f) [
+            | inl g ↦ kind_fault total start bytes key.0 key.1 e place k.whole k.len_is g
+            | inr (kind, read_kind, g) ↦
+                let d = kind_takes total key.1 kind.0 kind.1 read_kind in
+                let whole = k.whole ∙ ap (λ (l : List ℕ). key.0 ++ l) d in
+                let kind_fits = behind_bytes (kind_byte kind.0 ∷ []) kind.1 (subst (λ (l : List ℕ). AreBytes l) d key_fits.1) in
+                elim (bind_err (length_read total kind.0 kind.1) (λ len. after_len total key.0 kind.0 len.0 len.1) e g) [
+                  | inl f2 ↦ length_fault total start bytes key.0 kind.0 kind.1 e place whole k.len_is kind_fits f2
+                  | inr (len, read_len, f2) ↦
+                      let l = length_takes total kind.0 kind.1 len.0 len.1 read_len in
+                      let c = count_whole total kind.1 len.0 len.1 kind_fits l.0 in
+                      numbers_fault total start bytes key.0 kind.0 len.0 len.1 e (whole ∙ ap (λ (m : List ℕ). key.0 ++ (kind_byte kind.0 ∷ m)) c.0) k.len_is l.1 f2
+                ]
+          ]
     ]

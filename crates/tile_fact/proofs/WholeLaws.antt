@@ -73,10 +73,10 @@ magic_ok at [] bytes rest h = cc
 magic_ok at (w ∷ ws) [] rest h = absurd cc
 magic_ok at (w ∷ ws) (b ∷ bs) rest h = elim (eqb_tells b w) [
   | inl (is, same) ↦
-    let more : magic_read (at + 1) ws bs ≡ Ok rest = ap (λ (t : Bool). cond t (magic_read (at + 1) ws bs) (Err (BadMagic at))) (sym is) ∙ h in
-    ap (λ (l : List ℕ). b ∷ l) (magic_ok (at + 1) ws bs rest more) ∙ ap (λ (c : ℕ). c ∷ (ws ++ rest)) same
+      let more : magic_read (at + 1) ws bs ≡ Ok rest = ap (λ (t : Bool). cond t (magic_read (at + 1) ws bs) (Err (BadMagic at))) (sym is) ∙ h in
+      ap (λ (l : List ℕ). b ∷ l) (magic_ok (at + 1) ws bs rest more) ∙ ap (λ (c : ℕ). c ∷ (ws ++ rest)) same
   | inr (isnt, differs) ↦
-    absurd (never at rest (ap (λ (t : Bool). cond t (magic_read (at + 1) ws bs) (Err (BadMagic at))) (sym isnt) ∙ h))
+      absurd (never at rest (ap (λ (t : Bool). cond t (magic_read (at + 1) ws bs) (Err (BadMagic at))) (sym isnt) ∙ h))
 ]
   where
     never : (at : ℕ) (rest : List ℕ) → (let r : Result (List ℕ) FactFault = Err (BadMagic at) in r) ≡ Ok rest → ⊥
@@ -91,9 +91,9 @@ MagicFault at wanted bytes e =
 magic_next : (at b w : ℕ) (ws bs : List ℕ) (e : FactFault) → b ≡ w → MagicFault (at + 1) ws bs e → MagicFault at (w ∷ ws) (b ∷ bs) e
 magic_next at b w ws bs e same f = elim f [
   | inl (i, in_wanted, in_bytes, front, differs, is) ↦
-    inl (suc i, omega arith, omega arith, ap (λ (l : List ℕ). b ∷ l) front ∙ ap (λ (c : ℕ). c ∷ take i ws) same, differs, is ∙ ap (λ (n : ℕ). BadMagic n) (omega arith))
+      inl (suc i, omega arith, omega arith, ap (λ (l : List ℕ). b ∷ l) front ∙ ap (λ (c : ℕ). c ∷ take i ws) same, differs, is ∙ ap (λ (n : ℕ). BadMagic n) (omega arith))
   | inr (short, front, is) ↦
-    inr (omega arith, ap (λ (l : List ℕ). b ∷ l) front ∙ ap (λ (c : ℕ). c ∷ take (length bs) ws) same, is ∙ ap (λ (n : ℕ). Cut n) (omega arith))
+      inr (omega arith, ap (λ (l : List ℕ). b ∷ l) front ∙ ap (λ (c : ℕ). c ∷ take (length bs) ws) same, is ∙ ap (λ (n : ℕ). Cut n) (omega arith))
 ]
 
 magic_err : (at : ℕ) (wanted bytes : List ℕ) (e : FactFault) → magic_read at wanted bytes ≡ Err e → MagicFault at wanted bytes e
@@ -104,9 +104,9 @@ magic_err at (w ∷ ws) [] e h =
     inr (omega arith, refl, is ∙ ap (λ (n : ℕ). Cut n) (omega arith))
 magic_err at (w ∷ ws) (b ∷ bs) e h = elim (eqb_tells b w) [
   | inl (is, same) ↦
-    magic_next at b w ws bs e same (magic_err (at + 1) ws bs e (ap (λ (t : Bool). cond t (magic_read (at + 1) ws bs) (Err (BadMagic at))) (sym is) ∙ h))
+      magic_next at b w ws bs e same (magic_err (at + 1) ws bs e (ap (λ (t : Bool). cond t (magic_read (at + 1) ws bs) (Err (BadMagic at))) (sym is) ∙ h))
   | inr (isnt, differs) ↦
-    inl (0, omega arith, omega arith, refl, differs, fault at e (ap (λ (t : Bool). cond t (magic_read (at + 1) ws bs) (Err (BadMagic at))) (sym isnt) ∙ h) ∙ ap (λ (n : ℕ). BadMagic n) (omega arith))
+      inl (0, omega arith, omega arith, refl, differs, fault at e (ap (λ (t : Bool). cond t (magic_read (at + 1) ws bs) (Err (BadMagic at))) (sym isnt) ∙ h) ∙ ap (λ (n : ℕ). BadMagic n) (omega arith))
 ]
   where
     fault : (at : ℕ) (e : FactFault) → (let r : Result (List ℕ) FactFault = Err (BadMagic at) in r) ≡ Err e → e ≡ BadMagic at
@@ -117,11 +117,11 @@ magic_err at (w ∷ ws) (b ∷ bs) e h = elim (eqb_tells b w) [
 magic_fault : (bytes : List ℕ) (e : FactFault) → MagicFault 0 magic bytes e → IsFault bytes e
 magic_fault bytes e f = elim f [
   | inl (i, in_magic, in_bytes, front, differs, is) ↦
-    subst (λ (d : FactFault). IsFault bytes d) (sym (is ∙ ap (λ (n : ℕ). BadMagic n) (omega arith)))
-    (record { in_magic = in_magic; in_bytes = in_bytes; front = front; differs = differs })
+      subst (λ (d : FactFault). IsFault bytes d) (sym (is ∙ ap (λ (n : ℕ). BadMagic n) (omega arith)))
+      (record { in_magic = in_magic; in_bytes = in_bytes; front = front; differs = differs })
   | inr (short, front, is) ↦
-    subst (λ (d : FactFault). IsFault bytes d) (sym (is ∙ ap (λ (n : ℕ). Cut n) (omega arith)))
-    (refl, inl (record { short = omega arith; front = take_all 4 bytes (omega arith) ∙ front }))
+      subst (λ (d : FactFault). IsFault bytes d) (sym (is ∙ ap (λ (n : ℕ). Cut n) (omega arith)))
+      (refl, inl (record { short = omega arith; front = take_all 4 bytes (omega arith) ∙ front }))
 ]
 
 count_fault : (bytes behind : List ℕ) (e : FactFault) → bytes ≡ magic ++ behind → (length behind < 4) × (e ≡ Cut (length bytes)) → IsFault bytes e
@@ -147,7 +147,7 @@ unfolding end_read
 end_view bytes count facts at [] h all = record {
   facts_are = record { count = subst (λ (n : ℕ). n < 2 ^ 32) (sym all) h.count_fits; each = h.each; rise = h.rise };
   spelled = h.whole ∙ ap (λ (l : List ℕ). magic ++ (to_be_bytes w32 count ++ l)) (append-nil (flat_map fact_record facts))
-  ∙ ap (λ (n : ℕ). magic ++ (to_be_bytes w32 n ++ flat_map fact_record facts)) (sym all);
+      ∙ ap (λ (n : ℕ). magic ++ (to_be_bytes w32 n ++ flat_map fact_record facts)) (sym all);
 }
 end_view bytes count facts at (byte ∷ rest) h all =
     let place : length bytes - length (byte ∷ rest) ≡ at = omega (arith, h.place) in

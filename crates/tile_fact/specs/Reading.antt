@@ -62,8 +62,8 @@ records_read zero total last bytes = Ok ([], bytes)
 records_read (suc count) total last bytes = do
   first ← record_read total bytes
   if is_above last first.0
-    then (records_read count total (Some first.0) first.1 >>= λ others. Ok (first.0 ∷ others.0, others.1))
-    else Err (NotRising (total - length bytes))
+      then (records_read count total (Some first.0) first.1 >>= λ others. Ok (first.0 ∷ others.0, others.1))
+      else Err (NotRising (total - length bytes))
 
 -- nothing behind the records
 unfoldable pub end_read : ℕ → List Fact → List ℕ → Result (List Fact) FactFault

@@ -1,7 +1,8 @@
 //! What the definitions amount to, proved once for the crates above. A law is a function whose clauses are the law.
 
 ghost use Rattle.std.specs.Cmp.{IsTotalOrder};
-ghost use Rattle.std.specs.Prelude.{◌≡◌, ◌↔◌};
+ghost use Rattle.std.specs.Prelude.{◌≡◌, ◌↔◌, ℕ, List};
+ghost use Rattle.tile_fact.specs.FactFile.{AreFacts, IsFactFile, fact_file};
 ghost use Rattle.tile_fact.specs.Order.{fact_cmp};
 
 use crate::fact::Fact;
@@ -16,3 +17,15 @@ pub fn order_of_facts(a: &Fact, b: &Fact) -> Ordering
 {
     a.cmp(b)
 }
+
+/// No bytes are the files of two lists of facts.
+pub fn one_list()
+    ensures { (bytes : List ℕ) (facts others : List Fact) → IsFactFile bytes facts → IsFactFile bytes others → facts ≡ others }
+{}
+
+/// Facts that rise have a file, and no other bytes are it; and no two lists of facts have one file.
+pub fn one_spelling()
+    ensures spelled { (facts : List Fact) → AreFacts facts → IsFactFile (fact_file facts) facts }
+    ensures alone { (a b : List ℕ) (facts : List Fact) → IsFactFile a facts → IsFactFile b facts → a ≡ b }
+    ensures apart { (facts others : List Fact) → AreFacts facts → AreFacts others → fact_file facts ≡ fact_file others → facts ≡ others }
+{}

@@ -41,7 +41,12 @@ impl<'a> Record<'a> {
     {
         match self.label.key.cmp(&other.label.key) {
             Ordering::Equal => {
-                compare_numbers(self.label.kind, self.numbers, other.label.kind, other.numbers)
+                compare_numbers(
+                    self.label.kind,
+                    self.numbers,
+                    other.label.kind,
+                    other.numbers,
+                )
             }
             unequal => unequal,
         }

@@ -58,9 +58,7 @@ fn tile(alloc: Global, key: Key, numbers: &[i32]) -> Result<Fact, Fail> {
 
 fn partial(alloc: Global, key: Key, numbers: &[i64]) -> Result<Fact, Fail> {
     let bins = Bins::new(Vec::from_slice(alloc, numbers)?)?;
-    Ok(Fact::new(key, Body::Partial(bins))
-        .ok()
-        .ok_or("a partial")?)
+    Ok(Fact::new(key, Body::Partial(bins)).ok().ok_or("a partial")?)
 }
 
 // The parts, one behind the other.
@@ -103,13 +101,8 @@ fn file_of_no_facts(rt: HostRuntime) -> Result<(), Fail> {
         encode(alloc, &[])?.as_slice() == NO_FACTS.as_slice(),
         "the head alone is written",
     )?;
-    let file = decode(alloc, &NO_FACTS)
-        .ok()
-        .ok_or("the bytes are a file")?;
-    holds(
-        file.facts.as_slice().is_empty(),
-        "the head alone is read",
-    )
+    let file = decode(alloc, &NO_FACTS).ok().ok_or("the bytes are a file")?;
+    holds(file.facts.as_slice().is_empty(), "the head alone is read")
 }
 
 #[test]

@@ -15,9 +15,13 @@ returns-then-not-is_above c =
 
 pub loop-preserved : goal.loop-preserved
 loop-preserved c =
-    let fact = fact_of c.in-Ok.read.0.key c.in-Ok.read.0.kind c.in-Ok.read.1.now in
-    (c.in-Ok.ensures.behind, (c.loop.invariant.1.0 ++ fact ∷ [],
-        goes_on c.loop.invariant.1.0 c.args.count c.loop.counter _ _ _ fact _ _ c.loop-test.true c.in-Ok.ensures.read (sym c.if-not-is_above.ensures) c.loop.invariant.1.1))
+    let fact = fact_of c.in-Ok.read.0.key c.in-Ok.read.0.kind c.in-Ok.read.1.now in (
+      c.in-Ok.ensures.behind,
+      (
+        c.loop.invariant.1.0 ++ fact ∷ [],
+        goes_on c.loop.invariant.1.0 c.args.count c.loop.counter _ _ _ fact _ _ c.loop-test.true c.in-Ok.ensures.read (sym c.if-not-is_above.ensures) c.loop.invariant.1.1,
+      ),
+    )
 
 pub returns-then-not-is_empty : goal.returns-then-not-is_empty
 returns-then-not-is_empty c =

@@ -26,5 +26,10 @@ returns-clause-within c =
 
 pub returns-clause-behind : goal.returns-clause-behind
 returns-clause-behind c =
-    omega (arith, part_shorter _ _ _ _ (part_takes c.args.total 74 c.args.bytes.now _ _ c.in_ok-part.ensures), kind_shorter c.args.total _ _ _ c.in_ok-kind.ensures,
-        length_shorter c.args.total c.in_ok-kind.kind _ _ _ c.in_ok-len.ensures, part_shorter _ _ _ _ (part_takes c.args.total _ _ _ _ c.in_ok-numbers.ensures))
+    omega (
+      arith,
+      part_shorter _ _ _ _ (part_takes c.args.total 74 c.args.bytes.now _ _ c.in_ok-part.ensures),
+      kind_shorter c.args.total _ _ _ c.in_ok-kind.ensures,
+      length_shorter c.args.total c.in_ok-kind.kind _ _ _ c.in_ok-len.ensures,
+      part_shorter _ _ _ _ (part_takes c.args.total _ _ _ _ c.in_ok-numbers.ensures),
+    )
