@@ -1,8 +1,6 @@
-use Rattle.std.proofs.Common.{◌≤◌, ◌≡◌, ◌++◌, [], ◌∷◌, length, sym, ◌∙◌, arith}
-use Rattle.std.specs.Option.{option_map}
+use Rattle.std.proofs.Common.{◌++◌, [], ◌∷◌, sym, ◌∙◌}
 use Rattle.tile_fact.specs.Numbers.{fact_of}
-use Rattle.tile_fact.specs.Reading.{records_read}
-use Rattle.tile_fact.proofs.LoopLaws.{starts, goes_on, stops_low, fails, is_done, body_fails, body_ends, ends_late, checked, some_left, none_left}
+use Rattle.tile_fact.proofs.LoopLaws.{goes_on, stops_low, fails, is_done, body_fails, body_ends, ends_late, checked, some_left, none_left}
 use Rattle.tile_fact.proofs.file.check_records.Goals as goal
 
 pub returns-in-Err : goal.returns-in-Err

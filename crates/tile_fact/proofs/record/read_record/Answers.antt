@@ -1,4 +1,4 @@
-use Rattle.std.proofs.Common.{◌≤◌, length, arith}
+use Rattle.std.proofs.Common.{arith}
 use Rattle.tile_fact.proofs.PartLaws.{part_takes}
 use Rattle.tile_fact.proofs.RecordLaws.{length_takes, body_within, most_bytes, part_shorter, kind_shorter, length_shorter}
 use Rattle.tile_fact.proofs.record.read_record.Goals as goal

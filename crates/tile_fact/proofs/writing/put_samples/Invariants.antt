@@ -1,5 +1,5 @@
 use Rattle.std.proofs.Common.{◌≡◌, ◌∷◌, ◌++◌, length, take}
-use Rattle.std.specs.Int.{w32, w64, to_be_bytes}
+use Rattle.std.specs.Int.{w32, to_be_bytes}
 use Rattle.std.specs.List.{flat_map}
 use Rattle.tile_fact.specs.FactFile.{number_bytes}
 use Rattle.tile_fact.proofs.writing.put_samples.Given as goal
