@@ -1,6 +1,6 @@
 -- Bodies and their bytes: each is got back from the other.
-use Rattle.std.proofs.Common.{◌≡◌, ℕ, ℤ, ◌+◌, ◌*◌, ◌/◌, ◌^◌, ◌<◌, ◌≤◌, List, [], ◌∷◌, ◌++◌, length, refl, sym, ap, ◌∙◌, arith}
-use Rattle.std.specs.Int.{Width, w32, w64, byte_len, to_be_bytes}
+use Rattle.std.proofs.Common.{◌≡◌, ℕ, ◌*◌, ◌/◌, ◌^◌, ◌≤◌, List, ◌∷◌, ◌++◌, length, refl, ap, ◌∙◌, arith}
+use Rattle.std.specs.Int.{w32, w64, to_be_bytes}
 use Rattle.std.specs.List.{flat_map}
 use Rattle.tile_fact.specs.declared.body.Body.{Body}
 use Rattle.tile_fact.specs.declared.body.Body.TheVariants.{Tile, Partial}
@@ -8,7 +8,7 @@ use Rattle.tile_fact.specs.declared.kind.Kind.{Kind}
 use Rattle.tile_fact.specs.declared.kind.Kind.TheVariants.{OfTile, OfPartial}
 use Rattle.tile_fact.specs.Bodies.{IsWithin, numbers}
 use Rattle.tile_fact.specs.FactFile.{AreBytes, number_bytes, body_bytes, HasFittingNumbers}
-use Rattle.tile_fact.specs.Numbers.{kind_byte, bytes_each, most, width_of, first_numbers, body_in}
+use Rattle.tile_fact.specs.Numbers.{kind_byte, bytes_each, most, first_numbers, body_in}
 use Rattle.tile_fact.proofs.BytesLaws.{signed32, signed64, numbers_back, numbers_again}
 use Rattle.tile_fact.proofs.RecordLaws.{count_of_numbers}
 

@@ -1,16 +1,16 @@
 -- A record and its fact: each is got back from the other.
-use Rattle.std.proofs.Common.{◌≡◌, ℕ, ◌+◌, ◌-◌, ◌*◌, ◌^◌, ◌<◌, ◌≤◌, Bool, true, false, ltb, List, [], ◌∷◌, ◌++◌, length, take, drop, Result, Ok, Err, refl, sym, ap, subst, ◌∙◌, append_assoc, arith}
+use Rattle.std.proofs.Common.{◌≡◌, ℕ, ◌-◌, ◌*◌, ◌^◌, ◌<◌, ◌≤◌, true, false, ltb, List, [], ◌∷◌, ◌++◌, length, Result, Ok, Err, refl, sym, ap, subst, ◌∙◌, append_assoc, arith}
 use Rattle.std.proofs.lemmas.Bool.{lt-ltb, le-ltb}
-use Rattle.std.proofs.lemmas.List.{take_at, drop_at, length-append}
-use Rattle.std.specs.Int.{w32, from_be_bytes, to_be_bytes}
+use Rattle.std.proofs.lemmas.List.{take_at, drop_at}
+use Rattle.std.specs.Int.{w32, to_be_bytes}
 use Rattle.identity.specs.declared.key.Key.{Key}
 use Rattle.tile_fact.specs.declared.body.Body.{Body}
 use Rattle.tile_fact.specs.declared.fact.Fact.{Fact}
 use Rattle.tile_fact.specs.declared.fault.FactFault.{FactFault}
-use Rattle.tile_fact.specs.declared.fault.FactFault.TheVariants.{Cut, TooLong}
+use Rattle.tile_fact.specs.declared.fault.FactFault.TheVariants.{TooLong}
 use Rattle.tile_fact.specs.declared.kind.Kind.{Kind}
 use Rattle.tile_fact.specs.declared.kind.Kind.TheVariants.{OfTile, OfPartial}
-use Rattle.tile_fact.specs.Bodies.{IsWithin, numbers}
+use Rattle.tile_fact.specs.Bodies.{numbers}
 use Rattle.tile_fact.specs.FactFile.{AreBytes, IsFact, key_bytes, body_bytes, fact_record}
 use Rattle.tile_fact.specs.Numbers.{kind_byte, bytes_each, most, key_in, body_in, fact_of}
 use Rattle.tile_fact.specs.Reading.{◌>>=◌, part_read, count_read, kind_read, length_read, record_read}

@@ -1,5 +1,5 @@
 -- The records of a file one after the other, and the whole file.
-use Rattle.std.proofs.Common.{◌≡◌, ℕ, zero, suc, ◌+◌, ◌-◌, ◌*◌, ◌^◌, ◌<◌, ◌≤◌, ◌⊎◌, inl, inr, Bool, true, false, cond, eqb, List, [], ◌∷◌, ◌++◌, length, Option, None, Some, Result, Ok, Err, refl, sym, ap, subst, ◌∙◌, append_assoc, append-nil, arith}
+use Rattle.std.proofs.Common.{◌≡◌, ℕ, zero, suc, ◌+◌, ◌-◌, ◌<◌, ◌≤◌, inr, Bool, true, false, cond, List, [], ◌∷◌, ◌++◌, length, Option, None, Some, Result, Ok, Err, refl, sym, ap, subst, ◌∙◌, append_assoc, append-nil, arith}
 use Rattle.std.proofs.lemmas.List.{length-append}
 use Rattle.std.proofs.lemmas.List.Concat.{flat_map-cons, flat_map-append}
 use Rattle.std.specs.declared.cmp.Ordering.{Ordering}
@@ -7,17 +7,16 @@ use Rattle.std.specs.declared.cmp.Ordering.TheVariants.{Less, Equal, Greater}
 use Rattle.std.specs.Int.{w32, to_be_bytes}
 use Rattle.std.specs.List.{flat_map, AllByRecursion}
 use Rattle.std.specs.Ordering.{is_lt}
-use Rattle.std.specs.Prelude.{IfSome, MatchResult}
+use Rattle.std.specs.Prelude.{IfSome}
 use Rattle.tile_fact.specs.declared.fact.Fact.{Fact}
 use Rattle.tile_fact.specs.declared.fault.FactFault.{FactFault}
 use Rattle.tile_fact.specs.declared.fault.FactFault.TheVariants.{BadMagic, Cut, NotRising, BadKind, TooLong, TrailingBytes, Memory}
-use Rattle.tile_fact.specs.FactFile.{magic, AreBytes, IsFact, AreFacts, IsFactFile, fact_record, fact_file}
-use Rattle.tile_fact.specs.Faults.{HasRecords, AwaitsRecord, IsFault}
-use Rattle.tile_fact.specs.Order.{fact_cmp, IsBelow, RisesAbove, Rises}
-use Rattle.tile_fact.specs.Reading.{◌>>=◌, is_above, record_read, records_read, end_read, body_read}
-use Rattle.tile_fact.proofs.FactLaws.{Taken, record_takes, record_again}
-use Rattle.tile_fact.proofs.RecordFaults.{IsRecordFault, record_faults, bind_err}
-use Rattle.tile_fact.proofs.PartLaws.{bind_ok}
+use Rattle.tile_fact.specs.FactFile.{magic, AreBytes, IsFact, fact_record}
+use Rattle.tile_fact.specs.Faults.{HasRecords, IsFault}
+use Rattle.tile_fact.specs.Order.{fact_cmp, IsBelow, RisesAbove}
+use Rattle.tile_fact.specs.Reading.{◌>>=◌, is_above, record_read, records_read}
+use Rattle.tile_fact.proofs.FactLaws.{Taken, record_takes}
+use Rattle.tile_fact.proofs.RecordFaults.{IsRecordFault, record_faults}
 
 -- ---- rising
 

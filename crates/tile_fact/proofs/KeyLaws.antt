@@ -1,9 +1,9 @@
 -- Keys and their bytes: each is got back from the other.
-use Rattle.std.proofs.Common.{◌≡◌, ℕ, ◌+◌, ◌-◌, ◌^◌, ◌<◌, ◌≤◌, List, [], ◌∷◌, ◌++◌, length, take, drop, refl, sym, ap, ◌∙◌, append_assoc, append-nil, arith}
+use Rattle.std.proofs.Common.{◌≡◌, ℕ, ◌+◌, ◌^◌, ◌≤◌, List, [], ◌++◌, length, take, drop, refl, sym, ap, ◌∙◌, append-nil, arith}
 use Rattle.std.proofs.lemmas.List.{take_at, drop_at, take-append-drop, length-append, length-take, length-drop, drop_all, drop-drop}
 use Rattle.std.specs.Int.{Width, w16, w32, byte_len, from_be_bytes, to_be_bytes}
 use Rattle.identity.specs.declared.key.Key.{Key}
-use Rattle.tile_fact.specs.FactFile.{AreBytes, IsDigest, IsKey, key_bytes}
+use Rattle.tile_fact.specs.FactFile.{AreBytes, IsKey, key_bytes}
 use Rattle.tile_fact.specs.Numbers.{key_in}
 use Rattle.tile_fact.proofs.BytesLaws.{AreBytes-drop, AreBytes-take, IsWide, wide16, wide32}
 

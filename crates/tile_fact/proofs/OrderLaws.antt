@@ -1,11 +1,11 @@
 -- Facts are totally ordered, and facts between which the order sees no difference are one.
-use Rattle.std.proofs.Common.{◌≡◌, ◌↔◌, ℤ, refl, ap, ◌∙◌, rules}
+use Rattle.std.proofs.Common.{◌≡◌, ◌↔◌, refl, ap, ◌∙◌, rules}
 use Rattle.std.specs.declared.cmp.Ordering.{Ordering}
 use Rattle.std.specs.declared.cmp.Ordering.TheVariants.{Less, Equal, Greater}
 use Rattle.std.specs.Cmp.{IsTotalOrder, nat_cmp_total, int_cmp_total, on_total, then_total}
 use Rattle.std.specs.Cmp.Lexicographic.{slice_cmp, lists_total}
 use Rattle.std.specs.FinSet.{IsAntisymmetric, int_cmp-IsAntisymmetric, slice_cmp-IsAntisymmetric}
-use Rattle.std.specs.Ordering.{nat_cmp, int_cmp, ordering_reverse, ordering_then}
+use Rattle.std.specs.Ordering.{int_cmp, ordering_reverse, ordering_then}
 use Rattle.identity.proofs.KeyLaws.{key_order, same_key}
 use Rattle.identity.specs.Keys.{key_cmp}
 use Rattle.tile_fact.specs.declared.body.Body.{Body}

@@ -8,12 +8,12 @@ use Rattle.tile_fact.specs.declared.fault.FactFault.{FactFault}
 use Rattle.tile_fact.specs.declared.fault.FactFault.TheVariants.{BadMagic, Cut, NotRising, BadKind, TooLong, TrailingBytes, Memory}
 use Rattle.tile_fact.specs.declared.kind.Kind.{Kind}
 use Rattle.tile_fact.specs.FactFile.{AreBytes}
-use Rattle.tile_fact.specs.Faults.{IsCutBody, IsCutRecord}
+use Rattle.tile_fact.specs.Faults.{IsCutRecord}
 use Rattle.tile_fact.specs.Numbers.{kind_byte, bytes_each, most, key_in, fact_of}
 use Rattle.tile_fact.specs.Reading.{◌>>=◌, part_read, count_read, kind_read, length_read, record_read}
 use Rattle.tile_fact.proofs.BytesLaws.{wide32}
-use Rattle.tile_fact.proofs.FactLaws.{part_bytes, behind_bytes, after_key, after_kind, after_len, by_steps, kind_again, length_again, length_too_long}
-use Rattle.tile_fact.proofs.PartLaws.{Part, guard_err, part_takes, part_again, part_cut, part_short}
+use Rattle.tile_fact.proofs.FactLaws.{part_bytes, behind_bytes, after_key, after_kind, after_len, by_steps}
+use Rattle.tile_fact.proofs.PartLaws.{part_takes, part_cut}
 use Rattle.tile_fact.proofs.RecordLaws.{count_takes, kind_takes, length_takes}
 
 pub bind_err : {A B : Type 0} (r : Result A FactFault) (f : A → Result B FactFault) (e : FactFault) → (r >>= f) ≡ Err e → (r ≡ Err e) ⊎ ((x : A) × (r ≡ Ok x) × (f x ≡ Err e))

@@ -1,5 +1,5 @@
 -- The parts of a record.
-use Rattle.std.proofs.Common.{◌≡◌, ℕ, zero, suc, ◌+◌, ◌-◌, ◌*◌, ◌/◌, ◌^◌, ◌≤◌, ◌<◌, Bool, true, false, cond, ltb, List, [], ◌∷◌, ◌++◌, length, Result, Ok, Err, refl, sym, ap, subst, ◌∙◌, arith, length-append}
+use Rattle.std.proofs.Common.{◌≡◌, ℕ, zero, suc, ◌-◌, ◌*◌, ◌/◌, ◌^◌, ◌≤◌, ◌<◌, Bool, true, false, cond, ltb, List, [], ◌∷◌, length, Result, Ok, Err, refl, sym, ap, subst, ◌∙◌, arith, length-append}
 use Rattle.std.proofs.lemmas.Bool.{ltb-false}
 use Rattle.std.specs.Int.{Width, w32, w64, from_be_bytes}
 use Rattle.tile_fact.specs.declared.fault.FactFault.{FactFault}
@@ -8,8 +8,8 @@ use Rattle.tile_fact.specs.declared.kind.Kind.{Kind}
 use Rattle.tile_fact.specs.declared.kind.Kind.TheVariants.{OfTile, OfPartial}
 use Rattle.tile_fact.specs.Bodies.{IsWithin}
 use Rattle.tile_fact.specs.Numbers.{kind_byte, bytes_each, most, first_numbers, body_in}
-use Rattle.tile_fact.specs.Reading.{◌>>=◌, part_read, count_read, kind_read, length_read}
-use Rattle.tile_fact.proofs.PartLaws.{Part, bind_ok, guard_ok, part_takes}
+use Rattle.tile_fact.specs.Reading.{part_read, count_read, kind_read, length_read}
+use Rattle.tile_fact.proofs.PartLaws.{Part, bind_ok, part_takes}
 
 pub count_takes : (total : ℕ) (bytes : List ℕ) (n : ℕ) (rest : List ℕ) → count_read total bytes ≡ Ok (n, rest) → (part : List ℕ) × Part bytes 4 part rest × (n ≡ from_be_bytes w32 part)
 unfolding count_read

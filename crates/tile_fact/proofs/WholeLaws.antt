@@ -1,23 +1,22 @@
 -- The whole file.
-use Rattle.std.proofs.Common.{◌≡◌, ◌≢◌, ℕ, zero, suc, ◌+◌, ◌-◌, ◌^◌, ◌<◌, ◌≤◌, ◌⊎◌, inl, inr, Bool, true, false, cond, eqb, List, [], ◌∷◌, ◌++◌, length, get_or, take, drop, Option, None, Some, Result, Ok, Err, refl, sym, ap, subst, ◌∙◌, append_assoc, append-nil, arith}
+use Rattle.std.proofs.Common.{◌≡◌, ◌≢◌, ℕ, suc, ◌+◌, ◌-◌, ◌^◌, ◌<◌, ◌≤◌, ◌⊎◌, inl, inr, Bool, true, cond, List, [], ◌∷◌, ◌++◌, length, get_or, take, Option, None, Some, Result, Ok, Err, refl, sym, ap, subst, ◌∙◌, append_assoc, append-nil, arith}
 use Rattle.std.proofs.lemmas.Bool.Decides.{eqb_tells}
-use Rattle.std.proofs.lemmas.List.{length-append, take_all}
+use Rattle.std.proofs.lemmas.List.{take_all}
 use Rattle.std.proofs.lemmas.List.Concat.{flat_map-cons}
 use Rattle.std.specs.Int.{w32, to_be_bytes}
 use Rattle.std.specs.List.{flat_map, AllByRecursion}
-use Rattle.std.specs.Prelude.{IfOk, IfErr}
 use Rattle.tile_fact.specs.declared.fact.Fact.{Fact}
 use Rattle.tile_fact.specs.declared.fault.FactFault.{FactFault}
-use Rattle.tile_fact.specs.declared.fault.FactFault.TheVariants.{BadMagic, Cut, NotRising, BadKind, TooLong, TrailingBytes, Memory}
-use Rattle.tile_fact.specs.FactFile.{magic, AreBytes, IsFact, AreFacts, IsFactFile, fact_record, fact_file}
+use Rattle.tile_fact.specs.declared.fault.FactFault.TheVariants.{BadMagic, Cut, TrailingBytes, Memory}
+use Rattle.tile_fact.specs.FactFile.{magic, AreBytes, IsFact, AreFacts, IsFactFile, fact_record}
 use Rattle.tile_fact.specs.Faults.{HasRecords, IsFault}
-use Rattle.tile_fact.specs.Gives.{IsRead, Fails, GivesInMemory, IsReadAs}
-use Rattle.tile_fact.specs.Order.{RisesAbove, Rises}
-use Rattle.tile_fact.specs.Reading.{◌>>=◌, is_above, magic_read, count_read, record_read, records_read, end_read, body_read, head_read, file_read}
+use Rattle.tile_fact.specs.Gives.{IsRead, Fails}
+use Rattle.tile_fact.specs.Order.{RisesAbove}
+use Rattle.tile_fact.specs.Reading.{◌>>=◌, is_above, magic_read, count_read, records_read, end_read, body_read, head_read, file_read}
 use Rattle.tile_fact.proofs.FactLaws.{record_again, count_again, behind_bytes}
-use Rattle.tile_fact.proofs.FileLaws.{View, AllRead, last_after, is_above_of, records_view}
+use Rattle.tile_fact.proofs.FileLaws.{View, last_after, is_above_of, records_view}
 use Rattle.tile_fact.proofs.LoopLaws.{with_front, starts, ends_late}
-use Rattle.tile_fact.proofs.RecordFaults.{count_whole, count_cut, bind_err}
+use Rattle.tile_fact.proofs.RecordFaults.{count_whole, count_cut}
 
 -- ---- the file of some facts is read as these
 

@@ -2,7 +2,7 @@
 use Rattle.std.specs.Int.{Width, w16, w32, w64, cast_unsigned, to_be_bytes}
 use Rattle.std.specs.Int.RustNames.{FitsSigned}
 use Rattle.std.specs.List.{flat_map, AllByRecursion}
-use Rattle.std.specs.Prelude.{◌≡◌, ℕ, ℤ, ◌<◌, ◌^◌, List, [], ◌∷◌, ◌++◌, length, slice_index, codes}
+use Rattle.std.specs.Prelude.{◌≡◌, ℕ, ℤ, ◌<◌, ◌^◌, List, ◌∷◌, ◌++◌, length, slice_index, codes}
 use Rattle.identity.specs.declared.key.Key.{Key}
 use Rattle.tile_fact.specs.declared.body.Body.{Body}
 use Rattle.tile_fact.specs.declared.body.Body.TheVariants.{Tile, Partial}
