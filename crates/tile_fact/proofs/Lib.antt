@@ -1,0 +1,14 @@
+pub mod BodyLaws
+pub mod BytesLaws
+pub mod FactLaws
+pub mod FileLaws
+pub mod KeyLaws
+pub mod LoopLaws
+pub mod MagicLaws
+pub mod NumberLaws
+pub mod OrderLaws
+pub mod PartLaws
+pub mod RecordFaults
+pub mod RecordLaws
+pub mod WholeLaws
+pub mod WritingLaws

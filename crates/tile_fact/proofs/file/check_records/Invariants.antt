@@ -1,0 +1,14 @@
+use Rattle.std.proofs.Common.{◌≡◌, ◌≤◌, ◌-◌, List, length, None}
+use Rattle.std.specs.Option.{option_map}
+use Rattle.tile_fact.specs.declared.fact.Fact.{Fact}
+use Rattle.tile_fact.specs.Numbers.{fact_of}
+use Rattle.tile_fact.specs.Reading.{records_read}
+use Rattle.tile_fact.proofs.LoopLaws.{with_front}
+use Rattle.tile_fact.proofs.file.check_records.Given as goal
+
+-- behind some facts, what is left to read is as the whole
+abbrev pub invariant-loop : goal.invariant-loop
+invariant-loop l =
+    (length l.rest ≤ l.total)
+    × ((front : List Fact) × (with_front front (records_read (l.count - l.counter) l.total (option_map (λ r. fact_of r.label.key r.label.kind r.numbers.now) l.last) l.rest)
+    ≡ records_read l.count l.total None l.bytes))

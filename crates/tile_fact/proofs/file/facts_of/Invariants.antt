@@ -1,0 +1,11 @@
+use Rattle.std.proofs.Common.{◌≡◌, ◌≤◌, ◌-◌, length, Option, None}
+use Rattle.tile_fact.specs.declared.fact.Fact.{Fact}
+use Rattle.tile_fact.specs.Reading.{records_read}
+use Rattle.tile_fact.proofs.LoopLaws.{with_front}
+use Rattle.tile_fact.proofs.file.facts_of.Given as goal
+
+-- behind the facts so far, what is left to read is as the whole
+abbrev pub invariant-loop : goal.invariant-loop
+invariant-loop l =
+    (length l.rest ≤ l.total)
+    × ((last : Option Fact) × (with_front l.facts.items (records_read (l.count - l.counter) l.total last l.rest) ≡ records_read l.count l.total None l.bytes))

@@ -1,0 +1,9 @@
+pub mod Bodies
+pub mod FactFile
+pub mod FaultTable
+pub mod Faults
+pub mod Gives
+pub mod Keyed
+pub mod Numbers
+pub mod Order
+pub mod Reading

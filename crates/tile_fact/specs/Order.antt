@@ -1,0 +1,29 @@
+-- The order of facts: by key, then kind, then numbers.
+use Rattle.std.specs.Cmp.Lexicographic.{slice_cmp}
+use Rattle.std.specs.declared.cmp.Ordering.{Ordering}
+use Rattle.std.specs.declared.cmp.Ordering.TheVariants.{Less}
+use Rattle.std.specs.Ordering.{nat_cmp, int_cmp, then_cmp, on}
+use Rattle.std.specs.Prelude.{◌≡◌, List, [], ◌∷◌, Option, None, Some, IfSome}
+use Rattle.identity.specs.Keys.{key_cmp}
+use Rattle.tile_fact.specs.declared.body.Body.{Body}
+use Rattle.tile_fact.specs.declared.fact.Fact.{Fact}
+use Rattle.tile_fact.specs.Bodies.{kind, numbers}
+
+-- a tile before a partial, and then by the first number that differs, where a list that ends stands before one that goes on
+abbrev pub body_cmp : Body → Body → Ordering
+body_cmp = then_cmp (on kind nat_cmp) (on numbers (slice_cmp int_cmp))
+
+unfoldable pub fact_cmp : Fact → Fact → Ordering
+fact_cmp = then_cmp (on (λ f. f.key) key_cmp) (on (λ f. f.body) body_cmp)
+
+abbrev pub IsBelow : Fact → Fact → Type 0
+IsBelow a b = fact_cmp a b ≡ Less
+
+-- each is above the one before it, and the first above the last one before them, if there is one
+abbrev pub RisesAbove : Option Fact → List Fact → Type 0
+RisesAbove last [] = Unit {0}
+RisesAbove last (fact ∷ facts) = IfSome last (λ before. IsBelow before fact) × RisesAbove (Some fact) facts
+
+-- each is above the one before it
+abbrev pub Rises : List Fact → Type 0
+Rises facts = RisesAbove None facts

@@ -1,0 +1,88 @@
+//! What the definitions amount to, proved once for the crates above. A law is a function whose clauses are the law.
+
+ghost use Rattle.std.specs.Cmp.{IsTotalOrder};
+ghost use Rattle.std.specs.Int.{w32, w64};
+ghost use Rattle.std.specs.Int.RustNames.{FitsSigned};
+ghost use Rattle.std.specs.List.{All};
+ghost use Rattle.std.specs.Prelude.{◌≡◌, ◌↔◌, ◌<◌, ◌^◌, ℕ, List};
+ghost use Rattle.tile_fact.specs.FactFile.{AreBytes, AreFacts, IsDigest, IsFact, IsFactFile, IsKey, fact_file};
+ghost use Rattle.tile_fact.specs.Order.{fact_cmp};
+
+use crate::body::Body;
+use crate::fact::Fact;
+use identity::Key;
+use std::cmp::Ordering;
+
+/// Facts are in the order of key, kind and numbers, which is a total one, and equal facts are one.
+#[tactic(auto, unfolding(crate::specs::Order::fact_cmp))]
+pub fn order_of_facts(a: &Fact, b: &Fact) -> Ordering
+    ensures parts { result ≡ fact_cmp a.now b.now }
+    ensures total { IsTotalOrder fact_cmp }
+    ensures one { (result ≡ Ordering.Equal) ↔ (a.now ≡ b.now) }
+{
+    a.cmp(b)
+}
+
+/// No bytes are the files of two lists of facts.
+pub fn one_list()
+    ensures { (bytes : List ℕ) (facts others : List Fact) → IsFactFile bytes facts → IsFactFile bytes others → facts ≡ others }
+{}
+
+/// Facts that rise have a file, and no other bytes are it; and no two lists of facts have one file.
+pub fn one_spelling()
+    ensures spelled { (facts : List Fact) → AreFacts facts → IsFactFile (fact_file facts) facts }
+    ensures alone { (a b : List ℕ) (facts : List Fact) → IsFactFile a facts → IsFactFile b facts → a ≡ b }
+    ensures apart { (facts others : List Fact) → AreFacts facts → AreFacts others → fact_file facts ≡ fact_file others → facts ≡ others }
+{}
+
+/// Each fact can stand in a file: what it is made of fits its fields, and it has no more numbers than a fact may have. It is a law
+/// for proofs: the call looks at each number and changes nothing.
+pub fn fits_its_record(fact: &Fact)
+    ensures { IsFact fact.now }
+{
+    fits_key(fact.key());
+    match fact.body() {
+        Body::Tile(samples) => fit_samples(samples.as_slice()),
+        Body::Partial(bins) => fit_bins(bins.as_slice()),
+    }
+}
+
+fn fits_key(key: &Key)
+    ensures { IsKey key.now }
+{
+    is_digest(key.program.as_bytes());
+    is_digest(key.input.as_bytes());
+    fit_numbers(key.stage, key.row, key.col);
+}
+
+fn is_digest(bytes: &[u8; 32])
+    ensures { IsDigest bytes.now }
+{
+    are_bytes(bytes);
+}
+
+fn are_bytes(bytes: &[u8])
+    ensures { AreBytes bytes.now }
+{}
+
+fn fit_numbers(stage: u16, row: u32, col: u32)
+    ensures stage { stage < 2 ^ 16 }
+    ensures row { row < 2 ^ 32 }
+    ensures col { col < 2 ^ 32 }
+{}
+
+fn fit_samples(samples: &[i32])
+    ensures { All (FitsSigned w32) samples.now }
+{
+    for sample in samples {
+        let _sample = *sample;
+    }
+}
+
+fn fit_bins(bins: &[i64])
+    ensures { All (FitsSigned w64) bins.now }
+{
+    for bin in bins {
+        let _bin = *bin;
+    }
+}

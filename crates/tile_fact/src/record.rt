@@ -1,0 +1,175 @@
+//! Records of a fact file, where they stand in its bytes.
+
+ghost use Rattle.std.specs.Prelude.{◌≡◌, ◌≤◌, ◌+◌, length, take, drop, IfOk};
+ghost use Rattle.std.specs.Int.{w32, from_be_bytes};
+ghost use Rattle.tile_fact.specs.Bodies.{IsWithin};
+ghost use Rattle.tile_fact.specs.Gives.{Gives};
+ghost use Rattle.tile_fact.specs.Numbers.{key_in, body_in, fact_of};
+ghost use Rattle.tile_fact.specs.Order.{fact_cmp, body_cmp};
+ghost use Rattle.tile_fact.specs.Reading.{part_read, count_read, kind_read, length_read, record_read};
+
+use crate::body::Body;
+use crate::fact::Fact;
+use crate::fault::FactFault;
+use crate::kind::Kind;
+use crate::number_bytes::{bins_in, compare_bins, compare_samples, samples_in};
+use crate::numbers::{Bins, Samples};
+use identity::{InputId, Key, ProgramId};
+use std::alloc::{AllocError, Global};
+use std::cmp::Ordering;
+
+/// What a record says before its numbers.
+#[derive(Clone, Copy)]
+pub struct Label {
+    pub key: Key,
+    pub kind: Kind,
+}
+
+/// A record whose numbers are still bytes.
+#[derive(Clone, Copy)]
+pub struct Record<'a> {
+    pub label: Label,
+    pub numbers: &'a [u8],
+}
+
+impl<'a> Record<'a> {
+    /// The order of the facts that the records spell.
+    #[tactic(auto, unfolding(crate::specs::Order::fact_cmp))]
+    pub fn compare(&self, other: &Record<'_>) -> Ordering
+        ensures { result ≡ fact_cmp (fact_of self.now.label.key self.now.label.kind self.now.numbers.now)
+            (fact_of other.now.label.key other.now.label.kind other.now.numbers.now) }
+    {
+        match self.label.key.cmp(&other.label.key) {
+            Ordering::Equal => {
+                compare_numbers(
+                    self.label.kind,
+                    self.numbers,
+                    other.label.kind,
+                    other.numbers,
+                )
+            }
+            unequal => unequal,
+        }
+    }
+
+    /// The fact that the record spells.
+    pub fn to_fact(&self, alloc: Global) -> Result<Fact, AllocError>
+        requires { IsWithin (body_in self.now.label.kind self.now.numbers.now) }
+        ensures { IfOk result (λ fact. fact ≡ fact_of self.now.label.key self.now.label.kind self.now.numbers.now) }
+    {
+        let body = match self.label.kind {
+            Kind::OfTile => Body::Tile(Samples::new(samples_in(alloc, self.numbers)?)?),
+            Kind::OfPartial => Body::Partial(Bins::new(bins_in(alloc, self.numbers)?)?),
+        };
+        match Fact::new(self.label.key, body) {
+            Ok(fact) => Ok(fact),
+            Err(_) => unreachable!(),
+        }
+    }
+}
+
+// The order of kind and numbers.
+fn compare_numbers(a_kind: Kind, a: &[u8], b_kind: Kind, b: &[u8]) -> Ordering
+    ensures { result ≡ body_cmp (body_in a_kind a.now) (body_in b_kind b.now) }
+{
+    match (a_kind, b_kind) {
+        (Kind::OfTile, Kind::OfTile) => compare_samples(a, b),
+        (Kind::OfTile, Kind::OfPartial) => Ordering::Less,
+        (Kind::OfPartial, Kind::OfTile) => Ordering::Greater,
+        (Kind::OfPartial, Kind::OfPartial) => compare_bins(a, b),
+    }
+}
+
+/// The record in front of the bytes, which are the last of `total`: what it says before its numbers, the bytes of these, and
+/// the bytes behind it.
+#[tactic(auto, unfolding(crate::specs::Reading::record_read))]
+pub fn read_record(total: usize, bytes: &[u8]) -> Result<(Label, &[u8], &[u8]), FactFault>
+    requires { length bytes.now ≤ total }
+    ensures read { Gives (λ x. (fact_of x.0.key x.0.kind x.1.now, x.2.now)) result (record_read total bytes.now) }
+    ensures within { IfOk result (λ x. IsWithin (body_in x.0.kind x.1.now)) }
+    ensures behind { IfOk result (λ x. length x.2.now ≤ total) }
+{
+    let (part, rest) = read_part(total, 74, bytes)?;
+    let key = key_of(part);
+    let (kind, rest) = read_kind(total, rest)?;
+    let (len, rest) = read_length(total, kind, rest)?;
+    let (numbers, behind) = read_part(total, len * kind.bytes_each(), rest)?;
+    Ok((Label { key, kind }, numbers, behind))
+}
+
+// So many bytes, and those behind them.
+#[tactic(auto, unfolding(crate::specs::Reading::part_read))]
+fn read_part(total: usize, len: usize, bytes: &[u8]) -> Result<(&[u8], &[u8]), FactFault>
+    ensures { Gives (λ x. (x.0.now, x.1.now)) result (part_read total len bytes.now) }
+{
+    if bytes.len() < len {
+        return Err(FactFault::Cut(total));
+    }
+    Ok(bytes.split_at(len))
+}
+
+/// A count in four bytes, and the bytes behind it.
+#[tactic(auto, unfolding(crate::specs::Reading::count_read))]
+pub fn read_count(total: usize, bytes: &[u8]) -> Result<(u32, &[u8]), FactFault>
+    ensures read { Gives (λ x. (x.0, x.1.now)) result (count_read total bytes.now) }
+    ensures behind { IfOk result (λ x. length x.1.now ≤ length bytes.now) }
+{
+    let (part, rest) = read_part(total, 4, bytes)?;
+    Ok((number_at(part, 0), rest))
+}
+
+// The key that these bytes are.
+fn key_of(bytes: &[u8]) -> Key
+    requires { length bytes.now ≡ 74 }
+    ensures { result ≡ key_in bytes.now }
+{
+    Key {
+        program: ProgramId::new(digest_at(bytes, 0)),
+        input: InputId::new(digest_at(bytes, 32)),
+        stage: u16::from_be_bytes([bytes[64], bytes[65]]),
+        row: number_at(bytes, 66),
+        col: number_at(bytes, 70),
+    }
+}
+
+fn digest_at(bytes: &[u8], at: usize) -> [u8; 32]
+    requires { at + 32 ≤ length bytes.now }
+    ensures { result ≡ take 32 (drop at bytes.now) }
+{
+    let mut digest = [0; 32];
+    digest.copy_from_slice(&bytes[at..at + 32]);
+    digest
+}
+
+fn number_at(bytes: &[u8], at: usize) -> u32
+    requires { at + 4 ≤ length bytes.now }
+    ensures { result ≡ from_be_bytes w32 (take 4 (drop at bytes.now)) }
+{
+    u32::from_be_bytes([bytes[at], bytes[at + 1], bytes[at + 2], bytes[at + 3]])
+}
+
+#[tactic(auto, unfolding(crate::specs::Reading::kind_read))]
+fn read_kind(total: usize, bytes: &[u8]) -> Result<(Kind, &[u8]), FactFault>
+    requires { length bytes.now ≤ total }
+    ensures { Gives (λ x. (x.0, x.1.now)) result (kind_read total bytes.now) }
+{
+    match bytes {
+        [] => Err(FactFault::Cut(total)),
+        [0, rest @ ..] => Ok((Kind::OfTile, rest)),
+        [1, rest @ ..] => Ok((Kind::OfPartial, rest)),
+        [_, ..] => Err(FactFault::BadKind(total - bytes.len())),
+    }
+}
+
+#[tactic(auto, unfolding(crate::specs::Reading::length_read))]
+fn read_length(total: usize, kind: Kind, bytes: &[u8]) -> Result<(usize, &[u8]), FactFault>
+    requires { length bytes.now ≤ total }
+    ensures { Gives (λ x. (x.0, x.1.now)) result (length_read total kind bytes.now) }
+{
+    let (len, rest) = read_count(total, bytes)?;
+    let len = len as usize;
+    if kind.most() < len {
+        return Err(FactFault::TooLong(total - bytes.len()));
+    }
+    Ok((len, rest))
+}

@@ -1,0 +1,76 @@
+//! Facts as the bytes of a fact file.
+
+ghost use Rattle.std.specs.Int.{w32, w64};
+ghost use Rattle.std.specs.List.{flat_map};
+ghost use Rattle.std.specs.Prelude.{◌≡◌, ◌<◌, ◌^◌, ◌++◌, length, OnOk, IfOk};
+ghost use Rattle.tile_fact.specs.FactFile.{key_bytes, number_bytes, body_bytes, fact_record, fact_file};
+ghost use Rattle.tile_fact.specs.Order.{Rises};
+
+use crate::body::Body;
+use crate::fact::Fact;
+use crate::file::MAGIC;
+use identity::Key;
+use std::alloc::{AllocError, Global};
+
+/// The file of these facts, the one spelling that they have.
+pub fn encode(alloc: Global, facts: &[Fact]) -> Result<Vec<u8>, AllocError>
+    requires count { length facts.now < 2 ^ 32 }
+    requires rise { Rises facts.now }
+    ensures { IfOk result (λ bytes. bytes.items ≡ fact_file facts.now) }
+{
+    let mut bytes = Vec::new(alloc);
+    bytes.extend_from_slice(&MAGIC)?;
+    bytes.extend_from_slice(&(facts.len() as u32).to_be_bytes())?;
+    for fact in facts {
+        put_fact(&mut bytes, fact)?;
+    }
+    Ok(bytes)
+}
+
+fn put_fact(bytes: &mut Vec<u8>, fact: &Fact) -> Result<(), AllocError>
+    ensures { OnOk result (bytes.new.items ≡ bytes.old.items ++ fact_record fact.now) }
+{
+    put_key(bytes, fact.key())?;
+    match fact.body() {
+        Body::Tile(samples) => put_samples(bytes, samples.as_slice()),
+        Body::Partial(bins) => put_bins(bytes, bins.as_slice()),
+    }
+}
+
+fn put_key(bytes: &mut Vec<u8>, key: &Key) -> Result<(), AllocError>
+    ensures { OnOk result (bytes.new.items ≡ bytes.old.items ++ key_bytes key.now) }
+{
+    bytes.extend_from_slice(key.program.as_bytes())?;
+    bytes.extend_from_slice(key.input.as_bytes())?;
+    bytes.extend_from_slice(&key.stage.to_be_bytes())?;
+    bytes.extend_from_slice(&key.row.to_be_bytes())?;
+    bytes.extend_from_slice(&key.col.to_be_bytes())
+}
+
+// The body of a tile.
+fn put_samples(bytes: &mut Vec<u8>, samples: &[i32]) -> Result<(), AllocError>
+    requires { length samples.now < 2 ^ 32 }
+    ensures { OnOk result (bytes.new.items ≡ bytes.old.items ++ body_bytes (Body.Tile samples.now)) }
+{
+    bytes.push(0)?;
+    bytes.extend_from_slice(&(samples.len() as u32).to_be_bytes())?;
+    bytes.reserve(4 * samples.len())?;
+    for sample in samples {
+        bytes.extend_from_slice(&sample.to_be_bytes())?;
+    }
+    Ok(())
+}
+
+// The body of a partial.
+fn put_bins(bytes: &mut Vec<u8>, bins: &[i64]) -> Result<(), AllocError>
+    requires { length bins.now < 2 ^ 32 }
+    ensures { OnOk result (bytes.new.items ≡ bytes.old.items ++ body_bytes (Body.Partial bins.now)) }
+{
+    bytes.push(1)?;
+    bytes.extend_from_slice(&(bins.len() as u32).to_be_bytes())?;
+    bytes.reserve(8 * bins.len())?;
+    for bin in bins {
+        bytes.extend_from_slice(&bin.to_be_bytes())?;
+    }
+    Ok(())
+}
