@@ -3,8 +3,12 @@ use Rattle.tile_run.specs.Stored.{stored_tiles}
 use Rattle.accumulators.proofs.TileTotals.{whole}
 use Rattle.library_tests.proofs.given.compare_both.Goals as goal
 
-pub compare-requires-clause-whole : goal.compare-requires-clause-whole
-compare-requires-clause-whole c = whole (pipeline_in c.args.job.now) (stored_tiles c.in_ok-stored.stored.stages.items) c.in_ok-stored.ensures.values
+pub compare-requires : goal.compare-requires
+compare-requires c = record {
+  whole = whole (pipeline_in c.args.job.now) (stored_tiles c.in_ok-stored.stored.stages.items) c.in_ok-stored.ensures.values;
+}
 
-pub compare-requires-2-clause-whole : goal.compare-requires-2-clause-whole
-compare-requires-2-clause-whole c = whole (pipeline_in c.args.job.now) (stored_tiles c.in_ok-stored.stored.stages.items) c.in_ok-stored.ensures.values
+pub compare-requires-2 : goal.compare-requires-2
+compare-requires-2 c = record {
+  whole = whole (pipeline_in c.args.job.now) (stored_tiles c.in_ok-stored.stored.stages.items) c.in_ok-stored.ensures.values;
+}
