@@ -1,4 +1,4 @@
-.PHONY: build cases check demo edits test tools
+.PHONY: build cases check demo edits fuzz test tools
 program := crates/tilefarm/out/tilefarm
 
 # Evaluates the edge detector on its picture, without any proof, and shows the program, the picture and the result.
@@ -34,6 +34,10 @@ build:
 # The conformance cases, on the program that stands built.
 cases: | $(program)
 	@tests/run_cases $(program)
+
+# Random jobs on the program that stands built, from a seed on: make fuzz CASES=5000 SEED=7.
+fuzz: | $(program)
+	@tests/fuzz $(program) $(if $(CASES),--cases $(CASES)) $(if $(SEED),--seed $(SEED))
 
 # What stands round the program, on the one that stands built: tf, the pages, the errors' texts, the guide and the gallery.
 tools: | $(program)

@@ -189,6 +189,9 @@ def steps(clone: str, times: Times) -> list[Step]:
     done.append(run("tables, man pages, completions", clone, ["tools/make_usage", "--check"]))
     if not done[0].failed:
         done.append(run("conformance cases", clone, ["tests/run_cases", *PROGRAMS]))
+        done.append(run("memory refused", clone, ["tests/refusals", BUILT]))
+        done.append(run("damaged pictures", clone, ["tests/damage", BUILT]))
+        done.append(run("random jobs", clone, ["tests/fuzz", BUILT]))
         done.append(run("results of the examples", clone, ["examples/expected"]))
         done.append(run("page of the examples", clone, ["examples/show", "--check", BUILT]))
         done.append(run("tests of tf", clone, ["tests/test_tf", BUILT]))

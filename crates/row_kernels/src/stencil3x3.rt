@@ -1,7 +1,7 @@
 #![tactic(auto)]
 //! Rows of three factors, and kernels of three such rows.
 
-ghost use Rattle.std.specs.Prelude.{◌≡◌, ◌<◌, ◌≤◌, ◌+◌, ◌+ℤ◌, ◌*ℤ◌, ℤ, length, IfSome};
+ghost use Rattle.std.specs.Prelude.{◌≡◌, ◌<◌, ◌≤◌, ◌+◌, ◌+ℤ◌, ◌*ℤ◌, ℤ, length, IfSome, IfNone};
 ghost use Rattle.domains.specs.Arithmetic.{wrapped};
 ghost use Rattle.job.specs.Values.{factors};
 ghost use Rattle.row_kernels.specs.Rows.{EachPlace, at};
@@ -30,7 +30,8 @@ impl Model for Triple {
 impl Triple {
     /// These factors, if they are three.
     pub fn of(factors: &[i32]) -> Option<Triple>
-        ensures { IfSome result (λ t. t ≡ factors.now) }
+        ensures is { IfSome result (λ t. t ≡ factors.now) }
+        ensures none { IfNone result (¬ (length factors.now ≡ 3)) }
     {
         match factors {
             [left, middle, right] => Some(Triple {
@@ -86,6 +87,7 @@ impl Kernel3x3 {
     pub fn of(kernel: &Kernel) -> Option<Kernel3x3>
         ensures is { IfSome result (λ s. s ≡ kernel.now) }
         ensures square { IfSome result (λ s. Is3x3 kernel.now) }
+        ensures none { IfNone result (¬ (Is3x3 kernel.now)) }
     {
         match kernel.rows() {
             [top, middle, bottom] => Some(Kernel3x3 {

@@ -1,0 +1,206 @@
+"""Random programs over a picture, as lists of tokens. Most of their reads are inside, so that most are evaluated."""
+from dataclasses import dataclass, field
+from random import Random
+
+from .pictures import Picture
+
+SHIFT = 4096
+OPERATORS = ["sum", "min", "max"]
+
+
+@dataclass(frozen=True)
+class Span:
+    least: int
+    greatest: int
+
+    def holds(self, least: int, greatest: int) -> bool:
+        return self.least <= least and greatest <= self.greatest
+
+
+@dataclass(frozen=True)
+class Stage:
+    name: str
+    spans: tuple[Span, Span]
+
+
+@dataclass
+class Program:
+    """What a program was made of: its tokens, and the values that its parameters need."""
+
+    tokens: list[str] = field(default_factory=list)
+    values: list[str] = field(default_factory=list)
+
+
+class Writer:
+    """Writes one program. It knows the values of the parameters, and so each domain in numbers."""
+
+    def __init__(self, random: Random, picture: Picture):
+        self.random, self.picture = random, picture
+        self.sides = {"R": picture.rows, "C": picture.cols}
+        self.given = {f"p{it}": random.randint(-9, 9) for it in range(random.randint(0, 2))}
+        self.readable: list[Stage] = []
+        self.is_careful = random.random() < 0.9
+
+    # ---- numbers
+
+    def affine(self, value: int) -> list[str]:
+        """An affine expression of this value: a number, or a parameter and what is left."""
+        known = {**self.sides, **self.given}
+        if self.random.random() < 0.5:
+            return ["-", str(-value)] if value < 0 else [str(value)]
+        name = self.random.choice(sorted(known))
+        factor = self.random.choice([1, 1, 2])
+        rest = value - factor * known[name]
+        front = [name] if factor == 1 else [str(factor), "*", name]
+        return front if rest == 0 else [*front, "+" if rest > 0 else "-", str(abs(rest))]
+
+    def span(self, span: Span) -> list[str]:
+        return ["[", *self.affine(span.least), "..", *self.affine(span.greatest), "]"]
+
+    def variables(self, spans: tuple[Span, Span]) -> list[str]:
+        return ["(", "x", "in", *self.span(spans[0]), ",", "y", "in", *self.span(spans[1]), ")"]
+
+    def some_span(self, near: int) -> Span:
+        least = self.random.choice([0, 0, 0, 1, self.random.randint(-5, 5)])
+        return Span(least, least + self.random.randint(0, near))
+
+    def some_domain(self) -> tuple[Span, Span]:
+        if self.random.random() < 0.6:
+            return self.random.choice(self.readable).spans
+        return self.some_span(12), self.some_span(12)
+
+    # ---- reads
+
+    def index(self, variable: str, over: Span, inside: Span) -> list[str]:
+        """An index in the variable that stays inside, and none where a few tries find none."""
+        for _ in range(20):
+            mul, div = self.random.choice([1, 1, 1, 2, 3]), self.random.choice([1, 1, 1, 2, 4])
+            add = self.random.choice([0, 0, self.random.randint(-3, 3), inside.least * div - over.least * mul])
+            ends = [(mul * it + add) // div for it in (over.least, over.greatest)]
+            if abs(add) <= SHIFT and (inside.holds(*ends) or not self.is_careful):
+                return self.spelled_index(variable, mul, add, div)
+        return []
+
+    def spelled_index(self, variable: str, mul: int, add: int, div: int) -> list[str]:
+        front = [variable] if mul == 1 else [str(mul), "*", variable]
+        shift = [] if add == 0 else ["+" if add > 0 else "-", str(abs(add))]
+        if div == 1:
+            return [*front, *shift]
+        return [*(["(", *front, *shift, ")"] if shift else front), "/", str(div)]
+
+    def read(self, spans: tuple[Span, Span]) -> list[str]:
+        stage = self.random.choice(self.readable)
+        rows, cols = (self.index(it, *pair) for it, pair in zip("xy", zip(spans, stage.spans)))
+        return [stage.name, "(", *rows, ",", *cols, ")"] if rows and cols else ["7"]
+
+    def stencil(self, spans: tuple[Span, Span]) -> list[str]:
+        """A stencil round the points, where a stage reaches far enough, else a read."""
+        for stage in self.random.sample(self.readable, len(self.readable)):
+            reach = [min(1, self.room(*pair)) for pair in zip(spans, stage.spans)]
+            if min(reach) >= 0:
+                rows = [self.weights(2 * reach[1] + 1) for _ in range(2 * reach[0] + 1)]
+                matrix = ["[", *parted(rows), "]"]
+                return ["stencil", "(", stage.name, ",", str(self.random.randint(1, 16)), ",", *matrix, ")"]
+        return self.read(spans)
+
+    def room(self, over: Span, inside: Span) -> int:
+        return min(over.least - inside.least, inside.greatest - over.greatest)
+
+    def weights(self, count: int) -> list[str]:
+        numbers = [self.random.randint(-9, 9) for _ in range(count)]
+        return ["[", *parted([["-", str(-it)] if it < 0 else [str(it)] for it in numbers]), "]"]
+
+    # ---- expressions
+
+    def expression(self, spans: tuple[Span, Span], depth: int) -> list[str]:
+        inner = lambda: self.expression(spans, depth - 1)
+        if depth == 0 or self.random.random() < 0.15:
+            return self.leaf(spans)
+        choice = self.random.randrange(9)
+        if choice <= 1:
+            return ["(", *inner(), self.random.choice("+-"), *inner(), ")"]
+        if choice == 2:
+            return ["(", *inner(), ")", "*", "(", *inner(), ")"]
+        if choice == 3:
+            return ["(", *inner(), ")", *self.random.choice([("/", "3"), ("%", "7"), ("<<", "2"), (">>", "1"), ("/", "16")])]
+        if choice == 4:
+            return ["(", "-", *inner(), ")"]
+        if choice == 5:
+            return [self.random.choice(["min", "max"]), "(", *inner(), ",", *inner(), ")"]
+        if choice == 6:
+            return ["abs", "(", *inner(), ")"]
+        if choice == 7:
+            return ["clamp", "(", *parted([inner(), inner(), inner()]), ")"]
+        test = [*inner(), self.random.choice(["<=", ">=", "=="]), *inner()]
+        return ["select", "(", *parted([test, inner(), inner()]), ")"]
+
+    def leaf(self, spans: tuple[Span, Span]) -> list[str]:
+        choice = self.random.random()
+        if choice < 0.15:
+            return [str(self.random.choice([0, 1, 2, 255, 2147483647]))]
+        if choice < 0.3:
+            return [self.random.choice(["x", "y", *sorted({**self.sides, **self.given})])]
+        return self.stencil(spans) if choice < 0.5 else self.read(spans)
+
+    # ---- items
+
+    def test(self, span: Span, variable: str) -> list[str]:
+        if self.random.random() < 0.3:
+            divisor = self.random.randint(1, 4)
+            return [variable, "%", str(divisor), "==", str(self.random.randrange(divisor))]
+        value = self.random.randint(span.least - 1, span.greatest + 1)
+        return [variable, self.random.choice(["<=", ">=", "=="]), *self.affine(value)]
+
+    def function(self, stage: Stage) -> list[str]:
+        cases: list[str] = []
+        for _ in range(self.random.choice([0, 0, 1, 2])):
+            tests = [self.test(stage.spans[it], "xy"[it]) for it in self.random.choice([(0,), (1,), (0, 1)])]
+            cases += ["case", *parted(tests, "and"), ":", *self.expression(stage.spans, 2), ";"]
+        if not cases or self.random.random() < 0.8:
+            cases += ["else", ":", *self.expression(stage.spans, 3), ";"]
+        return ["func", stage.name, *self.variables(stage.spans), "{", *cases, "}"]
+
+    def accumulator(self, name: str) -> list[str]:
+        stage = self.random.choice(self.readable)
+        least = self.random.randint(-3, 3)
+        bins = self.span(Span(least, least + self.random.randint(0, 9)))
+        head = ["accum", name, *bins, "over", *self.variables(stage.spans), self.random.choice(OPERATORS)]
+        return [*head, *self.expression(stage.spans, 2), "at", *self.expression(stage.spans, 2), ";"]
+
+    def program(self) -> Program:
+        planes = ["a", "b", "c"][: self.picture.planes]
+        sides = (Span(0, self.picture.rows - 1), Span(0, self.picture.cols - 1))
+        extents = [*self.affine(self.picture.rows), ",", *self.affine(self.picture.cols)]
+        items = [["image", *parted([[it] for it in planes]), "(", *extents, ")", ";"]]
+        self.readable = [Stage(it, sides) for it in planes]
+        functions = []
+        for number in range(self.random.randint(1, 6)):
+            stage = Stage(f"f{number}", self.some_domain())
+            items.append(self.function(stage))
+            self.readable.append(stage)
+            functions.append(stage)
+        for number in range(self.random.choice([0, 0, 1, 2])):
+            items.append(self.accumulator(f"h{number}"))
+        alike = [it for it in functions if it.spans == functions[-1].spans]
+        outputs = self.random.choices(alike, k=3) if len({*alike}) >= 3 and self.random.random() < 0.5 else [functions[-1]]
+        outputs = list(dict.fromkeys(outputs)) if len({*outputs}) == 3 else outputs[-1:]
+        items.append(["output", *parted([[it.name] for it in outputs]), "max", str(self.random.choice([1, 255, 65535])), ";"])
+        items += [["param", it, ";"] for it in sorted({**self.sides, **self.given})]
+        self.random.shuffle(items)
+        values = [f"{name}={value}" for name, value in {**self.sides, **self.given}.items()]
+        return Program([token for item in items for token in item], values)
+
+
+def parted(parts: list[list[str]], mark: str = ",") -> list[str]:
+    return [token for number, part in enumerate(parts) for token in ([mark] * (number > 0) + part)]
+
+
+def spelled(tokens: list[str]) -> bytes:
+    return (" ".join(tokens) + "\n").encode()
+
+
+def spelled_otherwise(tokens: list[str], random: Random) -> bytes:
+    """The same tokens with other gaps between them, and other spellings of their numbers."""
+    gaps = [" ", "\n", "\t", "\r\n", " # a comment; func\n", "  "]
+    digits = lambda token: random.choice(["", "0", "000"]) + token if token.isdigit() else token
+    return ("".join(digits(token) + random.choice(gaps) for token in tokens) + "\n").encode()

@@ -1,0 +1,126 @@
+"""What must hold of the program's answers to random jobs, told without any second implementation."""
+import re
+from dataclasses import dataclass
+from random import Random
+
+from .answers import CHECKED, PLANNED, Answer, Program, demand
+from .pictures import Picture, picture
+from .programs import Writer, spelled, spelled_otherwise
+
+SEPARATOR = b"%%\n"
+
+
+@dataclass(frozen=True)
+class Case:
+    text: bytes
+    picture: bytes
+    words: tuple[str, ...]
+
+    @property
+    def stdin(self) -> bytes:
+        return self.text + SEPARATOR + self.picture
+
+
+def some_options(random: Random) -> list[str]:
+    options = ["--rows", str(random.choice([1, 2, 3, 5, 64, 1024])), "--cols", str(random.choice([1, 2, 4, 7, 64, 1024]))]
+    return options + random.choice([["--stored"], ["--percent", str(random.choice([0, 40, 300, 10000]))], []])
+
+
+def judged(program: Program, random: Random) -> str:
+    """Makes a case and demands all that must hold of it. Says how it ended."""
+    taken = picture(random)
+    written = Writer(random, taken).program()
+    words = tuple(written.values if random.random() < 0.9 else [it for it in written.values if it[0] == "p"])
+    case = Case(spelled(written.tokens), taken.spelled(random), words)
+    answer = of_one_case(program, case, taken, random)
+    another_spelling(program, case, written.tokens, taken, random)
+    for _ in range(3):
+        damaged(program, case, random)
+    return "refused" if answer.is_refusal else "evaluated"
+
+
+def of_one_case(program: Program, case: Case, taken: Picture, random: Random) -> Answer:
+    checked, evaluated = agreeing(program, case)
+    if not checked.is_refusal:
+        demand(has_form_of_result(checked, evaluated), f"no form of a result: {evaluated.shown()}")
+        for _ in range(3):
+            options = some_options(random)
+            again = program.call(case.stdin, "eval", *options, *case.words)
+            demand(again == evaluated, f"eval {' '.join(options)} gives another result: {again.shown()}")
+        if taken.planes == 1 or taken.planes == 3:
+            other = Case(case.text, taken.raw(), case.words)
+            demand(program.call(other.stdin, "eval", *case.words) == evaluated, "another spelling of the picture gives another result")
+    return evaluated
+
+
+def agreeing(program: Program, case: Case) -> tuple[Answer, Answer]:
+    """The answers of check and eval, which refuse the same inputs in the same words, and so does plan."""
+    checked, planned, evaluated = (program.call(case.stdin, it, *case.words) for it in ("check", "plan", "eval"))
+    if checked.is_refusal:
+        demand(planned == checked, f"plan differs from check: {planned.shown()}, {checked.shown()}")
+        demand(evaluated == checked, f"eval differs from check: {evaluated.shown()}, {checked.shown()}")
+        within_input(case, checked)
+    else:
+        demand(re.fullmatch(CHECKED, checked.bytes.decode()), f"no form of check: {checked.shown()}")
+        demand(re.fullmatch(PLANNED, planned.bytes.decode()), f"no form of plan: {planned.shown()}")
+        demand(not evaluated.is_refusal, f"eval refuses what check accepts: {evaluated.shown()}")
+    return checked, evaluated
+
+
+def within_input(case: Case, refused: Answer) -> None:
+    """An offset lies in its part, or at its end."""
+    found = re.match(rb"(program|picture): .* at (\d+)\n", refused.bytes)
+    if found:
+        part = case.text if found[1] == b"program" else case.stdin.split(b"\n" + SEPARATOR, 1)[-1]
+        demand(int(found[2]) <= len(part), f"an offset past the end of its part: {refused.shown()}")
+
+
+def has_form_of_result(checked: Answer, evaluated: Answer) -> bool:
+    """A raw picture, where there is one, is as long as its head says; the lines are those of the accumulators."""
+    rest = evaluated.bytes
+    head = re.match(rb"P([56])\n(\d+) (\d+)\n(\d+)\n", rest)
+    if head:
+        width = (3 if head[1] == b"6" else 1) * (1 if int(head[4]) < 256 else 2)
+        length = int(head[2]) * int(head[3]) * width
+        if len(rest) < head.end() + length:
+            return False
+        rest = rest[head.end() + length :]
+    names = re.findall(rb"^stage \d+ accum (\w+) ", checked.bytes, re.M)
+    lines = rest.split(b"\n")
+    return len(lines) == len(names) + 1 and not lines[-1] and all(is_total(*it) for it in zip(names, lines))
+
+
+def is_total(name: bytes, line: bytes) -> bool:
+    found = re.fullmatch(rb"(\w+) (-?\d+)\.\.(-?\d+):((?: -?\d+)+)", line)
+    return bool(found) and found[1] == name and len(found[4].split()) == int(found[3]) - int(found[2]) + 1
+
+
+def another_spelling(program: Program, case: Case, tokens: list[str], taken: Picture, random: Random) -> None:
+    """Gaps, comments and leading zeros change neither the identity nor the result."""
+    other = Case(spelled_otherwise(tokens, random), case.picture, case.words)
+    for command in ("check", "eval"):
+        first, second = (program.call(it.stdin, command, *it.words) for it in (case, other))
+        if not re.match(rb"program: ", first.bytes):
+            demand(first == second, f"{command} of another spelling of the text: {second.shown()} in place of {first.shown()}")
+
+
+def damaged(program: Program, case: Case, random: Random) -> None:
+    """A text or a picture with a few bytes changed, cut, repeated or moved is refused by all commands in the same words, or by none."""
+    parts = [case.text, case.picture]
+    which = random.random() < 0.4
+    part = bytearray(parts[which])
+    for _ in range(random.choice([1, 1, 1, 2, 5])):
+        at, to = sorted(random.choices(range(len(part) + 1), k=2))
+        choice = random.randrange(5)
+        if choice == 0 and part:
+            part[at % len(part)] = random.randrange(256)
+        elif choice == 1:
+            part[at : at + random.randint(1, 4)] = b""
+        elif choice == 2:
+            part[at:at] = random.choice([b" ", b"#", b"(", b")", b"9", b"0", b";", b"max", b"\n", b"%%\n", b"\xff", b"-"])
+        elif choice == 3:
+            del part[to:]
+        else:
+            part[at:at] = part[at : min(to, at + 40)]
+    parts[which] = bytes(part)
+    agreeing(program, Case(*parts, case.words))

@@ -1,0 +1,71 @@
+/* Preloaded into a program: refuses its n-th growth of memory (n from REFUSE, from 1 on; none for 0), and writes to the
+   descriptor of REFUSALS_TO how many growths were asked for. Memory let go is no growth, nor is a block made smaller. */
+#define _GNU_SOURCE
+#include <errno.h>
+#include <malloc.h>
+#include <stdio.h>
+#include <stdlib.h>
+#include <string.h>
+#include <unistd.h>
+
+extern void *__libc_malloc(size_t size);
+extern void *__libc_calloc(size_t count, size_t size);
+extern void *__libc_realloc(void *block, size_t size);
+extern void *__libc_memalign(size_t alignment, size_t size);
+
+static unsigned long asked, refused;
+static int is_ready, to;
+
+static unsigned long number(const char *name) {
+    const char *text = getenv(name);
+    return text ? strtoul(text, NULL, 10) : 0;
+}
+
+__attribute__((constructor)) static void begin(void) {
+    refused = number("REFUSE");
+    to = (int)number("REFUSALS_TO");
+    is_ready = 1;
+}
+
+__attribute__((destructor)) static void end(void) {
+    char line[32];
+    is_ready = 0;
+    if (write(to, line, (size_t)snprintf(line, sizeof line, "%lu\n", asked)) < 0) errno = 0;
+}
+
+static int is_refused(void) {
+    return is_ready && ++asked == refused;
+}
+
+static void *no_memory(void) {
+    errno = ENOMEM;
+    return NULL;
+}
+
+void *malloc(size_t size) {
+    return is_refused() ? no_memory() : __libc_malloc(size);
+}
+
+void *calloc(size_t count, size_t size) {
+    return is_refused() ? no_memory() : __libc_calloc(count, size);
+}
+
+void *realloc(void *block, size_t size) {
+    int grows = !block || size > malloc_usable_size(block);
+    return grows && is_refused() ? no_memory() : __libc_realloc(block, size);
+}
+
+void *memalign(size_t alignment, size_t size) {
+    return is_refused() ? no_memory() : __libc_memalign(alignment, size);
+}
+
+void *aligned_alloc(size_t alignment, size_t size) {
+    return memalign(alignment, size);
+}
+
+int posix_memalign(void **block, size_t alignment, size_t size) {
+    void *made = memalign(alignment, size);
+    if (!made) return ENOMEM;
+    *block = made;
+    return 0;
+}
