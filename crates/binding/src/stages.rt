@@ -5,7 +5,7 @@ ghost use Rattle.std.specs.Prelude.{◌≡◌, ◌<◌, ◌++◌, All, Some, IfO
 ghost use Rattle.std.specs.List.{flat_map};
 ghost use Rattle.std.specs.Option.{option_map, ForSome};
 ghost use Rattle.pipe_tree.specs.Tree.{function, accumulator, view, branch, branches, function_of, accumulator_of, declaration, declarations};
-ghost use Rattle.binding.specs.Binding.{stage_number, formula_of, case_of, plane_stage, function_stage, accumulator_stage, names_in, item_stages};
+ghost use Rattle.binding.specs.Binding.{stage_number, rank_named, formula_of, case_of, plane_stage, function_stage, accumulator_stage, names_in, item_stages};
 ghost use Rattle.binding.specs.inside.Ranges.{IsRanged, IsRangedBranch, IsRangedItem, HasBounds, box_in, IsPlaneBounds, HavePlanes, IsBoundItem, AreReady};
 ghost use Rattle.job.specs.Views.{formula_view, case_view, stage_view};
 ghost use Rattle.binding.specs.inside.Resolving.{program_in, variables_in};
@@ -75,16 +75,19 @@ impl Resolver<'_> {
         }
     }
 
+    // The stage of this name, of which this was found and this is computed.
+    fn stage(&self, name: &Name, bounds: &StageBounds, body: Body) -> Stage
+        ensures { result ≡ record { name = name.now; rank = rank_named (program_in self.now) name.now; domain = bounds.now.domain; body = body } }
+    {
+        Stage::new(*name, self.rank(name), *bounds.domain(), body)
+    }
+
     fn plane(&self, image: &Image, name: &Name) -> Result<Stage, AllocError>
         requires { HasBounds (program_in self.now) self.now.found.now name.now (IsPlaneBounds (program_in self.now) image.now) }
         ensures { IfOk result (λ s. stage_view s ≡ plane_stage (program_in self.now) image.now name.now) }
     {
-        Ok(Stage::new(
-            *name,
-            self.rank(name),
-            *self.bounds(name).domain(),
-            Body::Plane(self.plane_number(name)?),
-        ))
+        let plane = self.plane_number(name)?;
+        Ok(self.stage(name, self.bounds(name), Body::Plane(plane)))
     }
 
     fn function(&self, func: &Func) -> Result<Stage, AllocError>
@@ -99,12 +102,8 @@ impl Resolver<'_> {
         let bounds = self.bounds(&func.name);
         let job_cases = self.job_cases(&own, bounds, func.cases.list())?;
         let otherwise = self.otherwise(&own, &func.otherwise)?;
-        Ok(Stage::new(
-            func.name,
-            self.rank(&func.name),
-            *bounds.domain(),
-            Body::Function(Function::new(job_cases, otherwise)),
-        ))
+        let body = Body::Function(Function::new(job_cases, otherwise));
+        Ok(self.stage(&func.name, bounds, body))
     }
 
     fn accumulator(&self, accum: &Accum) -> Result<Stage, AllocError>
@@ -119,12 +118,8 @@ impl Resolver<'_> {
         let bounds = self.bounds(&accum.name);
         let value = self.formula(&own, &accum.value)?;
         let bin = self.formula(&own, &accum.bin)?;
-        Ok(Stage::new(
-            accum.name,
-            self.rank(&accum.name),
-            *bounds.domain(),
-            Body::Accumulator(Accumulator::new(accum.fold, bounds.bins().unwrap(), value, bin)),
-        ))
+        let body = Accumulator::new(accum.fold, bounds.bins().unwrap(), value, bin);
+        Ok(self.stage(&accum.name, bounds, Body::Accumulator(body)))
     }
 
     fn add_planes(&self, stages: &mut Vec<Stage>, image: &Image) -> Result<(), AllocError>
