@@ -4,7 +4,7 @@
 ghost use Rattle.std.specs.Prelude.{◌≡◌};
 
 use pipe_bounds::BoundFault;
-use std::alloc::{AllocError, AllocFailed};
+use std::alloc::AllocError;
 use thiserror::Error;
 
 /// Why a program cannot be bound to a picture.
@@ -69,17 +69,6 @@ impl From<AllocError> for BindFault {
     ghost from_gives = { λ _ e. e ≡ Memory };
 
     fn from(_e: AllocError) -> BindFault {
-        BindFault::Memory
-    }
-}
-
-impl<T: Drop> From<AllocFailed<T>> for BindFault {
-    ghost use Rattle.std.specs.Prelude.{◌≡◌};
-    ghost use Rattle.binding.specs.declared.fault.BindFault.TheVariants.{Memory};
-
-    ghost from_gives = { λ _ e. e ≡ Memory };
-
-    fn from(_e: AllocFailed<T>) -> BindFault {
         BindFault::Memory
     }
 }

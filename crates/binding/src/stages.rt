@@ -5,8 +5,8 @@ ghost use Rattle.std.specs.Prelude.{◌≡◌, ◌<◌, ◌++◌, All, Some, IfO
 ghost use Rattle.std.specs.List.{flat_map};
 ghost use Rattle.std.specs.Option.{option_map, ForSome};
 ghost use Rattle.pipe_tree.specs.Tree.{function, accumulator, view, branch, branches, function_of, accumulator_of, declaration, declarations};
-ghost use Rattle.binding.specs.Binding.{stage_number, formula_of, case_of, plane_stage, function_stage, accumulator_stage, names_in, item_stages};
-ghost use Rattle.binding.specs.inside.Ranges.{IsRanged, IsRangedBranch, IsRangedItem, HasBounds, box_in, IsPlaneBounds, HavePlanes, IsBoundItem, AreReady};
+ghost use Rattle.binding.specs.Binding.{stage_number, rank_named, variables_of, formula_of, case_of, plane_stage, function_stage, accumulator_stage, names_in, item_stages};
+ghost use Rattle.binding.specs.inside.Ranges.{IsRanged, IsRangedBranch, HasBounds, box_in, IsPlaneBounds, HavePlanes, IsReady, AreReady};
 ghost use Rattle.job.specs.Views.{formula_view, case_view, stage_view};
 ghost use Rattle.binding.specs.inside.Resolving.{program_in, variables_in};
 
@@ -14,8 +14,18 @@ use crate::resolve::{Resolver, Variables};
 use job::{Accumulator, Body, Formula, Function, JobCase, Stage};
 use pipe_bounds::StageBounds;
 use pipe_tokens::Name;
-use pipe_tree::{Accum, Case, Expr, Func, Image, Item, Names, Test};
+use pipe_tree::{Accum, Case, Expr, Func, Image, Item, Names, Variable};
 use std::alloc::AllocError;
+
+// The names of these variables.
+fn variables_of(row: &Variable, column: &Variable) -> Variables
+    ensures { variables_in result ≡ variables_of row.now column.now }
+{
+    Variables {
+        row: row.name,
+        column: column.name,
+    }
+}
 
 impl Resolver<'_> {
     // What was found of the stage of this name.
@@ -75,56 +85,43 @@ impl Resolver<'_> {
         }
     }
 
+    // The stage of this name, of which this was found and this is computed.
+    fn stage(&self, name: &Name, bounds: &StageBounds, body: Body) -> Stage
+        ensures { result ≡ record { name = name.now; rank = rank_named (program_in self.now) name.now; domain = bounds.now.domain; body = body } }
+    {
+        Stage::new(*name, self.rank(name), *bounds.domain(), body)
+    }
+
     fn plane(&self, image: &Image, name: &Name) -> Result<Stage, AllocError>
         requires { HasBounds (program_in self.now) self.now.found.now name.now (IsPlaneBounds (program_in self.now) image.now) }
         ensures { IfOk result (λ s. stage_view s ≡ plane_stage (program_in self.now) image.now name.now) }
     {
-        Ok(Stage::new(
-            *name,
-            self.rank(name),
-            *self.bounds(name).domain(),
-            Body::Plane(self.plane_number(name)?),
-        ))
+        let plane = self.plane_number(name)?;
+        Ok(self.stage(name, self.bounds(name), Body::Plane(plane)))
     }
 
     fn function(&self, func: &Func) -> Result<Stage, AllocError>
-        requires ranged { IsRangedItem (function (function_of func.now)) }
-        requires bound { IsBoundItem (program_in self.now) self.now.found.now (function (function_of func.now)) }
+        requires { IsReady (program_in self.now) self.now.found.now (function (function_of func.now)) }
         ensures { IfOk result (λ s. stage_view s ≡ function_stage (program_in self.now) (function_of func.now)) }
     {
-        let own = Variables {
-            row: func.row.name,
-            column: func.column.name,
-        };
+        let own = variables_of(&func.row, &func.column);
         let bounds = self.bounds(&func.name);
         let job_cases = self.job_cases(&own, bounds, func.cases.list())?;
         let otherwise = self.otherwise(&own, &func.otherwise)?;
-        Ok(Stage::new(
-            func.name,
-            self.rank(&func.name),
-            *bounds.domain(),
-            Body::Function(Function::new(job_cases, otherwise)),
-        ))
+        let body = Body::Function(Function::new(job_cases, otherwise));
+        Ok(self.stage(&func.name, bounds, body))
     }
 
     fn accumulator(&self, accum: &Accum) -> Result<Stage, AllocError>
-        requires ranged { IsRangedItem (accumulator (accumulator_of accum.now)) }
-        requires bound { IsBoundItem (program_in self.now) self.now.found.now (accumulator (accumulator_of accum.now)) }
+        requires { IsReady (program_in self.now) self.now.found.now (accumulator (accumulator_of accum.now)) }
         ensures { IfOk result (λ s. stage_view s ≡ accumulator_stage (program_in self.now) (accumulator_of accum.now)) }
     {
-        let own = Variables {
-            row: accum.row.name,
-            column: accum.column.name,
-        };
+        let own = variables_of(&accum.row, &accum.column);
         let bounds = self.bounds(&accum.name);
         let value = self.formula(&own, &accum.value)?;
         let bin = self.formula(&own, &accum.bin)?;
-        Ok(Stage::new(
-            accum.name,
-            self.rank(&accum.name),
-            *bounds.domain(),
-            Body::Accumulator(Accumulator::new(accum.fold, bounds.bins().unwrap(), value, bin)),
-        ))
+        let body = Accumulator::new(accum.fold, bounds.bins().unwrap(), value, bin);
+        Ok(self.stage(&accum.name, bounds, Body::Accumulator(body)))
     }
 
     fn add_planes(&self, stages: &mut Vec<Stage>, image: &Image) -> Result<(), AllocError>
@@ -145,8 +142,7 @@ impl Resolver<'_> {
     }
 
     fn add_item(&self, stages: &mut Vec<Stage>, item: &Item) -> Result<(), AllocError>
-        requires ranged { IsRangedItem (declaration item.now) }
-        requires bound { IsBoundItem (program_in self.now) self.now.found.now (declaration item.now) }
+        requires { IsReady (program_in self.now) self.now.found.now (declaration item.now) }
         ensures { OnOk result (map stage_view stages.new.items ≡ map stage_view stages.old.items ++ item_stages (program_in self.now) (declaration item.now)) }
     {
         match item {

@@ -15,60 +15,36 @@ pub fn key(row: u32) -> Key {
     }
 }
 
-/// What every desk does.
-pub trait Calls {
-    fn claim(&mut self, now: u64, node: u8, key: Key, ttl: u64) -> Claim;
-
-    fn release(&mut self, now: u64, node: u8, key: &Key) -> Release;
-
-    fn holder(&mut self, now: u64, key: &Key) -> Option<u8>;
-}
-
-impl Calls for Desk {
-    fn claim(&mut self, now: u64, node: u8, key: Key, ttl: u64) -> Claim {
-        self.claim(now, node, key, ttl)
-    }
-
-    fn release(&mut self, now: u64, node: u8, key: &Key) -> Release {
-        self.release(now, node, key)
-    }
-
-    fn holder(&mut self, now: u64, key: &Key) -> Option<u8> {
-        self.holder(now, key)
-    }
-}
-
-impl Calls for DeskBook {
-    fn claim(&mut self, now: u64, node: u8, key: Key, ttl: u64) -> Claim {
-        self.claim(now, node, key, ttl)
-    }
-
-    fn release(&mut self, now: u64, node: u8, key: &Key) -> Release {
-        self.release(now, node, key)
-    }
-
-    fn holder(&mut self, now: u64, key: &Key) -> Option<u8> {
-        self.holder(now, key)
-    }
-}
-
-/// A desk that threads share, as one thread sees it.
+/// A desk, one with its history, or one that threads share, as one thread sees it.
 #[derive(Drop)]
-pub struct Shared<'a, R: Wait> {
-    pub rt: &'a R,
-    pub desk: LiveDesk,
+pub enum AnyDesk<'a, R: Wait> {
+    Alone(&'a mut Desk),
+    Book(&'a mut DeskBook),
+    Live(&'a R, LiveDesk),
 }
 
-impl<R: Wait> Calls for Shared<'_, R> {
-    fn claim(&mut self, now: u64, node: u8, key: Key, ttl: u64) -> Claim {
-        self.desk.claim(self.rt, now, node, key, ttl)
+impl<R: Wait> AnyDesk<'_, R> {
+    pub fn claim(&mut self, now: u64, node: u8, key: Key, ttl: u64) -> Claim {
+        match self {
+            AnyDesk::Alone(desk) => desk.claim(now, node, key, ttl),
+            AnyDesk::Book(book) => book.claim(now, node, key, ttl),
+            AnyDesk::Live(rt, desk) => desk.claim(*rt, now, node, key, ttl),
+        }
     }
 
-    fn release(&mut self, now: u64, node: u8, key: &Key) -> Release {
-        self.desk.release(self.rt, now, node, key)
+    pub fn release(&mut self, now: u64, node: u8, key: &Key) -> Release {
+        match self {
+            AnyDesk::Alone(desk) => desk.release(now, node, key),
+            AnyDesk::Book(book) => book.release(now, node, key),
+            AnyDesk::Live(rt, desk) => desk.release(*rt, now, node, key),
+        }
     }
 
-    fn holder(&mut self, now: u64, key: &Key) -> Option<u8> {
-        self.desk.holder(self.rt, now, key)
+    pub fn holder(&mut self, now: u64, key: &Key) -> Option<u8> {
+        match self {
+            AnyDesk::Alone(desk) => desk.holder(now, key),
+            AnyDesk::Book(book) => book.holder(now, key),
+            AnyDesk::Live(rt, desk) => desk.holder(*rt, now, key),
+        }
     }
 }

@@ -1,6 +1,6 @@
 //! What a book records.
 
-use crate::calls::key;
+use crate::calls::{AnyDesk, key};
 use crate::cases::{BY_THE_CLOCK, RELEASED_BY_HOLDER, a_hundred_keys, play};
 use leases::{DeskBook, Entry, Lease};
 
@@ -35,7 +35,7 @@ fn released(node: u8, time: u64) -> Entry {
 fn records_claims_by_the_clock(rt: HostRuntime) {
     let mut book = DeskBook::new(rt.alloc());
     assert!(rt; book.history().is_empty());
-    play(&rt, &mut book, &BY_THE_CLOCK);
+    play(&rt, AnyDesk::Book(&mut book), &BY_THE_CLOCK);
     let wanted = [
         granted(1, 5, 8),
         held(2, 7),
@@ -48,7 +48,7 @@ fn records_claims_by_the_clock(rt: HostRuntime) {
 #[test]
 fn records_releases_of_the_holder(rt: HostRuntime) {
     let mut book = DeskBook::new(rt.alloc());
-    play(&rt, &mut book, &RELEASED_BY_HOLDER);
+    play(&rt, AnyDesk::Book(&mut book), &RELEASED_BY_HOLDER);
     let wanted = [granted(1, 1, 6), released(1, 3), granted(2, 3, 8)];
     assert_eq!(rt; book.history(), wanted.as_slice());
 }
@@ -56,6 +56,6 @@ fn records_releases_of_the_holder(rt: HostRuntime) {
 #[test]
 fn records_each_of_a_hundred_keys(rt: HostRuntime) {
     let mut book = DeskBook::new(rt.alloc());
-    a_hundred_keys(&rt, &mut book);
+    a_hundred_keys(&rt, AnyDesk::Book(&mut book));
     assert_eq!(rt; book.history().len(), 200);
 }

@@ -3,7 +3,7 @@
 
 ghost use Rattle.std.specs.Prelude.{◌≡◌};
 
-use std::alloc::{AllocError, AllocFailed};
+use std::alloc::AllocError;
 use thiserror::Error;
 
 /// Why a parameter was not set.
@@ -114,17 +114,6 @@ impl From<AllocError> for BoundFault {
     ghost from_gives = { λ _ e. e ≡ Memory };
 
     fn from(_e: AllocError) -> BoundFault {
-        BoundFault::Memory
-    }
-}
-
-impl<T: Drop> From<AllocFailed<T>> for BoundFault {
-    ghost use Rattle.std.specs.Prelude.{◌≡◌};
-    ghost use Rattle.pipe_bounds.specs.declared.fault.BoundFault.TheVariants.{Memory};
-
-    ghost from_gives = { λ _ e. e ≡ Memory };
-
-    fn from(_e: AllocFailed<T>) -> BoundFault {
         BoundFault::Memory
     }
 }

@@ -66,7 +66,10 @@ pub(crate) fn bounds_of_stages(
     for (stage, declared) in stages.iter().enumerate() {
         let item = &items[declared.item];
         match place_of(params, item) {
-            Ok(place) => found.push(bounds_at(alloc, params, item, &place)?)?,
+            Ok(place) => {
+                let bounds = bounds_at(alloc, params, item, &place)?;
+                found.push(bounds).map_err(AllocError::from)?;
+            }
             Err(fault) => return Err(domain_fault(fault, stage)),
         }
     }
