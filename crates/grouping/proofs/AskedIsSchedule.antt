@@ -1,5 +1,5 @@
 -- What is asked for makes a schedule; so does nothing.
-use Rattle.std.proofs.Common.{ℕ, ◌+◌, ◌<◌, ◌≤◌, arith, ◌≡◌, ◌⊎◌, inl, inr, Bool, true, false, ◌&&◌, List, [], ◌∷◌, cond, filter, get_or, map, length, refl, ap, sym, subst, ◌∙◌}
+use Rattle.std.proofs.Common.{ℕ, ◌+◌, ◌<◌, ◌≤◌, arith, below_more, ◌≡◌, ◌⊎◌, inl, inr, Bool, true, false, ◌&&◌, List, [], ◌∷◌, cond, filter, get_or, map, length, refl, ap, sym, subst, ◌∙◌}
 use Rattle.std.proofs.lemmas.Bool.{false≢true, and_parts, cases_lt}
 use Rattle.std.proofs.Math.ListN as lists
 use Rattle.std.proofs.lemmas.List.{length-map, get_or_past}
@@ -8,10 +8,10 @@ use Rattle.job.specs.Pipeline.{Stage, Pipeline}
 use Rattle.grouping.specs.Schedules.{is_inlined, is_function, IsSchedule, inlining_for, all_stored}
 use Rattle.std.proofs.lemmas.List.Elements.{All-map}
 use Rattle.domains.specs.Tiles.{tile_area, tiles_of}
-use Rattle.job.specs.Answers.{grid_of}
+use Rattle.job.specs.Answers.{grid_of, is_output}
 use Rattle.grouping.specs.Targets.{Target, boxes}
 use Rattle.grouping.specs.Costs.{points_in, scratch, most_scratch}
-use Rattle.grouping.specs.Inlining.{StoresOutputs, AllFitScratch}
+use Rattle.grouping.specs.Inlining.{StoresOutputs, IsInlinedOutput, AllFitScratch}
 
 pub none_inlined : (stages : List Stage) (g : ℕ) → is_inlined (map (λ s. false) stages) g ≡ false
 none_inlined [] g = refl
@@ -26,21 +26,47 @@ stored_is job =
       inner = λ g inlined. absurd (false≢true (sym (none_inlined job.stages g) ∙ inlined));
     }
 
+-- what is inlined where these are asked for
+pub asked_at : (job : Pipeline) (asked : List Bool) (g : ℕ) → g < length job.stages
+    → is_inlined (inlining_for job asked) g ≡ (is_inlined asked g && is_function job g)
+asked_at job asked g below =
+    get_or-map-range_with_len (λ k. is_inlined asked k && is_function job k) 0 (length job.stages) g g false below
+    (let e : 0 + g ≡ g = omega arith in e)
+
+pub asked_past : (job : Pipeline) (asked : List Bool) (g : ℕ) → length job.stages ≤ g → is_inlined (inlining_for job asked) g ≡ false
+asked_past job asked g past =
+    get_or_past (inlining_for job asked) g false (subst (λ (n : ℕ). n ≤ g)
+    (sym (length-map-range_with_len (λ k. is_inlined asked k && is_function job k) 0 (length job.stages))) past)
+
 -- only functions are inlined
 functions_alone : (job : Pipeline) (asked : List Bool) (g : ℕ) → is_inlined (inlining_for job asked) g ≡ true → is_function job g ≡ true
 functions_alone job asked g inlined = by (cases_lt g (length job.stages))
   where
     by : (g < length job.stages) ⊎ (length job.stages ≤ g) → is_function job g ≡ true
-    by (inl below) =
-        let f : ℕ → Bool = λ k. is_inlined asked k && is_function job k in
-        let at : is_inlined (inlining_for job asked) g ≡ f g = get_or-map-range_with_len f 0 (length job.stages) g g false below
-        (let e : 0 + g ≡ g = omega arith in e) in
-        (and_parts (is_inlined asked g) (is_function job g) (sym at ∙ inlined)).1
-    by (inr past) =
-        let f : ℕ → Bool = λ k. is_inlined asked k && is_function job k in
-        let few : length (inlining_for job asked) ≤ g = subst (λ (n : ℕ). n ≤ g)
-        (sym (length-map-range_with_len f 0 (length job.stages))) past in
-        absurd (false≢true (sym (get_or_past (inlining_for job asked) g false few) ∙ inlined))
+    by (inl below) = (and_parts (is_inlined asked g) (is_function job g) (sym (asked_at job asked g below) ∙ inlined)).1
+    by (inr past) = absurd (false≢true (sym (asked_past job asked g past) ∙ inlined))
+
+-- ---- outputs that are asked for
+
+module _ (job : Pipeline) (asked : List Bool) where
+  -- none of the first n stages is one
+  abbrev pub NoneBelow : ℕ → Type 0
+  NoneBelow n = (k : ℕ) → k < n → is_inlined (inlining_for job asked) k ≡ true → is_output job k ≡ false
+
+  pub none_more : (n : ℕ) → n < length job.stages → NoneBelow n
+      → ((is_inlined asked n && is_function job n) ≡ true → is_output job n ≡ false) → NoneBelow (n + 1)
+  none_more n below none here = below_more _ _ none (λ inlined. here (sym (asked_at job asked n below) ∙ inlined))
+
+  pub first_is : (n : ℕ) → n < length job.stages → NoneBelow n → (is_inlined asked n && is_function job n) ≡ true
+      → is_output job n ≡ true → IsInlinedOutput job (inlining_for job asked) n
+  first_is n below none inlined output =
+      record { inlined = asked_at job asked n below ∙ inlined; output = output; least = none }
+
+  pub none_at_all : (n : ℕ) → length job.stages ≤ n → NoneBelow n → StoresOutputs job (inlining_for job asked)
+  none_at_all n past none g inlined = elim (cases_lt g n) [
+    | inl below ↦ none g below inlined
+    | inr more ↦ absurd (false≢true (sym (asked_past job asked g (omega arith)) ∙ inlined))
+  ]
 
 pub asked_is : (job : Pipeline) (asked : List Bool) → StoresOutputs job (inlining_for job asked) → IsSchedule job (inlining_for job asked)
 asked_is job asked inner =

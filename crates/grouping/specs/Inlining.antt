@@ -42,7 +42,7 @@ pub record IsInlinedOutput (job : Pipeline) (inlining : List Bool) (g : ℕ) : T
   pub output : is_output job g ≡ true
   pub least : (k : ℕ) → k < g → is_inlined inlining k ≡ true → is_output job k ≡ false
 
--- why what is asked for makes no schedule
+-- why what is asked for makes no schedule. Memory is refused only where no output is asked for
 abbrev pub IsScheduleFault : Pipeline → List Bool → ScheduleFault → Type 0
 IsScheduleFault job asked (OutputInlined g) = IsInlinedOutput job (inlining_for job asked) g
-IsScheduleFault job asked Memory = Unit {0}
+IsScheduleFault job asked Memory = StoresOutputs job (inlining_for job asked)

@@ -5,7 +5,8 @@ ghost use Rattle.std.specs.Prelude.{◌≡◌, ◌&&◌, ◌==◌, false, slice_
 ghost use Rattle.std.specs.List.{list_any};
 ghost use Rattle.job.specs.Kept.{pipeline_in};
 ghost use Rattle.job.specs.Answers.{is_output};
-ghost use Rattle.grouping.specs.Schedules.{is_inlined, is_function};
+ghost use Rattle.grouping.specs.Inlining.{StoresOutputs, IsInlinedOutput};
+ghost use Rattle.grouping.specs.Schedules.{is_inlined, is_function, inlining_for};
 
 use job::{Job, StageKind};
 use std::alloc::{AllocError, Global};
@@ -28,7 +29,6 @@ impl Model for InlinedStages {
 impl InlinedStages {
     ghost use Rattle.job.specs.Kept.{pipeline_in};
     ghost use Rattle.grouping.specs.Schedules.{is_inlined, inlining_for, all_stored};
-    ghost use Rattle.grouping.specs.Inlining.{StoresOutputs, IsInlinedOutput};
 
     /// Each stage is stored.
     pub(crate) fn all_stored(alloc: Global, job: &Job) -> Result<InlinedStages, AllocError>
@@ -69,19 +69,19 @@ impl InlinedStages {
             self.inlining[stage] = is_inlined;
         }
     }
+}
 
-    /// The least output that is inlined.
-    pub(crate) fn first_output(&self, job: &Job) -> Option<usize>
-        ensures some { IfSome result (IsInlinedOutput (pipeline_in job.now) self.now) }
-        ensures none { IfNone result (StoresOutputs (pipeline_in job.now) self.now) }
-    {
-        for number in 0..self.inlining.len() {
-            if self.inlined(number) && is_output(job, number) {
-                return Some(number);
-            }
+/// The least output that is asked for. No memory is taken.
+pub(crate) fn first_output_asked(job: &Job, asked: &[bool]) -> Option<usize>
+    ensures some { IfSome result (IsInlinedOutput (pipeline_in job.now) (inlining_for (pipeline_in job.now) asked.now)) }
+    ensures none { IfNone result (StoresOutputs (pipeline_in job.now) (inlining_for (pipeline_in job.now) asked.now)) }
+{
+    for number in 0..job.stages().len() {
+        if is_asked(job, asked, number) && is_output(job, number) {
+            return Some(number);
         }
-        None
     }
+    None
 }
 
 fn is_among_inlined(inlining: &[bool], number: usize) -> bool

@@ -6,7 +6,7 @@ ghost use Rattle.std.specs.Prelude.{◌≡◌, ◌≤◌, None, IfOk, IfErr, len
 use crate::costs::costs_of;
 use crate::fault::ScheduleFault;
 use crate::greedy::greedy_inlining;
-use crate::inlining::InlinedStages;
+use crate::inlining::{InlinedStages, first_output_asked};
 use crate::order::in_order;
 use crate::target::TargetWalk;
 use domains::Area;
@@ -37,7 +37,7 @@ impl Schedule {
     ghost use Rattle.grouping.specs.Targets.{IsTarget, target_over, boxes};
     ghost use Rattle.grouping.specs.Costs.{scratch};
     ghost use Rattle.grouping.specs.Greedy.{greedy_inlining};
-    ghost use Rattle.grouping.specs.Inlining.{IsScheduleOf, IsScheduleFault, AllFitScratch};
+    ghost use Rattle.grouping.specs.Inlining.{IsScheduleOf, IsScheduleFault, AllFitScratch, StoresOutputs};
 
     /// The schedule that inlines nothing.
     ///
@@ -59,19 +59,29 @@ impl Schedule {
     ///
     /// # Errors
     ///
-    /// Names the least output that is asked for. Else fails only where memory is refused, or where a cost has more than 64
-    /// bits; no program of 64 stages has such a cost.
+    /// Names the least output that is asked for, also where no memory is left. Else fails only where memory is refused, or
+    /// where a cost has more than 64 bits; no program of 64 stages has such a cost.
     pub fn of(alloc: Global, job: &Job, inlining: &[bool]) -> Result<Schedule, ScheduleFault>
         requires each { length inlining.now ≡ length (pipeline_in job.now).stages }
         ensures inlining { IfOk result (λ s. s.inlining ≡ inlining_for (pipeline_in job.now) inlining.now) }
         ensures schedule { IfOk result (IsScheduleOf (pipeline_in job.now)) }
         ensures fault { IfErr result (IsScheduleFault (pipeline_in job.now) inlining.now) }
     {
-        let asked = InlinedStages::asked(alloc, job, inlining)?;
-        match asked.first_output(job) {
+        match first_output_asked(job, inlining) {
             Some(stage) => Err(ScheduleFault::OutputInlined(stage)),
-            None => Ok(Schedule::with_costs(alloc, job, asked)?),
+            None => Ok(Schedule::asked(alloc, job, inlining)?),
         }
+    }
+
+    // The schedule that inlines the functions that are asked for, none of which is an output.
+    fn asked(alloc: Global, job: &Job, asked: &[bool]) -> Result<Schedule, AllocError>
+        requires outputs { StoresOutputs (pipeline_in job.now) (inlining_for (pipeline_in job.now) asked.now) }
+        ensures inlining { IfOk result (λ s. s.inlining ≡ inlining_for (pipeline_in job.now) asked.now) }
+        ensures schedule { IfOk result (IsScheduleOf (pipeline_in job.now)) }
+    {
+        let inlining = InlinedStages::asked(alloc, job, asked)?;
+        let schedule = Schedule::with_costs(alloc, job, inlining)?;
+        Ok(schedule)
     }
 
     /// The greedy schedule. Functions are visited from the last to the first in dependence order. One that is read, and is no

@@ -4,6 +4,7 @@
 use crate::wanted::{holds, tells};
 use domains::arithmetic::add_widened;
 use domains::{Area, Grid, Span, TileSides};
+use std::alloc::Global;
 use std::test::Fail;
 
 fn area(rows: (i32, i32), cols: (i32, i32)) -> Option<Area> {
@@ -47,6 +48,23 @@ fn tiles_from_a_negative_origin() -> Result<(), Fail> {
     let domain = area((-5, 2), (-1, 3)).ok_or("no area")?;
     let grid = grid(domain, 3, 2)?;
     holds(has_tiles(&grid), "tiles from a negative origin")
+}
+
+fn covers(alloc: Global, last: (i32, i32), count: usize) -> Result<(), Fail> {
+    let domain = area((0, last.0), (0, last.1)).ok_or("no area")?;
+    let tiles = grid(domain, 1, 1)?.cover(alloc, &domain)?;
+    holds(Some(tiles.len() == count), "a cover of so many tiles")
+}
+
+// A cover has no limit of its own, neither of rows of tiles nor of columns.
+#[test]
+fn covers_of_many_rows_and_of_many_columns(rt: HostRuntime) -> Result<(), Fail> {
+    let alloc = rt.alloc();
+    covers(alloc, (64, 1), 130)?;
+    covers(alloc, (999, 2), 3000)?;
+    covers(alloc, (4095, 0), 4096)?;
+    covers(alloc, (0, 4095), 4096)?;
+    covers(alloc, (299, 217), 65400)
 }
 
 #[test]

@@ -46,7 +46,7 @@ tile_less m n h = elim h [
       ])
 ]
 
-key_before : (program : List ℕ) (job : Pipeline) (m n : Tile) → IsTileBefore m n → IsKeyBefore (key_of program job m) (key_of program job n)
+pub key_before : (program : List ℕ) (job : Pipeline) (m n : Tile) → IsTileBefore m n → IsKeyBefore (key_of program job m) (key_of program job n)
 unfolding tile_cmp
 key_before program job m n h =
     ap (λ (o : Ordering). ordering_then o (ordering_then (slice_cmp nat_cmp (input_id job) (input_id job)) (tile_cmp m n)))

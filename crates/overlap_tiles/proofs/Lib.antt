@@ -9,3 +9,6 @@ pub mod MadeIsLayout
 pub mod BoxesAreLower
 pub mod StepsRise
 pub mod StepsHaveWhatTheyRead
+pub mod WorkKeys
+pub mod RoomIsExact
+pub mod WorkIsExact

@@ -3,6 +3,7 @@ pub mod Views
 pub mod Lives
 pub mod Ranges
 pub mod Plans
+pub mod Work
 pub mod Available
 pub mod Faults
 pub mod inside

@@ -1,2 +1,3 @@
 -- What inner contracts and proofs cite, and no public one.
 pub mod Made
+pub mod Keyed

@@ -1,6 +1,6 @@
 //! What the definitions amount to, proved once for the crates above. A law is a function that does nothing: its clauses are the law.
 
-ghost use Rattle.std.specs.Prelude.{◌≡◌, ◌↔◌, ◌<◌, ◌≤◌, ℕ, Some, slice_get, List, AllPairs, Contains};
+ghost use Rattle.std.specs.Prelude.{◌≡◌, ◌↔◌, ◌<◌, ◌≤◌, ℕ, Some, slice_get, List, Bool, true, AllPairs, Contains};
 ghost use Rattle.domains.specs.Area.{IsArea, IsSubarea};
 ghost use Rattle.domains.specs.declared.area.Area.{Area};
 ghost use Rattle.job.specs.Pipeline.{Stage, Pipeline};
@@ -9,6 +9,9 @@ ghost use Rattle.job.specs.WellFormed.{IsJob};
 ghost use Rattle.grouping.specs.Costs.{steps};
 ghost use Rattle.grouping.specs.Targets.{Target, IsTarget};
 ghost use Rattle.overlap_tiles.specs.Needs.{needs, needed_keys, IsNeeded, IsTileBefore, IsKeyBefore};
+ghost use Rattle.overlap_tiles.specs.Work.{work_tiles, lacks_room, IsWork, IsWorkedBefore};
+ghost use Rattle.overlap_tiles.specs.Plans.{IsPlanFault};
+ghost use Rattle.overlap_tiles.specs.declared.fault.PlanFault.TheVariants.{ScratchTooBig};
 ghost use Rattle.overlap_tiles.specs.Lives.{IsReadAt, LivesMeet};
 ghost use Rattle.overlap_tiles.specs.Available.{ReadsAvailable};
 
@@ -34,4 +37,18 @@ pub fn steps_lie_in_domains()
 /// those between lie elsewhere.
 pub fn lives_last_to_the_reader()
     ensures { (job : Pipeline) (steps : List (ℕ × Area)) (k l m : ℕ) → k < l → l ≤ m → IsReadAt job steps k m → LivesMeet job steps k l }
+{}
+
+/// The list of all work tiles has exactly the tiles of stored functions and of accumulators, each once, in dependence order of
+/// their stages, then of rows, then of columns.
+pub fn work_is_exact()
+    ensures all { (job : Pipeline) (inlining : List Bool) (t : Tile)
+        → Contains (work_tiles job inlining) t ↔ IsWork job inlining t }
+    ensures order { (job : Pipeline) (inlining : List Bool) → AllPairs (IsWorkedBefore job) (work_tiles job inlining) }
+{}
+
+/// The tiles that lack room are those whose plan is refused for that.
+pub fn room_is_exact()
+    ensures { (job : Pipeline) (inlining : List Bool) (t : Tile)
+        → (lacks_room job inlining t ≡ true) ↔ IsPlanFault job inlining t.stage t.row t.col ScratchTooBig }
 {}

@@ -9,10 +9,14 @@ mod layout;
 mod needs;
 mod plan;
 mod ranges;
+mod room;
 mod steps;
+mod work;
 
 pub use fault::PlanFault;
 pub use layout::Layout;
 pub use needs::Need;
 pub use plan::TilePlan;
+pub use room::{first_without_room, lacks_room};
 pub use steps::Step;
+pub use work::{wanted_keys, work_keys};

@@ -1,0 +1,12 @@
+use Rattle.std.proofs.Common.{subst, sym}
+use Rattle.job.specs.Kept.{pipeline_in}
+use Rattle.grouping.specs.Schedules.{IsSchedule}
+use Rattle.grouping.proofs.AskedIsSchedule.{asked_is}
+use Rattle.grouping.proofs.schedule.Schedule.asked.Goals as goal
+
+pub with_costs-requires : goal.with_costs-requires
+with_costs-requires c =
+    record {
+      schedule = subst (IsSchedule (pipeline_in c.args.job.now)) (sym c.in_ok-inlining.ensures)
+          (asked_is (pipeline_in c.args.job.now) c.args.asked.now c.requires.outputs);
+    }

@@ -1,0 +1,185 @@
+#![tactic(auto)]
+//! The tiles that are made of a job by a schedule, and those from which its answer is put together, by their keys.
+
+ghost use Rattle.std.specs.Prelude.{◌≡◌, ◌==◌, ◌++◌, map, filter, length, AllPairs, IfOk, OnOk};
+ghost use Rattle.std.specs.List.{flat_map, list_any, range_with_len};
+ghost use Rattle.domains.specs.Tiles.{tiles_of};
+ghost use Rattle.job.specs.Answers.{tiles, is_output, is_result};
+ghost use Rattle.job.specs.Kept.{pipeline_in, program_id_in};
+ghost use Rattle.grouping.specs.Order.{in_order};
+ghost use Rattle.overlap_tiles.specs.Needs.{key_of, IsKeyBefore};
+ghost use Rattle.overlap_tiles.specs.Work.{is_accumulator_at, is_made, work_keys, wanted_keys};
+ghost use Rattle.overlap_tiles.specs.inside.Keyed.{key_at, row_keys, Names};
+
+use domains::Grid;
+use grouping::{Schedule, in_order};
+use identity::Key;
+use job::{Job, StageKind};
+use std::alloc::{AllocError, Global};
+
+/// The keys of all tiles of the stored functions and of the accumulators: stage by stage in dependence order, and row by row.
+/// What the program is given is hashed at most once.
+///
+/// # Errors
+///
+/// Fails only where memory is refused.
+pub fn work_keys(alloc: Global, job: &Job, schedule: &Schedule) -> Result<Vec<Key>, AllocError>
+    ensures { IfOk result (λ keys. keys.items ≡ work_keys (program_id_in job.now) (pipeline_in job.now) schedule.now.inlining) }
+{
+    let stages = made_stages(alloc, job, schedule)?;
+    keys_of_stages(alloc, job, &stages)
+}
+
+/// The keys of the tiles from which the answer of a job is put together, which are those of its outputs and accumulators. They
+/// rise. What the program is given is hashed at most once.
+///
+/// # Errors
+///
+/// Fails only where memory is refused.
+pub fn wanted_keys(alloc: Global, job: &Job) -> Result<Vec<Key>, AllocError>
+    ensures list { IfOk result (λ keys. keys.items ≡ wanted_keys (program_id_in job.now) (pipeline_in job.now)) }
+    ensures rising { IfOk result (λ keys. AllPairs IsKeyBefore keys.items) }
+{
+    let stages = result_stages(alloc, job)?;
+    let keys = keys_of_stages(alloc, job, &stages)?;
+    Ok(keys)
+}
+
+// Whether the tiles of a stage are made.
+fn is_made(job: &Job, schedule: &Schedule, stage: usize) -> bool
+    ensures { result ≡ is_made (pipeline_in job.now) schedule.now.inlining stage }
+{
+    match job.kind(stage) {
+        Some(StageKind::Function) => !schedule.inlined(stage),
+        Some(StageKind::Accumulator) => true,
+        Some(StageKind::Plane) | None => false,
+    }
+}
+
+// The stages whose tiles are made, in dependence order.
+fn made_stages(alloc: Global, job: &Job, schedule: &Schedule) -> Result<Vec<usize>, AllocError>
+    ensures { IfOk result (λ made. made.items
+        ≡ filter (is_made (pipeline_in job.now) schedule.now.inlining) (in_order (pipeline_in job.now).stages)) }
+{
+    let mut made = Vec::new(alloc);
+    let order = in_order(alloc, job.stages())?;
+    for stage in order.iter() {
+        if is_made(job, schedule, *stage) {
+            made.push(*stage)?;
+        }
+    }
+    Ok(made)
+}
+
+// Whether the tiles of a stage belong to the answer.
+fn is_result(job: &Job, stage: usize) -> bool
+    ensures { result ≡ is_result (pipeline_in job.now) stage }
+{
+    is_output(job, stage) || is_accumulator(job, stage)
+}
+
+fn is_output(job: &Job, stage: usize) -> bool
+    ensures { result ≡ is_output (pipeline_in job.now) stage }
+{
+    match job.output() {
+        Some(output) => is_among(output.stages(), stage),
+        None => false,
+    }
+}
+
+fn is_among(stages: &[usize], stage: usize) -> bool
+    ensures { result ≡ list_any (λ n. n == stage) stages.now }
+{
+    stages.iter().any(|other| *other == stage)
+}
+
+fn is_accumulator(job: &Job, stage: usize) -> bool
+    ensures { result ≡ is_accumulator_at (pipeline_in job.now) stage }
+{
+    match job.kind(stage) {
+        Some(StageKind::Accumulator) => true,
+        Some(StageKind::Plane | StageKind::Function) | None => false,
+    }
+}
+
+// The stages whose tiles belong to the answer, rising.
+#[tactic(auto, using(grouping::proofs::Lists::passes_more, grouping::proofs::Lists::fails_more))]
+fn result_stages(alloc: Global, job: &Job) -> Result<Vec<usize>, AllocError>
+    ensures { IfOk result (λ results. results.items
+        ≡ filter (is_result (pipeline_in job.now)) (range_with_len 0 (length (pipeline_in job.now).stages))) }
+{
+    let mut results = Vec::new(alloc);
+    for stage in 0..job.stages().len() {
+        if is_result(job, stage) {
+            results.push(stage)?;
+        }
+    }
+    Ok(results)
+}
+
+// The keys of the tiles of these stages, stage by stage and row by row.
+fn keys_of_stages(alloc: Global, job: &Job, stages: &[usize]) -> Result<Vec<Key>, AllocError>
+    ensures { IfOk result (λ keys. keys.items
+        ≡ map (key_of (program_id_in job.now) (pipeline_in job.now)) (flat_map (tiles (pipeline_in job.now)) stages.now)) }
+{
+    let mut keys = Vec::new(alloc);
+    let named = Key {
+        program: job.program_id(),
+        input: job.input_id(),
+        stage: 0,
+        row: 0,
+        col: 0,
+    };
+    for stage in stages {
+        add_stage(&mut keys, job, &named, *stage)?;
+    }
+    Ok(keys)
+}
+
+// Adds the keys of the tiles of a stage. The key that is passed names the program and what it is given.
+fn add_stage(keys: &mut Vec<Key>, job: &Job, named: &Key, stage: usize) -> Result<(), AllocError>
+    requires { Names (program_id_in job.now) (pipeline_in job.now) named.now }
+    ensures { OnOk result (keys.new.items
+        ≡ keys.old.items ++ map (key_of (program_id_in job.now) (pipeline_in job.now)) (tiles (pipeline_in job.now) stage)) }
+{
+    if let Some(grid) = job.grid(stage) {
+        let first = Key {
+            program: named.program,
+            input: named.input,
+            stage: stage as u16,
+            row: 0,
+            col: 0,
+        };
+        add_tiles(keys, &first, &grid)?;
+    }
+    Ok(())
+}
+
+// Adds the keys of the tiles of a grid, row by row.
+#[tactic(auto, using(grouping::proofs::Lists::flat_map_range_more))]
+fn add_tiles(keys: &mut Vec<Key>, first: &Key, grid: &Grid) -> Result<(), AllocError>
+    ensures { OnOk result (keys.new.items ≡ keys.old.items ++ map (key_at first.now) (tiles_of grid.now)) }
+{
+    let cols = grid.tile_cols();
+    for row in 0..grid.tile_rows() {
+        add_row(keys, first, row, cols)?;
+    }
+    Ok(())
+}
+
+// Adds the keys of the first tiles of a row.
+#[tactic(auto, using(grouping::proofs::Lists::map_range_more))]
+fn add_row(keys: &mut Vec<Key>, first: &Key, row: u32, cols: u32) -> Result<(), AllocError>
+    ensures { OnOk result (keys.new.items ≡ keys.old.items ++ row_keys first.now cols row) }
+{
+    for col in 0..cols {
+        keys.push(Key {
+            program: first.program,
+            input: first.input,
+            stage: first.stage,
+            row,
+            col,
+        })?;
+    }
+    Ok(())
+}
