@@ -16,10 +16,12 @@ use Rattle.pipe_checks.specs.Links.{Links}
 use Rattle.pipe_checks.specs.Names.{declared_names}
 use Rattle.pipe_checks.specs.Accesses.{graph_of}
 use Rattle.pipe_checks.specs.Graph.{IsShortestFrom, IsShortestCycle}
-use Rattle.pipe_checks.specs.Uses.{Verdict}
-use Rattle.pipe_checks.specs.Checking.{NoneTwice, IsFirstTwice, verdict_of, IsFirstWrong, is_result, IsNamed, IsFault, IsCheckedOf}
+use Rattle.pipe_checks.specs.Uses.{places_of, IsFirstUnserved}
+use Rattle.pipe_checks.specs.Twice.{locals_of}
+use Rattle.pipe_checks.specs.Checking.{NoneTwice, IsFirstTwice, IsFirstWrong, is_result, IsNamed, IsFault, IsCheckedOf}
 use Rattle.pipe_checks.specs.declared.checked.Checked.{Checked}
 use Rattle.pipe_checks.specs.inside.Search.{fault_of}
+use Rattle.pipe_checks.proofs.Judging.{served_or_not, one_unserved}
 use Rattle.pipe_checks.proofs.Rising.{no_ranked_cycle}
 
 -- ---- each fault by itself
@@ -51,15 +53,12 @@ same_twice names ds m n h k = by_order (cases_lt m n) (cases_lt n m)
     by_order (inr l) (inl p) = absurd (h.first n k.item p k.there k.twice)
     by_order (inr l) (inr p) = omega arith
 
-ok_or_err : (v : Verdict) (w : Violation) → v ≡ Ok tt → v ≡ Err w → ⊥
-ok_or_err v w a b = cc
-
 same_wrong : (names : List Symbol) (ds : List Declaration) (v w : Violation) (m n : ℕ) → IsFirstWrong names ds v m → IsFirstWrong names ds w n → (m ≡ n) × (v ≡ w)
 same_wrong names ds v w m n h k = by_order (cases_lt m n) (cases_lt n m)
   where
     by_order : (m < n) ⊎ (n ≤ m) → (n < m) ⊎ (m ≤ n) → (m ≡ n) × (v ≡ w)
-    by_order (inl l) q = absurd (ok_or_err (verdict_of names h.item) v (k.first m h.item l h.there) h.is)
-    by_order (inr l) (inl p) = absurd (ok_or_err (verdict_of names k.item) w (h.first n k.item p k.there) k.is)
+    by_order (inl l) q = absurd (served_or_not names (locals_of h.item) (places_of h.item) v (k.first m h.item l h.there) h.is)
+    by_order (inr l) (inl p) = absurd (served_or_not names (locals_of k.item) (places_of k.item) w (h.first n k.item p k.there) k.is)
     by_order (inr l) (inr p) = (same, both)
       where
         same : m ≡ n
@@ -70,8 +69,8 @@ same_wrong names ds v w m n h k = by_order (cases_lt m n) (cases_lt n m)
 
         both : v ≡ w
         both =
-            let e : Err v ≡ Err w = sym h.is ∙ ap (verdict_of names) item ∙ k.is in
-            cc
+            let mine = subst (λ d. IsFirstUnserved names (locals_of d) (places_of d) v) item h.is in
+            one_unserved names (locals_of k.item) (places_of k.item) v w mine k.is
 
 -- ---- which of them it is
 
@@ -95,7 +94,7 @@ not_twice : (ds : List Declaration) (n : ℕ) → NoneTwice (declared_names ds) 
 not_twice ds n none h = none n h.item h.there h.twice
 
 not_wrong : (ds : List Declaration) (w : Violation) (n : ℕ) → IsNamed ds → IsFirstWrong (declared_names ds) ds w n → ⊥
-not_wrong ds w n named h = ok_or_err (verdict_of (declared_names ds) h.item) w (named.good n h.item h.there) h.is
+not_wrong ds w n named h = served_or_not (declared_names ds) (locals_of h.item) (places_of h.item) w (named.good n h.item h.there) h.is
 
 same_told : (ds : List Declaration) (a b : CheckFault) → Told ds a → Told ds b → a ≡ b
 same_told ds a b (TwiceTold n h e) (TwiceTold m k f) = e ∙ ap Twice (same_twice (declared_names ds) ds n m h k) ∙ sym f

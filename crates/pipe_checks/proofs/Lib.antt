@@ -8,3 +8,4 @@ pub mod Faulting
 pub mod Accepted
 pub mod Rising
 pub mod CheckFaultsAreDetermined
+pub mod Judging

@@ -1,5 +1,5 @@
 -- Places in lists.
-use Rattle.std.proofs.Common.{ℕ, ◌+◌, ◌<◌, ◌≤◌, ◌≡◌, Bool, List, ◌∷◌, Some, Ok, Err, ◌||◌, refl, length, drop, get_or, slice_get, position, sym, ◌∙◌, ap, subst, arith, nat_lt}
+use Rattle.std.proofs.Common.{ℕ, ◌+◌, ◌<◌, ◌≤◌, ◌≡◌, Bool, List, ◌∷◌, Some, ◌||◌, refl, length, drop, get_or, slice_get, position, sym, ◌∙◌, ap, subst, arith, nat_lt}
 use Rattle.std.specs.List.{position_or_len, list_any}
 use Rattle.std.specs.Option.{option_map}
 use Rattle.std.proofs.lemmas.List.{length-map}
@@ -8,8 +8,6 @@ use Rattle.pipe_tree.specs.declared.tree.Item.{Item}
 use Rattle.pipe_tree.specs.Tree.{Declaration, declaration, declarations}
 use Rattle.pipe_checks.specs.declared.symbol.Symbol.{Symbol}
 use Rattle.pipe_checks.specs.Checking.{IsTwice, IsFirstTwice}
-use Rattle.pipe_checks.specs.declared.fault.Violation.{Violation}
-use Rattle.pipe_checks.specs.Uses.{Verdict, and_then}
 use Rattle.domains.proofs.Places.{next_of}
 use borrow.Author.Tests.{ltb-true}
 
@@ -29,16 +27,6 @@ declaration_at items i x h e =
 
 pub declarations_end : (items : List Item) (i : ℕ) → length items ≤ i → length (declarations items) ≤ i
 declarations_end items i h = omega (arith, h, length-map items declaration)
-
--- ---- a loop over verdicts
-
-pub turn_fails : {X : Type 0} (F : List X → Verdict) (g : X → Verdict) (xs : List X) (i : ℕ) (x : X) (e : Violation) → ((y : X) (ys : List X) → F (y ∷ ys) ≡ and_then (g y) (F ys)) → i < length xs → x ≡ get_or xs i x → F (drop i xs) ≡ F xs → g x ≡ Err e → F xs ≡ Err e
-turn_fails F g xs i x e step h is inv fails =
-    sym inv ∙ ap F (next_of xs i x h is) ∙ step x (drop (i + 1) xs) ∙ ap (λ v. and_then v (F (drop (i + 1) xs))) fails
-
-pub ok_of : (v : Verdict) → ((e : Violation) → v ≡ Err e → ⊥) → v ≡ Ok tt
-ok_of (Ok u) h = refl
-ok_of (Err e) h = absurd (h e refl)
 
 -- item i is the first with a name that stands for two things
 pub first_twice_is : (names : List Symbol) (items : List Item) (i : ℕ) (x : Item) → i < length items → x ≡ get_or items i x → IsTwice names i (declaration x) → ((k : ℕ) (d : Declaration) → k < i → slice_get (declarations items) k ≡ Some d → IsTwice names k d → ⊥) → IsFirstTwice names (declarations items) i

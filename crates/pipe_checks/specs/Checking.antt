@@ -1,5 +1,5 @@
 -- What `check` finds in a program.
-use Rattle.std.specs.Prelude.{ℕ, ◌<◌, ◌≡◌, ◌⊎◌, Bool, true, false, IsTrue, Option, Some, None, is_some, Ok, Err, List, take, slice_get}
+use Rattle.std.specs.Prelude.{ℕ, ◌<◌, ◌≡◌, ◌⊎◌, Bool, true, false, IsTrue, Option, Some, None, is_some, List, take, slice_get}
 use Rattle.std.specs.List.{list_any}
 use Rattle.pipe_tree.specs.declared.tree.Tree.{Tree}
 use Rattle.pipe_tree.specs.Tree.{Declaration, param, image, function, accumulator, output}
@@ -15,7 +15,7 @@ use Rattle.pipe_checks.specs.Graph.{IsRanking, IsShortestCycle}
 use Rattle.pipe_checks.specs.Names.{declared_names, params_of, stages_of, number_of}
 use Rattle.pipe_checks.specs.Accesses.{graph_of}
 use Rattle.pipe_checks.specs.Twice.{locals_of, varies_again}
-use Rattle.pipe_checks.specs.Uses.{Verdict, item_verdict}
+use Rattle.pipe_checks.specs.Uses.{places_of, are_served, IsFirstUnserved}
 
 -- ---- names that stand for two things
 
@@ -40,20 +40,21 @@ pub record IsFirstTwice (names : List Symbol) (ds : List Declaration) (n : ℕ) 
   pub twice : IsTwice names n item
   pub first : (k : ℕ) (d : Declaration) → k < n → slice_get ds k ≡ Some d → ¬ (IsTwice names k d)
 
--- ---- places that do not hold what they want
+-- ---- places that do not get what they want
 
-abbrev pub verdict_of : List Symbol → Declaration → Verdict
-verdict_of names d = item_verdict names (locals_of d) d
+-- each place of the item gets what it wants
+abbrev pub is_good : List Symbol → Declaration → Bool
+is_good names d = are_served names (locals_of d) (places_of d)
 
 abbrev pub AllGood : List Symbol → List Declaration → Type 0
-AllGood names ds = (k : ℕ) (d : Declaration) → slice_get ds k ≡ Some d → verdict_of names d ≡ Ok tt
+AllGood names ds = (k : ℕ) (d : Declaration) → slice_get ds k ≡ Some d → is_good names d ≡ true
 
--- item n is the first with a wrong place, and this is wrong at its first
+-- item n is the first with a place that is not served, and this is wrong at its first
 pub record IsFirstWrong (names : List Symbol) (ds : List Declaration) (wrong : Violation) (n : ℕ) : Type 0 where
   pub item : Declaration
   pub there : slice_get ds n ≡ Some item
-  pub is : verdict_of names item ≡ Err wrong
-  pub first : (k : ℕ) (d : Declaration) → k < n → slice_get ds k ≡ Some d → verdict_of names d ≡ Ok tt
+  pub is : IsFirstUnserved names (locals_of item) (places_of item) wrong
+  pub first : (k : ℕ) (d : Declaration) → k < n → slice_get ds k ≡ Some d → is_good names d ≡ true
 
 -- ---- the whole
 

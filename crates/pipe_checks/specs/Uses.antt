@@ -1,6 +1,5 @@
--- What the places of an item want, in the order of the text. A verdict is Ok, or what is wrong at the first place that does
--- not hold what it wants.
-use Rattle.std.specs.Prelude.{ℕ, ◌%◌, ℤ, pos, negsuc, int_le, Bool, true, false, ◌&&◌, ◌==◌, nat_le, nat_lt, if◌then◌else◌, Option, Some, None, Result, Ok, Err, List, [], ◌∷◌, length}
+-- The places of an item in the order of the text, each with what it wants, and what is wrong where a place does not get it.
+use Rattle.std.specs.Prelude.{ℕ, ◌%◌, ◌≡◌, ℤ, pos, negsuc, int_le, Bool, true, false, ◌&&◌, ◌==◌, nat_le, nat_lt, if◌then◌else◌, Option, Some, None, is_none, List, [], ◌∷◌, ◌++◌, length}
 use Rattle.std.specs.List.{list_all}
 use Rattle.std.specs.Str.{bytes_eq}
 use Rattle.pipe_tree.specs.declared.tree.Term.{Term}
@@ -26,13 +25,108 @@ use Rattle.pipe_checks.specs.declared.uses.Locals.{Locals}
 use Rattle.pipe_checks.specs.Names.{declared_at}
 use Rattle.pipe_checks.specs.Accesses.{width_of}
 
-abbrev pub Verdict : Type 0
-Verdict = Result (Unit {0}) Violation
+-- ---- places
 
--- one place and then the others: the first that is wrong decides
-abbrev pub and_then : Verdict → Verdict → Verdict
-and_then (Ok u) v = v
-and_then (Err e) v = Err e
+-- a place of an item, and what it wants
+pub data Place : Type 0 where
+  -- a name of one of these roles
+  name : (x : List ℕ) (roles : Expected) → Place
+  -- a number in this range
+  ranged : (n least most : ℕ) → Place
+  -- the remainder of a test: a number below its modulus
+  remainder : (n modulus : ℕ) → Place
+  -- what an index adds: a number from -4096 to 4096
+  shift : (n : ℤ) → Place
+  -- a kernel: a rectangle of odd sides up to 15
+  kernel : (rows : List (List ℤ)) → Place
+
+-- the greatest number of a text
+abbrev pub greatest_number : ℕ
+greatest_number = 2147483647
+
+abbrev pub factor_places : Option (List ℕ) → List Place
+factor_places None = []
+factor_places (Some x) = name x expected.Param ∷ []
+
+abbrev pub affine_places : List Term → List Place
+affine_places [] = []
+affine_places (t ∷ ts) = factor_places t.name ++ affine_places ts
+
+abbrev pub span_places : AffineSpan → List Place
+span_places s = affine_places s.first ++ affine_places s.last
+
+-- `m * x + k` over d: the factor, the variable, what is added, the divisor
+unfoldable pub index_places : Index → Expected → List Place
+index_places i roles = ranged i.mul 1 16 ∷ name i.name roles ∷ shift i.add ∷ ranged i.div 1 16 ∷ []
+
+-- the range of the number after an operator
+abbrev pub least_literal : LiteralOp → ℕ
+least_literal Div = 1
+least_literal Rem = 1
+least_literal Shl = 0
+least_literal Shr = 0
+
+abbrev pub greatest_literal : LiteralOp → ℕ
+greatest_literal Div = greatest_number
+greatest_literal Rem = greatest_number
+greatest_literal Shl = 31
+greatest_literal Shr = 31
+
+abbrev pub read_places : List ℕ → Index → Index → List Place
+read_places x i j = name x expected.Readable ∷ (index_places i expected.Row ++ index_places j expected.Column)
+
+abbrev pub stencil_places : List ℕ → ℕ → List (List ℤ) → List Place
+stencil_places x d k = name x expected.Readable ∷ ranged d 1 greatest_number ∷ kernel k ∷ []
+
+abbrev pub expr_places : Node → List Place
+expr_places (number n) = ranged n 0 greatest_number ∷ []
+expr_places (variable x) = name x expected.Number ∷ []
+expr_places (read x i j) = read_places x i j
+expr_places (neg a) = expr_places a
+expr_places (binary op a b) = expr_places a ++ expr_places b
+expr_places (literal op a n) = expr_places a ++ ranged n (least_literal op) (greatest_literal op) ∷ []
+expr_places (abs a) = expr_places a
+expr_places (clamp a b c) = expr_places a ++ (expr_places b ++ expr_places c)
+expr_places (select a r b c d) = expr_places a ++ (expr_places b ++ (expr_places c ++ expr_places d))
+expr_places (stencil x d k) = stencil_places x d k
+
+unfoldable pub test_places : Test → List Place
+test_places (Compare x relation bound) = name x expected.Variable ∷ affine_places bound
+test_places (Remainder x m r) = name x expected.Variable ∷ ranged m 1 greatest_number ∷ remainder r m ∷ []
+
+abbrev pub tests_places : List Test → List Place
+tests_places [] = []
+tests_places (t ∷ ts) = test_places t ++ tests_places ts
+
+abbrev pub branch_places : Branch → List Place
+branch_places b = tests_places b.condition ++ expr_places b.value
+
+abbrev pub branches_places : List Branch → List Place
+branches_places [] = []
+branches_places (b ∷ bs) = branch_places b ++ branches_places bs
+
+abbrev pub otherwise_places : Option Node → List Place
+otherwise_places None = []
+otherwise_places (Some a) = expr_places a
+
+abbrev pub function_places : Function → List Place
+function_places f = span_places f.row.span ++ (span_places f.column.span ++ (branches_places f.cases ++ otherwise_places f.otherwise))
+
+abbrev pub accumulator_places : Accumulator → List Place
+accumulator_places a =
+    span_places a.bins ++ (span_places a.row.span ++ (span_places a.column.span ++ (expr_places a.value ++ expr_places a.bin)))
+
+abbrev pub output_places : Names → List Place
+output_places (One x) = name x expected.Func ∷ []
+output_places (Three x y z) = name x expected.Func ∷ name y expected.Func ∷ name z expected.Func ∷ []
+
+-- the places of an item, in the order of the text
+abbrev pub places_of : Declaration → List Place
+places_of (param p) = []
+places_of (image i) = affine_places i.rows ++ affine_places i.columns
+places_of (function f) = function_places f
+places_of (accumulator a) = accumulator_places a
+places_of (output o) = output_places o.names ++ ranged o.max 1 65535 ∷ []
 
 -- ---- names
 
@@ -56,7 +150,7 @@ role_at names locals x =
     if is_it locals.row x then Some role.Row
     else (if is_it locals.column x then Some role.Column else declared_role (declared_at names x))
 
--- which names a place takes
+-- which names are of these roles
 abbrev pub allows : Expected → NameRole → Bool
 allows expected.Param role.Param = true
 allows expected.Readable role.Plane = true
@@ -71,119 +165,48 @@ allows expected.Variable role.Row = true
 allows expected.Variable role.Column = true
 allows w s = false
 
-abbrev pub kind_verdict : Expected → Option NameRole → Verdict
-kind_verdict w None = Err Unknown
-kind_verdict w (Some s) = if allows w s then Ok tt else Err Kind
+-- ---- what is wrong at a place, if anything
 
-abbrev pub name_verdict : List Symbol → Locals → List ℕ → Expected → Verdict
-name_verdict names locals x w = kind_verdict w (role_at names locals x)
+abbrev pub wrong_name : Expected → Option NameRole → Option Violation
+wrong_name roles None = Some Unknown
+wrong_name roles (Some r) = if allows roles r then None else Some Kind
 
--- ---- numbers
+abbrev pub wrong_range : ℕ → ℕ → ℕ → Option Violation
+wrong_range n least most = if nat_le least n && nat_le n most then None else Some BadLiteral
 
--- the greatest number of a text
-abbrev pub greatest_number : ℕ
-greatest_number = 2147483647
+abbrev pub wrong_remainder : ℕ → ℕ → Option Violation
+wrong_remainder n modulus = if nat_lt n modulus then None else Some BadLiteral
 
-abbrev pub range_verdict : ℕ → ℕ → ℕ → Verdict
-range_verdict n least most = if nat_le least n && nat_le n most then Ok tt else Err BadLiteral
-
-abbrev pub below_verdict : ℕ → ℕ → Verdict
-below_verdict n bound = if nat_lt n bound then Ok tt else Err BadLiteral
-
--- what an index adds
-abbrev pub add_verdict : ℤ → Verdict
-add_verdict n = if int_le (negsuc 4095) n && int_le n (pos 4096) then Ok tt else Err BadLiteral
-
-abbrev pub literal_verdict : LiteralOp → ℕ → Verdict
-literal_verdict Div n = range_verdict n 1 greatest_number
-literal_verdict Rem n = range_verdict n 1 greatest_number
-literal_verdict Shl n = range_verdict n 0 31
-literal_verdict Shr n = range_verdict n 0 31
+abbrev pub wrong_shift : ℤ → Option Violation
+wrong_shift n = if int_le (negsuc 4095) n && int_le n (pos 4096) then None else Some BadLiteral
 
 -- a side of a kernel: odd, at most 15
 abbrev pub is_side : ℕ → Bool
 is_side n = (n % 2 == 1) && nat_le n 15
 
-abbrev pub kernel_verdict : List (List ℤ) → Verdict
-kernel_verdict rows =
-    if is_side (length rows) && (is_side (width_of rows) && list_all (λ row. length row == width_of rows) rows) then Ok tt else Err BadKernel
+abbrev pub wrong_kernel : List (List ℤ) → Option Violation
+wrong_kernel rows =
+    if is_side (length rows) && (is_side (width_of rows) && list_all (λ row. length row == width_of rows) rows) then None else Some BadKernel
 
--- ---- what is made of them
+abbrev pub wrong_at : List Symbol → Locals → Place → Option Violation
+wrong_at names locals (name x roles) = wrong_name roles (role_at names locals x)
+wrong_at names locals (ranged n least most) = wrong_range n least most
+wrong_at names locals (remainder n modulus) = wrong_remainder n modulus
+wrong_at names locals (shift n) = wrong_shift n
+wrong_at names locals (kernel rows) = wrong_kernel rows
 
-abbrev pub factor_verdict : List Symbol → Locals → Option (List ℕ) → Verdict
-factor_verdict names locals None = Ok tt
-factor_verdict names locals (Some x) = name_verdict names locals x expected.Param
+-- a place is served where it gets what it wants
+abbrev pub is_served : List Symbol → Locals → Place → Bool
+is_served names locals place = is_none (wrong_at names locals place)
 
-abbrev pub affine_verdict : List Symbol → Locals → List Term → Verdict
-affine_verdict names locals [] = Ok tt
-affine_verdict names locals (t ∷ ts) = and_then (factor_verdict names locals t.name) (affine_verdict names locals ts)
+abbrev pub are_served : List Symbol → Locals → List Place → Bool
+are_served names locals places = list_all (is_served names locals) places
 
-abbrev pub span_verdict : List Symbol → Locals → AffineSpan → Verdict
-span_verdict names locals s = and_then (affine_verdict names locals s.first) (affine_verdict names locals s.last)
-
-abbrev pub index_verdict : List Symbol → Locals → Index → Expected → Verdict
-index_verdict names locals i w =
-    and_then (range_verdict i.mul 1 16) (and_then (name_verdict names locals i.name w) (and_then (add_verdict i.add) (range_verdict i.div 1 16)))
-
-abbrev pub read_verdict : List Symbol → Locals → List ℕ → Index → Index → Verdict
-read_verdict names locals x i j =
-    and_then (name_verdict names locals x expected.Readable) (and_then (index_verdict names locals i expected.Row) (index_verdict names locals j expected.Column))
-
-abbrev pub stencil_verdict : List Symbol → Locals → List ℕ → ℕ → List (List ℤ) → Verdict
-stencil_verdict names locals x d k =
-    and_then (name_verdict names locals x expected.Readable) (and_then (range_verdict d 1 greatest_number) (kernel_verdict k))
-
-abbrev pub expr_verdict : List Symbol → Locals → Node → Verdict
-expr_verdict names locals (number n) = range_verdict n 0 greatest_number
-expr_verdict names locals (variable x) = name_verdict names locals x expected.Number
-expr_verdict names locals (read x i j) = read_verdict names locals x i j
-expr_verdict names locals (neg a) = expr_verdict names locals a
-expr_verdict names locals (binary op a b) = and_then (expr_verdict names locals a) (expr_verdict names locals b)
-expr_verdict names locals (literal op a n) = and_then (expr_verdict names locals a) (literal_verdict op n)
-expr_verdict names locals (abs a) = expr_verdict names locals a
-expr_verdict names locals (clamp a b c) = and_then (expr_verdict names locals a) (and_then (expr_verdict names locals b) (expr_verdict names locals c))
-expr_verdict names locals (select a r b c d) =
-    and_then (expr_verdict names locals a) (and_then (expr_verdict names locals b) (and_then (expr_verdict names locals c) (expr_verdict names locals d)))
-expr_verdict names locals (stencil x d k) = stencil_verdict names locals x d k
-
-abbrev pub test_verdict : List Symbol → Locals → Test → Verdict
-test_verdict names locals (Compare x relation bound) = and_then (name_verdict names locals x expected.Variable) (affine_verdict names locals bound)
-test_verdict names locals (Remainder x m r) =
-    and_then (name_verdict names locals x expected.Variable) (and_then (range_verdict m 1 greatest_number) (below_verdict r m))
-
-abbrev pub tests_verdict : List Symbol → Locals → List Test → Verdict
-tests_verdict names locals [] = Ok tt
-tests_verdict names locals (t ∷ ts) = and_then (test_verdict names locals t) (tests_verdict names locals ts)
-
-abbrev pub branch_verdict : List Symbol → Locals → Branch → Verdict
-branch_verdict names locals b = and_then (tests_verdict names locals b.condition) (expr_verdict names locals b.value)
-
-abbrev pub branches_verdict : List Symbol → Locals → List Branch → Verdict
-branches_verdict names locals [] = Ok tt
-branches_verdict names locals (b ∷ bs) = and_then (branch_verdict names locals b) (branches_verdict names locals bs)
-
-abbrev pub otherwise_verdict : List Symbol → Locals → Option Node → Verdict
-otherwise_verdict names locals None = Ok tt
-otherwise_verdict names locals (Some a) = expr_verdict names locals a
-
-abbrev pub function_verdict : List Symbol → Locals → Function → Verdict
-function_verdict names locals f =
-    and_then (span_verdict names locals f.row.span) (and_then (span_verdict names locals f.column.span)
-    (and_then (branches_verdict names locals f.cases) (otherwise_verdict names locals f.otherwise)))
-
-abbrev pub accumulator_verdict : List Symbol → Locals → Accumulator → Verdict
-accumulator_verdict names locals a =
-    and_then (span_verdict names locals a.bins) (and_then (span_verdict names locals a.row.span) (and_then (span_verdict names locals a.column.span)
-    (and_then (expr_verdict names locals a.value) (expr_verdict names locals a.bin))))
-
-abbrev pub outputs_verdict : List Symbol → Locals → Names → Verdict
-outputs_verdict names locals (One x) = name_verdict names locals x expected.Func
-outputs_verdict names locals (Three x y z) =
-    and_then (name_verdict names locals x expected.Func) (and_then (name_verdict names locals y expected.Func) (name_verdict names locals z expected.Func))
-
-abbrev pub item_verdict : List Symbol → Locals → Declaration → Verdict
-item_verdict names locals (param p) = Ok tt
-item_verdict names locals (image i) = and_then (affine_verdict names locals i.rows) (affine_verdict names locals i.columns)
-item_verdict names locals (function f) = function_verdict names locals f
-item_verdict names locals (accumulator a) = accumulator_verdict names locals a
-item_verdict names locals (output o) = and_then (outputs_verdict names locals o.names) (range_verdict o.max 1 65535)
+-- the first of the places that is not served, and what is wrong there
+pub record IsFirstUnserved (names : List Symbol) (locals : Locals) (places : List Place) (wrong : Violation) : Type 0 where
+  pub before : List Place
+  pub place : Place
+  pub after : List Place
+  pub parts : places ≡ before ++ place ∷ after
+  pub served : are_served names locals before ≡ true
+  pub is : wrong_at names locals place ≡ Some wrong

@@ -8,7 +8,9 @@ ghost use Rattle.pipe_tree.specs.Tree.{declaration, declarations};
 ghost use Rattle.pipe_tree.specs.Content.{content};
 ghost use Rattle.pipe_checks.specs.Names.{declared_names};
 ghost use Rattle.pipe_checks.specs.Graph.{IsRanking};
-ghost use Rattle.pipe_checks.specs.Checking.{IsNamed, IsFault, IsCheckedOf, tree_in, stages_in, params_in, graph_in, ranks_in, is_result, verdict_of, reads_at};
+ghost use Rattle.pipe_checks.specs.Twice.{locals_of};
+ghost use Rattle.pipe_checks.specs.Uses.{places_of, IsFirstUnserved};
+ghost use Rattle.pipe_checks.specs.Checking.{IsNamed, IsFault, IsCheckedOf, tree_in, stages_in, params_in, graph_in, ranks_in, is_result, is_good, reads_at};
 ghost use Rattle.pipe_checks.specs.inside.Search.{IsCyclic, IsJudged, IsFound, fault_of};
 
 use crate::cycles::shortest_cycle;
@@ -102,8 +104,10 @@ fn fault_at(violation: Violation, item: usize) -> CheckFault
     }
 }
 
+#[tactic(auto, using(crate::proofs::Judging::result_served, crate::proofs::Judging::result_unserved))]
 fn judge(names: &[Symbol], item: &Item) -> Result<(), Violation>
-    ensures { result ≡ verdict_of names.now (declaration item.now) }
+    ensures good { OnOk result (is_good names.now (declaration item.now) ≡ true) }
+    ensures wrong { IfErr result (IsFirstUnserved names.now (locals_of (declaration item.now)) (places_of (declaration item.now))) }
 {
     judge_item(names, &locals_of(item), item)
 }

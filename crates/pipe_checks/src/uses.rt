@@ -1,11 +1,12 @@
-#![tactic(auto)]
+#![tactic(auto, using(crate::proofs::Judging::judged_append, crate::proofs::Judging::judged_one))]
 //! Whether each place of an item holds what it wants, in the order of the text.
 
 ghost use Rattle.std.specs.Prelude.{◌≡◌, ◌==◌, length};
 ghost use Rattle.std.specs.List.{list_all};
 ghost use Rattle.std.specs.Option.{option_map};
 ghost use Rattle.pipe_tree.specs.Tree.{view, branch, branches, function_of, accumulator_of, declaration};
-ghost use Rattle.pipe_checks.specs.Uses.{is_it, allows, role_of, role_at, range_verdict, below_verdict, add_verdict, is_side, kernel_verdict, literal_verdict, name_verdict, factor_verdict, affine_verdict, span_verdict, index_verdict, read_verdict, stencil_verdict, expr_verdict, test_verdict, tests_verdict, branch_verdict, branches_verdict, otherwise_verdict, function_verdict, accumulator_verdict, outputs_verdict, item_verdict};
+ghost use Rattle.pipe_checks.specs.Uses.{is_it, allows, role_of, role_at, wrong_name, wrong_range, wrong_remainder, wrong_shift, is_side, wrong_kernel, factor_places, affine_places, span_places, index_places, least_literal, greatest_literal, read_places, stencil_places, expr_places, test_places, tests_places, branch_places, branches_places, otherwise_places, function_places, accumulator_places, output_places, places_of};
+ghost use Rattle.pipe_checks.specs.inside.Judging.{verdict, judged};
 
 use crate::access::width_of;
 use crate::fault::Violation;
@@ -108,7 +109,7 @@ fn role_of(kind: NameKind) -> NameRole
 }
 
 fn judge_range(number: u32, least: u32, most: u32) -> Result<(), Violation>
-    ensures { result ≡ range_verdict number least most }
+    ensures { result ≡ verdict (wrong_range number least most) }
 {
     if least <= number && number <= most {
         Ok(())
@@ -118,7 +119,7 @@ fn judge_range(number: u32, least: u32, most: u32) -> Result<(), Violation>
 }
 
 fn judge_below(number: u32, bound: u32) -> Result<(), Violation>
-    ensures { result ≡ below_verdict number bound }
+    ensures { result ≡ verdict (wrong_remainder number bound) }
 {
     if number < bound {
         Ok(())
@@ -128,7 +129,7 @@ fn judge_below(number: u32, bound: u32) -> Result<(), Violation>
 }
 
 fn judge_add(number: i32) -> Result<(), Violation>
-    ensures { result ≡ add_verdict number }
+    ensures { result ≡ verdict (wrong_shift number) }
 {
     if -MAX_ADD <= number && number <= MAX_ADD {
         Ok(())
@@ -151,7 +152,7 @@ fn are_long(rows: &[Row], width: usize) -> bool
 }
 
 fn judge_kernel(kernel: &Kernel) -> Result<(), Violation>
-    ensures { result ≡ kernel_verdict kernel.now }
+    ensures { result ≡ verdict (wrong_kernel kernel.now) }
 {
     let rows = kernel.rows();
     let width = width_of(rows);
@@ -163,7 +164,7 @@ fn judge_kernel(kernel: &Kernel) -> Result<(), Violation>
 }
 
 fn judge_literal(op: LiteralOp, number: u32) -> Result<(), Violation>
-    ensures { result ≡ literal_verdict op number }
+    ensures { result ≡ verdict (wrong_range number (least_literal op) (greatest_literal op)) }
 {
     match op {
         LiteralOp::Div | LiteralOp::Rem => judge_range(number, 1, MAX_NUMBER),
@@ -192,7 +193,7 @@ fn judge_name(
     name: &Name,
     expected: Expected,
 ) -> Result<(), Violation>
-    ensures { result ≡ name_verdict names.now locals.now name.now expected }
+    ensures { result ≡ verdict (wrong_name expected (role_at names.now locals.now name.now)) }
 {
     match role_at(names, locals, name) {
         Some(role) => {
@@ -207,7 +208,7 @@ fn judge_name(
 }
 
 fn judge_factor(names: &[Symbol], locals: &Locals, name: &Option<Name>) -> Result<(), Violation>
-    ensures { result ≡ factor_verdict names.now locals.now name.now }
+    ensures { result ≡ judged names.now locals.now (factor_places name.now) }
 {
     match name {
         Some(name) => judge_name(names, locals, name, Expected::Param),
@@ -216,7 +217,7 @@ fn judge_factor(names: &[Symbol], locals: &Locals, name: &Option<Name>) -> Resul
 }
 
 fn judge_affine(names: &[Symbol], locals: &Locals, affine: &Affine) -> Result<(), Violation>
-    ensures { result ≡ affine_verdict names.now locals.now affine.now }
+    ensures { result ≡ judged names.now locals.now (affine_places affine.now) }
 {
     for term in affine.terms() {
         judge_factor(names, locals, &term.name)?;
@@ -225,19 +226,20 @@ fn judge_affine(names: &[Symbol], locals: &Locals, affine: &Affine) -> Result<()
 }
 
 fn judge_span(names: &[Symbol], locals: &Locals, span: &AffineSpan) -> Result<(), Violation>
-    ensures { result ≡ span_verdict names.now locals.now span.now }
+    ensures { result ≡ judged names.now locals.now (span_places span.now) }
 {
     judge_affine(names, locals, &span.first)?;
     judge_affine(names, locals, &span.last)
 }
 
+#[tactic(auto, using(crate::proofs::Judging::judged_append, crate::proofs::Judging::judged_one), unfolding(crate::specs::Uses::index_places))]
 fn judge_index(
     names: &[Symbol],
     locals: &Locals,
     index: &Index,
     expected: Expected,
 ) -> Result<(), Violation>
-    ensures { result ≡ index_verdict names.now locals.now index.now expected }
+    ensures { result ≡ judged names.now locals.now (index_places index.now expected) }
 {
     judge_range(index.mul, 1, MAX_SCALE)?;
     judge_name(names, locals, &index.name, expected)?;
@@ -252,7 +254,7 @@ fn judge_read(
     row: &Index,
     column: &Index,
 ) -> Result<(), Violation>
-    ensures { result ≡ read_verdict names.now locals.now name.now row.now column.now }
+    ensures { result ≡ judged names.now locals.now (read_places name.now row.now column.now) }
 {
     judge_name(names, locals, name, Expected::Readable)?;
     judge_index(names, locals, row, Expected::Row)?;
@@ -266,7 +268,7 @@ fn judge_stencil(
     divisor: u32,
     kernel: &Kernel,
 ) -> Result<(), Violation>
-    ensures { result ≡ stencil_verdict names.now locals.now name.now divisor kernel.now }
+    ensures { result ≡ judged names.now locals.now (stencil_places name.now divisor kernel.now) }
 {
     judge_name(names, locals, name, Expected::Readable)?;
     judge_range(divisor, 1, MAX_NUMBER)?;
@@ -274,7 +276,7 @@ fn judge_stencil(
 }
 
 fn judge_expr(names: &[Symbol], locals: &Locals, expr: &Expr) -> Result<(), Violation>
-    ensures { result ≡ expr_verdict names.now locals.now (view expr.now) }
+    ensures { result ≡ judged names.now locals.now (expr_places (view expr.now)) }
 {
     match expr {
         Expr::Number(number) => judge_range(*number, 0, MAX_NUMBER),
@@ -306,8 +308,9 @@ fn judge_expr(names: &[Symbol], locals: &Locals, expr: &Expr) -> Result<(), Viol
     }
 }
 
+#[tactic(auto, using(crate::proofs::Judging::judged_append, crate::proofs::Judging::judged_one), unfolding(crate::specs::Uses::test_places))]
 fn judge_test(names: &[Symbol], locals: &Locals, test: &Test) -> Result<(), Violation>
-    ensures { result ≡ test_verdict names.now locals.now test.now }
+    ensures { result ≡ judged names.now locals.now (test_places test.now) }
 {
     match test {
         Test::Compare(name, _, bound) => {
@@ -323,7 +326,7 @@ fn judge_test(names: &[Symbol], locals: &Locals, test: &Test) -> Result<(), Viol
 }
 
 fn judge_tests(names: &[Symbol], locals: &Locals, tests: &[Test]) -> Result<(), Violation>
-    ensures { result ≡ tests_verdict names.now locals.now tests.now }
+    ensures { result ≡ judged names.now locals.now (tests_places tests.now) }
 {
     for test in tests {
         judge_test(names, locals, test)?;
@@ -332,14 +335,14 @@ fn judge_tests(names: &[Symbol], locals: &Locals, tests: &[Test]) -> Result<(), 
 }
 
 fn judge_case(names: &[Symbol], locals: &Locals, case: &Case) -> Result<(), Violation>
-    ensures { result ≡ branch_verdict names.now locals.now (branch case.now) }
+    ensures { result ≡ judged names.now locals.now (branch_places (branch case.now)) }
 {
     judge_tests(names, locals, case.condition.tests())?;
     judge_expr(names, locals, &case.value)
 }
 
 fn judge_cases(names: &[Symbol], locals: &Locals, cases: &[Case]) -> Result<(), Violation>
-    ensures { result ≡ branches_verdict names.now locals.now (branches cases.now) }
+    ensures { result ≡ judged names.now locals.now (branches_places (branches cases.now)) }
 {
     for case in cases {
         judge_case(names, locals, case)?;
@@ -352,7 +355,7 @@ fn judge_otherwise(
     locals: &Locals,
     otherwise: &Option<Expr>,
 ) -> Result<(), Violation>
-    ensures { result ≡ otherwise_verdict names.now locals.now (option_map view otherwise.now) }
+    ensures { result ≡ judged names.now locals.now (otherwise_places (option_map view otherwise.now)) }
 {
     match otherwise {
         Some(value) => judge_expr(names, locals, value),
@@ -361,7 +364,7 @@ fn judge_otherwise(
 }
 
 fn judge_func(names: &[Symbol], locals: &Locals, func: &Func) -> Result<(), Violation>
-    ensures { result ≡ function_verdict names.now locals.now (function_of func.now) }
+    ensures { result ≡ judged names.now locals.now (function_places (function_of func.now)) }
 {
     judge_span(names, locals, &func.row.span)?;
     judge_span(names, locals, &func.column.span)?;
@@ -370,7 +373,7 @@ fn judge_func(names: &[Symbol], locals: &Locals, func: &Func) -> Result<(), Viol
 }
 
 fn judge_accum(names: &[Symbol], locals: &Locals, accum: &Accum) -> Result<(), Violation>
-    ensures { result ≡ accumulator_verdict names.now locals.now (accumulator_of accum.now) }
+    ensures { result ≡ judged names.now locals.now (accumulator_places (accumulator_of accum.now)) }
 {
     judge_span(names, locals, &accum.bins)?;
     judge_span(names, locals, &accum.row.span)?;
@@ -380,7 +383,7 @@ fn judge_accum(names: &[Symbol], locals: &Locals, accum: &Accum) -> Result<(), V
 }
 
 fn judge_outputs(names: &[Symbol], locals: &Locals, outputs: &Names) -> Result<(), Violation>
-    ensures { result ≡ outputs_verdict names.now locals.now outputs.now }
+    ensures { result ≡ judged names.now locals.now (output_places outputs.now) }
 {
     match outputs {
         Names::One(name) => judge_name(names, locals, name, Expected::Func),
@@ -394,7 +397,7 @@ fn judge_outputs(names: &[Symbol], locals: &Locals, outputs: &Names) -> Result<(
 
 /// The first place of the item that does not hold what it wants, as a fault.
 pub(crate) fn judge_item(names: &[Symbol], locals: &Locals, item: &Item) -> Result<(), Violation>
-    ensures { result ≡ item_verdict names.now locals.now (declaration item.now) }
+    ensures { result ≡ judged names.now locals.now (places_of (declaration item.now)) }
 {
     match item {
         Item::Param(_) => Ok(()),

@@ -1,6 +1,6 @@
 -- The job, computed, its ranks, and the names of its program.
 use Rattle.std.proofs.Common.{ℕ, zero, suc, arith, ◌<◌, ◌≡◌, ℤ, pos, List, [], ◌∷◌, false, Option, Some, None, inl, inr, subst, refl}
-use Rattle.std.specs.Prelude.{Ok, IsTrue, is_some, slice_get, slice_index, take}
+use Rattle.std.specs.Prelude.{true, IsTrue, is_some, slice_get, slice_index, take}
 use Rattle.std.proofs.lemmas.Bool.{false≢true}
 use Rattle.pipe_tree.specs.Tree.{Declaration}
 use Rattle.pipe_checks.specs.declared.symbol.Symbol.{Symbol}
@@ -10,7 +10,8 @@ use Rattle.pipe_checks.proofs.Numbering.{ranking-from_recurrence}
 use Rattle.pipe_checks.specs.Names.{declared_names, number_of}
 use Rattle.pipe_checks.specs.Accesses.{graph_of}
 use Rattle.pipe_bounds.specs.Within.{AllSet}
-use Rattle.pipe_checks.specs.Checking.{DeclaresAgain, IsTwice, IsNamed, verdict_of}
+use Rattle.pipe_checks.specs.Uses.{index_places}
+use Rattle.pipe_checks.specs.Checking.{DeclaresAgain, IsTwice, IsNamed, is_good}
 use Rattle.pipe_checks.specs.Twice.{locals_of, varies_again}
 use Rattle.binding.specs.Binding.{settings_for}
 use Rattle.binding.specs.Texts.{planes, copying, unset, two_by_two}
@@ -56,9 +57,10 @@ twice_is_none k d new (inl again) = declared_once k again
 twice_is_none k d new (inr varies) = false≢true (subst IsTrue new varies)
 
 named : IsNamed copying
+unfolding index_places
 named = record {
   once = λ k d is. twice_is_none k d (variables_are_new k d is);
-  good = each_at (λ d. verdict_of (declared_names copying) d ≡ Ok tt) copying (refl, (refl, (refl, (refl, (refl, tt)))));
+  good = each_at (λ d. is_good (declared_names copying) d ≡ true) copying (refl, (refl, (refl, (refl, (refl, tt)))));
 }
 
 all_set : AllSet (settings_for planes two_by_two unset)
