@@ -17,7 +17,7 @@ use Rattle.job.specs.WellFormed.{IsJob, IsSmall}
 use Rattle.job.specs.Identity.{parameter_bytes, input_bytes}
 
 -- two lists, each in two parts of which the first are as long as each other
-split : (a b c d : List ℕ) → length a ≡ length b → a ++ c ≡ b ++ d → (a ≡ b) × (c ≡ d)
+pub split : (a b c d : List ℕ) → length a ≡ length b → a ++ c ≡ b ++ d → (a ≡ b) × (c ≡ d)
 split a b c d e h = (
   sym (take-append_seam a c) ∙ ap (take (length a)) h ∙ ap (λ n. take n (b ++ d)) e ∙ take-append_seam b d,
   sym (drop-append_seam a c) ∙ ap (drop (length a)) h ∙ ap (λ n. drop n (b ++ d)) e ∙ drop-append_seam b d,
@@ -41,7 +41,7 @@ signed_32 y z p q h = sym (to_z-of_z w32 y p) ∙ ap (cast_signed w32) (number_3
 one_parameter : (p q : Parameter) → p.name ≡ q.name → p.value ≡ q.value → p ≡ q
 one_parameter p q n v i = record { name = n i; value = v i }
 
-first_parameter : (p q : Parameter) (c d : List ℕ) → FitsSigned w32 p.value → FitsSigned w32 q.value → parameter_bytes p ++ c ≡ parameter_bytes q ++ d → (p ≡ q) × (c ≡ d)
+pub first_parameter : (p q : Parameter) (c d : List ℕ) → FitsSigned w32 p.value → FitsSigned w32 q.value → parameter_bytes p ++ c ≡ parameter_bytes q ++ d → (p ≡ q) × (c ≡ d)
 first_parameter p q c d f g h =
     let bits : Parameter → List ℕ = λ x. to_be_bytes w32 (cast_unsigned w32 x.value) in
     let names = split p.name q.name (bits p ++ c) (bits q ++ d) (ap (λ l. get_or l 0 0) h) (sym (append_assoc p.name (bits p) c) ∙ ap (drop 1) h ∙ append_assoc q.name (bits q) d) in
@@ -66,13 +66,13 @@ all_parameters (p ∷ ps) (q ∷ qs) c d f g e h =
 one_sides : (s t : Sides) → s.height ≡ t.height → s.width ≡ t.width → s ≡ t
 one_sides s t h w i = record { height = h i; width = w i }
 
-same_sides : (a b : Pipeline) → IsSides a.sides → IsSides b.sides → input_bytes a ≡ input_bytes b → a.sides ≡ b.sides
+pub same_sides : (a b : Pipeline) → IsSides a.sides → IsSides b.sides → input_bytes a ≡ input_bytes b → a.sides ≡ b.sides
 same_sides a b p q h =
     one_sides a.sides b.sides
     (number_32 a.sides.height b.sides.height (omega (arith, p.height_most)) (omega (arith, q.height_most)) (ap (λ l. take 4 (drop 4 l)) h))
     (number_32 a.sides.width b.sides.width (omega (arith, p.width_most)) (omega (arith, q.width_most)) (ap (λ l. take 4 (drop 8 l)) h))
 
-one_picture : (p q : Image) → IsImage p → IsImage q → spelling p ≡ spelling q → p ≡ q
+pub one_picture : (p q : Image) → IsImage p → IsImage q → spelling p ≡ spelling q → p ≡ q
 one_picture p q i j e =
     let h = subst (λ (bytes : List ℕ). IsPicture bytes q) (sym e) (spelling_is q j) in
     same_value p q (sym (picture_complete (spelling p) p (spelling_is p i)) ∙ picture_complete (spelling p) q h)

@@ -11,3 +11,4 @@ pub mod TotalsFit
 pub mod Example
 pub mod InputLaws
 pub mod Hashed
+pub mod SameInputs

@@ -1,7 +1,7 @@
 #![tactic(auto)]
 //! Programs that are bound to pictures.
 
-ghost use Rattle.std.specs.Prelude.{◌≡◌, ◌↔◌, map, slice_get, IsSome, IfSome, IfOk};
+ghost use Rattle.std.specs.Prelude.{◌≡◌, ◌↔◌, map, slice_get, IsSome, IfSome, IfOk, IsTrue};
 ghost use Rattle.std.specs.Option.{option_map, ForSome};
 ghost use Rattle.sha2.specs.Sha256.{sha256};
 ghost use Rattle.job.specs.Identity.{input_bytes, input_id, HasTileAt};
@@ -11,9 +11,9 @@ ghost use Rattle.job.specs.WellFormedOnce.{IsJob-prop};
 ghost use Rattle.job.specs.Views.{stage_view, output_view, parameter_view, pipeline_of};
 
 use crate::bound_pipeline::BoundPipeline;
-use crate::hashing;
 use crate::outputs::{Output, Parameter};
 use crate::stage::Stage;
+use crate::{hashing, sameness};
 use domains::{Area, Fold, Grid, Span, TileSides};
 use identity::{InputId, Key, ProgramId};
 use netpbm::Picture;
@@ -215,6 +215,17 @@ impl Job {
         ensures { IfOk result (λ bytes. bytes.items ≡ input_bytes (pipeline_in self.now)) }
     {
         hashing::input_bytes(alloc, &self.parts)
+    }
+
+    /// Whether the same bytes are hashed of both jobs: of the programs their canonical texts, and of what they are given
+    /// `input_bytes`. Where they are, all identities are equal. No picture is copied, and no memory is taken.
+    pub fn hashes_the_same(&self, other: &Job) -> bool
+        ensures { IsTrue result ↔ (program_text_in self.now ≡ program_text_in other.now) × (input_bytes (pipeline_in self.now) ≡ input_bytes (pipeline_in other.now)) }
+    {
+        if self.text.as_slice() != other.text.as_slice() {
+            return false;
+        }
+        sameness::same_input(&self.parts, &other.parts)
     }
 
     /// The key of the tile in this row and column of the stage's grid; none where there is no such tile. It names what the

@@ -1,0 +1,87 @@
+#![tactic(auto)]
+//! Whether the same bytes are hashed of two inputs.
+
+ghost use Rattle.std.specs.Prelude.{◌≡◌, ◌↔◌, ◌++◌, ◌∷◌, ℕ, List, IsTrue, map, FitsSigned, All};
+ghost use Rattle.std.specs.Int.{w32};
+ghost use Rattle.std.specs.List.{flat_map};
+ghost use Rattle.netpbm.specs.Planes.{samples_of};
+ghost use Rattle.job.specs.Identity.{parameter_bytes, input_bytes};
+ghost use Rattle.job.specs.Views.{parameter_view, pipeline_of};
+ghost use Rattle.job.specs.WellFormed.{IsJob};
+
+use crate::bound_pipeline::BoundPipeline;
+use crate::outputs::Parameter;
+use domains::TileSides;
+use netpbm::Picture;
+
+/// Whether the bytes whose digests are the identities of the inputs are the same. The pictures are compared and not copied; no memory
+/// is taken.
+pub(crate) fn same_input(a: &BoundPipeline, b: &BoundPipeline) -> bool
+    requires first { IsJob (pipeline_of a.now) }
+    requires second { IsJob (pipeline_of b.now) }
+    ensures { IsTrue result ↔ input_bytes (pipeline_of a.now) ≡ input_bytes (pipeline_of b.now) }
+{
+    if !same_sides(&a.sides, &b.sides) {
+        return false;
+    }
+    if !same_parameters(&a.params, &b.params) {
+        return false;
+    }
+    same_picture(&a.picture, &b.picture)
+}
+
+fn same_sides(a: &TileSides, b: &TileSides) -> bool
+    ensures { IsTrue result ↔ a.now ≡ b.now }
+{
+    a == b
+}
+
+// Whether the parameters are the same. They are where their bytes are equal, whatever pictures are behind them.
+fn same_parameters(a: &[Parameter], b: &[Parameter]) -> bool
+    requires first { All (λ p. FitsSigned w32 p.value) (map parameter_view a.now) }
+    requires second { All (λ p. FitsSigned w32 p.value) (map parameter_view b.now) }
+    ensures same { IsTrue result → map parameter_view a.now ≡ map parameter_view b.now }
+    ensures told { (c d : List ℕ) → flat_map parameter_bytes (map parameter_view a.now) ++ 80 ∷ c ≡ flat_map parameter_bytes (map parameter_view b.now) ++ 80 ∷ d → IsTrue result }
+{
+    match (a.split_first(), b.split_first()) {
+        (None, None) => true,
+        (Some((first, rest)), Some((other, others))) => {
+            same_parameter(first, other) && same_parameters(rest, others)
+        }
+        (Some((first, _)), None) | (None, Some((first, _))) => {
+            // No name is so long that its length is the letter `P`, with which a picture begins.
+            let name = first.name.as_bytes();
+            prove!(name.len() < 80);
+            false
+        }
+    }
+}
+
+fn same_parameter(a: &Parameter, b: &Parameter) -> bool
+    requires first { FitsSigned w32 a.now.value }
+    requires second { FitsSigned w32 b.now.value }
+    ensures { IsTrue result ↔ parameter_view a.now ≡ parameter_view b.now }
+{
+    a.name.as_bytes() == b.name.as_bytes() && a.value == b.value
+}
+
+fn same_picture(a: &Picture, b: &Picture) -> bool
+    ensures { IsTrue result ↔ a.now ≡ b.now }
+{
+    a.rows() == b.rows()
+        && a.cols() == b.cols()
+        && a.max() == b.max()
+        && same_planes(a.planes(), b.planes())
+}
+
+fn same_planes(a: &[Vec<u16>], b: &[Vec<u16>]) -> bool
+    ensures { IsTrue result ↔ samples_of a.now ≡ samples_of b.now }
+{
+    match (a.split_first(), b.split_first()) {
+        (None, None) => true,
+        (Some((first, rest)), Some((other, others))) => {
+            first.as_slice() == other.as_slice() && same_planes(rest, others)
+        }
+        _ => false,
+    }
+}
