@@ -1,6 +1,7 @@
 //! Facts that a node lends.
 
 ghost use Rattle.node_state.specs.Answers.{AreHeld, IsLeastNotHeld, IsLendFault};
+ghost use Rattle.node_state.specs.inside.Searching.{is_first};
 ghost use Rattle.node_state.specs.States.{lent, holds, facts_in, same_key};
 ghost use Rattle.std.specs.Option.{IfSome};
 ghost use Rattle.std.specs.Prelude.{◌≡◌, ◌||◌, ◌&&◌, None, OnOk, IfOk, IfErr};
@@ -34,7 +35,7 @@ impl<S: FactStore> NodeState<S> {
         if let Some(key) = self.least_not_held(keys) {
             return Err(LendFault::NotHeld(key));
         }
-        let mut state = self.emptied();
+        let mut state = NodeState::new(self.alloc);
         for key in keys {
             state.take_of_key(self, key)?;
         }
@@ -65,5 +66,15 @@ impl<S: FactStore> NodeState<S> {
             }
         }
         Ok(())
+    }
+}
+
+// Whether the key is below the one found before, if there is one.
+fn is_first(key: &Key, found: &Option<Key>) -> bool
+    ensures { result ≡ is_first key.now found.now }
+{
+    match found {
+        None => true,
+        Some(found) => key.cmp(found).is_lt(),
     }
 }

@@ -17,7 +17,7 @@ use tile_fact::{Fact, encode};
 /// that it is made with.
 #[derive(Drop)]
 pub struct NodeState<S: FactStore = SortedFacts> {
-    alloc: Global,
+    pub(crate) alloc: Global,
     store: S,
 }
 
