@@ -1,0 +1,27 @@
+//! What the definitions amount to, proved once for the crates above. A law is a function whose clauses are the law.
+
+ghost use Rattle.fact_store.specs.Facts.{FactSet, nothing, holds, facts_in, with_fact, join, IsSubset};
+ghost use Rattle.std.specs.Prelude.{◌≡◌, ◌↔◌, ◌⊎◌, true, false};
+ghost use Rattle.tile_fact.specs.declared.fact.Fact.{Fact};
+ghost use Rattle.tile_fact.specs.Order.{Rises};
+
+/// Sets of the same facts are one. The empty set has no fact, with one more fact a set has this and those that it had, and
+/// a join has the facts of both.
+pub fn sets_are_their_facts()
+    ensures same { (s t : FactSet) → ((f : Fact) → (holds s f ≡ true) ↔ (holds t f ≡ true)) → s ≡ t }
+    ensures nothing { (f : Fact) → holds nothing f ≡ false }
+    ensures one_more { (s : FactSet) (f g : Fact) → (holds (with_fact s f) g ≡ true) ↔ ((g ≡ f) ⊎ (holds s g ≡ true)) }
+    ensures both { (s t : FactSet) (f : Fact) → (holds (join s t) f ≡ true) ↔ ((holds s f ≡ true) ⊎ (holds t f ≡ true)) }
+    ensures rise { (s : FactSet) → Rises (facts_in s) }
+{}
+
+/// Join is commutative, associative and idempotent, and the least set of which both are part.
+pub fn join_is_least_upper_bound()
+    ensures commutative { (s t : FactSet) → join s t ≡ join t s }
+    ensures associative { (s t u : FactSet) → join (join s t) u ≡ join s (join t u) }
+    ensures idempotent { (s : FactSet) → join s s ≡ s }
+    ensures neutral { (s : FactSet) → join s nothing ≡ s }
+    ensures first { (s t : FactSet) → IsSubset s (join s t) }
+    ensures second { (s t : FactSet) → IsSubset t (join s t) }
+    ensures least { (s t u : FactSet) → IsSubset s u → IsSubset t u → IsSubset (join s t) u }
+{}

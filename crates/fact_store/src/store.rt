@@ -1,0 +1,53 @@
+//! What keeps a finite set of facts.
+
+ghost use Rattle.fact_store.specs.Facts.{FactSet, nothing, with_fact, join, holds, lacked, facts_of, least, least_above};
+ghost use Rattle.std.specs.Option.{option_copied};
+ghost use Rattle.std.specs.Prelude.{◌≡◌, OnOk, OnErr, IfOk, IfErr, length, slice_get, not};
+
+use identity::Key;
+use std::alloc::{AllocError, AllocFailed, Global};
+use tile_fact::Fact;
+
+/// A store of facts, each once, true or not. Contracts see its content, a finite set, and not how it keeps this. A store
+/// takes its memory from the allocator that it is made with.
+pub trait FactStore: Drop + Sized {
+    /// The facts that it has.
+    ghost content: { Self → FactSet };
+
+    /// A store of no facts. No memory is taken.
+    fn empty(alloc: Global) -> Self
+        ensures { content result ≡ nothing };
+
+    /// A store of the same facts, which share their numbers with these.
+    fn copy(&self) -> Result<Self, AllocError>
+        ensures { IfOk result (λ copy. content copy ≡ content self.now) };
+
+    /// Adds a fact, and tells whether it is new. Where memory runs out the fact is handed back, and the store is as it was.
+    fn add(&mut self, fact: Fact) -> Result<bool, AllocFailed<Fact>>
+        ensures added { OnOk result (content self.new ≡ with_fact (content self.old) fact) }
+        ensures new { IfOk result (λ new. new ≡ not (holds (content self.old) fact)) }
+        ensures handed_back { IfErr result (λ back. back.value ≡ fact) }
+        ensures unchanged { OnErr result (content self.new ≡ content self.old) };
+
+    /// Adds the facts of another store, and tells how many of them are new. Where memory runs out the store is as it was.
+    fn join(&mut self, other: &Self) -> Result<usize, AllocError>
+        ensures joined { OnOk result (content self.new ≡ join (content self.old) (content other.now)) }
+        ensures new { IfOk result (λ count. count ≡ length (lacked (content self.old) (content self.new))) }
+        ensures unchanged { OnErr result (content self.new ≡ content self.old) };
+
+    /// How many facts of a key there are.
+    fn count(&self, key: &Key) -> usize
+        ensures { result ≡ length (facts_of (content self.now) key.now) };
+
+    /// The fact of a key that has so many facts of the key below it.
+    fn nth(&self, key: &Key, n: usize) -> Option<&Fact>
+        ensures { option_copied result ≡ slice_get (facts_of (content self.now) key.now) n };
+
+    /// The least fact.
+    fn least(&self) -> Option<&Fact>
+        ensures { option_copied result ≡ least (content self.now) };
+
+    /// The least fact above a given one, which need not be in the store.
+    fn least_above(&self, fact: &Fact) -> Option<&Fact>
+        ensures { option_copied result ≡ least_above (content self.now) fact.now };
+}
