@@ -10,6 +10,7 @@ use Rattle.command_line.specs.Tasks.{AsksFor}
 use Rattle.command_line.specs.Usage.{usage}
 use Rattle.command_line.specs.Values.{IsChosen, SpellsParameter, is_true}
 use Rattle.command_line.specs.declared.options.Options.{Options}
+use Rattle.command_line.specs.declared.tasks.Task.{Task}
 use Rattle.command_line.specs.declared.words.Request.{Request}
 
 -- a parameter's name and the value that it is given
@@ -42,6 +43,12 @@ AreParametersIn rows given = AreParameters (unwrap_or (all_of (codes "NAME=VALUE
 
 abbrev pub is_separator : String Global → Bool
 is_separator word = bytes_eq (string_bytes word) (codes "--")
+
+-- The first word is a command, and none is `--`. Only then are the others looked at.
+pub record NamesCommand (words : List (String Global)) : Type 0 where
+  pub task : Task
+  pub named : AsksFor words task
+  pub no_separator : list_any is_separator words ≡ false
 
 -- The words are a command line of the usage text, and none is `--`. The first is the command; the others give its options and its
 -- parameters.

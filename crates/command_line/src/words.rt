@@ -4,7 +4,7 @@ ghost use Rattle.std.specs.Prelude.{◌≡◌, ◌≢◌, IfOk, IfErr, IfSome, I
 ghost use Rattle.std.specs.List.{list_any};
 ghost use Rattle.clap.specs.Words.{first_of, found_of, kind_of, rows_of};
 ghost use Rattle.clap.specs.declared.error.kind.ErrorKind.TheVariants.{OutOfMemory};
-ghost use Rattle.command_line.specs.Asking.{AreOptions, AreParameters, AreParametersIn, Given, IsRequestOf, is_separator};
+ghost use Rattle.command_line.specs.Asking.{AreOptions, AreParameters, AreParametersIn, Given, IsRequestOf, NamesCommand, is_separator};
 ghost use Rattle.command_line.specs.Tasks.{AsksFor};
 ghost use Rattle.command_line.specs.Values.{IsChosen, is_true};
 ghost use Rattle.command_line.specs.declared.options.Options.{Options as OptionsType};
@@ -68,6 +68,8 @@ pub fn request_of(alloc: Global, words: &[String]) -> Result<Request, Refusal>
     ensures task { IfOk result (λ request. AsksFor words.now request.task) }
     ensures usage { IfErr result (λ refusal. refusal ≡ refusals.Usage
         → (request : RequestType) → ¬ IsRequestOf words.now request) }
+    // Where the words name no command nothing grows, and memory never stands in the place of usage.
+    ensures memory { IfErr result (λ refusal. refusal ≡ refusals.Memory → NamesCommand words.now) }
 {
     if has_separator(words) {
         return Err(Refusal::Usage);

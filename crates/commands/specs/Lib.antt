@@ -1,3 +1,4 @@
+pub mod Endings
 pub mod Gathering
 pub mod Listing
 pub mod Planning

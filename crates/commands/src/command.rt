@@ -1,49 +1,113 @@
 //! Commands, and how they end.
 
-ghost use Rattle.std.specs.Prelude.{◌≡◌, ◌≤◌, ◌⊎◌, ℕ, Bool, List};
-ghost use Rattle.domains.specs.Sides.{Sides};
-ghost use Rattle.inputs.specs.Giving.{Given};
-ghost use Rattle.inputs.specs.Outcomes.{AppendsSaid, CountsRead, CountsWritten, Writes, status_of};
-ghost use Rattle.command_line.specs.Tasks.{AsksFor};
-ghost use Rattle.commands.specs.Sayings.{saying_of};
-ghost use Rattle.command_line.specs.declared.tasks.Task.{Task};
+ghost use Rattle.std.specs.Prelude.{◌≡◌, ◌≢◌, ◌≤◌, ◌⊎◌};
+ghost use Rattle.inputs.specs.FaultLines.{line_of};
+ghost use Rattle.inputs.specs.Outcomes.{CountsRead, CountsWritten, Writes, status_of};
+ghost use Rattle.inputs.specs.Taking.{Puts};
+ghost use Rattle.streams.specs.Streams.{one_more};
+ghost use Rattle.command_line.specs.Asking.{NamesCommand};
+ghost use Rattle.commands.specs.Endings.{AskFor, AskForNothing, HasSaid, HasSaidPart, HasTold, saying_by, usage_line};
+ghost use Rattle.inputs.specs.declared.faults.StreamFault.TheVariants.{Memory, Read};
 
 use crate::task_stream::{check_stream, eval_stream, plan_stream};
 use command_line::{Refusal, Request, Task, request_of};
-use inputs::StreamFault;
-use std::alloc::Global;
+use inputs::{StreamFault, write_line};
 use streams::{Sink, Source, write_whole};
 
 /// The line of every command line that is refused.
 const USAGE: &[u8] = b"usage: tilefarm COMMAND [OPTIONS] [NAME=VALUE]...\n";
 
-/// The line where memory ran out, which takes none.
-const MEMORY: &[u8] = b"memory\n";
-
 /// Runs the command that the words name, and answers the status that the program is to end with: 0 done, 1 usage or
 /// parameters, 2 unreadable input, 3 refused program, 4 input or output failed, 5 memory. A fault is told in one line
-/// on the writer. `words` is without the program's own name.
+/// on the writer, which takes no memory. `words` is without the program's own name.
 pub fn run_command<H: AllocGlobal, R: Source, W: Sink>(
     rt: &H,
     words: &[String],
     reader: &mut R,
     writer: &mut W,
 ) -> u8
-    ensures done { result ≡ 0 → (task : Task) × AsksFor words.now task × (stored : Bool) × (percent : ℕ) × (given : List Given) × (sides : Sides)
-        × AppendsSaid (saying_of task stored percent) (R.remaining reader.old) given sides (W.contents writer.old) (W.contents writer.new) }
+    // The command that the words ask for was run with the options and the parameters that they give, and the writer took
+    // all that it says.
+    ensures done { result ≡ 0 → (W.failures writer.new ≡ W.failures writer.old)
+        × AskFor words.now (λ request. HasSaid request (R.remaining reader.old)
+            (W.contents writer.old) (W.contents writer.new)) }
+    // The words ask for nothing, or the first fault is one of the parameters that they give.
+    ensures usage { result ≡ 1 →
+        (AskForNothing words.now
+            × Puts usage_line (W.contents writer.old) (W.contents writer.new)
+                (W.failures writer.old) (W.failures writer.new))
+        ⊎ AskFor words.now (λ request. HasTold 1 request (R.remaining reader.old)
+            (W.contents writer.old) (W.contents writer.new)
+            (W.failures writer.old) (W.failures writer.new)) }
+    ensures unreadable { result ≡ 2 →
+        AskFor words.now (λ request. HasTold 2 request (R.remaining reader.old)
+            (W.contents writer.old) (W.contents writer.new)
+            (W.failures writer.old) (W.failures writer.new)) }
+    ensures refused { result ≡ 3 →
+        AskFor words.now (λ request. HasTold 3 request (R.remaining reader.old)
+            (W.contents writer.old) (W.contents writer.new)
+            (W.failures writer.old) (W.failures writer.new)) }
+    // The reader failed, which is told, or the writer failed, which is not.
+    ensures failed { result ≡ 4 →
+        ((R.failures reader.new ≡ one_more (R.failures reader.old))
+            × Puts (line_of Read) (W.contents writer.old) (W.contents writer.new)
+                (W.failures writer.old) (W.failures writer.new))
+        ⊎ ((W.failures writer.new ≡ one_more (W.failures writer.old))
+            × AskFor words.now (λ request. HasSaidPart request (R.remaining reader.old)
+                (W.contents writer.old) (W.contents writer.new))) }
+    ensures memory { result ≡ 5 → NamesCommand words.now
+        × Puts (line_of Memory) (W.contents writer.old) (W.contents writer.new)
+            (W.failures writer.old) (W.failures writer.new) }
     ensures known { result ≤ 5 }
-    ensures read { (R.failures reader.new ≡ R.failures reader.old) ⊎ (result ≡ 4) }
+    ensures read { result ≢ 4 → R.failures reader.new ≡ R.failures reader.old }
 {
     match request_of(rt.alloc(), words) {
-        Ok(request) => match perform(rt, &request, reader, writer) {
-            Ok(()) => 0,
-            Err(fault) => report(rt.alloc(), &fault, writer),
-        },
+        Ok(request) => run_request(rt, &request, reader, writer),
         Err(Refusal::Usage) => {
-            let _ = write_whole(writer, USAGE);
+            show_usage(writer);
             1
         }
-        Err(Refusal::Memory) => report(rt.alloc(), &StreamFault::Memory, writer),
+        Err(Refusal::Memory) => {
+            tell(&StreamFault::Memory, writer);
+            5
+        }
+    }
+}
+
+/// Runs the command that is asked for, and answers its status.
+fn run_request<H: AllocGlobal, R: Source, W: Sink>(
+    rt: &H,
+    request: &Request,
+    reader: &mut R,
+    writer: &mut W,
+) -> u8
+    ensures done { result ≡ 0 → (W.failures writer.new ≡ W.failures writer.old)
+        × HasSaid request.now (R.remaining reader.old) (W.contents writer.old) (W.contents writer.new) }
+    ensures usage { result ≡ 1 → HasTold 1 request.now (R.remaining reader.old)
+        (W.contents writer.old) (W.contents writer.new) (W.failures writer.old) (W.failures writer.new) }
+    ensures unreadable { result ≡ 2 → HasTold 2 request.now (R.remaining reader.old)
+        (W.contents writer.old) (W.contents writer.new) (W.failures writer.old) (W.failures writer.new) }
+    ensures refused { result ≡ 3 → HasTold 3 request.now (R.remaining reader.old)
+        (W.contents writer.old) (W.contents writer.new) (W.failures writer.old) (W.failures writer.new) }
+    ensures failed { result ≡ 4 →
+        ((R.failures reader.new ≡ one_more (R.failures reader.old))
+            × Puts (line_of Read) (W.contents writer.old) (W.contents writer.new)
+                (W.failures writer.old) (W.failures writer.new))
+        ⊎ ((W.failures writer.new ≡ one_more (W.failures writer.old))
+            × HasSaidPart request.now (R.remaining reader.old)
+                (W.contents writer.old) (W.contents writer.new)) }
+    ensures memory { result ≡ 5 →
+        Puts (line_of Memory) (W.contents writer.old) (W.contents writer.new)
+            (W.failures writer.old) (W.failures writer.new) }
+    ensures known { result ≤ 5 }
+    ensures read { result ≢ 4 → R.failures reader.new ≡ R.failures reader.old }
+{
+    match perform(rt, request, reader, writer) {
+        Ok(()) => 0,
+        Err(fault) => {
+            tell(&fault, writer);
+            fault.status()
+        }
     }
 }
 
@@ -55,7 +119,8 @@ fn perform<H: AllocGlobal, R: Source, W: Sink>(
     writer: &mut W,
 ) -> Result<(), StreamFault>
     ensures written { let asked = request.now in
-        Writes (saying_of asked.task asked.options.stored asked.options.percent) (R.remaining reader.old) asked.parameters.items asked.options.sides result (W.contents writer.old) (W.contents writer.new) }
+        Writes (saying_by asked) (R.remaining reader.old) asked.parameters.items asked.options.sides result
+            (W.contents writer.old) (W.contents writer.new) }
     ensures read { CountsRead result (R.failures reader.old) (R.failures reader.new) }
     ensures write { CountsWritten result (W.failures writer.old) (W.failures writer.new) }
 {
@@ -68,20 +133,18 @@ fn perform<H: AllocGlobal, R: Source, W: Sink>(
     }
 }
 
-/// Writes the fault's line, where there is one, and answers its status.
-fn report<W: Sink>(alloc: Global, fault: &StreamFault, writer: &mut W) -> u8
-    ensures { result ≡ status_of fault.now }
+/// Writes the fault's line, if the writer takes it.
+fn tell<W: Sink>(fault: &StreamFault, writer: &mut W)
+    ensures { Puts (line_of fault.now) (W.contents writer.old) (W.contents writer.new)
+        (W.failures writer.old) (W.failures writer.new) }
 {
-    match fault {
-        StreamFault::Write => {}
-        StreamFault::Memory => {
-            let _ = write_whole(writer, MEMORY);
-        }
-        _ => {
-            if let Ok(line) = format!(in alloc; "{fault}\n") {
-                let _ = write_whole(writer, line.as_bytes());
-            }
-        }
-    }
-    fault.status()
+    let _ = write_line(fault, writer);
+}
+
+/// Writes the usage line, if the writer takes it.
+fn show_usage<W: Sink>(writer: &mut W)
+    ensures { Puts usage_line (W.contents writer.old) (W.contents writer.new)
+        (W.failures writer.old) (W.failures writer.new) }
+{
+    let _ = write_whole(writer, USAGE);
 }

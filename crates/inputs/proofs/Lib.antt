@@ -2,3 +2,4 @@ pub mod Accepting
 pub mod Handing
 pub mod Known
 pub mod Listed
+pub mod Taken

@@ -1,7 +1,9 @@
+pub mod FaultLines
 pub mod Faults
 pub mod Giving
 pub mod Input
 pub mod Outcomes
 pub mod Sections
 pub mod Steps
+pub mod Taking
 pub mod Told

@@ -6,38 +6,38 @@ use pipe_tree::ParseFault;
 use std::alloc::AllocError;
 use thiserror::Error;
 
-/// Why a command gave no result. The text of each is its line on standard output, but for `Write`, which has none.
+/// Why a command gave no result. `write_line` writes the line that tells it.
 #[derive(Debug, Drop, Error)]
 pub enum StreamFault {
     /// The reader failed.
-    #[error("input failed")]
+    #[error("the reader failed")]
     Read,
     /// The input has more than 536,870,912 bytes.
-    #[error("input: too long")]
+    #[error("the input is too long")]
     TooLong,
     /// A separator line is missing.
-    #[error("input: no separator")]
+    #[error("a separator line is missing")]
     NoSeparator,
     /// The first section is no program.
-    #[error("program: {} {} at {}", .0.number(), .0.name(), .0.offset().unwrap_or(0))]
+    #[error("the first section is no program: {0}")]
     Program(ParseFault),
     /// The last section is no picture.
-    #[error("picture: {} {} at {}", .0.number(), .0.name(), .0.offset().unwrap_or(0))]
+    #[error("the last section is no picture: {0}")]
     Picture(PicFault),
     /// The program means nothing.
-    #[error("check: {0}")]
+    #[error("the program means nothing")]
     Check(CheckLine),
     /// A parameter was given in vain.
-    #[error("parameter: {0}")]
+    #[error("a parameter was given in vain")]
     Param(ParamLine),
     /// The program and the picture make no job.
-    #[error("{0}")]
+    #[error("the program and the picture make no job")]
     Bind(BindLine),
     /// Memory ran out.
-    #[error("memory")]
+    #[error("out of memory")]
     Memory,
     /// The writer failed or took nothing.
-    #[error("output failed")]
+    #[error("the writer failed")]
     Write,
 }
 

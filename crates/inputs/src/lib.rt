@@ -8,8 +8,11 @@ mod lines;
 mod sections;
 mod settings;
 mod stream;
+mod telling;
+mod texts;
 
 pub use faults::StreamFault;
 pub use lines::{BindLine, CheckLine, ParamLine, StageNames};
 pub use sections::split_section;
 pub use stream::{job_of, read_input};
+pub use telling::write_line;

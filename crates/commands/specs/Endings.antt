@@ -1,0 +1,47 @@
+-- How a run of the program ends: what the words ask for, and what was written.
+use Rattle.std.specs.Prelude.{◌≡◌, ◌≢◌, ℕ, List, Option, codes}
+use Rattle.std.specs.declared.alloc.Global.{Global}
+use Rattle.std.specs.declared.string.String.{String}
+use Rattle.command_line.specs.Asking.{IsRequestOf}
+use Rattle.command_line.specs.declared.words.Request.{Request}
+use Rattle.streams.specs.Streams.{one_more}
+use Rattle.inputs.specs.FaultLines.{line_of}
+use Rattle.inputs.specs.Outcomes.{AppendsPartSaid, AppendsSaid, IsFaultOfKnown, Saying, status_of}
+use Rattle.inputs.specs.Taking.{Puts}
+use Rattle.inputs.specs.declared.faults.StreamFault.{StreamFault}
+use Rattle.inputs.specs.declared.faults.StreamFault.TheVariants.{Read}
+use Rattle.commands.specs.Sayings.{saying_of}
+
+-- ---- words that ask for nothing
+
+-- the line of every command line that is refused
+abbrev pub usage_line : List ℕ
+usage_line = codes "usage: tilefarm COMMAND [OPTIONS] [NAME=VALUE]...\n"
+
+abbrev pub AskForNothing : List (String Global) → Type 0
+AskForNothing words = (request : Request) → ¬ IsRequestOf words request
+
+-- ---- words that ask for something
+
+-- they ask for a request of which this holds
+abbrev pub AskFor : List (String Global) → (Request → Type 0) → Type 0
+AskFor words Holds = (request : Request) × IsRequestOf words request × Holds request
+
+-- what the command of a request says, by its options
+abbrev pub saying_by : Request → Saying
+saying_by request = saying_of request.task request.options.stored request.options.percent
+
+-- the command was run on the request's own parameters and sides, and the writer took all that it says
+abbrev pub HasSaid : Request → Option (List ℕ) → Option (List ℕ) → Option (List ℕ) → Type 0
+HasSaid request input old new = AppendsSaid (saying_by request) input request.parameters.items request.options.sides old new
+
+-- the writer failed, and took a part of it
+abbrev pub HasSaidPart : Request → Option (List ℕ) → Option (List ℕ) → Option (List ℕ) → Type 0
+HasSaidPart request input old new = AppendsPartSaid (saying_by request) input request.parameters.items request.options.sides old new
+
+-- the first fault of the input and of the request's parameters and sides has this status, and its line alone was written
+pub record HasTold (status : ℕ) (request : Request) (input old new : Option (List ℕ)) (before after : ℕ) : Type 0 where
+  pub fault : StreamFault
+  pub told : status_of fault ≡ status
+  pub first : IsFaultOfKnown input request.parameters.items request.options.sides fault
+  pub line : Puts (line_of fault) old new before after

@@ -1,0 +1,7 @@
+use Rattle.inputs.proofs.telling.write_fault.Goals as goal
+
+pub returns-in-Read : goal.returns-in-Read
+returns-in-Read g c = rw c.in-Read.is c.write_text.ensures
+
+pub returns-in-NoSeparator : goal.returns-in-NoSeparator
+returns-in-NoSeparator g c = rw c.in-NoSeparator.is c.write_text-in-NoSeparator.ensures

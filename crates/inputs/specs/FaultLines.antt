@@ -1,0 +1,127 @@
+-- The line that tells a fault, in bytes. Items, cases and reads are counted from 0.
+use Rattle.std.specs.Prelude.{ℕ, ℤ, Option, List, [], ◌∷◌, ◌++◌, codes, string_bytes, unwrap_or}
+use Rattle.std.specs.Fmt.{decimal, signed_decimal}
+use Rattle.std.specs.List.{flat_map}
+use Rattle.std.specs.Option.{option_map_or}
+use Rattle.netpbm.specs.FaultTable as pictures
+use Rattle.pipe_tree.specs.FaultLine as texts
+use Rattle.pipe_checks.specs.FaultTable.{check_number, check_name}
+use Rattle.pipe_checks.specs.declared.fault.CheckFault.{CheckFault}
+use Rattle.pipe_checks.specs.declared.fault.CheckFault.TheVariants as checks
+use Rattle.pipe_bounds.specs.FaultTable.{bound_number, bound_name, param_number, param_name}
+use Rattle.pipe_bounds.specs.declared.fault.Axis.{Axis}
+use Rattle.pipe_bounds.specs.declared.fault.Axis.TheVariants.{Rows, Columns}
+use Rattle.pipe_bounds.specs.declared.fault.BoundFault.{BoundFault}
+use Rattle.pipe_bounds.specs.declared.fault.BoundFault.TheVariants as bounds
+use Rattle.pipe_bounds.specs.declared.fault.ParamFault.{ParamFault}
+use Rattle.binding.specs.BindFaults.{bind_number, bind_name}
+use Rattle.binding.specs.declared.fault.BindFault.{BindFault}
+use Rattle.binding.specs.declared.fault.BindFault.TheVariants as binding
+use Rattle.inputs.specs.declared.faults.StreamFault.{StreamFault}
+use Rattle.inputs.specs.declared.faults.StreamFault.TheVariants.{Read, TooLong, NoSeparator, Program, Picture, Check, Param, Bind, Memory, Write}
+use Rattle.inputs.specs.declared.lines.BindLine.{BindLine}
+use Rattle.inputs.specs.declared.lines.CheckLine.{CheckLine}
+use Rattle.inputs.specs.declared.lines.CheckLine.TheVariants as lines
+use Rattle.inputs.specs.declared.lines.ParamLine.{ParamLine}
+
+-- `KIND: NUMBER NAME`
+abbrev pub head : List ℕ → ℕ → List ℕ → List ℕ
+head kind number name = kind ++ codes ": " ++ decimal number ++ 32 ∷ name
+
+-- ` NAME`
+abbrev pub name_text : List ℕ → List ℕ
+name_text name = 32 ∷ name
+
+-- ---- faults of a text and of a picture
+
+-- ` at OFFSET`
+abbrev pub offset_text : Option ℕ → List ℕ
+offset_text offset = codes " at " ++ decimal (unwrap_or offset 0)
+
+abbrev pub head_at : List ℕ → ℕ → List ℕ → Option ℕ → List ℕ
+head_at kind number name offset = head kind number name ++ offset_text offset
+
+-- ---- faults of names, numbers and cycles
+
+-- ` item I`, where a fault blames an item
+abbrev pub item_text : CheckFault → List ℕ
+item_text (checks.Unknown item) = codes " item " ++ decimal item
+item_text (checks.Twice item) = codes " item " ++ decimal item
+item_text (checks.Kind item) = codes " item " ++ decimal item
+item_text (checks.BadKernel item) = codes " item " ++ decimal item
+item_text (checks.BadLiteral item) = codes " item " ++ decimal item
+item_text checks.NoResult = []
+item_text (checks.Cycle stages) = []
+item_text checks.Memory = []
+
+abbrev pub check_head : CheckFault → List ℕ
+check_head fault = head (codes "check") (check_number fault) (check_name fault)
+
+abbrev pub fault_text : CheckFault → List ℕ
+fault_text fault = check_head fault ++ item_text fault
+
+-- a cycle is told by the names of its stages
+abbrev pub cycle_text : List (List ℕ) → List ℕ
+cycle_text names = check_head (checks.Cycle []) ++ flat_map name_text names
+
+abbrev pub check_text : CheckLine → List ℕ
+check_text (lines.Fault fault) = fault_text fault
+check_text (lines.Cycle names) = cycle_text names
+
+-- ---- faults of parameters
+
+abbrev pub param_head : ParamFault → List ℕ
+param_head fault = head (codes "parameter") (param_number fault) (param_name fault)
+
+abbrev pub param_text : ParamLine → List ℕ
+param_text line = param_head line.fault ++ name_text (string_bytes line.name)
+
+-- ---- faults of a program and a picture
+
+abbrev pub bind_head : BindFault → List ℕ
+bind_head (binding.Bounds fault) = head (codes "bounds") (bound_number fault) (bound_name fault)
+bind_head fault = head (codes "bind") (bind_number fault) (bind_name fault)
+
+-- the name that a fault blames, if it blames one
+abbrev pub blamed_text : Option (List ℕ) → List ℕ
+blamed_text blamed = option_map_or name_text blamed []
+
+abbrev pub axis_word : Axis → List ℕ
+axis_word Rows = codes "rows"
+axis_word Columns = codes "columns"
+
+-- ` case C read K AXIS`
+abbrev pub place_text : ℕ → ℕ → Axis → List ℕ
+place_text case read axis = codes " case " ++ decimal case ++ codes " read " ++ decimal read ++ 32 ∷ axis_word axis
+
+-- ` least L greatest G`
+abbrev pub ends_text : ℤ → ℤ → List ℕ
+ends_text least greatest = codes " least " ++ signed_decimal least ++ codes " greatest " ++ signed_decimal greatest
+
+-- where a read leaves what it reads, and its least and greatest index
+abbrev pub read_text : BindFault → List ℕ
+read_text (binding.Bounds (bounds.OutOfBounds stage case read axis least greatest)) = place_text case read axis ++ ends_text least greatest
+read_text fault = []
+
+abbrev pub bind_text : BindLine → List ℕ
+bind_text line = bind_head line.fault ++ blamed_text line.blamed ++ read_text line.fault
+
+-- ---- the whole
+
+-- a fault's line without its line feed
+abbrev pub text_of : StreamFault → List ℕ
+text_of Read = codes "input failed"
+text_of TooLong = codes "input: too long"
+text_of NoSeparator = codes "input: no separator"
+text_of (Program fault) = head_at (codes "program") (texts.number_of fault) (texts.name_of fault) (texts.offset_of fault)
+text_of (Picture fault) = head_at (codes "picture") (pictures.number_of fault) (pictures.name_of fault) (pictures.offset_of fault)
+text_of (Check line) = check_text line
+text_of (Param line) = param_text line
+text_of (Bind line) = bind_text line
+text_of Memory = codes "memory"
+text_of Write = []
+
+-- the line, which a fault of the writer lacks
+abbrev pub line_of : StreamFault → List ℕ
+line_of Write = []
+line_of fault = text_of fault ++ 10 ∷ []
