@@ -1,3 +1,5 @@
 pub mod SetLaws
 pub mod SortedLaws
 pub mod JoinLaws
+pub mod KeyLaws
+pub mod Walks

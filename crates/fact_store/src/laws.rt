@@ -1,6 +1,8 @@
 //! What the definitions amount to, proved once for the crates above. A law is a function whose clauses are the law.
 
-ghost use Rattle.fact_store.specs.Facts.{FactSet, nothing, holds, facts_in, with_fact, join, IsSubset};
+ghost use Rattle.fact_store.specs.Facts.{FactSet, nothing, holds, facts_in, with_fact, join, IsSubset, lacked, facts_of};
+ghost use Rattle.identity.specs.declared.key.Key.{Key};
+ghost use Rattle.std.specs.List.{Contains};
 ghost use Rattle.std.specs.Prelude.{◌≡◌, ◌↔◌, ◌⊎◌, true, false};
 ghost use Rattle.tile_fact.specs.declared.fact.Fact.{Fact};
 ghost use Rattle.tile_fact.specs.Order.{Rises};
@@ -12,7 +14,14 @@ pub fn sets_are_their_facts()
     ensures nothing { (f : Fact) → holds nothing f ≡ false }
     ensures one_more { (s : FactSet) (f g : Fact) → (holds (with_fact s f) g ≡ true) ↔ ((g ≡ f) ⊎ (holds s g ≡ true)) }
     ensures both { (s t : FactSet) (f : Fact) → (holds (join s t) f ≡ true) ↔ ((holds s f ≡ true) ⊎ (holds t f ≡ true)) }
+    ensures listed { (s : FactSet) (f : Fact) → Contains (facts_in s) f ↔ (holds s f ≡ true) }
     ensures rise { (s : FactSet) → Rises (facts_in s) }
+{}
+
+/// The facts of a key are those of the set that have it, and what a set lacks of another one is what the other alone has.
+pub fn parts_of_sets()
+    ensures of_key { (s : FactSet) (key : Key) (f : Fact) → Contains (facts_of s key) f ↔ ((holds s f ≡ true) × (f.key ≡ key)) }
+    ensures lacked { (s t : FactSet) (f : Fact) → Contains (lacked s t) f ↔ ((holds t f ≡ true) × (holds s f ≡ false)) }
 {}
 
 /// Join is commutative, associative and idempotent, and the least set of which both are part.

@@ -15,7 +15,7 @@ abbrev pub coded_state : Coded State
 coded_state = coded_set
 
 abbrev pub is_among : List Key → Key → Bool
-is_among keys key = list_any (λ other. same_key other key) keys
+is_among keys key = list_any (same_key key) keys
 
 -- the held facts whose key is one of these
 unfoldable pub lent : State → List Key → State

@@ -121,10 +121,10 @@ impl<S: FactStore> NodeState<S> {
         ensures { IfOk result (λ facts. facts.items ≡ facts_in self.now) }
     {
         let mut facts = Vec::new(self.alloc);
-        let mut next = self.store.least();
+        let mut next = self.least();
         while let Some(fact) = next {
             facts.push(fact.clone()?)?;
-            next = self.store.least_above(fact);
+            next = self.least_above(fact);
         }
         Ok(facts)
     }

@@ -1,0 +1,11 @@
+use Rattle.std.proofs.Common.{◌≡◌, take, ◌||◌}
+use Rattle.std.specs.List.{list_any}
+use Rattle.std.specs.Ordering.{eq_by_cmp}
+use Rattle.tile_fact.specs.declared.fact.Fact.{Fact}
+use Rattle.tile_fact.specs.Order.{fact_cmp}
+use Rattle.node_state.specs.States.{holds, facts_of}
+use Rattle.node_state.proofs.state.NodeState.take_of_key.Given as goal
+
+-- the first facts of the key are taken
+abbrev pub invariant-loop-n : goal.invariant-loop-n
+invariant-loop-n g l = (f : Fact) → holds l.self f ≡ (holds l.fn.self f || list_any (eq_by_cmp fact_cmp f) (take l.n (facts_of l.other l.key)))
