@@ -1,15 +1,13 @@
 -- How a run of the program ends: what the words ask for, and what was written.
-use Rattle.std.specs.Prelude.{◌≡◌, ◌≢◌, ℕ, List, Option, codes}
+use Rattle.std.specs.Prelude.{◌≡◌, ℕ, List, Option, codes}
 use Rattle.std.specs.declared.alloc.Global.{Global}
 use Rattle.std.specs.declared.string.String.{String}
 use Rattle.command_line.specs.Asking.{IsRequestOf}
 use Rattle.command_line.specs.declared.words.Request.{Request}
-use Rattle.streams.specs.Streams.{one_more}
 use Rattle.inputs.specs.FaultLines.{line_of}
 use Rattle.inputs.specs.Outcomes.{AppendsPartSaid, AppendsSaid, IsFaultOfKnown, Saying, status_of}
 use Rattle.inputs.specs.Taking.{Puts}
 use Rattle.inputs.specs.declared.faults.StreamFault.{StreamFault}
-use Rattle.inputs.specs.declared.faults.StreamFault.TheVariants.{Read}
 use Rattle.commands.specs.Sayings.{saying_of}
 
 -- ---- words that ask for nothing

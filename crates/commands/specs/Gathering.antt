@@ -1,5 +1,5 @@
 -- The line of what an accumulator gathered. Only contracts inside the crate cite it.
-use Rattle.std.specs.Prelude.{◌≡◌, ℕ, List, [], slice_get}
+use Rattle.std.specs.Prelude.{ℕ, List, [], slice_get}
 use Rattle.std.specs.Option.{option_map_or}
 use Rattle.accumulators.specs.Answers.{Gathered}
 use Rattle.job.specs.Pipeline.{Body, plane, function, accumulator, Stage, Pipeline}

@@ -30,34 +30,34 @@ pub fn run_command<H: AllocGlobal, R: Source, W: Sink>(
     // all that it says.
     ensures done { result ≡ 0 → (W.failures writer.new ≡ W.failures writer.old)
         × AskFor words.now (λ request. HasSaid request (R.remaining reader.old)
-            (W.contents writer.old) (W.contents writer.new)) }
-    // The words ask for nothing, or the first fault is one of the parameters that they give.
+        (W.contents writer.old) (W.contents writer.new)) }
+    // The words ask for nothing, and nothing is read; or the first fault is one of the parameters that they give.
     ensures usage { result ≡ 1 →
-        (AskForNothing words.now
-            × Puts usage_line (W.contents writer.old) (W.contents writer.new)
-                (W.failures writer.old) (W.failures writer.new))
+        (AskForNothing words.now × (R.remaining reader.new ≡ R.remaining reader.old)
+        × Puts usage_line (W.contents writer.old) (W.contents writer.new)
+        (W.failures writer.old) (W.failures writer.new))
         ⊎ AskFor words.now (λ request. HasTold 1 request (R.remaining reader.old)
-            (W.contents writer.old) (W.contents writer.new)
-            (W.failures writer.old) (W.failures writer.new)) }
+        (W.contents writer.old) (W.contents writer.new)
+        (W.failures writer.old) (W.failures writer.new)) }
     ensures unreadable { result ≡ 2 →
         AskFor words.now (λ request. HasTold 2 request (R.remaining reader.old)
-            (W.contents writer.old) (W.contents writer.new)
-            (W.failures writer.old) (W.failures writer.new)) }
+        (W.contents writer.old) (W.contents writer.new)
+        (W.failures writer.old) (W.failures writer.new)) }
     ensures refused { result ≡ 3 →
         AskFor words.now (λ request. HasTold 3 request (R.remaining reader.old)
-            (W.contents writer.old) (W.contents writer.new)
-            (W.failures writer.old) (W.failures writer.new)) }
+        (W.contents writer.old) (W.contents writer.new)
+        (W.failures writer.old) (W.failures writer.new)) }
     // The reader failed, which is told, or the writer failed, which is not.
     ensures failed { result ≡ 4 →
         ((R.failures reader.new ≡ one_more (R.failures reader.old))
-            × Puts (line_of Read) (W.contents writer.old) (W.contents writer.new)
-                (W.failures writer.old) (W.failures writer.new))
+        × Puts (line_of Read) (W.contents writer.old) (W.contents writer.new)
+        (W.failures writer.old) (W.failures writer.new))
         ⊎ ((W.failures writer.new ≡ one_more (W.failures writer.old))
-            × AskFor words.now (λ request. HasSaidPart request (R.remaining reader.old)
-                (W.contents writer.old) (W.contents writer.new))) }
+        × AskFor words.now (λ request. HasSaidPart request (R.remaining reader.old)
+        (W.contents writer.old) (W.contents writer.new))) }
     ensures memory { result ≡ 5 → NamesCommand words.now
         × Puts (line_of Memory) (W.contents writer.old) (W.contents writer.new)
-            (W.failures writer.old) (W.failures writer.new) }
+        (W.failures writer.old) (W.failures writer.new) }
     ensures known { result ≤ 5 }
     ensures read { result ≢ 4 → R.failures reader.new ≡ R.failures reader.old }
 {
@@ -91,14 +91,14 @@ fn run_request<H: AllocGlobal, R: Source, W: Sink>(
         (W.contents writer.old) (W.contents writer.new) (W.failures writer.old) (W.failures writer.new) }
     ensures failed { result ≡ 4 →
         ((R.failures reader.new ≡ one_more (R.failures reader.old))
-            × Puts (line_of Read) (W.contents writer.old) (W.contents writer.new)
-                (W.failures writer.old) (W.failures writer.new))
+        × Puts (line_of Read) (W.contents writer.old) (W.contents writer.new)
+        (W.failures writer.old) (W.failures writer.new))
         ⊎ ((W.failures writer.new ≡ one_more (W.failures writer.old))
-            × HasSaidPart request.now (R.remaining reader.old)
-                (W.contents writer.old) (W.contents writer.new)) }
+        × HasSaidPart request.now (R.remaining reader.old)
+        (W.contents writer.old) (W.contents writer.new)) }
     ensures memory { result ≡ 5 →
         Puts (line_of Memory) (W.contents writer.old) (W.contents writer.new)
-            (W.failures writer.old) (W.failures writer.new) }
+        (W.failures writer.old) (W.failures writer.new) }
     ensures known { result ≤ 5 }
     ensures read { result ≢ 4 → R.failures reader.new ≡ R.failures reader.old }
 {
@@ -120,7 +120,7 @@ fn perform<H: AllocGlobal, R: Source, W: Sink>(
 ) -> Result<(), StreamFault>
     ensures written { let asked = request.now in
         Writes (saying_by asked) (R.remaining reader.old) asked.parameters.items asked.options.sides result
-            (W.contents writer.old) (W.contents writer.new) }
+        (W.contents writer.old) (W.contents writer.new) }
     ensures read { CountsRead result (R.failures reader.old) (R.failures reader.new) }
     ensures write { CountsWritten result (W.failures writer.old) (W.failures writer.new) }
 {

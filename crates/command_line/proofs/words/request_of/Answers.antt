@@ -45,3 +45,8 @@ returns-clause-asked c =
       options = c.in-Some-options_of.ensures.some;
       parameters = c.in_ok-parameters_of.ensures.some;
     }
+
+pub returns-in_err-parameters_of-clause-memory : goal.returns-in_err-parameters_of-clause-memory
+returns-in_err-parameters_of-clause-memory c =
+    let p = err_from_is_err_and c.from_residual-in_err-parameters_of.result c.from_residual-in_err-parameters_of.ensures.1 in
+    rw p.1 (λ memory. record { task = c.in-Some.task; named = c.in-Some.ensures.some; no_separator = search rules })

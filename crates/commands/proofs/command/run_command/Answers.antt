@@ -1,0 +1,26 @@
+use Rattle.std.proofs.Common.{inl, inr, refl}
+use Rattle.commands.proofs.command.run_command.Goals as goal
+
+pub returns-in-Ok-clause-done : goal.returns-in-Ok-clause-done
+returns-in-Ok-clause-done g c = λ ends.
+    let done = c.run_request.ensures.done ends in
+    (done.0, (c.in-Ok.request, c.in-Ok.ensures.asked, done.1))
+
+pub returns-in-Ok-clause-usage : goal.returns-in-Ok-clause-usage
+returns-in-Ok-clause-usage g c = λ ends. inr (c.in-Ok.request, c.in-Ok.ensures.asked, c.run_request.ensures.usage ends)
+
+pub returns-in-Ok-clause-unreadable : goal.returns-in-Ok-clause-unreadable
+returns-in-Ok-clause-unreadable g c = λ ends. (c.in-Ok.request, c.in-Ok.ensures.asked, c.run_request.ensures.unreadable ends)
+
+pub returns-in-Ok-clause-refused : goal.returns-in-Ok-clause-refused
+returns-in-Ok-clause-refused g c = λ ends. (c.in-Ok.request, c.in-Ok.ensures.asked, c.run_request.ensures.refused ends)
+
+pub returns-in-Ok-clause-failed : goal.returns-in-Ok-clause-failed
+returns-in-Ok-clause-failed g c = λ ends.
+    elim (c.run_request.ensures.failed ends) [
+      | inl read ↦ inl read
+      | inr written ↦ inr (written.0, (c.in-Ok.request, c.in-Ok.ensures.asked, written.1))
+    ]
+
+pub returns-in-Err-Usage-clause-usage : goal.returns-in-Err-Usage-clause-usage
+returns-in-Err-Usage-clause-usage g c = λ ends. inl (c.in-Err-Usage.ensures.usage c.in-Err-Usage.field-0-is, refl, c.show_usage.ensures)
