@@ -96,7 +96,7 @@ map_pairs f [] cs = refl
 map_pairs f (r ∷ rs) cs =
     map-append f (map (λ c. (r, c)) cs) (pairs rs cs) ∙ (λ i. map_map f (λ c. (r, c)) cs i ++ map_pairs f rs cs i)
 
-areas_are : (g : Grid) → map (λ t. tile_area g t.0 t.1) (tiles_of g) ≡ areas_of_tiles g
+pub areas_are : (g : Grid) → map (λ t. tile_area g t.0 t.1) (tiles_of g) ≡ areas_of_tiles g
 areas_are g = map_pairs (λ t. tile_area g t.0 t.1) (range_with_len 0 (tile_rows g)) (range_with_len 0 (tile_cols g))
 
 -- the points of a stage's tiles, area by area

@@ -10,6 +10,7 @@ pub mod BoxesHoldWhatIsRead
 pub mod OrderHasEachStage
 pub mod TilesAreTargets
 pub mod CostsAddUp
+pub mod CostsAreSmall
 pub mod AskedIsSchedule
 pub mod AloneTakesNone
 pub mod BoxesLieInDomains

@@ -1,7 +1,7 @@
 #![tactic(auto)]
 //! What stages cost: how many points are computed for their tiles.
 
-ghost use Rattle.std.specs.Prelude.{◌≡◌, ◌<◌, ◌+◌, ◌++◌, ◌&&◌, ℕ, true, [], ◌∷◌, map, nat_le, slice_get, All, IfOk, OnOk};
+ghost use Rattle.std.specs.Prelude.{◌≡◌, ◌<◌, ◌+◌, ◌^◌, ◌++◌, ◌&&◌, ℕ, true, [], ◌∷◌, map, nat_le, slice_get, All, IfOk, OnOk};
 ghost use Rattle.std.specs.Option.{option_map, option_map_or};
 ghost use Rattle.std.specs.List.{sum};
 ghost use Rattle.domains.specs.Tiles.{tile_rows, tile_cols};
@@ -62,14 +62,15 @@ pub(crate) struct Tally {
 
 impl Tally {
     // One more tile, with so many points in scratch memory and so many of its own.
-    fn with(self, scratch: u64, own: u64) -> Result<Tally, AllocError>
-        ensures points { IfOk result (λ t. t.points ≡ self.points + (scratch + own)) }
-        ensures fits { IfOk result (λ t. t.fits ≡ (self.fits && nat_le scratch most_scratch)) }
+    fn with(self, scratch: u64, own: u64) -> Tally
+        requires few { self.points + (scratch + own) < 2 ^ 64 }
+        ensures points { result.points ≡ self.points + (scratch + own) }
+        ensures fits { result.fits ≡ (self.fits && nat_le scratch most_scratch) }
     {
-        let both = scratch.checked_add(own).ok_or(AllocError)?;
-        let points = self.points.checked_add(both).ok_or(AllocError)?;
-        let fits = self.fits && scratch <= MOST_SCRATCH;
-        Ok(Tally { points, fits })
+        Tally {
+            points: self.points + (scratch + own),
+            fits: self.fits && scratch <= MOST_SCRATCH,
+        }
     }
 }
 
@@ -102,16 +103,16 @@ impl TargetWalk<'_> {
         }
     }
 
-    fn inner_sum(&self, hulls: &[Option<Area>], numbers: &[usize]) -> Result<u64, AllocError>
+    fn inner_sum(&self, hulls: &[Option<Area>], numbers: &[usize]) -> u64
         requires boxes { (g : ℕ) → cut_hull (pipeline_in self.now.job.now).stages hulls.now g ≡ box (target_of self.now) g }
-        ensures { IfOk result (λ n. n ≡ sum (map (inner_points (target_of self.now)) numbers.now)) }
+        requires few { sum (map (inner_points (target_of self.now)) numbers.now) < 2 ^ 64 }
+        ensures { result ≡ sum (map (inner_points (target_of self.now)) numbers.now) }
     {
-        let mut total: u64 = 0;
+        let mut total = 0;
         for number in numbers {
-            let points = self.inner_points(hulls, *number);
-            total = total.checked_add(points).ok_or(AllocError)?;
+            total += self.inner_points(hulls, *number);
         }
-        Ok(total)
+        total
     }
 
     // The points of the boxes of what is inlined.
@@ -121,7 +122,7 @@ impl TargetWalk<'_> {
         ensures { IfOk result (λ n. n ≡ scratch (target_of self.now)) }
     {
         let hulls = self.hulls(alloc, order)?;
-        self.inner_sum(&hulls, order)
+        Ok(self.inner_sum(&hulls, order))
     }
 
     // The points of the boxes of what is inlined; none of a stage that reads nothing of it.
@@ -155,6 +156,7 @@ impl TargetWalk<'_> {
         requires targets { All (λ a. IsTarget (over (target_of self.now) a)) areas.now }
         requires order { order.now ≡ in_order (pipeline_in self.now.job.now).stages }
         requires alone { is_alone ≡ true → (a : Area) → scratch (over (target_of self.now) a) ≡ 0 }
+        requires few { points_over (target_of self.now) areas.now < 2 ^ 64 }
         ensures points { IfOk result (λ t. t.points ≡ points_over (target_of self.now) areas.now) }
         ensures fits { IfOk result (λ t. t.fits ≡ all_have_scratch (target_of self.now) areas.now) }
     {
@@ -165,7 +167,7 @@ impl TargetWalk<'_> {
         for area in areas {
             let walk = self.over(*area);
             let scratch = walk.scratch_unless(alloc, order, is_alone)?;
-            tally = tally.with(scratch, area.points())?;
+            tally = tally.with(scratch, area.points());
         }
         Ok(tally)
     }

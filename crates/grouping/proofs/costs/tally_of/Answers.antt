@@ -2,9 +2,12 @@ use Rattle.std.specs.Prelude.{slice_get}
 use Rattle.std.specs.Option.{option_map}
 use Rattle.job.specs.Views.{stage_view}
 use Rattle.grouping.proofs.AloneTakesNone.{alone_takes_none}
-use Rattle.std.proofs.Common.{◌≡◌, Some, ap, sym, ◌∙◌}
+use Rattle.std.proofs.Common.{arith, ◌≡◌, ◌≤◌, Some, List, length, ap, sym, ◌∙◌, subst}
+use Rattle.domains.specs.declared.area.Area.{Area}
 use Rattle.job.specs.Kept.{pipeline_in}
 use Rattle.grouping.specs.inside.Tallies.{points_over, all_have_scratch}
+use Rattle.grouping.specs.Targets.{target_over}
+use Rattle.grouping.proofs.CostsAreSmall.{areas_few, cost_small}
 use Rattle.grouping.proofs.CostsAddUp.{targets_from, cost_from, fits_from}
 use Rattle.grouping.proofs.costs.tally_of.Goals as goal
 
@@ -12,6 +15,17 @@ pub tally-requires-clause-targets : goal.tally-requires-clause-targets
 tally-requires-clause-targets c =
     targets_from (pipeline_in c.args.job.now) c.args.inlining.now c.args.number c.in-Some.grid c.deref.result.now c.args.job.now.well
     (sym c.grid.ensures ∙ c.in-Some.is) (c.deref.ensures.value ∙ c.in_ok-areas.ensures)
+
+pub tally-requires-clause-few : goal.tally-requires-clause-few
+tally-requires-clause-few c =
+    let job = pipeline_in c.args.job.now in
+    let areas = c.deref.ensures.value ∙ c.in_ok-areas.ensures in
+    let few : length c.deref.result.now ≤ 65536 =
+    subst (λ (xs : List Area). length xs ≤ 65536) (sym areas)
+    (areas_few job c.args.number c.in-Some.grid c.args.job.now.well (sym c.grid.ensures ∙ c.in-Some.is)) in
+    let small = cost_small (target_over job c.args.inlining.now c.args.number c.in-Some.grid.area) c.deref.result.now c.args.job.now.well
+    (tally-requires-clause-targets c) few in
+    omega arith
 
 pub returns-clause-cost : goal.returns-clause-cost
 returns-clause-cost c =
