@@ -5,8 +5,8 @@ ghost use Rattle.std.specs.Prelude.{◌≡◌, ◌<◌, ◌++◌, All, Some, IfO
 ghost use Rattle.std.specs.List.{flat_map};
 ghost use Rattle.std.specs.Option.{option_map, ForSome};
 ghost use Rattle.pipe_tree.specs.Tree.{function, accumulator, view, branch, branches, function_of, accumulator_of, declaration, declarations};
-ghost use Rattle.binding.specs.Binding.{stage_number, rank_named, formula_of, case_of, plane_stage, function_stage, accumulator_stage, names_in, item_stages};
-ghost use Rattle.binding.specs.inside.Ranges.{IsRanged, IsRangedBranch, IsRangedItem, HasBounds, box_in, IsPlaneBounds, HavePlanes, IsBoundItem, AreReady};
+ghost use Rattle.binding.specs.Binding.{stage_number, rank_named, variables_of, formula_of, case_of, plane_stage, function_stage, accumulator_stage, names_in, item_stages};
+ghost use Rattle.binding.specs.inside.Ranges.{IsRanged, IsRangedBranch, HasBounds, box_in, IsPlaneBounds, HavePlanes, IsReady, AreReady};
 ghost use Rattle.job.specs.Views.{formula_view, case_view, stage_view};
 ghost use Rattle.binding.specs.inside.Resolving.{program_in, variables_in};
 
@@ -14,8 +14,18 @@ use crate::resolve::{Resolver, Variables};
 use job::{Accumulator, Body, Formula, Function, JobCase, Stage};
 use pipe_bounds::StageBounds;
 use pipe_tokens::Name;
-use pipe_tree::{Accum, Case, Expr, Func, Image, Item, Names, Test};
+use pipe_tree::{Accum, Case, Expr, Func, Image, Item, Names, Variable};
 use std::alloc::AllocError;
+
+// The names of these variables.
+fn variables_of(row: &Variable, column: &Variable) -> Variables
+    ensures { variables_in result ≡ variables_of row.now column.now }
+{
+    Variables {
+        row: row.name,
+        column: column.name,
+    }
+}
 
 impl Resolver<'_> {
     // What was found of the stage of this name.
@@ -91,14 +101,10 @@ impl Resolver<'_> {
     }
 
     fn function(&self, func: &Func) -> Result<Stage, AllocError>
-        requires ranged { IsRangedItem (function (function_of func.now)) }
-        requires bound { IsBoundItem (program_in self.now) self.now.found.now (function (function_of func.now)) }
+        requires { IsReady (program_in self.now) self.now.found.now (function (function_of func.now)) }
         ensures { IfOk result (λ s. stage_view s ≡ function_stage (program_in self.now) (function_of func.now)) }
     {
-        let own = Variables {
-            row: func.row.name,
-            column: func.column.name,
-        };
+        let own = variables_of(&func.row, &func.column);
         let bounds = self.bounds(&func.name);
         let job_cases = self.job_cases(&own, bounds, func.cases.list())?;
         let otherwise = self.otherwise(&own, &func.otherwise)?;
@@ -107,14 +113,10 @@ impl Resolver<'_> {
     }
 
     fn accumulator(&self, accum: &Accum) -> Result<Stage, AllocError>
-        requires ranged { IsRangedItem (accumulator (accumulator_of accum.now)) }
-        requires bound { IsBoundItem (program_in self.now) self.now.found.now (accumulator (accumulator_of accum.now)) }
+        requires { IsReady (program_in self.now) self.now.found.now (accumulator (accumulator_of accum.now)) }
         ensures { IfOk result (λ s. stage_view s ≡ accumulator_stage (program_in self.now) (accumulator_of accum.now)) }
     {
-        let own = Variables {
-            row: accum.row.name,
-            column: accum.column.name,
-        };
+        let own = variables_of(&accum.row, &accum.column);
         let bounds = self.bounds(&accum.name);
         let value = self.formula(&own, &accum.value)?;
         let bin = self.formula(&own, &accum.bin)?;
@@ -140,8 +142,7 @@ impl Resolver<'_> {
     }
 
     fn add_item(&self, stages: &mut Vec<Stage>, item: &Item) -> Result<(), AllocError>
-        requires ranged { IsRangedItem (declaration item.now) }
-        requires bound { IsBoundItem (program_in self.now) self.now.found.now (declaration item.now) }
+        requires { IsReady (program_in self.now) self.now.found.now (declaration item.now) }
         ensures { OnOk result (map stage_view stages.new.items ≡ map stage_view stages.old.items ++ item_stages (program_in self.now) (declaration item.now)) }
     {
         match item {

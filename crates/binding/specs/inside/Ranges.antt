@@ -71,6 +71,11 @@ IsBoundItem p found (function f) = HasBounds p found f.name (IsFunctionBounds p 
 IsBoundItem p found (accumulator a) = HasBounds p found a.name (IsAccumulatorBounds p a)
 IsBoundItem p found (output o) = Unit {0}
 
+-- its stages can be made
+pub record IsReady (p : Program) (found : List StageBounds) (item : Declaration) : Type 0 where
+  pub ranged : IsRangedItem item
+  pub bound : IsBoundItem p found item
+
 -- all this holds of each item
 pub record AreReady (p : Program) (found : List StageBounds) (items : List Declaration) : Type 0 where
   pub ranged : All IsRangedItem items

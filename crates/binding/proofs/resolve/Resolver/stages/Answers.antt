@@ -8,16 +8,12 @@ use Rattle.binding.specs.inside.Resolving.{program_in}
 use Rattle.domains.proofs.Places.{all_at}
 use Rattle.binding.proofs.resolve.Resolver.stages.Goals as goal
 
-pub add_item-requires-clause-ranged : goal.add_item-requires-clause-ranged
-add_item-requires-clause-ranged c =
+pub add_item-requires : goal.add_item-requires
+add_item-requires c =
     let items = c.args.items.now in
     let n = c.loop-item.item-index in
-    all_at IsRangedItem (declarations items) n (declaration c.item-item.result) c.requires.ranged
-    (slice_get-map declaration items n ∙ ap (option_map declaration) (here_is items items n _ refl c.loop-item-test.true c.item-item.is))
-
-pub add_item-requires-clause-bound : goal.add_item-requires-clause-bound
-add_item-requires-clause-bound c =
-    let items = c.args.items.now in
-    let n = c.loop-item.item-index in
-    all_at (IsBoundItem (program_in c.args.self.now) c.args.self.now.found.now) (declarations items) n (declaration c.item-item.result) c.requires.bound
-    (slice_get-map declaration items n ∙ ap (option_map declaration) (here_is items items n _ refl c.loop-item-test.true c.item-item.is))
+    let here = slice_get-map declaration items n ∙ ap (option_map declaration) (here_is items items n _ refl c.loop-item-test.true c.item-item.is) in
+    record {
+      ranged = all_at IsRangedItem (declarations items) n (declaration c.item-item.result) c.requires.ranged here;
+      bound = all_at (IsBoundItem (program_in c.args.self.now) c.args.self.now.found.now) (declarations items) n (declaration c.item-item.result) c.requires.bound here;
+    }
