@@ -1,7 +1,7 @@
 #![tactic(auto)]
 //! Where a parser is, and how it passes one token.
 
-ghost use Rattle.std.specs.Prelude.{◌≡◌, ◌<◌, ◌≤◌, length, IfOk, OnOk};
+ghost use Rattle.std.specs.Prelude.{◌≡◌, ◌<◌, ◌≤◌, length, Some, IfOk, OnOk};
 ghost use Rattle.pipe_tree.specs.Limits.{none_yet};
 ghost use Rattle.pipe_tree.specs.Reading as reading;
 ghost use Rattle.pipe_tree.specs.Reading.{halt_of, kind_at};
@@ -127,6 +127,20 @@ impl Parser<'_> {
         }
     }
 
+    // Passes the token ahead, which counts as the role, where it means something; that is given back.
+    fn meant<T: Drop>(&mut self, meaning: Option<T>, role: Role) -> Result<T, ParseError>
+        ensures exact { Reads (λ x. (x, at self.new)) result (reading.meant role meaning (at self.old)) }
+        ensures shorter { length self.new.rest.now ≤ length self.old.rest.now }
+        ensures passes { OnOk result (self.new.rest.now ≡ tail self.old.rest.now) }
+        ensures means { IfOk result (λ x. meaning ≡ Some x) }
+    {
+        let Some(meaning) = meaning else {
+            return Err(self.refuse());
+        };
+        self.begin(role)?;
+        Ok(meaning)
+    }
+
     /// Gives back what was read, if this punctuation comes after it.
     pub fn ended<T: Drop>(&mut self, value: T, mark: Punct) -> Result<T, ParseError>
         ensures exact { Reads (λ _. (tt, at self.new)) result (reading.mark mark Role.Plain (at self.old)) }
@@ -156,13 +170,8 @@ impl Parser<'_> {
         ensures exact { Reads (λ x. (x, at self.new)) result (reading.name role (at self.old)) }
         ensures shorter { length self.new.rest.now ≤ length self.old.rest.now }
     {
-        match self.name_ahead() {
-            Some(name) => {
-                self.begin(role)?;
-                Ok(name)
-            }
-            None => Err(self.refuse()),
-        }
+        let name = self.name_ahead();
+        self.meant(name, role)
     }
 
     /// Reads a number of at most 2,147,483,647, which counts as the role.
@@ -188,13 +197,8 @@ impl Parser<'_> {
         ensures shorter { length self.new.rest.now ≤ length self.old.rest.now }
         ensures passes { OnOk result (length self.new.rest.now < length self.old.rest.now) }
     {
-        match sign_of(self.ahead()) {
-            Some(negative) => {
-                self.begin(role)?;
-                Ok(negative)
-            }
-            None => Err(self.refuse()),
-        }
+        let negative = sign_of(self.ahead());
+        self.meant(negative, role)
     }
 
     #[tactic(auto, using(crate::proofs::Passing::factor_passes))]
@@ -203,13 +207,8 @@ impl Parser<'_> {
         ensures shorter { length self.new.rest.now ≤ length self.old.rest.now }
         ensures passes { OnOk result (length self.new.rest.now < length self.old.rest.now) }
     {
-        match factor_of(self.ahead()) {
-            Some(factor) => {
-                self.begin(Role::Node)?;
-                Ok(factor)
-            }
-            None => Err(self.refuse()),
-        }
+        let factor = factor_of(self.ahead());
+        self.meant(factor, Role::Node)
     }
 
     /// Reads a relation.
@@ -217,13 +216,8 @@ impl Parser<'_> {
         ensures exact { Reads (λ r. (r, at self.new)) result (reading.relation (at self.old)) }
         ensures shorter { length self.new.rest.now ≤ length self.old.rest.now }
     {
-        match relation_of(self.ahead()) {
-            Some(relation) => {
-                self.begin(Role::Plain)?;
-                Ok(relation)
-            }
-            None => Err(self.refuse()),
-        }
+        let relation = relation_of(self.ahead());
+        self.meant(relation, Role::Plain)
     }
 
     /// Reads how an accumulator joins numbers.
@@ -231,12 +225,7 @@ impl Parser<'_> {
         ensures exact { Reads (λ f. (f, at self.new)) result (reading.fold (at self.old)) }
         ensures shorter { length self.new.rest.now ≤ length self.old.rest.now }
     {
-        match fold_of(self.ahead()) {
-            Some(fold) => {
-                self.begin(Role::Plain)?;
-                Ok(fold)
-            }
-            None => Err(self.refuse()),
-        }
+        let fold = fold_of(self.ahead());
+        self.meant(fold, Role::Plain)
     }
 }
