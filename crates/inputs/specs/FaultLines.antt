@@ -11,7 +11,6 @@ use Rattle.pipe_checks.specs.declared.fault.CheckFault.TheVariants as checks
 use Rattle.pipe_bounds.specs.FaultTable.{bound_number, bound_name, param_number, param_name}
 use Rattle.pipe_bounds.specs.declared.fault.Axis.{Axis}
 use Rattle.pipe_bounds.specs.declared.fault.Axis.TheVariants.{Rows, Columns}
-use Rattle.pipe_bounds.specs.declared.fault.BoundFault.{BoundFault}
 use Rattle.pipe_bounds.specs.declared.fault.BoundFault.TheVariants as bounds
 use Rattle.pipe_bounds.specs.declared.fault.ParamFault.{ParamFault}
 use Rattle.binding.specs.BindFaults.{bind_number, bind_name}

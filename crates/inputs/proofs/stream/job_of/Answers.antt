@@ -1,7 +1,6 @@
-use Rattle.std.proofs.Common.{◌≡◌, ◌∙◌, ap, map}
 use Rattle.std.proofs.lemmas.Result.{IfErr-weaker, err_from_is_err_and}
 use Rattle.pipe_tree.specs.Content.{content}
-use Rattle.job.specs.Kept.{pipeline_in, program_text_in}
+use Rattle.job.specs.Kept.{pipeline_in}
 use Rattle.inputs.proofs.Known.{input_job, input_small, late_fault, read_job}
 use Rattle.inputs.proofs.Listed.{all_then, both_then}
 use Rattle.inputs.proofs.stream.job_of.Goals as goal

@@ -1,6 +1,5 @@
 use Rattle.std.proofs.Common.{arith}
-use Rattle.std.specs.List.{flat_map}
-use Rattle.inputs.proofs.Taken.{all_more, part_more, takes_err}
+use Rattle.inputs.proofs.Taken.{part_more, takes_err}
 use Rattle.inputs.proofs.texts.write_texts.Goals as goal
 
 pub returns-in_err-write_text : goal.returns-in_err-write_text
