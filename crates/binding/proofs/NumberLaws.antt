@@ -17,6 +17,7 @@ use Rattle.pipe_checks.specs.declared.symbol.Symbol.{Symbol}
 use Rattle.pipe_checks.specs.Names.{names_of, item_names, names_from, is_param, declared_names, stages_of, number_of, place_of, declared_at}
 use Rattle.pipe_checks.specs.Checking.{NoneTwice}
 use Rattle.domains.proofs.Places.{all_at}
+use Rattle.pipe_checks.proofs.Declaring.{Comes, names_come}
 
 -- ---- the first that passes
 
@@ -105,28 +106,6 @@ taken_at (y ∷ ys) (suc n) (suc k) x l w is = taken_at ys n k x (omega arith) (
 is_false : (b : Bool) → (b ≡ true → ⊥) → b ≡ false
 is_false true h = absurd (h refl)
 is_false false h = refl
-
--- where the items begin with number n, the name comes from one of them
-abbrev Comes : ℕ → List Declaration → Symbol → Type 0
-Comes n ds x = (k : ℕ) × (x.item ≡ n + k) × (d : Declaration) × (slice_get ds k ≡ Some d)
-
-planes_come : (n : ℕ) (ns : Names) → All (λ x. x.item ≡ n) (names_of n ns)
-planes_come n (One x) = All-from_recursion (λ d. d.item ≡ n) (names_of n (One x)) (refl, tt)
-planes_come n (Three x y z) = All-from_recursion (λ d. d.item ≡ n) (names_of n (Three x y z)) (refl, (refl, (refl, tt)))
-
-item_comes : (n : ℕ) (d : Declaration) → All (λ x. x.item ≡ n) (item_names n d)
-item_comes n (tree.param x) = All-from_recursion (λ d. d.item ≡ n) (item_names n (tree.param x)) (refl, tt)
-item_comes n (tree.image i) = planes_come n i.names
-item_comes n (tree.function f) = All-from_recursion (λ d. d.item ≡ n) (item_names n (tree.function f)) (refl, tt)
-item_comes n (tree.accumulator a) = All-from_recursion (λ d. d.item ≡ n) (item_names n (tree.accumulator a)) (refl, tt)
-item_comes n (tree.output o) = All-nil (λ d. d.item ≡ n)
-
-names_come : (n : ℕ) (ds : List Declaration) → All (Comes n ds) (names_from n ds)
-names_come n [] = All-nil (Comes n [])
-names_come n (d ∷ ds) =
-    All-append (Comes n (d ∷ ds)) (item_names n d) (names_from (n + 1) ds)
-    (All-weaker (λ x. x.item ≡ n) (Comes n (d ∷ ds)) (λ x e. (0, e ∙ omega arith, d, refl)) (item_names n d) (item_comes n d))
-    (All-weaker (Comes (n + 1) ds) (Comes n (d ∷ ds)) (λ x c. (suc c.0, c.1 ∙ omega arith, c.2, c.3)) (names_from (n + 1) ds) (names_come (n + 1) ds))
 
 module _ (ds : List Declaration) (once : NoneTwice (declared_names ds) ds) where
   not_again : (i j : ℕ) (x y : Symbol) → i < j → slice_get (declared_names ds) i ≡ Some y → slice_get (declared_names ds) j ≡ Some x → bytes_eq y.name x.name ≡ true → ⊥

@@ -11,9 +11,10 @@ use Rattle.netpbm.specs.declared.header.Coding.TheVariants.{Plain, Raw}
 use Rattle.netpbm.specs.declared.header.Header.{Header}
 use Rattle.netpbm.specs.Image.{InRange}
 use Rattle.netpbm.specs.Text.{is_white}
-use Rattle.netpbm.specs.Grammar.{magic, IsNumber, IsGap, IsFields, NoDigit}
-use Rattle.netpbm.specs.Faults.{Fit, IsHeaderFront, EndsInHeader, HasBadHeaderByte, HasBadField, HasCommentBehindMax, IsFault}
+use Rattle.netpbm.specs.Grammar.{magic, IsNumber, nothing, IsGap, IsFields, NoDigit}
+use Rattle.netpbm.specs.Faults.{ended, Fit, IsHeaderFront, EndsInHeader, HasBadHeaderByte, HasBadField, HasCommentBehindMax, IsFault}
 use Rattle.netpbm.specs.Reading.{◌>>=◌, kind_of, magic_read, size_read, max_read, white_read, header_read}
+use Rattle.netpbm.proofs.Gaps.{filler_scans}
 use Rattle.netpbm.proofs.TextLaws.{white_no_digit, gap_no_digit}
 use Rattle.netpbm.proofs.NumberLaws.{behind, nil_or_cons, StopThere, FieldThere, BadThere, FieldFails, WhiteThere, WhiteFails, size_view, max_view, white_view, size_complete, max_complete, white_complete}
 
@@ -215,7 +216,7 @@ module _ (bytes : List ℕ) (at : ℕ) (coding : Coding) (colours : ℕ) (number
           filler = [];
           whole = parts_at [] [] none;
           front_is = here.front_is;
-          filler_is = refl;
+          filler_is = ended [] nothing;
           behind_max = λ _. refl;
         } in
         subst (IsFault bytes) (sym is) (refl, inr (inr cut))
@@ -245,7 +246,7 @@ module _ (bytes : List ℕ) (at : ℕ) (coding : Coding) (colours : ℕ) (number
           whole = parts_at [] (byte ∷ more) there;
           place = here.place ∙ omega arith;
           front_is = here.front_is;
-          filler_is = refl;
+          filler_is = nothing;
           behind_max = λ _. refl;
           stands_not = stands;
           digit_only_behind_magic = λ d. (refl, digit_first_only byte more [] e' refl d);
@@ -360,8 +361,8 @@ header_complete coding colours cols rows max fields white rest two (g1, d1, f1, 
     let at1 : drop p1 bytes ≡ g2 ++ (d2 ++ (f2 ++ tail)) = next 2 g1 d1 (f1 ++ tail) at0 ∙ s1 in
     let at2 : drop p2 bytes ≡ g3 ++ (d3 ++ tail) = next p1 g2 d2 (f2 ++ tail) at1 ∙ s2 in
     let at3 : drop p3 bytes ≡ tail = next p2 g3 d3 tail at2 in
-    let n1 : NoDigit (f1 ++ tail) = subst NoDigit (sym s1) (gap_no_digit g2 (d2 ++ (f2 ++ tail)) hg2.some hg2.filler) in
-    let n2 : NoDigit (f2 ++ tail) = subst NoDigit (sym s2) (gap_no_digit g3 (d3 ++ tail) hg3.some hg3.filler) in
+    let n1 : NoDigit (f1 ++ tail) = subst NoDigit (sym s1) (gap_no_digit g2 (d2 ++ (f2 ++ tail)) hg2.some (filler_scans g2 hg2.filler)) in
+    let n2 : NoDigit (f2 ++ tail) = subst NoDigit (sym s2) (gap_no_digit g3 (d3 ++ tail) hg3.some (filler_scans g3 hg3.filler)) in
     let n3 : NoDigit tail = white_no_digit white w in
     let r1 = size_complete bytes 2 g1 d1 (f1 ++ tail) cols at0 hg1 hd1 n1 rc in
     let r2 = size_complete bytes p1 g2 d2 (f2 ++ tail) rows at1 hg2 hd2 n2 rr in

@@ -11,5 +11,7 @@ pub mod Rasters
 pub mod RawLaws
 pub mod RawReads
 pub mod ReadLaws
+pub mod Scans
 pub mod TextLaws
+pub mod Gaps
 pub mod Written

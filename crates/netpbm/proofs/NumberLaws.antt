@@ -10,10 +10,12 @@ use Rattle.netpbm.specs.declared.fault.PicFault.{PicFault}
 use Rattle.netpbm.specs.declared.fault.PicFault.TheVariants.{HeaderCut, BadNumber, BadSize, BadMax, CommentBehindDigit}
 use Rattle.netpbm.specs.declared.header.Number.{Number}
 use Rattle.netpbm.specs.Image.{InRange}
-use Rattle.netpbm.specs.Text.{is_white, may_stand, gap_len, digits_len, digits_in_front}
-use Rattle.netpbm.specs.Grammar.{IsNumber, is_filler, IsGap, NoDigit}
-use Rattle.netpbm.specs.Faults.{is_cut_filler}
+use Rattle.netpbm.specs.Text.{is_white, begins_filler, digits_len, digits_in_front}
+use Rattle.netpbm.specs.Scanning.{gap_len}
+use Rattle.netpbm.specs.Grammar.{IsNumber, Filler, IsGap, NoDigit}
+use Rattle.netpbm.specs.Faults.{CutFiller}
 use Rattle.netpbm.specs.Reading.{◌>>=◌, header_stop, number_read, size_read, max_read, white_read}
+use Rattle.netpbm.proofs.Gaps.{filler_from, filler_scans, cut_from}
 use Rattle.netpbm.proofs.TextLaws.{gap_cut, gap_whole, gap_len-append, gap_len-le, digits_all, digits_stop, digits_len-append, starts_no_filler}
 
 pub nil_or_cons : (xs : List ℕ) → (xs ≡ []) ⊎ ((x : ℕ) × (rest : List ℕ) × (xs ≡ x ∷ rest))
@@ -42,10 +44,10 @@ pub record StopThere (bytes : List ℕ) (at : ℕ) (e : PicFault) : Type 0 where
   pub filler : List ℕ
   pub rest : List ℕ
   pub parts : drop at bytes ≡ filler ++ rest
-  pub cut : is_cut_filler false filler ≡ true
+  pub cut : CutFiller filler
   pub which :
       ((rest ≡ []) × (e ≡ HeaderCut (length bytes)))
-      ⊎ ((byte : ℕ) × (more : List ℕ) × (rest ≡ byte ∷ more) × (is_filler false filler ≡ true) × (may_stand false byte ≡ false) × (e ≡ BadNumber (at + length filler)) × (is_ascii_digit byte ≡ true → filler ≡ []))
+      ⊎ ((byte : ℕ) × (more : List ℕ) × (rest ≡ byte ∷ more) × Filler filler × (begins_filler byte ≡ false) × (e ≡ BadNumber (at + length filler)) × (is_ascii_digit byte ≡ true → filler ≡ []))
 
 some_digit : (xs : List ℕ) → 0 < digits_len xs → (x : ℕ) × (rest : List ℕ) × (xs ≡ x ∷ rest)
 some_digit [] lt = absurd (omega arith)
@@ -87,7 +89,7 @@ number_view bytes at le =
             digits = digits_in_front rest;
             rest = drop count rest;
             parts = whole ∙ ap (λ l. take len xs ++ l) (sym (take-append-drop count rest));
-            gap_is = record { some = omega (arith, size); filler = closed.0 };
+            gap_is = record { some = omega (arith, size); filler = filler_from _ closed.0 };
             numeral = (omega (arith, length-take-le count rest (digits_len-le rest)), digits_all rest);
             taken = digits_stop rest;
             value = refl;
@@ -100,7 +102,7 @@ number_view bytes at le =
             filler = take len xs;
             rest = rest;
             parts = whole;
-            cut = gap_cut false xs;
+            cut = cut_from _ (gap_cut false xs);
             which = elim (nil_or_cons rest) [
               | inl none ↦
                   let there : start ≡ length bytes = drop_empty bytes start (omega (arith, within, length-drop at bytes)) none in
@@ -112,7 +114,7 @@ number_view bytes at le =
                     byte,
                     more,
                     e,
-                    closed.0,
+                    filler_from _ closed.0,
                     closed.1,
                     cond-true (ltb start (length bytes)) (BadNumber start) (HeaderCut start) (lt-ltb start (length bytes) inside) ∙ ap (λ k. BadNumber (at + k)) (sym size),
                     λ digit. elim (and_cases (ltb at start) (ltb start (start + count)) h) [
@@ -134,7 +136,7 @@ pub number_complete : (bytes : List ℕ) (at : ℕ) (gap digits rest : List ℕ)
     → number_read bytes at ≡ Ok (record { value = min 65536 (digits_value 10 digits); start = at + length gap; end = at + length gap + length digits })
 unfolding number_read
 number_complete bytes at gap digits rest e g d stops =
-    let len : gap_len false (drop at bytes) ≡ length gap = ap (gap_len false) e ∙ gap_len-append false gap (digits ++ rest) g.filler (starts_no_filler digits rest d) in
+    let len : gap_len false (drop at bytes) ≡ length gap = ap (gap_len false) e ∙ gap_len-append false gap (digits ++ rest) (filler_scans gap g.filler) (starts_no_filler digits rest d) in
     let there : drop (at + length gap) bytes ≡ digits ++ rest = behind bytes gap (digits ++ rest) at e in
     let count : digits_len (digits ++ rest) ≡ length digits = digits_len-append digits rest d.1 stops in
     let front : take (length digits) (digits ++ rest) ≡ digits = take_at digits rest (length digits) refl in
@@ -254,7 +256,7 @@ abbrev pub WhiteFails : List ℕ → ℕ → PicFault → Type 0
 WhiteFails bytes at e =
     ((drop at bytes ≡ []) × (e ≡ HeaderCut (length bytes)))
     ⊎ (((more : List ℕ) × (drop at bytes ≡ 35 ∷ more) × (e ≡ CommentBehindDigit at))
-    ⊎ ((byte : ℕ) × (more : List ℕ) × (drop at bytes ≡ byte ∷ more) × (may_stand false byte ≡ false) × (e ≡ BadNumber at)))
+    ⊎ ((byte : ℕ) × (more : List ℕ) × (drop at bytes ≡ byte ∷ more) × (begins_filler byte ≡ false) × (e ≡ BadNumber at)))
 
 first_at : (bytes : List ℕ) (at x : ℕ) (rest : List ℕ) → drop at bytes ≡ x ∷ rest → get_or bytes at 0 ≡ x
 first_at bytes at x rest e = sym (ap (λ l. get_or l 0 0) (sym e) ∙ get_or-drop at bytes 0 0 ∙ ap (λ k. get_or bytes k 0) (omega arith))

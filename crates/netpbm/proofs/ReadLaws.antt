@@ -12,7 +12,7 @@ use Rattle.netpbm.specs.Image.{Image, image, IsImage}
 use Rattle.netpbm.specs.Colours.{interleaved, separated}
 use Rattle.netpbm.specs.Raw.{raw_raster}
 use Rattle.netpbm.specs.Gives.{IsRead, Fails, Gives, IsReadAs}
-use Rattle.netpbm.specs.Grammar.{IsNumber, IsGap, IsFields, IsPicture}
+use Rattle.netpbm.specs.Grammar.{IsNumber, nothing, white, IsGap, IsFields, IsPicture}
 use Rattle.netpbm.specs.Faults.{IsFault}
 use Rattle.netpbm.specs.Reading.{◌>>=◌, header_read, raster_read, picture_read}
 use Rattle.netpbm.specs.Spelling.{spelling}
@@ -85,7 +85,7 @@ spelling_is p h =
     let rows = decimal p.rows in
     let max = decimal p.max in
     let raster = raw_raster p.max (interleaved p.planes) in
-    let gap : (c : ℕ) → (c ≡ 10) ⊎ (c ≡ 32) → IsGap (c ∷ []) = λ c e. record { some = omega arith; filler = elim e [ inl ten ↦ rw ten refl | inr blank ↦ rw blank refl ] } in
+    let gap : (c : ℕ) → (c ≡ 10) ⊎ (c ≡ 32) → IsGap (c ∷ []) = λ c e. record { some = omega arith; filler = white c [] (elim e [ inl ten ↦ rw ten refl | inr blank ↦ rw blank refl ]) nothing } in
     let third : IsFields (p.max ∷ []) (10 ∷ max) = (10 ∷ [], max, [], ap (λ (l : List ℕ). 10 ∷ l) (sym (append-nil max)), gap 10 (inl refl), decimal_number p.max h.max.most, refl) in
     let second : IsFields (p.rows ∷ p.max ∷ []) (32 ∷ (rows ++ (10 ∷ max))) = (32 ∷ [], rows, 10 ∷ max, refl, gap 32 (inr refl), decimal_number p.rows (omega (arith, h.rows.most)), third) in
     let first : IsFields (p.cols ∷ p.rows ∷ p.max ∷ []) (10 ∷ (cols ++ (32 ∷ (rows ++ (10 ∷ max))))) =

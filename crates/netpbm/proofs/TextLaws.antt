@@ -6,9 +6,10 @@ use Rattle.std.specs.Str.Parse.{AllDigits, IsNumeral}
 use Rattle.std.proofs.lemmas.Bool.{cases_Bool, cases_lt, cond-true, cond-false, and_parts, and_from, and_left, or_parts, or_cases, or_left, leb-true, le-leb, lt-leb, eqb-true, ne_eqb, both_ways}
 use Rattle.std.proofs.lemmas.Str.{digit_value_digit}
 use Rattle.std.proofs.lemmas.Str.Parse.{digit_from_value}
-use Rattle.netpbm.specs.Text.{is_white, may_stand, is_open_behind, gap_len, white_len, digits_len, digits_in_front}
-use Rattle.netpbm.specs.Grammar.{is_filler, NoDigit, IsWhite}
-use Rattle.netpbm.specs.Faults.{is_cut_filler}
+use Rattle.netpbm.specs.Text.{is_white, white_len, digits_len, digits_in_front}
+use Rattle.netpbm.specs.Scanning.{may_stand, is_open_behind, gap_len}
+use Rattle.netpbm.specs.Grammar.{NoDigit, IsWhite}
+use Rattle.netpbm.proofs.Scans.{is_filler, is_cut_filler}
 
 -- ---- classes of bytes
 
@@ -18,7 +19,7 @@ digit_is c h = let parts = and_parts _ _ h in (leb-true 48 c parts.0, leb-true c
 pub digit_from : (c : ℕ) → 48 ≤ c → c ≤ 57 → is_ascii_digit c ≡ true
 digit_from c le le' = and_from _ _ (le-leb 48 c le) (le-leb c 57 le')
 
-white_is : (c : ℕ) → is_white c ≡ true → c ≤ 32
+pub white_is : (c : ℕ) → is_white c ≡ true → c ≤ 32
 white_is c h = elim (cases_lt 32 c) [ inl lt ↦ absurd (both_ways (is_white c) (not_white c lt) h) | inr le ↦ le ]
   where
     not_white : (c : ℕ) → 32 < c → is_white c ≡ false

@@ -1,14 +1,15 @@
 -- Why bytes are no picture: the first fault from the left, and its place.
-use Rattle.std.specs.Prelude.{◌≡◌, ◌≢◌, ℕ, ◌+◌, ◌*◌, ◌<◌, ◌≤◌, ◌⊎◌, Bool, false, true, ◌&&◌, List, [], ◌∷◌, ◌++◌, length, All}
+use Rattle.std.specs.List.{list_all}
+use Rattle.std.specs.Prelude.{◌≡◌, ◌≢◌, ℕ, ◌+◌, ◌*◌, ◌<◌, ◌≤◌, ◌⊎◌, false, true, List, [], ◌∷◌, ◌++◌, length, All}
 use Rattle.std.specs.Char.{is_ascii_digit}
 use Rattle.netpbm.specs.declared.fault.PicFault.{PicFault}
 use Rattle.netpbm.specs.declared.fault.PicFault.TheVariants.{OtherFormat, HeaderCut, BadNumber, BadSize, BadMax, CommentBehindDigit, RasterCut, SampleTooBig, TrailingBytes, Memory}
 use Rattle.netpbm.specs.declared.header.Coding.{Coding}
 use Rattle.netpbm.specs.declared.header.Coding.TheVariants.{Plain, Raw}
-use Rattle.netpbm.specs.Grammar.{magic, IsNumber, is_filler, IsGap, IsFields, NoDigit, IsWhite, IsSamples, IsPicture}
+use Rattle.netpbm.specs.Grammar.{magic, IsNumber, Filler, IsGap, IsFields, NoDigit, IsWhite, IsSamples, IsPicture}
 use Rattle.netpbm.specs.Image.{Image, InRange}
 use Rattle.netpbm.specs.Raw.{width_of, sample_bytes, raw_raster}
-use Rattle.netpbm.specs.Text.{is_white, may_stand, is_open_behind}
+use Rattle.netpbm.specs.Text.{is_white, is_comment_byte, begins_filler}
 
 -- ---- the header
 
@@ -27,9 +28,9 @@ pub record IsHeaderFront (coding : Coding) (colours : ℕ) (numbers front : List
   pub ranges : Fit (4096 ∷ 4096 ∷ 65535 ∷ []) numbers
 
 -- white space and comments, where the last comment may still be open
-abbrev pub is_cut_filler : Bool → List ℕ → Bool
-is_cut_filler in_comment [] = true
-is_cut_filler in_comment (byte ∷ bytes) = may_stand in_comment byte && is_cut_filler (is_open_behind in_comment byte) bytes
+pub data CutFiller : List ℕ → Type 0 where
+  ended : (filler : List ℕ) → Filler filler → CutFiller filler
+  open_comment : (filler body : List ℕ) → Filler filler → list_all is_comment_byte body ≡ true → CutFiller (filler ++ 35 ∷ body)
 
 -- the bytes end in a gap or in its place; behind the greatest sample nothing may stand but its one white byte
 pub record EndsInHeader (bytes : List ℕ) : Type 0 where
@@ -40,7 +41,7 @@ pub record EndsInHeader (bytes : List ℕ) : Type 0 where
   pub filler : List ℕ
   pub whole : bytes ≡ front ++ filler
   pub front_is : IsHeaderFront coding colours numbers front
-  pub filler_is : is_cut_filler false filler ≡ true
+  pub filler_is : CutFiller filler
   pub behind_max : length numbers ≡ 3 → filler ≡ []
 
 -- behind a gap, or in its place, stands a byte that goes on with nothing
@@ -55,9 +56,9 @@ pub record HasBadHeaderByte (bytes : List ℕ) (at : ℕ) : Type 0 where
   pub whole : bytes ≡ front ++ (filler ++ byte ∷ rest)
   pub place : at ≡ length front + length filler
   pub front_is : IsHeaderFront coding colours numbers front
-  pub filler_is : is_filler false filler ≡ true
+  pub filler_is : Filler filler
   pub behind_max : length numbers ≡ 3 → filler ≡ []
-  pub stands_not : may_stand false byte ≡ false
+  pub stands_not : begins_filler byte ≡ false
   -- a digit would begin a number behind a gap, or go on with one
   pub digit_only_behind_magic : is_ascii_digit byte ≡ true → (filler ≡ []) × (numbers ≡ [])
 

@@ -1,5 +1,5 @@
 -- Which bytes spell which picture.
-use Rattle.std.specs.Prelude.{◌≡◌, ℕ, ◌<◌, Bool, false, true, not, ◌&&◌, ◌==◌, if◌then◌else◌, List, [], ◌∷◌, ◌++◌, length}
+use Rattle.std.specs.Prelude.{◌≡◌, ℕ, ◌<◌, false, true, ◌==◌, if◌then◌else◌, List, [], ◌∷◌, ◌++◌, length}
 use Rattle.std.specs.Char.{is_ascii_digit}
 use Rattle.std.specs.List.{list_all}
 use Rattle.std.specs.Str.Parse.{IsNumeral, digits_value}
@@ -8,7 +8,7 @@ use Rattle.netpbm.specs.declared.header.Coding.TheVariants.{Plain, Raw}
 use Rattle.netpbm.specs.Colours.{interleaved}
 use Rattle.netpbm.specs.Image.{Image, IsImage}
 use Rattle.netpbm.specs.Raw.{raw_raster}
-use Rattle.netpbm.specs.Text.{is_white, may_stand, is_open_behind}
+use Rattle.netpbm.specs.Text.{is_white, is_comment_end, is_comment_byte}
 
 -- the first two bytes: `P2`, `P3`, `P5` or `P6`
 abbrev pub magic : Coding → ℕ → List ℕ
@@ -20,15 +20,16 @@ pub record IsNumber (digits : List ℕ) (n : ℕ) : Type 0 where
   pub numeral : IsNumeral 10 digits
   pub value : n ≡ digits_value 10 digits
 
--- white space and comments in any mix, from outside a comment or from inside one; each comment ends
-abbrev pub is_filler : Bool → List ℕ → Bool
-is_filler in_comment [] = not in_comment
-is_filler in_comment (byte ∷ bytes) = may_stand in_comment byte && is_filler (is_open_behind in_comment byte) bytes
+-- white space and comments, in any mix. A comment begins with `#` and ends with the first CR or LF behind it
+pub data Filler : List ℕ → Type 0 where
+  nothing : Filler []
+  white : (byte : ℕ) (filler : List ℕ) → is_white byte ≡ true → Filler filler → Filler (byte ∷ filler)
+  comment : (body : List ℕ) (end : ℕ) (filler : List ℕ) → list_all is_comment_byte body ≡ true → is_comment_end end ≡ true → Filler filler → Filler (35 ∷ (body ++ end ∷ filler))
 
 -- one byte of it or more
 pub record IsGap (bytes : List ℕ) : Type 0 where
   pub some : 0 < length bytes
-  pub filler : is_filler false bytes ≡ true
+  pub filler : Filler bytes
 
 -- numbers, each behind a gap
 abbrev pub IsFields : List ℕ → List ℕ → Type 0

@@ -10,3 +10,4 @@ pub mod Raw
 pub mod Reading
 pub mod Spelling
 pub mod Text
+pub mod Scanning

@@ -10,7 +10,8 @@ use Rattle.netpbm.specs.declared.header.Number.{Number}
 use Rattle.netpbm.specs.Colours.{separated}
 use Rattle.netpbm.specs.Image.{Image, image}
 use Rattle.netpbm.specs.Raw.{width_of, decoded, first_big}
-use Rattle.netpbm.specs.Text.{is_white, gap_len, white_len, digits_len, digits_in_front}
+use Rattle.netpbm.specs.Scanning.{gap_len}
+use Rattle.netpbm.specs.Text.{is_white, white_len, digits_len, digits_in_front}
 
 infixl 10 ◌>>=◌
 abbrev pub ◌>>=◌ : {A B : Type 0} → Result A PicFault → (A → Result B PicFault) → Result B PicFault

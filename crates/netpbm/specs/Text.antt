@@ -1,5 +1,5 @@
 -- White space, comments and digits, as texts of bytes.
-use Rattle.std.specs.Prelude.{ℕ, suc, Bool, not, ◌||◌, ◌==◌, if◌then◌else◌, List, [], ◌∷◌, take}
+use Rattle.std.specs.Prelude.{ℕ, Bool, not, ◌||◌, ◌==◌, List, take}
 use Rattle.std.specs.Char.{is_ascii_digit}
 use Rattle.std.specs.List.{prefix_len}
 
@@ -7,18 +7,16 @@ use Rattle.std.specs.List.{prefix_len}
 abbrev pub is_white : ℕ → Bool
 is_white byte = byte == 32 || byte == 9 || byte == 13 || byte == 10
 
--- in a comment any byte may stand, and outside white space and the `#` that opens one
-abbrev pub may_stand : Bool → ℕ → Bool
-may_stand in_comment byte = in_comment || is_white byte || byte == 35
+-- CR and LF end a comment
+abbrev pub is_comment_end : ℕ → Bool
+is_comment_end byte = byte == 13 || byte == 10
 
--- whether a comment is open behind a byte: CR and LF close it
-abbrev pub is_open_behind : Bool → ℕ → Bool
-is_open_behind in_comment byte = if in_comment then not (byte == 13 || byte == 10) else byte == 35
+abbrev pub is_comment_byte : ℕ → Bool
+is_comment_byte byte = not (is_comment_end byte)
 
--- how many bytes of white space and comments stand in front
-abbrev pub gap_len : Bool → List ℕ → ℕ
-gap_len in_comment [] = 0
-gap_len in_comment (byte ∷ bytes) = if may_stand in_comment byte then suc (gap_len (is_open_behind in_comment byte) bytes) else 0
+-- white space, or the `#` that opens a comment
+abbrev pub begins_filler : ℕ → Bool
+begins_filler byte = is_white byte || byte == 35
 
 abbrev pub white_len : List ℕ → ℕ
 white_len bytes = prefix_len is_white bytes

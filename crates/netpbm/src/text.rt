@@ -1,7 +1,8 @@
 //! White space, comments and digits.
 ghost use Rattle.std.specs.Prelude.{◌≡◌, false, ◌+◌, ◌≤◌, length, drop, min};
 ghost use Rattle.std.specs.Str.Parse.{digits_value};
-ghost use Rattle.netpbm.specs.Text.{is_white as is_white_byte, may_stand, is_open_behind, gap_len, white_len, digits_len, digits_in_front};
+ghost use Rattle.netpbm.specs.Text.{is_white as is_white_byte, white_len, digits_len, digits_in_front};
+ghost use Rattle.netpbm.specs.Scanning.{may_stand, is_open_behind, gap_len};
 
 /// The least number that no picture has. Greater ones are read as it.
 pub const TOO_BIG: u32 = 65536;

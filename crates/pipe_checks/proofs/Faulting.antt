@@ -9,28 +9,22 @@ use Rattle.pipe_checks.specs.declared.fault.CheckFault.TheVariants.{Unknown, Twi
 use Rattle.pipe_checks.specs.declared.symbol.Symbol.{Symbol}
 use Rattle.pipe_checks.specs.Names.{declared_names}
 use Rattle.pipe_checks.specs.Accesses.{graph_of}
-use Rattle.pipe_checks.specs.Checking.{NoneTwice, IsFirstTwice, AllGood, IsFirstWrong, is_result, IsNamed, IsFault}
+use Rattle.pipe_checks.specs.Checking.{NoneTwice, AllGood, IsFirstWrong, is_result, IsNamed, IsFault}
 use Rattle.pipe_checks.specs.inside.Search.{fault_of, IsJudged, IsCyclic}
 
-pub twice_fault : (names : List Symbol) (ds : List Declaration) (n : ℕ) → names ≡ declared_names ds → IsFirstTwice names ds n → IsFault ds (Twice n)
-twice_fault names ds n same h = subst (λ ns. IsFirstTwice ns ds n) same h
-
-pub judged_named : (names : List Symbol) (ds : List Declaration) (r : Result (Unit {0}) CheckFault) → names ≡ declared_names ds → NoneTwice names ds → IsJudged names ds r → OnOk r (IsNamed ds)
-judged_named names ds (Ok u) same once h = record { once = subst (λ ns. NoneTwice ns ds) same once; good = subst (λ ns. AllGood ns ds) same h }
+pub judged_named : (names : List Symbol) (ds : List Declaration) (r : Result (Unit {0}) CheckFault) → names ≡ declared_names ds → NoneTwice (declared_names ds) ds → IsJudged names ds r → OnOk r (IsNamed ds)
+judged_named names ds (Ok u) same once h = record { once = once; good = subst (λ ns. AllGood ns ds) same h }
 judged_named names ds (Err f) same once h = tt
 
-pub judged_fault : (names : List Symbol) (ds : List Declaration) (r : Result (Unit {0}) CheckFault) → names ≡ declared_names ds → NoneTwice names ds → IsJudged names ds r → IfErr r (IsFault ds)
+pub judged_fault : (names : List Symbol) (ds : List Declaration) (r : Result (Unit {0}) CheckFault) → names ≡ declared_names ds → NoneTwice (declared_names ds) ds → IsJudged names ds r → IfErr r (IsFault ds)
 judged_fault names ds (Ok u) same once h = tt
 judged_fault names ds (Err f) same once h = subst (IsFault ds) (sym h.2) (by_wrong h.0 h.1 (subst (λ ns. IsFirstWrong ns ds h.0 h.1) same h.3))
   where
-    named_once : NoneTwice (declared_names ds) ds
-    named_once = subst (λ ns. NoneTwice ns ds) same once
-
     by_wrong : (w : Violation) (n : ℕ) → IsFirstWrong (declared_names ds) ds w n → IsFault ds (fault_of w n)
-    by_wrong violation.Unknown n first = (named_once, first)
-    by_wrong violation.Kind n first = (named_once, first)
-    by_wrong violation.BadKernel n first = (named_once, first)
-    by_wrong violation.BadLiteral n first = (named_once, first)
+    by_wrong violation.Unknown n first = (once, first)
+    by_wrong violation.Kind n first = (once, first)
+    by_wrong violation.BadKernel n first = (once, first)
+    by_wrong violation.BadLiteral n first = (once, first)
 
 pub cyclic_fault : (ds : List Declaration) (f : CheckFault) → IsNamed ds → list_any is_result ds ≡ true → IsCyclic (graph_of ds) f → IsFault ds f
 cyclic_fault ds (Cycle c) named result h = (named, result, h)

@@ -9,3 +9,5 @@ pub mod Accepted
 pub mod Rising
 pub mod CheckFaultsAreDetermined
 pub mod Judging
+pub mod Tables
+pub mod Declaring

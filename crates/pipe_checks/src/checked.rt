@@ -11,13 +11,15 @@ ghost use Rattle.pipe_checks.specs.Graph.{IsRanking};
 ghost use Rattle.pipe_checks.specs.Twice.{locals_of};
 ghost use Rattle.pipe_checks.specs.Uses.{places_of, IsFirstUnserved};
 ghost use Rattle.pipe_checks.specs.Checking.{IsNamed, IsFault, IsCheckedOf, tree_in, stages_in, params_in, graph_in, ranks_in, is_result, is_good, reads_at};
+ghost use Rattle.pipe_checks.specs.inside.Tables.{IsTableOf};
 ghost use Rattle.pipe_checks.specs.inside.Search.{IsCyclic, IsJudged, IsFound, fault_of};
 
 use crate::cycles::shortest_cycle;
 use crate::fault::{CheckFault, Cycle, Violation};
 use crate::graph::{Links, graph};
 use crate::ranks::ranks;
-use crate::symbol::{Symbol, declared_names, params_of, stages_of};
+use crate::symbol::{Symbol, params_of, stages_of};
+use crate::table::{Declared, NameTable, declare_all};
 use crate::twice::{first_twice, locals_of};
 use crate::uses::judge_item;
 use pipe_tree::{Item, Tree};
@@ -105,14 +107,14 @@ fn fault_at(violation: Violation, item: usize) -> CheckFault
 }
 
 #[tactic(auto, using(crate::proofs::Judging::result_served, crate::proofs::Judging::result_unserved))]
-fn judge(names: &[Symbol], item: &Item) -> Result<(), Violation>
+fn judge(names: &NameTable, item: &Item) -> Result<(), Violation>
     ensures good { OnOk result (is_good names.now (declaration item.now) ≡ true) }
     ensures wrong { IfErr result (IsFirstUnserved names.now (locals_of (declaration item.now)) (places_of (declaration item.now))) }
 {
     judge_item(names, &locals_of(item), item)
 }
 
-fn judge_all(declared: &[Symbol], items: &[Item]) -> Result<(), CheckFault>
+fn judge_all(declared: &NameTable, items: &[Item]) -> Result<(), CheckFault>
     ensures { IsJudged declared.now (declarations items.now) result }
 {
     for (number, item) in items.iter().enumerate() {
@@ -123,16 +125,17 @@ fn judge_all(declared: &[Symbol], items: &[Item]) -> Result<(), CheckFault>
     Ok(())
 }
 
-// Whether each name stands for one thing, and then whether each place holds what it wants.
-#[tactic(auto, using(crate::proofs::Faulting::twice_fault, crate::proofs::Faulting::judged_named, crate::proofs::Faulting::judged_fault))]
-fn judge_names(names: &[Symbol], items: &[Item]) -> Result<(), CheckFault>
-    requires { names.now ≡ declared_names (declarations items.now) }
+// Whether each name stands for one thing, and then whether each place gets what it wants.
+#[tactic(auto, using(crate::proofs::Faulting::judged_named, crate::proofs::Faulting::judged_fault))]
+fn judge_names(declared: &Declared, items: &[Item]) -> Result<(), CheckFault>
+    requires { IsTableOf (declared_names (declarations items.now)) declared.now }
     ensures ok { OnOk result (IsNamed (declarations items.now)) }
+    ensures same { OnOk result (declared.now.table ≡ declared_names (declarations items.now)) }
     ensures err { IfErr result (IsFault (declarations items.now)) }
 {
-    match first_twice(names, items) {
+    match first_twice(declared, items) {
         Some(item) => Err(CheckFault::Twice(item)),
-        None => judge_all(names, items),
+        None => judge_all(&declared.table, items),
     }
 }
 
@@ -181,15 +184,16 @@ fn findings(alloc: Global, items: &[Item]) -> Result<Found, CheckFault>
     ensures ok { IfOk result (IsFound (declarations items.now)) }
     ensures err { IfErr result (IsFault (declarations items.now)) }
 {
-    let names = declared_names(alloc, items)?;
-    judge_names(&names, items)?;
+    let declared = declare_all(alloc, items)?;
+    judge_names(&declared, items)?;
     if !has_result(items) {
         return Err(CheckFault::NoResult);
     }
-    let stages = stages_of(alloc, &names)?;
+    let names = declared.table.symbols();
+    let stages = stages_of(alloc, names)?;
     let graph = graph(alloc, items, &stages)?;
     let ranks = ranks_of(alloc, &graph)?;
-    let params = params_of(alloc, &names)?;
+    let params = params_of(alloc, names)?;
     Ok(Found {
         stages,
         params,

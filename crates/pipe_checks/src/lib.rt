@@ -8,6 +8,7 @@ mod fault;
 mod graph;
 mod ranks;
 mod symbol;
+mod table;
 mod twice;
 mod uniqueness;
 mod uses;

@@ -5,7 +5,7 @@ ghost use Rattle.std.specs.Prelude.{◌≡◌, ◌++◌, ◌∷◌, [], ◌==◌
 ghost use Rattle.std.specs.Str.{bytes_eq};
 ghost use Rattle.pipe_tree.specs.Tree.{declaration, declarations};
 ghost use Rattle.pipe_checks.specs.Accesses.{is_plane};
-ghost use Rattle.pipe_checks.specs.Names.{number_of, names_of, item_names, names_from, is_param, stages_of, declared_at};
+ghost use Rattle.pipe_checks.specs.Names.{number_of, names_of, item_names, names_from, is_param, stages_of};
 
 use pipe_tokens::Name;
 use pipe_tree::{Item, Names};
@@ -137,16 +137,6 @@ pub fn number_of(names: &[Symbol], name: &Name) -> Option<usize>
     names
         .iter()
         .position(|declared| is_same(&declared.name, name))
-}
-
-/// The first of the names that is this one.
-pub(crate) fn declared_at(names: &[Symbol], name: &Name) -> Option<Symbol>
-    ensures { result ≡ declared_at names.now name.now }
-{
-    match number_of(names, name) {
-        Some(number) => names.get(number).copied(),
-        None => None,
-    }
 }
 
 /// The stages that the items declare, in the order of the text. A stage's number is its place here, also in a fault of a

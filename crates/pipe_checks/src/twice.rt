@@ -1,12 +1,15 @@
 #![tactic(auto)]
 //! Names that stand for two things.
 
-ghost use Rattle.std.specs.Prelude.{◌≡◌, IsTrue, IfSome, IfNone};
+ghost use Rattle.std.specs.Prelude.{◌≡◌, IfSome, IfNone};
 ghost use Rattle.pipe_tree.specs.Tree.{declaration, declarations};
-ghost use Rattle.pipe_checks.specs.Checking.{DeclaresAgain, IsFirstTwice, NoneTwice};
+ghost use Rattle.pipe_checks.specs.Names.{declared_names};
+ghost use Rattle.pipe_checks.specs.Checking.{IsFirstTwice, NoneTwice};
+ghost use Rattle.pipe_checks.specs.inside.Tables.{is_number, IsTableOf};
 ghost use Rattle.pipe_checks.specs.Twice.{locals_of, is_declared, are_same, varies_again};
 
-use crate::symbol::{Symbol, is_same, number_of};
+use crate::symbol::is_same;
+use crate::table::{Declared, NameTable};
 use crate::uses::Locals;
 use pipe_tokens::Name;
 use pipe_tree::Item;
@@ -31,25 +34,21 @@ pub(crate) fn locals_of(item: &Item) -> Locals
     }
 }
 
-// Whether the item declares a name that was declared before.
-fn declares_again(names: &[Symbol], item: usize) -> bool
-    ensures yes { IsTrue result → DeclaresAgain names.now item }
-    ensures no { DeclaresAgain names.now item → IsTrue result }
+fn is_number(first: Option<usize>, item: usize) -> bool
+    ensures { result ≡ is_number first item }
 {
-    for (number, declared) in names.iter().enumerate() {
-        if declared.item == item && number_of(&names[..number], &declared.name).is_some() {
-            return true;
-        }
+    match first {
+        Some(first) => first == item,
+        None => false,
     }
-    false
 }
 
 // Whether a variable of an item is a declared name.
-fn is_declared(names: &[Symbol], variable: &Option<Name>) -> bool
+fn is_declared(names: &NameTable, variable: &Option<Name>) -> bool
     ensures { result ≡ is_declared names.now variable.now }
 {
     match variable {
-        Some(name) => number_of(names, name).is_some(),
+        Some(name) => names.number_of(name).is_some(),
         None => false,
     }
 }
@@ -64,7 +63,7 @@ fn are_same(row: &Option<Name>, column: &Option<Name>) -> bool
 }
 
 // Whether a variable equals its fellow or a declared name.
-fn varies_again(names: &[Symbol], locals: &Locals) -> bool
+fn varies_again(names: &NameTable, locals: &Locals) -> bool
     ensures { result ≡ varies_again names.now locals.now }
 {
     are_same(&locals.row, &locals.column)
@@ -73,12 +72,14 @@ fn varies_again(names: &[Symbol], locals: &Locals) -> bool
 }
 
 /// The first item with a name that stands for two things.
-pub(crate) fn first_twice(names: &[Symbol], items: &[Item]) -> Option<usize>
-    ensures first { IfSome result (IsFirstTwice names.now (declarations items.now)) }
-    ensures none { IfNone result (NoneTwice names.now (declarations items.now)) }
+pub(crate) fn first_twice(declared: &Declared, items: &[Item]) -> Option<usize>
+    requires { IsTableOf (declared_names (declarations items.now)) declared.now }
+    ensures first { IfSome result (IsFirstTwice (declared_names (declarations items.now)) (declarations items.now)) }
+    ensures none { IfNone result (NoneTwice (declared_names (declarations items.now)) (declarations items.now)) }
+    ensures same { IfNone result (declared.now.table ≡ declared_names (declarations items.now)) }
 {
     for (number, item) in items.iter().enumerate() {
-        if declares_again(names, number) || varies_again(names, &locals_of(item)) {
+        if is_number(declared.again, number) || varies_again(&declared.table, &locals_of(item)) {
             return Some(number);
         }
     }

@@ -10,7 +10,8 @@ ghost use Rattle.pipe_checks.specs.inside.Judging.{verdict, judged};
 
 use crate::access::width_of;
 use crate::fault::Violation;
-use crate::symbol::{NameKind, Symbol, declared_at, is_same};
+use crate::symbol::{NameKind, is_same};
+use crate::table::NameTable;
 use domains::LiteralOp;
 use pipe_tokens::Name;
 use pipe_tree::{
@@ -172,7 +173,7 @@ fn judge_literal(op: LiteralOp, number: u32) -> Result<(), Violation>
     }
 }
 
-fn role_at(names: &[Symbol], locals: &Locals, name: &Name) -> Option<NameRole>
+fn role_at(names: &NameTable, locals: &Locals, name: &Name) -> Option<NameRole>
     ensures { result ≡ role_at names.now locals.now name.now }
 {
     if is_it(&locals.row, name) {
@@ -181,14 +182,14 @@ fn role_at(names: &[Symbol], locals: &Locals, name: &Name) -> Option<NameRole>
     if is_it(&locals.column, name) {
         return Some(NameRole::Column);
     }
-    match declared_at(names, name) {
+    match names.declared_at(name) {
         Some(declared) => Some(role_of(declared.kind)),
         None => None,
     }
 }
 
 fn judge_name(
-    names: &[Symbol],
+    names: &NameTable,
     locals: &Locals,
     name: &Name,
     expected: Expected,
@@ -207,7 +208,7 @@ fn judge_name(
     }
 }
 
-fn judge_factor(names: &[Symbol], locals: &Locals, name: &Option<Name>) -> Result<(), Violation>
+fn judge_factor(names: &NameTable, locals: &Locals, name: &Option<Name>) -> Result<(), Violation>
     ensures { result ≡ judged names.now locals.now (factor_places name.now) }
 {
     match name {
@@ -216,7 +217,7 @@ fn judge_factor(names: &[Symbol], locals: &Locals, name: &Option<Name>) -> Resul
     }
 }
 
-fn judge_affine(names: &[Symbol], locals: &Locals, affine: &Affine) -> Result<(), Violation>
+fn judge_affine(names: &NameTable, locals: &Locals, affine: &Affine) -> Result<(), Violation>
     ensures { result ≡ judged names.now locals.now (affine_places affine.now) }
 {
     for term in affine.terms() {
@@ -225,7 +226,7 @@ fn judge_affine(names: &[Symbol], locals: &Locals, affine: &Affine) -> Result<()
     Ok(())
 }
 
-fn judge_span(names: &[Symbol], locals: &Locals, span: &AffineSpan) -> Result<(), Violation>
+fn judge_span(names: &NameTable, locals: &Locals, span: &AffineSpan) -> Result<(), Violation>
     ensures { result ≡ judged names.now locals.now (span_places span.now) }
 {
     judge_affine(names, locals, &span.first)?;
@@ -234,7 +235,7 @@ fn judge_span(names: &[Symbol], locals: &Locals, span: &AffineSpan) -> Result<()
 
 #[tactic(auto, using(crate::proofs::Judging::judged_append, crate::proofs::Judging::judged_one), unfolding(crate::specs::Uses::index_places))]
 fn judge_index(
-    names: &[Symbol],
+    names: &NameTable,
     locals: &Locals,
     index: &Index,
     expected: Expected,
@@ -248,7 +249,7 @@ fn judge_index(
 }
 
 fn judge_read(
-    names: &[Symbol],
+    names: &NameTable,
     locals: &Locals,
     name: &Name,
     row: &Index,
@@ -262,7 +263,7 @@ fn judge_read(
 }
 
 fn judge_stencil(
-    names: &[Symbol],
+    names: &NameTable,
     locals: &Locals,
     name: &Name,
     divisor: u32,
@@ -275,7 +276,7 @@ fn judge_stencil(
     judge_kernel(kernel)
 }
 
-fn judge_expr(names: &[Symbol], locals: &Locals, expr: &Expr) -> Result<(), Violation>
+fn judge_expr(names: &NameTable, locals: &Locals, expr: &Expr) -> Result<(), Violation>
     ensures { result ≡ judged names.now locals.now (expr_places (view expr.now)) }
 {
     match expr {
@@ -309,7 +310,7 @@ fn judge_expr(names: &[Symbol], locals: &Locals, expr: &Expr) -> Result<(), Viol
 }
 
 #[tactic(auto, using(crate::proofs::Judging::judged_append, crate::proofs::Judging::judged_one), unfolding(crate::specs::Uses::test_places))]
-fn judge_test(names: &[Symbol], locals: &Locals, test: &Test) -> Result<(), Violation>
+fn judge_test(names: &NameTable, locals: &Locals, test: &Test) -> Result<(), Violation>
     ensures { result ≡ judged names.now locals.now (test_places test.now) }
 {
     match test {
@@ -325,7 +326,7 @@ fn judge_test(names: &[Symbol], locals: &Locals, test: &Test) -> Result<(), Viol
     }
 }
 
-fn judge_tests(names: &[Symbol], locals: &Locals, tests: &[Test]) -> Result<(), Violation>
+fn judge_tests(names: &NameTable, locals: &Locals, tests: &[Test]) -> Result<(), Violation>
     ensures { result ≡ judged names.now locals.now (tests_places tests.now) }
 {
     for test in tests {
@@ -334,14 +335,14 @@ fn judge_tests(names: &[Symbol], locals: &Locals, tests: &[Test]) -> Result<(), 
     Ok(())
 }
 
-fn judge_case(names: &[Symbol], locals: &Locals, case: &Case) -> Result<(), Violation>
+fn judge_case(names: &NameTable, locals: &Locals, case: &Case) -> Result<(), Violation>
     ensures { result ≡ judged names.now locals.now (branch_places (branch case.now)) }
 {
     judge_tests(names, locals, case.condition.tests())?;
     judge_expr(names, locals, &case.value)
 }
 
-fn judge_cases(names: &[Symbol], locals: &Locals, cases: &[Case]) -> Result<(), Violation>
+fn judge_cases(names: &NameTable, locals: &Locals, cases: &[Case]) -> Result<(), Violation>
     ensures { result ≡ judged names.now locals.now (branches_places (branches cases.now)) }
 {
     for case in cases {
@@ -351,7 +352,7 @@ fn judge_cases(names: &[Symbol], locals: &Locals, cases: &[Case]) -> Result<(), 
 }
 
 fn judge_otherwise(
-    names: &[Symbol],
+    names: &NameTable,
     locals: &Locals,
     otherwise: &Option<Expr>,
 ) -> Result<(), Violation>
@@ -363,7 +364,7 @@ fn judge_otherwise(
     }
 }
 
-fn judge_func(names: &[Symbol], locals: &Locals, func: &Func) -> Result<(), Violation>
+fn judge_func(names: &NameTable, locals: &Locals, func: &Func) -> Result<(), Violation>
     ensures { result ≡ judged names.now locals.now (function_places (function_of func.now)) }
 {
     judge_span(names, locals, &func.row.span)?;
@@ -372,7 +373,7 @@ fn judge_func(names: &[Symbol], locals: &Locals, func: &Func) -> Result<(), Viol
     judge_otherwise(names, locals, &func.otherwise)
 }
 
-fn judge_accum(names: &[Symbol], locals: &Locals, accum: &Accum) -> Result<(), Violation>
+fn judge_accum(names: &NameTable, locals: &Locals, accum: &Accum) -> Result<(), Violation>
     ensures { result ≡ judged names.now locals.now (accumulator_places (accumulator_of accum.now)) }
 {
     judge_span(names, locals, &accum.bins)?;
@@ -382,7 +383,7 @@ fn judge_accum(names: &[Symbol], locals: &Locals, accum: &Accum) -> Result<(), V
     judge_expr(names, locals, &accum.bin)
 }
 
-fn judge_outputs(names: &[Symbol], locals: &Locals, outputs: &Names) -> Result<(), Violation>
+fn judge_outputs(names: &NameTable, locals: &Locals, outputs: &Names) -> Result<(), Violation>
     ensures { result ≡ judged names.now locals.now (output_places outputs.now) }
 {
     match outputs {
@@ -396,7 +397,7 @@ fn judge_outputs(names: &[Symbol], locals: &Locals, outputs: &Names) -> Result<(
 }
 
 /// The first place of the item that does not hold what it wants, as a fault.
-pub(crate) fn judge_item(names: &[Symbol], locals: &Locals, item: &Item) -> Result<(), Violation>
+pub(crate) fn judge_item(names: &NameTable, locals: &Locals, item: &Item) -> Result<(), Violation>
     ensures { result ≡ judged names.now locals.now (places_of (declaration item.now)) }
 {
     match item {

@@ -1,6 +1,6 @@
 -- What stands between the start and here is white space and comments.
 use Rattle.std.proofs.Common.{◌≡◌, ◌+◌, ◌-◌, ◌≤◌, false, length, drop}
-use Rattle.netpbm.specs.Text.{gap_len}
+use Rattle.netpbm.specs.Scanning.{gap_len}
 use Rattle.netpbm.proofs.text.gap_end.Given as goal
 
 abbrev pub invariant-loop-at : goal.invariant-loop-at

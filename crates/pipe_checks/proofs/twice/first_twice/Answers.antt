@@ -1,33 +1,51 @@
-use Rattle.std.proofs.Common.{inl, inr, sym, ◌∙◌, ap}
+use Rattle.std.proofs.Common.{arith, inl, inr, sym, ◌∙◌, ap}
 use Rattle.std.proofs.lemmas.Bool.{false≢true}
 use Rattle.pipe_tree.specs.Tree.{declaration, declarations}
-use Rattle.pipe_checks.specs.Twice.{varies_again}
+use Rattle.pipe_checks.specs.Names.{declared_names}
+use Rattle.pipe_checks.specs.Twice.{locals_of, varies_again}
 use Rattle.pipe_checks.specs.Checking.{IsTwice}
 use Rattle.pipe_checks.proofs.Places.{all_of_them, declaration_at, declarations_end, first_twice_is}
+use Rattle.pipe_checks.proofs.Declaring.{varies_same, is_again, passed_again, not_number, none_again}
 use Rattle.domains.proofs.Places.{all_more}
 use Rattle.pipe_checks.proofs.twice.first_twice.Goals as goal
-use Rattle.pipe_checks.proofs.twice.first_twice.Goals.{then-declares_again-via-then-declares_again, then-declares_again-via-else-declares_again+then-varies_again}
+use Rattle.pipe_checks.proofs.twice.first_twice.Goals.{then-is_number-via-then-is_number, then-is_number-via-else-is_number+then-varies_again}
 
-pub returns-then-declares_again-clause-first : goal.returns-then-declares_again-clause-first
-returns-then-declares_again-clause-first c =
-    first_twice_is c.args.names.now c.args.items.now c.loop-number.number _ c.loop-number-test.true c.index-items-number.is
-    (elim c.then-declares_again.branch [
-      | then-declares_again-via-then-declares_again w ↦ inl (c.declares_again.ensures.yes w.if-declares_again.true)
-      | then-declares_again-via-else-declares_again+then-varies_again w ↦ inr (sym (w.varies_again.ensures ∙ ap (varies_again c.args.names.now) w.locals_of.ensures) ∙ w.if-varies_again.true)
+pub returns-then-is_number-clause-first : goal.returns-then-is_number-clause-first
+returns-then-is_number-clause-first c =
+    let names = declared_names (declarations c.args.items.now) in
+    let declared = c.args.declared.now in
+    first_twice_is names c.args.items.now c.loop-number.number _ c.loop-number-test.true c.index-items-number.is
+    (elim c.then-is_number.branch [
+      | then-is_number-via-then-is_number w ↦ inl (is_again names declared.again c.loop-number.number c.requires.first (sym c.is_number.ensures ∙ w.if-is_number.true))
+      | then-is_number-via-else-is_number+then-varies_again w ↦
+          inr (sym (w.varies_again.ensures ∙ ap (varies_again declared.table) w.locals_of.ensures ∙ varies_same names declared.table (locals_of (declaration c.index-items-number.result)) c.requires.known) ∙ w.if-varies_again.true)
     ])
-    c.loop-number.invariant
+    c.loop-number.invariant.0
 
 pub loop-number-preserved : goal.loop-number-preserved
 loop-number-preserved c =
-    all_more (λ k d. IsTwice c.args.names.now k d → ⊥) (declarations c.args.items.now) c.loop-number.number (declaration c.index-items-number.result)
-    (declaration_at c.args.items.now c.loop-number.number _ c.loop-number-test.true c.index-items-number.is)
-    (λ h. elim h [
-      | inl a ↦ false≢true (sym c.if-declares_again.false ∙ c.declares_again.ensures.no a)
-      | inr v ↦ false≢true (sym c.if-varies_again.false ∙ c.varies_again.ensures ∙ ap (varies_again c.args.names.now) c.locals_of.ensures ∙ v)
-    ])
-    c.loop-number.invariant
+    let names = declared_names (declarations c.args.items.now) in
+    let declared = c.args.declared.now in
+    let here = sym c.is_number.ensures ∙ c.if-is_number.false in (
+      all_more (λ k d. IsTwice names k d → ⊥) (declarations c.args.items.now) c.loop-number.number (declaration c.index-items-number.result)
+          (declaration_at c.args.items.now c.loop-number.number _ c.loop-number-test.true c.index-items-number.is)
+          (λ h. elim h [
+            | inl a ↦ passed_again names declared.again c.loop-number.number c.requires.first c.loop-number.invariant.1 here a
+            | inr v ↦
+                false≢true (sym c.if-varies_again.false ∙ c.varies_again.ensures ∙ ap (varies_again declared.table) c.locals_of.ensures
+                ∙ varies_same names declared.table (locals_of (declaration c.index-items-number.result)) c.requires.known ∙ v)
+          ])
+          c.loop-number.invariant.0,
+      λ k l. not_number declared.again c.loop-number.number k l here c.loop-number.invariant.1,
+    )
 
 pub returns-clause-none : goal.returns-clause-none
 returns-clause-none c =
-    all_of_them (λ k d. IsTwice c.args.names.now k d → ⊥) (declarations c.args.items.now) c.loop-number.number
-    (declarations_end c.args.items.now c.loop-number.number c.loop-number-test.false) c.loop-number.invariant
+    all_of_them (λ k d. IsTwice (declared_names (declarations c.args.items.now)) k d → ⊥) (declarations c.args.items.now) c.loop-number.number
+    (declarations_end c.args.items.now c.loop-number.number c.loop-number-test.false) c.loop-number.invariant.0
+
+pub returns-clause-same : goal.returns-clause-same
+returns-clause-same c =
+    let ds = declarations c.args.items.now in
+    let end = declarations_end c.args.items.now c.loop-number.number c.loop-number-test.false in
+    c.requires.whole (none_again ds c.args.declared.now.again c.requires.first (λ k l. c.loop-number.invariant.1 k (omega (arith, l, end))))

@@ -1,0 +1,114 @@
+#![tactic(auto)]
+//! Tables of names, in the order in which the names were first seen.
+
+ghost use Rattle.std.specs.Prelude.{◌≡◌, [], IfOk, OnOk, is_some};
+ghost use Rattle.pipe_checks.specs.Names.{number_of, declared_at, declared_names};
+ghost use Rattle.pipe_tree.specs.Tree.{declarations};
+ghost use Rattle.pipe_checks.specs.inside.Tables.{put, earlier, IsTableOf};
+
+use crate::symbol::{Symbol, declared_names};
+use indexmap::IndexMap;
+use pipe_tokens::Name;
+use pipe_tree::Item;
+use std::alloc::{AllocError, Global};
+use std::marker::Model;
+
+/// Names, and what each was declared as when it was first seen. Contracts see the list of the declarations.
+#[derive(Drop)]
+pub(crate) struct NameTable {
+    symbols: IndexMap<Name, Symbol>,
+}
+
+impl Model for NameTable {
+    ghost use Rattle.std.specs.Prelude.{◌≡◌, List, map};
+    ghost use Rattle.indexmap.specs.IndexMap.{values};
+    ghost use Rattle.pipe_checks.specs.declared.symbol.Symbol.{Symbol};
+    ghost use Rattle.pipe_checks.specs.inside.Entries.{named};
+
+    ghost Value = { List Symbol };
+
+    ghost view = { λ t. values t.symbols };
+
+    ghost invariant = { λ t. t.symbols.entries ≡ map named (values t.symbols) };
+}
+
+impl NameTable {
+    /// No names.
+    pub(crate) fn new(alloc: Global) -> Self
+        ensures { result ≡ [] }
+    {
+        NameTable {
+            symbols: IndexMap::new(alloc),
+        }
+    }
+
+    /// Adds a declaration. A name that is there keeps its place and takes the new one. Whether it was there.
+    pub(crate) fn declare(&mut self, symbol: Symbol) -> Result<bool, AllocError>
+        ensures known { IfOk result (λ known. known ≡ is_some (number_of self.old symbol.name)) }
+        ensures table { OnOk result (self.new ≡ put self.old symbol) }
+    {
+        let before = self.symbols.insert(symbol.name, symbol)?;
+        Ok(before.is_some())
+    }
+
+    /// The number of a name in the table.
+    pub(crate) fn number_of(&self, name: &Name) -> Option<usize>
+        ensures { result ≡ number_of self.now name.now }
+    {
+        self.symbols.get_index_of(name)
+    }
+
+    /// What a name was declared as.
+    pub(crate) fn declared_at(&self, name: &Name) -> Option<Symbol>
+        ensures { result ≡ declared_at self.now name.now }
+    {
+        match self.number_of(name) {
+            Some(number) => self.symbols().get(number).copied(),
+            None => None,
+        }
+    }
+
+    /// The declarations.
+    pub(crate) fn symbols(&self) -> &[Symbol]
+        ensures { result.now ≡ self.now }
+    {
+        self.symbols.values().as_slice()
+    }
+}
+
+/// The names of a program in a table, and the first item that declares a name again.
+#[derive(Drop)]
+pub(crate) struct Declared {
+    pub table: NameTable,
+    pub again: Option<usize>,
+}
+
+fn earlier(again: Option<usize>, item: usize) -> usize
+    ensures { result ≡ earlier again item }
+{
+    match again {
+        Some(first) => first.min(item),
+        None => item,
+    }
+}
+
+fn table_of(alloc: Global, names: &[Symbol]) -> Result<Declared, AllocError>
+    ensures { IfOk result (IsTableOf names.now) }
+{
+    let mut table = NameTable::new(alloc);
+    let mut again = None;
+    for symbol in names {
+        if table.declare(*symbol)? {
+            again = Some(earlier(again, symbol.item));
+        }
+    }
+    Ok(Declared { table, again })
+}
+
+/// The names that the items declare, each found in the table or put at its end.
+pub(crate) fn declare_all(alloc: Global, items: &[Item]) -> Result<Declared, AllocError>
+    ensures { IfOk result (IsTableOf (declared_names (declarations items.now))) }
+{
+    let names = declared_names(alloc, items)?;
+    table_of(alloc, &names)
+}
