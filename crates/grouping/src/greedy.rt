@@ -122,7 +122,7 @@ impl Grouper {
         let own = self.kept_cost(candidate.group);
         let apart = self.kept_cost(candidate.number);
         if pays(own, apart, trial.added, percent) && trial.fits() {
-            let points = sum_of(own, trial.added)?;
+            let points = own + trial.added;
             self.inline(candidate, trial, points);
         }
         Ok(())
@@ -179,12 +179,6 @@ impl Grouper {
     {
         stages.iter().all(|stage| self.group(*stage) == place)
     }
-}
-
-fn sum_of(own: u64, added: u64) -> Result<u64, AllocError>
-    ensures { IfOk result (λ n. n ≡ own + added) }
-{
-    own.checked_add(added).ok_or(AllocError)
 }
 
 // Whether the group takes few enough points with so many more.

@@ -43,7 +43,7 @@ impl Schedule {
     ///
     /// # Errors
     ///
-    /// Fails only where memory is refused, or where a cost has more than 64 bits; no program of 64 stages has such a cost.
+    /// Fails only where memory is refused.
     pub fn stored(alloc: Global, job: &Job) -> Result<Schedule, AllocError>
         ensures stored { IfOk result (λ s. s.inlining ≡ all_stored (pipeline_in job.now)) }
         ensures fits { IfOk result (λ s. AllFitScratch (pipeline_in job.now) s.inlining) }
@@ -59,8 +59,7 @@ impl Schedule {
     ///
     /// # Errors
     ///
-    /// Names the least output that is asked for, also where no memory is left. Else fails only where memory is refused, or
-    /// where a cost has more than 64 bits; no program of 64 stages has such a cost.
+    /// Names the least output that is asked for, also where no memory is left. Else fails only where memory is refused.
     pub fn of(alloc: Global, job: &Job, inlining: &[bool]) -> Result<Schedule, ScheduleFault>
         requires each { length inlining.now ≡ length (pipeline_in job.now).stages }
         ensures inlining { IfOk result (λ s. s.inlining ≡ inlining_for (pipeline_in job.now) inlining.now) }
@@ -90,7 +89,7 @@ impl Schedule {
     ///
     /// # Errors
     ///
-    /// Fails only where memory is refused, or where a cost has more than 64 bits; no program of 64 stages has such a cost.
+    /// Fails only where memory is refused.
     pub fn greedy(alloc: Global, job: &Job, percent: u32) -> Result<Schedule, AllocError>
         requires percent { percent ≤ 10000 }
         ensures greedy { IfOk result (λ s. s.inlining ≡ greedy_inlining (pipeline_in job.now) percent) }
@@ -169,7 +168,7 @@ impl Schedule {
     ///
     /// # Errors
     ///
-    /// Fails only where memory is refused, or where there are more than 64 bits can count; no program of 64 stages has so many.
+    /// Fails only where memory is refused.
     pub fn scratch(
         &self,
         alloc: Global,

@@ -1,7 +1,7 @@
 #![tactic(auto)]
 //! What inlining a function would take.
 
-ghost use Rattle.std.specs.Prelude.{◌≡◌, ◌<◌, ◌+◌, ◌++◌, ◌∷◌, [], nat_le, length, slice_get, slice_set, Some, None, All, IfOk, OnOk, IfSome};
+ghost use Rattle.std.specs.Prelude.{◌≡◌, ◌<◌, ◌+◌, ◌^◌, ◌++◌, ◌∷◌, [], nat_le, length, slice_get, slice_set, Some, None, All, IfOk, OnOk, IfSome};
 ghost use Rattle.std.specs.List.{flat_map, list_all};
 ghost use Rattle.job.specs.Kept.{pipeline_in};
 ghost use Rattle.grouping.specs.Costs.{most_scratch};
@@ -51,15 +51,16 @@ impl Trial {
 
     // One more tile, that has had so many points in scratch memory.
     fn add(&mut self, area: Option<Area>, before: u64) -> Result<(), AllocError>
+        requires added { self.old.added + points_of_box area < 2 ^ 64 }
+        requires scratch { before + points_of_box area < 2 ^ 64 }
         ensures boxes { OnOk result (self.new.boxes.items ≡ self.old.boxes.items ++ area ∷ []) }
         ensures added { OnOk result (self.new.added ≡ self.old.added + points_of_box area) }
         ensures scratch { OnOk result (self.new.scratch.items ≡ self.old.scratch.items ++ (before + points_of_box area) ∷ []) }
     {
         let points = points_of_box(&area);
         self.boxes.push(area)?;
-        self.added = self.added.checked_add(points).ok_or(AllocError)?;
-        self.scratch
-            .push(before.checked_add(points).ok_or(AllocError)?)?;
+        self.added += points;
+        self.scratch.push(before + points)?;
         Ok(())
     }
 
