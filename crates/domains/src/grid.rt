@@ -125,7 +125,8 @@ impl Grid {
     /// The row and the column of the tile in which the point lies; none outside the area.
     pub fn tile_of(&self, row: i32, col: i32) -> Option<(u32, u32)>
         ensures at { IfSome result (λ t. t ≡ tile_at self.now row col) }
-        ensures some { IfSome result (λ t. HoldsPoint self.now.area row col × IsTileOf self.now row col t) }
+        ensures some { IfSome result (λ t. HoldsPoint self.now.area row col
+            × IsTileOf self.now row col t) }
         ensures none { IfNone result (¬ (HoldsPoint self.now.area row col)) }
     {
         let i = parts::place(&self.area.rows, self.sides.height(), row)?;
@@ -140,7 +141,8 @@ impl Grid {
     /// Fails only where memory is refused.
     pub fn cover(&self, alloc: Global, area: &Area) -> Result<Vec<(u32, u32)>, AllocError>
         ensures list { IfOk result (λ tiles. tiles.items ≡ cover self.now area.now) }
-        ensures exact { IfOk result (λ tiles. (i j : ℕ) → Contains tiles.items (i, j) ↔ MeetsTile self.now area.now i j) }
+        ensures exact { IfOk result (λ tiles. (i j : ℕ) → Contains tiles.items (i, j)
+            ↔ MeetsTile self.now area.now i j) }
         ensures order { IfOk result (λ tiles. AllPairs IsBefore tiles.items) }
     {
         let rows = parts::meeting(&self.area.rows, self.sides.height(), &area.rows);
@@ -156,7 +158,8 @@ impl Grid {
 // Adds the tiles of row `i` from column `cols.0` up to before column `cols.1`.
 fn push_row(tiles: &mut Vec<(u32, u32)>, i: u32, cols: (u32, u32)) -> Result<(), AllocError>
     requires { cols.0 ≤ cols.1 }
-    ensures { OnOk result (tiles.new.items ≡ tiles.old.items ++ map (λ j. (i, j)) (range_with_len cols.0 (cols.1 - cols.0))) }
+    ensures { OnOk result (tiles.new.items
+        ≡ tiles.old.items ++ map (λ j. (i, j)) (range_with_len cols.0 (cols.1 - cols.0))) }
 {
     for j in cols.0..cols.1 {
         tiles.push((i, j))?;

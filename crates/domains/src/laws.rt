@@ -21,17 +21,21 @@ pub fn wrapping_is_congruence()
 /// The quotient and the remainder are the one pair that makes up the number, with a remainder from 0 up to below the divisor.
 pub fn division_rounds_down()
     ensures splits { (a d : ℤ) → pos 0 <ℤ d → IsFloor a d (floor_div a d) (floor_rem a d) }
-    ensures only { (a d q r : ℤ) → pos 0 <ℤ d → IsFloor a d q r → (q ≡ floor_div a d) × (r ≡ floor_rem a d) }
+    ensures only { (a d q r : ℤ) → pos 0 <ℤ d → IsFloor a d q r
+        → (q ≡ floor_div a d) × (r ≡ floor_rem a d) }
     ensures rises { (a b d : ℤ) → pos 0 <ℤ d → a ≤ℤ b → floor_div a d ≤ℤ floor_div b d }
 {}
 
 /// An index never falls, so images grow with spans, and the image of a hull is the hull of the images.
 pub fn images_grow()
     ensures rises { (x : Scale) (v w : ℤ) → IsIndex x → v ≤ℤ w → index_at x v ≤ℤ index_at x w }
-    ensures grows { (x : Scale) (s t : Ends) → IsIndex x → IsSpan s → IsSubspan s t → IsSubspan (image_of x s) (image_of x t) }
+    ensures grows { (x : Scale) (s t : Ends) → IsIndex x → IsSpan s → IsSubspan s t
+        → IsSubspan (image_of x s) (image_of x t) }
     ensures is { (x : Scale) (s : Ends) → IsIndex x → IsSpan s → IsImage x s (image_of x s) }
-    ensures fits { (x : Scale) (s : Ends) → IsIndex x → IsSpan s → negsuc 32767 ≤ℤ s.lo → s.hi ≤ℤ pos 32768 → IsSpan (image_of x s) }
-    ensures hulls { (x : Scale) (s t : Ends) → IsIndex x → image_of x (hull_of s t) ≡ hull_of (image_of x s) (image_of x t) }
+    ensures fits { (x : Scale) (s : Ends) → IsIndex x → IsSpan s → negsuc 32767 ≤ℤ s.lo
+        → s.hi ≤ℤ pos 32768 → IsSpan (image_of x s) }
+    ensures hulls { (x : Scale) (s t : Ends) → IsIndex x
+        → image_of x (hull_of s t) ≡ hull_of (image_of x s) (image_of x t) }
 {}
 
 /// The intersection and the hull of two areas are those of their rows and of their columns.
@@ -43,26 +47,33 @@ pub fn areas_meet_by_their_spans()
 
 /// The list of an area's points has each point that it holds once, row by row.
 pub fn points_are_listed()
-    ensures all { (a : Area) (r c : ℤ) → IsArea a → Contains (points_of a) (r, c) ↔ HoldsPoint a r c }
+    ensures all { (a : Area) (r c : ℤ) → IsArea a → Contains (points_of a) (r, c)
+        ↔ HoldsPoint a r c }
     ensures order { (a : Area) → AllPairs IsPointBefore (points_of a) }
 {}
 
 /// The tiles part the area: each point lies in exactly one, and no two have a point in common.
 pub fn tiles_part_the_area()
-    ensures one { (g : Grid) (r c : ℤ) → IsGrid g → HoldsPoint g.area r c → IsTileOf g r c (tile_at g r c) }
-    ensures within { (g : Grid) (i j : ℕ) (r c : ℤ) → HoldsPoint (tile_area g i j) r c → HoldsPoint g.area r c }
-    ensures disjoint { (g : Grid) (i j k l : ℕ) → IsGrid g → ¬ ((i ≡ k) × (j ≡ l)) → AreDisjoint (tile_area g i j) (tile_area g k l) }
+    ensures one { (g : Grid) (r c : ℤ) → IsGrid g → HoldsPoint g.area r c
+        → IsTileOf g r c (tile_at g r c) }
+    ensures within { (g : Grid) (i j : ℕ) (r c : ℤ) → HoldsPoint (tile_area g i j) r c
+        → HoldsPoint g.area r c }
+    ensures disjoint { (g : Grid) (i j k l : ℕ) → IsGrid g → ¬ ((i ≡ k) × (j ≡ l))
+        → AreDisjoint (tile_area g i j) (tile_area g k l) }
     ensures areas { (g : Grid) (i j : ℕ) → IsGrid g → HasTile g i j → IsArea (tile_area g i j) }
 {}
 
 /// A tile is there exactly where its first point lies in the area; the list of the tiles has each that is there, row by row.
 pub fn tiles_are_listed()
-    ensures begins { (g : Grid) (i j : ℕ) → IsGrid g → HasTile g i j ↔ HoldsPoint g.area (g.area.rows.lo +ℤ pos (i * g.sides.height)) (g.area.cols.lo +ℤ pos (j * g.sides.width)) }
+    ensures begins { (g : Grid) (i j : ℕ) → IsGrid g → HasTile g i j
+        ↔ HoldsPoint g.area (g.area.rows.lo +ℤ pos (i * g.sides.height))
+        (g.area.cols.lo +ℤ pos (j * g.sides.width)) }
     ensures all { (g : Grid) (i j : ℕ) → Contains (tiles_of g) (i, j) ↔ HasTile g i j }
     ensures order { (g : Grid) → AllPairs IsBefore (tiles_of g) }
 {}
 
 /// The tiles of a cover hold each point that the grid's area has in common with the area that is covered.
 pub fn covers_hold_their_points()
-    ensures { (g : Grid) (a : Area) (r c : ℤ) → IsGrid g → HoldsPoint g.area r c → HoldsPoint a r c → Contains (cover g a) (tile_at g r c) × IsTileOf g r c (tile_at g r c) }
+    ensures { (g : Grid) (a : Area) (r c : ℤ) → IsGrid g → HoldsPoint g.area r c → HoldsPoint a r c
+        → Contains (cover g a) (tile_at g r c) × IsTileOf g r c (tile_at g r c) }
 {}

@@ -19,7 +19,8 @@ pub(crate) fn count(span: &Span, side: u32) -> u32
 pub(crate) fn part(span: &Span, side: u32, i: u32) -> Option<Span>
     requires least { 1 ≤ side }
     requires most { side ≤ 1024 }
-    ensures some { IfSome result (λ p. (i < part_count span.now side) × (p ≡ part_of span.now side i)) }
+    ensures some { IfSome result (λ p. (i < part_count span.now side)
+        × (p ≡ part_of span.now side i)) }
     ensures within { IfSome result IsSpan }
     ensures none { IfNone result (part_count span.now side ≤ i) }
 {
@@ -59,7 +60,9 @@ pub(crate) fn place(span: &Span, side: u32, v: i32) -> Option<u32>
 // The first of the parts that have a number in common with `other`, and the one behind the last of them.
 pub(crate) fn meeting(span: &Span, side: u32, other: &Span) -> (u32, u32)
     requires { 1 ≤ side }
-    ensures parts { (k : ℕ) → k < part_count span.now side → IsTrue (spans_meet (part_of span.now side k) other.now) ↔ ((result.0 ≤ k) × (k < result.1)) }
+    ensures parts { (k : ℕ) → k < part_count span.now side
+        → IsTrue (spans_meet (part_of span.now side k) other.now)
+        ↔ ((result.0 ≤ k) × (k < result.1)) }
     ensures within { result.1 ≤ part_count span.now side }
     ensures ordered { result.0 ≤ result.1 }
     ensures both { IsSpan span.now × IsSpan other.now }

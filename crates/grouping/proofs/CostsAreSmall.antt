@@ -1,41 +1,43 @@
 -- Costs fit 64 bits: a domain has at most 32,769 rows and columns, and a job at most 65,536 stages, each of at most 65,536 tiles.
-use Rattle.std.proofs.Common.{ℕ, ◌≡◌, ◌+◌, ◌*◌, ◌<◌, ◌≤◌, arith, ◌^◌, ◌⊎◌, inl, inr, Bool, true, false, ◌&&◌, not, Option, Some, None, List, [], ◌∷◌, map, length, refl, sym, ap, ◌∙◌, subst}
-use Rattle.std.specs.Prelude.{All, AllPairs, Contains, slice_get, if◌then◌else◌}
+use Rattle.std.proofs.Common.{ℕ, ◌≡◌, ◌+◌, ◌*◌, ◌<◌, ◌≤◌, arith, ◌^◌, inl, inr, Bool, true, false, ◌&&◌, not, Option, Some, None, List, [], ◌∷◌, ◌++◌, map, length, refl, sym, ap, ◌∙◌, subst}
+use Rattle.std.specs.Prelude.{All, Contains, slice_get, if◌then◌else◌}
 use Rattle.std.specs.List.{sum, sum_by, range_with_len}
 use Rattle.std.specs.Option.{option_map_or}
 use Rattle.std.proofs.Math.Nat.{mul-le-mul, mul-le-mul_right}
-use Rattle.std.proofs.lemmas.Bool.{eqb-true}
+use Rattle.std.proofs.lemmas.Bool.{and_parts, eqb-true}
 use Rattle.std.proofs.lemmas.Bool.Decides.{Decides-eqb}
 use Rattle.std.proofs.lemmas.Int.{ints}
 use Rattle.std.proofs.lemmas.List.{length-map}
 use Rattle.std.proofs.lemmas.List.Elements.{All-weaker, All-contains, All-contains_itself, Contains-append_right}
 use Rattle.std.proofs.lemmas.List.FromFn.{length-range_with_len}
-use Rattle.std.proofs.lemmas.List.Sums.{sum-map, sum_by-le}
+use Rattle.std.proofs.lemmas.List.Sums.{sum-map, sum_by-append, sum_by-cons, sum_by-le}
 use Rattle.std.proofs.lemmas.Map.Made.{IsDistinct-from_AllPairs}
 use Rattle.std.proofs.lemmas.Map.Steps.{length-le_from_distinct_below}
 use Rattle.std.proofs.lemmas.Map.Views.{Contains-from_any}
 use Rattle.domains.specs.Area.{IsArea, IsSubarea, point_count}
-use Rattle.domains.specs.Span.{Ends, len_of}
+use Rattle.domains.specs.Span.{len_of}
 use Rattle.domains.specs.Tiles.{tile_rows, tile_cols, tile_area, tiles_of}
 use Rattle.domains.specs.declared.area.Area.{Area}
 use Rattle.domains.specs.declared.grid.Grid.{Grid}
 use Rattle.domains.proofs.Lengths.{len_is}
 use Rattle.domains.proofs.PairLists.{length-pairs, Contains-here, Contains-cases}
 use Rattle.job.specs.Pipeline.{Stage, Pipeline, rank_of}
-use Rattle.job.specs.Readers.{grid_at}
+use Rattle.job.specs.Answers.{grid_of, has_tiles}
+use Rattle.job.specs.Readers.{stage_grid, grid_at}
 use Rattle.job.specs.WellFormed.{IsStage, IsJob}
 use Rattle.job.proofs.Solving.{ranked_is}
 use Rattle.grouping.specs.Demands.{hull_of_all, areas_of}
-use Rattle.grouping.specs.Costs.{scratch, points, cost}
-use Rattle.grouping.specs.Order.{ComesBefore, in_order}
+use Rattle.grouping.specs.Costs.{scratch, points, cost_of, stage_cost}
+use Rattle.grouping.specs.Greedy.{cost_or_zero}
+use Rattle.grouping.specs.Order.{in_order}
 use Rattle.grouping.specs.Schedules.{is_inlined}
 use Rattle.grouping.specs.Targets.{Target, IsTarget, all_demands_by, cut_to, is_boxed, box, target_over}
-use Rattle.grouping.specs.inside.Tallies.{areas_of_tiles, over, inner_points, points_over}
+use Rattle.grouping.specs.inside.Tallies.{areas_of_tiles, over, over_domain, inner_points, points_over}
 use Rattle.grouping.specs.inside.Standings.{areas_at, boxes_by_tile}
 use Rattle.grouping.specs.inside.Trials.{points_of_box}
 use Rattle.grouping.proofs.BoxesFollowTheRule.{box_follows}
 use Rattle.grouping.proofs.BoxesLieInDomains.{box_inside}
-use Rattle.grouping.proofs.CostsAddUp.{scratch_is, points_is, areas_are}
+use Rattle.grouping.proofs.CostsAddUp.{scratch_is, points_is, cost_is, areas_are, tiles_are_targets}
 use Rattle.grouping.proofs.OrderHasEachStage.{order_pairs, order_has}
 use Rattle.grouping.proofs.TilesAreTargets.{gridded}
 
@@ -116,8 +118,12 @@ module _ (t : Target) (job : IsJob t.job) where
 
   pub points_small : IsTarget t → points t ≤ 65537 * most_box
   points_small target =
-      omega (arith, points_is t, scratch_small,
-      area_small t.job target.owner t.region (job.stages t.stage target.owner target.there) target.area target.inside)
+      omega (
+        arith,
+        points_is t,
+        scratch_small,
+        area_small t.job target.owner t.region (job.stages t.stage target.owner target.there) target.area target.inside,
+      )
 
 -- ---- the tiles of a stage
 
@@ -165,3 +171,25 @@ boxes_small job inlining h g is =
     subst (λ (x : Option Area). points_of_box x ≤ most_box) from.2 (box_small (target_over job inlining h from.0) is g))
     (let same = length-map (areas_at job h) f in let few = areas_at_few job h is in omega arith) in
     omega arith
+
+-- what is in a list so far, and the next of it, is not more than all
+pub next_small : {X : Type 0} → (f : X → ℕ) (xs ys all : List X) (x : X) → xs ++ x ∷ ys ≡ all → sum (map f xs) + f x ≤ sum (map f all)
+next_small f xs ys all x is =
+    omega (arith, sum-map f all, sum-map f xs, ap (sum_by f) is, sum_by-append f xs (x ∷ ys), sum_by-cons f x ys)
+
+-- what a stage costs
+pub kept_small : (job : Pipeline) (inlining : List Bool) (g : ℕ) → IsJob job → cost_or_zero job inlining g < 2 ^ 63
+kept_small job inlining g is = by (slice_get job.stages g) refl
+  where
+    pick : (s : Stage) → slice_get job.stages g ≡ Some s → (b : Bool) → (has_tiles s.body && not (is_inlined inlining g)) ≡ b
+        → option_map_or (λ n. n) (if b then Some (cost_of job inlining g s) else None) 0 < 2 ^ 63
+    pick s there true has =
+        let small = cost_small (over_domain job inlining g s) (areas_of_tiles (grid_of job s)) is (tiles_are_targets job inlining g s is there)
+        (areas_few job g (grid_of job s) is (ap (stage_grid job) there
+        ∙ ap (λ c. if c then Some (grid_of job s) else None) (and_parts (has_tiles s.body) (not (is_inlined inlining g)) has).0)) in
+        omega (arith, cost_is job inlining g s, small)
+    pick s there false has = omega arith
+
+    by : (o : Option Stage) → slice_get job.stages g ≡ o → option_map_or (λ n. n) (stage_cost job inlining g o) 0 < 2 ^ 63
+    by None there = omega arith
+    by (Some s) there = pick s there (has_tiles s.body && not (is_inlined inlining g)) refl

@@ -31,7 +31,8 @@ pub const MOST_SCRATCH: u64 = 67_108_864;
 #[tactic(auto, using(crate::proofs::CostsAddUp::row_more))]
 fn add_row(areas: &mut Vec<Area>, grid: &Grid, i: u32) -> Result<(), AllocError>
     requires { i < tile_rows grid.now }
-    ensures { OnOk result (areas.new.items ≡ areas.old.items ++ row_areas grid.now i (tile_cols grid.now)) }
+    ensures { OnOk result (areas.new.items
+        ≡ areas.old.items ++ row_areas grid.now i (tile_cols grid.now)) }
 {
     for j in 0..grid.tile_cols() {
         if let Some(area) = grid.tile(i, j) {
@@ -90,7 +91,8 @@ impl<'a> TargetWalk<'a> {
 
 impl TargetWalk<'_> {
     fn inner_points(&self, hulls: &[Option<Area>], number: usize) -> u64
-        requires boxes { (g : ℕ) → cut_hull (pipeline_in self.now.job.now).stages hulls.now g ≡ box (target_of self.now) g }
+        requires boxes { (g : ℕ) → cut_hull (pipeline_in self.now.job.now).stages hulls.now g
+            ≡ box (target_of self.now) g }
         ensures { result ≡ inner_points (target_of self.now) number }
     {
         if self.schedule.inlined(number) && self.is_boxed(number) {
@@ -104,7 +106,8 @@ impl TargetWalk<'_> {
     }
 
     fn inner_sum(&self, hulls: &[Option<Area>], numbers: &[usize]) -> u64
-        requires boxes { (g : ℕ) → cut_hull (pipeline_in self.now.job.now).stages hulls.now g ≡ box (target_of self.now) g }
+        requires boxes { (g : ℕ) → cut_hull (pipeline_in self.now.job.now).stages hulls.now g
+            ≡ box (target_of self.now) g }
         requires few { sum (map (inner_points (target_of self.now)) numbers.now) < 2 ^ 64 }
         ensures { result ≡ sum (map (inner_points (target_of self.now)) numbers.now) }
     {
@@ -175,7 +178,8 @@ impl TargetWalk<'_> {
 
 // Whether a stage reads nothing that is inlined.
 fn reads_stored(alloc: Global, inlining: &InlinedStages, stage: &Stage) -> Result<bool, AllocError>
-    ensures { IfOk result (λ b. b ≡ reads_stored inlining.now (reads_of (stage_view stage.now).body)) }
+    ensures { IfOk result (λ b. b
+        ≡ reads_stored inlining.now (reads_of (stage_view stage.now).body)) }
 {
     let reads = stage.reads(alloc)?;
     for read in reads.iter() {
@@ -204,8 +208,11 @@ pub(crate) fn tally_of(
     number: usize,
 ) -> Result<Option<Tally>, AllocError>
     requires order { order.now ≡ in_order (pipeline_in job.now).stages }
-    ensures cost { IfOk result (λ t. option_map (λ t. t.points) t ≡ cost (pipeline_in job.now) inlining.now number) }
-    ensures fits { IfOk result (λ t. option_map_or (λ t. t.fits) t true ≡ stage_fits (pipeline_in job.now) inlining.now number (slice_get (pipeline_in job.now).stages number)) }
+    ensures cost { IfOk result (λ t. option_map (λ t. t.points) t
+        ≡ cost (pipeline_in job.now) inlining.now number) }
+    ensures fits { IfOk result (λ t. option_map_or (λ t. t.fits) t true
+        ≡ stage_fits (pipeline_in job.now) inlining.now number
+        (slice_get (pipeline_in job.now).stages number)) }
 {
     if inlining.inlined(number) {
         return Ok(None);
@@ -236,8 +243,10 @@ pub(crate) struct Survey {
 
 impl Survey {
     fn add(&mut self, tally: Option<Tally>) -> Result<(), AllocError>
-        ensures costs { OnOk result (self.new.costs.items ≡ self.old.costs.items ++ option_map (λ t. t.points) tally ∷ []) }
-        ensures fits { OnOk result (self.new.fits ≡ (self.old.fits && option_map_or (λ t. t.fits) tally true)) }
+        ensures costs { OnOk result (self.new.costs.items
+            ≡ self.old.costs.items ++ option_map (λ t. t.points) tally ∷ []) }
+        ensures fits { OnOk result (self.new.fits
+            ≡ (self.old.fits && option_map_or (λ t. t.fits) tally true)) }
     {
         match tally {
             Some(tally) => {
@@ -257,7 +266,8 @@ pub(crate) fn costs_of(
     inlining: &InlinedStages,
 ) -> Result<Survey, AllocError>
     ensures costs { IfOk result (λ s. s.costs.items ≡ costs_of (pipeline_in job.now) inlining.now) }
-    ensures fits { IfOk result (λ s. s.fits ≡ true → AllFitScratch (pipeline_in job.now) inlining.now) }
+    ensures fits { IfOk result (λ s. s.fits ≡ true
+        → AllFitScratch (pipeline_in job.now) inlining.now) }
 {
     let order = in_order(alloc, job.stages())?;
     let mut survey = Survey {

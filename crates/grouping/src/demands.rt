@@ -59,7 +59,10 @@ fn widened(span: &Span, by: usize) -> Span
 
 fn image_of_point(row: &Index, column: &Index, region: &Area) -> Area
     requires { InDomainRanges region.now }
-    ensures { result ≡ record { rows = image_of row.now region.now.rows; cols = image_of column.now region.now.cols } }
+    ensures { result ≡ record {
+      rows = image_of row.now region.now.rows;
+      cols = image_of column.now region.now.cols;
+    } }
 {
     Area {
         rows: row.image(&region.rows),
@@ -110,7 +113,8 @@ fn demand(hulls: &mut [Option<Area>], stage: usize, area: Area)
 fn demand_reads(hulls: &mut [Option<Area>], formula: &Formula, region: &Area)
     requires formula { IsFormula (formula_view formula.now) }
     requires near { InDomainRanges region.now }
-    ensures { hulls.new ≡ demanded_all hulls.old (formula_demands (formula_view formula.now) region.now) }
+    ensures { hulls.new
+        ≡ demanded_all hulls.old (formula_demands (formula_view formula.now) region.now) }
 {
     match formula {
         Formula::Number(_) | Formula::Coordinate(_) => {}
@@ -157,7 +161,9 @@ fn demand_case(hulls: &mut [Option<Area>], case: &JobCase, region: &Area)
 fn demand_cases(hulls: &mut [Option<Area>], cases: &[JobCase], region: &Area)
     requires formulas { All IsFormula (map (λ p. p.formula) (map case_view cases.now)) }
     requires near { InDomainRanges region.now }
-    ensures { hulls.new ≡ demanded_all hulls.old (flat_map (case_demands region.now) (map case_view cases.now)) }
+    ensures { hulls.new
+        ≡ demanded_all hulls.old
+        (flat_map (case_demands region.now) (map case_view cases.now)) }
 {
     for case in cases {
         demand_case(hulls, case, region);
@@ -167,7 +173,9 @@ fn demand_cases(hulls: &mut [Option<Area>], cases: &[JobCase], region: &Area)
 fn demand_other(hulls: &mut [Option<Area>], otherwise: &Option<Formula>, region: &Area)
     requires formula { ForSome (option_map formula_view otherwise.now) IsFormula }
     requires near { InDomainRanges region.now }
-    ensures { hulls.new ≡ demanded_all hulls.old (other_demands (option_map formula_view otherwise.now) region.now) }
+    ensures { hulls.new
+        ≡ demanded_all hulls.old
+        (other_demands (option_map formula_view otherwise.now) region.now) }
 {
     if let Some(formula) = otherwise {
         demand_reads(hulls, formula, region);

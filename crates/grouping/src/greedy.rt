@@ -53,8 +53,10 @@ pub(crate) fn greedy_inlining(
 impl Grouper {
     // Each stage is stored.
     fn none(alloc: Global, job: &Job) -> Result<Grouper, AllocError>
-        ensures grouping { IfOk result (λ c. grouping_of c ≡ initial_grouping (pipeline_in job.now)) }
-        ensures stand { IfOk result (λ c. AllStand (pipeline_in job.now) (grouping_of c) c.standings.items) }
+        ensures grouping { IfOk result (λ c. grouping_of c
+            ≡ initial_grouping (pipeline_in job.now)) }
+        ensures stand { IfOk result
+            (λ c. AllStand (pipeline_in job.now) (grouping_of c) c.standings.items) }
     {
         let inlining = InlinedStages::all_stored(alloc, job)?;
         let survey = costs_of(alloc, job, &inlining)?;
@@ -82,12 +84,15 @@ impl Grouper {
     ) -> Result<(), AllocError>
         requires percent { percent ≤ 10000 }
         requires order { order.now ≡ backward (pipeline_in job.now).stages }
-        requires stand { AllStand (pipeline_in job.now) (grouping_of self.old) self.old.standings.items }
+        requires stand { AllStand (pipeline_in job.now) (grouping_of self.old)
+            self.old.standings.items }
         requires there { number < length (pipeline_in job.now).stages }
         requires stored { is_inlined self.old.inlining number ≡ false }
         requires behind { NoneInlinedBelow (pipeline_in job.now) self.old.inlining number }
-        ensures grouping { OnOk result (grouping_of self.new ≡ visited (pipeline_in job.now) percent (grouping_of self.old) number) }
-        ensures stand { OnOk result (AllStand (pipeline_in job.now) (grouping_of self.new) self.new.standings.items) }
+        ensures grouping { OnOk result (grouping_of self.new
+            ≡ visited (pipeline_in job.now) percent (grouping_of self.old) number) }
+        ensures stand { OnOk result
+            (AllStand (pipeline_in job.now) (grouping_of self.new) self.new.standings.items) }
     {
         if !is_function(job, number) || is_output(job, number) {
             return Ok(());
@@ -113,16 +118,21 @@ impl Grouper {
         percent: u32,
     ) -> Result<(), AllocError>
         requires percent { percent ≤ 10000 }
-        requires stand { AllStand (pipeline_in job.now) (grouping_of self.old) self.old.standings.items }
-        requires candidate { IsCandidate (pipeline_in job.now) (grouping_of self.old) candidate.now }
-        ensures grouping { OnOk result (grouping_of self.new ≡ inlined_if (pipeline_in job.now) percent (grouping_of self.old) candidate.now.number (Some candidate.now.group)) }
-        ensures stand { OnOk result (AllStand (pipeline_in job.now) (grouping_of self.new) self.new.standings.items) }
+        requires stand { AllStand (pipeline_in job.now) (grouping_of self.old)
+            self.old.standings.items }
+        requires candidate { IsCandidate (pipeline_in job.now) (grouping_of self.old)
+            candidate.now }
+        ensures grouping { OnOk result (grouping_of self.new
+            ≡ inlined_if (pipeline_in job.now) percent
+            (grouping_of self.old) candidate.now.number (Some candidate.now.group)) }
+        ensures stand { OnOk result
+            (AllStand (pipeline_in job.now) (grouping_of self.new) self.new.standings.items) }
     {
         let trial = self.trial(alloc, job, candidate)?;
         let own = self.kept_cost(candidate.group);
         let apart = self.kept_cost(candidate.number);
         if pays(own, apart, trial.added, percent) && trial.fits() {
-            let points = sum_of(own, trial.added)?;
+            let points = own + trial.added;
             self.inline(candidate, trial, points);
         }
         Ok(())
@@ -133,8 +143,12 @@ impl Grouper {
         requires number { candidate.now.number < length self.old.standings.items }
         requires group { candidate.now.group < length self.old.standings.items }
         requires groups { candidate.now.number < length self.old.groups.items }
-        ensures grouping { grouping_of self.new ≡ with_inlined (grouping_of self.old) candidate.now.number candidate.now.group }
-        ensures standings { self.new.standings.items ≡ slice_set (slice_set self.old.standings.items candidate.now.number (Inlined trial.boxes)) candidate.now.group (Stored points trial.scratch) }
+        ensures grouping { grouping_of self.new
+            ≡ with_inlined (grouping_of self.old) candidate.now.number candidate.now.group }
+        ensures standings { self.new.standings.items
+            ≡ slice_set
+            (slice_set self.old.standings.items candidate.now.number (Inlined trial.boxes))
+            candidate.now.group (Stored points trial.scratch) }
     {
         self.inlining.set(candidate.number, true);
         self.groups[candidate.number] = candidate.group;
@@ -181,12 +195,6 @@ impl Grouper {
     }
 }
 
-fn sum_of(own: u64, added: u64) -> Result<u64, AllocError>
-    ensures { IfOk result (λ n. n ≡ own + added) }
-{
-    own.checked_add(added).ok_or(AllocError)
-}
-
 // Whether the group takes few enough points with so many more.
 fn pays(own: u64, apart: u64, added: u64, percent: u32) -> bool
     requires { percent ≤ 10000 }
@@ -205,7 +213,8 @@ fn stored(
     number: usize,
 ) -> Result<Standing, AllocError>
     requires costs { costs.now ≡ costs_of (pipeline_in job.now) (all_stored (pipeline_in job.now)) }
-    ensures { IfOk result (Stands (pipeline_in job.now) (initial_grouping (pipeline_in job.now)) number) }
+    ensures { IfOk result
+        (Stands (pipeline_in job.now) (initial_grouping (pipeline_in job.now)) number) }
 {
     let points = cost_at(costs, number);
     Ok(Standing::Stored(points, no_scratch(alloc, job, number)?))

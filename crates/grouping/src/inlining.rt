@@ -73,8 +73,10 @@ impl InlinedStages {
 
 /// The least output that is asked for. No memory is taken.
 pub(crate) fn first_output_asked(job: &Job, asked: &[bool]) -> Option<usize>
-    ensures some { IfSome result (IsInlinedOutput (pipeline_in job.now) (inlining_for (pipeline_in job.now) asked.now)) }
-    ensures none { IfNone result (StoresOutputs (pipeline_in job.now) (inlining_for (pipeline_in job.now) asked.now)) }
+    ensures some { IfSome result
+        (IsInlinedOutput (pipeline_in job.now) (inlining_for (pipeline_in job.now) asked.now)) }
+    ensures none { IfNone result
+        (StoresOutputs (pipeline_in job.now) (inlining_for (pipeline_in job.now) asked.now)) }
 {
     for number in 0..job.stages().len() {
         if is_asked(job, asked, number) && is_output(job, number) {

@@ -29,40 +29,59 @@ pub fn boxes_hold_what_is_read()
 
 /// Dependence order has each stage once, by ranks, and by numbers where ranks are equal.
 pub fn dependence_order_has_each_stage()
-    ensures all { (stages : List Stage) (g : ℕ) → Contains (in_order stages) g ↔ (g < length stages) }
+    ensures all { (stages : List Stage) (g : ℕ) → Contains (in_order stages) g
+        ↔ (g < length stages) }
     ensures order { (stages : List Stage) → AllPairs (ComesBefore stages) (in_order stages) }
-    ensures reads { (stages : List Stage) (g : ℕ) (s : Stage) → IsRanked stages → slice_get stages g ≡ Some s → All (λ x. ComesBefore stages (stage_read x) g) (reads_of s.body) }
+    ensures reads { (stages : List Stage) (g : ℕ) (s : Stage) → IsRanked stages
+        → slice_get stages g ≡ Some s
+        → All (λ x. ComesBefore stages (stage_read x) g) (reads_of s.body) }
 {}
 
 /// A hull is the least area that holds each of those that it is made of; there is one where these are any.
 pub fn hulls_are_least()
-    ensures some { (areas : List Area) (h : Area) → All IsArea areas → hull_of_all areas ≡ Some h → IsHullOfAll areas h }
+    ensures some { (areas : List Area) (h : Area) → All IsArea areas → hull_of_all areas ≡ Some h
+        → IsHullOfAll areas h }
     ensures none { (areas : List Area) → hull_of_all areas ≡ None → areas ≡ [] }
 {}
 
 /// Each tile of a stage is a target.
 pub fn tiles_are_targets()
-    ensures { (job : Pipeline) (inlining : List Bool) (g i j : ℕ) (grid : Grid) → IsJob job → grid_at job g ≡ Some grid → HasTile grid i j → IsTarget (target_over job inlining g (tile_area grid i j)) }
+    ensures { (job : Pipeline) (inlining : List Bool) (g i j : ℕ) (grid : Grid) → IsJob job
+        → grid_at job g ≡ Some grid → HasTile grid i j
+        → IsTarget (target_over job inlining g (tile_area grid i j)) }
 {}
 
 /// Boxes, and the regions of all that is in a target, are areas that lie in the domains. What is listed are functions with
 /// their boxes.
 pub fn boxes_lie_in_domains()
-    ensures boxes { (t : Target) (g : ℕ) (s : Stage) (a : Area) → IsJob t.job → slice_get t.job.stages g ≡ Some s → box t g ≡ Some a → IsArea a × IsSubarea a s.domain }
-    ensures regions { (t : Target) (g : ℕ) (s : Stage) (a : Area) → IsJob t.job → IsTarget t → slice_get t.job.stages g ≡ Some s → region t g ≡ Some a → IsArea a × IsSubarea a s.domain }
+    ensures boxes { (t : Target) (g : ℕ) (s : Stage) (a : Area) → IsJob t.job
+        → slice_get t.job.stages g ≡ Some s → box t g ≡ Some a
+        → IsArea a × IsSubarea a s.domain }
+    ensures regions { (t : Target) (g : ℕ) (s : Stage) (a : Area) → IsJob t.job → IsTarget t
+        → slice_get t.job.stages g ≡ Some s → region t g ≡ Some a
+        → IsArea a × IsSubarea a s.domain }
     ensures listed { (t : Target) → IsJob t.job → All (IsListed t) (boxes t) }
 {}
 
 /// Where nothing is inlined a target takes no scratch memory, and its own points alone.
 pub fn stored_stages_take_no_scratch()
     ensures scratch { (t : Target) → t.inlining ≡ all_stored t.job → scratch t ≡ 0 }
-    ensures points { (t : Target) → t.inlining ≡ all_stored t.job → points t ≡ point_count t.region }
+    ensures points { (t : Target) → t.inlining ≡ all_stored t.job
+        → points t ≡ point_count t.region }
 {}
 
 /// The greedy grouping has each stage in the group of a stored stage: the one from which a chain of reads leads to it through
 /// inlined functions alone. So groups follow chains on the way, too, when some stages have been visited.
 pub fn groups_follow_chains()
-    ensures stored { (job : Pipeline) (percent x : ℕ) → IsJob job → is_inlined (greedy_inlining job percent) (group (greedy_grouping job percent) x) ≡ false }
-    ensures chains { (job : Pipeline) (percent t x : ℕ) → IsJob job → is_inlined (greedy_inlining job percent) t ≡ false → ChainLeads job (greedy_inlining job percent) t x ↔ (group (greedy_grouping job percent) x ≡ t) }
-    ensures on_the_way { (job : Pipeline) (percent k t x : ℕ) → IsJob job → is_inlined (grouping_after job percent k).inlining t ≡ false → ChainLeads job (grouping_after job percent k).inlining t x ↔ (group (grouping_after job percent k) x ≡ t) }
+    ensures stored { (job : Pipeline) (percent x : ℕ) → IsJob job
+        → is_inlined (greedy_inlining job percent) (group (greedy_grouping job percent) x)
+        ≡ false }
+    ensures chains { (job : Pipeline) (percent t x : ℕ) → IsJob job
+        → is_inlined (greedy_inlining job percent) t ≡ false
+        → ChainLeads job (greedy_inlining job percent) t x
+        ↔ (group (greedy_grouping job percent) x ≡ t) }
+    ensures on_the_way { (job : Pipeline) (percent k t x : ℕ) → IsJob job
+        → is_inlined (grouping_after job percent k).inlining t ≡ false
+        → ChainLeads job (grouping_after job percent k).inlining t x
+        ↔ (group (grouping_after job percent k) x ≡ t) }
 {}

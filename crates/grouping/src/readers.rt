@@ -19,7 +19,8 @@ pub(crate) fn readers_of(
     stages: &[usize],
     number: usize,
 ) -> Result<Vec<usize>, AllocError>
-    ensures { IfOk result (λ readers. readers.items ≡ filter (does_read (pipeline_in job.now) number) stages.now) }
+    ensures { IfOk result (λ readers. readers.items
+        ≡ filter (does_read (pipeline_in job.now) number) stages.now) }
 {
     let mut readers = Vec::new(alloc);
     for reader in stages {
@@ -40,7 +41,8 @@ fn does_read(alloc: Global, job: &Job, number: usize, reader: usize) -> Result<b
 }
 
 fn reads_it(alloc: Global, stage: &Stage, number: usize) -> Result<bool, AllocError>
-    ensures { IfOk result (λ b. b ≡ list_any (λ x. stage_read x == number) (reads_of (stage_view stage.now).body)) }
+    ensures { IfOk result (λ b. b
+        ≡ list_any (λ x. stage_read x == number) (reads_of (stage_view stage.now).body)) }
 {
     let reads = stage.reads(alloc)?;
     for read in reads.iter() {

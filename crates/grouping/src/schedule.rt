@@ -43,7 +43,7 @@ impl Schedule {
     ///
     /// # Errors
     ///
-    /// Fails only where memory is refused, or where a cost has more than 64 bits; no program of 64 stages has such a cost.
+    /// Fails only where memory is refused.
     pub fn stored(alloc: Global, job: &Job) -> Result<Schedule, AllocError>
         ensures stored { IfOk result (λ s. s.inlining ≡ all_stored (pipeline_in job.now)) }
         ensures fits { IfOk result (λ s. AllFitScratch (pipeline_in job.now) s.inlining) }
@@ -59,11 +59,11 @@ impl Schedule {
     ///
     /// # Errors
     ///
-    /// Names the least output that is asked for, also where no memory is left. Else fails only where memory is refused, or
-    /// where a cost has more than 64 bits; no program of 64 stages has such a cost.
+    /// Names the least output that is asked for, also where no memory is left. Else fails only where memory is refused.
     pub fn of(alloc: Global, job: &Job, inlining: &[bool]) -> Result<Schedule, ScheduleFault>
         requires each { length inlining.now ≡ length (pipeline_in job.now).stages }
-        ensures inlining { IfOk result (λ s. s.inlining ≡ inlining_for (pipeline_in job.now) inlining.now) }
+        ensures inlining { IfOk result (λ s. s.inlining
+            ≡ inlining_for (pipeline_in job.now) inlining.now) }
         ensures schedule { IfOk result (IsScheduleOf (pipeline_in job.now)) }
         ensures fault { IfErr result (IsScheduleFault (pipeline_in job.now) inlining.now) }
     {
@@ -75,8 +75,10 @@ impl Schedule {
 
     // The schedule that inlines the functions that are asked for, none of which is an output.
     fn asked(alloc: Global, job: &Job, asked: &[bool]) -> Result<Schedule, AllocError>
-        requires outputs { StoresOutputs (pipeline_in job.now) (inlining_for (pipeline_in job.now) asked.now) }
-        ensures inlining { IfOk result (λ s. s.inlining ≡ inlining_for (pipeline_in job.now) asked.now) }
+        requires outputs { StoresOutputs (pipeline_in job.now)
+            (inlining_for (pipeline_in job.now) asked.now) }
+        ensures inlining { IfOk result (λ s. s.inlining
+            ≡ inlining_for (pipeline_in job.now) asked.now) }
         ensures schedule { IfOk result (IsScheduleOf (pipeline_in job.now)) }
     {
         let inlining = InlinedStages::asked(alloc, job, asked)?;
@@ -90,10 +92,11 @@ impl Schedule {
     ///
     /// # Errors
     ///
-    /// Fails only where memory is refused, or where a cost has more than 64 bits; no program of 64 stages has such a cost.
+    /// Fails only where memory is refused.
     pub fn greedy(alloc: Global, job: &Job, percent: u32) -> Result<Schedule, AllocError>
         requires percent { percent ≤ 10000 }
-        ensures greedy { IfOk result (λ s. s.inlining ≡ greedy_inlining (pipeline_in job.now) percent) }
+        ensures greedy { IfOk result (λ s. s.inlining
+            ≡ greedy_inlining (pipeline_in job.now) percent) }
         ensures schedule { IfOk result (IsScheduleOf (pipeline_in job.now)) }
         ensures fits { IfOk result (λ s. AllFitScratch (pipeline_in job.now) s.inlining) }
     {
@@ -153,8 +156,10 @@ impl Schedule {
         target: usize,
         region: Area,
     ) -> Result<Vec<(usize, Area)>, AllocError>
-        requires target { IsTarget (target_over (pipeline_in job.now) self.now.inlining target region) }
-        ensures { IfOk result (λ found. found.items ≡ boxes (target_over (pipeline_in job.now) self.now.inlining target region)) }
+        requires target { IsTarget
+            (target_over (pipeline_in job.now) self.now.inlining target region) }
+        ensures { IfOk result (λ found. found.items
+            ≡ boxes (target_over (pipeline_in job.now) self.now.inlining target region)) }
     {
         let walk = TargetWalk {
             job,
@@ -169,7 +174,7 @@ impl Schedule {
     ///
     /// # Errors
     ///
-    /// Fails only where memory is refused, or where there are more than 64 bits can count; no program of 64 stages has so many.
+    /// Fails only where memory is refused.
     pub fn scratch(
         &self,
         alloc: Global,
@@ -177,8 +182,10 @@ impl Schedule {
         target: usize,
         region: Area,
     ) -> Result<u64, AllocError>
-        requires target { IsTarget (target_over (pipeline_in job.now) self.now.inlining target region) }
-        ensures { IfOk result (λ n. n ≡ scratch (target_over (pipeline_in job.now) self.now.inlining target region)) }
+        requires target { IsTarget
+            (target_over (pipeline_in job.now) self.now.inlining target region) }
+        ensures { IfOk result (λ n. n
+            ≡ scratch (target_over (pipeline_in job.now) self.now.inlining target region)) }
     {
         let walk = TargetWalk {
             job,

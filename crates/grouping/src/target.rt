@@ -41,7 +41,8 @@ impl TargetWalk<'_> {
     // The region of a stage that is in the target.
     fn region_of(&self, hulls: &[Option<Area>], number: usize) -> Option<Area>
         requires target { IsTarget (target_of self.now) }
-        ensures is { result ≡ region_by (target_of self.now) (cut_hull (pipeline_in self.now.job.now).stages hulls.now) number }
+        ensures is { result ≡ region_by (target_of self.now)
+            (cut_hull (pipeline_in self.now.job.now).stages hulls.now) number }
         ensures near { IfSome result InDomainRanges }
     {
         if number == self.stage {
@@ -65,7 +66,9 @@ impl TargetWalk<'_> {
     // What a stage demands over a region, if it has one, comes in.
     pub(crate) fn demand(&self, hulls: &mut [Option<Area>], number: usize, region: Option<Area>)
         requires near { IfSome region InDomainRanges }
-        ensures { hulls.new ≡ demanded_all hulls.old (stage_demands (slice_get (pipeline_in self.now.job.now).stages number) region) }
+        ensures { hulls.new
+            ≡ demanded_all hulls.old
+            (stage_demands (slice_get (pipeline_in self.now.job.now).stages number) region) }
     {
         if let Some(region) = region {
             if let Some(stage) = self.job.stage(number) {
@@ -90,7 +93,9 @@ impl TargetWalk<'_> {
         order: &[usize],
     ) -> Result<Vec<Option<Area>>, AllocError>
         requires target { IsTarget (target_of self.now) }
-        ensures { IfOk result (λ hulls. hulls.items ≡ walked (target_of self.now) (no_hulls (pipeline_in self.now.job.now).stages) (reverse order.now)) }
+        ensures { IfOk result (λ hulls. hulls.items
+            ≡ walked (target_of self.now) (no_hulls (pipeline_in self.now.job.now).stages)
+            (reverse order.now)) }
     {
         let mut hulls = no_hulls(alloc, self.job)?;
         let mut backward = order.to_vec(alloc)?;
@@ -123,7 +128,8 @@ impl TargetWalk<'_> {
         hulls: &[Option<Area>],
         order: &[usize],
     ) -> Result<Vec<(usize, Area)>, AllocError>
-        ensures { IfOk result (λ found. found.items ≡ flat_map (numbered_hull (target_of self.now) hulls.now) order.now) }
+        ensures { IfOk result (λ found. found.items
+            ≡ flat_map (numbered_hull (target_of self.now) hulls.now) order.now) }
     {
         let mut found = Vec::new(alloc);
         for number in order {

@@ -1,7 +1,7 @@
 #![tactic(auto)]
 //! What inlining a function would take.
 
-ghost use Rattle.std.specs.Prelude.{◌≡◌, ◌<◌, ◌+◌, ◌++◌, ◌∷◌, [], nat_le, length, slice_get, slice_set, Some, None, All, IfOk, OnOk, IfSome};
+ghost use Rattle.std.specs.Prelude.{◌≡◌, ◌<◌, ◌+◌, ◌^◌, ◌++◌, ◌∷◌, [], nat_le, length, slice_get, slice_set, Some, None, All, IfOk, OnOk, IfSome};
 ghost use Rattle.std.specs.List.{flat_map, list_all};
 ghost use Rattle.job.specs.Kept.{pipeline_in};
 ghost use Rattle.grouping.specs.Costs.{most_scratch};
@@ -51,15 +51,17 @@ impl Trial {
 
     // One more tile, that has had so many points in scratch memory.
     fn add(&mut self, area: Option<Area>, before: u64) -> Result<(), AllocError>
+        requires added { self.old.added + points_of_box area < 2 ^ 64 }
+        requires scratch { before + points_of_box area < 2 ^ 64 }
         ensures boxes { OnOk result (self.new.boxes.items ≡ self.old.boxes.items ++ area ∷ []) }
         ensures added { OnOk result (self.new.added ≡ self.old.added + points_of_box area) }
-        ensures scratch { OnOk result (self.new.scratch.items ≡ self.old.scratch.items ++ (before + points_of_box area) ∷ []) }
+        ensures scratch { OnOk result (self.new.scratch.items
+            ≡ self.old.scratch.items ++ (before + points_of_box area) ∷ []) }
     {
         let points = points_of_box(&area);
         self.boxes.push(area)?;
-        self.added = self.added.checked_add(points).ok_or(AllocError)?;
-        self.scratch
-            .push(before.checked_add(points).ok_or(AllocError)?)?;
+        self.added += points;
+        self.scratch.push(before + points)?;
         Ok(())
     }
 
@@ -88,9 +90,12 @@ impl Grouper {
         job: &Job,
         candidate: &Candidate,
     ) -> Result<Trial, AllocError>
-        requires stand { AllStand (pipeline_in job.now) (grouping_of self.now) self.now.standings.items }
-        requires candidate { IsCandidate (pipeline_in job.now) (grouping_of self.now) candidate.now }
-        ensures { IfOk result (IsTrialOf (pipeline_in job.now) self.now.inlining candidate.now.group candidate.now.number) }
+        requires stand { AllStand (pipeline_in job.now) (grouping_of self.now)
+            self.now.standings.items }
+        requires candidate { IsCandidate (pipeline_in job.now) (grouping_of self.now)
+            candidate.now }
+        ensures { IfOk result (IsTrialOf (pipeline_in job.now) self.now.inlining
+            candidate.now.group candidate.now.number) }
     {
         let tiles = tiles_of(alloc, job, candidate.group)?;
         let mut hulls = no_hulls(alloc, job)?;
@@ -106,11 +111,14 @@ impl Grouper {
         tiles: &[Area],
         hulls: &mut [Option<Area>],
     ) -> Result<Trial, AllocError>
-        requires stand { AllStand (pipeline_in job.now) (grouping_of self.now) self.now.standings.items }
-        requires candidate { IsCandidate (pipeline_in job.now) (grouping_of self.now) candidate.now }
+        requires stand { AllStand (pipeline_in job.now) (grouping_of self.now)
+            self.now.standings.items }
+        requires candidate { IsCandidate (pipeline_in job.now) (grouping_of self.now)
+            candidate.now }
         requires tiles { tiles.now ≡ areas_at (pipeline_in job.now) candidate.now.group }
         requires hulls { length hulls.old ≡ length (pipeline_in job.now).stages }
-        ensures { IfOk result (IsTrialOf (pipeline_in job.now) self.now.inlining candidate.now.group candidate.now.number) }
+        ensures { IfOk result (IsTrialOf (pipeline_in job.now) self.now.inlining
+            candidate.now.group candidate.now.number) }
     {
         let mut trial = Trial::none(alloc);
         for (place, tile) in tiles.iter().enumerate() {
@@ -129,11 +137,16 @@ impl Grouper {
         tile: &Area,
         hulls: &mut [Option<Area>],
     ) -> Option<Area>
-        requires stand { AllStand (pipeline_in job.now) (grouping_of self.now) self.now.standings.items }
-        requires candidate { IsCandidate (pipeline_in job.now) (grouping_of self.now) candidate.now }
-        requires tile { slice_get (areas_at (pipeline_in job.now) candidate.now.group) place ≡ Some tile.now }
+        requires stand { AllStand (pipeline_in job.now) (grouping_of self.now)
+            self.now.standings.items }
+        requires candidate { IsCandidate (pipeline_in job.now) (grouping_of self.now)
+            candidate.now }
+        requires tile { slice_get (areas_at (pipeline_in job.now) candidate.now.group) place
+            ≡ Some tile.now }
         requires hulls { length hulls.old ≡ length (pipeline_in job.now).stages }
-        ensures is { result ≡ box (target_over (pipeline_in job.now) self.now.inlining candidate.now.group tile.now) candidate.now.number }
+        ensures is { result
+            ≡ box (target_over (pipeline_in job.now) self.now.inlining candidate.now.group tile.now)
+            candidate.now.number }
         ensures room { length hulls.new ≡ length hulls.old }
     {
         let walk = TargetWalk {
@@ -157,11 +170,15 @@ impl Grouper {
     )
         requires target { IsTarget (target_of walk.now) }
         requires inlining { walk.now.schedule.now ≡ self.now.inlining }
-        requires stand { AllStand (pipeline_in walk.now.job.now) (grouping_of self.now) self.now.standings.items }
-        requires tile { slice_get (areas_at (pipeline_in walk.now.job.now) walk.now.stage) place ≡ Some walk.now.region }
+        requires stand { AllStand (pipeline_in walk.now.job.now) (grouping_of self.now)
+            self.now.standings.items }
+        requires tile { slice_get (areas_at (pipeline_in walk.now.job.now) walk.now.stage) place
+            ≡ Some walk.now.region }
         requires readers { All (λ r. r < length (pipeline_in walk.now.job.now).stages) readers.now }
         requires groups { All (λ r. group (grouping_of self.now) r ≡ walk.now.stage) readers.now }
-        ensures { hulls.new ≡ demanded_all hulls.old (flat_map (demands_by (target_of walk.now) (box (target_of walk.now))) readers.now) }
+        ensures { hulls.new
+            ≡ demanded_all hulls.old
+            (flat_map (demands_by (target_of walk.now) (box (target_of walk.now))) readers.now) }
     {
         for reader in readers {
             walk.demand(hulls, *reader, self.region_in(walk, *reader, place));
@@ -172,8 +189,10 @@ impl Grouper {
     fn region_in(&self, walk: &TargetWalk<'_>, reader: usize, place: usize) -> Option<Area>
         requires target { IsTarget (target_of walk.now) }
         requires inlining { walk.now.schedule.now ≡ self.now.inlining }
-        requires stand { AllStand (pipeline_in walk.now.job.now) (grouping_of self.now) self.now.standings.items }
-        requires tile { slice_get (areas_at (pipeline_in walk.now.job.now) walk.now.stage) place ≡ Some walk.now.region }
+        requires stand { AllStand (pipeline_in walk.now.job.now) (grouping_of self.now)
+            self.now.standings.items }
+        requires tile { slice_get (areas_at (pipeline_in walk.now.job.now) walk.now.stage) place
+            ≡ Some walk.now.region }
         requires there { reader < length (pipeline_in walk.now.job.now).stages }
         requires group { group (grouping_of self.now) reader ≡ walk.now.stage }
         ensures is { result ≡ region (target_of walk.now) reader }

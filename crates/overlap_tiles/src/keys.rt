@@ -14,7 +14,9 @@ use std::alloc::{AllocError, Global};
 /// The keys of these tiles. What the program is given is hashed at most once.
 pub(crate) fn keys(alloc: Global, job: &Job, needs: &[Need]) -> Result<Vec<Key>, AllocError>
     requires { All (λ n. n.stage < 65536) needs.now }
-    ensures { IfOk result (λ keys. keys.items ≡ map (key_of (program_id_in job.now) (pipeline_in job.now)) (map need_view needs.now)) }
+    ensures { IfOk result (λ keys. keys.items
+        ≡ map (key_of (program_id_in job.now) (pipeline_in job.now))
+        (map need_view needs.now)) }
 {
     let program = job.program_id();
     let input = job.input_id();

@@ -18,7 +18,8 @@ ghost use Rattle.overlap_tiles.specs.Available.{ReadsAvailable};
 /// The list of what a target needs has exactly the tiles of stored functions that have a point of their function's box; they
 /// and their keys rise.
 pub fn needs_are_exact()
-    ensures all { (t : Target) (n : Tile) → IsJob t.job → IsTarget t → Contains (needs t) n ↔ IsNeeded t n }
+    ensures all { (t : Target) (n : Tile) → IsJob t.job → IsTarget t → Contains (needs t) n
+        ↔ IsNeeded t n }
     ensures order { (t : Target) → AllPairs IsTileBefore (needs t) }
     ensures keys { (program : List ℕ) (t : Target) → AllPairs IsKeyBefore (needed_keys program t) }
 {}
@@ -30,13 +31,16 @@ pub fn steps_have_what_they_read()
 
 /// The area of a step lies in the domain of its stage.
 pub fn steps_lie_in_domains()
-    ensures { (t : Target) (k g : ℕ) (s : Stage) (a : Area) → IsJob t.job → IsTarget t → slice_get (steps t) k ≡ Some (g, a) → slice_get t.job.stages g ≡ Some s → IsArea a × IsSubarea a s.domain }
+    ensures { (t : Target) (k g : ℕ) (s : Stage) (a : Area) → IsJob t.job → IsTarget t
+        → slice_get (steps t) k ≡ Some (g, a) → slice_get t.job.stages g ≡ Some s
+        → IsArea a × IsSubarea a s.domain }
 {}
 
 /// What a step reads is alive at each step from the one that computes it up to the one that reads it, so that the ranges of
 /// those between lie elsewhere.
 pub fn lives_last_to_the_reader()
-    ensures { (job : Pipeline) (steps : List (ℕ × Area)) (k l m : ℕ) → k < l → l ≤ m → IsReadAt job steps k m → LivesMeet job steps k l }
+    ensures { (job : Pipeline) (steps : List (ℕ × Area)) (k l m : ℕ) → k < l → l ≤ m
+        → IsReadAt job steps k m → LivesMeet job steps k l }
 {}
 
 /// The list of all work tiles has exactly the tiles of stored functions and of accumulators, each once, in dependence order of
@@ -44,11 +48,13 @@ pub fn lives_last_to_the_reader()
 pub fn work_is_exact()
     ensures all { (job : Pipeline) (inlining : List Bool) (t : Tile)
         → Contains (work_tiles job inlining) t ↔ IsWork job inlining t }
-    ensures order { (job : Pipeline) (inlining : List Bool) → AllPairs (IsWorkedBefore job) (work_tiles job inlining) }
+    ensures order { (job : Pipeline) (inlining : List Bool)
+        → AllPairs (IsWorkedBefore job) (work_tiles job inlining) }
 {}
 
 /// The tiles that lack room are those whose plan is refused for that.
 pub fn room_is_exact()
     ensures { (job : Pipeline) (inlining : List Bool) (t : Tile)
-        → (lacks_room job inlining t ≡ true) ↔ IsPlanFault job inlining t.stage t.row t.col ScratchTooBig }
+        → (lacks_room job inlining t ≡ true)
+        ↔ IsPlanFault job inlining t.stage t.row t.col ScratchTooBig }
 {}

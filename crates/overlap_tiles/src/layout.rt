@@ -66,8 +66,10 @@ impl<'a> Layout<'a> {
         row: u32,
         col: u32,
     ) -> Result<Layout<'a>, PlanFault>
-        ensures layout { IfOk result (IsTileLayout (pipeline_in job.now) schedule.now.inlining stage row col) }
-        ensures fault { IfErr result (IsPlanFault (pipeline_in job.now) schedule.now.inlining stage row col) }
+        ensures layout { IfOk result
+            (IsTileLayout (pipeline_in job.now) schedule.now.inlining stage row col) }
+        ensures fault { IfErr result
+            (IsPlanFault (pipeline_in job.now) schedule.now.inlining stage row col) }
     {
         let Some(area) = tile_area(job, stage, row, col) else {
             return Err(PlanFault::NoSuchTile);
@@ -86,9 +88,13 @@ impl<'a> Layout<'a> {
         found: &[(usize, Area)],
     ) -> Result<Layout<'a>, PlanFault>
         requires area { IsArea target.area }
-        requires boxes { found.now ≡ boxes (target_over (pipeline_in job.now) schedule.now.inlining target.stage target.area) }
-        ensures layout { IfOk result (IsFittingLayout (target_over (pipeline_in job.now) schedule.now.inlining target.stage target.area)) }
-        ensures fault { IfErr result (IsTargetFault (target_over (pipeline_in job.now) schedule.now.inlining target.stage target.area)) }
+        requires boxes { found.now
+            ≡ boxes (target_over (pipeline_in job.now) schedule.now.inlining target.stage
+            target.area) }
+        ensures layout { IfOk result (IsFittingLayout
+            (target_over (pipeline_in job.now) schedule.now.inlining target.stage target.area)) }
+        ensures fault { IfErr result (IsTargetFault
+            (target_over (pipeline_in job.now) schedule.now.inlining target.stage target.area)) }
     {
         let steps = inner_steps(alloc, schedule, found)?;
         let Some(scratch) = scratch_points(&steps) else {

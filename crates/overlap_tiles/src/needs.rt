@@ -32,7 +32,8 @@ fn area_in(boxes: &[(usize, Area)], stage: usize) -> Option<Area>
 }
 
 fn add_tiles(needs: &mut Vec<Need>, stage: usize, tiles: &[(u32, u32)]) -> Result<(), AllocError>
-    ensures { OnOk result (map need_view needs.new.items ≡ map need_view needs.old.items ++ map (tile_of_stage stage) tiles.now) }
+    ensures { OnOk result (map need_view needs.new.items
+        ≡ map need_view needs.old.items ++ map (tile_of_stage stage) tiles.now) }
 {
     for tile in tiles {
         let (row, col) = *tile;
@@ -50,7 +51,9 @@ fn add_stage(
     boxes: &[(usize, Area)],
     stage: usize,
 ) -> Result<(), AllocError>
-    ensures { OnOk result (map need_view needs.new.items ≡ map need_view needs.old.items ++ stage_needs (pipeline_in job.now) schedule.now.inlining boxes.now stage) }
+    ensures { OnOk result (map need_view needs.new.items
+        ≡ map need_view needs.old.items
+        ++ stage_needs (pipeline_in job.now) schedule.now.inlining boxes.now stage) }
 {
     if schedule.inlined(stage) {
         return Ok(());
@@ -69,7 +72,9 @@ pub(crate) fn needs(
     schedule: &Schedule,
     boxes: &[(usize, Area)],
 ) -> Result<Vec<Need>, AllocError>
-    ensures { IfOk result (λ needs. map need_view needs.items ≡ flat_map (stage_needs (pipeline_in job.now) schedule.now.inlining boxes.now) (range_with_len 0 (length (pipeline_in job.now).stages))) }
+    ensures { IfOk result (λ needs. map need_view needs.items
+        ≡ flat_map (stage_needs (pipeline_in job.now) schedule.now.inlining boxes.now)
+        (range_with_len 0 (length (pipeline_in job.now).stages))) }
 {
     let mut needs = Vec::new(alloc);
     for stage in 0..job.stages().len() {

@@ -51,8 +51,11 @@ impl<'a> TilePlan<'a> {
         row: u32,
         col: u32,
     ) -> Result<TilePlan<'a>, PlanFault>
-        ensures plan { IfOk result (IsTilePlan (program_id_in job.now) (pipeline_in job.now) schedule.now.inlining stage row col) }
-        ensures fault { IfErr result (IsPlanFault (pipeline_in job.now) schedule.now.inlining stage row col) }
+        ensures plan { IfOk result
+            (IsTilePlan (program_id_in job.now)
+            (pipeline_in job.now) schedule.now.inlining stage row col) }
+        ensures fault { IfErr result
+            (IsPlanFault (pipeline_in job.now) schedule.now.inlining stage row col) }
     {
         let layout = Layout::of(alloc, job, schedule, stage, row, col)?;
         let needs = keys(alloc, job, layout.needs())?;
@@ -62,7 +65,9 @@ impl<'a> TilePlan<'a> {
     /// The same without identities. The plan of a tile has the tile's layout.
     pub fn layout(&self) -> &Layout<'a>
         ensures same { result.now ≡ layout_of self.now }
-        ensures tile { (program : List ℕ) (job : Pipeline) (inlining : List Bool) (g i j : ℕ) → IsTilePlan program job inlining g i j self.now → IsTileLayout job inlining g i j result.now }
+        ensures tile { (program : List ℕ) (job : Pipeline) (inlining : List Bool) (g i j : ℕ)
+            → IsTilePlan program job inlining g i j self.now
+            → IsTileLayout job inlining g i j result.now }
     {
         &self.layout
     }

@@ -13,7 +13,8 @@ use std::alloc::{AllocError, Global};
 /// A range for each step, end to end from 0: its start and its length.
 pub(crate) fn end_to_end(alloc: Global, steps: &[Step]) -> Result<Vec<(usize, usize)>, AllocError>
     requires { points_in (map step_view steps.now) ≤ most_scratch }
-    ensures { IfOk result (λ ranges. ranges.items ≡ end_to_end 0 (map (λ s. point_count s.1) (map step_view steps.now))) }
+    ensures { IfOk result (λ ranges. ranges.items
+        ≡ end_to_end 0 (map (λ s. point_count s.1) (map step_view steps.now))) }
 {
     let mut ranges = Vec::new(alloc);
     let mut start = 0;

@@ -23,7 +23,8 @@ pub fn lacks_room(
     schedule: &Schedule,
     key: &Key,
 ) -> Result<bool, AllocError>
-    ensures { IfOk result (λ b. b ≡ lacks_room (pipeline_in job.now) schedule.now.inlining (key_tile key.now)) }
+    ensures { IfOk result (λ b. b
+        ≡ lacks_room (pipeline_in job.now) schedule.now.inlining (key_tile key.now)) }
 {
     let stage = usize::from(key.stage);
     let Some(grid) = job.grid(stage) else {
@@ -47,7 +48,8 @@ pub fn first_without_room(
     schedule: &Schedule,
     keys: &[Key],
 ) -> Result<Option<Key>, AllocError>
-    ensures { IfOk result (λ found. found ≡ first_without_room (pipeline_in job.now) schedule.now.inlining keys.now) }
+    ensures { IfOk result (λ found. found
+        ≡ first_without_room (pipeline_in job.now) schedule.now.inlining keys.now) }
 {
     for key in keys {
         if lacks_room(alloc, job, schedule, key)? {

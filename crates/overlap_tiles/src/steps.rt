@@ -24,7 +24,8 @@ pub(crate) fn inner_steps(
     schedule: &Schedule,
     boxes: &[(usize, Area)],
 ) -> Result<Vec<Step>, AllocError>
-    ensures { IfOk result (λ steps. map step_view steps.items ≡ filter (λ s. is_inlined schedule.now.inlining s.0) boxes.now) }
+    ensures { IfOk result (λ steps. map step_view steps.items
+        ≡ filter (λ s. is_inlined schedule.now.inlining s.0) boxes.now) }
 {
     let mut steps = Vec::new(alloc);
     for found in boxes {

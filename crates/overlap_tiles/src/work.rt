@@ -24,7 +24,8 @@ use std::alloc::{AllocError, Global};
 ///
 /// Fails only where memory is refused.
 pub fn work_keys(alloc: Global, job: &Job, schedule: &Schedule) -> Result<Vec<Key>, AllocError>
-    ensures { IfOk result (λ keys. keys.items ≡ work_keys (program_id_in job.now) (pipeline_in job.now) schedule.now.inlining) }
+    ensures { IfOk result (λ keys. keys.items
+        ≡ work_keys (program_id_in job.now) (pipeline_in job.now) schedule.now.inlining) }
 {
     let stages = made_stages(alloc, job, schedule)?;
     keys_of_stages(alloc, job, &stages)
@@ -37,7 +38,8 @@ pub fn work_keys(alloc: Global, job: &Job, schedule: &Schedule) -> Result<Vec<Ke
 ///
 /// Fails only where memory is refused.
 pub fn wanted_keys(alloc: Global, job: &Job) -> Result<Vec<Key>, AllocError>
-    ensures list { IfOk result (λ keys. keys.items ≡ wanted_keys (program_id_in job.now) (pipeline_in job.now)) }
+    ensures list { IfOk result (λ keys. keys.items
+        ≡ wanted_keys (program_id_in job.now) (pipeline_in job.now)) }
     ensures rising { IfOk result (λ keys. AllPairs IsKeyBefore keys.items) }
 {
     let stages = result_stages(alloc, job)?;
@@ -59,7 +61,8 @@ fn is_made(job: &Job, schedule: &Schedule, stage: usize) -> bool
 // The stages whose tiles are made, in dependence order.
 fn made_stages(alloc: Global, job: &Job, schedule: &Schedule) -> Result<Vec<usize>, AllocError>
     ensures { IfOk result (λ made. made.items
-        ≡ filter (is_made (pipeline_in job.now) schedule.now.inlining) (in_order (pipeline_in job.now).stages)) }
+        ≡ filter (is_made (pipeline_in job.now) schedule.now.inlining)
+        (in_order (pipeline_in job.now).stages)) }
 {
     let mut made = Vec::new(alloc);
     let order = in_order(alloc, job.stages())?;
@@ -106,7 +109,8 @@ fn is_accumulator(job: &Job, stage: usize) -> bool
 #[tactic(auto, using(grouping::proofs::Lists::passes_more, grouping::proofs::Lists::fails_more))]
 fn result_stages(alloc: Global, job: &Job) -> Result<Vec<usize>, AllocError>
     ensures { IfOk result (λ results. results.items
-        ≡ filter (is_result (pipeline_in job.now)) (range_with_len 0 (length (pipeline_in job.now).stages))) }
+        ≡ filter (is_result (pipeline_in job.now))
+        (range_with_len 0 (length (pipeline_in job.now).stages))) }
 {
     let mut results = Vec::new(alloc);
     for stage in 0..job.stages().len() {
@@ -120,7 +124,8 @@ fn result_stages(alloc: Global, job: &Job) -> Result<Vec<usize>, AllocError>
 // The keys of the tiles of these stages, stage by stage and row by row.
 fn keys_of_stages(alloc: Global, job: &Job, stages: &[usize]) -> Result<Vec<Key>, AllocError>
     ensures { IfOk result (λ keys. keys.items
-        ≡ map (key_of (program_id_in job.now) (pipeline_in job.now)) (flat_map (tiles (pipeline_in job.now)) stages.now)) }
+        ≡ map (key_of (program_id_in job.now) (pipeline_in job.now))
+        (flat_map (tiles (pipeline_in job.now)) stages.now)) }
 {
     let mut keys = Vec::new(alloc);
     let named = Key {
@@ -140,7 +145,8 @@ fn keys_of_stages(alloc: Global, job: &Job, stages: &[usize]) -> Result<Vec<Key>
 fn add_stage(keys: &mut Vec<Key>, job: &Job, named: &Key, stage: usize) -> Result<(), AllocError>
     requires { Names (program_id_in job.now) (pipeline_in job.now) named.now }
     ensures { OnOk result (keys.new.items
-        ≡ keys.old.items ++ map (key_of (program_id_in job.now) (pipeline_in job.now)) (tiles (pipeline_in job.now) stage)) }
+        ≡ keys.old.items ++ map (key_of (program_id_in job.now) (pipeline_in job.now))
+        (tiles (pipeline_in job.now) stage)) }
 {
     if let Some(grid) = job.grid(stage) {
         let first = Key {
@@ -158,7 +164,8 @@ fn add_stage(keys: &mut Vec<Key>, job: &Job, named: &Key, stage: usize) -> Resul
 // Adds the keys of the tiles of a grid, row by row.
 #[tactic(auto, using(grouping::proofs::Lists::flat_map_range_more))]
 fn add_tiles(keys: &mut Vec<Key>, first: &Key, grid: &Grid) -> Result<(), AllocError>
-    ensures { OnOk result (keys.new.items ≡ keys.old.items ++ map (key_at first.now) (tiles_of grid.now)) }
+    ensures { OnOk result (keys.new.items
+        ≡ keys.old.items ++ map (key_at first.now) (tiles_of grid.now)) }
 {
     let cols = grid.tile_cols();
     for row in 0..grid.tile_rows() {

@@ -9,8 +9,9 @@ use Rattle.job.specs.Kept.{pipeline_in}
 use Rattle.grouping.specs.Targets.{box, target_over}
 use Rattle.grouping.specs.Costs.{scratch}
 use Rattle.grouping.specs.Greedy.{common_group}
-use Rattle.grouping.specs.inside.Standings.{areas_at}
+use Rattle.grouping.specs.inside.Standings.{areas_at, boxes_by_tile}
 use Rattle.grouping.specs.inside.Trials.{grouping_of, points_of_box}
+use Rattle.grouping.proofs.CostsAreSmall.{box_small, scratch_small, boxes_small, next_small}
 use Rattle.grouping.proofs.KeptIsBox.{kept_is_scratch}
 use Rattle.grouping.proofs.InlinedStands.{group_is}
 use Rattle.grouping.proofs.greedy.Grouper.trial_over.Goals as goal
@@ -36,6 +37,50 @@ sum_more f xs after x n m one was is =
     let all : sum (map f after) ≡ sum_by f xs + f x = ap (λ ys. sum (map f ys)) one ∙ sum-map f (xs ++ x ∷ []) ∙ sum_by-append f xs (x ∷ [])
     ∙ ap (λ k. sum_by f xs + k) last in
     is ∙ ap (λ k. k + f x) (was ∙ sum-map f xs) ∙ sym all
+
+-- the box of the next tile stands in the list of all
+next_box : (f : Area → Option Area) (done all : List (Option Area)) (tiles : List Area) (k : ℕ) (a : Area) (o : Option Area) → k < length tiles
+    → a ≡ get_or tiles k a → o ≡ f a → done ++ map f (drop k tiles) ≡ all → done ++ o ∷ map f (drop (suc k) tiles) ≡ all
+next_box f done all tiles k a o low is box was =
+    let left : drop k tiles ≡ a ∷ drop (suc k) tiles = drop-cons tiles k a low ∙ ap (λ x. x ∷ drop (suc k) tiles) (sym is) in
+    ap (λ x. done ++ x ∷ map f (drop (suc k) tiles)) box ∙ ap (λ xs. done ++ map f xs) (sym left) ∙ was
+
+pub add-requires-clause-added : goal.add-requires-clause-added
+add-requires-clause-added c =
+    let job = pipeline_in c.args.job.now in
+    let inlining = c.args.self.now.inlining in
+    let g = c.args.candidate.now.number in
+    let h = c.args.candidate.now.group in
+    let before = c.loop-place.invariant in
+    let added = before.2 in
+    let next = next_small points_of_box c.loop-place.trial.boxes.items _ (boxes_by_tile job inlining h g) c.box_in-area.result
+    (next_box (λ b. box (target_over job inlining h b) g) c.loop-place.trial.boxes.items (boxes_by_tile job inlining h g) c.args.tiles.now
+    c.loop-place.place c.index-tiles-place.result c.box_in-area.result c.loop-place-test.true c.index-tiles-place.is c.box_in-area.ensures.is
+    before.1) in
+    omega (arith, added, next, boxes_small job inlining h g c.args.job.now.well)
+
+pub add-requires-clause-scratch : goal.add-requires-clause-scratch
+add-requires-clause-scratch c =
+    let job = pipeline_in c.args.job.now in
+    let self = c.args.self.now in
+    let g = c.args.candidate.now.number in
+    let h = c.args.candidate.now.group in
+    let a = c.index-tiles-place.result in
+    let tiles = c.args.tiles.now in
+    let shared = ap (common_group (grouping_of self)) (sym c.requires.candidate.read) ∙ c.requires.candidate.shared in
+    let at_group = group_is job (grouping_of self) self.standings.items g h c.args.job.now.well c.requires.stand shared in
+    let here : slice_get (areas_at job h) c.loop-place.place ≡ Some a = ap (λ (xs : List Area). slice_get xs c.loop-place.place)
+    (sym c.requires.tiles) ∙ slice_get_read tiles (length tiles) c.loop-place.place a
+    (λ i. length tiles) c.loop-place-test.true c.index-tiles-place.is in
+    let kept = c.kept_scratch.ensures ∙ kept_is_scratch job
+    (grouping_of self) self.standings.items h c.loop-place.place a c.requires.stand at_group.2 at_group.0 here in
+    omega (
+      arith,
+      kept,
+      scratch_small (target_over job self.inlining h a) c.args.job.now.well,
+      ap points_of_box c.box_in-area.ensures.is,
+      box_small (target_over job self.inlining h a) c.args.job.now.well g,
+    )
 
 pub loop-place-preserved : goal.loop-place-preserved
 loop-place-preserved c =

@@ -11,6 +11,7 @@ use Rattle.grouping.specs.declared.standing.Standing.{Standing}
 use Rattle.grouping.specs.declared.standing.Standing.TheVariants.{Stored, Inlined}
 use Rattle.grouping.specs.declared.trial.Candidate.{Candidate}
 use Rattle.grouping.specs.declared.trial.Trial.{Trial}
+use Rattle.grouping.proofs.CostsAreSmall.{kept_small, boxes_small}
 use Rattle.grouping.proofs.InlinedStands.{IsStep, group_is, function_stands, group_stands, all_stand, pays_is, fits_is, points_kept}
 use Rattle.grouping.proofs.greedy.Grouper.try_inline.Goals as goal
 use Rattle.grouping.proofs.greedy.Grouper.try_inline.Goals.{else-pays-via-then-pays+else-fits, else-pays-via-else-pays}
@@ -38,6 +39,18 @@ weighed job c standings g h percent own apart t b step trial is_own is_apart is 
     (is_own ∙ points_kept job c standings h step.stand at_group.2 at_group.0)
     (is_apart ∙ points_kept job c standings g step.stand step.there step.stored) trial.added
 
+pub overflow_add-points : goal.overflow_add-points
+overflow_add-points c =
+    let job = pipeline_in c.args.job.now in
+    let self = c.args.self.now in
+    let g = c.args.candidate.now.number in
+    let h = c.args.candidate.now.group in
+    let step = step_of job self c.args.candidate.now c.args.job.now.well c.requires.stand c.requires.candidate in
+    let at_group = group_is job (grouping_of self) self.standings.items g h step.valid step.stand step.shared in
+    let own = c.kept_cost-own.ensures ∙ points_kept job (grouping_of self) self.standings.items h step.stand at_group.2 at_group.0 in
+    let added = c.in_ok-trial.ensures.added in
+    omega (arith, own, added, kept_small job self.inlining h c.args.job.now.well, boxes_small job self.inlining h g c.args.job.now.well)
+
 pub inline-requires-clause-group : goal.inline-requires-clause-group
 inline-requires-clause-group c =
     let step = step_of (pipeline_in c.args.job.now) c.args.self.now c.args.candidate.now c.args.job.now.well c.requires.stand c.requires.candidate in
@@ -45,8 +58,8 @@ inline-requires-clause-group c =
     let all = step.stand.all in
     omega arith
 
-pub returns-in_ok-points-clause-grouping : goal.returns-in_ok-points-clause-grouping
-returns-in_ok-points-clause-grouping c =
+pub returns-then-fits-clause-grouping : goal.returns-then-fits-clause-grouping
+returns-then-fits-clause-grouping c =
     let job = pipeline_in c.args.job.now in
     let self = c.args.self.now in
     let g = c.args.candidate.now.number in
@@ -57,8 +70,8 @@ returns-in_ok-points-clause-grouping c =
     let it_fits = sym (c.fits.ensures ∙ fits_is step c.in_ok-trial.trial.scratch.items trial.in_scratch) ∙ c.if-fits.true in
     c.inline.ensures.grouping ∙ sym (λ i. if it_pays i && it_fits i then with_inlined (grouping_of self) g h else grouping_of self)
 
-pub returns-in_ok-points-clause-stand : goal.returns-in_ok-points-clause-stand
-returns-in_ok-points-clause-stand c =
+pub returns-then-fits-clause-stand : goal.returns-then-fits-clause-stand
+returns-then-fits-clause-stand c =
     let job = pipeline_in c.args.job.now in
     let self = c.args.self.now in
     let g = c.args.candidate.now.number in
@@ -66,12 +79,12 @@ returns-in_ok-points-clause-stand c =
     let step = step_of job self c.args.candidate.now c.args.job.now.well c.requires.stand c.requires.candidate in
     let at_group = group_is job (grouping_of self) self.standings.items g h step.valid step.stand step.shared in
     let trial = c.in_ok-trial.ensures in
-    let points = c.in_ok-points.points in
+    let points = c.kept_cost-own.result + c.in_ok-trial.trial.added in
     let own = c.kept_cost-own.ensures ∙ points_kept job (grouping_of self) self.standings.items h step.stand at_group.2 at_group.0 in
     let fits = sym c.fits.ensures ∙ c.if-fits.true in
     let stand = all_stand step (Inlined c.in_ok-trial.trial.boxes) (Stored points c.in_ok-trial.trial.scratch)
     (function_stands step c.in_ok-trial.trial.boxes.items trial.boxes)
-    (group_stands step points c.in_ok-trial.trial.scratch.items (c.in_ok-points.ensures ∙ (λ i. own i + trial.added i)) trial.in_scratch fits) in
+    (group_stands step points c.in_ok-trial.trial.scratch.items (λ i. own i + trial.added i) trial.in_scratch fits) in
     subst (λ (d : Grouping). AllStand job d c.inline.new.self.standings.items) (sym c.inline.ensures.grouping)
     (subst (AllStand job (with_inlined (grouping_of self) g h)) (sym c.inline.ensures.standings) stand)
 
