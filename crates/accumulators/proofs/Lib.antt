@@ -11,3 +11,4 @@ pub mod WholeTotals
 pub mod PartialsJoin
 pub mod TrueTilesGiveTotals
 pub mod LastStepIsTile
+pub mod TakenPartials

@@ -1,4 +1,5 @@
 pub mod Bins
 pub mod Partials
 pub mod Answers
+pub mod Gatherings
 pub mod inside

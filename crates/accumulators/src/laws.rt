@@ -1,8 +1,8 @@
 //! What the definitions amount to, proved once for the crates above. A law is a function that does nothing: its clauses are the law.
 
-ghost use Rattle.std.specs.Prelude.{◌≡◌, ℕ, ℤ, Bool, Option, Some, List, slice_get, IsPermutation};
+ghost use Rattle.std.specs.Prelude.{◌≡◌, ℕ, ℤ, Bool, Option, Some, List, map, slice_get, IsPermutation};
 ghost use Rattle.domains.specs.Area.{HoldsPoint, IsArea};
-ghost use Rattle.domains.specs.Tiles.{tiles_of};
+ghost use Rattle.domains.specs.Tiles.{tile_area, tiles_of};
 ghost use Rattle.domains.specs.declared.area.Area.{Area};
 ghost use Rattle.job.specs.Answers.{grid_of};
 ghost use Rattle.job.specs.Pipeline.{Stage, Pipeline};
@@ -12,11 +12,18 @@ ghost use Rattle.job.specs.WellFormed.{IsJob};
 ghost use Rattle.tile_run.specs.KnownTiles.{KnownTiles, AreTrue};
 ghost use Rattle.tile_run.specs.Local.{IsAtHand, IsClosed};
 ghost use Rattle.tile_eval.specs.Cases.{InBox};
+ghost use Rattle.accumulators.specs.Answers.{gathered_at};
+ghost use Rattle.accumulators.specs.Gatherings.{gathered_from};
 ghost use Rattle.accumulators.specs.Partials.{local_totals, joined_over};
 
 /// The totals over the tiles of an accumulator, joined in any order, are its totals.
 pub fn partials_join()
     ensures { (job : Pipeline) (g : ℕ) (s : Stage) (tiles : List (ℕ × ℕ)) → IsJob job → slice_get job.stages g ≡ Some s → IsPermutation (tiles_of (grid_of job s)) tiles → joined_over job g (grid_of job s) tiles ≡ totals job g }
+{}
+
+/// The totals over the tiles of an accumulator, come in each once and in any order, are what it gathers.
+pub fn taken_partials_give_totals()
+    ensures { (job : Pipeline) (g : ℕ) (s : Stage) (tiles : List (ℕ × ℕ)) → IsJob job → slice_get job.stages g ≡ Some s → IsPermutation (tiles_of (grid_of job s)) tiles → gathered_from job g (map (λ t. totals_over job (tile_area (grid_of job s) t.0 t.1) g) tiles) ≡ gathered_at job g }
 {}
 
 /// Where what is given is true, what an accumulator gathers from it is what it gathers over the area: where all that it reads there is

@@ -3,19 +3,17 @@
 
 ghost use Rattle.std.specs.Prelude.{◌≡◌, ◌<◌, ◌++◌, ◌∷◌, [], map, fold, length, IfOk, IfSome, IfNone, OnOk};
 ghost use Rattle.std.specs.List.{range_with_len};
-ghost use Rattle.domains.specs.Span.{len_of};
 ghost use Rattle.domains.specs.Tiles.{HasTile, tile_area, tile_cols, tile_rows};
 ghost use Rattle.job.specs.Kept.{pipeline_in};
-ghost use Rattle.job.specs.Totals.{totals, totals_over};
+ghost use Rattle.job.specs.Totals.{totals_over};
 ghost use Rattle.overlap_tiles.specs.Plans.{IsTileLayout};
 ghost use Rattle.accumulators.specs.Answers.{all_gathered, gathered, gathered_at};
 ghost use Rattle.accumulators.specs.inside.Making.{IsComputed, IsTally, TotalsFit, with_tile};
 
 use crate::answer::Total;
 use crate::computed::Computed;
-use crate::join::join_into;
 use crate::partials::tile_totals;
-use crate::starts::starts;
+use crate::running::Gathering;
 use domains::{Fold, Grid, Span};
 use overlap_tiles::{Layout, PlanFault};
 use std::alloc::{AllocError, Global};
@@ -90,47 +88,38 @@ impl Computed<'_> {
 }
 
 impl Accumulation<'_> {
-    // What it gathered.
+    // What it gathered, from the totals over all tiles, row by row.
     fn total(&self, alloc: Global, scratch: &mut Scratch) -> Result<Total, AllocError>
         requires { IsTally self.now }
         ensures { IfOk result (λ total. gathered_at (pipeline_in self.now.of.job.now) self.now.stage ≡ gathered total ∷ []) }
     {
-        Ok(Total {
-            stage: self.stage,
-            lo: self.bins.lo(),
-            bins: self.joined(alloc, scratch)?,
-        })
-    }
-
-    // The totals over all tiles, joined row by row.
-    fn joined(&self, alloc: Global, scratch: &mut Scratch) -> Result<Vec<i64>, AllocError>
-        requires { IsTally self.now }
-        ensures { IfOk result (λ bins. bins.items ≡ totals (pipeline_in self.now.of.job.now) self.now.stage) }
-    {
-        let mut all = starts(alloc, self.op, &self.bins)?;
-        let bins = all.as_mut_slice();
+        let mut gathering = Gathering::begin(alloc, self.stage, self.op, &self.bins)?;
         for row in 0..self.grid.tile_rows() {
-            self.join_row(alloc, scratch, row, bins)?;
+            self.take_row(alloc, scratch, row, &mut gathering)?;
         }
-        Ok(all)
+        Ok(gathering.into_total())
     }
 
-    // Joins the totals over each tile of a row to what came before.
-    fn join_row(
+    // The totals over each tile of a row besides.
+    fn take_row(
         &self,
         alloc: Global,
         scratch: &mut Scratch,
         row: u32,
-        bins: &mut [i64],
+        gathering: &mut Gathering,
     ) -> Result<(), AllocError>
         requires tally { IsTally self.now }
         requires row { row < tile_rows self.now.grid }
-        requires count { length bins.old ≡ len_of self.now.bins }
-        ensures { OnOk result (bins.new ≡ fold (with_tile (pipeline_in self.now.of.job.now) self.now.stage self.now.op self.now.grid) bins.old (map (λ j. (row, j)) (range_with_len 0 (tile_cols self.now.grid)))) }
+        requires op { gathering.old.op ≡ self.now.op }
+        requires span { gathering.old.span ≡ self.now.bins }
+        ensures stage { OnOk result (gathering.new.stage ≡ gathering.old.stage) }
+        ensures op { OnOk result (gathering.new.op ≡ self.now.op) }
+        ensures span { OnOk result (gathering.new.span ≡ self.now.bins) }
+        ensures bins { OnOk result (gathering.new.bins.items ≡ fold (with_tile (pipeline_in self.now.of.job.now) self.now.stage self.now.op self.now.grid) gathering.old.bins.items (map (λ j. (row, j)) (range_with_len 0 (tile_cols self.now.grid)))) }
     {
         for col in 0..self.grid.tile_cols() {
             let partial = self.tile(alloc, scratch, row, col)?;
-            join_into(self.op, bins, &partial);
+            gathering.take(&partial);
         }
         Ok(())
     }

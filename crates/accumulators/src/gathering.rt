@@ -1,0 +1,80 @@
+#![tactic(auto)]
+//! Totals that are put together from partials, whoever made them.
+
+ghost use Rattle.std.specs.Prelude.{◌≡◌, ◌++◌, ◌∷◌, [], false, ℕ, ℤ, List, length, IfSome, IfNone, IfOk};
+ghost use Rattle.domains.specs.Span.{len_of};
+ghost use Rattle.job.specs.Kept.{pipeline_in};
+ghost use Rattle.job.specs.Pipeline.{Pipeline};
+ghost use Rattle.tile_run.specs.Work.{is_accumulator_at};
+ghost use Rattle.accumulators.specs.Bins.{starts as starts_by, joined_bins};
+ghost use Rattle.accumulators.specs.Answers.{gathered};
+ghost use Rattle.accumulators.specs.Gatherings.{HasTaken, gathered_from};
+
+use crate::answer::Total;
+use crate::join::join_into;
+use crate::running::Gathering;
+use crate::starts::starts;
+use domains::{Fold, Span};
+use job::Job;
+use std::alloc::{AllocError, Global};
+
+impl Gathering {
+    /// Begins with what the bins start from.
+    pub(crate) fn begin(
+        alloc: Global,
+        stage: usize,
+        op: Fold,
+        span: &Span,
+    ) -> Result<Gathering, AllocError>
+        ensures stage { IfOk result (λ begun. begun.stage ≡ stage) }
+        ensures op { IfOk result (λ begun. begun.op ≡ op) }
+        ensures span { IfOk result (λ begun. begun.span ≡ span.now) }
+        ensures bins { IfOk result (λ begun. begun.bins.items ≡ starts_by op span.now) }
+    {
+        Ok(Gathering {
+            stage,
+            op,
+            span: *span,
+            bins: starts(alloc, op, span)?,
+        })
+    }
+
+    /// What an accumulator gathers before any partial came in: each bin has what it starts from. There is nothing of other stages.
+    ///
+    /// # Errors
+    ///
+    /// Fails only where memory is refused.
+    pub fn of(alloc: Global, job: &Job, stage: usize) -> Result<Option<Gathering>, AllocError>
+        ensures some { IfOk result (λ found. IfSome found (HasTaken (pipeline_in job.now) stage [])) }
+        ensures none { IfOk result (λ found. IfNone found (is_accumulator_at (pipeline_in job.now) stage ≡ false)) }
+    {
+        match (job.op(stage), job.bins(stage)) {
+            (Some(op), Some(span)) => Ok(Some(Gathering::begin(alloc, stage, op, &span)?)),
+            _ => Ok(None),
+        }
+    }
+
+    /// Joins a partial to what came in before. Takes no memory.
+    pub fn take(&mut self, partial: &[i64])
+        requires { length partial.now ≡ len_of self.old.span }
+        ensures stage { self.new.stage ≡ self.old.stage }
+        ensures op { self.new.op ≡ self.old.op }
+        ensures span { self.new.span ≡ self.old.span }
+        ensures bins { self.new.bins.items ≡ joined_bins self.old.op self.old.bins.items partial.now }
+        ensures taken { (job : Pipeline) (g : ℕ) (partials : List (List ℤ)) → HasTaken job g partials self.old → HasTaken job g (partials ++ partial.now ∷ []) self.new }
+    {
+        join_into(self.op, &mut self.bins, partial);
+    }
+
+    /// What was gathered.
+    pub fn into_total(self) -> Total
+        ensures total { gathered result ≡ record { stage = self.stage; lo = self.span.lo; bins = self.bins.items } }
+        ensures taken { (job : Pipeline) (g : ℕ) (partials : List (List ℤ)) → HasTaken job g partials self → gathered_from job g partials ≡ gathered result ∷ [] }
+    {
+        Total {
+            stage: self.stage,
+            lo: self.span.lo(),
+            bins: self.bins,
+        }
+    }
+}

@@ -1,0 +1,16 @@
+//! What an accumulator gathered so far.
+
+ghost use Rattle.std.specs.Prelude.{◌≡◌, length};
+ghost use Rattle.domains.specs.Span.{len_of};
+
+use domains::{Fold, Span};
+
+/// What an accumulator gathered in its bins from the partials that came in so far.
+#[derive(Drop)]
+pub struct Gathering {
+    pub(crate) stage: usize,
+    pub(crate) op: Fold,
+    pub(crate) span: Span,
+    pub(crate) bins: Vec<i64>,
+    ghost count: { length bins.items ≡ len_of span },
+}
