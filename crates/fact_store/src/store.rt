@@ -2,7 +2,7 @@
 
 ghost use Rattle.fact_store.specs.Facts.{FactSet, nothing, with_fact, join, holds, lacked, facts_of, least, least_above};
 ghost use Rattle.std.specs.Option.{option_copied};
-ghost use Rattle.std.specs.Prelude.{◌≡◌, OnOk, OnErr, IfOk, IfErr, length, slice_get, not};
+ghost use Rattle.std.specs.Prelude.{◌≡◌, OnOk, OnErr, IfOk, IfErr, length, slice_get, not, false};
 
 use identity::Key;
 use std::alloc::{AllocError, AllocFailed, Global};
@@ -22,11 +22,13 @@ pub trait FactStore: Drop + Sized {
     fn copy(&self) -> Result<Self, AllocError>
         ensures { IfOk result (λ copy. content copy ≡ content self.now) };
 
-    /// Adds a fact, and tells whether it is new. Where memory runs out the fact is handed back, and the store is as it was.
+    /// Adds a fact, and tells whether it is new. Where memory runs out for a new fact it is handed back, and the store is
+    /// as it was.
     fn add(&mut self, fact: Fact) -> Result<bool, AllocFailed<Fact>>
         ensures added { OnOk result (content self.new ≡ with_fact (content self.old) fact) }
         ensures new { IfOk result (λ new. new ≡ not (holds (content self.old) fact)) }
         ensures handed_back { IfErr result (λ back. back.value ≡ fact) }
+        ensures only_new { IfErr result (λ _. holds (content self.old) fact ≡ false) }
         ensures unchanged { OnErr result (content self.new ≡ content self.old) };
 
     /// Adds the facts of another store, and tells how many of them are new. Where memory runs out the store is as it was.

@@ -44,7 +44,10 @@ fn keeps_facts_in<S: FactStore>(alloc: Global) -> Result<(), Fail> {
         "the second of the key",
     )?;
     holds(store.nth(&key(1), 2).is_none(), "no third")?;
-    holds(matches!(store.least(), Some(fact) if *fact == a), "the least")?;
+    holds(
+        matches!(store.least(), Some(fact) if *fact == a),
+        "the least",
+    )?;
     let between = partial(alloc, key(2), 9)?;
     holds(
         matches!(store.least_above(&between), Some(fact) if *fact == c),

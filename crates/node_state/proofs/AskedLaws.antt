@@ -1,17 +1,15 @@
 -- The least of the keys of which nothing is held.
-use Rattle.std.specs.Prelude.{◌≡◌, ◌≢◌, ℕ, ◌+◌, ◌<◌, ◌≤◌, Bool, true, false, List, [], ◌∷◌, ◌++◌, Option, Some, None, refl, length, ◌⊎◌}
+use Rattle.std.specs.Prelude.{◌≡◌, ◌≢◌, ℕ, ◌+◌, ◌<◌, ◌≤◌, true, false, List, [], ◌∷◌, ◌++◌, Option, Some, None, refl, length}
 use Rattle.std.proofs.Common.{ap, sym, ◌∙◌, subst, arith, take, get_or, inl, inr}
 use Rattle.std.specs.declared.cmp.Ordering.{Ordering}
 use Rattle.std.specs.declared.cmp.Ordering.TheVariants.{Less, Equal, Greater}
-use Rattle.std.specs.List.{Contains}
 use Rattle.std.specs.Option.{MatchOption}
-use Rattle.std.specs.Ordering.{is_lt, ordering_reverse}
+use Rattle.std.specs.Ordering.{is_lt}
 use Rattle.std.proofs.lemmas.List.{take_more, take_all}
 use Rattle.std.proofs.lemmas.List.Elements.{Contains-append_left, Contains-push, Contains-push_cases}
 use Rattle.identity.proofs.KeyLaws.{key_order, equal_keys}
 use Rattle.identity.specs.declared.key.Key.{Key}
 use Rattle.identity.specs.Keys.{key_cmp}
-use Rattle.tile_fact.specs.declared.fact.Fact.{Fact}
 use Rattle.node_state.specs.States.{State, facts_of}
 use Rattle.node_state.specs.Answers.{IsNotHeld, AreHeld, IsLeastNotHeld}
 use Rattle.node_state.specs.inside.Searching.{is_first}
@@ -80,10 +78,10 @@ first_pushed s keys key (Some old) alone is h =
       asked = Contains-push keys key;
       not_held = alone;
       least = λ other c none.
-        elim (Contains-push_cases keys key other c) [
-          | inl was ↦ under_least key old other (less (key_cmp key old) is) (h.least other was none)
-          | inr e ↦ subst (λ k. key_cmp k key ≢ Less) e (not_below_itself key)
-        ];
+          elim (Contains-push_cases keys key other c) [
+            | inl was ↦ under_least key old other (less (key_cmp key old) is) (h.least other was none)
+            | inr e ↦ subst (λ k. key_cmp k key ≢ Less) e (not_below_itself key)
+          ];
     }
 
 later_found : (s : State) (keys : List Key) (key : Key) (found : Option Key) → is_first key found ≡ false → IsFound s keys found → IsFound s (keys ++ key ∷ []) found

@@ -1,7 +1,6 @@
 -- What is lent, key by key.
-use Rattle.std.specs.Prelude.{◌≡◌, ◌↔◌, ℕ, ◌+◌, ◌<◌, ◌≤◌, ◌&&◌, ◌||◌, Bool, true, false, cond, List, [], ◌∷◌, ◌++◌, Option, Some, None, refl, slice_get, length}
-use Rattle.std.proofs.Common.{ap, sym, ◌∙◌, arith, take, get_or}
-use Rattle.std.specs.Cmp.{IsEquivalence}
+use Rattle.std.specs.Prelude.{◌≡◌, ◌↔◌, ℕ, ◌+◌, ◌<◌, ◌≤◌, ◌&&◌, ◌||◌, Bool, true, false, cond, List, Option, Some, None, refl, slice_get, length}
+use Rattle.std.proofs.Common.{ap, sym, ◌∙◌, arith, take}
 use Rattle.std.specs.FinMap as map
 use Rattle.std.specs.FinMap.{get-retain_keys}
 use Rattle.std.specs.List.{list_any, Contains}
@@ -36,9 +35,10 @@ holds-lent s keys f = ap is_some (get-retain_keys s wanted f (λ g e. ap wanted 
     wanted g = is_among keys g.key
 
 pub in_lent : (s : State) (keys : List Key) (f : Fact) → (holds (lent s keys) f ≡ true) ↔ ((holds s f ≡ true) × Contains keys f.key)
-in_lent s keys f =
-    (λ h. let parts = split (holds s f) (is_among keys f.key) (sym (holds-lent s keys f) ∙ h) in (parts.0, Contains-from_any one_key f.key keys parts.1),
-     λ h. holds-lent s keys f ∙ both (holds s f) (is_among keys f.key) h.0 (list_any-from_Contains key_equiv f.key keys h.1))
+in_lent s keys f = (
+  λ h. let parts = split (holds s f) (is_among keys f.key) (sym (holds-lent s keys f) ∙ h) in (parts.0, Contains-from_any one_key f.key keys parts.1),
+  λ h. holds-lent s keys f ∙ both (holds s f) (is_among keys f.key) h.0 (list_any-from_Contains key_equiv f.key keys h.1),
+)
 
 -- ---- the facts of one key
 any_more : {X : Type 0} (p : X → Bool) (xs : List X) (i : ℕ) (x : X) → slice_get xs i ≡ Some x → list_any p (take (i + 1) xs) ≡ (list_any p (take i xs) || p x)

@@ -1,9 +1,9 @@
 //! The state of a node.
 
 ghost use Rattle.node_state.specs.Answers.{taken_of, known_of};
-ghost use Rattle.node_state.specs.States.{nothing, with_fact, join, lacked, facts_in, facts_of, least, least_above};
+ghost use Rattle.node_state.specs.States.{nothing, holds, with_fact, join, lacked, facts_in, facts_of, least, least_above};
 ghost use Rattle.std.specs.Option.{option_copied};
-ghost use Rattle.std.specs.Prelude.{◌≡◌, ◌<◌, ◌^◌, OnOk, OnErr, IfOk, IfErr, length, slice_get};
+ghost use Rattle.std.specs.Prelude.{◌≡◌, ◌<◌, ◌^◌, OnOk, OnErr, IfOk, IfErr, length, slice_get, false};
 ghost use Rattle.tile_fact.specs.FactFile.{fact_file};
 
 use crate::answers::{Known, Taken};
@@ -53,11 +53,13 @@ impl<S: FactStore> NodeState<S> {
         })
     }
 
-    /// Adds a fact, and tells whether it was new. Where memory runs out the fact is handed back, and the state is as it was.
+    /// Adds a fact, and tells whether it was new. Where memory runs out for a new fact it is handed back, and the
+    /// state is as it was.
     pub fn take(&mut self, fact: Fact) -> Result<Taken, AllocFailed<Fact>>
         ensures added { OnOk result (self.new ≡ with_fact self.old fact) }
         ensures new { IfOk result (λ taken. taken ≡ taken_of self.old fact) }
         ensures handed_back { IfErr result (λ back. back.value ≡ fact) }
+        ensures only_new { IfErr result (λ _. holds self.old fact ≡ false) }
         ensures unchanged { OnErr result (self.new ≡ self.old) }
     {
         if self.store.add(fact)? {

@@ -43,18 +43,27 @@ fn states_forget_order_in<S: FactStore>(alloc: Global) -> Result<(), Fail> {
     let r = tile(alloc, key(1, 0), &[8])?;
     let one: NodeState<S> = state_of(alloc, &[&p, &q, &r])?;
     let mut other: NodeState<S> = state_of(alloc, &[&r, &p])?;
-    holds(taken(&mut other, p.clone()?)? == Taken::Already, "p is held")?;
+    holds(
+        taken(&mut other, p.clone()?)? == Taken::Already,
+        "p is held",
+    )?;
     let more: NodeState<S> = state_of(alloc, &[&q, &r])?;
     holds(other.merge(&more)? == 1, "q is new")?;
     let file = one.export()?;
     holds(file.len() == 257, "the file's length")?;
-    holds(other.export()?.as_slice() == file.as_slice(), "the same file")?;
+    holds(
+        other.export()?.as_slice() == file.as_slice(),
+        "the same file",
+    )?;
     holds(
         other.copy()?.export()?.as_slice() == file.as_slice(),
         "the copy's file",
     )?;
     holds(other.merge(&one)? == 0, "nothing is new")?;
-    holds(more.export()?.len() == 174, "the state that was merged is as it was")
+    holds(
+        more.export()?.len() == 174,
+        "the state that was merged is as it was",
+    )
 }
 
 #[test]
@@ -68,7 +77,10 @@ fn disputed_facts_in<S: FactStore>(alloc: Global) -> Result<(), Fail> {
     let first: NodeState<S> = state_of(alloc, &[&told, &other])?;
     let second: NodeState<S> = state_of(alloc, &[&other, &told])?;
     for state in [&first, &second] {
-        holds(state.knows(&key(0, 0)) == Known::Disputed, "two facts of the key")?;
+        holds(
+            state.knows(&key(0, 0)) == Known::Disputed,
+            "two facts of the key",
+        )?;
         let lent = state.lend(&[key(0, 0)]).ok().ok_or("the key is held")?;
         holds(
             matches!(lent.as_slice(), [a, b] if *a == told && *b == other),
@@ -78,7 +90,10 @@ fn disputed_facts_in<S: FactStore>(alloc: Global) -> Result<(), Fail> {
     }
     let alone: NodeState<S> = state_of(alloc, &[&told])?;
     holds(alone.knows(&key(0, 0)) == Known::One, "one fact of the key")?;
-    holds(alone.knows(&key(0, 1)) == Known::Nothing, "no fact of the key")
+    holds(
+        alone.knows(&key(0, 1)) == Known::Nothing,
+        "no fact of the key",
+    )
 }
 
 #[test]
@@ -113,12 +128,18 @@ fn lends_by_keys(rt: HostRuntime) -> Result<(), Fail> {
         matches!(state.nth(&key(0, 1), 0), Some(fact) if *fact == q),
         "the fact of the key",
     )?;
-    holds(matches!(state.least(), Some(fact) if *fact == p), "the least")?;
+    holds(
+        matches!(state.least(), Some(fact) if *fact == p),
+        "the least",
+    )?;
     holds(
         matches!(state.least_above(&p), Some(fact) if *fact == q),
         "the next one",
     )?;
     holds(state.least_above(&q).is_none(), "and none behind it")?;
-    let part = state.lend_state(&[key(0, 1)]).ok().ok_or("the key is held")?;
+    let part = state
+        .lend_state(&[key(0, 1)])
+        .ok()
+        .ok_or("the key is held")?;
     holds(part.facts()?.len() == 1, "a part of the state")
 }
