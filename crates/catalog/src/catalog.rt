@@ -1,0 +1,143 @@
+//! Jobs, told apart by their identities.
+
+ghost use Rattle.std.specs.Prelude.{◌≡◌, ◌++◌, ◌∷◌, [], ℕ, List, length, map, slice_get, IfOk, IfErr, IfSome, IfNone, OnOk, OnErr};
+ghost use Rattle.std.specs.Option.{option_map};
+ghost use Rattle.catalog.specs.Entries.{entry_of, IsCatalog, StandsAt};
+ghost use Rattle.catalog.specs.Refusals.{IsAdmitted, IsRefusal};
+
+use crate::fault::AdmitFault;
+use crate::ids::Ids;
+use job::Job;
+use std::alloc::Global;
+use std::marker::Model;
+
+/// The most jobs of a catalog.
+pub const MOST_JOBS: usize = 16;
+
+/// At most 16 jobs, in the order in which they were admitted. No two have equal identities. Each keeps the identity of its input, so
+/// that [`find`](Catalog::find) hashes nothing.
+#[derive(Debug, Drop)]
+pub struct Catalog {
+    jobs: Vec<Job>,
+}
+
+impl Model for Catalog {
+    ghost use Rattle.std.specs.Prelude.{List, map};
+    ghost use Rattle.std.specs.Coded.{codes};
+    ghost use Rattle.catalog.specs.Codes.{formula_code};
+    ghost use Rattle.catalog.specs.Entries.{Entry, entry_of, IsCatalog};
+
+    ghost Value = { List Entry };
+
+    ghost coded = { Prim.hlevel (codes, formula_code) };
+
+    ghost view = { λ c. map entry_of c.jobs.items };
+
+    ghost invariant = { λ c. IsCatalog (map entry_of c.jobs.items) };
+}
+
+impl Catalog {
+    /// A catalog without jobs. No memory is taken.
+    pub fn new(alloc: Global) -> Catalog
+        ensures { result ≡ [] }
+    {
+        Catalog {
+            jobs: Vec::new(alloc),
+        }
+    }
+
+    /// Takes a job in, and gives its index. Where the job is refused it comes back, as the same pipeline and text, and the catalog
+    /// is as before. All samples of its picture are hashed, unless it keeps that identity; where a job has the same identities, the
+    /// pictures are compared.
+    ///
+    /// # Errors
+    ///
+    /// The first of `Same`, `Clash`, `Full` and `Memory`. Memory is refused only for a job that is new, where there is room.
+    pub fn admit(&mut self, job: Job) -> Result<usize, (Job, AdmitFault)>
+        ensures taken { OnOk result (self.new ≡ self.old ++ entry_of job ∷ []) }
+        ensures index { IfOk result (λ index. index ≡ length self.old) }
+        ensures admitted { OnOk result (IsAdmitted self.old (entry_of job)) }
+        ensures unchanged { OnErr result (self.new ≡ self.old) }
+        ensures back { IfErr result (λ back. entry_of back.0 ≡ entry_of job) }
+        ensures refused { IfErr result (λ back. IsRefusal self.old (entry_of job) back.1) }
+    {
+        let mut job = job;
+        job.keep_input_id();
+        if let Some(fault) = self.refusal(&job) {
+            return Err((job, fault));
+        }
+        match self.take(job) {
+            Ok(index) => Ok(index),
+            Err(job) => Err((job, AdmitFault::Memory)),
+        }
+    }
+
+    // Takes a job in that is not refused, unless memory is.
+    fn take(&mut self, job: Job) -> Result<usize, Job>
+        requires { IsAdmitted self.old (entry_of job) }
+        ensures taken { OnOk result (self.new ≡ self.old ++ entry_of job ∷ []) }
+        ensures index { IfOk result (λ index. index ≡ length self.old) }
+        ensures unchanged { OnErr result (self.new ≡ self.old) }
+        ensures back { IfErr result (λ back. entry_of back ≡ entry_of job) }
+    {
+        let index = self.jobs().len();
+        if let Err(failed) = self.jobs.push(job) {
+            return Err(failed.value);
+        }
+        Ok(index)
+    }
+
+    // Why this job is refused, other than for memory.
+    fn refusal(&self, job: &Job) -> Option<AdmitFault>
+        ensures some { IfSome result (IsRefusal self.now (entry_of job.now)) }
+        ensures none { IfNone result (IsAdmitted self.now (entry_of job.now)) }
+    {
+        if let Some(index) = self.find(&Ids::of(job)) {
+            if self.jobs()[index].hashes_the_same(job) {
+                return Some(AdmitFault::Same(index));
+            }
+            return Some(AdmitFault::Clash(index));
+        }
+        if self.jobs().len() == MOST_JOBS {
+            return Some(AdmitFault::Full);
+        }
+        None
+    }
+
+    /// How many jobs there are.
+    pub fn len(&self) -> usize
+        ensures { result ≡ length self.now }
+    {
+        self.jobs().len()
+    }
+
+    /// The job of this index. No memory is taken.
+    pub fn job(&self, index: usize) -> Option<&Job>
+        ensures { option_map (λ job. entry_of job.now) result ≡ slice_get self.now index }
+    {
+        self.jobs().get(index)
+    }
+
+    /// The index of the job of these identities. Nothing is hashed, and no memory is taken.
+    pub fn find(&self, ids: &Ids) -> Option<usize>
+        ensures some { IfSome result (StandsAt self.now ids.now) }
+        ensures none { IfNone result ((i : ℕ) → ¬ (StandsAt self.now ids.now i)) }
+        ensures catalog { IsCatalog self.now }
+    {
+        let jobs = self.jobs();
+        for index in 0..jobs.len() {
+            if ids.are_of(&jobs[index]) {
+                return Some(index);
+            }
+        }
+        None
+    }
+
+    // The jobs, in the order in which they were admitted.
+    fn jobs(&self) -> &[Job]
+        ensures jobs { map entry_of result.now ≡ self.now }
+        ensures catalog { IsCatalog self.now }
+    {
+        &self.jobs
+    }
+}
