@@ -1,6 +1,8 @@
 //! Identities, which are digests of SHA-256. What is digested is the affair of the crates that make them.
 
-ghost use Rattle.std.specs.Prelude.{◌≡◌};
+ghost use Rattle.std.specs.Prelude.{◌≡◌, ◌<◌, Some};
+ghost use Rattle.std.specs.Fmt.{WritesOnOk};
+ghost use Rattle.identity.specs.Hexadecimal.{hex_digit, hex_byte, hex_text};
 
 use std::fmt;
 use std::marker::Model;
@@ -37,8 +39,10 @@ impl ProgramId {
     }
 }
 
-/// The digest in hexadecimal digits, two for each byte. No clause says so: it is only tested.
+/// The digest in hexadecimal digits, two for each byte.
 impl fmt::Display for ProgramId {
+    ghost output = { λ id. Some (hex_text id) };
+
     fn fmt<W: fmt::Write>(&self, f: &mut fmt::Formatter<W>) -> fmt::Result {
         write_hex(&self.bytes, f)
     }
@@ -76,17 +80,39 @@ impl InputId {
     }
 }
 
-/// The digest in hexadecimal digits, two for each byte. No clause says so: it is only tested.
+/// The digest in hexadecimal digits, two for each byte.
 impl fmt::Display for InputId {
+    ghost output = { λ id. Some (hex_text id) };
+
     fn fmt<W: fmt::Write>(&self, f: &mut fmt::Formatter<W>) -> fmt::Result {
         write_hex(&self.bytes, f)
     }
 }
 
+fn hex_digit(value: u8) -> char
+    requires { value < 16 }
+    ensures { result ≡ hex_digit value }
+{
+    if value < 10 {
+        (b'0' + value) as char
+    } else {
+        (b'a' - 10 + value) as char
+    }
+}
+
+fn write_byte<W: fmt::Write>(byte: u8, f: &mut fmt::Formatter<W>) -> fmt::Result
+    ensures { WritesOnOk W.write_str_gives f.old result (hex_byte byte) f.new }
+{
+    f.write_char(hex_digit(byte / 16))?;
+    f.write_char(hex_digit(byte % 16))
+}
+
 // Two hexadecimal digits for each byte.
-fn write_hex<W: fmt::Write>(bytes: &[u8; 32], f: &mut fmt::Formatter<W>) -> fmt::Result {
+fn write_hex<W: fmt::Write>(bytes: &[u8; 32], f: &mut fmt::Formatter<W>) -> fmt::Result
+    ensures { WritesOnOk W.write_str_gives f.old result (hex_text bytes.now) f.new }
+{
     for byte in bytes {
-        write!(f, "{byte:02x}")?;
+        write_byte(*byte, f)?;
     }
     Ok(())
 }

@@ -3,7 +3,7 @@
 
 use crate::wanted::holds;
 use netpbm::{Picture, raw, read, write_raw};
-use std::alloc::Global;
+use std::alloc::{AllocError, Global};
 use std::io;
 use std::io::Write;
 use std::test::Fail;
@@ -17,6 +17,24 @@ fn picture_of_three_planes(rt: HostRuntime) -> Result<(), Fail> {
         b"P6\n1 2\n256\n\0\x01\0\x02\0\x03\x01\0\0\0\0\x09".as_slice()
     );
     Ok(())
+}
+
+// The raw bytes of a grey picture whose samples count from 0 to 250 and begin again.
+fn counting(alloc: Global, header: &[u8], samples: usize) -> Result<Vec<u8>, AllocError> {
+    let mut bytes = Vec::new(alloc);
+    bytes.extend_from_slice(header)?;
+    for number in 0..samples {
+        bytes.push((number % 251) as u8)?;
+    }
+    Ok(bytes)
+}
+
+#[test]
+fn raw_bytes_of_a_million_samples(rt: HostRuntime) -> Result<(), Fail> {
+    let bytes = counting(rt.alloc(), b"P5\n1000 1001\n255\n", 1_001_000)?;
+    let picture = read(rt.alloc(), &bytes)?;
+    let is_same = raw(rt.alloc(), &picture)?.as_slice() == bytes.as_slice();
+    holds(Some(is_same), "the raw bytes of a million samples")
 }
 
 // A writer that takes so many bytes, three at a time, and then nothing.

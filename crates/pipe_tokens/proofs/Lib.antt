@@ -15,3 +15,4 @@ pub mod Cuts
 pub mod Rising
 pub mod Only
 pub mod Fewer
+pub mod Shown

@@ -61,7 +61,13 @@ impl Name {
     }
 }
 
+/// The name itself.
 impl fmt::Display for Name {
+    ghost use Rattle.std.specs.Prelude.{Some};
+
+    ghost output = { λ name. Some name };
+
+    #[tactic(auto, using(crate::proofs::Shown::name_is_text))]
     fn fmt<W: fmt::Write>(&self, f: &mut fmt::Formatter<W>) -> fmt::Result {
         match str::from_utf8(self.as_bytes()) {
             Ok(text) => f.write_str(text),
