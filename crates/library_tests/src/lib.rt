@@ -34,3 +34,5 @@ mod totals;
 mod values;
 #[cfg(test)]
 mod wanted;
+#[cfg(test)]
+mod work;

@@ -49,6 +49,28 @@ func a(x in [0..8192], y in [0..8192]) { else : 1; }
 func b(x in [0..1023], y in [0..1023]) { else : a(8*x,8*y) + a(8*x+8,8*y+8); }
 output b max 255;";
 
+/// Seventeen functions, of each of which a tile reads a square of 16,384 rows and columns: more than 2^32 points together.
+const FAR_TOO_BIG: &str = "image I(1,1);
+func a(x in [0..16383], y in [0..16383]) { else : 1; }
+func b(x in [0..16383], y in [0..16383]) { else : a(x,y); }
+func c(x in [0..16383], y in [0..16383]) { else : b(x,y); }
+func d(x in [0..16383], y in [0..16383]) { else : c(x,y); }
+func e(x in [0..16383], y in [0..16383]) { else : d(x,y); }
+func f(x in [0..16383], y in [0..16383]) { else : e(x,y); }
+func g(x in [0..16383], y in [0..16383]) { else : f(x,y); }
+func h(x in [0..16383], y in [0..16383]) { else : g(x,y); }
+func i(x in [0..16383], y in [0..16383]) { else : h(x,y); }
+func j(x in [0..16383], y in [0..16383]) { else : i(x,y); }
+func k(x in [0..16383], y in [0..16383]) { else : j(x,y); }
+func l(x in [0..16383], y in [0..16383]) { else : k(x,y); }
+func m(x in [0..16383], y in [0..16383]) { else : l(x,y); }
+func n(x in [0..16383], y in [0..16383]) { else : m(x,y); }
+func o(x in [0..16383], y in [0..16383]) { else : n(x,y); }
+func p(x in [0..16383], y in [0..16383]) { else : o(x,y); }
+func q(x in [0..16383], y in [0..16383]) { else : p(x,y); }
+func r(x in [0..1023], y in [0..1023]) { else : q(16*x,16*y) + q(16*x+15,16*y+15); }
+output r max 255;";
+
 /// Pictures of one sample, of four, of sixteen, and of thirty-six that are 1.
 const ONE: &[u8] = b"P2 1 1 255 7";
 
@@ -194,4 +216,27 @@ fn tiles_are_planned(rt: HostRuntime) -> Result<(), Fail> {
         planned(rt.alloc(), &case, tile, wanted)?;
     }
     Ok(())
+}
+
+// A tile far above the limit is no matter of memory: neither with one function of 2^28 points, nor with 2^32 and more.
+#[test]
+fn far_more_scratch_memory_than_there_may_be(rt: HostRuntime) -> Result<(), Fail> {
+    let last = Case {
+        text: FAR_TOO_BIG,
+        file: ONE,
+        sides: (1024, 1024),
+        inlining: &[
+            false, false, false, false, false, false, false, false, false, false, false, false,
+            false, false, false, false, false, true, false,
+        ],
+    };
+    planned(rt.alloc(), &last, (18, 0, 0), "ScratchTooBig")?;
+    let all = Case {
+        inlining: &[
+            false, true, true, true, true, true, true, true, true, true, true, true, true, true,
+            true, true, true, true, false,
+        ],
+        ..last
+    };
+    planned(rt.alloc(), &all, (18, 0, 0), "ScratchTooBig")
 }
