@@ -12,3 +12,4 @@ pub mod PartialsJoin
 pub mod TrueTilesGiveTotals
 pub mod LastStepIsTile
 pub mod TakenPartials
+pub mod TrueImage

@@ -1,6 +1,6 @@
 -- The picture of a job, from the planes of its output's functions.
 use Rattle.std.proofs.Common.{◌≡◌, ◌≤◌, ◌*◌, ◌||◌, ℕ, ℤ, pos, inl, inr, Bool, true, false, eqb, List, [], ◌∷◌, Option, Some, length, map, unsigned_abs, refl, sym, ap, ◌∙◌, subst, arith}
-use Rattle.std.specs.Prelude.{All, Contains, slice_get, slice_index, slice_index_or}
+use Rattle.std.specs.Prelude.{Contains, slice_get, slice_index, slice_index_or}
 use Rattle.std.specs.Int.{int_min, int_max}
 use Rattle.std.specs.List.{list_any}
 use Rattle.std.specs.Option.{option_map_or}
@@ -13,12 +13,15 @@ use Rattle.domains.proofs.PairLists.{Contains-cases}
 use Rattle.domains.specs.Area.{points_of}
 use Rattle.netpbm.specs.Image.{image, IsImage, IsPlane}
 use Rattle.grouping.specs.Schedules.{is_inlined, is_function_body, IsSchedule}
-use Rattle.job.specs.Answers.{height_of, is_output, picture_of, sample_of, samples, samples_over, width_of}
+use Rattle.job.specs.Answers.{height_of, is_output, sample_of, width_of}
 use Rattle.job.specs.Pipeline.{Body, plane, function, accumulator, Output, Pipeline, Stage}
-use Rattle.job.specs.Values.{value}
-use Rattle.job.specs.WellFormed.{IsFunction, IsOutput, IsOutputPlane}
+use Rattle.job.specs.Values.{Valuation}
+use Rattle.job.specs.WellFormed.{IsFunction, IsJob, IsOutput, IsOutputPlane}
 use Rattle.overlap_tiles.proofs.Lists.{All-from_contains}
-use Rattle.accumulators.specs.inside.Making.{IsStoredStage}
+use Rattle.std.proofs.lemmas.Option.{same_Some}
+use Rattle.tile_run.specs.KnownTiles.{KnownTiles, AreWhole}
+use Rattle.tile_run.specs.Stored.{IsStoredFunction, GivesAllTiles}
+use Rattle.accumulators.specs.Pictures.{picture_from, samples_from, IsLentStage, GivesOutputs}
 
 -- ---- samples
 
@@ -28,48 +31,49 @@ least_of a max = grind (arith, ints)
 sample_most : (max : ℕ) (v : ℤ) → sample_of max v ≤ max
 sample_most max v = least_of v max
 
-abbrev pub sample_at : Pipeline → ℕ → ℕ → ℤ × ℤ → ℕ
-sample_at job max g p = sample_of max (value job g p.0 p.1)
+abbrev pub sample_at : Valuation → ℕ → ℕ → ℤ × ℤ → ℕ
+sample_at env max g p = sample_of max (env g p.0 p.1)
 
-pub samples_are : (job : Pipeline) (max g : ℕ) (s : Stage) → slice_get job.stages g ≡ Some s
-    → samples job max g ≡ map (sample_at job max g) (points_of s.domain)
-samples_are job max g s there = ap (λ o. option_map_or (λ (s : Stage). samples_over job max g s.domain) o []) there
+pub samples_are : (job : Pipeline) (env : Valuation) (max g : ℕ) (s : Stage) → slice_get job.stages g ≡ Some s
+    → samples_from job env max g ≡ map (sample_at env max g) (points_of s.domain)
+samples_are job env max g s there =
+    ap (λ o. option_map_or (λ (t : Stage). map (sample_at env max g) (points_of t.domain)) o []) there
 
 -- ---- the picture
 
-samples_plane : (job : Pipeline) (max height width g : ℕ) → IsOutputPlane job height width g
-    → IsPlane (height * width) max (samples job max g)
-samples_plane job max height width g is =
+samples_plane : (job : Pipeline) (env : Valuation) (max height width g : ℕ) → IsOutputPlane job height width g
+    → IsPlane (height * width) max (samples_from job env max g)
+samples_plane job env max height width g is =
     let s = is.stage in
     let count : height * width ≡ length (points_of s.domain) = counts_points (height * width) s.domain
     (λ i. sym is.rows i * sym is.cols i) in
-    subst (IsPlane (height * width) max) (sym (samples_are job max g s is.there)) (record {
-      whole = length-map (points_of s.domain) (sample_at job max g) ∙ sym count;
-      bounded = All-map (λ n. n ≤ max) (sample_at job max g) (points_of s.domain)
-          (λ k p within. sample_most max (let at = slice_index_or (points_of s.domain) k p in value job g at.0 at.1));
+    subst (IsPlane (height * width) max) (sym (samples_are job env max g s is.there)) (record {
+      whole = length-map (points_of s.domain) (sample_at env max g) ∙ sym count;
+      bounded = All-map (λ n. n ≤ max) (sample_at env max g) (points_of s.domain)
+          (λ k p within. sample_most max (let at = slice_index_or (points_of s.domain) k p in env g at.0 at.1));
     })
 
-pub is_picture : (job : Pipeline) (o : Output) → IsOutput job o → IsImage (picture_of job o)
-is_picture job o is =
+pub is_picture : (job : Pipeline) (env : Valuation) (o : Output) → IsOutput job o → IsImage (picture_from job env o)
+is_picture job env o is =
     let h = height_of job (slice_index o.stages 0) in
     let w = width_of job (slice_index o.stages 0) in
-    let count : length (map (samples job o.max) o.stages) ≡ length o.stages = length-map o.stages (samples job o.max) in
+    let count : length (map (samples_from job env o.max) o.stages) ≡ length o.stages = length-map o.stages (samples_from job env o.max) in
     record {
       rows = is.height;
       cols = is.width;
       max = is.max;
       colours = elim is.planes [ inl e ↦ inl (count ∙ e) | inr e ↦ inr (count ∙ e) ];
       planes =
-          All-map (IsPlane (h * w) o.max) (samples job o.max) o.stages
-          (All-weaker (IsOutputPlane job h w) (λ g. IsPlane (h * w) o.max (samples job o.max g)) (λ g. samples_plane job o.max h w g)
+          All-map (IsPlane (h * w) o.max) (samples_from job env o.max) o.stages
+          (All-weaker (IsOutputPlane job h w) (λ g. IsPlane (h * w) o.max (samples_from job env o.max g)) (λ g. samples_plane job env o.max h w g)
           o.stages is.equal_sides);
     }
 
-pub same_picture : (job : Pipeline) (o : Output) (rows cols max : ℕ) (planes : List (List ℕ))
+pub same_picture : (job : Pipeline) (env : Valuation) (o : Output) (rows cols max : ℕ) (planes : List (List ℕ))
     → rows ≡ height_of job (slice_index o.stages 0) → cols ≡ width_of job (slice_index o.stages 0) → max ≡ o.max
-    → planes ≡ map (samples job max) o.stages → image rows cols max planes ≡ picture_of job o
-same_picture job o rows cols max planes high wide most made =
-    (λ i. image (high i) (wide i) (most i) ((made ∙ ap (λ n. map (samples job n) o.stages) most) i))
+    → planes ≡ map (samples_from job env max) o.stages → image rows cols max planes ≡ picture_from job env o
+same_picture job env o rows cols max planes high wide most made =
+    (λ i. image (high i) (wide i) (most i) ((made ∙ ap (λ n. map (samples_from job env n) o.stages) most) i))
 
 -- ---- outputs are stored
 
@@ -98,20 +102,36 @@ not_inlined : (b : Bool) → (b ≡ true → ⊥) → b ≡ false
 not_inlined true h = absurd (h refl)
 not_inlined false h = refl
 
-pub outputs_stored : (job : Pipeline) (inlining : List Bool) (o : Output) → IsSchedule job inlining → job.output ≡ Some o → IsOutput job o
-    → All (IsStoredStage job inlining) o.stages
-outputs_stored job inlining o schedule there is = All-from_contains (IsStoredStage job inlining) o.stages stored
-  where
-    stored : (g : ℕ) → Contains o.stages g → IsStoredStage job inlining g
-    stored g has =
-        let own = All-contains (IsOutputPlane job (height_of job (slice_index o.stages 0)) (width_of job (slice_index o.stages 0)))
-        o.stages g is.equal_sides has in
-        let output : is_output job g ≡ true = ap (λ (x : Option Output). option_map_or (λ y. list_any (λ h. eqb h g) y.stages) x false)
-        there ∙ any_of o.stages g has in (
-          own.stage,
-          record {
-            there = own.there;
-            function = a_function own.stage.body own.function;
-            stored = not_inlined (is_inlined inlining g) (λ inlined. true≢false (sym output ∙ schedule.inner g inlined));
-          },
-        )
+-- a stage of the output is one
+pub is_among : (job : Pipeline) (o : Output) (g : ℕ) → job.output ≡ Some o → Contains o.stages g → is_output job g ≡ true
+is_among job o g there has =
+    ap (λ (x : Option Output). option_map_or (λ y. list_any (λ h. eqb h g) y.stages) x false) there ∙ any_of o.stages g has
+
+-- a stage of the output is a function, and is not inlined
+pub output_stored : (job : Pipeline) (inlining : List Bool) (o : Output) (g : ℕ) (s : Stage) → IsSchedule job inlining
+    → job.output ≡ Some o → IsOutput job o → Contains o.stages g → slice_get job.stages g ≡ Some s → IsStoredFunction job inlining g s
+output_stored job inlining o g s schedule there is has found =
+    let own = All-contains (IsOutputPlane job (height_of job (slice_index o.stages 0)) (width_of job (slice_index o.stages 0)))
+    o.stages g is.equal_sides has in
+    record {
+      there = found;
+      function = ap (λ (t : Stage). is_function_body t.body) (same_Some s own.stage (sym found ∙ own.there)) ∙ a_function own.stage.body own.function;
+      stored = not_inlined (is_inlined inlining g) (λ inlined. true≢false (sym (is_among job o g there has) ∙ schedule.inner g inlined));
+    }
+
+-- where all stored functions are given, and true, the stages of the output are lent
+pub outputs_lent : (job : Pipeline) (inlining : List Bool) (given : KnownTiles) → IsJob job → IsSchedule job inlining
+    → GivesAllTiles job inlining given → AreWhole job given → GivesOutputs job given
+outputs_lent job inlining given good schedule all whole o there =
+    let is : IsOutput job o = good.output o there in
+    All-from_contains (IsLentStage job given) o.stages (λ g has.
+    let own = All-contains (IsOutputPlane job (height_of job (slice_index o.stages 0)) (width_of job (slice_index o.stages 0)))
+    o.stages g is.equal_sides has in
+    let stored = output_stored job inlining o g own.stage schedule there is has own.there in (
+      own.stage,
+      record {
+        there = own.there;
+        all = λ i j tile. (_, all g own.stage stored i j tile);
+        whole = whole g own.stage own.there;
+      },
+    ))

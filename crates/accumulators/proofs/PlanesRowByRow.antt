@@ -1,90 +1,29 @@
 -- Planes that are made row by row.
-use Rattle.std.proofs.Common.{arith, ℕ, zero, suc, ℤ, pos, ◌≡◌, ◌+◌, ◌-◌, ◌<◌, ◌+ℤ◌, refl, sym, ap, ◌∙◌, subst, Bool, Some, None, List, [], ◌∷◌, ◌++◌, map, length, append_assoc}
+use Rattle.std.proofs.Common.{ℕ, ℤ, pos, ◌≡◌, ◌<◌, ◌+ℤ◌, sym, ap, ◌∙◌, subst, Some, None, [], map}
 use Rattle.std.specs.Prelude.{slice_get}
 use Rattle.std.specs.Option.{option_map}
-use Rattle.std.proofs.Math.IntN.{+ℤ_idr}
-use Rattle.std.proofs.lemmas.Int.{ints}
-use Rattle.std.proofs.lemmas.List.{append-nil, map-append}
-use Rattle.std.proofs.lemmas.Simd.{map-map}
-use Rattle.domains.specs.Pairs.{pairs}
 use Rattle.std.proofs.lemmas.Option.{none-some, same_Some}
-use Rattle.domains.specs.Span.{Holds, len_of, numbers_from, numbers_of}
+use Rattle.domains.specs.Span.{Holds, len_of}
 use Rattle.domains.specs.Area.{HoldsPoint, points_of}
 use Rattle.domains.specs.declared.area.Area.{Area}
-use Rattle.job.specs.Answers.{samples}
 use Rattle.job.specs.Pipeline.{Pipeline, Stage}
+use Rattle.job.specs.Values.{Valuation}
 use Rattle.tile_eval.proofs.Rasters.{nth_held}
-use Rattle.tile_eval.specs.Rows.{EachPlace, at}
-use Rattle.tile_run.specs.KnownTiles.{KnownTiles}
-use Rattle.tile_run.specs.Stored.{IsStoredLine, GivesAllTiles}
-use Rattle.accumulators.specs.inside.Making.{IsStoredStage}
+use Rattle.tile_run.specs.KnownTiles.{KnownTiles, IsGivenLine}
+use Rattle.accumulators.specs.Pictures.{samples_from, IsLentStage}
 use Rattle.accumulators.proofs.PictureOfAnswer.{sample_at, samples_are}
 
-next : (b : ℤ) (k : ℕ) → b +ℤ pos (suc k) ≡ b +ℤ pos 1 +ℤ pos k
-next b k = omega (arith, ints)
-
--- numbers that are those of f along a row are its values
-pub line_is : (f : ℤ → ℤ) (first : ℤ) (n : ℕ) (xs : List ℤ) → length xs ≡ n → EachPlace n (λ k. at xs k ≡ f (first +ℤ pos k))
-    → xs ≡ map f (numbers_from first n)
-line_is f first zero [] long each = refl
-line_is f first zero (x ∷ xs) long each = absurd (omega arith)
-line_is f first (suc n) [] long each = absurd (omega arith)
-line_is f first (suc n) (x ∷ xs) long each =
-    let here : x ≡ f first = each 0 (omega arith) ∙ ap f (+ℤ_idr first) in
-    let rest = line_is f (first +ℤ pos 1) n xs (omega arith) (λ k h. each (suc k) (omega arith) ∙ ap f (next first k)) in
-    λ i. here i ∷ rest i
-
--- what is left of an area from a row on, where n rows are left
-abbrev pub rest_of : {X : Type 0} → (ℤ × ℤ → X) → ℤ → ℕ → List ℤ → List X
-rest_of h row n cols = map h (pairs (numbers_from row n) cols)
-
-first_row : {X : Type 0} (h : ℤ × ℤ → X) (row : ℤ) (n : ℕ) (cols : List ℤ)
-    → rest_of h row (suc n) cols ≡ map (λ c. h (row, c)) cols ++ rest_of h (row +ℤ pos 1) n cols
-first_row h row n cols =
-    map-append h (map (λ c. (row, c)) cols) (pairs (numbers_from (row +ℤ pos 1) n) cols)
-    ∙ ap (λ xs. xs ++ rest_of h (row +ℤ pos 1) n cols) (map-map h (λ (c : ℤ). (row, c)) cols)
-
--- one row more is made
-pub row_made : {X : Type 0} (h : ℤ × ℤ → X) (first row : ℤ) (place count : ℕ) (cols : List ℤ) (made more all : List X) → place < count
-    → row ≡ first +ℤ pos place
-    → made ++ rest_of h (first +ℤ pos place) (count - place) cols ≡ all → more ≡ made ++ map (λ c. h (row, c)) cols
-    → more ++ rest_of h (first +ℤ pos (place + 1)) (count - (place + 1)) cols ≡ all
-row_made h first row place count cols made more all within at_row so is =
-    let left : count - place ≡ suc (count - (place + 1)) = omega arith in
-    let below : first +ℤ pos (place + 1) ≡ row +ℤ pos 1 = omega (arith, ints) in
-    let n : ℕ = count - (place + 1) in
-    (λ i. is i ++ rest_of h (below i) n cols)
-    ∙ append_assoc made (map (λ c. h (row, c)) cols) (rest_of h (row +ℤ pos 1) n cols)
-    ∙ ap (λ xs. made ++ xs) (sym (first_row h row n cols))
-    ∙ (λ i. made ++ rest_of h (at_row i) (sym left i) cols)
-    ∙ so
-
-pub none_made : {X : Type 0} (h : ℤ × ℤ → X) (area : Area)
-    → rest_of h (area.rows.lo +ℤ pos 0) (len_of area.rows - 0) (numbers_of area.cols) ≡ map h (points_of area)
-none_made h area =
-    let all : len_of area.rows - 0 ≡ len_of area.rows = omega arith in λ i. rest_of h (+ℤ_idr area.rows.lo i) (all i) (numbers_of area.cols)
-
-pub all_made : {X : Type 0} (h : ℤ × ℤ → X) (area : Area) (count : ℕ) (made : List X) → count ≡ len_of area.rows
-    → made ++ rest_of h (area.rows.lo +ℤ pos count) (len_of area.rows - count) (numbers_of area.cols) ≡ map h (points_of area)
-    → made ≡ map h (points_of area)
-all_made h area count made whole so =
-    let none : len_of area.rows - count ≡ 0 = omega arith in
-    sym (append-nil made) ∙ sym (ap (λ n. made ++ rest_of h (area.rows.lo +ℤ pos count) n (numbers_of area.cols)) none) ∙ so
-
--- ---- rows of stored tiles
-
-module _ (job : Pipeline) (inlining : List Bool) (g : ℕ) (domain : Area) (stored : IsStoredStage job inlining g)
+module _ (job : Pipeline) (given : KnownTiles) (g : ℕ) (domain : Area) (lent : IsLentStage job given g)
     (there : option_map (λ (s : Stage). s.domain) (slice_get job.stages g) ≡ Some domain) where
-  own_domain : stored.0.domain ≡ domain
-  own_domain = same_Some stored.0.domain domain (sym (ap (option_map (λ (s : Stage). s.domain)) stored.1.there) ∙ there)
+  own_domain : lent.0.domain ≡ domain
+  own_domain = same_Some lent.0.domain domain (sym (ap (option_map (λ (s : Stage). s.domain)) lent.1.there) ∙ there)
 
   -- the points of a row of the domain
-  pub row_stored : (given : KnownTiles) → GivesAllTiles job inlining given → (row first : ℤ) (place count : ℕ) → place < len_of domain.rows
-      → row ≡ domain.rows.lo +ℤ pos place → first ≡ domain.cols.lo → count ≡ len_of domain.cols → IsStoredLine job given g row first count
-  row_stored given all row first place count within at_row at_first long = record {
-    stage = stored.0;
-    there = stored.1.there;
-    tiles = all g stored.0 stored.1;
+  pub row_lent : (row first : ℤ) (place count : ℕ) → place < len_of domain.rows
+      → row ≡ domain.rows.lo +ℤ pos place → first ≡ domain.cols.lo → count ≡ len_of domain.cols → IsGivenLine job given g row first count
+  row_lent row first place count within at_row at_first long = record {
+    stage = lent.0;
+    tiles = lent.1;
     within = λ k l.
         subst (λ (a : Area). HoldsPoint a row (first +ℤ pos k)) (sym own_domain) (
           subst (λ (z : ℤ). Holds domain.rows z) (sym at_row) (nth_held domain.rows place within),
@@ -92,12 +31,12 @@ module _ (job : Pipeline) (inlining : List Bool) (g : ℕ) (domain : Area) (stor
         );
   }
 
-  -- what is cut of its values is its plane
-  pub plane_is : (max : ℕ) → map (sample_at job max g) (points_of domain) ≡ samples job max g
-  plane_is max =
-      ap (λ (a : Area). map (sample_at job max g) (points_of a)) (sym own_domain) ∙ sym (samples_are job max g stored.0 stored.1.there)
+  -- what is cut of its numbers is its plane
+  pub plane_is : (env : Valuation) (max : ℕ) → map (sample_at env max g) (points_of domain) ≡ samples_from job env max g
+  plane_is env max =
+      ap (λ (a : Area). map (sample_at env max g) (points_of a)) (sym own_domain) ∙ sym (samples_are job env max g lent.0 lent.1.there)
 
-pub no_plane : (job : Pipeline) (inlining : List Bool) (max g : ℕ) → IsStoredStage job inlining g
-    → option_map (λ (s : Stage). s.domain) (slice_get job.stages g) ≡ None → [] ≡ samples job max g
-no_plane job inlining max g stored none =
-    absurd (none-some stored.0.domain (sym none ∙ ap (option_map (λ (s : Stage). s.domain)) stored.1.there))
+pub no_plane : (job : Pipeline) (given : KnownTiles) (env : Valuation) (max g : ℕ) → IsLentStage job given g
+    → option_map (λ (s : Stage). s.domain) (slice_get job.stages g) ≡ None → [] ≡ samples_from job env max g
+no_plane job given env max g lent none =
+    absurd (none-some lent.0.domain (sym none ∙ ap (option_map (λ (s : Stage). s.domain)) lent.1.there))

@@ -2,4 +2,5 @@ pub mod Bins
 pub mod Partials
 pub mod Answers
 pub mod Gatherings
+pub mod Pictures
 pub mod inside

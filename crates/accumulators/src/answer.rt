@@ -12,6 +12,7 @@ ghost use Rattle.tile_run.specs.Work.{first_too_big, is_accumulator_at, IsRunFau
 ghost use Rattle.accumulators.specs.Answers.{IsAnswer};
 
 use crate::computed::Computed;
+use crate::picture::image_of;
 use grouping::Schedule;
 use job::Job;
 use netpbm::Picture;
@@ -62,7 +63,7 @@ pub fn answer_of(
         schedule,
         stored,
     };
-    let picture = computed.image(alloc)?;
+    let picture = image_of(alloc, job, stored)?;
     let totals = computed.totals(alloc)?;
     Ok(Answer { picture, totals })
 }

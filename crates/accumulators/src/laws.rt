@@ -4,7 +4,7 @@ ghost use Rattle.std.specs.Prelude.{◌≡◌, ℕ, ℤ, Bool, Option, Some, Lis
 ghost use Rattle.domains.specs.Area.{HoldsPoint, IsArea};
 ghost use Rattle.domains.specs.Tiles.{tile_area, tiles_of};
 ghost use Rattle.domains.specs.declared.area.Area.{Area};
-ghost use Rattle.job.specs.Answers.{grid_of};
+ghost use Rattle.job.specs.Answers.{grid_of, image};
 ghost use Rattle.job.specs.Pipeline.{Stage, Pipeline};
 ghost use Rattle.job.specs.Reads.{BodyReads};
 ghost use Rattle.job.specs.Totals.{totals, totals_over};
@@ -14,11 +14,17 @@ ghost use Rattle.tile_run.specs.Local.{IsAtHand, IsClosed};
 ghost use Rattle.tile_eval.specs.Cases.{InBox};
 ghost use Rattle.accumulators.specs.Answers.{gathered_at};
 ghost use Rattle.accumulators.specs.Gatherings.{gathered_from};
+ghost use Rattle.accumulators.specs.Pictures.{given_image, GivesOutputs};
 ghost use Rattle.accumulators.specs.Partials.{local_totals, joined_over};
 
 /// The totals over the tiles of an accumulator, joined in any order, are its totals.
 pub fn partials_join()
     ensures { (job : Pipeline) (g : ℕ) (s : Stage) (tiles : List (ℕ × ℕ)) → IsJob job → slice_get job.stages g ≡ Some s → IsPermutation (tiles_of (grid_of job s)) tiles → joined_over job g (grid_of job s) tiles ≡ totals job g }
+{}
+
+/// Where what is given is true, the picture that it gives is the job's.
+pub fn true_tiles_give_the_image()
+    ensures { (job : Pipeline) (given : KnownTiles) → IsJob job → AreTrue job given → GivesOutputs job given → given_image job given ≡ image job }
 {}
 
 /// The totals over the tiles of an accumulator, come in each once and in any order, are what it gathers.

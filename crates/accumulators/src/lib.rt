@@ -18,5 +18,6 @@ mod whole_totals;
 pub use answer::{Answer, Total, answer_of};
 pub use join::join_into;
 pub use partials::partial;
+pub use picture::image_of;
 pub use running::Gathering;
 pub use whole_totals::{partial_of, true_partial, whole};

@@ -1,32 +1,57 @@
 #![tactic(auto)]
 //! The picture of a job, row by row from tiles.
 
-ghost use Rattle.std.specs.Prelude.{◌≡◌, ◌<◌, ◌≤◌, ◌++◌, ◌+ℤ◌, pos, Some, map, length, slice_get, All, IfOk, OnOk};
+ghost use Rattle.std.specs.Prelude.{◌≡◌, ◌≤◌, ◌++◌, Some, map, length, slice_get, All, IfOk, OnOk};
 ghost use Rattle.std.specs.Option.{ForSome, option_map};
 ghost use Rattle.domains.specs.Area.{points_of};
-ghost use Rattle.domains.specs.Span.{len_of, numbers_from};
+ghost use Rattle.domains.specs.Span.{numbers_from};
 ghost use Rattle.netpbm.specs.Image.{IsImage};
 ghost use Rattle.netpbm.specs.Planes.{samples_of};
-ghost use Rattle.job.specs.Answers.{height_of, image, picture_of, sample_of, samples, width_of};
+ghost use Rattle.job.specs.Answers.{height_of, sample_of, width_of};
 ghost use Rattle.job.specs.Kept.{pipeline_in};
-ghost use Rattle.job.specs.Values.{value};
 ghost use Rattle.job.specs.Views.{output_view};
 ghost use Rattle.job.specs.WellFormed.{IsOutput};
-ghost use Rattle.tile_run.specs.Stored.{stored_tiles, IsStoredLine};
-ghost use Rattle.accumulators.specs.inside.Making.{IsComputed, IsStoredStage};
+ghost use Rattle.tile_run.specs.KnownTiles.{given_at, IsGivenLine};
+ghost use Rattle.accumulators.specs.Pictures.{given_image, picture_from, samples_from, IsLentStage, GivesOutputs};
 
-use crate::computed::Computed;
+use domains::Area;
 use domains::arithmetic::clamp;
-use domains::{Area, Span};
 use job::{Job, Output};
 use netpbm::Picture;
 use std::alloc::{AllocError, Global};
+use tile_eval::number_at;
+use tile_run::{Known, read_given_row};
 
-impl Computed<'_> {
-    /// The picture of a job that has an output.
-    pub(crate) fn image(&self, alloc: Global) -> Result<Option<Picture>, AllocError>
-        requires { IsComputed self.now }
-        ensures answer { IfOk result (λ picture. picture ≡ image (pipeline_in self.now.job.now)) }
+// A job with whatever lends the tiles of its functions.
+#[derive(Drop)]
+struct Lent<'a, K: Known> {
+    job: &'a Job,
+    known: &'a K,
+}
+
+/// The picture of a job that has an output, from the numbers that are lent of its functions, whatever these are: each is cut to 0 and
+/// the greatest sample. Where they are true, it is the job's image.
+///
+/// # Errors
+///
+/// Fails only where memory is refused.
+pub fn image_of<K: Known>(
+    alloc: Global,
+    job: &Job,
+    known: &K,
+) -> Result<Option<Picture>, AllocError>
+    requires { GivesOutputs (pipeline_in job.now) (K.given known.now) }
+    ensures answer { IfOk result (λ picture. picture ≡ given_image (pipeline_in job.now) (K.given known.now)) }
+    ensures image { IfOk result (λ picture. ForSome picture IsImage) }
+{
+    Lent { job, known }.image(alloc)
+}
+
+impl<K: Known> Lent<'_, K> {
+    // The picture of a job that has an output.
+    fn image(&self, alloc: Global) -> Result<Option<Picture>, AllocError>
+        requires { GivesOutputs (pipeline_in self.now.job.now) (K.given self.now.known.now) }
+        ensures answer { IfOk result (λ picture. picture ≡ given_image (pipeline_in self.now.job.now) (K.given self.now.known.now)) }
         ensures image { IfOk result (λ picture. ForSome picture IsImage) }
     {
         match self.job.output() {
@@ -35,12 +60,11 @@ impl Computed<'_> {
         }
     }
 
-    /// The output's functions as planes.
-    pub(crate) fn picture(&self, alloc: Global, output: &Output) -> Result<Picture, AllocError>
-        requires computed { IsComputed self.now }
+    // The output's functions as planes.
+    fn picture(&self, alloc: Global, output: &Output) -> Result<Picture, AllocError>
         requires output { IsOutput (pipeline_in self.now.job.now) (output_view output.now) }
-        requires stored { All (IsStoredStage (pipeline_in self.now.job.now) self.now.schedule.now.inlining) (output_view output.now).stages }
-        ensures answer { IfOk result (λ picture. picture ≡ picture_of (pipeline_in self.now.job.now) (output_view output.now)) }
+        requires stored { All (IsLentStage (pipeline_in self.now.job.now) (K.given self.now.known.now)) (output_view output.now).stages }
+        ensures answer { IfOk result (λ picture. picture ≡ picture_from (pipeline_in self.now.job.now) (given_at (pipeline_in self.now.job.now) (K.given self.now.known.now)) (output_view output.now)) }
         ensures image { IfOk result IsImage }
     {
         let max = output.max() as u16;
@@ -56,9 +80,8 @@ impl Computed<'_> {
 
     // The planes of functions.
     fn planes(&self, alloc: Global, stages: &[usize], max: u16) -> Result<Vec<Vec<u16>>, AllocError>
-        requires computed { IsComputed self.now }
-        requires stored { All (IsStoredStage (pipeline_in self.now.job.now) self.now.schedule.now.inlining) stages.now }
-        ensures { IfOk result (λ planes. samples_of planes.items ≡ map (samples (pipeline_in self.now.job.now) max) stages.now) }
+        requires stored { All (IsLentStage (pipeline_in self.now.job.now) (K.given self.now.known.now)) stages.now }
+        ensures { IfOk result (λ planes. samples_of planes.items ≡ map (samples_from (pipeline_in self.now.job.now) (given_at (pipeline_in self.now.job.now) (K.given self.now.known.now)) max) stages.now) }
     {
         let mut planes = Vec::with_capacity(alloc, stages.len())?;
         for stage in stages {
@@ -69,9 +92,8 @@ impl Computed<'_> {
 
     // The values of a function, row by row, cut to 0 and the greatest sample.
     fn plane(&self, alloc: Global, stage: usize, max: u16) -> Result<Vec<u16>, AllocError>
-        requires computed { IsComputed self.now }
-        requires stored { IsStoredStage (pipeline_in self.now.job.now) self.now.schedule.now.inlining stage }
-        ensures { IfOk result (λ plane. plane.items ≡ samples (pipeline_in self.now.job.now) max stage) }
+        requires stored { IsLentStage (pipeline_in self.now.job.now) (K.given self.now.known.now) stage }
+        ensures { IfOk result (λ plane. plane.items ≡ samples_from (pipeline_in self.now.job.now) (given_at (pipeline_in self.now.job.now) (K.given self.now.known.now)) max stage) }
     {
         match self.job.domain(stage) {
             Some(domain) => self.plane_over(alloc, stage, &domain, max),
@@ -87,10 +109,9 @@ impl Computed<'_> {
         domain: &Area,
         max: u16,
     ) -> Result<Vec<u16>, AllocError>
-        requires computed { IsComputed self.now }
-        requires stored { IsStoredStage (pipeline_in self.now.job.now) self.now.schedule.now.inlining stage }
+        requires stored { IsLentStage (pipeline_in self.now.job.now) (K.given self.now.known.now) stage }
         requires domain { option_map (λ s. s.domain) (slice_get (pipeline_in self.now.job.now).stages stage) ≡ Some domain.now }
-        ensures { IfOk result (λ plane. plane.items ≡ map (λ p. sample_of max (value (pipeline_in self.now.job.now) stage p.0 p.1)) (points_of domain.now)) }
+        ensures { IfOk result (λ plane. plane.items ≡ map (λ p. sample_of max (given_at (pipeline_in self.now.job.now) (K.given self.now.known.now) stage p.0 p.1)) (points_of domain.now)) }
     {
         let mut plane = Vec::with_capacity(alloc, domain.points() as usize)?;
         let mut room = vec![in alloc; 0; domain.cols.len() as usize]?;
@@ -113,21 +134,12 @@ impl Computed<'_> {
         first: i32,
         max: u16,
     ) -> Result<(), AllocError>
-        requires stored { IsStoredLine (pipeline_in self.now.job.now) (stored_tiles self.now.stored.now.stages.items) stage row first (length line.old) }
-        ensures { OnOk result (plane.new.items ≡ plane.old.items ++ map (λ c. sample_of max (value (pipeline_in self.now.job.now) stage row c)) (numbers_from first (length line.old))) }
+        requires stored { IsGivenLine (pipeline_in self.now.job.now) (K.given self.now.known.now) stage row first (length line.old) }
+        ensures { OnOk result (plane.new.items ≡ plane.old.items ++ map (λ c. sample_of max (given_at (pipeline_in self.now.job.now) (K.given self.now.known.now) stage row c)) (numbers_from first (length line.old))) }
     {
-        self.stored.read_row(self.job, stage, row, first, line);
+        read_given_row(self.known, self.job, stage, row, first, line);
         push_cut(plane, line, max)
     }
-}
-
-// The number at this place of a span, counted from 0.
-#[tactic(auto, using(std::proofs::lemmas::Int::ints))]
-fn number_at(span: &Span, place: u32) -> i32
-    requires { place < len_of span.now }
-    ensures { result ≡ span.now.lo +ℤ pos place }
-{
-    span.lo() + place as i32
 }
 
 // Adds values, cut to 0 and the greatest sample.

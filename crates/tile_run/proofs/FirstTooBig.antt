@@ -1,6 +1,6 @@
 -- Which tiles have room in scratch memory.
 use Rattle.std.proofs.Common.{arith, ℕ, ◌≤◌, ◌<◌, ◌≡◌, inl, inr, refl, ap, sym, ◌∙◌, subst, Bool, true, false, not, List, [], map, Option, Some, None, slice_get, filter}
-use Rattle.std.specs.Prelude.{All, Contains, find, nat_le, nat_lt, if◌then◌else◌}
+use Rattle.std.specs.Prelude.{Contains, find, nat_le, nat_lt, if◌then◌else◌}
 use Rattle.std.specs.Option.{option_map, option_map_or}
 use Rattle.std.proofs.lemmas.Bool.{and_from, and_parts, not-true, false≢true, cases_lt, lt-ltb, le-ltb, lt-leb, le-leb, leb-true}
 use Rattle.std.proofs.lemmas.List.Elements.{All-contains}

@@ -12,5 +12,5 @@ pub mod TrueTilesGiveValues
 pub mod StageRunGivesTiles
 pub mod FirstFound
 pub mod FirstTooBig
-pub mod StoredReadRow
+pub mod GivenLines
 pub mod TestsOfRanks

@@ -1,5 +1,5 @@
 -- What is given: numbers of tiles of stages that were computed before.
-use Rattle.std.specs.Prelude.{ℕ, ℤ, pos, ◌≡◌, Option, Some, List, length, slice_get}
+use Rattle.std.specs.Prelude.{ℕ, ℤ, pos, ◌+ℤ◌, ◌≡◌, Option, Some, List, length, slice_get}
 use Rattle.std.specs.Option.{option_map_or}
 use Rattle.domains.specs.Area.{point_count, HoldsPoint}
 use Rattle.domains.specs.Tiles.{HasTile, tile_area, tile_at}
@@ -8,7 +8,7 @@ use Rattle.domains.specs.declared.grid.Grid.{Grid}
 use Rattle.job.specs.Pipeline.{Stage, Pipeline}
 use Rattle.job.specs.Answers.{grid_of}
 use Rattle.job.specs.Values.{value}
-use Rattle.tile_eval.specs.Rows.{at}
+use Rattle.tile_eval.specs.Rows.{EachPlace, at}
 use Rattle.tile_eval.specs.Buffer.{place_of, raster}
 
 -- of a stage, and of the row and the column of a tile in its grid, the numbers of the tile, if they are given
@@ -50,3 +50,21 @@ HasTrueTiles job given g grid =
 
 abbrev pub AreTrue : Pipeline → KnownTiles → Type 0
 AreTrue job given = (g : ℕ) (s : Stage) → slice_get job.stages g ≡ Some s → HasTrueTiles job given g (grid_of job s)
+
+-- ---- whole stages
+
+-- the number that is given of stage g at a point
+abbrev pub given_at : Pipeline → KnownTiles → ℕ → ℤ → ℤ → ℤ
+given_at job given g r c = option_map_or (λ s. given_number job given g s r c) (slice_get job.stages g) (pos 0)
+
+-- each tile of stage g is given, with as many numbers as points
+pub record IsGivenStage (job : Pipeline) (given : KnownTiles) (g : ℕ) (s : Stage) : Type 0 where
+  pub there : slice_get job.stages g ≡ Some s
+  pub all : (i j : ℕ) → HasTile (grid_of job s) i j → (xs : List ℤ) × (given g i j ≡ Some xs)
+  pub whole : HasWholeTiles given g (grid_of job s)
+
+-- and so many points of a row, from this column on, lie in its domain
+pub record IsGivenLine (job : Pipeline) (given : KnownTiles) (g : ℕ) (row first : ℤ) (count : ℕ) : Type 0 where
+  pub stage : Stage
+  pub tiles : IsGivenStage job given g stage
+  pub within : EachPlace count (λ k. HoldsPoint stage.domain row (first +ℤ pos k))

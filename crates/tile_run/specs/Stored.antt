@@ -1,13 +1,11 @@
 -- Tiles in memory, and what a run makes of a job.
-use Rattle.std.specs.Prelude.{ℕ, ℤ, pos, ◌+ℤ◌, ◌≡◌, Bool, true, false, Option, Some, None, List, slice_get}
+use Rattle.std.specs.Prelude.{ℕ, ℤ, ◌≡◌, Bool, true, false, Option, Some, None, List, slice_get}
 use Rattle.std.specs.Option.{option_map}
-use Rattle.domains.specs.Area.{HoldsPoint}
 use Rattle.domains.specs.Tiles.{HasTile, tile_area}
 use Rattle.job.specs.Pipeline.{Stage, Pipeline}
 use Rattle.job.specs.Answers.{grid_of}
 use Rattle.job.specs.Values.{value}
 use Rattle.grouping.specs.Schedules.{is_inlined, is_function_body}
-use Rattle.tile_eval.specs.Rows.{EachPlace}
 use Rattle.tile_eval.specs.Buffer.{raster}
 use Rattle.tile_run.specs.KnownTiles.{KnownTiles}
 use Rattle.tile_run.specs.declared.stored.TileRow.{TileRow}
@@ -44,12 +42,3 @@ GivesTilesOf job given g s =
 -- each tile of each stored function is
 abbrev pub GivesAllTiles : Pipeline → List Bool → KnownTiles → Type 0
 GivesAllTiles job inlining given = (g : ℕ) (s : Stage) → IsStoredFunction job inlining g s → GivesTilesOf job given g s
-
--- ---- rows
-
--- the tiles of stage g are given with their values, and so many points of a row, from this column on, lie in its domain
-pub record IsStoredLine (job : Pipeline) (given : KnownTiles) (g : ℕ) (row first : ℤ) (count : ℕ) : Type 0 where
-  pub stage : Stage
-  pub there : slice_get job.stages g ≡ Some stage
-  pub tiles : GivesTilesOf job given g stage
-  pub within : EachPlace count (λ k. HoldsPoint stage.domain row (first +ℤ pos k))

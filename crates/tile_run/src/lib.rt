@@ -3,6 +3,7 @@
 
 mod buffers;
 mod fault;
+mod given_rows;
 mod known;
 pub mod laws;
 mod prepare;
@@ -12,13 +13,13 @@ mod run;
 mod samples;
 mod steps;
 mod stored;
-mod stored_rows;
 mod tile_inputs;
 mod tile_job;
 mod tiles_of_stage;
 
 pub use buffers::Scratch;
 pub use fault::{EvalFault, RunFault};
+pub use given_rows::read_given_row;
 pub use known::Known;
 pub use ranks::run_all;
 pub use room::{Work, first_too_big};

@@ -1,5 +1,5 @@
 -- On the way to the answer of a job.
-use Rattle.std.specs.Prelude.{ℕ, ℤ, ◌≡◌, Bool, Some, None, List, slice_get}
+use Rattle.std.specs.Prelude.{ℕ, ℤ, ◌≡◌, Some, None, List, slice_get}
 use Rattle.domains.specs.Span.{Ends}
 use Rattle.domains.specs.Tiles.{tile_area}
 use Rattle.domains.specs.declared.grid.Grid.{Grid}
@@ -11,7 +11,7 @@ use Rattle.job.specs.Kept.{pipeline_in}
 use Rattle.job.specs.Pipeline.{accumulator, Stage, Pipeline}
 use Rattle.job.specs.Totals.{totals_over}
 use Rattle.tile_run.specs.KnownTiles.{AreTrue}
-use Rattle.tile_run.specs.Stored.{stored_tiles, IsStoredFunction, GivesAllTiles}
+use Rattle.tile_run.specs.Stored.{stored_tiles, GivesAllTiles}
 use Rattle.tile_run.specs.Work.{first_too_big, is_accumulator_at}
 use Rattle.accumulators.specs.declared.computed.Computed.{Computed}
 use Rattle.accumulators.specs.declared.totals.Accumulation.{Accumulation}
@@ -22,10 +22,6 @@ pub record IsComputed (c : Computed) : Type 0 where
   pub scheduled : IsScheduleOf (pipeline_in c.job.now) c.schedule.now
   pub all : GivesAllTiles (pipeline_in c.job.now) c.schedule.now.inlining (stored_tiles c.stored.now.stages.items)
   pub values : AreTrue (pipeline_in c.job.now) (stored_tiles c.stored.now.stages.items)
-
--- stage g is a function whose tiles are stored
-abbrev pub IsStoredStage : Pipeline → List Bool → ℕ → Type 0
-IsStoredStage job inlining g = (s : Stage) × IsStoredFunction job inlining g s
 
 -- ---- totals
 

@@ -3,20 +3,21 @@ use Rattle.std.proofs.lemmas.Int.{to_z-of_z}
 use Rattle.domains.specs.Area.{points_of}
 use Rattle.domains.specs.Span.{len_of, numbers_from, numbers_of}
 use Rattle.job.specs.Kept.{pipeline_in}
-use Rattle.tile_run.specs.Stored.{stored_tiles}
+use Rattle.tile_run.specs.KnownTiles.{given_at}
 use Rattle.accumulators.proofs.PictureOfAnswer.{sample_at}
-use Rattle.accumulators.proofs.PlanesRowByRow.{rest_of, none_made, row_made, all_made, row_stored}
-use Rattle.accumulators.proofs.computed.Computed.plane_over.Goals as goal
+use Rattle.tile_eval.proofs.RowByRow.{rest_of, none_made, row_made, all_made}
+use Rattle.accumulators.proofs.PlanesRowByRow.{row_lent}
+use Rattle.accumulators.proofs.picture.Lent.plane_over.Goals as goal
 
 pub loop-place-init : goal.loop-place-init
-loop-place-init c =
-    let h : ℤ × ℤ → ℕ = sample_at (pipeline_in c.args.self.now.job.now) c.args.max c.args.stage in
+loop-place-init g c =
+    let h : ℤ × ℤ → ℕ = sample_at (given_at (pipeline_in c.args.self.now.job.now) (g.K.Known.given c.args.self.now.known.now)) c.args.max c.args.stage in
     ap (λ (xs : List ℕ). xs ++ rest_of h (c.args.domain.now.rows.lo +ℤ pos 0) (len_of c.args.domain.now.rows - 0)
     (numbers_of c.args.domain.now.cols)) c.in_ok-plane.ensures.items
     ∙ none_made h c.args.domain.now
 
 pub push_row-requires : goal.push_row-requires
-push_row-requires c =
+push_row-requires g c =
     let area = c.args.domain.now in
     let row_fits : FitsSigned w32 c.number_at-row.result = search rules in
     let first_fits : FitsSigned w32 c.lo-first.result = search rules in
@@ -29,8 +30,8 @@ push_row-requires c =
       c.len.ensures.number,
     ) in
     record {
-      stored = row_stored (pipeline_in c.args.self.now.job.now) c.args.self.now.schedule.now.inlining c.args.stage area c.requires.stored
-          c.requires.domain (stored_tiles c.args.self.now.stored.now.stages.items) c.requires.computed.all
+      stored = row_lent (pipeline_in c.args.self.now.job.now) (g.K.Known.given c.args.self.now.known.now) c.args.stage area c.requires.stored
+          c.requires.domain
           (to_z w32 (of_z w32 c.number_at-row.result)) (to_z w32 (of_z w32 c.lo-first.result)) c.loop-place.place (length c.loop-place.line)
           within
           (to_z-of_z w32 c.number_at-row.result row_fits ∙ c.number_at-row.ensures) (to_z-of_z w32 c.lo-first.result first_fits
@@ -38,8 +39,8 @@ push_row-requires c =
     }
 
 pub loop-place-preserved : goal.loop-place-preserved
-loop-place-preserved c =
-    let h : ℤ × ℤ → ℕ = sample_at (pipeline_in c.args.self.now.job.now) c.args.max c.args.stage in
+loop-place-preserved g c =
+    let h : ℤ × ℤ → ℕ = sample_at (given_at (pipeline_in c.args.self.now.job.now) (g.K.Known.given c.args.self.now.known.now)) c.args.max c.args.stage in
     let area = c.args.domain.now in
     let within : c.loop-place.place < len_of area.rows = omega arith in
     let row_fits : FitsSigned w32 c.number_at-row.result = search rules in
@@ -60,4 +61,4 @@ loop-place-preserved c =
     (c.in_ok-push_row.ensures ∙ (λ i. c.loop-place.plane.items ++ map (λ (z : ℤ). h (row i, z)) (numbers_from (first i) (long i))))
 
 pub returns : goal.returns
-returns c = all_made _ c.args.domain.now c.loop-place.place c.loop-place.plane.items (omega arith) c.loop-place.invariant
+returns g c = all_made _ c.args.domain.now c.loop-place.place c.loop-place.plane.items (omega arith) c.loop-place.invariant

@@ -1,0 +1,26 @@
+use Rattle.std.proofs.Common.{◌∙◌}
+use Rattle.job.specs.Kept.{pipeline_in}
+use Rattle.tile_run.specs.Stored.{stored_tiles}
+use Rattle.accumulators.proofs.PictureOfAnswer.{outputs_lent}
+use Rattle.accumulators.proofs.TileTotals.{whole}
+use Rattle.accumulators.proofs.TrueImage.{image_true}
+use Rattle.accumulators.proofs.answer.answer_of.Goals as goal
+
+pub image_of-requires : goal.image_of-requires
+image_of-requires c =
+    let job = pipeline_in c.args.job.now in
+    let given = stored_tiles c.args.stored.now.stages.items in
+    outputs_lent job c.args.schedule.now.inlining given c.args.job.now.well c.requires.schedule.inlining c.requires.all
+    (whole job given c.requires.values)
+
+pub returns-clause-answer : goal.returns-clause-answer
+returns-clause-answer c =
+    let job = pipeline_in c.args.job.now in
+    let given = stored_tiles c.args.stored.now.stages.items in
+    record {
+      picture = c.in_ok-picture.ensures.answer
+          ∙ image_true job given c.args.job.now.well c.requires.values
+          (outputs_lent job c.args.schedule.now.inlining given c.args.job.now.well c.requires.schedule.inlining c.requires.all
+          (whole job given c.requires.values));
+      totals = c.in_ok-totals.ensures;
+    }

@@ -1,0 +1,5 @@
+use Rattle.accumulators.proofs.TrueImage.{image_true}
+use Rattle.accumulators.proofs.laws.true_tiles_give_the_image.Goals as goal
+
+pub returns : goal.returns
+returns c = image_true
