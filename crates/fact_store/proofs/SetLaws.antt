@@ -159,6 +159,21 @@ with_fact_has s f g h =
       | inr e ↦ or_comm (eq_by_cmp fact_cmp g f) (holds s g) ∙ or_left (holds s g) (eq_by_cmp fact_cmp g f) e
     ]
 
+pub with_swapped : (s : FactSet) (f g : Fact) → with_fact (with_fact s f) g ≡ with_fact (with_fact s g) f
+with_swapped s f g =
+    same_set _ _ (λ h. holds-with_fact (with_fact s f) g h ∙ ap (λ b. eq_by_cmp fact_cmp h g || b) (holds-with_fact s f h)
+    ∙ or_swap (eq_by_cmp fact_cmp h g) (eq_by_cmp fact_cmp h f) (holds s h)
+    ∙ sym (holds-with_fact (with_fact s g) f h ∙ ap (λ b. eq_by_cmp fact_cmp h f || b) (holds-with_fact s g h)))
+
+pub with_twice : (s : FactSet) (f : Fact) → with_fact (with_fact s f) f ≡ with_fact s f
+with_twice s f = with_held (with_fact s f) f (with_fact_has s f f (inl refl))
+
+pub join_one_more : (s t : FactSet) (f : Fact) → join s (with_fact t f) ≡ with_fact (join s t) f
+join_one_more s t f =
+    same_set _ _ (λ h. holds-join s (with_fact t f) h ∙ ap (λ b. holds s h || b) (holds-with_fact t f h)
+    ∙ or_swap (holds s h) (eq_by_cmp fact_cmp h f) (holds t h)
+    ∙ sym (holds-with_fact (join s t) f h ∙ ap (λ b. eq_by_cmp fact_cmp h f || b) (holds-join s t h)))
+
 -- ---- the facts of a set rise
 pub split : (a b : Bool) → (a && b) ≡ true → (a ≡ true) × (b ≡ true)
 split true b h = (refl, h)

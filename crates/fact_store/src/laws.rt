@@ -34,3 +34,10 @@ pub fn join_is_least_upper_bound()
     ensures second { (s t : FactSet) → IsSubset t (join s t) }
     ensures least { (s t u : FactSet) → IsSubset s u → IsSubset t u → IsSubset (join s t) u }
 {}
+
+/// Facts may come in any order, more than once, and through joins: the set is the same.
+pub fn order_is_forgotten()
+    ensures swapped { (s : FactSet) (f g : Fact) → with_fact (with_fact s f) g ≡ with_fact (with_fact s g) f }
+    ensures twice { (s : FactSet) (f : Fact) → with_fact (with_fact s f) f ≡ with_fact s f }
+    ensures through { (s t : FactSet) (f : Fact) → join s (with_fact t f) ≡ with_fact (join s t) f }
+{}
