@@ -12,7 +12,7 @@ ghost use Rattle.tile_fact.specs.Reading.{is_above, magic_read, head_read, body_
 use crate::fact::Fact;
 use crate::fault::FactFault;
 use crate::record::{Record, read_count, read_record};
-use std::alloc::Global;
+use std::alloc::{AllocError, Global};
 use std::cmp::Ordering;
 use std::marker::Model;
 
@@ -165,7 +165,8 @@ fn facts_of(alloc: Global, total: usize, count: u32, bytes: &[u8]) -> Result<Vec
             Err(fault) => return Err(fault),
         };
         let record = Record { label, numbers };
-        facts.push(record.to_fact(alloc)?)?;
+        let fact = record.to_fact(alloc)?;
+        facts.push(fact).map_err(AllocError::from)?;
         rest = behind;
     }
     Ok(facts)
