@@ -121,11 +121,10 @@ fn check_records(total: usize, count: u32, bytes: &[u8]) -> Result<(), FactFault
     let mut rest = bytes;
     for _ in 0..count {
         // A `?` on a key beside a reference gets no proof.
-        let (label, numbers, behind) = match read_record(total, rest) {
+        let (record, behind) = match read_record(total, rest) {
             Ok(read) => read,
             Err(fault) => return Err(fault),
         };
-        let record = Record { label, numbers };
         if !is_above(&last, &record) {
             return Err(FactFault::NotRising(total - rest.len()));
         }
@@ -160,11 +159,10 @@ fn facts_of(alloc: Global, total: usize, count: u32, bytes: &[u8]) -> Result<Vec
     let mut rest = bytes;
     for _ in 0..count {
         // A `?` on a key beside a reference gets no proof.
-        let (label, numbers, behind) = match read_record(total, rest) {
+        let (record, behind) = match read_record(total, rest) {
             Ok(read) => read,
             Err(fault) => return Err(fault),
         };
-        let record = Record { label, numbers };
         let fact = record.to_fact(alloc)?;
         facts.push(fact).map_err(AllocError::from)?;
         rest = behind;

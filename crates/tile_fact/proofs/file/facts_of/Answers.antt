@@ -12,7 +12,7 @@ returns-in-Err-clause-memory c =
 
 pub loop-preserved : goal.loop-preserved
 loop-preserved c =
-    let fact = fact_of c.in-Ok.read.0.key c.in-Ok.read.0.kind c.in-Ok.read.1.now in
+    let fact = fact_of c.in-Ok.read.0.label.key c.in-Ok.read.0.label.kind c.in-Ok.read.0.numbers.now in
     let read = body_has_records c.args.total c.args.count c.args.bytes.now c.requires.faultless in
     let above = must_rise c.loop.facts.items c.args.count c.loop.counter _ c.loop.invariant.1.0 _ fact _ _ c.loop-test.true c.in-Ok.ensures.read c.loop.invariant.1.1 read in
     let facts = c.loop.facts.items in
@@ -21,7 +21,7 @@ loop-preserved c =
       c.in-Ok.ensures.behind,
       (
         Some fact,
-        ap (λ (l : List Fact). with_front l (records_read (c.args.count - (c.loop.counter + 1)) c.args.total (Some fact) c.in-Ok.read.2.now)) pushed
+        ap (λ (l : List Fact). with_front l (records_read (c.args.count - (c.loop.counter + 1)) c.args.total (Some fact) c.in-Ok.read.1.now)) pushed
             ∙ goes_on c.loop.facts.items c.args.count c.loop.counter _ c.loop.invariant.1.0 _ fact _ _ c.loop-test.true c.in-Ok.ensures.read above c.loop.invariant.1.1,
       ),
     )
