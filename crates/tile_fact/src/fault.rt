@@ -3,7 +3,7 @@
 ghost use Rattle.std.specs.Prelude.{◌≡◌};
 ghost use Rattle.tile_fact.specs.declared.fault.FactFault.TheVariants.{Memory};
 
-use std::alloc::{AllocError, AllocFailed};
+use std::alloc::AllocError;
 use thiserror::Error;
 
 /// The first fault of the bytes from the left, with its offset from the first byte.
@@ -36,14 +36,6 @@ impl From<AllocError> for FactFault {
     ghost from_gives = { λ _ e. e ≡ Memory };
 
     fn from(_e: AllocError) -> FactFault {
-        FactFault::Memory
-    }
-}
-
-impl<T: Drop> From<AllocFailed<T>> for FactFault {
-    ghost from_gives = { λ _ e. e ≡ Memory };
-
-    fn from(_e: AllocFailed<T>) -> FactFault {
         FactFault::Memory
     }
 }

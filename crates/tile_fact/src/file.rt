@@ -12,7 +12,7 @@ ghost use Rattle.tile_fact.specs.Reading.{is_above, magic_read, head_read, body_
 use crate::fact::Fact;
 use crate::fault::FactFault;
 use crate::record::{Record, read_count, read_record};
-use std::alloc::Global;
+use std::alloc::{AllocError, Global};
 use std::cmp::Ordering;
 use std::marker::Model;
 
@@ -121,11 +121,10 @@ fn check_records(total: usize, count: u32, bytes: &[u8]) -> Result<(), FactFault
     let mut rest = bytes;
     for _ in 0..count {
         // A `?` on a key beside a reference gets no proof.
-        let (label, numbers, behind) = match read_record(total, rest) {
+        let (record, behind) = match read_record(total, rest) {
             Ok(read) => read,
             Err(fault) => return Err(fault),
         };
-        let record = Record { label, numbers };
         if !is_above(&last, &record) {
             return Err(FactFault::NotRising(total - rest.len()));
         }
@@ -160,12 +159,12 @@ fn facts_of(alloc: Global, total: usize, count: u32, bytes: &[u8]) -> Result<Vec
     let mut rest = bytes;
     for _ in 0..count {
         // A `?` on a key beside a reference gets no proof.
-        let (label, numbers, behind) = match read_record(total, rest) {
+        let (record, behind) = match read_record(total, rest) {
             Ok(read) => read,
             Err(fault) => return Err(fault),
         };
-        let record = Record { label, numbers };
-        facts.push(record.to_fact(alloc)?)?;
+        let fact = record.to_fact(alloc)?;
+        facts.push(fact).map_err(AllocError::from)?;
         rest = behind;
     }
     Ok(facts)

@@ -16,7 +16,7 @@ pub use body::Body;
 pub use fact::{Fact, MOST_BINS, MOST_SAMPLES};
 pub use fault::FactFault;
 pub use file::{FactFile, Facts, decode};
-pub use numbers::{Bins, Samples};
+pub use numbers::{Bins, Numbers, Samples};
 pub use writing::encode;
 
 #[cfg(test)]

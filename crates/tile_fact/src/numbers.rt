@@ -1,42 +1,50 @@
 //! The numbers of a fact, which its copies share.
 
-ghost use Rattle.std.specs.Cmp.{int_cmp_total, int_eq_equiv, partial_equiv_from_equiv, partial_order_from_agreeing_total};
-ghost use Rattle.std.specs.Cmp.Lexicographic.{slice_cmp, pointwise, lists_equiv, lists_total, lists_ties};
-ghost use Rattle.std.specs.Ordering.{int_cmp, int_eq, as_partial_cmp};
+ghost use Rattle.std.specs.Cmp.Lexicographic.{slice_cmp, slice_partial_cmp, pointwise, lists_per, lists_equiv, lists_po, lists_total, lists_agrees, lists_ties};
 ghost use Rattle.std.specs.Prelude.{◌≡◌, IfOk};
-ghost use Rattle.std.proofs.Common.{refl};
 
 use std::alloc::AllocError;
 use std::cmp::Ordering;
 use std::marker::Model;
 use std::sync::ArcSlice;
 
-/// The values of a function on a tile, row by row. Contracts see the list of them.
+/// Numbers in order, which copies share. Contracts see the list of them.
 #[derive(Debug, Drop)]
-pub struct Samples {
-    items: ArcSlice<i32>,
+pub struct Numbers<T> {
+    items: ArcSlice<T>,
 }
 
-impl Model for Samples {
+/// The values of a function on a tile, row by row.
+pub type Samples = Numbers<i32>;
+
+/// The bins of an accumulator over a tile, from the first.
+pub type Bins = Numbers<i64>;
+
+impl<T> Model for Numbers<T> {
     ghost use Rattle.std.specs.Arc.{arc_slice_items};
-    ghost use Rattle.std.specs.Prelude.{ℤ, List};
+    ghost use Rattle.std.specs.Coded.{coded_list};
+    ghost use Rattle.std.specs.Prelude.{List};
 
-    ghost Value = { List ℤ };
+    ghost Value = { List T };
 
-    ghost view = { λ samples. arc_slice_items samples.items };
+    ghost coded = { coded_list T.code };
+
+    ghost view = { λ numbers. arc_slice_items numbers.items };
 }
 
-impl Samples {
+impl<T: Drop> Numbers<T> {
     /// These numbers. Spare room of the `Vec` is kept.
-    pub fn new(items: Vec<i32>) -> Result<Samples, AllocError>
-        ensures { IfOk result (λ samples. samples ≡ items.items) }
+    pub fn new(items: Vec<T>) -> Result<Self, AllocError>
+        ensures { IfOk result (λ numbers. numbers ≡ items.items) }
     {
         let items = ArcSlice::from_vec(items)?;
-        Ok(Samples { items })
+        Ok(Numbers { items })
     }
+}
 
+impl<T> Numbers<T> {
     /// The numbers, in order.
-    pub fn as_slice(&self) -> &[i32]
+    pub fn as_slice(&self) -> &[T]
         ensures { result.now ≡ self.now }
     {
         self.items.as_slice()
@@ -44,131 +52,49 @@ impl Samples {
 }
 
 /// A copy shares the numbers and takes no memory. It fails only where too many copies live to be counted.
-impl Clone for Samples {
+impl<T: Drop> Clone for Numbers<T> {
     ghost is_clone = { λ it copy. copy ≡ it };
 
-    fn clone(&self) -> Result<Samples, AllocError> {
+    fn clone(&self) -> Result<Self, AllocError> {
         let items = self.items.clone()?;
-        Ok(Samples { items })
+        Ok(Numbers { items })
     }
 }
 
-impl PartialEq for Samples {
-    ghost eq = { pointwise int_eq };
+impl<T: PartialEq> PartialEq for Numbers<T> {
+    ghost eq = { pointwise T.eq };
 
-    ghost laws = { partial_equiv_from_equiv (lists_equiv int_eq_equiv) };
+    ghost laws = { lists_per T.laws };
 
-    fn eq(&self, other: &Samples) -> bool {
+    fn eq(&self, other: &Self) -> bool {
         self.items == other.items
     }
 }
 
-impl Eq for Samples {
-    ghost laws = { lists_equiv int_eq_equiv };
+impl<T: Eq> Eq for Numbers<T> {
+    ghost laws = { lists_equiv T.Eq.laws };
 }
 
-impl PartialOrd for Samples {
-    ghost partial_cmp = { as_partial_cmp (slice_cmp int_cmp) };
+impl<T: PartialOrd> PartialOrd for Numbers<T> {
+    ghost partial_cmp = { slice_partial_cmp T.partial_cmp };
 
-    ghost laws = { partial_order_from_agreeing_total (slice_cmp int_cmp) (lists_total int_cmp_total) (λ _ _. refl)
-        (lists_ties int_cmp (λ _ _. refl)) };
+    ghost laws = { lists_po T.PartialOrd.laws };
 
-    fn partial_cmp(&self, other: &Samples) -> Option<Ordering> {
-        Some(self.cmp(other))
+    fn partial_cmp(&self, other: &Self) -> Option<Ordering> {
+        self.items.partial_cmp(&other.items)
     }
 }
 
-impl Ord for Samples {
-    ghost cmp = { slice_cmp int_cmp };
+impl<T: Ord> Ord for Numbers<T> {
+    ghost cmp = { slice_cmp T.cmp };
 
-    ghost total = { lists_total int_cmp_total };
+    ghost total = { lists_total T.total };
 
-    ghost matches_partial_cmp = { λ _ _. refl };
+    ghost matches_partial_cmp = { lists_agrees T.matches_partial_cmp };
 
-    ghost matches_eq = { lists_ties int_cmp (λ _ _. refl) };
+    ghost matches_eq = { lists_ties T.cmp T.matches_eq };
 
-    fn cmp(&self, other: &Samples) -> Ordering {
-        self.items.cmp(&other.items)
-    }
-}
-
-/// The bins of an accumulator over a tile, from the first. Contracts see the list of them.
-#[derive(Debug, Drop)]
-pub struct Bins {
-    items: ArcSlice<i64>,
-}
-
-impl Model for Bins {
-    ghost use Rattle.std.specs.Arc.{arc_slice_items};
-    ghost use Rattle.std.specs.Prelude.{ℤ, List};
-
-    ghost Value = { List ℤ };
-
-    ghost view = { λ bins. arc_slice_items bins.items };
-}
-
-impl Bins {
-    /// These numbers. Spare room of the `Vec` is kept.
-    pub fn new(items: Vec<i64>) -> Result<Bins, AllocError>
-        ensures { IfOk result (λ bins. bins ≡ items.items) }
-    {
-        let items = ArcSlice::from_vec(items)?;
-        Ok(Bins { items })
-    }
-
-    /// The numbers, in order.
-    pub fn as_slice(&self) -> &[i64]
-        ensures { result.now ≡ self.now }
-    {
-        self.items.as_slice()
-    }
-}
-
-/// A copy shares the numbers and takes no memory. It fails only where too many copies live to be counted.
-impl Clone for Bins {
-    ghost is_clone = { λ it copy. copy ≡ it };
-
-    fn clone(&self) -> Result<Bins, AllocError> {
-        let items = self.items.clone()?;
-        Ok(Bins { items })
-    }
-}
-
-impl PartialEq for Bins {
-    ghost eq = { pointwise int_eq };
-
-    ghost laws = { partial_equiv_from_equiv (lists_equiv int_eq_equiv) };
-
-    fn eq(&self, other: &Bins) -> bool {
-        self.items == other.items
-    }
-}
-
-impl Eq for Bins {
-    ghost laws = { lists_equiv int_eq_equiv };
-}
-
-impl PartialOrd for Bins {
-    ghost partial_cmp = { as_partial_cmp (slice_cmp int_cmp) };
-
-    ghost laws = { partial_order_from_agreeing_total (slice_cmp int_cmp) (lists_total int_cmp_total) (λ _ _. refl)
-        (lists_ties int_cmp (λ _ _. refl)) };
-
-    fn partial_cmp(&self, other: &Bins) -> Option<Ordering> {
-        Some(self.cmp(other))
-    }
-}
-
-impl Ord for Bins {
-    ghost cmp = { slice_cmp int_cmp };
-
-    ghost total = { lists_total int_cmp_total };
-
-    ghost matches_partial_cmp = { λ _ _. refl };
-
-    ghost matches_eq = { lists_ties int_cmp (λ _ _. refl) };
-
-    fn cmp(&self, other: &Bins) -> Ordering {
+    fn cmp(&self, other: &Self) -> Ordering {
         self.items.cmp(&other.items)
     }
 }

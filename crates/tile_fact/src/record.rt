@@ -80,21 +80,21 @@ fn compare_numbers(a_kind: Kind, a: &[u8], b_kind: Kind, b: &[u8]) -> Ordering
     }
 }
 
-/// The record in front of the bytes, which are the last of `total`: what it says before its numbers, the bytes of these, and
-/// the bytes behind it.
+/// The record in front of the bytes, which are the last of `total`, and the bytes behind it.
 #[tactic(auto, unfolding(crate::specs::Reading::record_read))]
-pub fn read_record(total: usize, bytes: &[u8]) -> Result<(Label, &[u8], &[u8]), FactFault>
+pub fn read_record(total: usize, bytes: &[u8]) -> Result<(Record<'_>, &[u8]), FactFault>
     requires { length bytes.now ≤ total }
-    ensures read { Gives (λ x. (fact_of x.0.key x.0.kind x.1.now, x.2.now)) result (record_read total bytes.now) }
-    ensures within { IfOk result (λ x. IsWithin (body_in x.0.kind x.1.now)) }
-    ensures behind { IfOk result (λ x. length x.2.now ≤ total) }
+    ensures read { Gives (λ x. (fact_of x.0.label.key x.0.label.kind x.0.numbers.now, x.1.now)) result (record_read total bytes.now) }
+    ensures within { IfOk result (λ x. IsWithin (body_in x.0.label.kind x.0.numbers.now)) }
+    ensures behind { IfOk result (λ x. length x.1.now ≤ total) }
 {
     let (part, rest) = read_part(total, 74, bytes)?;
     let key = key_of(part);
     let (kind, rest) = read_kind(total, rest)?;
     let (len, rest) = read_length(total, kind, rest)?;
     let (numbers, behind) = read_part(total, len * kind.bytes_each(), rest)?;
-    Ok((Label { key, kind }, numbers, behind))
+    let label = Label { key, kind };
+    Ok((Record { label, numbers }, behind))
 }
 
 // So many bytes, and those behind them.

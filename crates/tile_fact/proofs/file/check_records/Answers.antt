@@ -13,7 +13,7 @@ returns-then-not-is_above c =
 
 pub loop-preserved : goal.loop-preserved
 loop-preserved c =
-    let fact = fact_of c.in-Ok.read.0.key c.in-Ok.read.0.kind c.in-Ok.read.1.now in (
+    let fact = fact_of c.in-Ok.read.0.label.key c.in-Ok.read.0.label.kind c.in-Ok.read.0.numbers.now in (
       c.in-Ok.ensures.behind,
       (
         c.loop.invariant.1.0 ++ fact ∷ [],
