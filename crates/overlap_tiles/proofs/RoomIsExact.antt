@@ -16,7 +16,7 @@ use Rattle.overlap_tiles.specs.declared.fault.PlanFault.TheVariants.{ScratchTooB
 use Rattle.overlap_tiles.specs.Work.{has_tile, lacks_room_in, lacks_room}
 
 -- more than so many are not at most so many
-more_is : (n m : ℕ) → nat_lt m n ≡ not (nat_le n m)
+pub more_is : (n m : ℕ) → nat_lt m n ≡ not (nat_le n m)
 more_is n m = elim (cases_lt m n) [
   | inl more ↦ lt-ltb m n more ∙ sym (ap not (lt-leb n m more))
   | inr most ↦ le-ltb m n most ∙ sym (ap not (le-leb n m most))

@@ -1,12 +1,11 @@
 -- Which tiles have room in scratch memory.
-use Rattle.std.proofs.Common.{arith, ℕ, ◌≤◌, ◌<◌, ◌≡◌, inl, inr, refl, ap, sym, ◌∙◌, subst, Bool, true, false, not, List, [], map, Option, Some, None, slice_get, filter}
-use Rattle.std.specs.Prelude.{Contains, find, nat_le, nat_lt, if◌then◌else◌}
+use Rattle.std.proofs.Common.{arith, ℕ, ◌≤◌, ◌<◌, ◌≡◌, refl, ap, sym, ◌∙◌, subst, Bool, true, false, not, List, [], map, Option, Some, None, slice_get, filter}
+use Rattle.std.specs.Prelude.{Contains, find, nat_le, if◌then◌else◌}
 use Rattle.std.specs.Option.{option_map, option_map_or}
-use Rattle.std.proofs.lemmas.Bool.{and_from, and_parts, not-true, false≢true, cases_lt, lt-ltb, le-ltb, lt-leb, le-leb, leb-true}
+use Rattle.std.proofs.lemmas.Bool.{and_from, and_parts, not-true, false≢true, le-leb, leb-true}
 use Rattle.std.proofs.lemmas.List.Elements.{All-contains}
 use Rattle.std.proofs.lemmas.Option.{slice_get_within, cond_some}
 use Rattle.domains.specs.Tiles.{HasTile, tile_area, tiles_of}
-use Rattle.domains.specs.declared.area.Area.{Area}
 use Rattle.domains.specs.declared.grid.Grid.{Grid}
 use Rattle.domains.proofs.Covers.{Contains-tiles_of}
 use Rattle.domains.proofs.PairLists.{Contains-filter, Contains-from_filter}
@@ -22,53 +21,44 @@ use Rattle.grouping.specs.Targets.{Target, target_over}
 use Rattle.grouping.proofs.Lists.{Contains-flat_map, Contains-map}
 use Rattle.grouping.proofs.OrderHasEachStage.{order_has}
 use Rattle.overlap_tiles.specs.Needs.{key_of, tile_of_stage}
-use Rattle.overlap_tiles.specs.Plans.{IsTileAt}
 use Rattle.overlap_tiles.proofs.Lists.{Contains-from_map, Contains-from_flat_map}
 use Rattle.grouping.proofs.TilesAreTargets.{gridded}
 use Rattle.tile_run.specs.declared.room.Work.{Work}
 use Rattle.tile_run.specs.declared.room.Work.TheVariants.{Functions, Accumulators}
 use Rattle.tile_run.specs.inside.Running.{StoredFit}
-use Rattle.tile_run.specs.Work.{is_stored_function, wanted_by, work_tiles, scratch_of_tile, too_big, first_too_big}
+use Rattle.overlap_tiles.specs.Work.{is_stored_function, tiles_in_order, lacks_room}
+use Rattle.overlap_tiles.proofs.RoomIsExact.{more_is, tile_lacks}
+use Rattle.tile_run.specs.Work.{wanted_by, first_too_big}
 use Rattle.tile_run.proofs.FirstFound.{none_of, find_of}
 use Rattle.tile_run.proofs.LayoutsPrepare.{none_found}
 
 -- ---- one tile
-
--- whether the tile with this area is too big
-pub big_is : (job : Pipeline) (inlining : List Bool) (g i j : ℕ) (area : Area) → IsTileAt job g i j area
-    → too_big job inlining (tile_of_stage g (i, j)) ≡ not (nat_le (scratch (target_over job inlining g area)) most_scratch)
-big_is job inlining g i j area is =
-    let at = gridded job g is.grid is.there in
-    let same : tile_area (grid_of job at.stage) i j ≡ area = ap (λ (d : Grid). tile_area d i j) at.is ∙ sym is.is in
-    ap (λ (o : Option Stage). option_map_or (λ s. not (nat_le (scratch_of_tile job inlining (tile_of_stage g (i, j)) s) most_scratch)) o
-    false) at.there
-    ∙ ap (λ (a : Area). not (nat_le (scratch (target_over job inlining g a)) most_scratch)) same
-
--- more than so many are not at most so many
-pub more_is : (n m : ℕ) → nat_lt m n ≡ not (nat_le n m)
-more_is n m = elim (cases_lt m n) [
-  | inl more ↦ lt-ltb m n more ∙ sym (ap not (lt-leb n m more))
-  | inr most ↦ le-ltb m n most ∙ sym (ap not (le-leb n m most))
-]
 
 not_false : (b : Bool) → not b ≡ false → b ≡ true
 not_false true e = refl
 not_false false e = absurd (cc)
 
 module _ (job : Pipeline) (inlining : List Bool) (g : ℕ) (s : Stage) (there : slice_get job.stages g ≡ Some s) where
-  big_here : (i j : ℕ) → too_big job inlining (tile_of_stage g (i, j))
-      ≡ not (nat_le (scratch_of_tile job inlining (tile_of_stage g (i, j)) s) most_scratch)
-  big_here i j = ap (λ (o : Option Stage). option_map_or
-      (λ x. not (nat_le (scratch_of_tile job inlining (tile_of_stage g (i, j)) x) most_scratch)) o false) there
+  lacks_is : has_tiles s.body ≡ true → (i j : ℕ) → HasTile (grid_of job s) i j
+      → lacks_room job inlining (tile_of_stage g (i, j))
+      ≡ not (nat_le (scratch (target_over job inlining g (tile_area (grid_of job s) i j))) most_scratch)
+  lacks_is has i j tile =
+      tile_lacks job inlining (tile_of_stage g (i, j)) (grid_of job s) (tile_area (grid_of job s) i j)
+      (ap (stage_grid job) there ∙ ap (λ b. if b then Some (grid_of job s) else None) has) tile refl
+      ∙ more_is (scratch (target_over job inlining g (tile_area (grid_of job s) i j))) most_scratch
 
-  small_fits : (i j : ℕ) → too_big job inlining (tile_of_stage g (i, j)) ≡ false
-      → scratch_of_tile job inlining (tile_of_stage g (i, j)) s ≤ most_scratch
-  small_fits i j small = leb-true (scratch_of_tile job inlining (tile_of_stage g (i, j)) s) most_scratch
-      (not_false (nat_le (scratch_of_tile job inlining (tile_of_stage g (i, j)) s) most_scratch) (sym (big_here i j) ∙ small))
+  small_fits : has_tiles s.body ≡ true → (i j : ℕ) → HasTile (grid_of job s) i j
+      → lacks_room job inlining (tile_of_stage g (i, j)) ≡ false
+      → scratch (target_over job inlining g (tile_area (grid_of job s) i j)) ≤ most_scratch
+  small_fits has i j tile small = leb-true (scratch (target_over job inlining g (tile_area (grid_of job s) i j))) most_scratch
+      (not_false (nat_le (scratch (target_over job inlining g (tile_area (grid_of job s) i j))) most_scratch)
+      (sym (lacks_is has i j tile) ∙ small))
 
-  fits_small : (i j : ℕ) → scratch_of_tile job inlining (tile_of_stage g (i, j)) s ≤ most_scratch
-      → too_big job inlining (tile_of_stage g (i, j)) ≡ false
-  fits_small i j fits = big_here i j ∙ ap not (le-leb (scratch_of_tile job inlining (tile_of_stage g (i, j)) s) most_scratch fits)
+  fits_small : has_tiles s.body ≡ true → (i j : ℕ) → HasTile (grid_of job s) i j
+      → scratch (target_over job inlining g (tile_area (grid_of job s) i j)) ≤ most_scratch
+      → lacks_room job inlining (tile_of_stage g (i, j)) ≡ false
+  fits_small has i j tile fits =
+      lacks_is has i j tile ∙ ap not (le-leb (scratch (target_over job inlining g (tile_area (grid_of job s) i j))) most_scratch fits)
 
   -- ---- the tiles of one stage
 
@@ -79,7 +69,7 @@ module _ (job : Pipeline) (inlining : List Bool) (g : ℕ) (s : Stage) (there : 
       ∙ ap (λ b. if b then map (tile_of_stage g) (tiles_of (grid_of job s)) else []) has
 
   pub in_work : (wants : ℕ → Bool) → has_tiles s.body ≡ true → wants g ≡ true → (i j : ℕ) → HasTile (grid_of job s) i j
-      → Contains (work_tiles job wants) (tile_of_stage g (i, j))
+      → Contains (tiles_in_order job wants) (tile_of_stage g (i, j))
   in_work wants has is i j tile =
       Contains-flat_map (tiles job) (filter wants (in_order job.stages)) g (tile_of_stage g (i, j))
       (Contains-filter wants (in_order job.stages) g ((order_has job.stages g).1 (slice_get_within job.stages g s there)) is)
@@ -99,14 +89,14 @@ grid_tiles job inlining g grid = by (slice_get job.stages g) refl
 
 -- the key of what is found first among the tiles of a grid
 pub first_key : (program : List ℕ) (job : Pipeline) (inlining : List Bool) (g : ℕ) (grid : Grid) → grid_at job g ≡ Some grid
-    → (o : Option (ℕ × ℕ)) → o ≡ find (λ t. too_big job inlining (tile_of_stage g t)) (tiles_of grid)
+    → (o : Option (ℕ × ℕ)) → o ≡ find (λ t. lacks_room job inlining (tile_of_stage g t)) (tiles_of grid)
     → option_map (λ t. key_of program job (tile_of_stage g t)) o
-    ≡ option_map (key_of program job) (find (too_big job inlining) (tiles job g))
+    ≡ option_map (key_of program job) (find (lacks_room job inlining) (tiles job g))
 first_key program job inlining g grid at o found =
     mapped o
     ∙ ap (λ (z : Option (ℕ × ℕ)). option_map (key_of program job) (option_map (tile_of_stage g) z)) found
-    ∙ ap (option_map (key_of program job)) (sym (find_of (too_big job inlining) (tile_of_stage g) (tiles_of grid))
-    ∙ ap (find (too_big job inlining)) (sym (grid_tiles job inlining g grid at)))
+    ∙ ap (option_map (key_of program job)) (sym (find_of (lacks_room job inlining) (tile_of_stage g) (tiles_of grid))
+    ∙ ap (find (lacks_room job inlining)) (sym (grid_tiles job inlining g grid at)))
   where
     mapped : (z : Option (ℕ × ℕ)) → option_map (λ t. key_of program job (tile_of_stage g t)) z
         ≡ option_map (key_of program job) (option_map (tile_of_stage g) z)
@@ -153,7 +143,7 @@ of_stage job wants g t is = by (slice_get job.stages g) refl
     by None there k = absurd (omega (arith, k.1))
     by (Some s) there k = tiled s (has_tiles s.body) there refl k
 
-of_work : (job : Pipeline) (wants : ℕ → Bool) (t : Tile) → Contains (work_tiles job wants) t → IsOfWork job wants t
+of_work : (job : Pipeline) (wants : ℕ → Bool) (t : Tile) → Contains (tiles_in_order job wants) t → IsOfWork job wants t
 of_work job wants t k =
     let from = Contains-from_flat_map (tiles job) (filter wants (in_order job.stages)) t k in
     of_stage job wants from.0 t (Contains-from_filter wants (in_order job.stages) from.0 from.1).1 from.2
@@ -164,7 +154,7 @@ pub none_too_big : (job : Pipeline) (inlining : List Bool) (wants : ℕ → Bool
     → (g : ℕ) (s : Stage) → slice_get job.stages g ≡ Some s → has_tiles s.body ≡ true → wants g ≡ true
     → (i j : ℕ) → HasTile (grid_of job s) i j → scratch (target_over job inlining g (tile_area (grid_of job s) i j)) ≤ most_scratch
 none_too_big job inlining wants none g s there has is i j tile =
-    small_fits job inlining g s there i j (none_found (too_big job inlining) (work_tiles job wants) none (tile_of_stage g (i, j))
+    small_fits job inlining g s there has i j tile (none_found (lacks_room job inlining) (tiles_in_order job wants) none (tile_of_stage g (i, j))
     (in_work job inlining g s there wants has is i j tile))
 
 has_some : (b : Body) → is_function_body b ≡ true → has_tiles b ≡ true
@@ -206,14 +196,14 @@ wanted_stored job inlining Accumulators g s good there is = by (is_inlined inlin
 
 pub fits_none : (job : Pipeline) (s : Inlining) (work : Work) → IsScheduleOf job s → s.fits ≡ true
     → first_too_big job s.inlining (wanted_by job s.inlining work) ≡ None
-fits_none job s work is fits = none_of (too_big job s.inlining) (work_tiles job (wanted_by job s.inlining work))
+fits_none job s work is fits = none_of (lacks_room job s.inlining) (tiles_in_order job (wanted_by job s.inlining work))
     (λ t k. small t (of_work job (wanted_by job s.inlining work) t k))
   where
-    small : (t : Tile) → IsOfWork job (wanted_by job s.inlining work) t → too_big job s.inlining t ≡ false
+    small : (t : Tile) → IsOfWork job (wanted_by job s.inlining work) t → lacks_room job s.inlining t ≡ false
     small t of =
         let over : ℕ × ℕ → Target = λ place. target_over job s.inlining t.stage (tile_area (grid_of job of.stage) place.0 place.1) in
         let stored = wanted_stored job s.inlining work t.stage of.stage is.inlining of.there of.wanted in
-        fits_small job s.inlining t.stage of.stage of.there t.row t.col
+        fits_small job s.inlining t.stage of.stage of.there of.has t.row t.col of.tile
         (All-contains (λ x. scratch x ≤ most_scratch) (tile_targets job s.inlining t.stage of.stage) (over (t.row, t.col))
         (is.fits fits t.stage of.stage of.there (and_from (has_tiles of.stage.body) (not (is_inlined s.inlining t.stage)) of.has
         (ap not stored)))

@@ -5,7 +5,8 @@ use Rattle.std.proofs.lemmas.List.{drop_all}
 use Rattle.job.specs.Answers.{tiles}
 use Rattle.job.specs.Kept.{pipeline_in, program_id_in}
 use Rattle.overlap_tiles.specs.Needs.{key_of}
-use Rattle.tile_run.specs.Work.{wanted_by, too_big}
+use Rattle.overlap_tiles.specs.Work.{lacks_room}
+use Rattle.tile_run.specs.Work.{wanted_by}
 use Rattle.tile_run.proofs.FirstFound.{first_skipped, wanted_found, wanted_behind}
 use Rattle.tile_run.proofs.room.first_among.Goals as goal
 use Rattle.tile_run.proofs.room.first_among.Goals.{then-is_wanted+in_ok-found+else-is_some, else-is_wanted}
@@ -15,7 +16,7 @@ returns-then-is_some c =
     let job = pipeline_in c.args.job.now in
     let inlining = c.args.schedule.now.inlining in
     let k = c.loop-number.number-index in
-    wanted_found (too_big job inlining) (tiles job) (wanted_by job inlining c.args.work) c.args.order.now k
+    wanted_found (lacks_room job inlining) (tiles job) (wanted_by job inlining c.args.work) c.args.order.now k
     (slice_index_or c.args.order.now k 0) c.loop-number-test.true refl
     (key_of (program_id_in c.args.job.now) job) (sym c.is_wanted.ensures
     ∙ c.if-is_wanted.true) c.in_ok-found.found c.in_ok-found.ensures (sym c.is_some.ensures ∙ c.if-is_some.true)
@@ -27,12 +28,12 @@ loop-number-preserved c =
     let inlining = c.args.schedule.now.inlining in
     let k = c.loop-number.number-index in
     elim c.if-is_wanted.branch [
-      | then-is_wanted+in_ok-found+else-is_some w ↦ wanted_behind (too_big job inlining) (tiles job) (wanted_by job inlining c.args.work)
+      | then-is_wanted+in_ok-found+else-is_some w ↦ wanted_behind (lacks_room job inlining) (tiles job) (wanted_by job inlining c.args.work)
           c.args.order.now k (slice_index_or c.args.order.now k 0) c.loop-number-test.true refl
           (key_of (program_id_in c.args.job.now) job) (sym c.is_wanted.ensures
           ∙ w.if-is_wanted.true) w.in_ok-found.found w.in_ok-found.ensures (sym w.is_some.ensures ∙ w.if-is_some.false)
           ∙ c.loop-number.invariant
-      | else-is_wanted w ↦ first_skipped (too_big job inlining) (tiles job) (wanted_by job inlining c.args.work) c.args.order.now k
+      | else-is_wanted w ↦ first_skipped (lacks_room job inlining) (tiles job) (wanted_by job inlining c.args.work) c.args.order.now k
           (slice_index_or c.args.order.now k 0) c.loop-number-test.true refl
           (sym c.is_wanted.ensures ∙ w.if-is_wanted.false)
           ∙ c.loop-number.invariant
@@ -43,6 +44,6 @@ returns c =
     let job = pipeline_in c.args.job.now in
     let inlining = c.args.schedule.now.inlining in
     ap (option_map (key_of (program_id_in c.args.job.now) job))
-    (ap (λ (gs : List ℕ). find (too_big job inlining) (flat_map (tiles job) (filter (wanted_by job inlining c.args.work) gs)))
+    (ap (λ (gs : List ℕ). find (lacks_room job inlining) (flat_map (tiles job) (filter (wanted_by job inlining c.args.work) gs)))
     (sym (drop_all c.loop-number.number-index c.args.order.now (omega (arith, c.loop-number-test.false))))
     ∙ c.loop-number.invariant)
