@@ -18,45 +18,83 @@ fn holds(is_so: bool, what: &str) -> Result<(), Fail> {
     if is_so { Ok(()) } else { Err(what.into()) }
 }
 
-fn partial(alloc: Global, key: Key, bin: i64) -> Result<Fact, Fail> {
+fn partial(alloc: Global, col: u32, bin: i64) -> Result<Fact, Fail> {
     let bins = Bins::new(Vec::from_slice(alloc, &[bin])?)?;
-    Ok(Fact::new(key, Body::Partial(bins)).ok().ok_or("a partial")?)
+    Ok(
+        Fact::new(key(col), Body::Partial(bins))
+            .ok()
+            .ok_or("a partial")?,
+    )
 }
 
-fn keeps_facts_in<S: FactStore>(alloc: Global) -> Result<(), Fail> {
-    let a = partial(alloc, key(1), -5)?;
-    let b = partial(alloc, key(1), 4)?;
-    let c = partial(alloc, key(3), 0)?;
-    let mut store = S::empty(alloc);
-    holds(store.least().is_none(), "no fact")?;
-    holds(store.add(c.clone()?).ok() == Some(true), "c is new")?;
-    holds(store.add(a.clone()?).ok() == Some(true), "a is new")?;
-    holds(store.add(c.clone()?).ok() == Some(false), "c is not")?;
+fn is_fact(found: Option<&Fact>, col: u32, bin: i64) -> bool {
+    match found {
+        Some(fact) => {
+            fact.key().col == col
+                && matches!(fact.body(), Body::Partial(bins) if matches!(bins.as_slice(), [one] if *one == bin))
+        }
+        None => false,
+    }
+}
+
+// Adds a fact, which is new or is not.
+fn put<S: FactStore>(
+    alloc: Global,
+    store: &mut S,
+    col: u32,
+    bin: i64,
+    is_new: bool,
+) -> Result<(), Fail> {
+    let fact = partial(alloc, col, bin)?;
+    holds(store.add(fact).ok() == Some(is_new), "whether it is new")
+}
+
+fn joins<S: FactStore>(alloc: Global, store: &mut S) -> Result<(), Fail> {
     let mut other = S::empty(alloc);
-    holds(other.add(b.clone()?).ok() == Some(true), "b is new")?;
+    put(alloc, &mut other, 1, 4, true)?;
+    put(alloc, &mut other, 3, 0, true)?;
     let before = store.copy()?;
     holds(store.join(&other)? == 1, "one is new")?;
-    holds(before.count(&key(1)) == 1, "the copy is as it was")?;
+    holds(before.count(&key(1)) == 1, "the copy is as it was")
+}
+
+fn finds_by_keys<S: FactStore>(store: &S) -> Result<(), Fail> {
     holds(store.count(&key(1)) == 2, "two facts of the key")?;
     holds(store.count(&key(2)) == 0, "no fact of the key")?;
     holds(
-        matches!(store.nth(&key(1), 1), Some(fact) if *fact == b),
+        is_fact(store.nth(&key(1), 0), 1, -5),
+        "the first of the key",
+    )?;
+    holds(
+        is_fact(store.nth(&key(1), 1), 1, 4),
         "the second of the key",
     )?;
-    holds(store.nth(&key(1), 2).is_none(), "no third")?;
+    holds(store.nth(&key(1), 2).is_none(), "no third")
+}
+
+fn goes_from_fact_to_fact<S: FactStore>(alloc: Global, store: &S) -> Result<(), Fail> {
+    holds(is_fact(store.least(), 1, -5), "the least")?;
+    let between = partial(alloc, 2, 9)?;
     holds(
-        matches!(store.least(), Some(fact) if *fact == a),
-        "the least",
-    )?;
-    let between = partial(alloc, key(2), 9)?;
-    holds(
-        matches!(store.least_above(&between), Some(fact) if *fact == c),
+        is_fact(store.least_above(&between), 3, 0),
         "the least above one that is not there",
     )?;
-    holds(store.least_above(&c).is_none(), "none above the greatest")
+    let greatest = partial(alloc, 3, 0)?;
+    holds(store.least_above(&greatest).is_none(), "none above it")
+}
+
+fn keeps_facts<S: FactStore>(alloc: Global) -> Result<(), Fail> {
+    let mut store = S::empty(alloc);
+    holds(store.least().is_none(), "no fact")?;
+    put(alloc, &mut store, 3, 0, true)?;
+    put(alloc, &mut store, 1, -5, true)?;
+    put(alloc, &mut store, 3, 0, false)?;
+    joins(alloc, &mut store)?;
+    finds_by_keys(&store)?;
+    goes_from_fact_to_fact(alloc, &store)
 }
 
 #[test]
 fn sorted_facts(rt: HostRuntime) -> Result<(), Fail> {
-    keeps_facts_in::<SortedFacts>(rt.alloc())
+    keeps_facts::<SortedFacts>(rt.alloc())
 }

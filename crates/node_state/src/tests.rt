@@ -5,6 +5,13 @@ use std::alloc::Global;
 use std::test::*;
 use tile_fact::{Body, Fact, Samples};
 
+// Tiles of one point: row, column and number.
+const P: (u32, u32, i32) = (0, 0, 0);
+
+const Q: (u32, u32, i32) = (0, 1, 2);
+
+const R: (u32, u32, i32) = (1, 0, 8);
+
 fn key(row: u32, col: u32) -> Key {
     Key {
         program: ProgramId::new([0x11; 32]),
@@ -24,122 +31,136 @@ fn tile(alloc: Global, key: Key, numbers: &[i32]) -> Result<Fact, Fail> {
     Ok(Fact::new(key, Body::Tile(samples)).ok().ok_or("a tile")?)
 }
 
-fn taken<S: FactStore>(state: &mut NodeState<S>, fact: Fact) -> Result<Taken, Fail> {
-    Ok(state.take(fact).ok().ok_or("memory")?)
+// Whether the fact is a tile of the column whose last number is this one.
+fn ends_with(fact: &Fact, col: u32, number: i32) -> bool {
+    fact.key().col == col
+        && matches!(fact.body(), Body::Tile(samples) if matches!(samples.as_slice(), [.., last] if *last == number))
 }
 
-// The state that has taken the facts, one after another.
-fn state_of<S: FactStore>(alloc: Global, facts: &[&Fact]) -> Result<NodeState<S>, Fail> {
+fn takes<S: FactStore>(
+    alloc: Global,
+    state: &mut NodeState<S>,
+    key: Key,
+    numbers: &[i32],
+    wanted: Taken,
+) -> Result<(), Fail> {
+    let fact = tile(alloc, key, numbers)?;
+    holds(state.take(fact).ok() == Some(wanted), "whether it was new")
+}
+
+// The state that has taken these tiles, one after another.
+fn state_of<S: FactStore>(alloc: Global, tiles: &[(u32, u32, i32)]) -> Result<NodeState<S>, Fail> {
     let mut state = NodeState::new(alloc);
-    for fact in facts {
-        taken(&mut state, (**fact).clone()?)?;
+    for tile in tiles {
+        takes(
+            alloc,
+            &mut state,
+            key(tile.0, tile.1),
+            &[tile.2],
+            Taken::New,
+        )?;
     }
     Ok(state)
 }
 
-fn states_forget_order_in<S: FactStore>(alloc: Global) -> Result<(), Fail> {
-    let p = tile(alloc, key(0, 0), &[0])?;
-    let q = tile(alloc, key(0, 1), &[2])?;
-    let r = tile(alloc, key(1, 0), &[8])?;
-    let one: NodeState<S> = state_of(alloc, &[&p, &q, &r])?;
-    let mut other: NodeState<S> = state_of(alloc, &[&r, &p])?;
+// P, Q and R in another order and through another state.
+fn merged<S: FactStore>(alloc: Global) -> Result<NodeState<S>, Fail> {
+    let mut state: NodeState<S> = state_of(alloc, &[R, P])?;
+    takes(alloc, &mut state, key(P.0, P.1), &[P.2], Taken::Already)?;
+    let more: NodeState<S> = state_of(alloc, &[Q, R])?;
+    holds(state.merge(&more)? == 1, "Q is new")?;
     holds(
-        taken(&mut other, p.clone()?)? == Taken::Already,
-        "p is held",
+        more.export()?.len() == 174,
+        "the state that was merged is as it was",
     )?;
-    let more: NodeState<S> = state_of(alloc, &[&q, &r])?;
-    holds(other.merge(&more)? == 1, "q is new")?;
+    Ok(state)
+}
+
+fn have_one_file<S: FactStore>(one: &NodeState<S>, other: &NodeState<S>) -> Result<(), Fail> {
     let file = one.export()?;
     holds(file.len() == 257, "the file's length")?;
     holds(
         other.export()?.as_slice() == file.as_slice(),
         "the same file",
     )?;
+    let copy = other.copy()?;
     holds(
-        other.copy()?.export()?.as_slice() == file.as_slice(),
+        copy.export()?.as_slice() == file.as_slice(),
         "the copy's file",
-    )?;
-    holds(other.merge(&one)? == 0, "nothing is new")?;
-    holds(
-        more.export()?.len() == 174,
-        "the state that was merged is as it was",
     )
+}
+
+fn forgets_order<S: FactStore>(alloc: Global) -> Result<(), Fail> {
+    let one: NodeState<S> = state_of(alloc, &[P, Q, R])?;
+    let other: NodeState<S> = merged(alloc)?;
+    have_one_file(&one, &other)
 }
 
 #[test]
 fn states_forget_order(rt: HostRuntime) -> Result<(), Fail> {
-    states_forget_order_in::<SortedFacts>(rt.alloc())
+    forgets_order::<SortedFacts>(rt.alloc())
 }
 
-fn disputed_facts_in<S: FactStore>(alloc: Global) -> Result<(), Fail> {
-    let told = tile(alloc, key(0, 0), &[1, 2, 3, 4])?;
-    let other = tile(alloc, key(0, 0), &[1, 2, 3, 5])?;
-    let first: NodeState<S> = state_of(alloc, &[&told, &other])?;
-    let second: NodeState<S> = state_of(alloc, &[&other, &told])?;
-    for state in [&first, &second] {
-        holds(
-            state.knows(&key(0, 0)) == Known::Disputed,
-            "two facts of the key",
-        )?;
-        let lent = state.lend(&[key(0, 0)]).ok().ok_or("the key is held")?;
-        holds(
-            matches!(lent.as_slice(), [a, b] if *a == told && *b == other),
-            "both are lent",
-        )?;
-        holds(state.export()?.len() == 198, "the file's length")?;
-    }
-    let alone: NodeState<S> = state_of(alloc, &[&told])?;
-    holds(alone.knows(&key(0, 0)) == Known::One, "one fact of the key")?;
+fn lends_both<S: FactStore>(state: &NodeState<S>) -> Result<(), Fail> {
+    let lent = state.lend(&[key(0, 0)]).ok().ok_or("the key is held")?;
     holds(
-        alone.knows(&key(0, 1)) == Known::Nothing,
-        "no fact of the key",
+        matches!(lent.as_slice(), [a, b] if ends_with(a, 0, 4) && ends_with(b, 0, 5)),
+        "both are lent, rising",
     )
+}
+
+// One tile of a picture, told in two ways.
+fn is_disputed<S: FactStore>(alloc: Global, first: i32, second: i32) -> Result<(), Fail> {
+    let mut state: NodeState<S> = NodeState::new(alloc);
+    holds(
+        state.knows(&key(0, 0)) == Known::Nothing,
+        "no fact of the key",
+    )?;
+    takes(alloc, &mut state, key(0, 0), &[1, 2, 3, first], Taken::New)?;
+    holds(state.knows(&key(0, 0)) == Known::One, "one fact of the key")?;
+    takes(alloc, &mut state, key(0, 0), &[1, 2, 3, second], Taken::New)?;
+    holds(
+        state.knows(&key(0, 0)) == Known::Disputed,
+        "two facts of the key",
+    )?;
+    lends_both(&state)?;
+    holds(state.export()?.len() == 198, "the file's length")
 }
 
 #[test]
 fn disputed_facts(rt: HostRuntime) -> Result<(), Fail> {
-    disputed_facts_in::<SortedFacts>(rt.alloc())
+    is_disputed::<SortedFacts>(rt.alloc(), 4, 5)?;
+    is_disputed::<SortedFacts>(rt.alloc(), 5, 4)
 }
 
 #[test]
 fn lends_by_keys(rt: HostRuntime) -> Result<(), Fail> {
-    let alloc = rt.alloc();
-    let p = tile(alloc, key(0, 0), &[0])?;
-    let q = tile(alloc, key(0, 1), &[2])?;
-    let state: NodeState = state_of(alloc, &[&q, &p])?;
-    let lent = state
-        .lend(&[key(0, 1), key(0, 0), key(0, 1)])
-        .ok()
-        .ok_or("both keys are held")?;
+    let state: NodeState = state_of(rt.alloc(), &[Q, P])?;
+    let keys = [key(0, 1), key(0, 0), key(0, 1)];
+    let lent = state.lend(&keys).ok().ok_or("both keys are held")?;
     holds(
-        matches!(lent.as_slice(), [a, b] if *a == p && *b == q),
+        matches!(lent.as_slice(), [a, b] if ends_with(a, 0, 0) && ends_with(b, 1, 2)),
         "each fact once, rising",
-    )?;
+    )
+}
+
+#[test]
+fn names_the_least_key_not_held(rt: HostRuntime) -> Result<(), Fail> {
+    let state: NodeState = state_of(rt.alloc(), &[Q, P])?;
     match state.lend(&[key(2, 0), key(0, 1), key(1, 5)]) {
-        Err(LendFault::NotHeld(least)) => holds(least == key(1, 5), "the least key")?,
-        _ => return Err("two keys are not held".into()),
+        Err(LendFault::NotHeld(least)) => holds(least == key(1, 5), "the least key"),
+        _ => Err("two keys are not held".into()),
     }
-    holds(
-        LendFault::Memory.number() == 2,
-        "the number of the second fault",
-    )?;
+}
+
+#[test]
+fn goes_from_fact_to_fact(rt: HostRuntime) -> Result<(), Fail> {
+    let state: NodeState = state_of(rt.alloc(), &[Q, P])?;
+    let least = state.least().ok_or("a fact")?;
+    holds(ends_with(least, 0, 0), "the least")?;
+    let next = state.least_above(least).ok_or("another fact")?;
+    holds(ends_with(next, 1, 2), "the next one")?;
+    holds(state.least_above(next).is_none(), "and none behind it")?;
     holds(state.count(&key(0, 1)) == 1, "one fact of the key")?;
-    holds(
-        matches!(state.nth(&key(0, 1), 0), Some(fact) if *fact == q),
-        "the fact of the key",
-    )?;
-    holds(
-        matches!(state.least(), Some(fact) if *fact == p),
-        "the least",
-    )?;
-    holds(
-        matches!(state.least_above(&p), Some(fact) if *fact == q),
-        "the next one",
-    )?;
-    holds(state.least_above(&q).is_none(), "and none behind it")?;
-    let part = state
-        .lend_state(&[key(0, 1)])
-        .ok()
-        .ok_or("the key is held")?;
-    holds(part.facts()?.len() == 1, "a part of the state")
+    holds(state.nth(&key(0, 1), 1).is_none(), "and no second")
 }
