@@ -12,7 +12,7 @@ use Rattle.job.specs.WellFormed.{IsJob}
 use Rattle.job.specs.declared.job.Job.{Job}
 use Rattle.inputs.specs.Giving.{Given}
 use Rattle.inputs.specs.Outcomes.{Saying, IsSaid}
-use Rattle.inputs.specs.Steps.{IsReadJob}
+use Rattle.inputs.specs.Input.{IsReadJob}
 
 -- ---- one part behind the other
 

@@ -12,7 +12,7 @@ use Rattle.netpbm.specs.Spelling.{spelling}
 use Rattle.job.specs.Answers.{image}
 use Rattle.job.specs.Pipeline.{Body, plane, function, accumulator, Stage, Pipeline}
 use Rattle.job.specs.Totals.{totals}
-use Rattle.commands.specs.Gathering.{body_gathered_line, gathered_line}
+use Rattle.commands.specs.inside.Gathering.{body_gathered_line, gathered_line}
 use Rattle.commands.specs.Results.{body_line, line_at, result_bytes, total_lines}
 
 -- the line of a stage is the line of what it gathered

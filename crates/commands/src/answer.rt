@@ -6,7 +6,7 @@ ghost use Rattle.grouping.specs.Inlining.{AllFitScratch, IsScheduleOf};
 ghost use Rattle.job.specs.Kept.{pipeline_in};
 ghost use Rattle.tile_run.specs.KnownTiles.{AreTrue};
 ghost use Rattle.tile_run.specs.Stored.{stored_tiles, GivesAllTiles};
-ghost use Rattle.commands.specs.Replies.{reply_bytes};
+ghost use Rattle.commands.specs.inside.Replies.{reply_bytes};
 ghost use Rattle.commands.specs.Results.{result_bytes};
 
 use crate::reply::Reply;

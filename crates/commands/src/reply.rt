@@ -6,7 +6,7 @@ ghost use Rattle.std.specs.Option.{option_map_or};
 ghost use Rattle.netpbm.specs.Spelling.{spelling};
 ghost use Rattle.streams.specs.Streams.{AppendsPart, CountsFailure};
 ghost use Rattle.inputs.specs.Outcomes.{CountsWritten};
-ghost use Rattle.commands.specs.Replies.{reply_bytes};
+ghost use Rattle.commands.specs.inside.Replies.{reply_bytes};
 ghost use Rattle.inputs.specs.declared.faults.StreamFault.TheVariants.{Write};
 
 use inputs::StreamFault;
@@ -22,7 +22,7 @@ pub struct Reply {
 
 impl Reply {
     ghost use Rattle.std.specs.Prelude.{◌≡◌};
-    ghost use Rattle.commands.specs.Replies.{reply_bytes};
+    ghost use Rattle.commands.specs.inside.Replies.{reply_bytes};
 
     /// Lines alone.
     pub fn of_lines(lines: Vec<u8>) -> Reply

@@ -5,7 +5,7 @@ ghost use Rattle.job.specs.Kept.{pipeline_in, program_text_in};
 ghost use Rattle.pipe_print.specs.Canonical.{canonical};
 ghost use Rattle.pipe_tree.specs.Tree.{Declaration};
 ghost use Rattle.commands.specs.Planning.{IsPlan, inlining_asked};
-ghost use Rattle.commands.specs.Replies.{reply_bytes};
+ghost use Rattle.commands.specs.inside.Replies.{reply_bytes};
 ghost use Rattle.commands.specs.Sayings.{saying_of};
 
 use crate::answer::evaluate;

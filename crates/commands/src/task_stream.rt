@@ -5,7 +5,7 @@ ghost use Rattle.inputs.specs.Faults.{IsFaultOf};
 ghost use Rattle.inputs.specs.Outcomes.{Writes, IsSaid, CountsRead, CountsWritten};
 ghost use Rattle.commands.specs.Listing.{SaysCheck};
 ghost use Rattle.commands.specs.Planning.{SaysPlan};
-ghost use Rattle.commands.specs.Replies.{reply_bytes};
+ghost use Rattle.commands.specs.inside.Replies.{reply_bytes};
 ghost use Rattle.commands.specs.Results.{SaysResult};
 ghost use Rattle.commands.specs.Sayings.{saying_of};
 

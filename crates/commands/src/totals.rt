@@ -5,7 +5,7 @@ ghost use Rattle.std.specs.List.{flat_map};
 ghost use Rattle.accumulators.specs.Answers.{gathered};
 ghost use Rattle.job.specs.Kept.{pipeline_in};
 ghost use Rattle.commands.specs.Results.{bin_text, ends_text, total_line};
-ghost use Rattle.commands.specs.Gathering.{gathered_line};
+ghost use Rattle.commands.specs.inside.Gathering.{gathered_line};
 
 use accumulators::Total;
 use domains::Span;

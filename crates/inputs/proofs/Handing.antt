@@ -13,7 +13,7 @@ use Rattle.pipe_bounds.specs.Unset.{unset}
 use Rattle.inputs.specs.declared.faults.StreamFault.{StreamFault}
 use Rattle.inputs.specs.declared.faults.StreamFault.TheVariants as faults
 use Rattle.inputs.specs.Giving.{Given, AreGiven, IsNotSettable}
-use Rattle.inputs.specs.Steps.{IsParamRefusal, TellsParam}
+use Rattle.inputs.specs.inside.Steps.{IsParamRefusal, TellsParam}
 
 -- the front of a list with one more element
 one_more : {X : Type 0} (xs : List X) (i : ℕ) (x : X) → i < length xs → x ≡ get_or xs i x → take (i + 1) xs ≡ take i xs ++ x ∷ []

@@ -39,7 +39,8 @@ use Rattle.inputs.specs.Faults.{IsFaultOf, blamed}
 use Rattle.inputs.specs.Giving.{Given, AreGiven, unset_of}
 use Rattle.inputs.specs.Input.{IsInput, IsInputJob, IsParted, MeansSomething, program_at}
 use Rattle.inputs.specs.Outcomes.{Saying, IfRead, IsSaid, IsSaidOfKnown, Writes, most_input}
-use Rattle.inputs.specs.Steps.{IsReadJob, TellsBind}
+use Rattle.inputs.specs.Input.{IsReadJob}
+use Rattle.inputs.specs.inside.Steps.{TellsBind}
 use Rattle.inputs.specs.Told.{told_parse, told_picture}
 use Rattle.inputs.proofs.Accepting.{means_something}
 use Rattle.inputs.proofs.Handing.{params_named}

@@ -5,6 +5,7 @@ use Rattle.domains.specs.Sides.{Sides}
 use Rattle.netpbm.specs.Grammar.{IsPicture}
 use Rattle.netpbm.specs.Image.{Image}
 use Rattle.pipe_tree.specs.Faults.{IsText}
+use Rattle.pipe_print.specs.Canonical.{canonical}
 use Rattle.pipe_tree.specs.Tree.{Declaration}
 use Rattle.pipe_bounds.specs.declared.params.Setting.{Setting}
 use Rattle.pipe_checks.specs.Checking.{IsNamed, is_result}
@@ -13,7 +14,9 @@ use Rattle.pipe_checks.specs.Names.{stages_of}
 use Rattle.pipe_checks.specs.Accesses.{graph_of}
 use Rattle.binding.specs.BindFaults.{IsBound}
 use Rattle.binding.specs.Binding.{Program, IsJobOf}
+use Rattle.job.specs.Kept.{pipeline_in, program_text_in}
 use Rattle.job.specs.Pipeline.{Pipeline}
+use Rattle.job.specs.declared.job.Job.{Job}
 use Rattle.inputs.specs.Giving.{Given, AreGiven, unset_of}
 use Rattle.inputs.specs.Sections.{IsFirstSeparator}
 
@@ -62,3 +65,9 @@ pub record IsInputJob (input : List ℕ) (given : List Given) (sides : Sides) (t
   pub ranking : IsRanking (graph_of tree) ranks
   pub bound : IsBound tree (program_at tree ranks chosen) source sides job
   pub says : IsJobOf tree chosen source sides job
+
+-- the job of an input, which keeps the canonical text of its program
+pub record IsReadJob (input : List ℕ) (given : List Given) (sides : Sides) (job : Job) : Type 0 where
+  pub tree : List Declaration
+  pub of_input : IsInputJob input given sides tree (pipeline_in job)
+  pub text : program_text_in job ≡ canonical tree

@@ -4,6 +4,6 @@ pub mod Giving
 pub mod Input
 pub mod Outcomes
 pub mod Sections
-pub mod Steps
 pub mod Taking
 pub mod Told
+pub mod inside

@@ -22,6 +22,13 @@ most_input = 536870912
 abbrev pub IfRead : Option (List ℕ) → (List ℕ → Type 0) → Type 0
 IfRead known Holds = IfSome known (λ input. (length input ≤ most_input) × Holds input)
 
+-- what reading is refused with
+abbrev pub IsOfReader : Option (List ℕ) → StreamFault → Type 0
+IsOfReader known Read = Unit {0}
+IsOfReader known TooLong = IfSome known (λ input. most_input < length input)
+IsOfReader known Memory = Unit {0}
+IsOfReader known _ = ⊥
+
 -- ---- what is said
 
 -- which bytes a command says of the tree of a program and of its job

@@ -5,7 +5,7 @@ ghost use Rattle.pipe_tree.specs.Tree.{declarations};
 ghost use Rattle.pipe_tree.specs.Content.{content};
 ghost use Rattle.pipe_checks.specs.Checking.{IsCheckedOf, IsFault};
 ghost use Rattle.pipe_checks.specs.Names.{stages_of};
-ghost use Rattle.inputs.specs.Steps.{IsRefusal};
+ghost use Rattle.inputs.specs.inside.Steps.{IsRefusal};
 ghost use Rattle.inputs.specs.Faults.{name_at, names_of};
 
 use crate::faults::StreamFault;

@@ -10,7 +10,7 @@ ghost use Rattle.binding.specs.Binding.{IsJobOf};
 ghost use Rattle.job.specs.Kept.{pipeline_in, program_text_in};
 ghost use Rattle.job.specs.WellFormed.{IsJob};
 ghost use Rattle.inputs.specs.Faults.{blamed};
-ghost use Rattle.inputs.specs.Steps.{TellsBind};
+ghost use Rattle.inputs.specs.inside.Steps.{TellsBind};
 
 use crate::accepted::name_at;
 use crate::faults::StreamFault;

@@ -2,7 +2,9 @@
 #![tactic(auto)]
 
 mod accepted;
+mod bind_lines;
 mod bound;
+mod check_lines;
 mod faults;
 mod lines;
 mod sections;

@@ -4,7 +4,7 @@ ghost use Rattle.std.specs.Prelude.{◌≡◌, map, string_bytes, IfOk, IfErr, O
 ghost use Rattle.pipe_checks.specs.Checking.{params_in};
 ghost use Rattle.pipe_bounds.specs.Unset.{unset};
 ghost use Rattle.inputs.specs.Giving.{AreGiven};
-ghost use Rattle.inputs.specs.Steps.{IsParamRefusal, TellsParam};
+ghost use Rattle.inputs.specs.inside.Steps.{IsParamRefusal, TellsParam};
 
 use crate::faults::StreamFault;
 use crate::lines::ParamLine;

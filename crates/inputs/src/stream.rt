@@ -7,9 +7,8 @@ ghost use Rattle.job.specs.Kept.{pipeline_in};
 ghost use Rattle.job.specs.WellFormed.{IsJob, IsSmall};
 ghost use Rattle.inputs.specs.Faults.{IsFaultOf};
 ghost use Rattle.inputs.specs.Giving.{Given};
-ghost use Rattle.inputs.specs.Input.{IsInput};
-ghost use Rattle.inputs.specs.Outcomes.{CountsRead, CountsWritten, most_input};
-ghost use Rattle.inputs.specs.Steps.{IsOfReader, IsReadJob};
+ghost use Rattle.inputs.specs.Input.{IsInput, IsReadJob};
+ghost use Rattle.inputs.specs.Outcomes.{CountsRead, CountsWritten, IsOfReader, most_input};
 
 use crate::accepted::accept;
 use crate::bound::bind;

@@ -1,8 +1,11 @@
 //! Texts into a writer, without memory.
 
 ghost use Rattle.std.specs.List.{flat_map};
+ghost use Rattle.inputs.specs.FaultLines.{head, name_text};
 ghost use Rattle.inputs.specs.Taking.{Takes};
 
+use itoa::Buffer;
+use pipe_tokens::Name;
 use streams::{Sink, WriteFailed, write_whole};
 
 /// Writes the text.
@@ -23,4 +26,36 @@ pub fn write_texts<W: Sink>(writer: &mut W, texts: &[&[u8]]) -> Result<(), Write
         write_text(writer, text)?;
     }
     Ok(())
+}
+
+/// The kind, the number and the name of a fault.
+pub fn write_head<W: Sink>(
+    writer: &mut W,
+    kind: &[u8],
+    number: u8,
+    name: &str,
+) -> Result<(), WriteFailed>
+    ensures { Takes result (head kind.now number name.now)
+        (W.contents writer.old) (W.contents writer.new)
+        (W.failures writer.old) (W.failures writer.new) }
+{
+    let mut digits = Buffer::new();
+    write_texts(
+        writer,
+        &[
+            kind,
+            b": ",
+            digits.format(number).as_bytes(),
+            b" ",
+            name.as_bytes(),
+        ],
+    )
+}
+
+/// A name behind a blank.
+pub fn write_name<W: Sink>(writer: &mut W, name: &Name) -> Result<(), WriteFailed>
+    ensures { Takes result (name_text name.now) (W.contents writer.old) (W.contents writer.new)
+        (W.failures writer.old) (W.failures writer.new) }
+{
+    write_texts(writer, &[b" ", name.as_bytes()])
 }

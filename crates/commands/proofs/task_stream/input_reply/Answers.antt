@@ -1,4 +1,4 @@
-use Rattle.commands.specs.Replies.{reply_bytes}
+use Rattle.commands.specs.inside.Replies.{reply_bytes}
 use Rattle.commands.specs.Sayings.{saying_of}
 use Rattle.commands.proofs.Replying.{said_of}
 use Rattle.commands.proofs.task_stream.input_reply.Goals as goal

@@ -1,5 +1,5 @@
 use Rattle.std.proofs.lemmas.Result.{err_from_is_err_and}
-use Rattle.commands.specs.Replies.{reply_bytes}
+use Rattle.commands.specs.inside.Replies.{reply_bytes}
 use Rattle.commands.specs.Sayings.{saying_of}
 use Rattle.inputs.proofs.Known.{input_fault, said_written}
 use Rattle.commands.proofs.task_stream.task_stream.Goals as goal

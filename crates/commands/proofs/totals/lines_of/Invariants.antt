@@ -2,7 +2,7 @@ use Rattle.std.proofs.Common.{◌≡◌, ◌++◌, drop}
 use Rattle.std.specs.List.{flat_map}
 use Rattle.accumulators.specs.Answers.{gathered}
 use Rattle.job.specs.Kept.{pipeline_in}
-use Rattle.commands.specs.Gathering.{gathered_line}
+use Rattle.commands.specs.inside.Gathering.{gathered_line}
 use Rattle.commands.proofs.totals.lines_of.Given as goal
 
 abbrev pub invariant-loop-total : goal.invariant-loop-total

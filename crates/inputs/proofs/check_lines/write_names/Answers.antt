@@ -1,7 +1,7 @@
 use Rattle.std.proofs.Common.{arith}
 use Rattle.inputs.specs.FaultLines.{name_text}
 use Rattle.inputs.proofs.Taken.{part_more, takes_err}
-use Rattle.inputs.proofs.telling.write_names.Goals as goal
+use Rattle.inputs.proofs.check_lines.write_names.Goals as goal
 
 pub returns-in_err-write_name : goal.returns-in_err-write_name
 returns-in_err-write_name g c =

@@ -1,7 +1,7 @@
 use Rattle.std.proofs.Common.{◌++◌}
 use Rattle.inputs.specs.FaultLines.{bind_head, blamed_text, read_text}
 use Rattle.inputs.proofs.Taken.{all_then, part_front, part_then, takes_err, takes_then}
-use Rattle.inputs.proofs.telling.write_bind.Goals as goal
+use Rattle.inputs.proofs.bind_lines.write_bind.Goals as goal
 
 pub returns-in_err-write_bind_head : goal.returns-in_err-write_bind_head
 returns-in_err-write_bind_head g c =

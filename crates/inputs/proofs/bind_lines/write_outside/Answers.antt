@@ -2,7 +2,7 @@ use Rattle.std.proofs.Common.{SFits, rules, w32}
 use Rattle.std.proofs.Math.Facts.{to_z-of_z}
 use Rattle.inputs.specs.FaultLines.{ends_text, place_text}
 use Rattle.inputs.proofs.Taken.{part_front, takes_err, takes_then}
-use Rattle.inputs.proofs.telling.write_outside.Goals as goal
+use Rattle.inputs.proofs.bind_lines.write_outside.Goals as goal
 
 pub returns-in_err-write_case : goal.returns-in_err-write_case
 returns-in_err-write_case g c =

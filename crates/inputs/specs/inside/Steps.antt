@@ -1,36 +1,17 @@
--- What the steps from an input to its job give, and what they are refused with. Only contracts inside the crate cite it.
-use Rattle.std.specs.Prelude.{◌≡◌, ◌≢◌, ℕ, ◌<◌, Option, IfSome, List, length, string_bytes}
-use Rattle.domains.specs.Sides.{Sides}
+-- What the steps from an input to its job are refused with.
+use Rattle.std.specs.Prelude.{◌≡◌, ◌≢◌, ℕ, List, string_bytes}
 use Rattle.pipe_tree.specs.Tree.{Declaration}
-use Rattle.pipe_print.specs.Canonical.{canonical}
 use Rattle.pipe_checks.specs.declared.symbol.Symbol.{Symbol}
 use Rattle.pipe_bounds.specs.declared.fault.ParamFault.{ParamFault}
 use Rattle.pipe_bounds.specs.declared.params.Setting.{Setting}
-use Rattle.job.specs.Kept.{pipeline_in, program_text_in}
 use Rattle.binding.specs.declared.fault.BindFault.{BindFault}
 use Rattle.binding.specs.declared.fault.BindFault.TheVariants as binding
-use Rattle.job.specs.declared.job.Job.{Job}
 use Rattle.inputs.specs.declared.faults.StreamFault.{StreamFault}
 use Rattle.inputs.specs.declared.faults.StreamFault.TheVariants as faults
 use Rattle.inputs.specs.Faults.{IsCheckLine, blamed}
 use Rattle.inputs.specs.Giving.{Given, IsFirstRefused}
-use Rattle.inputs.specs.Input.{IsInputJob}
-use Rattle.inputs.specs.Outcomes.{most_input}
 
--- the job of an input, which keeps the canonical text of its program
-pub record IsReadJob (input : List ℕ) (given : List Given) (sides : Sides) (job : Job) : Type 0 where
-  pub tree : List Declaration
-  pub of_input : IsInputJob input given sides tree (pipeline_in job)
-  pub text : program_text_in job ≡ canonical tree
-
--- what reading is refused with
-abbrev pub IsOfReader : Option (List ℕ) → StreamFault → Type 0
-IsOfReader known faults.Read = Unit {0}
-IsOfReader known faults.TooLong = IfSome known (λ input. most_input < length input)
-IsOfReader known faults.Memory = Unit {0}
-IsOfReader known _ = ⊥
-
--- ---- faults of single steps. Each may refuse memory
+-- each may refuse memory
 
 -- a refused program
 abbrev pub IsRefusal : List Declaration → StreamFault → Type 0

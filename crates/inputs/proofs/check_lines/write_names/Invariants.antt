@@ -2,7 +2,7 @@ use Rattle.std.proofs.Common.{take}
 use Rattle.std.specs.List.{flat_map}
 use Rattle.inputs.specs.FaultLines.{name_text}
 use Rattle.inputs.specs.Taking.{TakesAll}
-use Rattle.inputs.proofs.telling.write_names.Given as goal
+use Rattle.inputs.proofs.check_lines.write_names.Given as goal
 
 abbrev pub invariant-loop-name : goal.invariant-loop-name
 invariant-loop-name g l =

@@ -1,6 +1,6 @@
 use Rattle.inputs.specs.FaultLines.{check_head, item_text}
 use Rattle.inputs.proofs.Taken.{part_front, takes_err, takes_then}
-use Rattle.inputs.proofs.telling.write_check_fault.Goals as goal
+use Rattle.inputs.proofs.check_lines.write_check_fault.Goals as goal
 
 pub returns-in_err-write_check_head : goal.returns-in_err-write_check_head
 returns-in_err-write_check_head g c =

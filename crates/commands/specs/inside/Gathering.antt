@@ -1,4 +1,4 @@
--- The line of what an accumulator gathered. Only contracts inside the crate cite it.
+-- The line of what an accumulator gathered.
 use Rattle.std.specs.Prelude.{ℕ, List, [], slice_get}
 use Rattle.std.specs.Option.{option_map_or}
 use Rattle.accumulators.specs.Answers.{Gathered}

@@ -3,7 +3,7 @@ use Rattle.std.specs.List.{flat_map}
 use Rattle.pipe_checks.specs.declared.fault.CheckFault.TheVariants.{Cycle}
 use Rattle.inputs.specs.FaultLines.{check_head, name_text}
 use Rattle.inputs.proofs.Taken.{part_front, takes_err, takes_then}
-use Rattle.inputs.proofs.telling.write_cycle.Goals as goal
+use Rattle.inputs.proofs.check_lines.write_cycle.Goals as goal
 
 pub returns-in_err-write_head : goal.returns-in_err-write_head
 returns-in_err-write_head g c =

@@ -1,0 +1,3 @@
+-- What inner contracts and proofs cite, and no public one: how the code goes about it.
+pub mod Gathering
+pub mod Replies
