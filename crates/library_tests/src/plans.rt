@@ -232,11 +232,13 @@ fn far_more_scratch_memory_than_there_may_be(rt: HostRuntime) -> Result<(), Fail
     };
     planned(rt.alloc(), &last, (18, 0, 0), "ScratchTooBig")?;
     let all = Case {
+        text: FAR_TOO_BIG,
+        file: ONE,
+        sides: (1024, 1024),
         inlining: &[
             false, true, true, true, true, true, true, true, true, true, true, true, true, true,
             true, true, true, true, false,
         ],
-        ..last
     };
     planned(rt.alloc(), &all, (18, 0, 0), "ScratchTooBig")
 }
