@@ -10,18 +10,23 @@ ghost use Rattle.tile_fact.specs.Order.{Rises};
 /// Sets of the same facts are one. The empty set has no fact, with one more fact a set has this and those that it had, and
 /// a join has the facts of both.
 pub fn sets_are_their_facts()
-    ensures same { (s t : FactSet) → ((f : Fact) → (holds s f ≡ true) ↔ (holds t f ≡ true)) → s ≡ t }
+    ensures same { (s t : FactSet) →
+        ((f : Fact) → (holds s f ≡ true) ↔ (holds t f ≡ true)) → s ≡ t }
     ensures nothing { (f : Fact) → holds nothing f ≡ false }
-    ensures one_more { (s : FactSet) (f g : Fact) → (holds (with_fact s f) g ≡ true) ↔ ((g ≡ f) ⊎ (holds s g ≡ true)) }
-    ensures both { (s t : FactSet) (f : Fact) → (holds (join s t) f ≡ true) ↔ ((holds s f ≡ true) ⊎ (holds t f ≡ true)) }
+    ensures one_more { (s : FactSet) (f g : Fact) →
+        (holds (with_fact s f) g ≡ true) ↔ ((g ≡ f) ⊎ (holds s g ≡ true)) }
+    ensures both { (s t : FactSet) (f : Fact) →
+        (holds (join s t) f ≡ true) ↔ ((holds s f ≡ true) ⊎ (holds t f ≡ true)) }
     ensures listed { (s : FactSet) (f : Fact) → Contains (facts_in s) f ↔ (holds s f ≡ true) }
     ensures rise { (s : FactSet) → Rises (facts_in s) }
 {}
 
 /// The facts of a key are those of the set that have it, and what a set lacks of another one is what the other alone has.
 pub fn parts_of_sets()
-    ensures of_key { (s : FactSet) (key : Key) (f : Fact) → Contains (facts_of s key) f ↔ ((holds s f ≡ true) × (f.key ≡ key)) }
-    ensures lacked { (s t : FactSet) (f : Fact) → Contains (lacked s t) f ↔ ((holds t f ≡ true) × (holds s f ≡ false)) }
+    ensures of_key { (s : FactSet) (key : Key) (f : Fact) →
+        Contains (facts_of s key) f ↔ ((holds s f ≡ true) × (f.key ≡ key)) }
+    ensures lacked { (s t : FactSet) (f : Fact) →
+        Contains (lacked s t) f ↔ ((holds t f ≡ true) × (holds s f ≡ false)) }
 {}
 
 /// Join is commutative, associative and idempotent, and the least set of which both are part.
@@ -37,7 +42,8 @@ pub fn join_is_least_upper_bound()
 
 /// Facts may come in any order, more than once, and through joins: the set is the same.
 pub fn order_is_forgotten()
-    ensures swapped { (s : FactSet) (f g : Fact) → with_fact (with_fact s f) g ≡ with_fact (with_fact s g) f }
+    ensures swapped { (s : FactSet) (f g : Fact) →
+        with_fact (with_fact s f) g ≡ with_fact (with_fact s g) f }
     ensures twice { (s : FactSet) (f : Fact) → with_fact (with_fact s f) f ≡ with_fact s f }
     ensures through { (s t : FactSet) (f : Fact) → join s (with_fact t f) ≡ with_fact (join s t) f }
 {}

@@ -33,8 +33,10 @@ pub trait FactStore: Drop + Sized {
 
     /// Adds the facts of another store, and tells how many of them are new. Where memory runs out the store is as it was.
     fn join(&mut self, other: &Self) -> Result<usize, AllocError>
-        ensures joined { OnOk result (content self.new ≡ join (content self.old) (content other.now)) }
-        ensures new { IfOk result (λ count. count ≡ length (lacked (content self.old) (content self.new))) }
+        ensures joined { OnOk result
+            (content self.new ≡ join (content self.old) (content other.now)) }
+        ensures new { IfOk result
+            (λ count. count ≡ length (lacked (content self.old) (content self.new))) }
         ensures unchanged { OnErr result (content self.new ≡ content self.old) };
 
     /// How many facts of a key there are.

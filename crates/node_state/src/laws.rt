@@ -8,5 +8,6 @@ ghost use Rattle.tile_fact.specs.declared.fact.Fact.{Fact};
 
 /// What is lent is held and of one of the keys, and all that is so is lent.
 pub fn lent_facts_are_held()
-    ensures lent { (s : State) (keys : List Key) (f : Fact) → (holds (lent s keys) f ≡ true) ↔ ((holds s f ≡ true) × Contains keys f.key) }
+    ensures lent { (s : State) (keys : List Key) (f : Fact) →
+        (holds (lent s keys) f ≡ true) ↔ ((holds s f ≡ true) × Contains keys f.key) }
 {}
