@@ -50,99 +50,115 @@ fn is_accumulator(job: &Job, stage: usize) -> bool
     job.kind(stage) == Some(StageKind::Accumulator)
 }
 
-// The plan of a tile of a function.
-fn plan_of_function<'a>(
+/// A tile: its stage, its row and its column.
+type Tile = (usize, u32, u32);
+
+/// A job, and the schedule that plans of its tiles go by.
+#[derive(Clone, Copy)]
+struct Scheduled<'a> {
     alloc: Global,
-    job: &Job,
+    job: &'a Job,
     schedule: &'a Schedule,
-    stage: usize,
-    row: u32,
-    col: u32,
-) -> Result<TilePlan<'a>, Fail>
-    ensures { IfOk result (IsFunctionPlan (program_id_in job.now) (pipeline_in job.now)) }
-{
-    if !is_function(job, stage) {
-        return Err(Fail::new("no function"));
-    }
-    let plan = TilePlan::of(alloc, job, schedule, stage, row, col)?;
-    Ok(plan)
 }
 
-// The plan of a tile of an accumulator.
-fn plan_of_accumulator<'a>(
-    alloc: Global,
-    job: &Job,
-    schedule: &'a Schedule,
-    stage: usize,
-    row: u32,
-    col: u32,
-) -> Result<TilePlan<'a>, Fail>
-    ensures { IfOk result (IsAccumulatorPlan (program_id_in job.now) (pipeline_in job.now)) }
-{
-    if !is_accumulator(job, stage) {
-        return Err(Fail::new("no accumulator"));
-    }
-    let plan = TilePlan::of(alloc, job, schedule, stage, row, col)?;
-    Ok(plan)
-}
-
-// The numbers of a tile of a function, by its plan.
-fn numbers<K: Known>(
-    alloc: Global,
-    job: &Job,
-    schedule: &Schedule,
-    tile: (usize, u32, u32),
-    known: &K,
-) -> Result<Vec<i32>, Fail>
-    requires whole { AreWhole (pipeline_in job.now) (K.given known.now) }
-{
-    let plan = plan_of_function(alloc, job, schedule, tile.0, tile.1, tile.2)?;
-    let mut scratch = Scratch::new(alloc);
-    Ok(run_tile(alloc, job, &plan, &mut scratch, known)?)
-}
-
-// Compares what an accumulator gathers over a tile, by the tile's plan, where nothing is given.
-fn has_bins(
-    alloc: Global,
-    job: &Job,
-    schedule: &Schedule,
-    tile: (usize, u32, u32),
-    wanted: &str,
-) -> Result<(), Fail> {
-    let plan = plan_of_accumulator(alloc, job, schedule, tile.0, tile.1, tile.2)?;
-    let mut scratch = Scratch::new(alloc);
-    let bins = partial(alloc, job, &plan, &mut scratch, &Nothing)?;
-    tells(alloc, &bins, wanted)
-}
-
-// Compares each tile of a stage with the one that a run stored.
-fn compare(
-    alloc: Global,
-    job: &Job,
-    schedule: &Schedule,
-    stored: &Stored,
-    stage: usize,
-) -> Result<(), Fail>
-    requires whole { AreWhole (pipeline_in job.now) (stored_tiles stored.now.stages.items) }
-{
-    let grid = job.grid(stage).ok_or("no grid")?;
-    for row in 0..grid.tile_rows() {
-        for col in 0..grid.tile_cols() {
-            let made = numbers(alloc, job, schedule, (stage, row, col), stored)?;
-            if stored.tile(stage, row, col) != Some(made.as_slice()) {
-                return Err(Fail::new("not the tile of the run"));
-            }
+impl<'a> Scheduled<'a> {
+    fn new(alloc: Global, job: &'a Job, schedule: &'a Schedule) -> Self
+        ensures { result.job.now ≡ job.now }
+    {
+        Scheduled {
+            alloc,
+            job,
+            schedule,
         }
     }
-    Ok(())
+
+    // The plan of a tile of a function.
+    fn plan_of_function(&self, tile: Tile) -> Result<TilePlan<'a>, Fail>
+        ensures { IfOk result (IsFunctionPlan (program_id_in self.now.job.now) (pipeline_in self.now.job.now)) }
+    {
+        if !is_function(self.job, tile.0) {
+            return Err(Fail::new("no function"));
+        }
+        let plan = TilePlan::of(self.alloc, self.job, self.schedule, tile.0, tile.1, tile.2)?;
+        Ok(plan)
+    }
+
+    // The plan of a tile of an accumulator.
+    fn plan_of_accumulator(&self, tile: Tile) -> Result<TilePlan<'a>, Fail>
+        ensures { IfOk result (IsAccumulatorPlan (program_id_in self.now.job.now) (pipeline_in self.now.job.now)) }
+    {
+        if !is_accumulator(self.job, tile.0) {
+            return Err(Fail::new("no accumulator"));
+        }
+        let plan = TilePlan::of(self.alloc, self.job, self.schedule, tile.0, tile.1, tile.2)?;
+        Ok(plan)
+    }
+
+    // The numbers of a tile of a function, by its plan.
+    fn numbers<K: Known>(&self, tile: Tile, known: &K) -> Result<Vec<i32>, Fail>
+        requires whole { AreWhole (pipeline_in self.now.job.now) (K.given known.now) }
+    {
+        let plan = self.plan_of_function(tile)?;
+        let mut scratch = Scratch::new(self.alloc);
+        Ok(run_tile(self.alloc, self.job, &plan, &mut scratch, known)?)
+    }
+
+    // Compares what an accumulator gathers over a tile, by the tile's plan, where nothing is given.
+    fn has_bins(&self, tile: Tile, wanted: &str) -> Result<(), Fail> {
+        let plan = self.plan_of_accumulator(tile)?;
+        let mut scratch = Scratch::new(self.alloc);
+        let bins = partial(self.alloc, self.job, &plan, &mut scratch, &Nothing)?;
+        tells(self.alloc, &bins, wanted)
+    }
+
+    // Compares each tile of a stage with the one that a run stored.
+    fn compare(&self, stored: &Stored, stage: usize) -> Result<(), Fail>
+        requires whole { AreWhole (pipeline_in self.now.job.now) (stored_tiles stored.now.stages.items) }
+    {
+        let grid = self.job.grid(stage).ok_or("no grid")?;
+        for row in 0..grid.tile_rows() {
+            for col in 0..grid.tile_cols() {
+                let made = self.numbers((stage, row, col), stored)?;
+                if stored.tile(stage, row, col) != Some(made.as_slice()) {
+                    return Err(Fail::new("not the tile of the run"));
+                }
+            }
+        }
+        Ok(())
+    }
+
+    // Which tile the first of a function misses where nothing is given.
+    fn missing_of_function(&self, stage: usize) -> Result<Option<Key>, Fail> {
+        let plan = self.plan_of_function((stage, 0, 0))?;
+        let mut scratch = Scratch::new(self.alloc);
+        let made = run_tile(self.alloc, self.job, &plan, &mut scratch, &Nothing);
+        Ok(missing(&made))
+    }
+
+    // Which tile the first of an accumulator misses where nothing is given.
+    fn missing_of_accumulator(&self, stage: usize) -> Result<Option<Key>, Fail> {
+        let plan = self.plan_of_accumulator((stage, 0, 0))?;
+        let mut scratch = Scratch::new(self.alloc);
+        let made = partial(self.alloc, self.job, &plan, &mut scratch, &Nothing);
+        Ok(missing(&made))
+    }
+}
+
+// Which tile is missing, where one is.
+fn missing<T>(made: &Result<T, EvalFault>) -> Option<Key> {
+    match made {
+        Err(EvalFault::Missing(key)) => Some(*key),
+        Err(EvalFault::Memory) | Ok(_) => None,
+    }
 }
 
 // Compares the tiles of two stored functions, each of which reads an inlined one.
 fn compare_both(alloc: Global, job: &Job) -> Result<(), Fail> {
     let schedule = schedule_of(alloc, job, &[false, true, false, true, false])?;
     let stored = run(alloc, job, &schedule)?;
-    compare(alloc, job, &schedule, &stored, 2)?;
-    compare(alloc, job, &schedule, &stored, 4)
+    let scheduled = Scheduled::new(alloc, job, &schedule);
+    scheduled.compare(&stored, 2)?;
+    scheduled.compare(&stored, 4)
 }
 
 #[test]
@@ -155,8 +171,9 @@ fn tiles_by_their_plans_are_those_of_a_run(rt: HostRuntime) -> Result<(), Fail> 
 fn are_gathered(alloc: Global, job: &Job) -> Result<(), Fail> {
     has_few_stages(job)?;
     let schedule = chosen(alloc, job, false)?;
-    has_bins(alloc, job, &schedule, (1, 0, 0), "[1, 2, 1, 0]")?;
-    has_bins(alloc, job, &schedule, (1, 1, 1), "[0, 1, 0, 0]")
+    let scheduled = Scheduled::new(alloc, job, &schedule);
+    scheduled.has_bins((1, 0, 0), "[1, 2, 1, 0]")?;
+    scheduled.has_bins((1, 1, 1), "[0, 1, 0, 0]")
 }
 
 #[test]
@@ -169,7 +186,8 @@ fn partials_are_gathered_over_a_tile_alone(rt: HostRuntime) -> Result<(), Fail> 
 fn are_computed(alloc: Global, job: &Job) -> Result<(), Fail> {
     has_few_stages(job)?;
     let schedule = schedule_of(alloc, job, &[false, true, false])?;
-    let made = numbers(alloc, job, &schedule, (2, 0, 0), &Nothing)?;
+    let scheduled = Scheduled::new(alloc, job, &schedule);
+    let made = scheduled.numbers((2, 0, 0), &Nothing)?;
     tells(alloc, &made, "[81, 81, 81, 81]")
 }
 
@@ -180,45 +198,12 @@ fn inlined_functions_are_computed_where_nothing_is_given(rt: HostRuntime) -> Res
     are_computed(alloc, &job)
 }
 
-// Which tile is missing, where one is.
-fn missing<T>(made: &Result<T, EvalFault>) -> Option<Key> {
-    match made {
-        Err(EvalFault::Missing(key)) => Some(*key),
-        Err(EvalFault::Memory) | Ok(_) => None,
-    }
-}
-
-// Which tile the first of a function misses where nothing is given.
-fn missing_of_function(
-    alloc: Global,
-    job: &Job,
-    schedule: &Schedule,
-    stage: usize,
-) -> Result<Option<Key>, Fail> {
-    let plan = plan_of_function(alloc, job, schedule, stage, 0, 0)?;
-    let mut scratch = Scratch::new(alloc);
-    let made = run_tile(alloc, job, &plan, &mut scratch, &Nothing);
-    Ok(missing(&made))
-}
-
-// Which tile the first of an accumulator misses where nothing is given.
-fn missing_of_accumulator(
-    alloc: Global,
-    job: &Job,
-    schedule: &Schedule,
-    stage: usize,
-) -> Result<Option<Key>, Fail> {
-    let plan = plan_of_accumulator(alloc, job, schedule, stage, 0, 0)?;
-    let mut scratch = Scratch::new(alloc);
-    let made = partial(alloc, job, &plan, &mut scratch, &Nothing);
-    Ok(missing(&made))
-}
-
 fn least_is_named(alloc: Global, job: &Job) -> Result<(), Fail> {
     has_few_stages(job)?;
     let schedule = schedule_of(alloc, job, &[false, false, false, false])?;
-    let of_function = missing_of_function(alloc, job, &schedule, 2)?;
-    let of_accumulator = missing_of_accumulator(alloc, job, &schedule, 3)?;
+    let scheduled = Scheduled::new(alloc, job, &schedule);
+    let of_function = scheduled.missing_of_function(2)?;
+    let of_accumulator = scheduled.missing_of_accumulator(3)?;
     let least = job.key(1, 0, 0);
     holds(Some(of_function == least), "a function names the least")?;
     holds(

@@ -18,24 +18,26 @@ fn has_input(alloc: Global, job: &Job, wanted: &str) -> Result<(), Fail> {
     says(&hex::encode(alloc, bytes.as_slice())?, wanted)
 }
 
+// The identities of what a job is given and of its program, two digits of each byte.
+fn has_identities(alloc: Global, job: &Job, input: &str, program: &str) -> Result<(), Fail> {
+    shows(alloc, &job.input_id(), input)?;
+    shows(alloc, &job.program_id(), program)
+}
+
 fn has_grey(alloc: Global, job: &Job) -> Result<(), Fail> {
     has_input(
         alloc,
         job,
         "505449310000000200000002000201520000000201430000000250350a3220320a3235350a01020304",
     )?;
-    shows(
-        alloc,
-        &job.input_id(),
-        "fd17eda6718699f8da71d309eb34c2ee2e0220a4b9694dd8c3c44b40c42d07d9",
-    )?;
     reads(
         job.program_text(),
         "param R;param C;image I(R,C);func f(x in[0..R-1],y in[0..C-1]){else:I(x,y);}output f max 255;",
     )?;
-    shows(
+    has_identities(
         alloc,
-        &job.program_id(),
+        job,
+        "fd17eda6718699f8da71d309eb34c2ee2e0220a4b9694dd8c3c44b40c42d07d9",
         "7609cadcb0ed4eaee5ebfe5f461d6a2841e6f0d0e0ee23c3dd1cd942a2385118",
     )
 }
@@ -53,14 +55,10 @@ fn has_colours(alloc: Global, job: &Job) -> Result<(), Fail> {
         job,
         "5054493100000003000004000002014efffffffe096c6f6e675f6e616d650000012c50360a3120310a3235360a000101000003",
     )?;
-    shows(
+    has_identities(
         alloc,
-        &job.input_id(),
+        job,
         "f115d67296cc102105aa0ad5d7603a20589441fed23c4cfa1b1e9fa2b141c52b",
-    )?;
-    shows(
-        alloc,
-        &job.program_id(),
         "902fce8bccc9519eab9136ccd6bdeeefe2475d01905a7a71de27b871bc200a7f",
     )
 }

@@ -38,7 +38,7 @@ accum h [0..9] over (x in [0..1], y in [0..1]) sum b(x,y) at a(x,y);
 output b max 255;";
 
 /// A tile of 1,024 rows and columns reads a square of 8,192 rows and columns.
-const FULL: &str = "image I(1,1);
+pub(crate) const FULL: &str = "image I(1,1);
 func a(x in [0..8192], y in [0..8192]) { else : 1; }
 func b(x in [0..1023], y in [0..1023]) { else : a(8*x,8*y) + a(8*x+7,8*y+7); }
 output b max 255;";
@@ -72,14 +72,9 @@ struct Parts<'a> {
     scratch: usize,
 }
 
-/// A program and a picture, the sides of its tiles, and a flag for each stage that tells which functions are inlined.
+/// A program and a picture, the side of its tiles, and a flag for each stage that tells which functions are inlined.
 #[derive(Clone, Copy)]
-struct Case {
-    text: &'static str,
-    file: &'static [u8],
-    sides: (u32, u32),
-    inlining: &'static [bool],
-}
+struct Case(&'static str, &'static [u8], u32, &'static [bool]);
 
 // What a plan needs: the stage, the row and the column of each tile, whose key is the job's.
 fn needs(alloc: Global, job: &Job, plan: &TilePlan<'_>) -> Result<Vec<(u16, u32, u32)>, Fail> {
@@ -131,27 +126,13 @@ fn is_planned(
 }
 
 fn planned(alloc: Global, case: &Case, tile: Tile, wanted: &str) -> Result<(), Fail> {
-    let job = job_of(alloc, case.text, &[], case.file, case.sides)?;
-    is_planned(alloc, &job, case.inlining, tile, wanted)
+    let Case(text, file, side, inlining) = *case;
+    let job = job_of(alloc, text, &[], file, (side, side))?;
+    is_planned(alloc, &job, inlining, tile, wanted)
 }
 
 /// One tile of one point.
-const POINT: Case = Case {
-    text: COPY,
-    file: ONE,
-    sides: (1024, 1024),
-    inlining: &[false, false],
-};
-
-#[test]
-fn a_stored_function_of_one_point(rt: HostRuntime) -> Result<(), Fail> {
-    planned(
-        rt.alloc(),
-        &POINT,
-        (1, 0, 0),
-        "Parts { needs: [], steps: [(1, (0, 0, 0, 0))], points: 1, ranges: [], scratch: 0 }",
-    )
-}
+const POINT: Case = Case(COPY, ONE, 1024, &[false, false]);
 
 #[test]
 fn tiles_that_are_not_there(rt: HostRuntime) -> Result<(), Fail> {
@@ -161,93 +142,56 @@ fn tiles_that_are_not_there(rt: HostRuntime) -> Result<(), Fail> {
     Ok(())
 }
 
-#[test]
-fn an_inlined_function_is_computed_before_its_reader(rt: HostRuntime) -> Result<(), Fail> {
-    let chain = Case {
-        text: CHAIN,
-        file: ONES,
-        sides: (2, 2),
-        inlining: &[false, true, false],
-    };
-    planned(
-        rt.alloc(),
-        &chain,
+/// Tiles, and their plans.
+static PLANNED: [(Case, Tile, &str); 7] = [
+    // A stored function of one point.
+    (
+        POINT,
+        (1, 0, 0),
+        "Parts { needs: [], steps: [(1, (0, 0, 0, 0))], points: 1, ranges: [], scratch: 0 }",
+    ),
+    // An inlined function is computed before its reader.
+    (
+        Case(CHAIN, ONES, 2, &[false, true, false]),
         (2, 0, 0),
         "Parts { needs: [], steps: [(1, (1, 4, 1, 4)), (2, (2, 3, 2, 3))], points: 20, ranges: [(0, 16)], scratch: 16 }",
-    )
-}
-
-#[test]
-fn ranges_of_a_chain(rt: HostRuntime) -> Result<(), Fail> {
-    let copies = Case {
-        text: COPIES,
-        file: FOUR,
-        sides: (2, 2),
-        inlining: &[false, true, true, true, false],
-    };
-    planned(
-        rt.alloc(),
-        &copies,
+    ),
+    // The ranges of a chain.
+    (
+        Case(COPIES, FOUR, 2, &[false, true, true, true, false]),
         (4, 0, 0),
         "Parts { needs: [], steps: [(1, (0, 1, 0, 1)), (2, (0, 1, 0, 1)), (3, (0, 1, 0, 1)), (4, (0, 1, 0, 1))], points: 16, ranges: [(0, 4), (4, 4), (8, 4)], scratch: 12 }",
-    )
-}
-
-#[test]
-fn a_box_over_four_tiles_needs_each(rt: HostRuntime) -> Result<(), Fail> {
-    let corners = Case {
-        text: CORNERS,
-        file: SIXTEEN,
-        sides: (2, 2),
-        inlining: &[false, false, false, false],
-    };
-    planned(
-        rt.alloc(),
-        &corners,
+    ),
+    // A box over four tiles needs each.
+    (
+        Case(CORNERS, SIXTEEN, 2, &[false, false, false, false]),
         (2, 0, 0),
         "Parts { needs: [(1, 0, 0), (1, 0, 1), (1, 1, 0), (1, 1, 1)], steps: [(2, (0, 1, 0, 1))], points: 4, ranges: [], scratch: 0 }",
-    )
-}
-
-#[test]
-fn an_accumulator_is_planned_too(rt: HostRuntime) -> Result<(), Fail> {
-    let corners = Case {
-        text: CORNERS,
-        file: SIXTEEN,
-        sides: (2, 2),
-        inlining: &[false, true, false, false],
-    };
-    planned(
-        rt.alloc(),
-        &corners,
+    ),
+    // An accumulator is planned too.
+    (
+        Case(CORNERS, SIXTEEN, 2, &[false, true, false, false]),
         (3, 0, 0),
         "Parts { needs: [(2, 0, 0)], steps: [(1, (0, 1, 0, 1)), (3, (0, 1, 0, 1))], points: 8, ranges: [(0, 4)], scratch: 4 }",
-    )
-}
-
-#[test]
-fn as_much_scratch_memory_as_there_may_be(rt: HostRuntime) -> Result<(), Fail> {
-    let full = Case {
-        text: FULL,
-        file: ONE,
-        sides: (1024, 1024),
-        inlining: &[false, true, false],
-    };
-    planned(
-        rt.alloc(),
-        &full,
+    ),
+    // As much scratch memory as there may be.
+    (
+        Case(FULL, ONE, 1024, &[false, true, false]),
         (2, 0, 0),
         "Parts { needs: [], steps: [(1, (0, 8191, 0, 8191)), (2, (0, 1023, 0, 1023))], points: 68157440, ranges: [(0, 67108864)], scratch: 67108864 }",
-    )
-}
+    ),
+    // More scratch memory than there may be.
+    (
+        Case(TOO_BIG, ONE, 1024, &[false, true, false]),
+        (2, 0, 0),
+        "ScratchTooBig",
+    ),
+];
 
 #[test]
-fn more_scratch_memory_than_there_may_be(rt: HostRuntime) -> Result<(), Fail> {
-    let too_big = Case {
-        text: TOO_BIG,
-        file: ONE,
-        sides: (1024, 1024),
-        inlining: &[false, true, false],
-    };
-    planned(rt.alloc(), &too_big, (2, 0, 0), "ScratchTooBig")
+fn tiles_are_planned(rt: HostRuntime) -> Result<(), Fail> {
+    for (case, tile, wanted) in PLANNED {
+        planned(rt.alloc(), &case, tile, wanted)?;
+    }
+    Ok(())
 }
