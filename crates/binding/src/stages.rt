@@ -87,7 +87,12 @@ impl Resolver<'_> {
 
     // The stage of this name, of which this was found and this is computed.
     fn stage(&self, name: &Name, bounds: &StageBounds, body: Body) -> Stage
-        ensures { result ≡ record { name = name.now; rank = rank_named (program_in self.now) name.now; domain = bounds.now.domain; body = body } }
+        ensures { result ≡ record {
+          name = name.now;
+          rank = rank_named (program_in self.now) name.now;
+          domain = bounds.now.domain;
+          body = body;
+        } }
     {
         Stage::new(*name, self.rank(name), *bounds.domain(), body)
     }

@@ -5,17 +5,12 @@ ghost use Rattle.std.specs.Prelude.{◌≤◌};
 ghost use Rattle.job.specs.Kept.{pipeline_in};
 
 use crate::bound_jobs::job_of;
+use crate::plans::{CHAIN, FULL, TOO_BIG};
 use crate::wanted::{holds, tells};
 use grouping::{Schedule, ScheduleFault};
 use job::Job;
 use std::alloc::Global;
 use std::test::Fail;
-
-/// Two stencils of three by three in a chain, over six rows and six columns.
-const CHAIN: &str = "image I(6,6);
-func a(x in [1..4], y in [1..4]) { else : stencil(I, 1, [[1,1,1],[1,1,1],[1,1,1]]); }
-func b(x in [2..3], y in [2..3]) { else : stencil(a, 1, [[1,1,1],[1,1,1],[1,1,1]]); }
-output b max 65535;";
 
 /// A picture of six rows and six columns, and one of one point.
 const SIX: &[u8] =
@@ -126,14 +121,10 @@ fn inlines_where_one_stage_has_all_readers(rt: HostRuntime) -> Result<(), Fail> 
 #[test]
 fn inlines_where_there_is_room(rt: HostRuntime) -> Result<(), Fail> {
     let alloc = rt.alloc();
-    let most =
-        "image I(1,1); func a(x in [0..8192], y in [0..8192]) { else : 1; } func b(x in [0..1023], y in [0..1023]) { else : a(8*x, 8*y) + a(8*x+7, 8*y+7); } output b max 255;";
-    let more =
-        "image I(1,1); func a(x in [0..8192], y in [0..8192]) { else : 1; } func b(x in [0..1023], y in [0..1023]) { else : a(8*x, 8*y) + a(8*x+8, 8*y+8); } output b max 255;";
     let with_room = "[Plane, Inlined, Costs(68157440)]";
     let without = "[Plane, Costs(67125249), Costs(1048576)]";
-    greedy(alloc, most, ONE, 1024, 40, with_room)?;
-    greedy(alloc, more, ONE, 1024, 40, without)
+    greedy(alloc, FULL, ONE, 1024, 40, with_room)?;
+    greedy(alloc, TOO_BIG, ONE, 1024, 40, without)
 }
 
 // Fifty functions over about 4,096 rows and columns, each a stencil of the one before it.

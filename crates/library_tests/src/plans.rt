@@ -38,7 +38,7 @@ accum h [0..9] over (x in [0..1], y in [0..1]) sum b(x,y) at a(x,y);
 output b max 255;";
 
 /// A tile of 1,024 rows and columns reads a square of 8,192 rows and columns.
-const FULL: &str = "image I(1,1);
+pub(crate) const FULL: &str = "image I(1,1);
 func a(x in [0..8192], y in [0..8192]) { else : 1; }
 func b(x in [0..1023], y in [0..1023]) { else : a(8*x,8*y) + a(8*x+7,8*y+7); }
 output b max 255;";
@@ -70,6 +70,18 @@ func p(x in [0..16383], y in [0..16383]) { else : o(x,y); }
 func q(x in [0..16383], y in [0..16383]) { else : p(x,y); }
 func r(x in [0..1023], y in [0..1023]) { else : q(16*x,16*y) + q(16*x+15,16*y+15); }
 output r max 255;";
+
+/// The last of them is inlined.
+const ONE_OF_SEVENTEEN: &[bool] = &[
+    false, false, false, false, false, false, false, false, false, false, false, false, false, false, false,
+    false, false, true, false,
+];
+
+/// All of them are inlined.
+const ALL_OF_SEVENTEEN: &[bool] = &[
+    false, true, true, true, true, true, true, true, true, true, true, true, true, true, true, true, true,
+    true, false,
+];
 
 /// Pictures of one sample, of four, of sixteen, and of thirty-six that are 1.
 const ONE: &[u8] = b"P2 1 1 255 7";
@@ -165,7 +177,7 @@ fn tiles_that_are_not_there(rt: HostRuntime) -> Result<(), Fail> {
 }
 
 /// Tiles, and their plans.
-static PLANNED: [(Case, Tile, &str); 7] = [
+static PLANNED: [(Case, Tile, &str); 9] = [
     // A stored function of one point.
     (
         POINT,
@@ -208,6 +220,17 @@ static PLANNED: [(Case, Tile, &str); 7] = [
         (2, 0, 0),
         "ScratchTooBig",
     ),
+    // Far more is no matter of memory either: one function of 2^28 points, and seventeen of more than 2^32 together.
+    (
+        Case(FAR_TOO_BIG, ONE, 1024, ONE_OF_SEVENTEEN),
+        (18, 0, 0),
+        "ScratchTooBig",
+    ),
+    (
+        Case(FAR_TOO_BIG, ONE, 1024, ALL_OF_SEVENTEEN),
+        (18, 0, 0),
+        "ScratchTooBig",
+    ),
 ];
 
 #[test]
@@ -216,29 +239,4 @@ fn tiles_are_planned(rt: HostRuntime) -> Result<(), Fail> {
         planned(rt.alloc(), &case, tile, wanted)?;
     }
     Ok(())
-}
-
-// A tile far above the limit is no matter of memory: neither with one function of 2^28 points, nor with 2^32 and more.
-#[test]
-fn far_more_scratch_memory_than_there_may_be(rt: HostRuntime) -> Result<(), Fail> {
-    let last = Case {
-        text: FAR_TOO_BIG,
-        file: ONE,
-        sides: (1024, 1024),
-        inlining: &[
-            false, false, false, false, false, false, false, false, false, false, false, false,
-            false, false, false, false, false, true, false,
-        ],
-    };
-    planned(rt.alloc(), &last, (18, 0, 0), "ScratchTooBig")?;
-    let all = Case {
-        text: FAR_TOO_BIG,
-        file: ONE,
-        sides: (1024, 1024),
-        inlining: &[
-            false, true, true, true, true, true, true, true, true, true, true, true, true, true,
-            true, true, true, true, false,
-        ],
-    };
-    planned(rt.alloc(), &all, (18, 0, 0), "ScratchTooBig")
 }

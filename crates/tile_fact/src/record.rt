@@ -84,7 +84,8 @@ fn compare_numbers(a_kind: Kind, a: &[u8], b_kind: Kind, b: &[u8]) -> Ordering
 #[tactic(auto, unfolding(crate::specs::Reading::record_read))]
 pub fn read_record(total: usize, bytes: &[u8]) -> Result<(Record<'_>, &[u8]), FactFault>
     requires { length bytes.now ≤ total }
-    ensures read { Gives (λ x. (fact_of x.0.label.key x.0.label.kind x.0.numbers.now, x.1.now)) result (record_read total bytes.now) }
+    ensures read { Gives (λ x. (fact_of x.0.label.key x.0.label.kind x.0.numbers.now, x.1.now)) result
+        (record_read total bytes.now) }
     ensures within { IfOk result (λ x. IsWithin (body_in x.0.label.kind x.0.numbers.now)) }
     ensures behind { IfOk result (λ x. length x.1.now ≤ total) }
 {
