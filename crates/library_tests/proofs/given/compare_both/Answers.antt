@@ -4,11 +4,11 @@ use Rattle.accumulators.proofs.TileTotals.{whole}
 use Rattle.library_tests.proofs.given.compare_both.Goals as goal
 
 pub compare-requires : goal.compare-requires
-compare-requires c = record {
+compare-requires g c = record {
   whole = whole (pipeline_in c.args.job.now) (stored_tiles c.in_ok-stored.stored.stages.items) c.in_ok-stored.ensures.values;
 }
 
 pub compare-requires-2 : goal.compare-requires-2
-compare-requires-2 c = record {
+compare-requires-2 g c = record {
   whole = whole (pipeline_in c.args.job.now) (stored_tiles c.in_ok-stored.stored.stages.items) c.in_ok-stored.ensures.values;
 }
