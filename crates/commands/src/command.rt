@@ -12,6 +12,7 @@ use crate::task_stream::{check_stream, eval_stream, plan_stream};
 use command_line::{Refusal, Request, Task, request_of};
 use inputs::StreamFault;
 use std::alloc::Global;
+use std::thread::Threads;
 use streams::{Sink, Source, write_whole};
 
 /// The line of every command line that is refused.
@@ -23,7 +24,7 @@ const MEMORY: &[u8] = b"memory\n";
 /// Runs the command that the words name, and answers the status that the program is to end with: 0 done, 1 usage or
 /// parameters, 2 unreadable input, 3 refused program, 4 input or output failed, 5 memory. A fault is told in one line
 /// on the writer. `words` is without the program's own name.
-pub fn run_command<H: AllocGlobal, R: Source, W: Sink>(
+pub fn run_command<H: AllocGlobal + Threads + Sync, R: Source, W: Sink>(
     rt: &H,
     words: &[String],
     reader: &mut R,
@@ -48,7 +49,7 @@ pub fn run_command<H: AllocGlobal, R: Source, W: Sink>(
 }
 
 /// Runs the command that is asked for.
-fn perform<H: AllocGlobal, R: Source, W: Sink>(
+fn perform<H: AllocGlobal + Threads + Sync, R: Source, W: Sink>(
     rt: &H,
     request: &Request,
     reader: &mut R,
