@@ -17,6 +17,7 @@ use grouping::Schedule;
 use job::Job;
 use netpbm::Picture;
 use std::alloc::Global;
+use std::thread::Threads;
 use tile_run::{RunFault, Stored, Work, first_too_big};
 
 /// What an accumulator gathered: its stage, its first bin, and what is in its bins from there on.
@@ -35,13 +36,14 @@ pub struct Answer {
 }
 
 /// The answer of a job, from the tiles of all stored functions. The picture is made row by row, and the totals are put together
-/// tile by tile as they are made.
+/// tile by tile as they are made. One thread makes them; `_rt` starts none yet.
 ///
 /// # Errors
 ///
 /// Fails where a tile of an accumulator takes too much scratch memory, with the first by dependence order, row and column, before
 /// anything is computed; and where memory is refused.
 pub fn answer_of(
+    _rt: &(impl Threads + Sync),
     alloc: Global,
     job: &Job,
     schedule: &Schedule,

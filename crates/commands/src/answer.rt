@@ -17,26 +17,37 @@ use command_line::Options;
 use grouping::Schedule;
 use job::Job;
 use std::alloc::{AllocError, Global};
+use std::thread::Threads;
 use tile_run::{RunFault, Stored, run_all};
 
 /// The result of a job: the picture of its output, if it has one, and a line for each of its accumulators.
-pub fn evaluate(alloc: Global, job: &Job, options: &Options) -> Result<Reply, AllocError>
+pub fn evaluate(
+    rt: &(impl Threads + Sync),
+    alloc: Global,
+    job: &Job,
+    options: &Options,
+) -> Result<Reply, AllocError>
     ensures { IfOk result (λ reply. reply_bytes reply ≡ result_bytes (pipeline_in job.now)) }
 {
     let schedule = schedule_of(alloc, job, options)?;
-    let Answer { picture, totals } = answer(alloc, job, &schedule)?;
+    let Answer { picture, totals } = answer(rt, alloc, job, &schedule)?;
     let lines = lines_of(alloc, job, totals.as_slice())?;
     Ok(Reply { picture, lines })
 }
 
 /// The answer of a job by a schedule of which each tile has room in scratch memory. The stored tiles are let go.
-fn answer(alloc: Global, job: &Job, schedule: &Schedule) -> Result<Answer, AllocError>
+fn answer(
+    rt: &(impl Threads + Sync),
+    alloc: Global,
+    job: &Job,
+    schedule: &Schedule,
+) -> Result<Answer, AllocError>
     requires schedule { IsScheduleOf (pipeline_in job.now) schedule.now }
     requires fit { AllFitScratch (pipeline_in job.now) schedule.now.inlining }
     ensures { IfOk result (IsAnswer (pipeline_in job.now)) }
 {
-    let stored = run(alloc, job, schedule)?;
-    match answer_of(alloc, job, schedule, &stored) {
+    let stored = run(rt, alloc, job, schedule)?;
+    match answer_of(rt, alloc, job, schedule, &stored) {
         Ok(answer) => Ok(answer),
         Err(RunFault::ScratchTooBig(_)) => unreachable!(),
         Err(RunFault::Memory) => Err(AllocError),
@@ -44,13 +55,18 @@ fn answer(alloc: Global, job: &Job, schedule: &Schedule) -> Result<Answer, Alloc
 }
 
 /// All tiles of the stored functions.
-fn run(alloc: Global, job: &Job, schedule: &Schedule) -> Result<Stored, AllocError>
+fn run(
+    rt: &(impl Threads + Sync),
+    alloc: Global,
+    job: &Job,
+    schedule: &Schedule,
+) -> Result<Stored, AllocError>
     requires schedule { IsScheduleOf (pipeline_in job.now) schedule.now }
     requires fit { AllFitScratch (pipeline_in job.now) schedule.now.inlining }
     ensures all { IfOk result (λ stored. GivesAllTiles (pipeline_in job.now) schedule.now.inlining (stored_tiles stored.stages.items)) }
     ensures values { IfOk result (λ stored. AreTrue (pipeline_in job.now) (stored_tiles stored.stages.items)) }
 {
-    match run_all(alloc, job, schedule) {
+    match run_all(rt, alloc, job, schedule) {
         Ok(stored) => Ok(stored),
         Err(RunFault::ScratchTooBig(_)) => unreachable!(),
         Err(RunFault::Memory) => Err(AllocError),

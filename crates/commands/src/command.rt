@@ -12,6 +12,7 @@ ghost use Rattle.inputs.specs.declared.faults.StreamFault.TheVariants.{Memory, R
 use crate::task_stream::{check_stream, eval_stream, plan_stream};
 use command_line::{Refusal, Request, Task, request_of};
 use inputs::{StreamFault, write_line};
+use std::thread::Threads;
 use streams::{Sink, Source, write_whole};
 
 /// The line of every command line that is refused.
@@ -20,7 +21,7 @@ const USAGE: &[u8] = b"usage: tilefarm COMMAND [OPTIONS] [NAME=VALUE]...\n";
 /// Runs the command that the words name, and answers the status that the program is to end with: 0 done, 1 usage or
 /// parameters, 2 unreadable input, 3 refused program, 4 input or output failed, 5 memory. A fault is told in one line
 /// on the writer, which takes no memory. `words` is without the program's own name.
-pub fn run_command<H: AllocGlobal, R: Source, W: Sink>(
+pub fn run_command<H: AllocGlobal + Threads + Sync, R: Source, W: Sink>(
     rt: &H,
     words: &[String],
     reader: &mut R,
@@ -75,7 +76,7 @@ pub fn run_command<H: AllocGlobal, R: Source, W: Sink>(
 }
 
 /// Runs the command that is asked for, and answers its status.
-fn run_request<H: AllocGlobal, R: Source, W: Sink>(
+fn run_request<H: AllocGlobal + Threads + Sync, R: Source, W: Sink>(
     rt: &H,
     request: &Request,
     reader: &mut R,
@@ -112,7 +113,7 @@ fn run_request<H: AllocGlobal, R: Source, W: Sink>(
 }
 
 /// Runs the command that is asked for.
-fn perform<H: AllocGlobal, R: Source, W: Sink>(
+fn perform<H: AllocGlobal + Threads + Sync, R: Source, W: Sink>(
     rt: &H,
     request: &Request,
     reader: &mut R,

@@ -16,9 +16,11 @@ use crate::stage_lines::check_lines;
 use command_line::{Options, Task};
 use job::Job;
 use std::alloc::{AllocError, Global};
+use std::thread::Threads;
 
 /// What the command says of the job.
 pub fn task_reply(
+    rt: &(impl Threads + Sync),
     alloc: Global,
     task: Task,
     options: &Options,
@@ -28,7 +30,7 @@ pub fn task_reply(
         → saying_of task options.now.stored options.now.percent tree (pipeline_in job.now) (reply_bytes reply)) }
 {
     match task {
-        Task::Eval => evaluate(alloc, job, options),
+        Task::Eval => evaluate(rt, alloc, job, options),
         Task::Check => Ok(Reply::of_lines(check_lines(alloc, job)?)),
         Task::Plan => Ok(Reply::of_lines(planned_lines(alloc, options, job)?)),
     }

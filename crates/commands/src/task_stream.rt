@@ -14,13 +14,14 @@ use crate::task_reply::task_reply;
 use command_line::{Options, Task};
 use inputs::{StreamFault, job_of, read_input};
 use std::alloc::Global;
+use std::thread::Threads;
 use streams::{Sink, Source};
 
 /// Reads a program and a picture, and writes a line for the identity of the program, one for the identity of what it is given,
 /// and one for each stage: its number, kind and name, its rows and columns, and how many tiles it has.
 ///
 /// The input is the program's text, a line `%%` and the picture. `parameters` gives values of the program's parameters.
-pub fn check_stream<H: AllocGlobal, R: Source, W: Sink>(
+pub fn check_stream<H: AllocGlobal + Threads + Sync, R: Source, W: Sink>(
     rt: &H,
     options: &Options,
     parameters: &[(String, i32)],
@@ -41,7 +42,7 @@ pub fn check_stream<H: AllocGlobal, R: Source, W: Sink>(
 /// it has an output, and behind it a line for each of its accumulators.
 ///
 /// The input is the program's text, a line `%%` and the picture. `parameters` gives values of the program's parameters.
-pub fn eval_stream<H: AllocGlobal, R: Source, W: Sink>(
+pub fn eval_stream<H: AllocGlobal + Threads + Sync, R: Source, W: Sink>(
     rt: &H,
     options: &Options,
     parameters: &[(String, i32)],
@@ -62,7 +63,7 @@ pub fn eval_stream<H: AllocGlobal, R: Source, W: Sink>(
 /// stored and how many points are computed for its tiles.
 ///
 /// The input is the program's text, a line `%%` and the picture. `parameters` gives values of the program's parameters.
-pub fn plan_stream<H: AllocGlobal, R: Source, W: Sink>(
+pub fn plan_stream<H: AllocGlobal + Threads + Sync, R: Source, W: Sink>(
     rt: &H,
     options: &Options,
     parameters: &[(String, i32)],
@@ -80,7 +81,7 @@ pub fn plan_stream<H: AllocGlobal, R: Source, W: Sink>(
 }
 
 /// Reads the input, and writes what the command says of it. All is computed before the first byte is written.
-fn task_stream<H: AllocGlobal, R: Source, W: Sink>(
+fn task_stream<H: AllocGlobal + Threads + Sync, R: Source, W: Sink>(
     rt: &H,
     task: Task,
     options: &Options,
@@ -93,12 +94,13 @@ fn task_stream<H: AllocGlobal, R: Source, W: Sink>(
     ensures write { CountsWritten result (W.failures writer.old) (W.failures writer.new) }
 {
     let input = read_input(rt.alloc(), reader)?;
-    let reply = input_reply(rt.alloc(), task, options, parameters, input)?;
+    let reply = input_reply(rt, rt.alloc(), task, options, parameters, input)?;
     write_reply(&reply, writer)
 }
 
 /// What the command says of the job of the input.
 fn input_reply(
+    rt: &(impl Threads + Sync),
     alloc: Global,
     task: Task,
     options: &Options,
@@ -109,5 +111,5 @@ fn input_reply(
     ensures fault { IfErr result (IsFaultOf input.items given.now options.now.sides) }
 {
     let job = job_of(alloc, options.sides, given, input)?;
-    Ok(task_reply(alloc, task, options, &job)?)
+    Ok(task_reply(rt, alloc, task, options, &job)?)
 }

@@ -23,6 +23,7 @@ use job::{Job, StageKind};
 use overlap_tiles::TilePlan;
 use std::alloc::Global;
 use std::test::Fail;
+use std::thread::Threads;
 use tile_run::{EvalFault, Known, Scratch, Stored, run_tile};
 
 /// Gives no tile.
@@ -153,9 +154,9 @@ fn missing<T>(made: &Result<T, EvalFault>) -> Option<Key> {
 }
 
 // Compares the tiles of two stored functions, each of which reads an inlined one.
-fn compare_both(alloc: Global, job: &Job) -> Result<(), Fail> {
+fn compare_both(rt: &(impl Threads + Sync), alloc: Global, job: &Job) -> Result<(), Fail> {
     let schedule = schedule_of(alloc, job, &[false, true, false, true, false])?;
-    let stored = run(alloc, job, &schedule)?;
+    let stored = run(rt, alloc, job, &schedule)?;
     let scheduled = Scheduled::new(alloc, job, &schedule);
     scheduled.compare(&stored, 2)?;
     scheduled.compare(&stored, 4)
@@ -165,7 +166,7 @@ fn compare_both(alloc: Global, job: &Job) -> Result<(), Fail> {
 fn tiles_by_their_plans_are_those_of_a_run(rt: HostRuntime) -> Result<(), Fail> {
     let alloc = rt.alloc();
     let job = job_of(alloc, PIPELINE, &[], SAMPLES, (2, 3))?;
-    compare_both(alloc, &job)
+    compare_both(&rt, alloc, &job)
 }
 
 fn are_gathered(alloc: Global, job: &Job) -> Result<(), Fail> {

@@ -11,6 +11,7 @@ use grouping::Schedule;
 use job::Job;
 use std::alloc::Global;
 use std::test::Fail;
+use std::thread::Threads;
 use tile_run::{Stored, run_all};
 
 /// Fails where a job has more stages than the tests' programs have.
@@ -45,12 +46,17 @@ pub(crate) fn chosen(alloc: Global, job: &Job, inline: bool) -> Result<Schedule,
 }
 
 /// The tiles of a job's stored functions.
-pub(crate) fn run(alloc: Global, job: &Job, schedule: &Schedule) -> Result<Stored, Fail>
+pub(crate) fn run(
+    rt: &(impl Threads + Sync),
+    alloc: Global,
+    job: &Job,
+    schedule: &Schedule,
+) -> Result<Stored, Fail>
     requires schedule { IsScheduleOf (pipeline_in job.now) schedule.now }
     ensures few { IfOk result (λ _. length (pipeline_in job.now).stages ≤ 64) }
     ensures all { IfOk result (λ stored. GivesAllTiles (pipeline_in job.now) schedule.now.inlining (stored_tiles stored.stages.items)) }
     ensures values { IfOk result (λ stored. AreTrue (pipeline_in job.now) (stored_tiles stored.stages.items)) }
 {
     has_few_stages(job)?;
-    Ok(run_all(alloc, job, schedule)?)
+    Ok(run_all(rt, alloc, job, schedule)?)
 }

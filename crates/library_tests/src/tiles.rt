@@ -11,6 +11,7 @@ use grouping::Schedule;
 use job::{Job, StageKind};
 use std::alloc::Global;
 use std::test::Fail;
+use std::thread::Threads;
 use tile_eval::plain;
 use tile_run::{Known, RunFault, Stored, run_all};
 
@@ -106,7 +107,12 @@ fn compare(alloc: Global, job: &Job, schedule: &Schedule, stored: &Stored) -> Re
 }
 
 // Compares at the schedule that inlines the functions that are read, or that stores all.
-fn compare_at(alloc: Global, job: &Job, inline: bool) -> Result<(), Fail> {
+fn compare_at(
+    rt: &(impl Threads + Sync),
+    alloc: Global,
+    job: &Job,
+    inline: bool,
+) -> Result<(), Fail> {
     let schedule = chosen(alloc, job, inline)?;
     for stage in 1..4usize {
         holds(
@@ -114,19 +120,24 @@ fn compare_at(alloc: Global, job: &Job, inline: bool) -> Result<(), Fail> {
             "it inlines what is read",
         )?;
     }
-    let stored = run(alloc, job, &schedule)?;
+    let stored = run(rt, alloc, job, &schedule)?;
     compare(alloc, job, &schedule, &stored)
 }
 
-fn compare_with_sides(alloc: Global, sides: (u32, u32), inline: bool) -> Result<(), Fail> {
+fn compare_with_sides(
+    rt: &(impl Threads + Sync),
+    alloc: Global,
+    sides: (u32, u32),
+    inline: bool,
+) -> Result<(), Fail> {
     let job = job_of(alloc, PIPELINE, &[], SAMPLES, sides)?;
-    compare_at(alloc, &job, inline)
+    compare_at(rt, alloc, &job, inline)
 }
 
 #[test]
 fn stored_tiles_are_parts_of_whole_stages(rt: HostRuntime) -> Result<(), Fail> {
     for sides in SIDES {
-        compare_with_sides(rt.alloc(), sides, false)?;
+        compare_with_sides(&rt, rt.alloc(), sides, false)?;
     }
     Ok(())
 }
@@ -134,7 +145,7 @@ fn stored_tiles_are_parts_of_whole_stages(rt: HostRuntime) -> Result<(), Fail> {
 #[test]
 fn tiles_with_inlined_functions_are_parts_of_whole_stages(rt: HostRuntime) -> Result<(), Fail> {
     for sides in SIDES {
-        compare_with_sides(rt.alloc(), sides, true)?;
+        compare_with_sides(&rt, rt.alloc(), sides, true)?;
     }
     Ok(())
 }
@@ -158,9 +169,14 @@ fn have_whole(alloc: Global, job: &Job) -> Result<(), Fail> {
 }
 
 // The doubles by tiles, where the halves are stored or inlined.
-fn have_tiles(alloc: Global, job: &Job, inlined: bool) -> Result<(), Fail> {
+fn have_tiles(
+    rt: &(impl Threads + Sync),
+    alloc: Global,
+    job: &Job,
+    inlined: bool,
+) -> Result<(), Fail> {
     let schedule = schedule_of(alloc, job, &[false, inlined, false])?;
-    let stored = run(alloc, job, &schedule)?;
+    let stored = run(rt, alloc, job, &schedule)?;
     holds(
         Some(stored.tile(1, 1, 1).is_some() != inlined),
         "halves are stored or inlined",
@@ -168,10 +184,10 @@ fn have_tiles(alloc: Global, job: &Job, inlined: bool) -> Result<(), Fail> {
     holds(have(&stored, 2, (1, 1), 4, &DOUBLED), "tiles are doubled")
 }
 
-fn have_all(alloc: Global, job: &Job) -> Result<(), Fail> {
+fn have_all(rt: &(impl Threads + Sync), alloc: Global, job: &Job) -> Result<(), Fail> {
     have_whole(alloc, job)?;
-    have_tiles(alloc, job, false)?;
-    have_tiles(alloc, job, true)
+    have_tiles(rt, alloc, job, false)?;
+    have_tiles(rt, alloc, job, true)
 }
 
 #[test]
@@ -179,7 +195,7 @@ fn halves_then_doubles(rt: HostRuntime) -> Result<(), Fail> {
     let alloc = rt.alloc();
     let file = b"P2 4 4 255 0 1 2 3 4 5 6 7 8 9 10 11 12 13 14 15";
     let job = job_of(alloc, HALF_AND_DOUBLE, &[], file, (1, 1))?;
-    have_all(alloc, &job)
+    have_all(&rt, alloc, &job)
 }
 
 fn refusal(run: &Result<Stored, RunFault>) -> Option<RunFault> {
@@ -194,10 +210,10 @@ fn is_without_room(job: &Job, run: &Result<Stored, RunFault>) -> Option<bool> {
     Some(refusal(run)? == RunFault::ScratchTooBig(job.key(2, 0, 0)?))
 }
 
-fn has_no_room(alloc: Global, job: &Job) -> Result<(), Fail> {
+fn has_no_room(rt: &(impl Threads + Sync), alloc: Global, job: &Job) -> Result<(), Fail> {
     has_few_stages(job)?;
     let schedule = schedule_of(alloc, job, &[false, true, false])?;
-    let run = run_all(alloc, job, &schedule);
+    let run = run_all(rt, alloc, job, &schedule);
     holds(is_without_room(job, &run), "a tile has no room")
 }
 
@@ -205,5 +221,5 @@ fn has_no_room(alloc: Global, job: &Job) -> Result<(), Fail> {
 fn a_tile_without_room_is_told_before_any_is_computed(rt: HostRuntime) -> Result<(), Fail> {
     let alloc = rt.alloc();
     let job = job_of(alloc, TOO_BIG, &[], b"P2 1 1 9 0", (1024, 1024))?;
-    has_no_room(alloc, &job)
+    has_no_room(&rt, alloc, &job)
 }

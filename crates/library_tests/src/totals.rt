@@ -11,6 +11,7 @@ use domains::Fold;
 use job::Job;
 use std::alloc::Global;
 use std::test::Fail;
+use std::thread::Threads;
 
 /// How many samples leave each remainder by 4.
 pub(crate) const REMAINDERS: &str =
@@ -33,13 +34,19 @@ output b max 255;";
 const SIXTEEN: &[u8] = b"P2 4 4 15 0 1 2 3 4 5 6 7 8 9 10 11 15 13 12 14";
 
 // The answer of a job at the schedule that inlines wherever it may, or that stores all.
-fn answer_by_tiles(alloc: Global, job: &Job, inline: bool) -> Result<Answer, Fail> {
+fn answer_by_tiles(
+    rt: &(impl Threads + Sync),
+    alloc: Global,
+    job: &Job,
+    inline: bool,
+) -> Result<Answer, Fail> {
     let schedule = chosen(alloc, job, inline)?;
-    let stored = run(alloc, job, &schedule)?;
-    Ok(answer_of(alloc, job, &schedule, &stored)?)
+    let stored = run(rt, alloc, job, &schedule)?;
+    Ok(answer_of(rt, alloc, job, &schedule, &stored)?)
 }
 
 fn answer(
+    rt: &(impl Threads + Sync),
     alloc: Global,
     text: &str,
     file: &[u8],
@@ -47,7 +54,7 @@ fn answer(
     inline: bool,
 ) -> Result<Answer, Fail> {
     let job = job_of(alloc, text, &[], file, sides)?;
-    answer_by_tiles(alloc, &job, inline)
+    answer_by_tiles(rt, alloc, &job, inline)
 }
 
 fn has_whole(alloc: Global, job: &Job, wanted: &str) -> Result<(), Fail> {
@@ -66,7 +73,7 @@ fn histogram_by_tiles(rt: HostRuntime) -> Result<(), Fail> {
     let alloc = rt.alloc();
     has_bins(alloc, REMAINDERS, ONE_TO_NINE, "[2, 3, 2, 2]")?;
     has_bins(alloc, REMAINDERS_OF_A_TILE, ONE_TO_NINE, "[1, 2, 1, 0]")?;
-    let answer = answer(alloc, REMAINDERS, ONE_TO_NINE, (2, 2), false)?;
+    let answer = answer(&rt, alloc, REMAINDERS, ONE_TO_NINE, (2, 2), false)?;
     tells(
         alloc,
         &answer,
@@ -129,16 +136,21 @@ fn has_extremes(answer: &Answer) -> Result<(), Fail> {
     )
 }
 
-fn has_extremes_at(alloc: Global, sides: (u32, u32), inline: bool) -> Result<(), Fail> {
-    let answer = answer(alloc, EXTREMES, SIXTEEN, sides, inline)?;
+fn has_extremes_at(
+    rt: &(impl Threads + Sync),
+    alloc: Global,
+    sides: (u32, u32),
+    inline: bool,
+) -> Result<(), Fail> {
+    let answer = answer(rt, alloc, EXTREMES, SIXTEEN, sides, inline)?;
     has_extremes(&answer)
 }
 
 #[test]
 fn extremes_at_every_schedule(rt: HostRuntime) -> Result<(), Fail> {
     for sides in [(1, 1), (1, 3), (2, 2), (64, 64)] {
-        has_extremes_at(rt.alloc(), sides, false)?;
-        has_extremes_at(rt.alloc(), sides, true)?;
+        has_extremes_at(&rt, rt.alloc(), sides, false)?;
+        has_extremes_at(&rt, rt.alloc(), sides, true)?;
     }
     Ok(())
 }

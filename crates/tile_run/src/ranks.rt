@@ -24,6 +24,7 @@ use grouping::{Schedule, last_rank};
 use job::{Job, Stage, StageKind};
 use overlap_tiles::{Layout, PlanFault};
 use std::alloc::{AllocError, Global};
+use std::thread::Threads;
 
 // A stored function of a job, whose tiles are to be made, with what is stored of those that it reads.
 #[derive(Clone, Copy)]
@@ -191,12 +192,18 @@ fn is_stored(schedule: &Schedule, number: usize, stage: &Stage) -> bool
     stage.kind() == StageKind::Function && !schedule.inlined(number)
 }
 
-/// All tiles of the stored functions of a job: those of a rank after those of lower ranks.
+/// All tiles of the stored functions of a job: those of a rank after those of lower ranks. One thread computes them; `_rt` starts none
+/// yet.
 ///
 /// # Errors
 ///
 /// Fails where a tile takes too much scratch memory, with the first one and before any is made; and where memory is refused.
-pub fn run_all(alloc: Global, job: &Job, schedule: &Schedule) -> Result<Stored, RunFault>
+pub fn run_all(
+    _rt: &(impl Threads + Sync),
+    alloc: Global,
+    job: &Job,
+    schedule: &Schedule,
+) -> Result<Stored, RunFault>
     requires schedule { IsScheduleOf (pipeline_in job.now) schedule.now }
     ensures all { IfOk result (λ stored. GivesAllTiles (pipeline_in job.now) schedule.now.inlining (stored_tiles stored.stages.items)) }
     ensures values { IfOk result (λ stored. AreTrue (pipeline_in job.now) (stored_tiles stored.stages.items)) }

@@ -7,14 +7,14 @@ use Rattle.accumulators.proofs.TrueImage.{image_true}
 use Rattle.accumulators.proofs.answer.answer_of.Goals as goal
 
 pub image_of-requires : goal.image_of-requires
-image_of-requires c =
+image_of-requires g c =
     let job = pipeline_in c.args.job.now in
     let given = stored_tiles c.args.stored.now.stages.items in
     outputs_lent job c.args.schedule.now.inlining given c.args.job.now.well c.requires.schedule.inlining c.requires.all
     (whole job given c.requires.values)
 
 pub returns-clause-answer : goal.returns-clause-answer
-returns-clause-answer c =
+returns-clause-answer g c =
     let job = pipeline_in c.args.job.now in
     let given = stored_tiles c.args.stored.now.stages.items in
     record {

@@ -9,7 +9,7 @@ use Rattle.tile_run.proofs.StageRunGivesTiles.{all_stored}
 use Rattle.tile_run.proofs.ranks.run_all.Goals as goal
 
 pub through-requires : goal.through-requires
-through-requires c =
+through-requires g c =
     let job = pipeline_in c.args.job.now in
     let inlining = c.args.schedule.now.inlining in
     record {
@@ -19,15 +19,15 @@ through-requires c =
     }
 
 pub returns-clause-all : goal.returns-clause-all
-returns-clause-all c =
+returns-clause-all g c =
     all_stored (pipeline_in c.args.job.now) c.args.schedule.now.inlining c.last_rank.result c.in_ok-stored.stored.stages.items
     (c.last_rank.ensures ∙ ap greatest_rank c.stages.ensures) c.in_ok-stored.ensures
 
 pub returns-clause-values : goal.returns-clause-values
-returns-clause-values c = c.in_ok-stored.ensures.right
+returns-clause-values g c = c.in_ok-stored.ensures.right
 
 pub returns-clause-fits : goal.returns-clause-fits
-returns-clause-fits c =
+returns-clause-fits g c =
     nothing_of (key_of (program_id_in c.args.job.now) (pipeline_in c.args.job.now))
     (first_too_big (pipeline_in c.args.job.now) c.args.schedule.now.inlining
     (is_stored_function (pipeline_in c.args.job.now) c.args.schedule.now.inlining))
