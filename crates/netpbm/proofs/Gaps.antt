@@ -1,9 +1,9 @@
 -- What the scanner passes over is white space and comments, and the other way round.
-use Rattle.std.proofs.Common.{◌≡◌, ℕ, ◌⊎◌, inl, inr, Bool, true, false, not, eqb, ◌&&◌, ◌||◌, List, [], ◌∷◌, ◌++◌, refl, sym, ap, subst, ◌∙◌, arith, append_assoc}
+use Rattle.std.proofs.Common.{◌≡◌, ℕ, ◌⊎◌, inl, inr, true, false, not, eqb, ◌||◌, List, [], ◌∷◌, ◌++◌, refl, sym, ap, subst, ◌∙◌, arith, append_assoc}
 use Rattle.std.specs.List.{list_all}
-use Rattle.std.proofs.lemmas.Bool.{cases_Bool, false≢true, and_parts, and_from, or_parts, eqb-true}
+use Rattle.std.proofs.lemmas.Bool.{cases_Bool, false≢true, and_parts, and_from, eqb-true}
 use Rattle.netpbm.specs.Text.{is_white, is_comment_end, is_comment_byte}
-use Rattle.netpbm.specs.Scanning.{may_stand, is_open_behind}
+use Rattle.netpbm.specs.Scanning.{may_stand}
 use Rattle.netpbm.specs.Grammar.{Filler, nothing, white, comment}
 use Rattle.netpbm.specs.Faults.{CutFiller, ended, open_comment}
 use Rattle.netpbm.proofs.Scans.{is_filler, is_cut_filler}

@@ -1,10 +1,8 @@
 -- What is written pixel by pixel is the spelling.
-use Rattle.std.proofs.Common.{◌≡◌, ℕ, zero, suc, ◌+◌, ◌-◌, ◌*◌, ◌<◌, ◌≤◌, ◌⊎◌, inl, inr, List, [], ◌∷◌, ◌++◌, length, get_or, take, drop, All, Option, refl, sym, ap, subst, ◌∙◌, arith, append_assoc}
+use Rattle.std.proofs.Common.{◌≡◌, ℕ, zero, suc, ◌+◌, ◌-◌, ◌*◌, ◌≤◌, ◌⊎◌, inl, inr, List, [], ◌∷◌, ◌++◌, length, get_or, take, drop, All, refl, sym, ap, subst, ◌∙◌, arith, append_assoc}
 use Rattle.std.specs.Global.{Vec}
 use Rattle.std.specs.List.{slice_range}
-use Rattle.std.specs.Io.KnownBytes.{Appends}
-use Rattle.std.proofs.KnownBytes.{Appends-trans}
-use Rattle.std.proofs.lemmas.List.{append-nil, take_all, length-take-le, take-append-le, take_at, take-append-drop, length-append, length-drop, length-map}
+use Rattle.std.proofs.lemmas.List.{append-nil, take_all, length-take-le, length-drop, length-map}
 use Rattle.std.proofs.lemmas.List.Elements.{All-cons, All-head, All-tail, All-take, All-drop, All-nil}
 use Rattle.std.proofs.lemmas.Grind.{flat_map-append}
 use lib.Seq.{take-add}
@@ -14,7 +12,6 @@ use Rattle.netpbm.specs.Colours.{woven, interleaved}
 use Rattle.netpbm.specs.Raw.{sample_bytes, raw_raster}
 use Rattle.netpbm.specs.Pixels.{first_pixels, pixels}
 use Rattle.netpbm.specs.Spelling.{header, spelling}
-use Rattle.streams.specs.Streams.{AppendsPart}
 use Rattle.std.specs.Result.{OnErr}
 use Rattle.std.proofs.Common.{Result, Ok, Err}
 
