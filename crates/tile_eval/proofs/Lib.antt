@@ -8,3 +8,6 @@ pub mod Domains
 pub mod Rooms
 pub mod Knowing
 pub mod KnownSamples
+pub mod Learning
+pub mod RowByRow
+pub mod TrueTiles

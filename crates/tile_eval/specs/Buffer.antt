@@ -1,11 +1,14 @@
 -- Values of stages on their whole domains.
-use Rattle.std.specs.Prelude.{ℕ, ◌<◌, ◌≡◌, ℤ, pos, Option, Some, None, List, [], map, length, slice_get}
+use Rattle.std.specs.Prelude.{ℕ, ◌≡◌, ℤ, pos, Option, Some, None, List, [], map, slice_get, All}
 use Rattle.std.specs.Option.{option_map_or}
 use Rattle.domains.specs.Area.{HoldsPoint, points_of}
+use Rattle.domains.specs.Tiles.{HasTile, tile_area}
 use Rattle.domains.specs.declared.area.Area.{Area}
+use Rattle.job.specs.Answers.{grid_of}
 use Rattle.job.specs.Pipeline.{Body, plane, function, accumulator, Stage, Pipeline}
+use Rattle.job.specs.Reads.{stage_read, reads_of}
 use Rattle.job.specs.Values.{value}
-use Rattle.job.specs.WellFormed.{IsValued}
+use Rattle.job.specs.WellFormed.{IsFunction, IsValued}
 use Rattle.row_kernels.specs.Rows.{at}
 pub use Rattle.row_kernels.specs.Places.{place_of}
 use Rattle.tile_eval.specs.declared.buffers.Buffer.{Buffer}
@@ -38,17 +41,63 @@ pub record IsKnownAt (buffers : List (Option Buffer)) (g : ℕ) (r c : ℤ) : Ty
   pub there : slice_get buffers g ≡ Some (Some whole)
   pub within : HoldsPoint whole.area r c
 
--- the values are those of stage g on its domain
-pub record IsWholeOf (job : Pipeline) (g : ℕ) (whole : Buffer) : Type 0 where
-  pub stage : Stage
-  pub there : slice_get job.stages g ≡ Some stage
-  pub valued : IsValued stage.body
-  pub area : whole.area ≡ stage.domain
-  pub values : whole.values.items ≡ raster stage.domain (value job g)
+-- ---- what is known is true
 
--- what is known is right, and all planes and functions of lower ranks are known
-pub record AreKnown (job : Pipeline) (rank : ℕ) (buffers : List (Option Buffer)) : Type 0 where
-  pub length : length buffers ≡ length job.stages
-  pub right : (g : ℕ) (whole : Buffer) → slice_get buffers g ≡ Some (Some whole) → IsWholeOf job g whole
-  pub lower : (g : ℕ) (s : Stage) → slice_get job.stages g ≡ Some s → IsValued s.body → s.rank < rank
-      → (whole : Buffer) × (slice_get buffers g ≡ Some (Some whole))
+-- the values of stage g are known
+abbrev pub IsKnown : List (Option Buffer) → ℕ → Type 0
+IsKnown buffers g = (whole : Buffer) × (slice_get buffers g ≡ Some (Some whole))
+
+-- the area on which a stage has values: the domain of a plane or a function
+abbrev pub body_area : Area → Body → Option Area
+body_area domain (plane n) = Some domain
+body_area domain (function cases otherwise) = Some domain
+body_area domain (accumulator fold bins value bin) = None
+
+abbrev pub stage_area : Option Stage → Option Area
+stage_area None = None
+stage_area (Some s) = body_area s.domain s.body
+
+-- the buffer has the values of stage g on its domain
+abbrev pub IsWholeOf : Pipeline → ℕ → Buffer → Type 0
+IsWholeOf job g whole = (stage_area (slice_get job.stages g) ≡ Some whole.area) × (whole.values.items ≡ stage_values job g)
+
+-- whatever is known is true
+abbrev pub AreTrue : Pipeline → List (Option Buffer) → Type 0
+AreTrue job buffers = (g : ℕ) (whole : Buffer) → slice_get buffers g ≡ Some (Some whole) → IsWholeOf job g whole
+
+-- the values of stage g are known, if it has any
+abbrev pub AreKnownOf : Pipeline → List (Option Buffer) → ℕ → Type 0
+AreKnownOf job buffers g = (s : Stage) → slice_get job.stages g ≡ Some s → IsValued s.body → IsKnown buffers g
+
+-- what serves for stage g is known: the values of a plane or a function, and all that an accumulator reads
+abbrev pub BodyServed : Pipeline → List (Option Buffer) → ℕ → Body → Type 0
+BodyServed job buffers g (plane n) = IsKnown buffers g
+BodyServed job buffers g (function cases otherwise) = IsKnown buffers g
+BodyServed job buffers g (accumulator fold bins value bin) =
+    All (λ x. AreKnownOf job buffers (stage_read x)) (reads_of (accumulator fold bins value bin))
+
+abbrev pub IsServed : Pipeline → List (Option Buffer) → ℕ → Type 0
+IsServed job buffers g = (s : Stage) → slice_get job.stages g ≡ Some s → BodyServed job buffers g s.body
+
+-- ---- tiles
+
+-- the value of a buffer at a point
+abbrev pub buffer_value : Buffer → ℤ → ℤ → ℤ
+buffer_value whole r c = at whole.values.items (place_of whole.area r c)
+
+-- stage s, of number g, has a tile in row i and column j of its grid, with this area
+pub record IsTileOver (job : Pipeline) (g i j : ℕ) (s : Stage) (area : Area) : Type 0 where
+  pub there : slice_get job.stages g ≡ Some s
+  pub tile : HasTile (grid_of job s) i j
+  pub is : area ≡ tile_area (grid_of job s) i j
+
+pub record IsFunctionTile (job : Pipeline) (g i j : ℕ) (area : Area) : Type 0 where
+  pub stage : Stage
+  pub tile : IsTileOver job g i j stage area
+  pub function : IsFunction stage.body
+
+-- the numbers are the values of a function on its tile in row i and column j, row by row
+pub record IsTrueTile (job : Pipeline) (g i j : ℕ) (numbers : List ℤ) : Type 0 where
+  pub area : Area
+  pub tile : IsFunctionTile job g i j area
+  pub values : numbers ≡ raster area (value job g)

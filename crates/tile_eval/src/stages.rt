@@ -1,17 +1,27 @@
 #![tactic(auto)]
 //! Buffer stages, each after those that it reads.
 
-ghost use Rattle.std.specs.Prelude.{◌≡◌, ◌≤◌, ◌+◌, map, replicate, All, None, IfOk};
+ghost use Rattle.std.specs.Prelude.{◌≡◌, ◌≤◌, map, replicate, length, All, None, IfOk, OnOk};
 ghost use Rattle.job.specs.Kept.{pipeline_in};
-ghost use Rattle.job.specs.Pipeline.{rank_of};
-ghost use Rattle.tile_eval.specs.Buffer.{stage_values, AreKnown};
-ghost use Rattle.tile_eval.specs.inside.Kept.{IsKept};
+ghost use Rattle.job.specs.Reads.{stage_read};
+ghost use Rattle.job.specs.ReadViews.{read_view};
+ghost use Rattle.tile_eval.specs.Buffer.{stage_values, AreTrue, IsServed};
+ghost use Rattle.tile_eval.specs.inside.Kept.{IsKept, HasInputs, KnowsMore};
 
 use crate::buffers::{Buffer, StageBuffers};
 use crate::functions::function_values;
 use crate::planes::plane_values;
-use job::{Body, Job, StageKind};
+use job::{Body, Job, Read, StageKind};
 use std::alloc::{AllocError, Global};
+
+// The stage that is read.
+fn stage_of(read: &Read) -> usize
+    ensures { result ≡ stage_read (read_view read.now) }
+{
+    match read {
+        Read::Point(stage, _, _) | Read::Window(stage, _) => *stage,
+    }
+}
 
 impl StageBuffers {
     /// Of so many stages none is known.
@@ -25,33 +35,49 @@ impl StageBuffers {
         Ok(StageBuffers { buffers })
     }
 
-    /// The planes and functions of the ranks below this one.
-    pub fn below(alloc: Global, job: &Job, rank: usize) -> Result<StageBuffers, AllocError>
-        ensures { IfOk result (λ known. AreKnown (pipeline_in job.now) rank known.buffers.items) }
+    /// Computes a stage whole, if it is not known, and before it what it reads; of an accumulator what it reads alone.
+    #[cycle(learn)]
+    pub(crate) fn learn(&mut self, alloc: Global, job: &Job, stage: usize) -> Result<(), AllocError>
+        requires places { length self.old.buffers.items ≡ length (pipeline_in job.now).stages }
+        requires right { AreTrue (pipeline_in job.now) self.old.buffers.items }
+        ensures places { OnOk result (length self.new.buffers.items ≡ length (pipeline_in job.now).stages) }
+        ensures right { OnOk result (AreTrue (pipeline_in job.now) self.new.buffers.items) }
+        ensures more { OnOk result (KnowsMore self.old.buffers.items self.new.buffers.items) }
+        ensures served { OnOk result (IsServed (pipeline_in job.now) self.new.buffers.items stage) }
     {
-        let mut known = StageBuffers::none(alloc, job.stages().len())?;
-        for lower in 0..rank {
-            known.add_rank(alloc, job, lower)?;
+        if self.whole(stage).is_some() {
+            return Ok(());
         }
-        Ok(known)
+        self.learn_reads(alloc, job, stage)?;
+        if let Some(whole) = self.kept(alloc, job, stage)? {
+            self.put(stage, whole);
+        }
+        Ok(())
     }
 
-    // Those of this rank besides, where those of lower ranks are known.
-    fn add_rank(&mut self, alloc: Global, job: &Job, rank: usize) -> Result<(), AllocError>
-        requires lower { AreKnown (pipeline_in job.now) rank self.old.buffers.items }
-        ensures { IfOk result (λ done. AreKnown (pipeline_in job.now) (rank + 1) self.new.buffers.items) }
+    // All that a stage reads.
+    #[cycle(learn)]
+    fn learn_reads(&mut self, alloc: Global, job: &Job, stage: usize) -> Result<(), AllocError>
+        requires places { length self.old.buffers.items ≡ length (pipeline_in job.now).stages }
+        requires right { AreTrue (pipeline_in job.now) self.old.buffers.items }
+        ensures places { OnOk result (length self.new.buffers.items ≡ length (pipeline_in job.now).stages) }
+        ensures right { OnOk result (AreTrue (pipeline_in job.now) self.new.buffers.items) }
+        ensures more { OnOk result (KnowsMore self.old.buffers.items self.new.buffers.items) }
+        ensures inputs { OnOk result (HasInputs (pipeline_in job.now) self.new.buffers.items stage) }
     {
-        for number in 0..job.stages().len() {
-            if job.rank(number) == Some(rank) {
-                self.buffers[number] = self.kept(alloc, job, number)?;
-            }
+        let Some(reads) = job.reads(alloc, stage)? else {
+            return Ok(());
+        };
+        for read in &reads {
+            self.learn(alloc, job, stage_of(read))?;
         }
         Ok(())
     }
 
     // What is kept of the stage of this number: its values on its domain, if it has any.
     fn kept(&self, alloc: Global, job: &Job, number: usize) -> Result<Option<Buffer>, AllocError>
-        requires lower { AreKnown (pipeline_in job.now) (rank_of (pipeline_in job.now).stages number) self.now.buffers.items }
+        requires right { AreTrue (pipeline_in job.now) self.now.buffers.items }
+        requires inputs { HasInputs (pipeline_in job.now) self.now.buffers.items number }
         ensures { IfOk result (λ kept. IsKept (pipeline_in job.now) number kept) }
     {
         match job.stage(number) {
@@ -65,7 +91,8 @@ impl StageBuffers {
 
     // The values of the stage of this number, from those that it reads.
     fn computed(&self, alloc: Global, job: &Job, number: usize) -> Result<Vec<i32>, AllocError>
-        requires lower { AreKnown (pipeline_in job.now) (rank_of (pipeline_in job.now).stages number) self.now.buffers.items }
+        requires right { AreTrue (pipeline_in job.now) self.now.buffers.items }
+        requires inputs { HasInputs (pipeline_in job.now) self.now.buffers.items number }
         ensures { IfOk result (λ values. values.items ≡ stage_values (pipeline_in job.now) number) }
     {
         let Some(stage) = job.stage(number) else {
@@ -77,48 +104,4 @@ impl StageBuffers {
             Body::Accumulator(_) => Ok(Vec::new(alloc)),
         }
     }
-
-    // The same, copied where they are known.
-    fn values_of(&self, alloc: Global, job: &Job, number: usize) -> Result<Vec<i32>, AllocError>
-        requires lower { AreKnown (pipeline_in job.now) (rank_of (pipeline_in job.now).stages number) self.now.buffers.items }
-        ensures { IfOk result (λ values. values.items ≡ stage_values (pipeline_in job.now) number) }
-    {
-        match self.whole(number) {
-            Some(whole) => whole.values.to_vec(alloc),
-            None => self.computed(alloc, job, number),
-        }
-    }
-}
-
-// The greatest rank of stages; unknown numbers do not count.
-fn greatest_rank(job: &Job, stages: &[usize]) -> usize
-    ensures { All (λ g. rank_of (pipeline_in job.now).stages g ≤ result) stages.now }
-{
-    let mut greatest = 0;
-    for stage in stages {
-        greatest = greatest.max(job.rank(*stage).unwrap_or(0));
-    }
-    greatest
-}
-
-/// The values of a plane or a function on its whole domain, row by row: without tiles, each stage of a lower rank is computed
-/// whole before.
-/// There are none where no stage has this number, or an accumulator does.
-pub fn plain(alloc: Global, job: &Job, stage: usize) -> Result<Vec<i32>, AllocError>
-    ensures { IfOk result (λ values. values.items ≡ stage_values (pipeline_in job.now) stage) }
-{
-    let rank = job.rank(stage).unwrap_or(0);
-    StageBuffers::below(alloc, job, rank)?.computed(alloc, job, stage)
-}
-
-/// The values of several stages; what they read is computed once.
-pub fn plain_all(alloc: Global, job: &Job, stages: &[usize]) -> Result<Vec<Vec<i32>>, AllocError>
-    ensures { IfOk result (λ all. map (λ values. values.items) all.items ≡ map (stage_values (pipeline_in job.now)) stages.now) }
-{
-    let known = StageBuffers::below(alloc, job, greatest_rank(job, stages))?;
-    let mut all = Vec::with_capacity(alloc, stages.len())?;
-    for stage in stages {
-        all.push(known.values_of(alloc, job, *stage)?)?;
-    }
-    Ok(all)
 }

@@ -8,14 +8,14 @@ use Rattle.domains.specs.declared.area.Area.{Area}
 use Rattle.netpbm.specs.Image.{Image}
 use Rattle.job.specs.Boxes.{AreBoxed}
 use Rattle.job.specs.Kept.{pipeline_in}
-use Rattle.job.specs.Pipeline.{Body, Stage, Pipeline, plane, function, rank_of}
+use Rattle.job.specs.Pipeline.{Body, Stage, Pipeline, plane, function}
 use Rattle.job.specs.Reads.{BodyReads, formulas_of}
 use Rattle.job.specs.Values.{sample_at}
 use Rattle.job.specs.Views.{case_view, formula_view, body_view, stage_view}
 use Rattle.job.specs.WellFormed.{InDomainRange, IsBody, IsFormula, picture_area}
 use Rattle.tile_eval.specs.Cases.{function_value}
-use Rattle.tile_eval.specs.Buffer.{raster, stage_values, sample_in, IsKnownAt}
-use Rattle.tile_eval.proofs.Knowing.{known_at, reads_below, functions_known, planes_known, stage_values_is}
+use Rattle.tile_eval.specs.Buffer.{raster, stage_values, sample_in, AreKnownOf, IsKnownAt}
+use Rattle.tile_eval.proofs.Knowing.{known_there, reads_known, functions_known, planes_known, stage_values_is}
 use Rattle.tile_eval.proofs.buffers.StageBuffers.computed.Goals as goal
 
 pub plane_values-requires : goal.plane_values-requires
@@ -57,8 +57,8 @@ function_values-requires-clause-reads c =
     let buffers = c.args.self.now.buffers.items in
     λ r k inside.
     subst (λ (b : Body). BodyReads (IsKnownAt buffers) b r k) (ap body_view (sym c.body.ensures ∙ c.in-Function.is))
-    (reads_below job c.args.job.now.well (IsKnownAt buffers) c.args.number s (sym c.in-Some.ensures)
-    (known_at job (rank_of job.stages c.args.number) buffers c.requires.lower) r k
+    (reads_known job c.args.job.now.well (IsKnownAt buffers) (AreKnownOf job buffers) (known_there job buffers c.requires.right) c.args.number s
+    (sym c.in-Some.ensures) (c.requires.inputs s (sym c.in-Some.ensures)) r k
     (subst (λ (a : Area). HoldsPoint a r k) c.domain.ensures inside))
 
 pub returns-in-Plane : goal.returns-in-Plane
@@ -85,6 +85,6 @@ returns-in-Function c =
     let buffers = c.args.self.now.buffers.items in
     IfOk-weaker c.function_values.result _ (λ (values : Vec ℤ). values.items ≡ stage_values job c.args.number) (λ values e.
     e ∙ ap (λ (a : Area). raster a (function_value (λ g r k. sample_in (slice_get buffers g) r k) cases otherwise)) c.domain.ensures
-    ∙ functions_known job c.args.job.now.well c.args.number s there buffers c.requires.lower cases otherwise is
+    ∙ functions_known job c.args.job.now.well c.args.number s there buffers c.requires.right c.requires.inputs cases otherwise is
     ∙ sym (stage_values_is job c.args.number s there))
     c.function_values.ensures

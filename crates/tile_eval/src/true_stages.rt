@@ -1,0 +1,144 @@
+#![tactic(auto)]
+//! Stages that are computed whole, without tiles and whatever a schedule says, and what they give of tiles.
+
+ghost use Rattle.std.specs.Prelude.{◌≡◌, ℤ, List, length, map, All, IfSome, IfNone, IfOk};
+ghost use Rattle.domains.specs.declared.area.Area.{Area};
+ghost use Rattle.job.specs.Kept.{pipeline_in};
+ghost use Rattle.tile_eval.specs.Buffer.{stage_values, AreTrue, IsServed, IsFunctionTile, IsTrueTile};
+
+use crate::buffers::StageBuffers;
+use domains::{Area, Grid};
+use job::{Body, Job};
+use std::alloc::{AllocError, Global};
+
+/// Some stages of a job and all that they read, whole, each computed once.
+#[derive(Drop)]
+pub struct TrueStages<'a> {
+    job: &'a Job,
+    known: StageBuffers,
+    ghost places: { length known.buffers.items ≡ length (pipeline_in job.now).stages },
+    ghost right: { AreTrue (pipeline_in job.now) known.buffers.items },
+}
+
+impl<'a> TrueStages<'a> {
+    /// The planes and functions among some stages, and what all of these stages read. Unknown numbers do not count.
+    ///
+    /// # Errors
+    ///
+    /// Fails only where memory is refused.
+    pub fn of(alloc: Global, job: &'a Job, stages: &[usize]) -> Result<TrueStages<'a>, AllocError>
+        ensures job { IfOk result (λ found. found.job.now ≡ job.now) }
+        ensures served { IfOk result (λ found. All (IsServed (pipeline_in job.now) found.known.buffers.items) stages.now) }
+    {
+        let mut known = StageBuffers::none(alloc, job.stages().len())?;
+        for stage in stages {
+            known.learn(alloc, job, *stage)?;
+        }
+        Ok(TrueStages { job, known })
+    }
+
+    /// The values of a plane or a function on its whole domain, row by row, as a copy. There are none of an accumulator, nor where no
+    /// stage has this number.
+    ///
+    /// # Errors
+    ///
+    /// Fails only where memory is refused.
+    pub fn values(&self, alloc: Global, stage: usize) -> Result<Vec<i32>, AllocError>
+        requires { IsServed (pipeline_in self.now.job.now) self.now.known.buffers.items stage }
+        ensures { IfOk result (λ values. values.items ≡ stage_values (pipeline_in self.now.job.now) stage) }
+    {
+        match self.known.whole(stage) {
+            Some(whole) => whole.values.to_vec(alloc),
+            None => Ok(Vec::new(alloc)),
+        }
+    }
+
+    /// The values of a function on its tile in this row and column of its grid, row by row, as a copy; none where it has no such tile,
+    /// or no function has this number.
+    ///
+    /// # Errors
+    ///
+    /// Fails only where memory is refused.
+    pub fn tile(
+        &self,
+        alloc: Global,
+        stage: usize,
+        row: u32,
+        col: u32,
+    ) -> Result<Option<Vec<i32>>, AllocError>
+        requires { IsServed (pipeline_in self.now.job.now) self.now.known.buffers.items stage }
+        ensures some { IfOk result (λ found. IfSome found (λ values. IsTrueTile (pipeline_in self.now.job.now) stage row col values.items)) }
+        ensures none { IfOk result (λ found. IfNone found ((values : List ℤ) → ¬ (IsTrueTile (pipeline_in self.now.job.now) stage row col values))) }
+    {
+        let Some(area) = function_tile(self.job, stage, row, col) else {
+            return Ok(None);
+        };
+        match self.known.whole(stage) {
+            Some(whole) => Ok(Some(whole.part(alloc, &area)?)),
+            None => unreachable!(),
+        }
+    }
+}
+
+// The area of a function's tile; none of other stages.
+fn function_tile(job: &Job, stage: usize, row: u32, col: u32) -> Option<Area>
+    ensures some { IfSome result (IsFunctionTile (pipeline_in job.now) stage row col) }
+    ensures none { IfNone result ((area : Area) → ¬ (IsFunctionTile (pipeline_in job.now) stage row col area)) }
+{
+    let found = job.stage(stage)?;
+    match found.body() {
+        Body::Function(_) => Grid::new(*found.domain(), job.sides()).tile(row, col),
+        Body::Plane(_) | Body::Accumulator(_) => None,
+    }
+}
+
+/// The values of a function on its tile in this row and column of its grid, row by row: each stage that it reads is computed whole
+/// before, and so is it. There are none where it has no such tile, or no function has this number.
+///
+/// # Errors
+///
+/// Fails only where memory is refused.
+pub fn true_tile(
+    alloc: Global,
+    job: &Job,
+    stage: usize,
+    row: u32,
+    col: u32,
+) -> Result<Option<Vec<i32>>, AllocError>
+    ensures some { IfOk result (λ found. IfSome found (λ values. IsTrueTile (pipeline_in job.now) stage row col values.items)) }
+    ensures none { IfOk result (λ found. IfNone found ((values : List ℤ) → ¬ (IsTrueTile (pipeline_in job.now) stage row col values))) }
+{
+    TrueStages::of(alloc, job, &[stage])?.tile(alloc, stage, row, col)
+}
+
+/// The values of a plane or a function on its whole domain, row by row: without tiles, each stage that it reads is computed whole
+/// before. There are none where no stage has this number, or an accumulator does.
+///
+/// # Errors
+///
+/// Fails only where memory is refused.
+pub fn plain(alloc: Global, job: &Job, stage: usize) -> Result<Vec<i32>, AllocError>
+    ensures { IfOk result (λ values. values.items ≡ stage_values (pipeline_in job.now) stage) }
+{
+    let mut known = TrueStages::of(alloc, job, &[stage])?.known;
+    match known.take(stage) {
+        Some(whole) => Ok(whole.into_values()),
+        None => Ok(Vec::new(alloc)),
+    }
+}
+
+/// The values of several stages; what they read is computed once.
+///
+/// # Errors
+///
+/// Fails only where memory is refused.
+pub fn plain_all(alloc: Global, job: &Job, stages: &[usize]) -> Result<Vec<Vec<i32>>, AllocError>
+    ensures { IfOk result (λ all. map (λ values. values.items) all.items ≡ map (stage_values (pipeline_in job.now)) stages.now) }
+{
+    let known = TrueStages::of(alloc, job, stages)?;
+    let mut all = Vec::with_capacity(alloc, stages.len())?;
+    for stage in stages {
+        all.push(known.values(alloc, *stage)?)?;
+    }
+    Ok(all)
+}
