@@ -1,0 +1,3 @@
+pub mod TrueFacts
+pub mod Shapes
+pub mod Verdicts

@@ -1,0 +1,22 @@
+-- What is said of a fact.
+use Rattle.std.specs.Prelude.{ℕ, ◌≡◌, List, Some, length, slice_get}
+use Rattle.catalog.specs.Entries.{Entry, StandsAt, ids_in}
+use Rattle.fact_audit.specs.declared.verdict.Verdict.{Verdict}
+use Rattle.fact_audit.specs.declared.verdict.Verdict.TheVariants.{Foreign, Misshapen, True, False}
+use Rattle.fact_audit.specs.Shapes.{FitsJob}
+use Rattle.fact_audit.specs.TrueFacts.{HasJob, IsTrueFact}
+use Rattle.tile_fact.specs.declared.fact.Fact.{Fact}
+
+abbrev pub IsVerdict : List Entry → Fact → Verdict → Type 0
+-- no job has the identities
+IsVerdict catalog fact Foreign = (i : ℕ) → ¬ (StandsAt catalog (ids_in fact.key) i)
+-- the job has no such stage or tile, or the kind or the count is another
+IsVerdict catalog fact Misshapen = HasJob catalog fact.key (λ job. ¬ (FitsJob fact job))
+IsVerdict catalog fact True = IsTrueFact catalog fact
+IsVerdict catalog fact False = HasJob catalog fact.key (FitsJob fact) × ¬ (IsTrueFact catalog fact)
+
+-- a verdict for each fact, in their order
+pub record AreVerdicts (catalog : List Entry) (facts : List Fact) (verdicts : List Verdict) : Type 0 where
+  pub count : length verdicts ≡ length facts
+  pub each : (k : ℕ) (fact : Fact) (verdict : Verdict) → slice_get facts k ≡ Some fact → slice_get verdicts k ≡ Some verdict
+      → IsVerdict catalog fact verdict
