@@ -1,5 +1,5 @@
 -- Planes that are made row by row.
-use Rattle.std.proofs.Common.{arith, ℕ, zero, suc, ℤ, pos, ◌≡◌, ◌+◌, ◌-◌, ◌<◌, ◌≤◌, ◌+ℤ◌, refl, sym, ap, ◌∙◌, subst, Bool, Some, None, List, [], ◌∷◌, ◌++◌, map, length, append_assoc}
+use Rattle.std.proofs.Common.{arith, ℕ, zero, suc, ℤ, pos, ◌≡◌, ◌+◌, ◌-◌, ◌<◌, ◌+ℤ◌, refl, sym, ap, ◌∙◌, subst, Bool, Some, None, List, [], ◌∷◌, ◌++◌, map, length, append_assoc}
 use Rattle.std.specs.Prelude.{slice_get}
 use Rattle.std.specs.Option.{option_map}
 use Rattle.std.proofs.Math.IntN.{+ℤ_idr}
@@ -8,7 +8,7 @@ use Rattle.std.proofs.lemmas.List.{append-nil, map-append}
 use Rattle.std.proofs.lemmas.Simd.{map-map}
 use Rattle.domains.specs.Pairs.{pairs}
 use Rattle.std.proofs.lemmas.Option.{none-some, same_Some}
-use Rattle.domains.specs.Span.{Ends, Holds, len_of, numbers_from, numbers_of}
+use Rattle.domains.specs.Span.{Holds, len_of, numbers_from, numbers_of}
 use Rattle.domains.specs.Area.{HoldsPoint, points_of}
 use Rattle.domains.specs.declared.area.Area.{Area}
 use Rattle.job.specs.Answers.{samples}

@@ -1,12 +1,15 @@
 -- What an accumulator gathers over a tile from the numbers that are given, and how that is joined.
-use Rattle.std.specs.Prelude.{ℕ, ℤ, ◌≡◌, Bool, true, List, [], fold, slice_get}
+use Rattle.std.specs.Prelude.{ℕ, ℤ, ◌≡◌, Bool, true, Some, List, [], fold, slice_get}
 use Rattle.std.specs.Option.{option_map_or}
+use Rattle.domains.specs.Area.{IsArea, IsSubarea}
 use Rattle.domains.specs.Tiles.{tile_area}
 use Rattle.domains.specs.declared.area.Area.{Area}
 use Rattle.domains.specs.declared.grid.Grid.{Grid}
-use Rattle.job.specs.Pipeline.{Body, plane, function, accumulator, Pipeline}
+use Rattle.job.specs.Answers.{is_accumulator}
+use Rattle.job.specs.Pipeline.{Body, plane, function, accumulator, Stage, Pipeline}
 use Rattle.job.specs.Totals.{body_totals, totals_over}
 use Rattle.overlap_tiles.specs.Plans.{Plan, IsTileAt, IsTilePlan}
+use Rattle.tile_eval.specs.Buffer.{IsTileOver}
 use Rattle.tile_run.specs.KnownTiles.{KnownTiles}
 use Rattle.tile_run.specs.Local.{read_from, local_value}
 use Rattle.tile_run.specs.Work.{is_accumulator_at}
@@ -27,6 +30,23 @@ AreLocalTotals job inlining given g i j bins = (area : Area) → IsTileAt job g 
 -- the numbers are the totals of the job there
 abbrev pub AreTotalsOn : Pipeline → ℕ → ℕ → ℕ → List ℤ → Type 0
 AreTotalsOn job g i j bins = (area : Area) → IsTileAt job g i j area → bins ≡ totals_over job area g
+
+-- the area is that of the tile of an accumulator in row i and column j
+pub record IsAccumulatorTile (job : Pipeline) (g i j : ℕ) (area : Area) : Type 0 where
+  pub stage : Stage
+  pub tile : IsTileOver job g i j stage area
+  pub accumulator : is_accumulator stage.body ≡ true
+
+-- the bins are the totals of an accumulator over its tile in row i and column j
+pub record IsTruePartial (job : Pipeline) (g i j : ℕ) (bins : List ℤ) : Type 0 where
+  pub area : Area
+  pub tile : IsAccumulatorTile job g i j area
+  pub totals : bins ≡ totals_over job area g
+
+-- the area lies in the domain of stage g
+pub record IsDomainPart (job : Pipeline) (g : ℕ) (area : Area) : Type 0 where
+  pub is : IsArea area
+  pub within : (s : Stage) → slice_get job.stages g ≡ Some s → IsSubarea area s.domain
 
 -- the plan is that of a tile of an accumulator
 pub record IsAccumulatorPlan (program : List ℕ) (job : Pipeline) (p : Plan) : Type 0 where

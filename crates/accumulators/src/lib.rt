@@ -16,4 +16,4 @@ mod whole_totals;
 pub use answer::{Answer, Total, answer_of};
 pub use join::join_into;
 pub use partials::partial;
-pub use whole_totals::whole;
+pub use whole_totals::{partial_of, true_partial, whole};

@@ -37,6 +37,21 @@ impl<'a> TrueStages<'a> {
         Ok(TrueStages { job, known })
     }
 
+    /// The job whose stages these are.
+    pub fn job(&self) -> &'a Job
+        ensures { result.now ≡ self.now.job.now }
+    {
+        self.job
+    }
+
+    /// The values, whatever stage is asked for.
+    pub fn known(&self) -> &StageBuffers
+        ensures known { result.now ≡ self.now.known }
+        ensures right { AreTrue (pipeline_in self.now.job.now) result.now.buffers.items }
+    {
+        &self.known
+    }
+
     /// The values of a plane or a function on its whole domain, row by row, as a copy. There are none of an accumulator, nor where no
     /// stage has this number.
     ///

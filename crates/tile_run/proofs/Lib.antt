@@ -13,3 +13,4 @@ pub mod StageRunGivesTiles
 pub mod FirstFound
 pub mod FirstTooBig
 pub mod StoredReadRow
+pub mod TestsOfRanks

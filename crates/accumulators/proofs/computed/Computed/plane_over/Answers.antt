@@ -1,4 +1,4 @@
-use Rattle.std.proofs.Common.{rules, arith, ℕ, ℤ, List, ◌≡◌, ◌++◌, ◌-◌, ◌+ℤ◌, ◌<◌, ◌≤◌, pos, length, map, ap, ◌∙◌, to_z, of_z, w32, FitsSigned}
+use Rattle.std.proofs.Common.{rules, arith, ℕ, ℤ, List, ◌≡◌, ◌++◌, ◌-◌, ◌+ℤ◌, ◌<◌, pos, length, map, ap, ◌∙◌, to_z, of_z, w32, FitsSigned}
 use Rattle.std.proofs.lemmas.Int.{to_z-of_z}
 use Rattle.domains.specs.Area.{points_of}
 use Rattle.domains.specs.Span.{len_of, numbers_from, numbers_of}

@@ -4,7 +4,7 @@ use Rattle.std.proofs.lemmas.List.{length-map}
 use Rattle.job.specs.Kept.{pipeline_in}
 use Rattle.job.specs.Pipeline.{Pipeline}
 use Rattle.job.specs.Views.{stage_view}
-use Rattle.tile_eval.proofs.Knowing.{rank_there, rank_elsewhere}
+use Rattle.tile_run.proofs.TestsOfRanks.{rank_there, rank_elsewhere}
 use Rattle.tile_run.specs.declared.stored.Stored.{Stored}
 use Rattle.tile_run.specs.inside.Running.{AreStored}
 use Rattle.tile_run.proofs.RunAllStores.{AreStoredTo, stored_more, stored_other, stored_end}
