@@ -18,12 +18,16 @@ pub record IsTileShape (job : Pipeline) (g i j : ℕ) (samples : List ℤ) : Typ
   pub tile : IsFunctionTile job g i j area
   pub count : length samples ≡ point_count area
 
--- the accumulator has such a tile, and there is a number for each of its bins
-pub record IsPartialShape (job : Pipeline) (g i j : ℕ) (bins : List ℤ) : Type 0 where
+-- the accumulator has such a tile, and these are its bins
+pub record HasBins (job : Pipeline) (g i j : ℕ) (ends : Ends) : Type 0 where
   pub area : Area
   pub tile : IsAccumulatorTile job g i j area
-  pub ends : Ends
   pub are : bins_of tile.stage.body ≡ Some ends
+
+-- a number for each of its bins
+pub record IsPartialShape (job : Pipeline) (g i j : ℕ) (bins : List ℤ) : Type 0 where
+  pub ends : Ends
+  pub has : HasBins job g i j ends
   pub count : length bins ≡ len_of ends
 
 abbrev pub BodyFits : Pipeline → Key → Body → Type 0

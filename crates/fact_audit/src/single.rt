@@ -1,11 +1,11 @@
 //! Verdicts on facts by a catalog.
 
-ghost use Rattle.std.specs.Prelude.{◌≡◌, ℕ, Some, slice_get, IfOk, IfSome, IfNone};
-ghost use Rattle.catalog.specs.Entries.{StandsAt, entry_of, ids_in, ids_of};
-ghost use Rattle.fact_audit.specs.Verdicts.{IsVerdict};
+ghost use Rattle.std.specs.Prelude.{ℕ, IfOk, IfSome, IfNone};
+ghost use Rattle.catalog.specs.Entries.{IsCatalog, StandsAt, entry_of, ids_in};
+ghost use Rattle.fact_audit.specs.Verdicts.{HasEntry, IsVerdict};
 
 use crate::shape::shape_ok;
-use crate::truth::is_true;
+use crate::truth::verdict_by;
 use crate::verdict::Verdict;
 use catalog::{Catalog, Ids};
 use identity::Key;
@@ -29,18 +29,17 @@ pub fn audit(alloc: Global, catalog: &Catalog, fact: &Fact) -> Result<Verdict, A
         return Ok(Verdict::Misshapen);
     }
     let stages = TrueStages::of(alloc, job, &[usize::from(fact.key().stage)])?;
-    if is_true(alloc, &stages, fact)? {
-        Ok(Verdict::True)
-    } else {
-        Ok(Verdict::False)
-    }
+    verdict_by(alloc, &stages, fact)
 }
 
 // The job whose identities the key names.
-fn job_of<'a>(catalog: &'a Catalog, key: &Key) -> Option<&'a Job>
-    ensures some { IfSome result (λ job. (i : ℕ) × (slice_get catalog.now i ≡ Some (entry_of job.now)) × (ids_of (entry_of job.now) ≡ ids_in key.now)) }
+pub(crate) fn job_of<'a>(catalog: &'a Catalog, key: &Key) -> Option<&'a Job>
+    ensures some { IfSome result (λ job. HasEntry catalog.now key.now (entry_of job.now)) }
     ensures none { IfNone result ((i : ℕ) → ¬ (StandsAt catalog.now (ids_in key.now) i)) }
+    ensures catalog { IsCatalog catalog.now }
 {
-    let index = catalog.find(&Ids::of_key(key))?;
-    catalog.job(index)
+    match catalog.find(&Ids::of_key(key)) {
+        Some(index) => catalog.job(index),
+        None => None,
+    }
 }

@@ -1,0 +1,2 @@
+pub mod OneTile
+pub mod Judging
