@@ -82,14 +82,14 @@ fn are_bins(
     }
 }
 
-fn same_samples(a: &[i32], b: &Vec<i32>) -> bool
-    ensures { IsTrue result ↔ a.now ≡ b.now.items }
+fn same_samples(samples: &[i32], values: &Vec<i32>) -> bool
+    ensures { IsTrue result ↔ samples.now ≡ values.now.items }
 {
-    a == b.as_slice()
+    samples == values.as_slice()
 }
 
-fn same_bins(a: &[i64], b: &Vec<i64>) -> bool
-    ensures { IsTrue result ↔ a.now ≡ b.now.items }
+fn same_bins(bins: &[i64], totals: &Vec<i64>) -> bool
+    ensures { IsTrue result ↔ bins.now ≡ totals.now.items }
 {
-    a == b.as_slice()
+    bins == totals.as_slice()
 }

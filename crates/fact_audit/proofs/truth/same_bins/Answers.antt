@@ -6,5 +6,5 @@ use Rattle.fact_audit.proofs.truth.same_bins.Goals as goal
 
 pub returns : goal.returns
 returns c =
-    subst (λ (ys : List ℤ). IsTrue c.eq.result ↔ (c.args.a.now ≡ ys)) c.as_slice.ensures.value
-    (slice_eq-Decides signed_Decides c.args.a.now c.as_slice.result.now c.eq.result c.eq.ensures)
+    subst (λ (ys : List ℤ). IsTrue c.eq.result ↔ (c.args.bins.now ≡ ys)) c.as_slice.ensures.value
+    (slice_eq-Decides signed_Decides c.args.bins.now c.as_slice.result.now c.eq.result c.eq.ensures)
