@@ -33,4 +33,6 @@ mod totals;
 #[cfg(test)]
 mod values;
 #[cfg(test)]
+mod verdicts;
+#[cfg(test)]
 mod wanted;
