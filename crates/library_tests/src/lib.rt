@@ -33,6 +33,8 @@ mod totals;
 #[cfg(test)]
 mod values;
 #[cfg(test)]
+mod verdicts;
+#[cfg(test)]
 mod wanted;
 #[cfg(test)]
 mod work;
