@@ -88,14 +88,17 @@ true_totals job inlining given Inner g s area is there within true_tiles closed 
 module _ (job : Pipeline) (grid : Grid) (tiles : List (ℕ × ℕ)) (is : IsGrid grid) (moved : IsPermutation (tiles_of grid) tiles) (g : ℕ)
   where
     bins_join : (way : Fold) (bins : Ends) (v bin : Formula)
-        → fold (λ xs t. joined_bins way xs (body_totals (value job) (tile_area grid t.0 t.1) (accumulator way bins v bin))) (starts way bins)
+        → fold (λ xs t. joined_bins way xs (body_totals (value job) (tile_area grid t.0 t.1) (accumulator way bins v bin)))
+        (starts way bins)
         tiles ≡ body_totals (value job) grid.area (accumulator way bins v bin)
     bins_join way bins v bin =
-        joined_all way (λ b. start_of way) (λ (t : ℕ × ℕ) (b : ℤ). total_of way (values_in_bin (value job) v bin (tile_area grid t.0 t.1) b))
+        joined_all way (λ b. start_of way)
+        (λ (t : ℕ × ℕ) (b : ℤ). total_of way (values_in_bin (value job) v bin (tile_area grid t.0 t.1) b))
         (numbers_of bins) tiles
         ∙ map_same (λ b. fold (λ a (t : ℕ × ℕ). joined way a (total_of way (values_in_bin (value job) v bin (tile_area grid t.0 t.1) b)))
         (start_of way) tiles) (λ b. total_of way (values_in_bin (value job) v bin grid.area b)) (numbers_of bins)
-        (λ b. tiles_join way (λ p. formula_value (value job) v p.0 p.1) (λ p. int_eq (formula_value (value job) bin p.0 p.1) b) grid tiles is
+        (λ b. tiles_join way (λ p. formula_value (value job) v p.0 p.1) (λ p. int_eq (formula_value (value job) bin p.0 p.1) b) grid tiles
+        is
         moved)
 
 pub partials_join : (job : Pipeline) (g : ℕ) (s : Stage) (tiles : List (ℕ × ℕ)) → IsJob job → slice_get job.stages g ≡ Some s

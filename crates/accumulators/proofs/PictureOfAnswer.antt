@@ -65,7 +65,8 @@ is_picture job env o is =
       colours = elim is.planes [ inl e ↦ inl (count ∙ e) | inr e ↦ inr (count ∙ e) ];
       planes =
           All-map (IsPlane (h * w) o.max) (samples_from job env o.max) o.stages
-          (All-weaker (IsOutputPlane job h w) (λ g. IsPlane (h * w) o.max (samples_from job env o.max g)) (λ g. samples_plane job env o.max h w g)
+          (All-weaker (IsOutputPlane job h w) (λ g. IsPlane (h * w) o.max (samples_from job env o.max g))
+          (λ g. samples_plane job env o.max h w g)
           o.stages is.equal_sides);
     }
 
@@ -115,7 +116,9 @@ output_stored job inlining o g s schedule there is has found =
     o.stages g is.equal_sides has in
     record {
       there = found;
-      function = ap (λ (t : Stage). is_function_body t.body) (same_Some s own.stage (sym found ∙ own.there)) ∙ a_function own.stage.body own.function;
+      function =
+          ap (λ (t : Stage). is_function_body t.body) (same_Some s own.stage (sym found ∙ own.there))
+          ∙ a_function own.stage.body own.function;
       stored = not_inlined (is_inlined inlining g) (λ inlined. true≢false (sym (is_among job o g there has) ∙ schedule.inner g inlined));
     }
 

@@ -37,4 +37,5 @@ taken_partials job g s tiles good there same =
         sym (ap (λ (o : Option Stage). option_map_or (λ t. body_joined job g (grid_of job s) tiles t.body) o []) there
         ∙ ap (body_joined job g (grid_of job s) tiles) is)
         ∙ partials_join job g s tiles good there same in
-        ap (λ (xs : List ℤ). record { stage = g; lo = bins.lo; bins = xs } ∷ []) (fold_map (joined_bins way) partial (starts way bins) tiles ∙ joined)
+        ap (λ (xs : List ℤ). record { stage = g; lo = bins.lo; bins = xs } ∷ [])
+        (fold_map (joined_bins way) partial (starts way bins) tiles ∙ joined)

@@ -39,7 +39,8 @@ module _ (job : Pipeline) (given : KnownTiles) (good : IsJob job) (right : AreTr
   same_picture o lent =
       let planes : map (samples_from job (given_at job given) o.max) o.stages ≡ map (samples job o.max) o.stages =
       map_all (samples_from job (given_at job given) o.max) (samples job o.max) o.stages
-      (All-weaker (IsLentStage job given) (λ g. samples_from job (given_at job given) o.max g ≡ samples job o.max g) (same_samples o.max) o.stages lent) in
+      (All-weaker (IsLentStage job given) (λ g. samples_from job (given_at job given) o.max g ≡ samples job o.max g) (same_samples o.max)
+      o.stages lent) in
       λ i. record {
         rows = height_of job (slice_index o.stages 0);
         cols = width_of job (slice_index o.stages 0);
@@ -54,5 +55,6 @@ module _ (job : Pipeline) (given : KnownTiles) (good : IsJob job) (right : AreTr
       by None is = refl
       by (Some o) is = ap Some (same_picture o (gives o is))
 
-pub image_true : (job : Pipeline) (given : KnownTiles) → IsJob job → AreTrue job given → GivesOutputs job given → given_image job given ≡ image job
+pub image_true : (job : Pipeline) (given : KnownTiles) → IsJob job → AreTrue job given → GivesOutputs job given
+    → given_image job given ≡ image job
 image_true job given good right gives = image_same job given good right gives

@@ -50,12 +50,15 @@ pub fn answer_of(
     stored: &Stored,
 ) -> Result<Answer, RunFault>
     requires schedule { IsScheduleOf (pipeline_in job.now) schedule.now }
-    requires all { GivesAllTiles (pipeline_in job.now) schedule.now.inlining (stored_tiles stored.now.stages.items) }
+    requires all { GivesAllTiles (pipeline_in job.now) schedule.now.inlining
+        (stored_tiles stored.now.stages.items) }
     requires values { AreTrue (pipeline_in job.now) (stored_tiles stored.now.stages.items) }
     ensures answer { IfOk result (IsAnswer (pipeline_in job.now)) }
     ensures image { IfOk result (λ answer. ForSome answer.picture IsImage) }
-    ensures fits { IfOk result (λ answer. first_too_big (pipeline_in job.now) schedule.now.inlining (is_accumulator_at (pipeline_in job.now)) ≡ None) }
-    ensures fault { IfErr result (IsRunFault (program_id_in job.now) (pipeline_in job.now) schedule.now.inlining (is_accumulator_at (pipeline_in job.now))) }
+    ensures fits { IfOk result (λ answer. first_too_big (pipeline_in job.now) schedule.now.inlining
+        (is_accumulator_at (pipeline_in job.now)) ≡ None) }
+    ensures fault { IfErr result (IsRunFault (program_id_in job.now) (pipeline_in job.now)
+        schedule.now.inlining (is_accumulator_at (pipeline_in job.now))) }
 {
     if let Some(key) = first_too_big(alloc, job, schedule, Work::Accumulators)? {
         return Err(RunFault::ScratchTooBig(key));

@@ -13,7 +13,8 @@ use domains::{Fold, Span};
 // The place of a bin, if it is one of these.
 #[tactic(auto, using(std::proofs::lemmas::Int::ints))]
 fn place_in(bins: &Span, bin: i32) -> Option<usize>
-    ensures some { IfSome result (λ place. (place < len_of bins.now) × (bins.now.lo +ℤ pos place ≡ bin)) }
+    ensures some { IfSome result
+        (λ place. (place < len_of bins.now) × (bins.now.lo +ℤ pos place ≡ bin)) }
     ensures none { IfNone result (¬ (Holds bins.now bin)) }
 {
     if bins.holds(bin) {
@@ -26,7 +27,8 @@ fn place_in(bins: &Span, bin: i32) -> Option<usize>
 // Takes a value into its bin; a value whose bin is none of these changes nothing.
 fn take_value(op: Fold, span: &Span, bins: &mut [i64], value: i32, bin: i32)
     requires { length bins.old ≡ len_of span.now }
-    ensures { EachPlace (length bins.old) (λ j. at bins.new j ≡ once_came op (int_eq bin (span.now.lo +ℤ pos j)) (at bins.old j) value) }
+    ensures { EachPlace (length bins.old) (λ j. at bins.new j
+        ≡ once_came op (int_eq bin (span.now.lo +ℤ pos j)) (at bins.old j) value) }
 {
     if let Some(place) = place_in(span, bin) {
         bins[place] = joined(op, bins[place], i64::from(value));
@@ -37,7 +39,9 @@ fn take_value(op: Fold, span: &Span, bins: &mut [i64], value: i32, bin: i32)
 pub(crate) fn take_values(op: Fold, span: &Span, bins: &mut [i64], values: &[i32], bins_of: &[i32])
     requires one_length { length bins_of.now ≡ length values.now }
     requires bins { length bins.old ≡ len_of span.now }
-    ensures { EachPlace (length bins.old) (λ j. at bins.new j ≡ after_values op (at bins.old j) (values_of_bin values.now bins_of.now (span.now.lo +ℤ pos j))) }
+    ensures { EachPlace (length bins.old) (λ j. at bins.new j
+        ≡ after_values op (at bins.old j)
+        (values_of_bin values.now bins_of.now (span.now.lo +ℤ pos j))) }
 {
     for k in 0..values.len() {
         take_value(op, span, bins, values[k], bins_of[k]);

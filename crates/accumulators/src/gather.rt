@@ -43,9 +43,11 @@ fn gather_row<S: RowSource>(
     requires bins { length bins.old ≡ len_of accumulator.now.bins }
     requires fits { length values.old ≡ points.now.len }
     requires formulas { HasFormulas accumulator.now }
-    requires reads { EachPlace (length values.old) (λ k. ReadsAt (S.has source.now) accumulator.now points.now.row (points.now.col +ℤ pos k)) }
+    requires reads { EachPlace (length values.old)
+        (λ k. ReadsAt (S.has source.now) accumulator.now points.now.row (points.now.col +ℤ pos k)) }
     requires room { HasRoomAlong accumulator.now (length values.old) (length temps.old) }
-    ensures { TookPoints (S.samples source.now) accumulator.now (points_along points.now.row points.now.col (length values.old)) bins.old bins.new }
+    ensures { TookPoints (S.samples source.now) accumulator.now
+        (points_along points.now.row points.now.col (length values.old)) bins.old bins.new }
 {
     formula_row(source, accumulator.value(), points, values, temps);
     formula_row(source, accumulator.bin(), points, bins_of, temps);
@@ -74,9 +76,11 @@ fn gather_rows<S: RowSource>(
     requires one_length { length bins_of.old ≡ length values.old }
     requires bins { length bins.old ≡ len_of accumulator.now.bins }
     requires formulas { HasFormulas accumulator.now }
-    requires reads { (r c : ℤ) → HoldsPoint area.now r c → ReadsAt (S.has source.now) accumulator.now r c }
+    requires reads { (r c : ℤ) → HoldsPoint area.now r c
+        → ReadsAt (S.has source.now) accumulator.now r c }
     requires room { HasRoomAlong accumulator.now (length values.old) (length temps.old) }
-    ensures { TookPoints (S.samples source.now) accumulator.now (points_of area.now) bins.old bins.new }
+    ensures { TookPoints (S.samples source.now) accumulator.now (points_of area.now) bins.old
+        bins.new }
 {
     for i in 0..area.rows.len() as usize {
         let points = RowSpan::at(area, i);
@@ -98,8 +102,12 @@ pub(crate) fn gather<S: RowSource>(
     requires rows { InDomainRange area.now.rows }
     requires cols { InDomainRange area.now.cols }
     requires formulas { HasFormulas accumulator.now }
-    requires reads { (r c : ℤ) → HoldsPoint area.now r c → ReadsAt (S.has source.now) accumulator.now r c }
-    ensures { IfOk result (λ bins. bins.items ≡ body_totals (S.samples source.now) area.now (accumulator_by accumulator.now.fold accumulator.now.bins (formula_view accumulator.now.value) (formula_view accumulator.now.bin))) }
+    requires reads { (r c : ℤ) → HoldsPoint area.now r c
+        → ReadsAt (S.has source.now) accumulator.now r c }
+    ensures { IfOk result (λ bins. bins.items
+        ≡ body_totals (S.samples source.now) area.now (accumulator_by accumulator.now.fold
+        accumulator.now.bins (formula_view accumulator.now.value)
+        (formula_view accumulator.now.bin))) }
 {
     let n = area.cols.len() as usize;
     let room = room_along(accumulator, n).ok_or(AllocError)?;

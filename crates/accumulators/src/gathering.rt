@@ -45,8 +45,10 @@ impl Gathering {
     ///
     /// Fails only where memory is refused.
     pub fn of(alloc: Global, job: &Job, stage: usize) -> Result<Option<Gathering>, AllocError>
-        ensures some { IfOk result (λ found. IfSome found (HasTaken (pipeline_in job.now) stage [])) }
-        ensures none { IfOk result (λ found. IfNone found (is_accumulator_at (pipeline_in job.now) stage ≡ false)) }
+        ensures some { IfOk result
+            (λ found. IfSome found (HasTaken (pipeline_in job.now) stage [])) }
+        ensures none { IfOk result
+            (λ found. IfNone found (is_accumulator_at (pipeline_in job.now) stage ≡ false)) }
     {
         match (job.op(stage), job.bins(stage)) {
             (Some(op), Some(span)) => Ok(Some(Gathering::begin(alloc, stage, op, &span)?)),
@@ -60,16 +62,21 @@ impl Gathering {
         ensures stage { self.new.stage ≡ self.old.stage }
         ensures op { self.new.op ≡ self.old.op }
         ensures span { self.new.span ≡ self.old.span }
-        ensures bins { self.new.bins.items ≡ joined_bins self.old.op self.old.bins.items partial.now }
-        ensures taken { (job : Pipeline) (g : ℕ) (partials : List (List ℤ)) → HasTaken job g partials self.old → HasTaken job g (partials ++ partial.now ∷ []) self.new }
+        ensures bins { self.new.bins.items
+            ≡ joined_bins self.old.op self.old.bins.items partial.now }
+        ensures taken { (job : Pipeline) (g : ℕ) (partials : List (List ℤ))
+            → HasTaken job g partials self.old
+            → HasTaken job g (partials ++ partial.now ∷ []) self.new }
     {
         join_into(self.op, &mut self.bins, partial);
     }
 
     /// What was gathered.
     pub fn into_total(self) -> Total
-        ensures total { gathered result ≡ record { stage = self.stage; lo = self.span.lo; bins = self.bins.items } }
-        ensures taken { (job : Pipeline) (g : ℕ) (partials : List (List ℤ)) → HasTaken job g partials self → gathered_from job g partials ≡ gathered result ∷ [] }
+        ensures total { gathered result
+            ≡ record { stage = self.stage; lo = self.span.lo; bins = self.bins.items } }
+        ensures taken { (job : Pipeline) (g : ℕ) (partials : List (List ℤ))
+            → HasTaken job g partials self → gathered_from job g partials ≡ gathered result ∷ [] }
     {
         Total {
             stage: self.stage,

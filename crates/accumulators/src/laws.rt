@@ -19,21 +19,33 @@ ghost use Rattle.accumulators.specs.Partials.{local_totals, joined_over};
 
 /// The totals over the tiles of an accumulator, joined in any order, are its totals.
 pub fn partials_join()
-    ensures { (job : Pipeline) (g : ℕ) (s : Stage) (tiles : List (ℕ × ℕ)) → IsJob job → slice_get job.stages g ≡ Some s → IsPermutation (tiles_of (grid_of job s)) tiles → joined_over job g (grid_of job s) tiles ≡ totals job g }
+    ensures { (job : Pipeline) (g : ℕ) (s : Stage) (tiles : List (ℕ × ℕ)) → IsJob job
+        → slice_get job.stages g ≡ Some s → IsPermutation (tiles_of (grid_of job s)) tiles
+        → joined_over job g (grid_of job s) tiles ≡ totals job g }
 {}
 
 /// Where what is given is true, the picture that it gives is the job's.
 pub fn true_tiles_give_the_image()
-    ensures { (job : Pipeline) (given : KnownTiles) → IsJob job → AreTrue job given → GivesOutputs job given → given_image job given ≡ image job }
+    ensures { (job : Pipeline) (given : KnownTiles) → IsJob job → AreTrue job given
+        → GivesOutputs job given → given_image job given ≡ image job }
 {}
 
 /// The totals over the tiles of an accumulator, come in each once and in any order, are what it gathers.
 pub fn taken_partials_give_totals()
-    ensures { (job : Pipeline) (g : ℕ) (s : Stage) (tiles : List (ℕ × ℕ)) → IsJob job → slice_get job.stages g ≡ Some s → IsPermutation (tiles_of (grid_of job s)) tiles → gathered_from job g (map (λ t. totals_over job (tile_area (grid_of job s) t.0 t.1) g) tiles) ≡ gathered_at job g }
+    ensures { (job : Pipeline) (g : ℕ) (s : Stage) (tiles : List (ℕ × ℕ)) → IsJob job
+        → slice_get job.stages g ≡ Some s → IsPermutation (tiles_of (grid_of job s)) tiles
+        → gathered_from job g
+        (map (λ t. totals_over job (tile_area (grid_of job s) t.0 t.1) g) tiles)
+        ≡ gathered_at job g }
 {}
 
 /// Where what is given is true, what an accumulator gathers from it is what it gathers over the area: where all that it reads there is
 /// at hand, and so on with what is inlined.
 pub fn true_tiles_give_totals()
-    ensures { (job : Pipeline) (inlining : List Bool) (given : KnownTiles) (boxes : ℕ → Option Area) (g : ℕ) (s : Stage) (area : Area) → IsJob job → slice_get job.stages g ≡ Some s → IsArea area → AreTrue job given → IsClosed job inlining given (λ h. InBox (boxes h)) → ((r c : ℤ) → HoldsPoint area r c → BodyReads (IsAtHand job inlining given (λ h. InBox (boxes h))) s.body r c) → local_totals job inlining given area g ≡ totals_over job area g }
+    ensures { (job : Pipeline) (inlining : List Bool) (given : KnownTiles) (boxes : ℕ → Option Area)
+        (g : ℕ) (s : Stage) (area : Area) → IsJob job → slice_get job.stages g ≡ Some s
+        → IsArea area → AreTrue job given → IsClosed job inlining given (λ h. InBox (boxes h))
+        → ((r c : ℤ) → HoldsPoint area r c
+        → BodyReads (IsAtHand job inlining given (λ h. InBox (boxes h))) s.body r c)
+        → local_totals job inlining given area g ≡ totals_over job area g }
 {}

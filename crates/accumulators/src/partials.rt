@@ -23,8 +23,12 @@ fn gather_step<K: Known>(
     step: &Step,
 ) -> Result<Vec<i64>, AllocError>
     requires area { IsArea step.now.area }
-    requires prepared { IsPrepared (pipeline_in inputs.now.tile.job.now) inputs.now.tile.layout.now.inlining (K.given inputs.now.tile.known.now) inputs.now.boxes.now step.now.stage step.now.area }
-    ensures { IfOk result (λ bins. bins.items ≡ local_totals (pipeline_in inputs.now.tile.job.now) inputs.now.tile.layout.now.inlining (K.given inputs.now.tile.known.now) step.now.area step.now.stage) }
+    requires prepared { IsPrepared (pipeline_in inputs.now.tile.job.now)
+        inputs.now.tile.layout.now.inlining (K.given inputs.now.tile.known.now) inputs.now.boxes.now
+        step.now.stage step.now.area }
+    ensures { IfOk result (λ bins. bins.items
+        ≡ local_totals (pipeline_in inputs.now.tile.job.now) inputs.now.tile.layout.now.inlining
+        (K.given inputs.now.tile.known.now) step.now.area step.now.stage) }
 {
     let Some(found) = inputs.tile.job.stage(step.stage) else {
         return Ok(Vec::new(alloc));
@@ -47,7 +51,10 @@ pub(crate) fn tile_totals<K: Known>(
 ) -> Result<Vec<i64>, AllocError>
     requires layout { IsSomeLayout (pipeline_in tile.now.job.now) tile.now.layout.now }
     requires needs { NeedsGiven (K.given tile.now.known.now) tile.now.layout.now.needs }
-    ensures { IfOk result (λ bins. (inlining : List Bool) (g i j : ℕ) → IsTileLayout (pipeline_in tile.now.job.now) inlining g i j tile.now.layout.now → AreLocalTotals (pipeline_in tile.now.job.now) inlining (K.given tile.now.known.now) g i j bins.items) }
+    ensures { IfOk result (λ bins. (inlining : List Bool) (g i j : ℕ)
+        → IsTileLayout (pipeline_in tile.now.job.now) inlining g i j tile.now.layout.now
+        → AreLocalTotals (pipeline_in tile.now.job.now) inlining (K.given tile.now.known.now) g i j
+        bins.items) }
 {
     let Some(step) = tile.layout.steps().last() else {
         return Ok(Vec::new(alloc));
@@ -77,8 +84,13 @@ pub fn partial<K: Known>(
 ) -> Result<Vec<i64>, EvalFault>
     requires whole { AreWhole (pipeline_in job.now) (K.given known.now) }
     requires plan { IsAccumulatorPlan (program_id_in job.now) (pipeline_in job.now) plan.now }
-    ensures totals { IfOk result (λ bins. (inlining : List Bool) (g i j : ℕ) → IsTilePlan (program_id_in job.now) (pipeline_in job.now) inlining g i j plan.now → AreLocalTotals (pipeline_in job.now) inlining (K.given known.now) g i j bins.items) }
-    ensures right { AreTrue (pipeline_in job.now) (K.given known.now) → IfOk result (λ bins. (inlining : List Bool) (g i j : ℕ) → IsTilePlan (program_id_in job.now) (pipeline_in job.now) inlining g i j plan.now → AreTotalsOn (pipeline_in job.now) g i j bins.items) }
+    ensures totals { IfOk result (λ bins. (inlining : List Bool) (g i j : ℕ)
+        → IsTilePlan (program_id_in job.now) (pipeline_in job.now) inlining g i j plan.now
+        → AreLocalTotals (pipeline_in job.now) inlining (K.given known.now) g i j bins.items) }
+    ensures right { AreTrue (pipeline_in job.now) (K.given known.now)
+        → IfOk result (λ bins. (inlining : List Bool) (g i j : ℕ)
+        → IsTilePlan (program_id_in job.now) (pipeline_in job.now) inlining g i j plan.now
+        → AreTotalsOn (pipeline_in job.now) g i j bins.items) }
     ensures given { IfOk result (λ bins. first_missing (K.given known.now) plan.now.needs ≡ None) }
     ensures fault { IfErr result (IsEvalFault (K.given known.now) plan.now.needs) }
 {

@@ -41,7 +41,8 @@ pub fn image_of<K: Known>(
     known: &K,
 ) -> Result<Option<Picture>, AllocError>
     requires { GivesOutputs (pipeline_in job.now) (K.given known.now) }
-    ensures answer { IfOk result (λ picture. picture ≡ given_image (pipeline_in job.now) (K.given known.now)) }
+    ensures answer { IfOk result
+        (λ picture. picture ≡ given_image (pipeline_in job.now) (K.given known.now)) }
     ensures image { IfOk result (λ picture. ForSome picture IsImage) }
 {
     Lent { job, known }.image(alloc)
@@ -51,7 +52,8 @@ impl<K: Known> Lent<'_, K> {
     // The picture of a job that has an output.
     fn image(&self, alloc: Global) -> Result<Option<Picture>, AllocError>
         requires { GivesOutputs (pipeline_in self.now.job.now) (K.given self.now.known.now) }
-        ensures answer { IfOk result (λ picture. picture ≡ given_image (pipeline_in self.now.job.now) (K.given self.now.known.now)) }
+        ensures answer { IfOk result (λ picture. picture
+            ≡ given_image (pipeline_in self.now.job.now) (K.given self.now.known.now)) }
         ensures image { IfOk result (λ picture. ForSome picture IsImage) }
     {
         match self.job.output() {
@@ -63,8 +65,13 @@ impl<K: Known> Lent<'_, K> {
     // The output's functions as planes.
     fn picture(&self, alloc: Global, output: &Output) -> Result<Picture, AllocError>
         requires output { IsOutput (pipeline_in self.now.job.now) (output_view output.now) }
-        requires stored { All (IsLentStage (pipeline_in self.now.job.now) (K.given self.now.known.now)) (output_view output.now).stages }
-        ensures answer { IfOk result (λ picture. picture ≡ picture_from (pipeline_in self.now.job.now) (given_at (pipeline_in self.now.job.now) (K.given self.now.known.now)) (output_view output.now)) }
+        requires stored { All
+            (IsLentStage (pipeline_in self.now.job.now) (K.given self.now.known.now))
+            (output_view output.now).stages }
+        ensures answer { IfOk result (λ picture. picture
+            ≡ picture_from (pipeline_in self.now.job.now)
+            (given_at (pipeline_in self.now.job.now) (K.given self.now.known.now))
+            (output_view output.now)) }
         ensures image { IfOk result IsImage }
     {
         let max = output.max() as u16;
@@ -80,8 +87,12 @@ impl<K: Known> Lent<'_, K> {
 
     // The planes of functions.
     fn planes(&self, alloc: Global, stages: &[usize], max: u16) -> Result<Vec<Vec<u16>>, AllocError>
-        requires stored { All (IsLentStage (pipeline_in self.now.job.now) (K.given self.now.known.now)) stages.now }
-        ensures { IfOk result (λ planes. samples_of planes.items ≡ map (samples_from (pipeline_in self.now.job.now) (given_at (pipeline_in self.now.job.now) (K.given self.now.known.now)) max) stages.now) }
+        requires stored { All
+            (IsLentStage (pipeline_in self.now.job.now) (K.given self.now.known.now)) stages.now }
+        ensures { IfOk result (λ planes. samples_of planes.items
+            ≡ map (samples_from (pipeline_in self.now.job.now)
+            (given_at (pipeline_in self.now.job.now) (K.given self.now.known.now)) max)
+            stages.now) }
     {
         let mut planes = Vec::with_capacity(alloc, stages.len())?;
         for stage in stages {
@@ -92,8 +103,11 @@ impl<K: Known> Lent<'_, K> {
 
     // The values of a function, row by row, cut to 0 and the greatest sample.
     fn plane(&self, alloc: Global, stage: usize, max: u16) -> Result<Vec<u16>, AllocError>
-        requires stored { IsLentStage (pipeline_in self.now.job.now) (K.given self.now.known.now) stage }
-        ensures { IfOk result (λ plane. plane.items ≡ samples_from (pipeline_in self.now.job.now) (given_at (pipeline_in self.now.job.now) (K.given self.now.known.now)) max stage) }
+        requires stored { IsLentStage (pipeline_in self.now.job.now) (K.given self.now.known.now)
+            stage }
+        ensures { IfOk result (λ plane. plane.items
+            ≡ samples_from (pipeline_in self.now.job.now)
+            (given_at (pipeline_in self.now.job.now) (K.given self.now.known.now)) max stage) }
     {
         match self.job.domain(stage) {
             Some(domain) => self.plane_over(alloc, stage, &domain, max),
@@ -109,9 +123,13 @@ impl<K: Known> Lent<'_, K> {
         domain: &Area,
         max: u16,
     ) -> Result<Vec<u16>, AllocError>
-        requires stored { IsLentStage (pipeline_in self.now.job.now) (K.given self.now.known.now) stage }
-        requires domain { option_map (λ s. s.domain) (slice_get (pipeline_in self.now.job.now).stages stage) ≡ Some domain.now }
-        ensures { IfOk result (λ plane. plane.items ≡ map (λ p. sample_of max (given_at (pipeline_in self.now.job.now) (K.given self.now.known.now) stage p.0 p.1)) (points_of domain.now)) }
+        requires stored { IsLentStage (pipeline_in self.now.job.now) (K.given self.now.known.now)
+            stage }
+        requires domain { option_map (λ s. s.domain)
+            (slice_get (pipeline_in self.now.job.now).stages stage) ≡ Some domain.now }
+        ensures { IfOk result (λ plane. plane.items
+            ≡ map (λ p. sample_of max (given_at (pipeline_in self.now.job.now)
+            (K.given self.now.known.now) stage p.0 p.1)) (points_of domain.now)) }
     {
         let mut plane = Vec::with_capacity(alloc, domain.points() as usize)?;
         let mut room = vec![in alloc; 0; domain.cols.len() as usize]?;
@@ -134,8 +152,13 @@ impl<K: Known> Lent<'_, K> {
         first: i32,
         max: u16,
     ) -> Result<(), AllocError>
-        requires stored { IsGivenLine (pipeline_in self.now.job.now) (K.given self.now.known.now) stage row first (length line.old) }
-        ensures { OnOk result (plane.new.items ≡ plane.old.items ++ map (λ c. sample_of max (given_at (pipeline_in self.now.job.now) (K.given self.now.known.now) stage row c)) (numbers_from first (length line.old))) }
+        requires stored { IsGivenLine (pipeline_in self.now.job.now) (K.given self.now.known.now)
+            stage row first (length line.old) }
+        ensures { OnOk result (plane.new.items
+            ≡ plane.old.items
+            ++ map (λ c. sample_of max (given_at (pipeline_in self.now.job.now)
+            (K.given self.now.known.now) stage row c))
+            (numbers_from first (length line.old))) }
     {
         read_given_row(self.known, self.job, stage, row, first, line);
         push_cut(plane, line, max)
@@ -144,7 +167,8 @@ impl<K: Known> Lent<'_, K> {
 
 // Adds values, cut to 0 and the greatest sample.
 fn push_cut(samples: &mut Vec<u16>, values: &[i32], max: u16) -> Result<(), AllocError>
-    ensures { OnOk result (samples.new.items ≡ samples.old.items ++ map (sample_of max) values.now) }
+    ensures { OnOk result
+        (samples.new.items ≡ samples.old.items ++ map (sample_of max) values.now) }
 {
     for value in values {
         samples.push(cut(*value, max))?;

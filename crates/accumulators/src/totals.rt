@@ -35,7 +35,8 @@ impl Computed<'_> {
     pub(crate) fn totals(&self, alloc: Global) -> Result<Vec<Total>, AllocError>
         requires computed { IsComputed self.now }
         requires fits { TotalsFit self.now }
-        ensures { IfOk result (λ all. map gathered all.items ≡ all_gathered (pipeline_in self.now.job.now)) }
+        ensures { IfOk result
+            (λ all. map gathered all.items ≡ all_gathered (pipeline_in self.now.job.now)) }
     {
         let mut scratch = Scratch::new(alloc);
         let mut all = Vec::new(alloc);
@@ -55,7 +56,8 @@ impl Computed<'_> {
     ) -> Result<(), AllocError>
         requires computed { IsComputed self.now }
         requires fits { TotalsFit self.now }
-        ensures { OnOk result (map gathered all.new.items ≡ map gathered all.old.items ++ gathered_at (pipeline_in self.now.job.now) stage) }
+        ensures { OnOk result (map gathered all.new.items
+            ≡ map gathered all.old.items ++ gathered_at (pipeline_in self.now.job.now) stage) }
     {
         let Some(tally) = self.tally(stage) else {
             return Ok(());
@@ -91,7 +93,8 @@ impl Accumulation<'_> {
     // What it gathered, from the totals over all tiles, row by row.
     fn total(&self, alloc: Global, scratch: &mut Scratch) -> Result<Total, AllocError>
         requires { IsTally self.now }
-        ensures { IfOk result (λ total. gathered_at (pipeline_in self.now.of.job.now) self.now.stage ≡ gathered total ∷ []) }
+        ensures { IfOk result (λ total. gathered_at (pipeline_in self.now.of.job.now) self.now.stage
+            ≡ gathered total ∷ []) }
     {
         let mut gathering = Gathering::begin(alloc, self.stage, self.op, &self.bins)?;
         for row in 0..self.grid.tile_rows() {
@@ -115,7 +118,10 @@ impl Accumulation<'_> {
         ensures stage { OnOk result (gathering.new.stage ≡ gathering.old.stage) }
         ensures op { OnOk result (gathering.new.op ≡ self.now.op) }
         ensures span { OnOk result (gathering.new.span ≡ self.now.bins) }
-        ensures bins { OnOk result (gathering.new.bins.items ≡ fold (with_tile (pipeline_in self.now.of.job.now) self.now.stage self.now.op self.now.grid) gathering.old.bins.items (map (λ j. (row, j)) (range_with_len 0 (tile_cols self.now.grid)))) }
+        ensures bins { OnOk result (gathering.new.bins.items
+            ≡ fold (with_tile (pipeline_in self.now.of.job.now) self.now.stage self.now.op
+            self.now.grid) gathering.old.bins.items
+            (map (λ j. (row, j)) (range_with_len 0 (tile_cols self.now.grid)))) }
     {
         for col in 0..self.grid.tile_cols() {
             let partial = self.tile(alloc, scratch, row, col)?;
@@ -134,7 +140,9 @@ impl Accumulation<'_> {
     ) -> Result<Vec<i64>, AllocError>
         requires tally { IsTally self.now }
         requires tile { HasTile self.now.grid row col }
-        ensures { IfOk result (λ bins. bins.items ≡ totals_over (pipeline_in self.now.of.job.now) (tile_area self.now.grid row col) self.now.stage) }
+        ensures { IfOk result (λ bins. bins.items
+            ≡ totals_over (pipeline_in self.now.of.job.now) (tile_area self.now.grid row col)
+            self.now.stage) }
     {
         let of = &self.of;
         let layout = self.layout(alloc, row, col)?;
@@ -150,7 +158,8 @@ impl Accumulation<'_> {
     fn layout(&self, alloc: Global, row: u32, col: u32) -> Result<Layout<'_>, AllocError>
         requires tally { IsTally self.now }
         requires tile { HasTile self.now.grid row col }
-        ensures { IfOk result (IsTileLayout (pipeline_in self.now.of.job.now) self.now.of.schedule.now.inlining self.now.stage row col) }
+        ensures { IfOk result (IsTileLayout (pipeline_in self.now.of.job.now)
+            self.now.of.schedule.now.inlining self.now.stage row col) }
     {
         let of = &self.of;
         match Layout::of(alloc, of.job, of.schedule, self.stage, row, col) {

@@ -22,9 +22,11 @@ fn totals_on(
     stage: usize,
     area: &Area,
 ) -> Result<Vec<i64>, AllocError>
-    requires served { IsServed (pipeline_in stages.now.job.now) stages.now.known.buffers.items stage }
+    requires served { IsServed (pipeline_in stages.now.job.now) stages.now.known.buffers.items
+        stage }
     requires part { IsDomainPart (pipeline_in stages.now.job.now) stage area.now }
-    ensures { IfOk result (λ bins. bins.items ≡ totals_over (pipeline_in stages.now.job.now) area.now stage) }
+    ensures { IfOk result
+        (λ bins. bins.items ≡ totals_over (pipeline_in stages.now.job.now) area.now stage) }
 {
     let Some(found) = stages.job().stage(stage) else {
         return Ok(Vec::new(alloc));
@@ -39,7 +41,8 @@ fn totals_on(
 fn accumulator_tile(job: &Job, stage: usize, row: u32, col: u32) -> Option<Area>
     ensures some { IfSome result (IsAccumulatorTile (pipeline_in job.now) stage row col) }
     ensures area { IfSome result IsArea }
-    ensures none { IfNone result ((area : Area) → ¬ (IsAccumulatorTile (pipeline_in job.now) stage row col area)) }
+    ensures none { IfNone result
+        ((area : Area) → ¬ (IsAccumulatorTile (pipeline_in job.now) stage row col area)) }
 {
     let found = job.stage(stage)?;
     match found.body() {
@@ -78,8 +81,10 @@ pub fn partial_of(
     col: u32,
 ) -> Result<Option<Vec<i64>>, AllocError>
     requires { IsServed (pipeline_in stages.now.job.now) stages.now.known.buffers.items stage }
-    ensures some { IfOk result (λ found. IfSome found (λ bins. IsTruePartial (pipeline_in stages.now.job.now) stage row col bins.items)) }
-    ensures none { IfOk result (λ found. IfNone found ((bins : List ℤ) → ¬ (IsTruePartial (pipeline_in stages.now.job.now) stage row col bins))) }
+    ensures some { IfOk result (λ found. IfSome found
+        (λ bins. IsTruePartial (pipeline_in stages.now.job.now) stage row col bins.items)) }
+    ensures none { IfOk result (λ found. IfNone found
+        ((bins : List ℤ) → ¬ (IsTruePartial (pipeline_in stages.now.job.now) stage row col bins))) }
 {
     match accumulator_tile(stages.job(), stage, row, col) {
         Some(area) => Ok(Some(totals_on(alloc, stages, stage, &area)?)),
@@ -100,8 +105,10 @@ pub fn true_partial(
     row: u32,
     col: u32,
 ) -> Result<Option<Vec<i64>>, AllocError>
-    ensures some { IfOk result (λ found. IfSome found (λ bins. IsTruePartial (pipeline_in job.now) stage row col bins.items)) }
-    ensures none { IfOk result (λ found. IfNone found ((bins : List ℤ) → ¬ (IsTruePartial (pipeline_in job.now) stage row col bins))) }
+    ensures some { IfOk result (λ found. IfSome found
+        (λ bins. IsTruePartial (pipeline_in job.now) stage row col bins.items)) }
+    ensures none { IfOk result (λ found. IfNone found
+        ((bins : List ℤ) → ¬ (IsTruePartial (pipeline_in job.now) stage row col bins))) }
 {
     let stages = TrueStages::of(alloc, job, &[stage])?;
     partial_of(alloc, &stages, stage, row, col)

@@ -32,21 +32,42 @@ job_from parts picture sides =
       sides = sides;
     }
 
-pub job_from_is : (p : Program) (items : List Declaration) (picture : Picture) (sides : Sides) (parts : Parts) → ArePartsOf p items parts → job_from parts picture sides ≡ job_of p items picture sides
+pub job_from_is : (p : Program) (items : List Declaration) (picture : Picture) (sides : Sides) (parts : Parts) → ArePartsOf p items parts
+    → job_from parts picture sides ≡ job_of p items picture sides
 job_from_is p items picture sides parts h =
     let told = job_of p items picture sides in
-    ap (λ (ss : List Stage). let j : Pipeline = record { stages = ss; output = option_map output_view parts.output; params = map parameter_view parts.params.items; picture = picture; sides = sides } in j) h.stages
-    ∙ ap (λ (o : Option Output). let j : Pipeline = record { stages = told.stages; output = o; params = map parameter_view parts.params.items; picture = picture; sides = sides } in j) h.output
-    ∙ ap (λ (ps : List Parameter). let j : Pipeline = record { stages = told.stages; output = told.output; params = ps; picture = picture; sides = sides } in j) h.params
+    ap (λ (ss : List Stage).
+    let j : Pipeline =
+    record {
+      stages =
+          ss;
+      output =
+          option_map output_view parts.output;
+      params = map parameter_view parts.params.items;
+      picture = picture;
+      sides = sides;
+    } in
+    j) h.stages
+    ∙ ap (λ (o : Option Output).
+    let j : Pipeline =
+    record { stages = told.stages; output = o; params = map parameter_view parts.params.items; picture = picture; sides = sides } in
+    j) h.output
+    ∙ ap (λ (ps : List Parameter).
+    let j : Pipeline = record { stages = told.stages; output = told.output; params = ps; picture = picture; sides = sides } in j)
+    h.params
 
-module _ (items : List Declaration) (p : Program) (picture : Picture) (sides : Sides) (parts : Parts) (named : IsNamed items) (own : p.stages ≡ stages_of items) (ranking : IsRanking (graph_of items) p.ranks) (h : AreBoundParts items p picture parts) where
-  pub bound_is_job : KeepsLimits items → IsSides sides → ShapesFit (job_from parts picture sides) → TilesFit (job_from parts picture sides) → IsJob (job_from parts picture sides)
+module _ (items : List Declaration) (p : Program) (picture : Picture) (sides : Sides) (parts : Parts) (named : IsNamed items)
+    (own : p.stages ≡ stages_of items) (ranking : IsRanking (graph_of items) p.ranks) (h : AreBoundParts items p picture parts) where
+  pub bound_is_job : KeepsLimits items → IsSides sides → ShapesFit (job_from parts picture sides) → TilesFit (job_from parts picture sides)
+      → IsJob (job_from parts picture sides)
   bound_is_job limits tile_sides shapes tiles =
       let same = job_from_is (settled_program p h.image picture) items picture sides parts h.are in
       subst IsJob (sym same)
-      (job_is items named (settled_program p h.image picture) own h.small h.bounds picture h.image h.declared h.planes h.extents sides ranking (subst TilesFit same tiles) limits (subst ShapesFit same shapes) h.real tile_sides)
+      (job_is items named (settled_program p h.image picture) own h.small h.bounds picture h.image h.declared h.planes h.extents sides
+      ranking (subst TilesFit same tiles) limits (subst ShapesFit same shapes) h.real tile_sides)
 
-  pub bound_is_said : map (λ s. s.name) p.settings ≡ map (λ d. d.name) (params_of items) → IsJobOf items p.settings picture sides (job_from parts picture sides)
+  pub bound_is_said : map (λ s. s.name) p.settings ≡ map (λ d. d.name) (params_of items)
+      → IsJobOf items p.settings picture sides (job_from parts picture sides)
   bound_is_said names = record {
     named = named;
     params = names;
@@ -57,12 +78,15 @@ module _ (items : List Declaration) (p : Program) (picture : Picture) (sides : S
     ranking = ranking;
     is =
         job_from_is (settled_program p h.image picture) items picture sides parts h.are
-        ∙ ap (λ (ss : List Symbol). let q : Program = record { stages = ss; ranks = p.ranks; settings = settings_for h.image picture p.settings } in job_of q items picture sides) own;
+        ∙ ap (λ (ss : List Symbol).
+        let q : Program = record { stages = ss; ranks = p.ranks; settings = settings_for h.image picture p.settings } in
+        job_of q items picture sides) own;
   }
 
 -- a fault of the sizes comes when nothing else is amiss
 pub late_fault : (items : List Declaration) (p : Program) (picture : Picture) (sides : Sides) (parts : Parts) (fault : BindFault)
-    → AreBoundParts items p picture parts → ((told : Pipeline) → job_from parts picture sides ≡ told → IsSizeFault told fault) → IsBindFault items p picture sides fault
+    → AreBoundParts items p picture parts → ((told : Pipeline) → job_from parts picture sides ≡ told → IsSizeFault told fault)
+    → IsBindFault items p picture sides fault
 late_fault items p picture sides parts fault h sizes =
     inr (inr (record {
       image = h.image;

@@ -91,7 +91,8 @@ pub record HasDomain (s : Stage) (a : Area) : Type 0 where
   pub rows : InDomainRange a.rows
   pub cols : InDomainRange a.cols
 
-domain_of : (p : Program) (d : Declaration) (x : Symbol) (s : Stage) (a : Area) → IsStageOf p d x s → IsDomain p.settings d (Ok a) → HasDomain s a
+domain_of : (p : Program) (d : Declaration) (x : Symbol) (s : Stage) (a : Area) → IsStageOf p d x s → IsDomain p.settings d (Ok a)
+    → HasDomain s a
 domain_of p (tree.param y) x s a is h = absurd is
 domain_of p (tree.image i) x s a is h = record {
   domain = ap (λ (t : Stage). t.domain) is.1 ∙ area_is _ _ a (sides_are _ a.rows h.0) (sides_are _ a.cols h.1);
@@ -121,10 +122,14 @@ along_is : (b : Bool) (r c : ℤ) → along (if b then row else column) r c ≡ 
 along_is true r c = refl
 along_is false r c = refl
 
-bounds_hold : (p : Program) (vars : Variables) (ts : List Test) (r c : ℤ) → BoundsHold (map (test_of p vars) ts) r c → boxes.BoundsHold p.settings vars.row_name ts r c
+bounds_hold : (p : Program) (vars : Variables) (ts : List Test) (r c : ℤ) → BoundsHold (map (test_of p vars) ts) r c
+    → boxes.BoundsHold p.settings vars.row_name ts r c
 bounds_hold p vars [] r c h = tt
-bounds_hold p vars (Compare x relation bound ∷ ts) r c h =
-    (subst (λ (v : ℤ). Meets relation v (affine_value p.settings bound)) (along_is (bytes_eq x vars.row_name) r c) (meets relation (along (axis_of vars x) r c) (affine_value p.settings bound) h.0), bounds_hold p vars ts r c h.1)
+bounds_hold p vars (Compare x relation bound ∷ ts) r c h = (
+  subst (λ (v : ℤ). Meets relation v (affine_value p.settings bound)) (along_is (bytes_eq x vars.row_name) r c)
+      (meets relation (along (axis_of vars x) r c) (affine_value p.settings bound) h.0),
+  bounds_hold p vars ts r c h.1,
+)
 bounds_hold p vars (Remainder x m rest ∷ ts) r c h = (tt, bounds_hold p vars ts r c h.1)
 
 -- ---- under a kernel
@@ -137,8 +142,10 @@ about v n a half is odd l = let most = half_of n a half is odd l in (omega (arit
 
 -- ---- reads
 
-module _ (ds : List Declaration) (p : Program) (own : p.stages ≡ stages_of ds) (areas : List Area) (domains : HaveDomains p.settings ds (stages_of ds) areas) where
-  pub item_domain : (g : ℕ) (s : Stage) (at : IsAt ds p g s) → (a : Area) × (slice_get areas g ≡ Some a) × IsDomain p.settings at.item (Ok a)
+module _ (ds : List Declaration) (p : Program) (own : p.stages ≡ stages_of ds) (areas : List Area)
+    (domains : HaveDomains p.settings ds (stages_of ds) areas) where
+  pub item_domain : (g : ℕ) (s : Stage) (at : IsAt ds p g s)
+      → (a : Area) × (slice_get areas g ≡ Some a) × IsDomain p.settings at.item (Ok a)
   item_domain g s at =
       let area = some_within areas g (omega (arith, domains.each, slice_get_within (stages_of ds) g at.declared at.numbered)) in
       let is = domains.domain g at.declared area.0 at.numbered area.1 in
@@ -172,7 +179,8 @@ module _ (ds : List Declaration) (p : Program) (own : p.stages ≡ stages_of ds)
   abbrev IsTakenWithin : Access → ℤ → ℤ → Type 0
   IsTakenWithin y r c = (u v : ℤ) → TakesRow y r u → TakesColumn y c v → IsWithin areas (accesses.stage_read y) u v
 
-  each_taken : (x : Read) (y : Access) → IsSame ds x y → (r c : ℤ) → IsTakenWithin y r c → EachTaken (IsReadable (flat_map (item_stages p) ds)) x r c
+  each_taken : (x : Read) (y : Access) → IsSame ds x y → (r c : ℤ) → IsTakenWithin y r c
+      → EachTaken (IsReadable (flat_map (item_stages p) ds)) x r c
   each_taken (point g i j) (access.Read h k l) s r c taken =
       subst (λ (n : ℕ). IsReadable (flat_map (item_stages p) ds) n (index_at i r) (index_at j c)) (sym s.0)
       (subst (λ (q : Scale). IsReadable (flat_map (item_stages p) ds) h (index_at q r) (index_at j c)) (sym s.1)
@@ -183,59 +191,85 @@ module _ (ds : List Declaration) (p : Program) (own : p.stages ≡ stages_of ds)
   each_taken (window g kernel) (access.Stencil h m n) s r c taken = λ a b la lb.
       subst (λ (q : ℕ). IsReadable (flat_map (item_stages p) ds) q (kernel_row kernel r a) (kernel_column kernel c b)) (sym s.0)
       (readable h (kernel_row kernel r a) (kernel_column kernel c b) s.4 (taken (kernel_row kernel r a) (kernel_column kernel c b)
-      (subst (λ (q : ℕ). IsAbout (q / 2) r (kernel_row kernel r a)) (sym s.1) (about r (length kernel) a (length kernel / 2) refl s.3.height.0 la))
+      (subst (λ (q : ℕ). IsAbout (q / 2) r (kernel_row kernel r a)) (sym s.1)
+      (about r (length kernel) a (length kernel / 2) refl s.3.height.0 la))
       (subst (λ (q : ℕ). IsAbout (q / 2) c (kernel_column kernel c b)) (sym (s.2 ∙ width_is kernel))
-      (about c (length (factors kernel 0)) b (length (factors kernel 0) / 2) refl (subst (λ (q : ℕ). q % 2 ≡ 1) (width_is kernel) s.3.width.0) (shorter (s.3.one_width a [] la ∙ width_is kernel) lb)))))
+      (about c (length (factors kernel 0)) b (length (factors kernel 0) / 2) refl
+      (subst (λ (q : ℕ). q % 2 ≡ 1) (width_is kernel) s.3.width.0) (shorter (s.3.one_width a [] la ∙ width_is kernel) lb)))))
     where
       shorter : {b m n : ℕ} → m ≡ n → b < m → b < n
       shorter e l = omega arith
 
-  all_taken : (xs : List Read) (ys : List Access) → AllZip (IsSame ds) xs ys → (r c : ℤ) → ((m : ℕ) (y : Access) → slice_get ys m ≡ Some y → IsTakenWithin y r c) → All (λ x. EachTaken (IsReadable (flat_map (item_stages p) ds)) x r c) xs
+  all_taken : (xs : List Read) (ys : List Access) → AllZip (IsSame ds) xs ys → (r c : ℤ)
+      → ((m : ℕ) (y : Access) → slice_get ys m ≡ Some y → IsTakenWithin y r c)
+      → All (λ x. EachTaken (IsReadable (flat_map (item_stages p) ds)) x r c) xs
   all_taken [] ys h r c taken = All-nil (λ x. EachTaken (IsReadable (flat_map (item_stages p) ds)) x r c)
   all_taken (x ∷ xs) [] h r c taken = absurd h
   all_taken (x ∷ xs) (y ∷ ys) h r c taken =
-      All-cons (λ z. EachTaken (IsReadable (flat_map (item_stages p) ds)) z r c) x xs (each_taken x y h.0 r c (taken 0 y refl)) (all_taken xs ys h.1 r c (λ m z there. taken (suc m) z there))
+      All-cons (λ z. EachTaken (IsReadable (flat_map (item_stages p) ds)) z r c) x xs (each_taken x y h.0 r c (taken 0 y refl))
+      (all_taken xs ys h.1 r c (λ m z there. taken (suc m) z there))
 
   -- ---- of functions
 
   module _ (vars : Variables) (domain : Area) (r c : ℤ) (inside : HoldsPoint domain r c) where
-    case_reads : (b : Branch) → IsSound (declared_names ds) b.value → AllStay areas (IsInBox p.settings domain (branch_case (stages_of ds) vars.row_name b)) (accesses_of (stages_of ds) b.value) → CaseReads (IsReadable (flat_map (item_stages p) ds)) (case_of p vars domain b) r c
+    case_reads : (b : Branch) → IsSound (declared_names ds) b.value
+        → AllStay areas (IsInBox p.settings domain (branch_case (stages_of ds) vars.row_name b)) (accesses_of (stages_of ds) b.value)
+        → CaseReads (IsReadable (flat_map (item_stages p) ds)) (case_of p vars domain b) r c
     case_reads b sound stays = λ box is within.
         let tests = map (test_of p vars) b.condition in
-        let cut : IsCutArea (BoundsHold tests) domain (Some box) = subst (IsCutArea (BoundsHold tests) domain) is (box_is_cut domain tests) in
+        let cut : IsCutArea (BoundsHold tests) domain (Some box) =
+        subst (IsCutArea (BoundsHold tests) domain) is (box_is_cut domain tests) in
         let here = (cut r c).0 within in
         all_taken (reads_in (formula_of p vars b.value)) (accesses_of (stages_of ds) b.value) (reads_same ds p own vars b.value sound) r c
         (λ m y there. stays m y there r c (here.0, bounds_hold p vars b.condition r c here.1))
 
-    cases_read : (bs : List Branch) (rest : List ReadCase) → All (IsSoundBranch (declared_names ds)) bs → StageStays p.settings areas domain (map (branch_case (stages_of ds) vars.row_name) bs ++ rest) → All (λ q. CaseReads (IsReadable (flat_map (item_stages p) ds)) q r c) (map (case_of p vars domain) bs)
+    cases_read : (bs : List Branch) (rest : List ReadCase) → All (IsSoundBranch (declared_names ds)) bs
+        → StageStays p.settings areas domain (map (branch_case (stages_of ds) vars.row_name) bs ++ rest)
+        → All (λ q. CaseReads (IsReadable (flat_map (item_stages p) ds)) q r c) (map (case_of p vars domain) bs)
     cases_read [] rest sound stays = All-nil (λ q. CaseReads (IsReadable (flat_map (item_stages p) ds)) q r c)
     cases_read (b ∷ bs) rest sound stays =
-        All-cons (λ q. CaseReads (IsReadable (flat_map (item_stages p) ds)) q r c) (case_of p vars domain b) (map (case_of p vars domain) bs)
-        (case_reads b (All-head (IsSoundBranch (declared_names ds)) b bs sound).value (stays 0 (branch_case (stages_of ds) vars.row_name b) refl))
+        All-cons (λ q. CaseReads (IsReadable (flat_map (item_stages p) ds)) q r c) (case_of p vars domain b)
+        (map (case_of p vars domain) bs)
+        (case_reads b (All-head (IsSoundBranch (declared_names ds)) b bs sound).value
+        (stays 0 (branch_case (stages_of ds) vars.row_name b) refl))
         (cases_read bs rest (All-tail (IsSoundBranch (declared_names ds)) b bs sound) (λ n x there. stays (suc n) x there))
 
-    rest_stays : (bs : List Branch) (rest : List ReadCase) → StageStays p.settings areas domain (map (branch_case (stages_of ds) vars.row_name) bs ++ rest) → StageStays p.settings areas domain rest
+    rest_stays : (bs : List Branch) (rest : List ReadCase)
+        → StageStays p.settings areas domain (map (branch_case (stages_of ds) vars.row_name) bs ++ rest)
+        → StageStays p.settings areas domain rest
     rest_stays [] rest stays = stays
     rest_stays (b ∷ bs) rest stays = rest_stays bs rest (λ n x there. stays (suc n) x there)
 
-    whole_reads : (a : Node) → IsSound (declared_names ds) a → AllStay areas (IsInBox p.settings domain (whole_case vars.row_name (accesses_of (stages_of ds) a))) (accesses_of (stages_of ds) a) → EachRead (IsReadable (flat_map (item_stages p) ds)) (formula_of p vars a) r c
+    whole_reads : (a : Node) → IsSound (declared_names ds) a
+        → AllStay areas (IsInBox p.settings domain (whole_case vars.row_name (accesses_of (stages_of ds) a))) (accesses_of (stages_of ds) a)
+        → EachRead (IsReadable (flat_map (item_stages p) ds)) (formula_of p vars a) r c
     whole_reads a sound stays =
-        all_taken (reads_in (formula_of p vars a)) (accesses_of (stages_of ds) a) (reads_same ds p own vars a sound) r c (λ m y there. stays m y there r c (inside, tt))
+        all_taken (reads_in (formula_of p vars a)) (accesses_of (stages_of ds) a) (reads_same ds p own vars a sound) r c
+        (λ m y there. stays m y there r c (inside, tt))
 
-    otherwise_reads : (o : Option Node) → ForSome o (IsSound (declared_names ds)) → StageStays p.settings areas domain (otherwise_cases (stages_of ds) vars.row_name o) → ForSome (option_map (formula_of p vars) o) (λ f. EachRead (IsReadable (flat_map (item_stages p) ds)) f r c)
+    otherwise_reads : (o : Option Node) → ForSome o (IsSound (declared_names ds))
+        → StageStays p.settings areas domain (otherwise_cases (stages_of ds) vars.row_name o)
+        → ForSome (option_map (formula_of p vars) o) (λ f. EachRead (IsReadable (flat_map (item_stages p) ds)) f r c)
     otherwise_reads None sound stays = λ f is. absurd (none-some f is)
     otherwise_reads (Some a) sound stays = λ f is.
         subst (λ g. EachRead (IsReadable (flat_map (item_stages p) ds)) g r c) (same_Some (formula_of p vars a) f is)
         (whole_reads a (sound a refl) (stays 0 (whole_case vars.row_name (accesses_of (stages_of ds) a)) refl))
 
-  function_reads : (f : Function) → IsSoundItem (declared_names ds) (tree.function f) → StageStays p.settings areas (function_stage p f).domain (item_cases (stages_of ds) (tree.function f)) → (r c : ℤ) → HoldsPoint (function_stage p f).domain r c → BodyReads (IsReadable (flat_map (item_stages p) ds)) (function_stage p f).body r c
+  function_reads : (f : Function) → IsSoundItem (declared_names ds) (tree.function f)
+      → StageStays p.settings areas (function_stage p f).domain (item_cases (stages_of ds) (tree.function f)) → (r c : ℤ)
+      → HoldsPoint (function_stage p f).domain r c → BodyReads (IsReadable (flat_map (item_stages p) ds)) (function_stage p f).body r c
   function_reads f sound stays r c inside =
       let vars : Variables = variables_of f.row f.column in
       let domain : Area = area_of p f.row f.column in
-      let others = otherwise_cases (stages_of ds) f.row.name f.otherwise in
-      (cases_read vars domain r c inside f.cases others sound.0 stays, otherwise_reads vars domain r c inside f.otherwise sound.1 (rest_stays vars domain r c inside f.cases others stays))
+      let others = otherwise_cases (stages_of ds) f.row.name f.otherwise in (
+        cases_read vars domain r c inside f.cases others sound.0 stays,
+        otherwise_reads vars domain r c inside f.otherwise sound.1 (rest_stays vars domain r c inside f.cases others stays),
+      )
 
-  accumulator_reads : (a : Accumulator) → IsSoundItem (declared_names ds) (tree.accumulator a) → StageStays p.settings areas (accumulator_stage p a).domain (item_cases (stages_of ds) (tree.accumulator a)) → (r c : ℤ) → HoldsPoint (accumulator_stage p a).domain r c → BodyReads (IsReadable (flat_map (item_stages p) ds)) (accumulator_stage p a).body r c
+  accumulator_reads : (a : Accumulator) → IsSoundItem (declared_names ds) (tree.accumulator a)
+      → StageStays p.settings areas (accumulator_stage p a).domain (item_cases (stages_of ds) (tree.accumulator a)) → (r c : ℤ)
+      → HoldsPoint (accumulator_stage p a).domain r c
+      → BodyReads (IsReadable (flat_map (item_stages p) ds)) (accumulator_stage p a).body r c
   accumulator_reads a sound stays r c inside =
       let vars : Variables = variables_of a.row a.column in
       let P : Read → Type 0 = λ x. EachTaken (IsReadable (flat_map (item_stages p) ds)) x r c in
@@ -243,13 +277,15 @@ module _ (ds : List Declaration) (p : Program) (own : p.stages ≡ stages_of ds)
       let b = reads_in (formula_of p vars a.bin) in
       let here = whole_case a.row.name (accesses_of (stages_of ds) a.value ++ accesses_of (stages_of ds) a.bin) in
       let all : All P (v ++ b) = all_taken (v ++ b) (accesses_of (stages_of ds) a.value ++ accesses_of (stages_of ds) a.bin)
-      (zip_append (IsSame ds) v b (accesses_of (stages_of ds) a.value) (accesses_of (stages_of ds) a.bin) (reads_same ds p own vars a.value sound.0) (reads_same ds p own vars a.bin sound.1))
+      (zip_append (IsSame ds) v b (accesses_of (stages_of ds) a.value) (accesses_of (stages_of ds) a.bin)
+      (reads_same ds p own vars a.value sound.0) (reads_same ds p own vars a.bin sound.1))
       r c (λ m y there. stays 0 here refl m y there r c (inside, tt)) in
       (All-left P v b all, All-right P v b all)
 
   abbrev Stays : Declaration → Stage → Type 0
   Stays d s =
-      StageStays p.settings areas s.domain (item_cases (stages_of ds) d) → (r c : ℤ) → HoldsPoint s.domain r c → BodyReads (IsReadable (flat_map (item_stages p) ds)) s.body r c
+      StageStays p.settings areas s.domain (item_cases (stages_of ds) d) → (r c : ℤ) → HoldsPoint s.domain r c
+      → BodyReads (IsReadable (flat_map (item_stages p) ds)) s.body r c
 
   body_reads : (d : Declaration) (x : Symbol) (s : Stage) → IsStageOf p d x s → IsSoundItem (declared_names ds) d → Stays d s
   body_reads (tree.param y) x s is sound = absurd is
@@ -258,7 +294,9 @@ module _ (ds : List Declaration) (p : Program) (own : p.stages ≡ stages_of ds)
   body_reads (tree.accumulator a) x s is sound = subst (Stays (tree.accumulator a)) (sym is.2) (accumulator_reads a sound)
   body_reads (tree.output o) x s is sound = absurd is
 
-  pub stage_reads : AreInBounds p.settings ds (stages_of ds) areas → (g : ℕ) (s : Stage) (at : IsAt ds p g s) → IsSoundItem (declared_names ds) at.item → (r c : ℤ) → HoldsPoint s.domain r c → BodyReads (IsReadable (flat_map (item_stages p) ds)) s.body r c
+  pub stage_reads : AreInBounds p.settings ds (stages_of ds) areas → (g : ℕ) (s : Stage) (at : IsAt ds p g s)
+      → IsSoundItem (declared_names ds) at.item → (r c : ℤ) → HoldsPoint s.domain r c
+      → BodyReads (IsReadable (flat_map (item_stages p) ds)) s.body r c
   stage_reads stays g s at sound =
       let own_domain = domain_at g s at in
       body_reads at.item at.declared s at.is sound

@@ -26,12 +26,14 @@ side_fits : (n : ℕ) → n ≤ 4096 → FitsSigned w32 (pos n)
 side_fits n h = from_bounds (pos n) (omega (arith, ints)) (omega (arith, ints))
 
 module _ (i : Image) (picture : Picture) (image : IsImage picture) where
-  taken_fits : (b c : Bool) (v : ℤ) → (if b then Some (pos picture.rows) else (if c then Some (pos picture.cols) else None)) ≡ Some v → FitsSigned w32 v
+  taken_fits : (b c : Bool) (v : ℤ) → (if b then Some (pos picture.rows) else (if c then Some (pos picture.cols) else None)) ≡ Some v
+      → FitsSigned w32 v
   taken_fits true c v is = subst (FitsSigned w32) (same_Some (pos picture.rows) v is) (side_fits picture.rows image.rows.most)
   taken_fits false true v is = subst (FitsSigned w32) (same_Some (pos picture.cols) v is) (side_fits picture.cols image.cols.most)
   taken_fits false false v is = absurd (none-some v is)
 
-  settled_fits : (x : List ℕ) (o : Option ℤ) → ((v : ℤ) → o ≡ Some v → FitsSigned w32 v) → (v : ℤ) → settled i picture x o ≡ Some v → FitsSigned w32 v
+  settled_fits : (x : List ℕ) (o : Option ℤ) → ((v : ℤ) → o ≡ Some v → FitsSigned w32 v) → (v : ℤ) → settled i picture x o ≡ Some v
+      → FitsSigned w32 v
   settled_fits x None given v is = taken_fits (is_exactly i.rows x) (is_exactly i.columns x) v is
   settled_fits x (Some w) given v is = given v is
 
@@ -54,16 +56,23 @@ lists_same (x ∷ xs) (y ∷ ys) e same =
 one_ranking : (g : List Links) (a b : List ℕ) → IsRanking g a → IsRanking g b → a ≡ b
 one_ranking g a b h k = lists_same a b (h.ranked.each ∙ sym k.ranked.each) (λ s. omega (arith, h.least b k.ranked s, k.least a h.ranked s))
 
-pub one_job : (items : List Declaration) (given : List Setting) (picture : Picture) (sides : Sides) (a b : Pipeline) → IsJobOf items given picture sides a → IsJobOf items given picture sides b → a ≡ b
+pub one_job : (items : List Declaration) (given : List Setting) (picture : Picture) (sides : Sides) (a b : Pipeline)
+    → IsJobOf items given picture sides a → IsJobOf items given picture sides b → a ≡ b
 one_job items given picture sides a b h k =
-    let says : Image → List ℕ → Pipeline = λ i ranks. job_of (record { stages = stages_of items; ranks = ranks; settings = settings_for i picture given }) items picture sides in
+    let says : Image → List ℕ → Pipeline =
+    λ i ranks. job_of (record { stages = stages_of items; ranks = ranks; settings = settings_for i picture given }) items picture
+    sides in
     let images : h.image ≡ k.image = cc (h.declared, k.declared) in
     h.is ∙ ap (λ (i : Image). says i h.ranks) images ∙ ap (says k.image) (one_ranking _ h.ranks k.ranks h.ranking k.ranking) ∙ sym k.is
 
 -- ---- and it is a job
 
-pub bound_job_is : (items : List Declaration) (given : List Setting) (picture : Picture) (sides : Sides) (job : Pipeline) (h : IsJobOf items given picture sides job) → KeepsLimits items → AreSmall given → IsImage picture → IsSides sides → IsInBounds (settings_for h.image picture given) items → PlanesFit h.image picture → ExtentsFit (settings_for h.image picture given) h.image picture → ShapesFit job → TilesFit job → IsJob job
+pub bound_job_is : (items : List Declaration) (given : List Setting) (picture : Picture) (sides : Sides) (job : Pipeline)
+    (h : IsJobOf items given picture sides job) → KeepsLimits items → AreSmall given → IsImage picture → IsSides sides
+    → IsInBounds (settings_for h.image picture given) items → PlanesFit h.image picture
+    → ExtentsFit (settings_for h.image picture given) h.image picture → ShapesFit job → TilesFit job → IsJob job
 bound_job_is items given picture sides job h limits small image tile_sides bounds planes extents shapes tiles =
     let p : Program = record { stages = stages_of items; ranks = h.ranks; settings = settings_for h.image picture given } in
     subst IsJob (sym h.is)
-    (job_is items h.named p refl (small_settled h.image picture image given small) bounds picture h.image h.declared planes extents sides h.ranking (subst TilesFit h.is tiles) limits (subst ShapesFit h.is shapes) image tile_sides)
+    (job_is items h.named p refl (small_settled h.image picture image given small) bounds picture h.image h.declared planes extents sides
+    h.ranking (subst TilesFit h.is tiles) limits (subst ShapesFit h.is shapes) image tile_sides)

@@ -32,7 +32,8 @@ meets_is Equals v bound = (
   (λ is. (omega (arith, ints), omega (arith, ints))),
 )
 
-bound_is : (p : Program) (own : Variables) (t : Test) (r c : ℤ) → text.BoundHolds p.settings own.row_name t r c ↔ BoundHolds (test_of p own t) r c
+bound_is : (p : Program) (own : Variables) (t : Test) (r c : ℤ) → text.BoundHolds p.settings own.row_name t r c
+    ↔ BoundHolds (test_of p own t) r c
 bound_is p own (Compare x relation terms) r c =
     let there = along_axis (bytes_eq x own.row_name) r c in
     let bound = affine_value p.settings terms in (
@@ -41,7 +42,8 @@ bound_is p own (Compare x relation terms) r c =
     )
 bound_is p own (Remainder x modulus rest) r c = ((λ h. h), (λ h. h))
 
-bounds_are : (p : Program) (own : Variables) (ts : List Test) (r c : ℤ) → text.BoundsHold p.settings own.row_name ts r c ↔ BoundsHold (map (test_of p own) ts) r c
+bounds_are : (p : Program) (own : Variables) (ts : List Test) (r c : ℤ) → text.BoundsHold p.settings own.row_name ts r c
+    ↔ BoundsHold (map (test_of p own) ts) r c
 bounds_are p own [] r c = ((λ h. h), (λ h. h))
 bounds_are p own (t ∷ ts) r c =
     let one = bound_is p own t r c in
@@ -63,7 +65,8 @@ bottom_right : (a : Area) → IsOrdered a → HoldsPoint a a.rows.hi a.cols.hi
 bottom_right a h = let down = h.0 in let right = h.1 in ((down, omega (arith, ints)), (right, omega (arith, ints)))
 
 same_ends : (s t : Ends) → s.lo ≡ t.lo → s.hi ≡ t.hi → s ≡ t
-same_ends s t e f = ap (λ (z : ℤ). let s : Ends = record { lo = z; hi = s.hi } in s) e ∙ ap (λ (z : ℤ). let s : Ends = record { lo = t.lo; hi = z } in s) f
+same_ends s t e f =
+    ap (λ (z : ℤ). let s : Ends = record { lo = z; hi = s.hi } in s) e ∙ ap (λ (z : ℤ). let s : Ends = record { lo = t.lo; hi = z } in s) f
 
 same_area : (a b : Area) → IsOrdered a → IsOrdered b → IsLess a b → IsLess b a → a ≡ b
 same_area a b some others into back =
@@ -75,9 +78,11 @@ same_area a b some others into back =
     let u0 = u.0.0 in let u1 = u.1.0 in let v0 = v.0.1 in let v1 = v.1.1 in
     let rows : a.rows ≡ b.rows = same_ends a.rows b.rows (omega (arith, ints)) (omega (arith, ints)) in
     let cols : a.cols ≡ b.cols = same_ends a.cols b.cols (omega (arith, ints)) (omega (arith, ints)) in
-    ap (λ (s : Ends). let m : Area = record { rows = s; cols = a.cols } in m) rows ∙ ap (λ (s : Ends). let m : Area = record { rows = b.rows; cols = s } in m) cols
+    ap (λ (s : Ends). let m : Area = record { rows = s; cols = a.cols } in m) rows
+    ∙ ap (λ (s : Ends). let m : Area = record { rows = b.rows; cols = s } in m) cols
 
-same_cut : (P Q : ℤ → ℤ → Type 0) (domain : Area) (o q : Option Area) → ((r c : ℤ) → P r c ↔ Q r c) → IsCutArea P domain o → IsCutArea Q domain q
+same_cut : (P Q : ℤ → ℤ → Type 0) (domain : Area) (o q : Option Area) → ((r c : ℤ) → P r c ↔ Q r c) → IsCutArea P domain o
+    → IsCutArea Q domain q
     → ((a : Area) → o ≡ Some a → IsOrdered a) → ((a : Area) → q ≡ Some a → IsOrdered a) → o ≡ q
 same_cut P Q domain None None same cut other some others = refl
 same_cut P Q domain None (Some b) same cut other some others =
@@ -92,10 +97,12 @@ same_cut P Q domain (Some a) (Some b) same cut other some others =
     (λ r c h. let k = (other r c).0 h in (cut r c).1 (k.0, (same r c).1 k.1)))
 
 -- the area that the tests of the text leave is the box of the tests with numbers
-pub part_is : (p : Program) (own : Variables) (domain : Area) (ts : List Test) (o : Option Area) → IsArea domain → IsCutArea (text.BoundsHold p.settings own.row_name ts) domain o
+pub part_is : (p : Program) (own : Variables) (domain : Area) (ts : List Test) (o : Option Area) → IsArea domain
+    → IsCutArea (text.BoundsHold p.settings own.row_name ts) domain o
     → ((a : Area) → o ≡ Some a → IsArea a) → o ≡ box_of domain (map (test_of p own) ts)
 part_is p own domain ts o h cut some =
     let tests = map (test_of p own) ts in
-    same_cut (text.BoundsHold p.settings own.row_name ts) (BoundsHold tests) domain o (box_of domain tests) (bounds_are p own ts) cut (box_is_cut domain tests)
+    same_cut (text.BoundsHold p.settings own.row_name ts) (BoundsHold tests) domain o (box_of domain tests) (bounds_are p own ts) cut
+    (box_is_cut domain tests)
     (λ a e. let k = some a e in (k.rows.ordered, k.cols.ordered))
     (λ a e. let k = box_is_area domain a tests h e in (k.rows.ordered, k.cols.ordered))

@@ -75,7 +75,8 @@ planes_in_item n (tree.function f) = refl
 planes_in_item n (tree.accumulator a) = refl
 planes_in_item n (tree.output o) = refl
 
-planes_from : (n : ℕ) (ds : List Declaration) → length (filter planar (filter keeps (names_from n ds))) ≡ length (plane_names (flat_map item_images ds))
+planes_from : (n : ℕ) (ds : List Declaration)
+    → length (filter planar (filter keeps (names_from n ds))) ≡ length (plane_names (flat_map item_images ds))
 planes_from n [] = refl
 planes_from n (d ∷ ds) =
     let here = filter keeps (item_names n d) in
@@ -84,26 +85,33 @@ planes_from n (d ∷ ds) =
     ap (λ (xs : List Symbol). length (filter planar xs)) (filter-append keeps (item_names n d) (names_from (n + 1) ds))
     ∙ ap (λ (xs : List Symbol). length xs) (filter-append planar here others)
     ∙ length-append (filter planar here) (filter planar others) in
-    let right : length (plane_names (flat_map item_images (d ∷ ds))) ≡ length (plane_names (item_images d)) + length (plane_names (flat_map item_images ds)) =
+    let right : length (plane_names (flat_map item_images (d ∷ ds))) ≡ length (plane_names (item_images d)) + length
+    (plane_names (flat_map item_images ds)) =
     ap (λ (xs : List (List ℕ)). length xs) (flat_map-append (λ (i : Image). names_in i.names) (item_images d) (flat_map item_images ds))
     ∙ length-append (plane_names (item_images d)) (plane_names (flat_map item_images ds)) in
     let first = planes_in_item n d in
     let rest = planes_from (n + 1) ds in
     omega arith
 
-planes_are : (ds : List Declaration) (i : Image) → flat_map item_images ds ≡ i ∷ [] → length (filter planar (stages_of ds)) ≡ length (names_in i.names)
+planes_are : (ds : List Declaration) (i : Image) → flat_map item_images ds ≡ i ∷ []
+    → length (filter planar (stages_of ds)) ≡ length (names_in i.names)
 planes_are ds i declared =
-    planes_from 0 ds ∙ ap (λ (is : List Image). length (plane_names is)) declared ∙ ap (λ (xs : List (List ℕ)). length xs) (append-nil (names_in i.names))
+    planes_from 0 ds ∙ ap (λ (is : List Image). length (plane_names is)) declared
+    ∙ ap (λ (xs : List (List ℕ)). length xs) (append-nil (names_in i.names))
 
-all_images : (P : Image → Type 0) (ds : List Declaration) → All P (flat_map item_images ds) → (k : ℕ) (j : Image) → slice_get ds k ≡ Some (tree.image j) → P j
+all_images : (P : Image → Type 0) (ds : List Declaration) → All P (flat_map item_images ds) → (k : ℕ) (j : Image)
+    → slice_get ds k ≡ Some (tree.image j) → P j
 all_images P [] each k j there = absurd (none-some (tree.image j) there)
 all_images P (d ∷ ds) each zero j there =
-    All-head P j [] (subst (λ (e : Declaration). All P (item_images e)) (same_Some d (tree.image j) there) (All-left P (item_images d) (flat_map item_images ds) each))
+    All-head P j [] (subst (λ (e : Declaration). All P (item_images e)) (same_Some d (tree.image j) there)
+    (All-left P (item_images d) (flat_map item_images ds) each))
 all_images P (d ∷ ds) each (suc k) j there = all_images P ds (All-right P (item_images d) (flat_map item_images ds) each) k j there
 
-only_image : (ds : List Declaration) (i : Image) → flat_map item_images ds ≡ i ∷ [] → (k : ℕ) (j : Image) → slice_get ds k ≡ Some (tree.image j) → j ≡ i
+only_image : (ds : List Declaration) (i : Image) → flat_map item_images ds ≡ i ∷ [] → (k : ℕ) (j : Image)
+    → slice_get ds k ≡ Some (tree.image j) → j ≡ i
 only_image ds i declared =
-    all_images (λ (q : Image). q ≡ i) ds (subst (All (λ (q : Image). q ≡ i)) (sym declared) (All-cons (λ (q : Image). q ≡ i) i [] refl (All-nil (λ (q : Image). q ≡ i))))
+    all_images (λ (q : Image). q ≡ i) ds
+    (subst (All (λ (q : Image). q ≡ i)) (sym declared) (All-cons (λ (q : Image). q ≡ i) i [] refl (All-nil (λ (q : Image). q ≡ i))))
 
 -- ---- the output of a program
 
@@ -123,7 +131,8 @@ tells_here p (tree.image i) ds = All-nil (Tells p (tree.image i ∷ ds))
 tells_here p (tree.function f) ds = All-nil (Tells p (tree.function f ∷ ds))
 tells_here p (tree.accumulator a) ds = All-nil (Tells p (tree.accumulator a ∷ ds))
 tells_here p (tree.output o) ds =
-    All-cons (Tells p (tree.output o ∷ ds)) (record { stages = map (stage_number p) (names_in o.names); max = o.max }) [] (record { place = 0; output = o; there = refl; is = refl }) (All-nil (Tells p (tree.output o ∷ ds)))
+    All-cons (Tells p (tree.output o ∷ ds)) (record { stages = map (stage_number p) (names_in o.names); max = o.max }) []
+    (record { place = 0; output = o; there = refl; is = refl }) (All-nil (Tells p (tree.output o ∷ ds)))
 
 all_tell : (p : Program) (ds : List Declaration) → All (Tells p ds) (flat_map (item_outputs p) ds)
 all_tell p [] = All-nil (Tells p [])
@@ -133,7 +142,8 @@ all_tell p (d ∷ ds) =
 
 -- ---- lists
 
-All-made : {X Y : Type 0} (P : Y → Type 0) (f : X → Y) (Q : X → Type 0) → ((x : X) → Q x → P (f x)) → (xs : List X) → All Q xs → All P (map f xs)
+All-made : {X Y : Type 0} (P : Y → Type 0) (f : X → Y) (Q : X → Type 0) → ((x : X) → Q x → P (f x)) → (xs : List X) → All Q xs
+    → All P (map f xs)
 All-made P f Q step [] h = All-nil P
 All-made P f Q step (x ∷ xs) h = All-cons P (f x) (map f xs) (step x (All-head Q x xs h)) (All-made P f Q step xs (All-tail Q x xs h))
 
@@ -157,11 +167,13 @@ one_or_three (Three x y z) f = inr refl
 all_funcs : (names : List Symbol) (ns : Names) → AreFuncs names ns → All (IsNameOf IsFuncKind names) (names_in ns)
 all_funcs names (One x) h = All-cons (IsNameOf IsFuncKind names) x [] h (All-nil (IsNameOf IsFuncKind names))
 all_funcs names (Three x y z) h =
-    All-cons (IsNameOf IsFuncKind names) x (y ∷ z ∷ []) h.0 (All-cons (IsNameOf IsFuncKind names) y (z ∷ []) h.1 (All-cons (IsNameOf IsFuncKind names) z [] h.2 (All-nil (IsNameOf IsFuncKind names))))
+    All-cons (IsNameOf IsFuncKind names) x (y ∷ z ∷ []) h.0 (All-cons (IsNameOf IsFuncKind names) y (z ∷ []) h.1
+    (All-cons (IsNameOf IsFuncKind names) z [] h.2 (All-nil (IsNameOf IsFuncKind names))))
 
 -- ---- the job
 
-module _ (ds : List Declaration) (named : IsNamed ds) (p : Program) (own : p.stages ≡ stages_of ds) (small : AreSmall p.settings) (bounds : IsInBounds p.settings ds) where
+module _ (ds : List Declaration) (named : IsNamed ds) (p : Program) (own : p.stages ≡ stages_of ds) (small : AreSmall p.settings)
+    (bounds : IsInBounds p.settings ds) where
   abbrev stages : List Stage
   stages = flat_map (item_stages p) ds
 
@@ -170,8 +182,10 @@ module _ (ds : List Declaration) (named : IsNamed ds) (p : Program) (own : p.sta
 
   near_at : (g : ℕ) (s : Stage) → slice_get stages g ≡ Some s → InDomainRange s.domain.rows × InDomainRange s.domain.cols
   near_at g s there =
-      let d = domain_at ds p own bounds.areas bounds.domains g s (stage_at ds p g s there) in
-      (subst (λ (a : Area). InDomainRange a.rows) (sym d.2.domain) d.2.rows, subst (λ (a : Area). InDomainRange a.cols) (sym d.2.domain) d.2.cols)
+      let d = domain_at ds p own bounds.areas bounds.domains g s (stage_at ds p g s there) in (
+        subst (λ (a : Area). InDomainRange a.rows) (sym d.2.domain) d.2.rows,
+        subst (λ (a : Area). InDomainRange a.cols) (sym d.2.domain) d.2.cols,
+      )
 
   -- ---- boxes and formulas
 
@@ -185,41 +199,51 @@ module _ (ds : List Declaration) (named : IsNamed ds) (p : Program) (own : p.sta
   boxed (tree.accumulator a) x s is = subst (λ (t : Stage). AreBoxed t.domain t.body) (sym is.2) tt
   boxed (tree.output o) x s is = absurd is
 
-  other_is : (vars : Variables) (o : Option Node) → ForSome o (IsSound (declared_names ds)) → All IsFormula (other_formula (option_map (formula_of p vars) o))
+  other_is : (vars : Variables) (o : Option Node) → ForSome o (IsSound (declared_names ds))
+      → All IsFormula (other_formula (option_map (formula_of p vars) o))
   other_is vars None sound = All-nil IsFormula
-  other_is vars (Some a) sound = All-cons IsFormula (formula_of p vars a) [] (formula_is p vars small (declared_names ds) a (sound a refl)) (All-nil IsFormula)
+  other_is vars (Some a) sound =
+      All-cons IsFormula (formula_of p vars a) [] (formula_is p vars small (declared_names ds) a (sound a refl)) (All-nil IsFormula)
 
-  cases_are : (vars : Variables) (domain : Area) (bs : List Branch) → All (IsSoundBranch (declared_names ds)) bs → All IsFormula (map (λ q. q.formula) (map (case_of p vars domain) bs))
+  cases_are : (vars : Variables) (domain : Area) (bs : List Branch) → All (IsSoundBranch (declared_names ds)) bs
+      → All IsFormula (map (λ q. q.formula) (map (case_of p vars domain) bs))
   cases_are vars domain [] sound = All-nil IsFormula
   cases_are vars domain (b ∷ bs) sound =
       All-cons IsFormula (formula_of p vars b.value) (map (λ q. q.formula) (map (case_of p vars domain) bs))
       (formula_is p vars small (declared_names ds) b.value (All-head (IsSoundBranch (declared_names ds)) b bs sound).value)
       (cases_are vars domain bs (All-tail (IsSoundBranch (declared_names ds)) b bs sound))
 
-  formulas_are : (d : Declaration) (x : Symbol) (s : Stage) → IsStageOf p d x s → IsSoundItem (declared_names ds) d → All IsFormula (formulas_of s.body)
+  formulas_are : (d : Declaration) (x : Symbol) (s : Stage) → IsStageOf p d x s → IsSoundItem (declared_names ds) d
+      → All IsFormula (formulas_of s.body)
   formulas_are (tree.param y) x s is sound = absurd is
   formulas_are (tree.image i) x s is sound = subst (λ (t : Stage). All IsFormula (formulas_of t.body)) (sym is.1) (All-nil IsFormula)
   formulas_are (tree.function f) x s is sound =
       let vars : Variables = variables_of f.row f.column in
       let domain : Area = area_of p f.row f.column in
       subst (λ (t : Stage). All IsFormula (formulas_of t.body)) (sym is.2)
-      (All-append IsFormula (map (λ q. q.formula) (map (case_of p vars domain) f.cases)) (other_formula (option_map (formula_of p vars) f.otherwise)) (cases_are vars domain f.cases sound.0) (other_is vars f.otherwise sound.1))
+      (All-append IsFormula (map (λ q. q.formula) (map (case_of p vars domain) f.cases))
+      (other_formula (option_map (formula_of p vars) f.otherwise)) (cases_are vars domain f.cases sound.0)
+      (other_is vars f.otherwise sound.1))
   formulas_are (tree.accumulator a) x s is sound =
       let vars : Variables = variables_of a.row a.column in
       subst (λ (t : Stage). All IsFormula (formulas_of t.body)) (sym is.2)
-      (All-cons IsFormula (formula_of p vars a.value) (formula_of p vars a.bin ∷ []) (formula_is p vars small (declared_names ds) a.value sound.0)
+      (All-cons IsFormula (formula_of p vars a.value) (formula_of p vars a.bin ∷ [])
+      (formula_is p vars small (declared_names ds) a.value sound.0)
       (All-cons IsFormula (formula_of p vars a.bin) [] (formula_is p vars small (declared_names ds) a.bin sound.1) (All-nil IsFormula)))
   formulas_are (tree.output o) x s is sound = absurd is
 
   -- ---- bodies
 
-  bins_fit : (first last : ℤ) (e : Ends) → IsSpanFrom first last e → (last -ℤ first) ≤ℤ pos 4095 → InDomainRange (record { lo = first; hi = last }) × (len_of (record { lo = first; hi = last }) ≤ 4096)
+  bins_fit : (first last : ℤ) (e : Ends) → IsSpanFrom first last e → (last -ℤ first) ≤ℤ pos 4095
+      → InDomainRange (record { lo = first; hi = last }) × (len_of (record { lo = first; hi = last }) ≤ 4096)
   bins_fit first last e h few =
-      let near : InDomainRange (record { lo = first; hi = last }) = subst InDomainRange (sym (ends_are first last e h)) (span_near first last e h) in
+      let near : InDomainRange (record { lo = first; hi = last }) =
+      subst InDomainRange (sym (ends_are first last e h)) (span_near first last e h) in
       let len = len_is (record { lo = first; hi = last }) near.span in
       (near, omega (arith, ints))
 
-  module _ (picture : Picture) (i : Image) (declared : flat_map item_images ds ≡ i ∷ []) (planes : PlanesFit i picture) (extents : ExtentsFit p.settings i picture) where
+  module _ (picture : Picture) (i : Image) (declared : flat_map item_images ds ≡ i ∷ []) (planes : PlanesFit i picture)
+      (extents : ExtentsFit p.settings i picture) where
     some_name : (ns : Names) → 1 ≤ length (names_in ns)
     some_name (One x) = omega arith
     some_name (Three x y z) = omega arith
@@ -247,17 +271,20 @@ module _ (ds : List Declaration) (named : IsNamed ds) (p : Program) (own : p.sta
     body_is : (g : ℕ) (s : Stage) (at : IsAt ds p g s) → IsBody picture s.domain s.body
     body_is g s at = by at.item at.is at.there (sound_at g s at) (item_domain ds p own bounds.areas bounds.domains g s at).2
       where
-        by : (d : Declaration) → IsStageOf p d at.declared s → slice_get ds at.declared.item ≡ Some d → IsSoundItem (declared_names ds) d → IsDomain p.settings d (Ok (item_domain ds p own bounds.areas bounds.domains g s at).0) → IsBody picture s.domain s.body
+        by : (d : Declaration) → IsStageOf p d at.declared s → slice_get ds at.declared.item ≡ Some d → IsSoundItem (declared_names ds) d
+            → IsDomain p.settings d (Ok (item_domain ds p own bounds.areas bounds.domains g s at).0) → IsBody picture s.domain s.body
         by (tree.param y) is there sound h = absurd is
         by (tree.image j) is there sound h =
             let x = at.declared.name in
-            subst (λ (t : Stage). IsBody picture t.domain t.body) (sym (is.1 ∙ ap (λ (q : Image). plane_stage p q x) (only_image ds i declared at.declared.item j there)))
+            subst (λ (t : Stage). IsBody picture t.domain t.body)
+            (sym (is.1 ∙ ap (λ (q : Image). plane_stage p q x) (only_image ds i declared at.declared.item j there)))
             (plane_below x, plane_area x)
         by (tree.function f) is there sound h =
             let vars : Variables = variables_of f.row f.column in
             let domain : Area = area_of p f.row f.column in
             subst (λ (t : Stage). IsBody picture t.domain t.body) (sym is.2)
-            (All-made (λ q. All IsTest q.tests) (case_of p vars domain) (IsSoundBranch (declared_names ds)) (λ b good. tests_are p vars b.condition good.tests) f.cases sound.0)
+            (All-made (λ q. All IsTest q.tests) (case_of p vars domain) (IsSoundBranch (declared_names ds))
+            (λ b good. tests_are p vars b.condition good.tests) f.cases sound.0)
         by (tree.accumulator a) is there sound h =
             let first : ℤ = affine_value p.settings a.bins.first in
             let last : ℤ = affine_value p.settings a.bins.last in
@@ -290,7 +317,9 @@ module _ (ds : List Declaration) (named : IsNamed ds) (p : Program) (own : p.sta
             boxes = boxed at.item at.declared s at.is;
             formulas = formulas_are at.item at.declared s at.is sound;
             reads = stage_reads ds p own bounds.areas bounds.domains bounds.stays g s at sound;
-            tiles = λ has. if_true (has_tiles s.body) (tile_rows (grid_of job s) * tile_cols (grid_of job s)) 65536 (tiles g s (slice_get_within stages g s there) there) has;
+            tiles =
+                λ has. if_true (has_tiles s.body) (tile_rows (grid_of job s) * tile_cols (grid_of job s)) 65536
+                (tiles g s (slice_get_within stages g s there) there) has;
           }
 
       -- ---- the output
@@ -313,7 +342,8 @@ module _ (ds : List Declaration) (named : IsNamed ds) (p : Program) (own : p.sta
       function_named : (x : List ℕ) → IsNameOf IsFuncKind (declared_names ds) x → IsFunctionAt (stage_number p x)
       function_named x n =
           let r = stage_named ds x n.declared n.found (func_kept n.declared.kind n.kind) in
-          let number : r.0 ≡ stage_number p x = sym (ap (λ (xs : List Symbol). unwrap_or (number_of xs x) 0) own ∙ ap (λ (o : Option ℕ). unwrap_or o 0) r.1) in
+          let number : r.0 ≡ stage_number p x =
+          sym (ap (λ (xs : List Symbol). unwrap_or (number_of xs x) 0) own ∙ ap (λ (o : Option ℕ). unwrap_or o 0) r.1) in
           let s = stage_there ds p r.0 n.declared r.2 in
           let same : n.declared ≡ s.2.declared = same_Some n.declared s.2.declared (sym r.2 ∙ s.2.numbered) in
           let near = near_at r.0 s.0 s.1 in
@@ -340,20 +370,28 @@ module _ (ds : List Declaration) (named : IsNamed ds) (p : Program) (own : p.sta
         cols = sym (width_is g h) ∙ same.1;
       }
 
-      first_of : (ns : Names) → All IsFunctionAt (map (stage_number p) (names_in ns)) → IsFunctionAt (slice_index (map (stage_number p) (names_in ns)) 0)
+      first_of : (ns : Names) → All IsFunctionAt (map (stage_number p) (names_in ns))
+          → IsFunctionAt (slice_index (map (stage_number p) (names_in ns)) 0)
       first_of (One x) h = All-head IsFunctionAt (stage_number p x) [] h
       first_of (Three x y z) h = All-head IsFunctionAt (stage_number p x) (stage_number p y ∷ stage_number p z ∷ []) h
 
-      output_is : (o : OutputText) → AreFuncs (declared_names ds) o.names → 1 ≤ o.max → o.max ≤ 65535 → IsShaped job (record { stages = map (stage_number p) (names_in o.names); max = o.max }) → IsOutput job (record { stages = map (stage_number p) (names_in o.names); max = o.max })
+      output_is : (o : OutputText) → AreFuncs (declared_names ds) o.names → 1 ≤ o.max → o.max ≤ 65535
+          → IsShaped job (record { stages = map (stage_number p) (names_in o.names); max = o.max })
+          → IsOutput job (record { stages = map (stage_number p) (names_in o.names); max = o.max })
       output_is o funcs least most shaped =
-          let all : All IsFunctionAt (map (stage_number p) (names_in o.names)) = All-made IsFunctionAt (stage_number p) (IsNameOf IsFuncKind (declared_names ds)) function_named (names_in o.names) (all_funcs (declared_names ds) o.names funcs) in
+          let all : All IsFunctionAt (map (stage_number p) (names_in o.names)) =
+          All-made IsFunctionAt (stage_number p) (IsNameOf IsFuncKind (declared_names ds)) function_named (names_in o.names)
+          (all_funcs (declared_names ds) o.names funcs) in
           let first = first_of o.names all in
           let g : ℕ = slice_index (map (stage_number p) (names_in o.names)) 0 in
           record {
             planes = one_or_three o.names (stage_number p);
             height = record { least = omega (arith, height_is g first, first.rows); most = shaped.height };
             width = record { least = omega (arith, width_is g first, first.cols); most = shaped.width };
-            equal_sides = All-both IsFunctionAt (HasSides job (height_of job g) (width_of job g)) (IsOutputPlane job (height_of job g) (width_of job g)) (plane_of (height_of job g) (width_of job g)) (map (stage_number p) (names_in o.names)) all shaped.equal_sides;
+            equal_sides =
+                All-both IsFunctionAt (HasSides job (height_of job g) (width_of job g))
+                (IsOutputPlane job (height_of job g) (width_of job g)) (plane_of (height_of job g) (width_of job g))
+                (map (stage_number p) (names_in o.names)) all shaped.equal_sides;
             max = record { least = least; most = most };
           }
 
@@ -365,13 +403,17 @@ module _ (ds : List Declaration) (named : IsNamed ds) (p : Program) (own : p.sta
 
       -- ---- parameters
 
-      value_fits : (k : ℕ) (s : Setting) (o : Option ℤ) → slice_get p.settings k ≡ Some s → s.value ≡ o → FitsSigned w32 (unwrap_or o (pos 0))
+      value_fits : (k : ℕ) (s : Setting) (o : Option ℤ) → slice_get p.settings k ≡ Some s → s.value ≡ o
+          → FitsSigned w32 (unwrap_or o (pos 0))
       value_fits k s None there is = zero_fits
       value_fits k s (Some v) there is = small k s v there is
 
-      values_fit : (ss : List Setting) → ((k : ℕ) (s : Setting) → slice_get ss k ≡ Some s → FitsSigned w32 (unwrap_or s.value (pos 0))) → All (λ q. FitsSigned w32 q.value) (map parameter_of ss)
+      values_fit : (ss : List Setting) → ((k : ℕ) (s : Setting) → slice_get ss k ≡ Some s → FitsSigned w32 (unwrap_or s.value (pos 0)))
+          → All (λ q. FitsSigned w32 q.value) (map parameter_of ss)
       values_fit [] each = All-nil (λ q. FitsSigned w32 q.value)
-      values_fit (s ∷ ss) each = All-cons (λ q. FitsSigned w32 q.value) (parameter_of s) (map parameter_of ss) (each 0 s refl) (values_fit ss (λ k t there. each (suc k) t there))
+      values_fit (s ∷ ss) each =
+          All-cons (λ q. FitsSigned w32 q.value) (parameter_of s) (map parameter_of ss) (each 0 s refl)
+          (values_fit ss (λ k t there. each (suc k) t there))
 
       pub job_is : KeepsLimits ds → ShapesFit job → IsImage picture → IsSides sides → IsJob job
       job_is limits shapes image tile_sides = record {

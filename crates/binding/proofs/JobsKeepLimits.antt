@@ -44,7 +44,13 @@ no_option (Some a) = no_node a
 cases_weigh : (w : ℕ) (bs : List Branch) → sum_by (λ c. w + node_size 0 c.value) bs ≡ sum_by (λ c. w) bs
 cases_weigh w [] = refl
 cases_weigh w (b ∷ bs) =
-    omega (arith, sum_by-cons (λ (q : Branch). w + node_size 0 q.value) b bs, sum_by-cons (λ (q : Branch). w) b bs, no_node b.value, cases_weigh w bs)
+    omega (
+      arith,
+      sum_by-cons (λ (q : Branch). w + node_size 0 q.value) b bs,
+      sum_by-cons (λ (q : Branch). w) b bs,
+      no_node b.value,
+      cases_weigh w bs,
+    )
 
 none_weigh : (bs : List Branch) → sum_by (λ c. 0) bs ≡ 0
 none_weigh [] = refl
@@ -70,7 +76,13 @@ stages_in_item p (tree.output o) = refl
 pub stages_counted : (p : Program) (ds : List Declaration) → length (flat_map (item_stages p) ds) ≡ size stages ds
 stages_counted p [] = refl
 stages_counted p (d ∷ ds) =
-    omega (arith, length-append (item_stages p d) (flat_map (item_stages p) ds), sum_by-cons (item_size stages) d ds, stages_in_item p d, stages_counted p ds)
+    omega (
+      arith,
+      length-append (item_stages p d) (flat_map (item_stages p) ds),
+      sum_by-cons (item_size stages) d ds,
+      stages_in_item p d,
+      stages_counted p ds,
+    )
 
 -- ---- parameters
 
@@ -92,7 +104,13 @@ params_counted : (n : ℕ) (ds : List Declaration) → length (filter is_a_param
 params_counted n [] = refl
 params_counted n (d ∷ ds) =
     ap (λ (xs : List Symbol). length xs) (filter-append is_a_param (item_names n d) (names_from (n + 1) ds))
-    ∙ omega (arith, length-append (filter is_a_param (item_names n d)) (filter is_a_param (names_from (n + 1) ds)), sum_by-cons (item_size params) d ds, params_in_item n d, params_counted (n + 1) ds)
+    ∙ omega (
+      arith,
+      length-append (filter is_a_param (item_names n d)) (filter is_a_param (names_from (n + 1) ds)),
+      sum_by-cons (item_size params) d ds,
+      params_in_item n d,
+      params_counted (n + 1) ds,
+    )
 
 -- ---- job_cases
 
@@ -103,14 +121,17 @@ few_cases : (p : Program) (d : Declaration) (x : Symbol) (s : Stage) → IsStage
 few_cases p (tree.param y) x s is few = absurd is
 few_cases p (tree.image i) x s is few = subst FewCases (sym is.1) (omega arith)
 few_cases p (tree.function f) x s is few =
-    let count : case_count (function_stage p f).body ≡ length f.cases = length-map f.cases (case_of p (variables_of f.row f.column) (area_of p f.row f.column)) in
+    let count : case_count (function_stage p f).body ≡ length f.cases =
+    length-map f.cases (case_of p (variables_of f.row f.column) (area_of p f.row f.column)) in
     subst FewCases (sym is.2) (omega (arith, few, count, cases_weigh 1 f.cases, each_weighs f.cases))
 few_cases p (tree.accumulator a) x s is few = subst FewCases (sym is.2) (omega arith)
 few_cases p (tree.output o) x s is few = absurd is
 
 -- ---- the whole
 
-few_settings : (items : List Declaration) (i : Image) (picture : Picture) (given : List Setting) → map (λ s. s.name) given ≡ map (λ d. d.name) (params_of items) → length (map parameter_of (settings_for i picture given)) ≡ size params items
+few_settings : (items : List Declaration) (i : Image) (picture : Picture) (given : List Setting)
+    → map (λ s. s.name) given ≡ map (λ d. d.name) (params_of items)
+    → length (map parameter_of (settings_for i picture given)) ≡ size params items
 few_settings items i picture given named =
     length-map (settings_for i picture given) parameter_of ∙ length-map given _
     ∙ sym (length-map given (λ (s : Setting). s.name))
@@ -118,7 +139,8 @@ few_settings items i picture given named =
     ∙ length-map (params_of items) (λ (d : Symbol). d.name)
     ∙ params_counted 0 items
 
-pub small_job : (items : List Declaration) (given : List Setting) (picture : Picture) (sides : Sides) (job : Pipeline) → KeepsLimits items → IsJobOf items given picture sides job → IsSmall job
+pub small_job : (items : List Declaration) (given : List Setting) (picture : Picture) (sides : Sides) (job : Pipeline) → KeepsLimits items
+    → IsJobOf items given picture sides job → IsSmall job
 small_job items given picture sides job limits h =
     let p : Program = record { stages = stages_of items; ranks = h.ranks; settings = settings_for h.image picture given } in
     subst IsSmall (sym h.is) (record {
@@ -126,5 +148,6 @@ small_job items given picture sides job limits h =
       few_params = omega (arith, few_settings items h.image picture given h.params, limits.few_params);
       few_cases = λ g s there.
           let at = stage_at items p g s there in
-          few_cases p at.item at.declared s at.is (all_at (λ d. item_size cases d ≤ 16) items at.declared.item at.item limits.few_cases at.there);
+          few_cases p at.item at.declared s at.is
+          (all_at (λ d. item_size cases d ≤ 16) items at.declared.item at.item limits.few_cases at.there);
     })

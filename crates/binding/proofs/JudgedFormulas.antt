@@ -44,7 +44,9 @@ pub kernel_is : (kernel : List (List ℤ)) → IsSoundKernel kernel → IsKernel
 kernel_is kernel h = record {
   height = h.height;
   width = subst IsKernelSide (width_is kernel) h.width;
-  one_width = All-weaker (λ r. length r ≡ width_of kernel) (λ r. length r ≡ length (factors kernel 0)) (λ r same. same ∙ width_is kernel) kernel h.one_width;
+  one_width =
+      All-weaker (λ r. length r ≡ width_of kernel) (λ r. length r ≡ length (factors kernel 0)) (λ r same. same ∙ width_is kernel) kernel
+      h.one_width;
 }
 
 -- ---- the values of parameters
@@ -98,4 +100,6 @@ module _ (p : Program) (vars : Variables) where
 
   pub tests_are : (ts : List Test) → All IsSoundTest ts → All IsTest (map (test_of p vars) ts)
   tests_are [] h = All-nil IsTest
-  tests_are (t ∷ ts) h = All-cons IsTest (test_of p vars t) (map (test_of p vars) ts) (test_is t (All-head IsSoundTest t ts h)) (tests_are ts (All-tail IsSoundTest t ts h))
+  tests_are (t ∷ ts) h =
+      All-cons IsTest (test_of p vars t) (map (test_of p vars) ts) (test_is t (All-head IsSoundTest t ts h))
+      (tests_are ts (All-tail IsSoundTest t ts h))

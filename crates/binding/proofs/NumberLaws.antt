@@ -26,7 +26,8 @@ either true o q first second = first
 either false o q first second = second
 
 module _ {X : Type 0} (p : X → Bool) where
-  first_at : (n : ℕ) (xs : List X) (i : ℕ) (x : X) → slice_get xs i ≡ Some x → p x ≡ true → ((k : ℕ) (y : X) → k < i → slice_get xs k ≡ Some y → p y ≡ false) → position_from p n xs ≡ Some (n + i)
+  first_at : (n : ℕ) (xs : List X) (i : ℕ) (x : X) → slice_get xs i ≡ Some x → p x ≡ true
+      → ((k : ℕ) (y : X) → k < i → slice_get xs k ≡ Some y → p y ≡ false) → position_from p n xs ≡ Some (n + i)
   first_at n [] i x is pass none = absurd (none-some x is)
   first_at n (y ∷ ys) zero x is pass none =
       ap (λ b. cond b (Some n) (position_from p (n + 1) ys)) (ap p (same_Some y x is) ∙ pass) ∙ ap (λ (m : ℕ). Some m) (omega arith)
@@ -40,18 +41,24 @@ module _ {X : Type 0} (p : X → Bool) where
   some_at n (y ∷ ys) zero x is pass = ap (λ b. is_some (cond b (Some n) (position_from p (n + 1) ys))) (ap p (same_Some y x is) ∙ pass)
   some_at n (y ∷ ys) (suc k) x is pass = either (p y) (Some n) (position_from p (n + 1) ys) refl (some_at (n + 1) ys k x is pass)
 
-  pub position_at : (xs : List X) (i : ℕ) (x : X) → slice_get xs i ≡ Some x → p x ≡ true → ((k : ℕ) (y : X) → k < i → slice_get xs k ≡ Some y → p y ≡ false) → position p xs ≡ Some i
+  pub position_at : (xs : List X) (i : ℕ) (x : X) → slice_get xs i ≡ Some x → p x ≡ true
+      → ((k : ℕ) (y : X) → k < i → slice_get xs k ≡ Some y → p y ≡ false) → position p xs ≡ Some i
   position_at xs i x is pass none = position_from-zero p xs ∙ first_at 0 xs i x is pass none ∙ ap (λ (m : ℕ). Some m) (omega arith)
 
   position_some : (xs : List X) (k : ℕ) (x : X) → slice_get xs k ≡ Some x → p x ≡ true → is_some (position p xs) ≡ true
   position_some xs k x is pass = ap is_some (position_from-zero p xs) ∙ some_at 0 xs k x is pass
 
   -- where a place was found, its element is the first that passes
-  found_from : (n : ℕ) (xs : List X) (j : ℕ) → position_from p n xs ≡ Some j → (i : ℕ) × (x : X) × (j ≡ n + i) × (slice_get xs i ≡ Some x) × (p x ≡ true) × (find p xs ≡ Some x)
+  found_from : (n : ℕ) (xs : List X) (j : ℕ) → position_from p n xs ≡ Some j
+      → (i : ℕ) × (x : X) × (j ≡ n + i) × (slice_get xs i ≡ Some x) × (p x ≡ true) × (find p xs ≡ Some x)
   found_from n [] j is = absurd (none-some j is)
   found_from n (y ∷ ys) j is = by (p y) refl (λ later. found_from (n + 1) ys j later) is
     where
-      by : (b : Bool) → p y ≡ b → (position_from p (n + 1) ys ≡ Some j → (i : ℕ) × (x : X) × (j ≡ n + 1 + i) × (slice_get ys i ≡ Some x) × (p x ≡ true) × (find p ys ≡ Some x)) → cond b (Some n) (position_from p (n + 1) ys) ≡ Some j → (i : ℕ) × (x : X) × (j ≡ n + i) × (slice_get (y ∷ ys) i ≡ Some x) × (p x ≡ true) × (find p (y ∷ ys) ≡ Some x)
+      by : (b : Bool) → p y ≡ b
+          → (position_from p (n + 1) ys ≡ Some j
+          → (i : ℕ) × (x : X) × (j ≡ n + 1 + i) × (slice_get ys i ≡ Some x) × (p x ≡ true) × (find p ys ≡ Some x))
+          → cond b (Some n) (position_from p (n + 1) ys) ≡ Some j
+          → (i : ℕ) × (x : X) × (j ≡ n + i) × (slice_get (y ∷ ys) i ≡ Some x) × (p x ≡ true) × (find p (y ∷ ys) ≡ Some x)
       by true e others found = (0, y, sym (same_Some n j found) ∙ omega arith, refl, e, ap (λ b. cond b (Some y) (find p ys)) e)
       by false e others found =
           let r = others found in
@@ -75,7 +82,8 @@ module _ {X : Type 0} (p : X → Bool) where
       later true e rest = ap (λ b. cond b (Some y) (find p (filter q ys))) e ∙ rest
       later false e rest = rest
 
-      by : (b : Bool) → p y ≡ b → (find p ys ≡ Some x → find p (filter q ys) ≡ Some x) → cond b (Some y) (find p ys) ≡ Some x → find p (filter q (y ∷ ys)) ≡ Some x
+      by : (b : Bool) → p y ≡ b → (find p ys ≡ Some x → find p (filter q ys) ≡ Some x) → cond b (Some y) (find p ys) ≡ Some x
+          → find p (filter q (y ∷ ys)) ≡ Some x
       by true e others first =
           let same : y ≡ x = same_Some y x first in
           subst (λ (z : X). find p (filter q (y ∷ ys)) ≡ Some z) same (at_head (q y) (ap q same ∙ kept) e)
@@ -85,7 +93,8 @@ module _ {X : Type 0} (p : X → Bool) where
   find_some n [] x is = absurd (none-some x is)
   find_some n (y ∷ ys) x is = by (p y) (λ first. find_some (n + 1) ys x first) is
     where
-      by : (b : Bool) → (find p ys ≡ Some x → (j : ℕ) × (position_from p (n + 1) ys ≡ Some j)) → cond b (Some y) (find p ys) ≡ Some x → (j : ℕ) × (cond b (Some n) (position_from p (n + 1) ys) ≡ Some j)
+      by : (b : Bool) → (find p ys ≡ Some x → (j : ℕ) × (position_from p (n + 1) ys ≡ Some j)) → cond b (Some y) (find p ys) ≡ Some x
+          → (j : ℕ) × (cond b (Some n) (position_from p (n + 1) ys) ≡ Some j)
       by true others first = (n, refl)
       by false others first = others first
 
@@ -108,7 +117,8 @@ is_false true h = absurd (h refl)
 is_false false h = refl
 
 module _ (ds : List Declaration) (once : NoneTwice (declared_names ds) ds) where
-  not_again : (i j : ℕ) (x y : Symbol) → i < j → slice_get (declared_names ds) i ≡ Some y → slice_get (declared_names ds) j ≡ Some x → bytes_eq y.name x.name ≡ true → ⊥
+  not_again : (i j : ℕ) (x y : Symbol) → i < j → slice_get (declared_names ds) i ≡ Some y → slice_get (declared_names ds) j ≡ Some x
+      → bytes_eq y.name x.name ≡ true → ⊥
   not_again i j x y l first later same =
       let c : Comes 0 ds x = all_at (Comes 0 ds) (declared_names ds) j x (names_come 0 ds) later in
       once c.0 c.2 c.3 (inl (record {
@@ -116,7 +126,9 @@ module _ (ds : List Declaration) (once : NoneTwice (declared_names ds) ds) where
         again = x;
         there = later;
         item = c.1 ∙ omega arith;
-        before = position_some (λ d. bytes_eq d.name x.name) (take j (declared_names ds)) i y (taken_at (declared_names ds) j i y l (slice_get_within (declared_names ds) i y first) first) same;
+        before =
+            position_some (λ d. bytes_eq d.name x.name) (take j (declared_names ds)) i y
+            (taken_at (declared_names ds) j i y l (slice_get_within (declared_names ds) i y first) first) same;
       }))
 
   names_apart : AllPairs AreApart (declared_names ds)
@@ -136,7 +148,8 @@ module _ (ds : List Declaration) (once : NoneTwice (declared_names ds) ds) where
       (subst (λ (z : Symbol). bytes_eq z.name (get_or (stages_of ds) g x).name ≡ false) (get_or_from_slice_get (stages_of ds) k y x at)
       (stages_apart k g x l (slice_get_within (stages_of ds) g x there))))
 
-declared_found : (names : List Symbol) (x : List ℕ) (d : Symbol) → declared_at names x ≡ Some d → find (λ e. bytes_eq e.name x) names ≡ Some d
+declared_found : (names : List Symbol) (x : List ℕ) (d : Symbol) → declared_at names x ≡ Some d
+    → find (λ e. bytes_eq e.name x) names ≡ Some d
 declared_found names x d = by (number_of names x) refl
   where
     by : (o : Option ℕ) → number_of names x ≡ o → place_of names o ≡ Some d → find (λ e. bytes_eq e.name x) names ≡ Some d
@@ -144,9 +157,12 @@ declared_found names x d = by (number_of names x) refl
     by (Some j) e there = let r = found (λ e. bytes_eq e.name x) names j e in r.3 ∙ sym r.1 ∙ there
 
 -- a name that is declared as a stage is the name of this stage
-pub stage_named : (ds : List Declaration) (x : List ℕ) (d : Symbol) → declared_at (declared_names ds) x ≡ Some d → not (is_param d.kind) ≡ true → (h : ℕ) × (number_of (stages_of ds) x ≡ Some h) × (slice_get (stages_of ds) h ≡ Some d)
+pub stage_named : (ds : List Declaration) (x : List ℕ) (d : Symbol) → declared_at (declared_names ds) x ≡ Some d
+    → not (is_param d.kind) ≡ true → (h : ℕ) × (number_of (stages_of ds) x ≡ Some h) × (slice_get (stages_of ds) h ≡ Some d)
 stage_named ds x d there kept =
-    let first : find (λ e. bytes_eq e.name x) (stages_of ds) ≡ Some d = find-filter (λ e. bytes_eq e.name x) (λ e. not (is_param e.kind)) (declared_names ds) d (declared_found (declared_names ds) x d there) kept in
+    let first : find (λ e. bytes_eq e.name x) (stages_of ds) ≡ Some d =
+    find-filter (λ e. bytes_eq e.name x) (λ e. not (is_param e.kind)) (declared_names ds) d
+    (declared_found (declared_names ds) x d there) kept in
     let place = find_place (λ e. bytes_eq e.name x) (stages_of ds) d first in
     let r = found (λ e. bytes_eq e.name x) (stages_of ds) place.0 place.1 in
     (place.0, place.1, r.1 ∙ sym r.3 ∙ first)

@@ -77,7 +77,8 @@ pub record IsStaged (n : ℕ) (ds : List Declaration) (k : ℕ) (x : List ℕ) :
 abbrev IsFirst : ℕ → List Symbol → ℕ → List ℕ → Type 0
 IsFirst n symbols j x = (s : Symbol) × (slice_get (filter keeps symbols) j ≡ Some s) × (s.item ≡ n) × (s.name ≡ x)
 
-planes_first : (n : ℕ) (ns : Names) (others : List Symbol) (j : ℕ) (x : List ℕ) → slice_get (names_in ns) j ≡ Some x → IsFirst n (names_of n ns ++ others) j x
+planes_first : (n : ℕ) (ns : Names) (others : List Symbol) (j : ℕ) (x : List ℕ) → slice_get (names_in ns) j ≡ Some x
+    → IsFirst n (names_of n ns ++ others) j x
 planes_first n (One y) others zero x e = (_, refl, refl, same_Some y x e)
 planes_first n (One y) others (suc j) x e = absurd (none-some x e)
 planes_first n (Three y z w) others zero x e = (_, refl, refl, same_Some y x e)
@@ -85,7 +86,8 @@ planes_first n (Three y z w) others (suc zero) x e = (_, refl, refl, same_Some z
 planes_first n (Three y z w) others (suc (suc zero)) x e = (_, refl, refl, same_Some w x e)
 planes_first n (Three y z w) others (suc (suc (suc j))) x e = absurd (none-some x e)
 
-item_first : (n : ℕ) (d : Declaration) (others : List Symbol) (j : ℕ) (x : List ℕ) → slice_get (stage_names d) j ≡ Some x → IsFirst n (item_names n d ++ others) j x
+item_first : (n : ℕ) (d : Declaration) (others : List Symbol) (j : ℕ) (x : List ℕ) → slice_get (stage_names d) j ≡ Some x
+    → IsFirst n (item_names n d ++ others) j x
 item_first n (tree.param p) others j x e = absurd (none-some x e)
 item_first n (tree.image i) others j x e = planes_first n i.names others j x e
 item_first n (tree.function f) others zero x e = (_, refl, refl, same_Some f.name x e)
@@ -99,10 +101,12 @@ after {X} [] ys j k e = let same : k ≡ j = omega (arith, e) in ap (λ (n : ℕ
 after (x ∷ xs) ys j zero e = absurd (omega (arith, e))
 after (x ∷ xs) ys j (suc k) e = after xs ys j k (omega (arith, e))
 
-staged : (n : ℕ) (ds : List Declaration) (k : ℕ) (d : Declaration) (j : ℕ) (x : List ℕ) → slice_get ds k ≡ Some d → slice_get (stage_names d) j ≡ Some x → IsStaged n ds k x
+staged : (n : ℕ) (ds : List Declaration) (k : ℕ) (d : Declaration) (j : ℕ) (x : List ℕ) → slice_get ds k ≡ Some d
+    → slice_get (stage_names d) j ≡ Some x → IsStaged n ds k x
 staged n [] k d j x there named = absurd (none-some d there)
 staged n (e ∷ ds) zero d j x there named =
-    let r = item_first n e (names_from (n + 1) ds) j x (ap (λ (y : Declaration). slice_get (stage_names y) j) (same_Some e d there) ∙ named) in
+    let r =
+    item_first n e (names_from (n + 1) ds) j x (ap (λ (y : Declaration). slice_get (stage_names y) j) (same_Some e d there) ∙ named) in
     record { stage = j; declared = r.0; there = r.1; item = r.2 ∙ omega arith; name = r.3 }
 staged n (e ∷ ds) (suc k) d j x there named =
     let r = staged (n + 1) ds k d j x there named in
@@ -112,7 +116,9 @@ staged n (e ∷ ds) (suc k) d j x there named =
     record {
       stage = length here + r.stage;
       declared = r.declared;
-      there = ap (λ (xs : List Symbol). slice_get xs (length here + r.stage)) (filter-append keeps (item_names n e) (names_from (n + 1) ds)) ∙ after here others r.stage (length here + r.stage) refl ∙ r.there;
+      there =
+          ap (λ (xs : List Symbol). slice_get xs (length here + r.stage)) (filter-append keeps (item_names n e) (names_from (n + 1) ds))
+          ∙ after here others r.stage (length here + r.stage) refl ∙ r.there;
       item = omega arith;
       name = r.name;
     }
@@ -123,20 +129,23 @@ module _ (p : Program) where
   plane_bounds : (i : Image) (b : StageBounds) → IsBoundsOf p.settings (tree.image i) b → IsPlaneBounds p i b
   plane_bounds i b h = sym (area_is _ _ b.domain (sides_are _ b.domain.rows h.domain.0) (sides_are _ b.domain.cols h.domain.1))
 
-  module _ (own : Variables) (domain : Area) (area : IsArea domain) (cases : List Branch) (boxes : List (Option Area)) (h : AreBoxes p.settings own.row_name domain cases boxes) where
+  module _ (own : Variables) (domain : Area) (area : IsArea domain) (cases : List Branch) (boxes : List (Option Area))
+      (h : AreBoxes p.settings own.row_name domain cases boxes) where
     box_at : (n : ℕ) (o q : Option Area) → slice_get boxes n ≡ Some o → slice_get (map (box_in p own domain) cases) n ≡ Some q → o ≡ q
     box_at n o q at_o at_q =
         let c = some_within cases n (omega (arith, h.each, slice_get_within boxes n o at_o)) in
         let box = h.box n c.0 o c.1 at_o in
         part_is p own domain c.0.condition o area box.points (λ a e. subst (λ (z : Option Area). IfSome z IsArea) e box.area)
-        ∙ same_Some (box_in p own domain c.0) q (sym (slice_get-map (box_in p own domain) cases n ∙ ap (option_map (box_in p own domain)) c.1) ∙ at_q)
+        ∙ same_Some (box_in p own domain c.0) q
+        (sym (slice_get-map (box_in p own domain) cases n ∙ ap (option_map (box_in p own domain)) c.1) ∙ at_q)
 
     boxes_are : boxes ≡ map (box_in p own domain) cases
     boxes_are = same_list boxes (map (box_in p own domain) cases) (h.each ∙ sym (length-map cases (box_in p own domain))) box_at
 
   function_bounds : (f : Function) (b : StageBounds) → IsBoundsOf p.settings (tree.function f) b → IsFunctionBounds p f b
   function_bounds f b h =
-      let area : IsArea b.domain = record { rows = (span_near _ _ b.domain.rows h.domain.0).span; cols = (span_near _ _ b.domain.cols h.domain.1).span } in
+      let area : IsArea b.domain =
+      record { rows = (span_near _ _ b.domain.rows h.domain.0).span; cols = (span_near _ _ b.domain.cols h.domain.1).span } in
       record {
         domain = sym (area_is _ _ b.domain (ends_are _ _ b.domain.rows h.domain.0) (ends_are _ _ b.domain.cols h.domain.1));
         boxes = boxes_are (variables_of f.row f.column) b.domain area f.cases b.boxes h.boxes;
@@ -148,14 +157,16 @@ module _ (p : Program) where
     bins = h.bins.1 ∙ ap Some (sym (ends_are _ _ h.bins.0 h.bins.2.0));
   }
 
-module _ (ds : List Declaration) (p : Program) (own : p.stages ≡ stages_of ds) (named : IsNamed ds) (found : List StageBounds) (all : AreBoundsOf p.settings ds (stages_of ds) found) where
+module _ (ds : List Declaration) (p : Program) (own : p.stages ≡ stages_of ds) (named : IsNamed ds) (found : List StageBounds)
+    (all : AreBoundsOf p.settings ds (stages_of ds) found) where
   place_of : (r : ℕ) (s : Symbol) (x : List ℕ) → slice_get (stages_of ds) r ≡ Some s → s.name ≡ x → stage_number p x ≡ r
   place_of r s x there name =
       ap (λ (xs : List Symbol). unwrap_or (number_of xs x) 0) own
       ∙ ap (λ (y : List ℕ). unwrap_or (number_of (stages_of ds) y) 0) (sym name)
       ∙ ap (λ (o : Option ℕ). unwrap_or o 0) (number_at ds named.once r s there)
 
-  bounds_of : (Is : StageBounds → Type 0) (k : ℕ) (d : Declaration) (j : ℕ) (x : List ℕ) → slice_get ds k ≡ Some d → slice_get (stage_names d) j ≡ Some x → ((b : StageBounds) → IsBoundsOf p.settings d b → Is b) → HasBounds p found x Is
+  bounds_of : (Is : StageBounds → Type 0) (k : ℕ) (d : Declaration) (j : ℕ) (x : List ℕ) → slice_get ds k ≡ Some d
+      → slice_get (stage_names d) j ≡ Some x → ((b : StageBounds) → IsBoundsOf p.settings d b → Is b) → HasBounds p found x Is
   bounds_of Is k d j x there name says =
       let r = staged 0 ds k d j x there name in
       let b = some_within found r.stage (omega (arith, all.each, slice_get_within (stages_of ds) r.stage r.declared r.there)) in
@@ -173,14 +184,20 @@ module _ (ds : List Declaration) (p : Program) (own : p.stages ≡ stages_of ds)
   planes_of k i (One x) there e =
       bounds_of (IsPlaneBounds p i) k (tree.image i) 0 x there (ap (λ (ns : Names). slice_get (names_in ns) 0) e) (plane_bounds p i)
   planes_of k i (Three x y z) there e =
-      let one = λ (j : ℕ) (w : List ℕ) (at : slice_get (names_in i.names) j ≡ Some w). bounds_of (IsPlaneBounds p i) k (tree.image i) j w there at (plane_bounds p i) in
-      (one 0 x (ap (λ (ns : Names). slice_get (names_in ns) 0) e), one 1 y (ap (λ (ns : Names). slice_get (names_in ns) 1) e), one 2 z (ap (λ (ns : Names). slice_get (names_in ns) 2) e))
+      let one =
+      λ (j : ℕ) (w : List ℕ) (at : slice_get (names_in i.names) j ≡ Some w). bounds_of (IsPlaneBounds p i) k (tree.image i) j w there at
+      (plane_bounds p i) in (
+        one 0 x (ap (λ (ns : Names). slice_get (names_in ns) 0) e),
+        one 1 y (ap (λ (ns : Names). slice_get (names_in ns) 1) e),
+        one 2 z (ap (λ (ns : Names). slice_get (names_in ns) 2) e),
+      )
 
   bound_item : (k : ℕ) (d : Declaration) → slice_get ds k ≡ Some d → IsBoundItem p found d
   bound_item k (tree.param x) there = tt
   bound_item k (tree.image i) there = planes_of k i i.names there refl
   bound_item k (tree.function f) there = bounds_of (IsFunctionBounds p f) k (tree.function f) 0 f.name there refl (function_bounds p f)
-  bound_item k (tree.accumulator a) there = bounds_of (IsAccumulatorBounds p a) k (tree.accumulator a) 0 a.name there refl (accumulator_bounds p a)
+  bound_item k (tree.accumulator a) there =
+      bounds_of (IsAccumulatorBounds p a) k (tree.accumulator a) 0 a.name there refl (accumulator_bounds p a)
   bound_item k (tree.output o) there = tt
 
   pub ready : AreReady p found ds

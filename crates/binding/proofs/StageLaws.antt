@@ -31,19 +31,22 @@ module _ {X Y : Type 0} (R : X → Y → Type 0) where
   zip_append (x ∷ xs) us [] vs h k = absurd h
   zip_append (x ∷ xs) us (y ∷ ys) vs h k = (h.0, zip_append xs us ys vs h.1 k)
 
-  zip_left : (xs : List X) (ys : List Y) (g : ℕ) (x : X) → AllZip R xs ys → slice_get xs g ≡ Some x → (y : Y) × (slice_get ys g ≡ Some y) × R x y
+  zip_left : (xs : List X) (ys : List Y) (g : ℕ) (x : X) → AllZip R xs ys → slice_get xs g ≡ Some x
+      → (y : Y) × (slice_get ys g ≡ Some y) × R x y
   zip_left [] ys g x h there = absurd (none-some x there)
   zip_left (u ∷ xs) [] g x h there = absurd h
   zip_left (u ∷ xs) (v ∷ ys) zero x h there = (v, refl, subst (λ (z : X). R z v) (same_Some u x there) h.0)
   zip_left (u ∷ xs) (v ∷ ys) (suc g) x h there = zip_left xs ys g x h.1 there
 
-  zip_right : (xs : List X) (ys : List Y) (g : ℕ) (y : Y) → AllZip R xs ys → slice_get ys g ≡ Some y → (x : X) × (slice_get xs g ≡ Some x) × R x y
+  zip_right : (xs : List X) (ys : List Y) (g : ℕ) (y : Y) → AllZip R xs ys → slice_get ys g ≡ Some y
+      → (x : X) × (slice_get xs g ≡ Some x) × R x y
   zip_right xs [] g y h there = absurd (none-some y there)
   zip_right [] (v ∷ ys) g y h there = absurd h
   zip_right (u ∷ xs) (v ∷ ys) zero y h there = (u, refl, subst (R u) (same_Some v y there) h.0)
   zip_right (u ∷ xs) (v ∷ ys) (suc g) y h there = zip_right xs ys g y h.1 there
 
-zip_weaker : {X Y : Type 0} (R Q : X → Y → Type 0) → ((x : X) (y : Y) → R x y → Q x y) → (xs : List X) (ys : List Y) → AllZip R xs ys → AllZip Q xs ys
+zip_weaker : {X Y : Type 0} (R Q : X → Y → Type 0) → ((x : X) (y : Y) → R x y → Q x y) → (xs : List X) (ys : List Y) → AllZip R xs ys
+    → AllZip Q xs ys
 zip_weaker R Q f [] [] h = tt
 zip_weaker R Q f [] (y ∷ ys) h = absurd h
 zip_weaker R Q f (x ∷ xs) [] h = absurd h
@@ -67,30 +70,41 @@ pub record IsMade (p : Program) (n : ℕ) (ds : List Declaration) (s : Stage) (x
   pub is : IsStageOf p item x s
 
 module _ (p : Program) where
-  made_later : (n : ℕ) (d : Declaration) (ds : List Declaration) (s : Stage) (x : Symbol) → IsMade p (n + 1) ds s x → IsMade p n (d ∷ ds) s x
+  made_later : (n : ℕ) (d : Declaration) (ds : List Declaration) (s : Stage) (x : Symbol) → IsMade p (n + 1) ds s x
+      → IsMade p n (d ∷ ds) s x
   made_later n d ds s x h = record { place = suc h.place; number = h.number ∙ omega arith; item = h.item; there = h.there; is = h.is }
 
-  made_here : (n : ℕ) (d : Declaration) (ds : List Declaration) (s : Stage) (x : Symbol) → x.item ≡ n → IsStageOf p d x s → IsMade p n (d ∷ ds) s x
+  made_here : (n : ℕ) (d : Declaration) (ds : List Declaration) (s : Stage) (x : Symbol) → x.item ≡ n → IsStageOf p d x s
+      → IsMade p n (d ∷ ds) s x
   made_here n d ds s x e is = record { place = 0; number = e ∙ omega arith; item = d; there = refl; is = is }
 
-  made_planes : (n : ℕ) (i : Image) (ds : List Declaration) (ns : Names) → AllZip (IsMade p n (tree.image i ∷ ds)) (map (plane_stage p i) (names_in ns)) (filter (λ d. not (is_param d.kind)) (names_of n ns))
+  made_planes : (n : ℕ) (i : Image) (ds : List Declaration) (ns : Names)
+      → AllZip (IsMade p n (tree.image i ∷ ds)) (map (plane_stage p i) (names_in ns)) (filter (λ d. not (is_param d.kind)) (names_of n ns))
   made_planes n i ds (One x) = (made_here n (tree.image i) ds _ _ refl (refl, refl), tt)
-  made_planes n i ds (Three x y z) =
-      (made_here n (tree.image i) ds _ _ refl (refl, refl), (made_here n (tree.image i) ds _ _ refl (refl, refl), (made_here n (tree.image i) ds _ _ refl (refl, refl), tt)))
+  made_planes n i ds (Three x y z) = (
+    made_here n (tree.image i) ds _ _ refl (refl, refl),
+    (made_here n (tree.image i) ds _ _ refl (refl, refl), (made_here n (tree.image i) ds _ _ refl (refl, refl), tt)),
+  )
 
-  made_item : (n : ℕ) (d : Declaration) (ds : List Declaration) → AllZip (IsMade p n (d ∷ ds)) (item_stages p d) (filter (λ d. not (is_param d.kind)) (item_names n d))
+  made_item : (n : ℕ) (d : Declaration) (ds : List Declaration)
+      → AllZip (IsMade p n (d ∷ ds)) (item_stages p d) (filter (λ d. not (is_param d.kind)) (item_names n d))
   made_item n (tree.param x) ds = tt
   made_item n (tree.image i) ds = made_planes n i ds i.names
   made_item n (tree.function f) ds = (made_here n (tree.function f) ds _ _ refl (refl, refl, refl), tt)
   made_item n (tree.accumulator a) ds = (made_here n (tree.accumulator a) ds _ _ refl (refl, refl, refl), tt)
   made_item n (tree.output o) ds = tt
 
-  made : (n : ℕ) (ds : List Declaration) → AllZip (IsMade p n ds) (flat_map (item_stages p) ds) (filter (λ d. not (is_param d.kind)) (names_from n ds))
+  made : (n : ℕ) (ds : List Declaration)
+      → AllZip (IsMade p n ds) (flat_map (item_stages p) ds) (filter (λ d. not (is_param d.kind)) (names_from n ds))
   made n [] = tt
   made n (d ∷ ds) =
-      subst (AllZip (IsMade p n (d ∷ ds)) (item_stages p d ++ flat_map (item_stages p) ds)) (sym (filter-append (λ (d : Symbol). not (is_param d.kind)) (item_names n d) (names_from (n + 1) ds)))
-      (zip_append (IsMade p n (d ∷ ds)) (item_stages p d) (flat_map (item_stages p) ds) (filter (λ d. not (is_param d.kind)) (item_names n d)) (filter (λ d. not (is_param d.kind)) (names_from (n + 1) ds)) (made_item n d ds)
-      (zip_weaker (IsMade p (n + 1) ds) (IsMade p n (d ∷ ds)) (made_later n d ds) (flat_map (item_stages p) ds) (filter (λ d. not (is_param d.kind)) (names_from (n + 1) ds)) (made (n + 1) ds)))
+      subst (AllZip (IsMade p n (d ∷ ds)) (item_stages p d ++ flat_map (item_stages p) ds))
+      (sym (filter-append (λ (d : Symbol). not (is_param d.kind)) (item_names n d) (names_from (n + 1) ds)))
+      (zip_append (IsMade p n (d ∷ ds)) (item_stages p d) (flat_map (item_stages p) ds)
+      (filter (λ d. not (is_param d.kind)) (item_names n d)) (filter (λ d. not (is_param d.kind)) (names_from (n + 1) ds))
+      (made_item n d ds)
+      (zip_weaker (IsMade p (n + 1) ds) (IsMade p n (d ∷ ds)) (made_later n d ds) (flat_map (item_stages p) ds)
+      (filter (λ d. not (is_param d.kind)) (names_from (n + 1) ds)) (made (n + 1) ds)))
 
   rank_is_named : (d : Declaration) (x : Symbol) (s : Stage) → IsStageOf p d x s → s.rank ≡ rank_named p x.name
   rank_is_named (tree.param y) x s h = absurd h
@@ -123,7 +137,8 @@ module _ (ds : List Declaration) (p : Program) where
       let r = zip_left (IsMade p 0 ds) (flat_map (item_stages p) ds) (stages_of ds) g s (made p 0 ds) there in
       at_of g s r.0 r.1 r.2
 
-  pub stage_there : (g : ℕ) (x : Symbol) → slice_get (stages_of ds) g ≡ Some x → (s : Stage) × (slice_get (flat_map (item_stages p) ds) g ≡ Some s) × IsAt ds p g s
+  pub stage_there : (g : ℕ) (x : Symbol) → slice_get (stages_of ds) g ≡ Some x
+      → (s : Stage) × (slice_get (flat_map (item_stages p) ds) g ≡ Some s) × IsAt ds p g s
   stage_there g x numbered =
       let r = zip_right (IsMade p 0 ds) (flat_map (item_stages p) ds) (stages_of ds) g x (made p 0 ds) numbered in
       (r.0, r.1, at_of g r.0 x numbered r.2)
@@ -142,10 +157,15 @@ module _ (ds : List Declaration) (p : Program) where
         rank_is_named p h.item h.declared s h.is
         ∙ ap (λ (o : Option ℕ). slice_index p.ranks (unwrap_or o 0)) (number_is g h.declared h.numbered)
 
-    by_stage : length p.ranks ≡ length (stages_of ds) → (g : ℕ) (o : Option Stage) → slice_get (flat_map (item_stages p) ds) g ≡ o → option_map_or (λ s. s.rank) o 0 ≡ slice_index p.ranks g
-    by_stage each g None there = sym (get_or_past p.ranks g 0 (omega (arith, each, each_stage, past (slice_get_cases (flat_map (item_stages p) ds) g).1)))
+    by_stage : length p.ranks ≡ length (stages_of ds) → (g : ℕ) (o : Option Stage) → slice_get (flat_map (item_stages p) ds) g ≡ o
+        → option_map_or (λ s. s.rank) o 0 ≡ slice_index p.ranks g
+    by_stage each g None there =
+        sym (get_or_past p.ranks g 0 (omega (arith, each, each_stage, past (slice_get_cases (flat_map (item_stages p) ds) g).1)))
       where
-        past : ((x : Stage) × (g < length (flat_map (item_stages p) ds)) × (slice_get (flat_map (item_stages p) ds) g ≡ Some x) × (get_or (flat_map (item_stages p) ds) g x ≡ x)) ⊎ ((length (flat_map (item_stages p) ds) ≤ g) × (slice_get (flat_map (item_stages p) ds) g ≡ None)) → length (flat_map (item_stages p) ds) ≤ g
+        past : ((x : Stage) × (g < length (flat_map (item_stages p) ds)) × (slice_get (flat_map (item_stages p) ds) g ≡ Some x)
+            × (get_or (flat_map (item_stages p) ds) g x ≡ x))
+            ⊎ ((length (flat_map (item_stages p) ds) ≤ g) × (slice_get (flat_map (item_stages p) ds) g ≡ None))
+            → length (flat_map (item_stages p) ds) ≤ g
         past (inl h) = absurd (none-some h.0 (sym there ∙ h.2))
         past (inr h) = h.0
     by_stage each g (Some s) there = rank_at g s (stage_at g s there)
@@ -158,7 +178,9 @@ module _ (ds : List Declaration) (p : Program) where
 pub each_links : (ds : List Declaration) → length (graph_of ds) ≡ length (stages_of ds)
 each_links ds = length-map (stages_of ds) (links_of ds (stages_of ds))
 
-pub links_are : (ds : List Declaration) (g : ℕ) (x : Symbol) → slice_get (stages_of ds) g ≡ Some x → links_at (graph_of ds) g ≡ links_of ds (stages_of ds) x
+pub links_are : (ds : List Declaration) (g : ℕ) (x : Symbol) → slice_get (stages_of ds) g ≡ Some x
+    → links_at (graph_of ds) g ≡ links_of ds (stages_of ds) x
 links_are ds g x there =
     get_or_from_slice_get (graph_of ds) g (links_of ds (stages_of ds) x) _
-    (slice_get-map (links_of ds (stages_of ds)) (stages_of ds) g ∙ ap (λ (o : Option Symbol). option_map (links_of ds (stages_of ds)) o) there)
+    (slice_get-map (links_of ds (stages_of ds)) (stages_of ds) g
+    ∙ ap (λ (o : Option Symbol). option_map (links_of ds (stages_of ds)) o) there)

@@ -78,7 +78,8 @@ IsLateFault p items i picture sides fault =
 pub record IsMisfit (items : List Declaration) (p : Program) (picture : Picture) (sides : Sides) (fault : BindFault) : Type 0 where
   pub image : Image
   pub declared : flat_map item_images items ≡ image ∷ []
-  pub first : IsEarlyFault (settings_for image picture p.settings) items image picture fault ⊎ IsLateFault (settled_program p image picture) items image picture sides fault
+  pub first : IsEarlyFault (settings_for image picture p.settings) items image picture fault
+      ⊎ IsLateFault (settled_program p image picture) items image picture sides fault
 
 -- there is not exactly one image item, so no picture has the planes that are named. No text has such a program
 abbrev pub IsUnnamed : List Declaration → BindFault → Type 0

@@ -206,4 +206,5 @@ pub record IsJobOf (items : List Declaration) (given : List Setting) (picture : 
   pub set : AllSet (settings_for image picture given)
   pub ranks : List ℕ
   pub ranking : IsRanking (graph_of items) ranks
-  pub is : job ≡ job_of (record { stages = stages_of items; ranks = ranks; settings = settings_for image picture given }) items picture sides
+  pub is : job
+      ≡ job_of (record { stages = stages_of items; ranks = ranks; settings = settings_for image picture given }) items picture sides

@@ -38,7 +38,14 @@ copying =
     tree.param (record { name = 82 ∷ [] })
     ∷ tree.param (record { name = 67 ∷ [] })
     ∷ tree.image planes
-    ∷ tree.function (record { name = 102 ∷ []; row = below 120 82; column = below 121 67; cases = []; otherwise = Some (tree.read (73 ∷ []) (at 120) (at 121)) })
+    ∷ tree.function (record {
+      name =
+          102 ∷ [];
+      row = below 120 82;
+      column = below 121 67;
+      cases = [];
+      otherwise = Some (tree.read (73 ∷ []) (at 120) (at 121));
+    })
     ∷ tree.output (record { names = One (102 ∷ []); max = 255 })
     ∷ []
 
@@ -52,7 +59,8 @@ abbrev pub square : Planes
 square = record { names = One (73 ∷ []); rows = just 78 ∷ []; columns = just 78 ∷ [] }
 
 abbrev pub twice_as_high : Planes
-twice_as_high = record { names = One (73 ∷ []); rows = record { negative = false; factor = 2; name = Some (78 ∷ []) } ∷ []; columns = just 78 ∷ [] }
+twice_as_high =
+    record { names = One (73 ∷ []); rows = record { negative = false; factor = 2; name = Some (78 ∷ []) } ∷ []; columns = just 78 ∷ [] }
 
 abbrev pub one_by_two : Image
 one_by_two = image 1 2 255 ((7 ∷ 9 ∷ []) ∷ [])

@@ -43,7 +43,8 @@ struct Parts {
 }
 
 fn bound_fault(fault: BoundFault) -> BindFault
-    ensures { ((fault ≡ BoundFault.Memory) × (result ≡ Memory)) ⊎ ((fault ≢ BoundFault.Memory) × (result ≡ Bounds fault)) }
+    ensures { ((fault ≡ BoundFault.Memory) × (result ≡ Memory))
+        ⊎ ((fault ≢ BoundFault.Memory) × (result ≡ Bounds fault)) }
 {
     match fault {
         BoundFault::Memory => BindFault::Memory,
@@ -57,8 +58,10 @@ fn resolve(
     params: &Params,
     found: &[StageBounds],
 ) -> Result<Parts, AllocError>
-    requires { AreBoundsOf params.now (content (tree_in checked.now)) (stages_of (content (tree_in checked.now))) found.now }
-    ensures { IfOk result (ArePartsOf (program_of checked.now params.now) (content (tree_in checked.now))) }
+    requires { AreBoundsOf params.now (content (tree_in checked.now))
+        (stages_of (content (tree_in checked.now))) found.now }
+    ensures { IfOk result
+        (ArePartsOf (program_of checked.now params.now) (content (tree_in checked.now))) }
 {
     let resolver = Resolver {
         alloc,
@@ -82,11 +85,14 @@ fn judge(
     image: &Image,
     picture: &Picture,
 ) -> Result<Vec<StageBounds>, BindFault>
-    ensures found { IfOk result (λ v. AreBoundsOf params.now (content (tree_in checked.now)) (stages_of (content (tree_in checked.now))) v.items) }
+    ensures found { IfOk result (λ v. AreBoundsOf params.now (content (tree_in checked.now))
+        (stages_of (content (tree_in checked.now))) v.items) }
     ensures bounds { OnOk result (IsInBounds params.now (content (tree_in checked.now))) }
     ensures image { OnOk result (IsImage picture.now) }
-    ensures picture { OnOk result (PlanesFit image.now picture.now × ExtentsFit params.now image.now picture.now) }
-    ensures fault { IfErr result (λ f. (f ≡ Memory) ⊎ IsEarlyFault params.now (content (tree_in checked.now)) image.now picture.now f) }
+    ensures picture { OnOk result
+        (PlanesFit image.now picture.now × ExtentsFit params.now image.now picture.now) }
+    ensures fault { IfErr result (λ f. (f ≡ Memory)
+        ⊎ IsEarlyFault params.now (content (tree_in checked.now)) image.now picture.now f) }
 {
     match bounds_by_stage(alloc, checked, params) {
         Ok(found) => {
@@ -105,8 +111,11 @@ fn parts_for(
     picture: &Picture,
 ) -> Result<Parts, BindFault>
     requires { flat_map item_images (content (tree_in checked.now)) ≡ image.now ∷ [] }
-    ensures ok { IfOk result (AreBoundParts (content (tree_in checked.now)) (program_of checked.now params.now) picture.now) }
-    ensures fault { IfErr result (λ f. (f ≡ Memory) ⊎ IsPartsFault (content (tree_in checked.now)) (program_of checked.now params.now) picture.now f) }
+    ensures ok { IfOk result (AreBoundParts (content (tree_in checked.now))
+        (program_of checked.now params.now) picture.now) }
+    ensures fault { IfErr result (λ f. (f ≡ Memory)
+        ⊎ IsPartsFault (content (tree_in checked.now)) (program_of checked.now params.now)
+        picture.now f) }
 {
     let settled = settings_for(alloc, image, picture, params)?;
     let found = judge(alloc, checked, &settled, image, picture)?;
@@ -123,8 +132,12 @@ fn bound_parts(
     picture: &Picture,
 ) -> Result<Parts, BindFault>
     ensures checked { IsCheckedOf (tree_in checked.now) checked.now }
-    ensures ok { IfOk result (AreBoundParts (content (tree_in checked.now)) (program_of checked.now params.now) picture.now) }
-    ensures fault { IfErr result (λ f. (f ≡ Memory) ⊎ (IsUnnamed (content (tree_in checked.now)) f ⊎ IsPartsFault (content (tree_in checked.now)) (program_of checked.now params.now) picture.now f)) }
+    ensures ok { IfOk result (AreBoundParts (content (tree_in checked.now))
+        (program_of checked.now params.now) picture.now) }
+    ensures fault { IfErr result (λ f. (f ≡ Memory)
+        ⊎ (IsUnnamed (content (tree_in checked.now)) f
+        ⊎ IsPartsFault (content (tree_in checked.now)) (program_of checked.now params.now)
+        picture.now f)) }
 {
     match only_image(checked.tree().items()) {
         Some(image) => parts_for(alloc, checked, params, image, picture),
@@ -142,13 +155,19 @@ pub fn bind(
     picture: Picture,
     sides: TileSides,
 ) -> Result<Job, (Checked, Picture, BindFault)>
-    ensures ok { IfOk result (λ job. IsBound (content (tree_in checked)) (program_of checked params.now) picture sides (pipeline_in job)) }
+    ensures ok { IfOk result (λ job. IsBound (content (tree_in checked))
+        (program_of checked params.now) picture sides (pipeline_in job)) }
     ensures job { IfOk result (λ job. IsJob (pipeline_in job)) }
-    ensures says { IfOk result (λ job. map (λ s. s.name) params.now ≡ map (λ d. d.name) (params_in checked) → IsJobOf (content (tree_in checked)) params.now picture sides (pipeline_in job)) }
-    ensures text { IfOk result (λ job. program_text_in job ≡ canonical (content (tree_in checked))) }
-    ensures program { IfOk result (λ job. program_id_in job ≡ sha256 (canonical (content (tree_in checked)))) }
+    ensures says { IfOk result (λ job. map (λ s. s.name) params.now
+        ≡ map (λ d. d.name) (params_in checked)
+        → IsJobOf (content (tree_in checked)) params.now picture sides (pipeline_in job)) }
+    ensures text { IfOk result
+        (λ job. program_text_in job ≡ canonical (content (tree_in checked))) }
+    ensures program { IfOk result
+        (λ job. program_id_in job ≡ sha256 (canonical (content (tree_in checked)))) }
     ensures back { IfErr result (λ e. (e.0 ≡ checked) × (e.1 ≡ picture)) }
-    ensures fault { IfErr result (λ e. IsBindFault (content (tree_in checked)) (program_of checked params.now) picture sides e.2) }
+    ensures fault { IfErr result (λ e. IsBindFault (content (tree_in checked))
+        (program_of checked params.now) picture sides e.2) }
 {
     match bound_parts(alloc, &checked, params, &picture) {
         Ok(parts) => {

@@ -48,7 +48,8 @@ pub(crate) fn judge_picture(
     image: &Image,
     picture: &Picture,
 ) -> Result<(), BindFault>
-    ensures ok { OnOk result (PlanesFit image.now picture.now × ExtentsFit params.now image.now picture.now) }
+    ensures ok { OnOk result
+        (PlanesFit image.now picture.now × ExtentsFit params.now image.now picture.now) }
     ensures image { IsImage picture.now }
     ensures fault { IfErr result (IsPictureFault params.now image.now picture.now) }
 {

@@ -19,7 +19,8 @@ ghost use Rattle.job.specs.Worked.{sides as sides_of};
 
 /// The stages of a job are those that its program declares, in this order.
 pub fn stages_keep_their_numbers()
-    ensures { (p : Program) (items : List Declaration) → map (λ s. s.name) (flat_map (item_stages p) items) ≡ map (λ d. d.name) (stages_of items) }
+    ensures { (p : Program) (items : List Declaration)
+        → map (λ s. s.name) (flat_map (item_stages p) items) ≡ map (λ d. d.name) (stages_of items) }
 {}
 
 /// Parameters that are not given are the sides of the picture; the job answers the picture that it was given.
@@ -31,21 +32,34 @@ pub fn copies_two_by_two()
 /// A parameter without a value is a side of the picture, its rows before its columns, where an extent is this parameter and
 /// nothing else; what is given stays.
 pub fn sides_become_parameters()
-    ensures rows_first { settings_for square one_by_two (setting 78 None) ≡ setting 78 (Some (pos 1)) }
-    ensures alone { settings_for twice_as_high one_by_two (setting 78 None) ≡ setting 78 (Some (pos 2)) }
-    ensures given { settings_for square one_by_two (setting 78 (Some (pos 5))) ≡ setting 78 (Some (pos 5)) }
+    ensures rows_first { settings_for square one_by_two (setting 78 None)
+        ≡ setting 78 (Some (pos 1)) }
+    ensures alone { settings_for twice_as_high one_by_two (setting 78 None)
+        ≡ setting 78 (Some (pos 2)) }
+    ensures given { settings_for square one_by_two (setting 78 (Some (pos 5)))
+        ≡ setting 78 (Some (pos 5)) }
     ensures other { settings_for square one_by_two (setting 77 None) ≡ setting 77 None }
-    ensures both { settings_for planes one_by_two unset ≡ record { name = codes "R"; value = Some (pos 1) } ∷ record { name = codes "C"; value = Some (pos 2) } ∷ [] }
+    ensures both { settings_for planes one_by_two unset
+        ≡ record { name = codes "R"; value = Some (pos 1) }
+        ∷ record { name = codes "C"; value = Some (pos 2) } ∷ [] }
 {}
 
 /// A program says at most one job. This is a job, where the program keeps the limits of a text, the values that are given are
 /// numbers of 32 bits, all is in bounds and the picture, the sides of tiles, the shapes of the output and the numbers of tiles fit.
 pub fn bound_programs_are_jobs()
-    ensures one { (items : List Declaration) (given : List Setting) (image : Picture) (sides : Sides) (a b : Pipeline) → IsJobOf items given image sides a → IsJobOf items given image sides b → a ≡ b }
-    ensures job { (items : List Declaration) (given : List Setting) (image : Picture) (sides : Sides) (job : Pipeline) (is : IsJobOf items given image sides job) → KeepsLimits items → AreSmall given → IsImage image → IsSides sides → IsInBounds (settings_for is.image image given) items → PlanesFit is.image image → ExtentsFit (settings_for is.image image given) is.image image → ShapesFit job → TilesFit job → IsJob job }
+    ensures one { (items : List Declaration) (given : List Setting) (image : Picture)
+        (sides : Sides) (a b : Pipeline) → IsJobOf items given image sides a
+        → IsJobOf items given image sides b → a ≡ b }
+    ensures job { (items : List Declaration) (given : List Setting) (image : Picture)
+        (sides : Sides) (job : Pipeline) (is : IsJobOf items given image sides job)
+        → KeepsLimits items → AreSmall given → IsImage image → IsSides sides
+        → IsInBounds (settings_for is.image image given) items → PlanesFit is.image image
+        → ExtentsFit (settings_for is.image image given) is.image image → ShapesFit job
+        → TilesFit job → IsJob job }
 {}
 
 /// The limits of a text are limits of its job: at most 64 stages, 64 parameters and 16 cases of a function.
 pub fn jobs_keep_limits()
-    ensures { (items : List Declaration) (given : List Setting) (image : Picture) (sides : Sides) (job : Pipeline) → KeepsLimits items → IsJobOf items given image sides job → IsSmall job }
+    ensures { (items : List Declaration) (given : List Setting) (image : Picture) (sides : Sides)
+        (job : Pipeline) → KeepsLimits items → IsJobOf items given image sides job → IsSmall job }
 {}

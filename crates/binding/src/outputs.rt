@@ -18,7 +18,8 @@ use std::alloc::{AllocError, Global};
 
 impl Resolver<'_> {
     fn numbers(&self, names: &Names) -> Result<Vec<usize>, AllocError>
-        ensures { IfOk result (λ v. v.items ≡ map (stage_number (program_in self.now)) (names_in names.now)) }
+        ensures { IfOk result
+            (λ v. v.items ≡ map (stage_number (program_in self.now)) (names_in names.now)) }
     {
         let mut numbers = Vec::new(self.alloc);
         match names {
@@ -42,7 +43,9 @@ impl Resolver<'_> {
 
     /// The first output, if there is one.
     pub fn output(&self, items: &[Item]) -> Result<Option<Output>, AllocError>
-        ensures { IfOk result (λ o. option_map output_view o ≡ slice_get (flat_map (item_outputs (program_in self.now)) (declarations items.now)) 0) }
+        ensures { IfOk result (λ o. option_map output_view o
+            ≡ slice_get (flat_map (item_outputs (program_in self.now)) (declarations items.now))
+            0) }
     {
         for item in items {
             if let Item::Output(output) = item {
@@ -75,7 +78,8 @@ pub(crate) fn parameters(alloc: Global, settings: &[Setting]) -> Result<Vec<Para
 
 /// The image item, where there is exactly one.
 pub(crate) fn only_image(items: &[Item]) -> Option<&Image>
-    ensures none { IfNone result ((i : ImageType) → flat_map item_images (declarations items.now) ≢ i ∷ []) }
+    ensures none { IfNone result
+        ((i : ImageType) → flat_map item_images (declarations items.now) ≢ i ∷ []) }
     ensures some { IfSome result (λ i. flat_map item_images (declarations items.now) ≡ i.now ∷ []) }
 {
     let mut found = None;

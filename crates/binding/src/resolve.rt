@@ -101,7 +101,8 @@ impl Resolver<'_> {
     }
 
     fn name(&self, own: &Variables, name: &Name) -> Formula
-        ensures { formula_view result ≡ name_formula (program_in self.now) (variables_in own.now) name.now }
+        ensures { formula_view result
+            ≡ name_formula (program_in self.now) (variables_in own.now) name.now }
     {
         if is_same(name, &own.row) {
             Formula::Coordinate(Axis::Row)
@@ -116,7 +117,8 @@ impl Resolver<'_> {
     #[cycle(formula)]
     pub fn formula(&self, own: &Variables, expr: &Expr) -> Result<Formula, AllocError>
         requires { IsRanged (view expr.now) }
-        ensures { IfOk result (λ f. formula_view f ≡ formula_of (program_in self.now) (variables_in own.now) (view expr.now)) }
+        ensures { IfOk result (λ f. formula_view f
+            ≡ formula_of (program_in self.now) (variables_in own.now) (view expr.now)) }
     {
         match expr {
             Expr::Number(number) => Ok(Formula::Number(number_of_text(*number))),
@@ -159,7 +161,8 @@ impl Resolver<'_> {
     #[cycle(formula)]
     fn boxed(&self, own: &Variables, expr: &Expr) -> Result<Box<Formula>, AllocError>
         requires { IsRanged (view expr.now) }
-        ensures { IfOk result (λ f. formula_view f.value ≡ formula_of (program_in self.now) (variables_in own.now) (view expr.now)) }
+        ensures { IfOk result (λ f. formula_view f.value
+            ≡ formula_of (program_in self.now) (variables_in own.now) (view expr.now)) }
     {
         let formula = self.formula(own, expr)?;
         Ok(Box::new(self.alloc, formula)?)
@@ -182,7 +185,8 @@ impl Resolver<'_> {
 
     /// Tests, in the order of the text.
     pub fn tests(&self, own: &Variables, tests: &[pipe_tree::Test]) -> Result<Vec<Test>, AllocError>
-        ensures { IfOk result (λ v. map test_view v.items ≡ map (test_of (program_in self.now) (variables_in own.now)) tests.now) }
+        ensures { IfOk result (λ v. map test_view v.items
+            ≡ map (test_of (program_in self.now) (variables_in own.now)) tests.now) }
     {
         let mut resolved = Vec::new(self.alloc);
         for test in tests {

@@ -101,7 +101,8 @@ fn crowded(pipeline: &BoundPipeline) -> Option<usize>
 /// The fault of the sizes of the stages, if there is one.
 pub(crate) fn size_fault(pipeline: &BoundPipeline) -> Option<BindFault>
     ensures some { IfSome result (IsSizeFault (pipeline_of pipeline.now)) }
-    ensures none { IfNone result (ShapesFit (pipeline_of pipeline.now) × TilesFit (pipeline_of pipeline.now)) }
+    ensures none { IfNone result
+        (ShapesFit (pipeline_of pipeline.now) × TilesFit (pipeline_of pipeline.now)) }
 {
     if !shapes_fit(pipeline) {
         return Some(BindFault::OutputShapes);

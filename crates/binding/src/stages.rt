@@ -31,7 +31,8 @@ impl Resolver<'_> {
     // What was found of the stage of this name.
     fn bounds(&self, name: &Name) -> &StageBounds
         requires { stage_number (program_in self.now) name.now < length self.now.found.now }
-        ensures { slice_get self.now.found.now (stage_number (program_in self.now) name.now) ≡ Some result.now }
+        ensures { slice_get self.now.found.now (stage_number (program_in self.now) name.now)
+            ≡ Some result.now }
     {
         &self.found[self.stage_number(name)]
     }
@@ -44,8 +45,12 @@ impl Resolver<'_> {
         case: &Case,
     ) -> Result<JobCase, AllocError>
         requires ranged { IsRangedBranch (branch case.now) }
-        requires boxed { slice_get bounds.now.boxes number ≡ Some (box_in (program_in self.now) (variables_in own.now) bounds.now.domain (branch case.now)) }
-        ensures { IfOk result (λ p. case_view p ≡ case_of (program_in self.now) (variables_in own.now) bounds.now.domain (branch case.now)) }
+        requires boxed { slice_get bounds.now.boxes number
+            ≡ Some (box_in (program_in self.now) (variables_in own.now) bounds.now.domain
+            (branch case.now)) }
+        ensures { IfOk result (λ p. case_view p
+            ≡ case_of (program_in self.now) (variables_in own.now) bounds.now.domain
+            (branch case.now)) }
     {
         Ok(JobCase::new(
             bounds.boxes()[number],
@@ -61,8 +66,12 @@ impl Resolver<'_> {
         cases: &[Case],
     ) -> Result<Vec<JobCase>, AllocError>
         requires ranged { All IsRangedBranch (branches cases.now) }
-        requires boxed { bounds.now.boxes ≡ map (box_in (program_in self.now) (variables_in own.now) bounds.now.domain) (branches cases.now) }
-        ensures { IfOk result (λ v. map case_view v.items ≡ map (case_of (program_in self.now) (variables_in own.now) bounds.now.domain) (branches cases.now)) }
+        requires boxed { bounds.now.boxes
+            ≡ map (box_in (program_in self.now) (variables_in own.now) bounds.now.domain)
+            (branches cases.now) }
+        ensures { IfOk result (λ v. map case_view v.items
+            ≡ map (case_of (program_in self.now) (variables_in own.now) bounds.now.domain)
+            (branches cases.now)) }
     {
         let mut job_cases = Vec::new(self.alloc);
         for (number, case) in cases.iter().enumerate() {
@@ -77,7 +86,9 @@ impl Resolver<'_> {
         otherwise: &Option<Expr>,
     ) -> Result<Option<Formula>, AllocError>
         requires { ForSome (option_map view otherwise.now) IsRanged }
-        ensures { IfOk result (λ o. option_map formula_view o ≡ option_map (formula_of (program_in self.now) (variables_in own.now)) (option_map view otherwise.now)) }
+        ensures { IfOk result (λ o. option_map formula_view o
+            ≡ option_map (formula_of (program_in self.now) (variables_in own.now))
+            (option_map view otherwise.now)) }
     {
         match otherwise {
             Some(value) => Ok(Some(self.formula(own, value)?)),
@@ -98,16 +109,20 @@ impl Resolver<'_> {
     }
 
     fn plane(&self, image: &Image, name: &Name) -> Result<Stage, AllocError>
-        requires { HasBounds (program_in self.now) self.now.found.now name.now (IsPlaneBounds (program_in self.now) image.now) }
-        ensures { IfOk result (λ s. stage_view s ≡ plane_stage (program_in self.now) image.now name.now) }
+        requires { HasBounds (program_in self.now) self.now.found.now name.now
+            (IsPlaneBounds (program_in self.now) image.now) }
+        ensures { IfOk result
+            (λ s. stage_view s ≡ plane_stage (program_in self.now) image.now name.now) }
     {
         let plane = self.plane_number(name)?;
         Ok(self.stage(name, self.bounds(name), Body::Plane(plane)))
     }
 
     fn function(&self, func: &Func) -> Result<Stage, AllocError>
-        requires { IsReady (program_in self.now) self.now.found.now (function (function_of func.now)) }
-        ensures { IfOk result (λ s. stage_view s ≡ function_stage (program_in self.now) (function_of func.now)) }
+        requires { IsReady (program_in self.now) self.now.found.now
+            (function (function_of func.now)) }
+        ensures { IfOk result
+            (λ s. stage_view s ≡ function_stage (program_in self.now) (function_of func.now)) }
     {
         let own = variables_of(&func.row, &func.column);
         let bounds = self.bounds(&func.name);
@@ -118,8 +133,10 @@ impl Resolver<'_> {
     }
 
     fn accumulator(&self, accum: &Accum) -> Result<Stage, AllocError>
-        requires { IsReady (program_in self.now) self.now.found.now (accumulator (accumulator_of accum.now)) }
-        ensures { IfOk result (λ s. stage_view s ≡ accumulator_stage (program_in self.now) (accumulator_of accum.now)) }
+        requires { IsReady (program_in self.now) self.now.found.now
+            (accumulator (accumulator_of accum.now)) }
+        ensures { IfOk result (λ s. stage_view s
+            ≡ accumulator_stage (program_in self.now) (accumulator_of accum.now)) }
     {
         let own = variables_of(&accum.row, &accum.column);
         let bounds = self.bounds(&accum.name);
@@ -131,7 +148,9 @@ impl Resolver<'_> {
 
     fn add_planes(&self, stages: &mut Vec<Stage>, image: &Image) -> Result<(), AllocError>
         requires { HavePlanes (program_in self.now) self.now.found.now image.now image.now.names }
-        ensures { OnOk result (map stage_view stages.new.items ≡ map stage_view stages.old.items ++ map (plane_stage (program_in self.now) image.now) (names_in image.now.names)) }
+        ensures { OnOk result (map stage_view stages.new.items
+            ≡ map stage_view stages.old.items
+            ++ map (plane_stage (program_in self.now) image.now) (names_in image.now.names)) }
     {
         match &image.names {
             Names::One(name) => {
@@ -148,7 +167,9 @@ impl Resolver<'_> {
 
     fn add_item(&self, stages: &mut Vec<Stage>, item: &Item) -> Result<(), AllocError>
         requires { IsReady (program_in self.now) self.now.found.now (declaration item.now) }
-        ensures { OnOk result (map stage_view stages.new.items ≡ map stage_view stages.old.items ++ item_stages (program_in self.now) (declaration item.now)) }
+        ensures { OnOk result (map stage_view stages.new.items
+            ≡ map stage_view stages.old.items
+            ++ item_stages (program_in self.now) (declaration item.now)) }
     {
         match item {
             Item::Image(image) => self.add_planes(stages, image)?,
@@ -162,7 +183,8 @@ impl Resolver<'_> {
     /// The stages of all items, in the order of the text.
     pub fn stages(&self, items: &[Item]) -> Result<Vec<Stage>, AllocError>
         requires { AreReady (program_in self.now) self.now.found.now (declarations items.now) }
-        ensures { IfOk result (λ v. map stage_view v.items ≡ flat_map (item_stages (program_in self.now)) (declarations items.now)) }
+        ensures { IfOk result (λ v. map stage_view v.items
+            ≡ flat_map (item_stages (program_in self.now)) (declarations items.now)) }
     {
         let mut stages = Vec::new(self.alloc);
         for item in items {

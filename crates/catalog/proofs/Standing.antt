@@ -12,7 +12,8 @@ use Rattle.catalog.specs.Refusals.{IsNew, IsAdmitted}
 pub same_entry : (a b : Job) → pipeline_in a ≡ pipeline_in b → program_text_in a ≡ program_text_in b → entry_of a ≡ entry_of b
 same_entry a b p t i = record { text = t i; pipeline = p i }
 
-pub entry_at : (jobs : List Job) (n i : ℕ) (job : Job) → n ≡ length jobs → i < n → job ≡ get_or jobs i job → slice_get (map entry_of jobs) i ≡ Some (entry_of job)
+pub entry_at : (jobs : List Job) (n i : ℕ) (job : Job) → n ≡ length jobs → i < n → job ≡ get_or jobs i job
+    → slice_get (map entry_of jobs) i ≡ Some (entry_of job)
 entry_at jobs n i job e h is = slice_get-map entry_of jobs i ∙ ap (option_map entry_of) (slice_get_read jobs n i job e h is)
 
 -- ---- a loop over the places
@@ -27,13 +28,15 @@ none_more entries ids i entry there other before k h at = by_place (cases_lt k i
         let same : k ≡ i = omega arith in
         other (subst (λ (e : Entry). ids_of e ≡ ids) (same_Some at.0 entry (sym at.1 ∙ ap (slice_get entries) same ∙ there)) at.2)
 
-pub none_at_all : (entries : List Entry) (ids : Ids) (n : ℕ) → length entries ≤ n → ((k : ℕ) → k < n → ¬ (StandsAt entries ids k)) → (k : ℕ) → ¬ (StandsAt entries ids k)
+pub none_at_all : (entries : List Entry) (ids : Ids) (n : ℕ) → length entries ≤ n → ((k : ℕ) → k < n → ¬ (StandsAt entries ids k)) → (k : ℕ)
+    → ¬ (StandsAt entries ids k)
 none_at_all entries ids n few none k at =
     let within = slice_get_within entries k at.0 at.1 in none k (omega (arith, few, within)) at
 
 -- ---- one job more
 
-place_of : (xs : List Entry) (y : Entry) (i : ℕ) (x : Entry) → slice_get (xs ++ y ∷ []) i ≡ Some x → (slice_get xs i ≡ Some x) ⊎ ((i ≡ length xs) × (x ≡ y))
+place_of : (xs : List Entry) (y : Entry) (i : ℕ) (x : Entry) → slice_get (xs ++ y ∷ []) i ≡ Some x
+    → (slice_get xs i ≡ Some x) ⊎ ((i ≡ length xs) × (x ≡ y))
 place_of [] y zero x e = inr (refl, sym (same_Some y x e))
 place_of [] y (suc i) x e = absurd (none-some x e)
 place_of (z ∷ zs) y zero x e = inl e
@@ -43,7 +46,8 @@ place_of (z ∷ zs) y (suc i) x e = later (place_of zs y i x e)
     later (inl at) = inl at
     later (inr last) = inr (ap suc last.0, last.1)
 
-one_place : (xs : List Entry) (y : Entry) → IsCatalog xs → IsNew xs y → (ids : Ids) (i j : ℕ) → (a : StandsAt (xs ++ y ∷ []) ids i) (b : StandsAt (xs ++ y ∷ []) ids j)
+one_place : (xs : List Entry) (y : Entry) → IsCatalog xs → IsNew xs y → (ids : Ids) (i j : ℕ)
+    → (a : StandsAt (xs ++ y ∷ []) ids i) (b : StandsAt (xs ++ y ∷ []) ids j)
     → (slice_get xs i ≡ Some a.0) ⊎ ((i ≡ length xs) × (a.0 ≡ y)) → (slice_get xs j ≡ Some b.0) ⊎ ((j ≡ length xs) × (b.0 ≡ y)) → i ≡ j
 one_place xs y c new ids i j a b (inl p) (inl q) = c.apart ids i j (a.0, p, a.2) (b.0, q, b.2)
 one_place xs y c new ids i j a b (inl p) (inr q) = absurd (new i (a.0, p, a.2 ∙ sym b.2 ∙ ap ids_of q.1))

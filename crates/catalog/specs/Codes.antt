@@ -100,7 +100,8 @@ gathered-append [] ys fs = refl
 gathered-append (inl x ∷ xs) ys fs = gathered-append xs ys (leaf x ∷ fs)
 gathered-append (inr op ∷ xs) ys fs = gathered-append xs ys (made op fs)
 
-both : (a : Formula) (ys : List Step) (fs : List Formula) → gathered (spelled a) fs ≡ a ∷ fs → gathered (spelled a ++ ys) fs ≡ gathered ys (a ∷ fs)
+both : (a : Formula) (ys : List Step) (fs : List Formula) → gathered (spelled a) fs ≡ a ∷ fs
+    → gathered (spelled a ++ ys) fs ≡ gathered ys (a ∷ fs)
 both a ys fs e = gathered-append (spelled a) ys fs ∙ ap (gathered ys) e
 
 all_back : (f : Formula) (fs : List Formula) → gathered (spelled f) fs ≡ f ∷ fs

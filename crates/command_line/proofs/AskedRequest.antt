@@ -29,25 +29,31 @@ abbrev rows_in : Option (Bor Text × Bor ArgMatches) → Option (List Row)
 rows_in = option_map (λ p. rows_of (found_of p.1.now))
 
 -- the rows of the command that was entered
-pub entered : (words : List (String Global)) (app : App) (m : ArgMatches) (p q : Option (Bor Text × Bor ArgMatches)) → app ≡ usage → HasMatchesOf app (texts words) m
-    → rows_in p ≡ option_map (λ p. p.1) (subcommand_rows_of m) → p ≡ q → option_map (λ p. p.1) (subcommand_of usage (texts words)) ≡ rows_in q
+pub entered : (words : List (String Global)) (app : App) (m : ArgMatches) (p q : Option (Bor Text × Bor ArgMatches)) → app ≡ usage
+    → HasMatchesOf app (texts words) m
+    → rows_in p ≡ option_map (λ p. p.1) (subcommand_rows_of m) → p ≡ q
+    → option_map (λ p. p.1) (subcommand_of usage (texts words)) ≡ rows_in q
 entered words app m p q is matches rows same =
     let found = subst (λ (a : App). HasMatchesOf a (texts words) m) is matches usage_is_simple in
     ap (option_map (λ p. p.1)) (sym found.1) ∙ sym rows ∙ ap rows_in same
 
 -- words that are parsed are a command line of the usage text
-pub accepted : (words : List (String Global)) (app : App) (m : ArgMatches) → app ≡ usage → (is_simple_and_free app ≡ true → FailsBy {T = ArgMatches} (fault_of app (texts words)) (Ok m))
+pub accepted : (words : List (String Global)) (app : App) (m : ArgMatches) → app ≡ usage
+    → (is_simple_and_free app ≡ true → FailsBy {T = ArgMatches} (fault_of app (texts words)) (Ok m))
     → fault_of usage (texts words) ≡ []
-accepted words app m is fails = subst (λ (a : App). is_simple_and_free a ≡ true → FailsBy {T = ArgMatches} (fault_of a (texts words)) (Ok m)) is fails usage_is_free
+accepted words app m is fails =
+    subst (λ (a : App). is_simple_and_free a ≡ true → FailsBy {T = ArgMatches} (fault_of a (texts words)) (Ok m)) is fails usage_is_free
 
 none_among : (k : ErrorKind) (kinds : Kinds) → kinds ≡ [] → IsAmong k kinds → ⊥
 none_among k kinds empty among = subst (λ (ks : Kinds). IsAmong k ks) empty among
 
 -- words that are refused are none
-pub refused : (words : List (String Global)) (app : App) (e : Error) → app ≡ usage → (is_simple_and_free app ≡ true → FailsBy {T = ArgMatches} (fault_of app (texts words)) (Err e))
+pub refused : (words : List (String Global)) (app : App) (e : Error) → app ≡ usage
+    → (is_simple_and_free app ≡ true → FailsBy {T = ArgMatches} (fault_of app (texts words)) (Err e))
     → kind_of e ≢ OutOfMemory → (request : Request) → ¬ IsRequestOf words request
 refused words app e is fails kind request asked =
-    elim (subst (λ (a : App). is_simple_and_free a ≡ true → FailsBy {T = ArgMatches} (fault_of a (texts words)) (Err e)) is fails usage_is_free) [
+    elim (subst (λ (a : App). is_simple_and_free a ≡ true → FailsBy {T = ArgMatches} (fault_of a (texts words)) (Err e)) is fails
+    usage_is_free) [
       | inl memory ↦ kind memory
       | inr among ↦ none_among (kind_of e) (fault_of usage (texts words)) asked.accepted among
     ]

@@ -24,9 +24,11 @@ pub no_sides : (rows : List Row) (h w : ℕ) → IsChosen (first_of (codes "rows
 no_sides rows h w height width none options are =
     let same_h = chosen_once (first_of (codes "rows") rows) 64 options.sides.height h are.height height in
     let same_w = chosen_once (first_of (codes "cols") rows) 64 options.sides.width w are.width width in
-    none (subst (λ (n : ℕ). IsSides (record { height = h; width = n })) same_w (subst (λ (n : ℕ). IsSides (record { height = n; width = options.sides.width })) same_h are.sides))
+    none (subst (λ (n : ℕ). IsSides (record { height = h; width = n })) same_w
+    (subst (λ (n : ℕ). IsSides (record { height = n; width = options.sides.width })) same_h are.sides))
 
-pub no_percent : (rows : List Row) (p : ℕ) → IsChosen (first_of (codes "percent") rows) 40 p → 10000 < p → (options : Options) → ¬ AreOptions rows options
+pub no_percent : (rows : List Row) (p : ℕ) → IsChosen (first_of (codes "percent") rows) 40 p → 10000 < p → (options : Options)
+    → ¬ AreOptions rows options
 no_percent rows p chosen over options are =
     let same = chosen_once (first_of (codes "percent") rows) 40 options.percent p are.percent chosen in
     let most = are.most in

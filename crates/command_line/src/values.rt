@@ -6,7 +6,8 @@ ghost use Rattle.command_line.specs.Values.{IsChosen, SpellsNumber, SpellsParame
 /// The number that an option was given, or the usual one where it was given none.
 pub fn number_of(given: Option<&str>, usual: u32) -> Option<u32>
     ensures some { IfSome result (IsChosen (option_map (λ t. t.now) given.entry) usual) }
-    ensures none { IfNone result ((n : ℕ) → ¬ IsChosen (option_map (λ t. t.now) given.entry) usual n) }
+    ensures none { IfNone result
+        ((n : ℕ) → ¬ IsChosen (option_map (λ t. t.now) given.entry) usual n) }
 {
     match given {
         Some(digits) => number(digits),

@@ -122,7 +122,8 @@ fn options_of(given: &ArgMatches) -> Option<Options>
 
 /// The number of the option of this name.
 fn number_in(given: &ArgMatches, name: &str, usual: u32) -> Option<u32>
-    ensures some { IfSome result (IsChosen (first_of name.now (rows_of (found_of given.now))) usual) }
+    ensures some { IfSome result
+        (IsChosen (first_of name.now (rows_of (found_of given.now))) usual) }
     ensures none { IfNone result ((n : ℕ)
         → ¬ IsChosen (first_of name.now (rows_of (found_of given.now))) usual n) }
 {
@@ -138,7 +139,8 @@ fn flag_in(given: &ArgMatches, name: &str) -> bool
 
 /// The values that parameters are given.
 fn parameters_of(alloc: Global, given: &ArgMatches) -> Result<Vec<(String, i32)>, Refusal>
-    ensures some { IfOk result (λ parameters. AreParametersIn (rows_of (found_of given.now)) parameters.items) }
+    ensures some { IfOk result
+        (λ parameters. AreParametersIn (rows_of (found_of given.now)) parameters.items) }
     ensures usage { IfErr result (λ refusal. refusal ≡ refusals.Usage
         → (parameters : List Given) → ¬ AreParametersIn (rows_of (found_of given.now)) parameters) }
 {
@@ -150,7 +152,8 @@ fn parameters_of(alloc: Global, given: &ArgMatches) -> Result<Vec<(String, i32)>
 
 /// The values that the words give to parameters, one each.
 fn parameters_among(alloc: Global, words: &[&str]) -> Result<Vec<(String, i32)>, Refusal>
-    ensures some { IfOk result (λ parameters. AreParameters (map (λ w. w.now) words.now) parameters.items) }
+    ensures some { IfOk result
+        (λ parameters. AreParameters (map (λ w. w.now) words.now) parameters.items) }
     ensures usage { IfErr result (λ refusal. refusal ≡ refusals.Usage
         → (parameters : List Given) → ¬ AreParameters (map (λ w. w.now) words.now) parameters) }
 {

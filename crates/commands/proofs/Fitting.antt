@@ -12,10 +12,12 @@ use Rattle.tile_run.specs.declared.room.Work.{Work}
 use Rattle.tile_run.specs.Work.{wanted_by, first_too_big, IsRunFault}
 use Rattle.tile_run.proofs.FirstTooBig.{fits_none}
 
-pub never_too_big : (program : List ℕ) (job : Pipeline) (s : Inlining) (work : Work) (key : Key) (fault : RunFault) → IsScheduleOf job s → AllFitScratch job s.inlining → fault ≡ ScratchTooBig key
+pub never_too_big : (program : List ℕ) (job : Pipeline) (s : Inlining) (work : Work) (key : Key) (fault : RunFault) → IsScheduleOf job s
+    → AllFitScratch job s.inlining → fault ≡ ScratchTooBig key
     → IsRunFault program job s.inlining (wanted_by job s.inlining work) fault → ⊥
 never_too_big program job s work key fault is fit same told =
     let fitting : Inlining = record s { fits = true } in
     let schedule : IsScheduleOf job fitting = record { inlining = is.inlining; costs = is.costs; fits = λ e. fit } in
     let none : first_too_big job s.inlining (wanted_by job s.inlining work) ≡ None = fits_none job fitting work schedule refl in
-    none-some key (sym (ap (option_map (key_of program job)) none) ∙ subst (IsRunFault program job s.inlining (wanted_by job s.inlining work)) same told)
+    none-some key (sym (ap (option_map (key_of program job)) none)
+    ∙ subst (IsRunFault program job s.inlining (wanted_by job s.inlining work)) same told)

@@ -11,13 +11,19 @@ range_more_from a (suc n) =
     ap (λ xs. a ∷ xs) (range_more_from (a + 1) n ∙ ap (λ x. range_with_len (a + 1) n ++ x ∷ []) e)
 
 range_more : (n : ℕ) → range_with_len 0 (n + 1) ≡ range_with_len 0 n ++ n ∷ []
-range_more n = let e : n + 1 ≡ suc n = omega arith in let z : 0 + n ≡ n = omega arith in ap (range_with_len 0) e ∙ range_more_from 0 n ∙ ap (λ x. range_with_len 0 n ++ x ∷ []) z
+range_more n =
+    let e : n + 1 ≡ suc n = omega arith in
+    let z : 0 + n ≡ n = omega arith in ap (range_with_len 0) e ∙ range_more_from 0 n ∙ ap (λ x. range_with_len 0 n ++ x ∷ []) z
 
 along_more : {A : Type 0} (f : ℕ → List A) (n : ℕ) → flat_map f (range_with_len 0 (n + 1)) ≡ flat_map f (range_with_len 0 n) ++ f n
-along_more f n = ap (flat_map f) (range_more n) ∙ flat_map-append f (range_with_len 0 n) (n ∷ []) ∙ ap (λ xs. flat_map f (range_with_len 0 n) ++ xs) (append-nil (f n))
+along_more f n =
+    ap (flat_map f) (range_more n) ∙ flat_map-append f (range_with_len 0 n) (n ∷ [])
+    ∙ ap (λ xs. flat_map f (range_with_len 0 n) ++ xs) (append-nil (f n))
 
 -- what stands for the next number is put behind
-pub put_more : {A : Type 0} (f : ℕ → List A) (n : ℕ) (before now next : List A) → now ≡ before ++ flat_map f (range_with_len 0 n) → next ≡ now ++ f n
+pub put_more : {A : Type 0} (f : ℕ → List A) (n : ℕ) (before now next : List A) → now ≡ before ++ flat_map f (range_with_len 0 n)
+    → next ≡ now ++ f n
     → next ≡ before ++ flat_map f (range_with_len 0 (n + 1))
 put_more f n before now next was is =
-    is ∙ ap (λ xs. xs ++ f n) was ∙ append_assoc before (flat_map f (range_with_len 0 n)) (f n) ∙ ap (λ xs. before ++ xs) (sym (along_more f n))
+    is ∙ ap (λ xs. xs ++ f n) was ∙ append_assoc before (flat_map f (range_with_len 0 n)) (f n)
+    ∙ ap (λ xs. before ++ xs) (sym (along_more f n))

@@ -16,23 +16,30 @@ use Rattle.inputs.specs.Input.{IsReadJob}
 
 -- ---- one part behind the other
 
-pub cut_in_front : {X E : Type 0} (r : Result X E) (a b : Option (List ℕ)) (front back : List ℕ) → AppendsPart a b front → OnErr r (AppendsPart a b (front ++ back))
+pub cut_in_front : {X E : Type 0} (r : Result X E) (a b : Option (List ℕ)) (front back : List ℕ) → AppendsPart a b front
+    → OnErr r (AppendsPart a b (front ++ back))
 cut_in_front (Ok x) a b front back part = tt
 cut_in_front (Err e) a b front back part = AppendsPart-front a b front back (front ++ back) part refl
 
 -- bytes are what is written behind
-pub all_behind : {X E : Type 0} (r : Result X E) (a b c : Option (List ℕ)) (front back bytes : List ℕ) → bytes ≡ back → Appends a b front → OnOk r (Appends b c bytes) → OnOk r (Appends a c (front ++ back))
-all_behind (Ok x) a b c front back bytes same before all = subst (λ (bs : List ℕ). Appends a c (front ++ bs)) same (Appends-trans a b c front bytes before all)
+pub all_behind : {X E : Type 0} (r : Result X E) (a b c : Option (List ℕ)) (front back bytes : List ℕ) → bytes ≡ back → Appends a b front
+    → OnOk r (Appends b c bytes) → OnOk r (Appends a c (front ++ back))
+all_behind (Ok x) a b c front back bytes same before all =
+    subst (λ (bs : List ℕ). Appends a c (front ++ bs)) same (Appends-trans a b c front bytes before all)
 all_behind (Err e) a b c front back bytes same before all = tt
 
-pub cut_behind : {X E : Type 0} (r : Result X E) (a b c : Option (List ℕ)) (front back bytes : List ℕ) → bytes ≡ back → Appends a b front → OnErr r (AppendsPart b c bytes) → OnErr r (AppendsPart a c (front ++ back))
+pub cut_behind : {X E : Type 0} (r : Result X E) (a b c : Option (List ℕ)) (front back bytes : List ℕ) → bytes ≡ back → Appends a b front
+    → OnErr r (AppendsPart b c bytes) → OnErr r (AppendsPart a c (front ++ back))
 cut_behind (Ok x) a b c front back bytes same before part = tt
 cut_behind (Err e) a b c front back bytes same before part =
-    subst (λ (bs : List ℕ). AppendsPart a c (front ++ bs)) same (AppendsPart-next a b c front bytes [] (front ++ bytes) before part (sym (append-nil (front ++ bytes))))
+    subst (λ (bs : List ℕ). AppendsPart a c (front ++ bs)) same
+    (AppendsPart-next a b c front bytes [] (front ++ bytes) before part (sym (append-nil (front ++ bytes))))
 
 -- ---- what is written
 
 -- what a command says of the job that it read
-pub said_of : (Says : Saying) (input : List ℕ) (given : List Given) (sides : Sides) (job : Job) (bytes : List ℕ) (read : IsReadJob input given sides job) → IsJob (pipeline_in job)
+pub said_of : (Says : Saying) (input : List ℕ) (given : List Given) (sides : Sides) (job : Job) (bytes : List ℕ)
+    (read : IsReadJob input given sides job) → IsJob (pipeline_in job)
     → Says read.tree (pipeline_in job) bytes → IsSaid Says input given sides bytes
-said_of Says input given sides job bytes read is says = record { tree = read.tree; job = pipeline_in job; is_job = is; of_input = read.of_input; says = says }
+said_of Says input given sides job bytes read is says =
+    record { tree = read.tree; job = pipeline_in job; is_job = is; of_input = read.of_input; says = says }

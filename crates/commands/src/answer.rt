@@ -63,8 +63,10 @@ fn run(
 ) -> Result<Stored, AllocError>
     requires schedule { IsScheduleOf (pipeline_in job.now) schedule.now }
     requires fit { AllFitScratch (pipeline_in job.now) schedule.now.inlining }
-    ensures all { IfOk result (λ stored. GivesAllTiles (pipeline_in job.now) schedule.now.inlining (stored_tiles stored.stages.items)) }
-    ensures values { IfOk result (λ stored. AreTrue (pipeline_in job.now) (stored_tiles stored.stages.items)) }
+    ensures all { IfOk result (λ stored. GivesAllTiles (pipeline_in job.now) schedule.now.inlining
+        (stored_tiles stored.stages.items)) }
+    ensures values { IfOk result
+        (λ stored. AreTrue (pipeline_in job.now) (stored_tiles stored.stages.items)) }
 {
     match run_all(rt, alloc, job, schedule) {
         Ok(stored) => Ok(stored),

@@ -83,13 +83,17 @@ fn run_request<H: AllocGlobal + Threads + Sync, R: Source, W: Sink>(
     writer: &mut W,
 ) -> u8
     ensures done { result ≡ 0 → (W.failures writer.new ≡ W.failures writer.old)
-        × HasSaid request.now (R.remaining reader.old) (W.contents writer.old) (W.contents writer.new) }
+        × HasSaid request.now (R.remaining reader.old) (W.contents writer.old)
+        (W.contents writer.new) }
     ensures usage { result ≡ 1 → HasTold 1 request.now (R.remaining reader.old)
-        (W.contents writer.old) (W.contents writer.new) (W.failures writer.old) (W.failures writer.new) }
+        (W.contents writer.old) (W.contents writer.new) (W.failures writer.old)
+        (W.failures writer.new) }
     ensures unreadable { result ≡ 2 → HasTold 2 request.now (R.remaining reader.old)
-        (W.contents writer.old) (W.contents writer.new) (W.failures writer.old) (W.failures writer.new) }
+        (W.contents writer.old) (W.contents writer.new) (W.failures writer.old)
+        (W.failures writer.new) }
     ensures refused { result ≡ 3 → HasTold 3 request.now (R.remaining reader.old)
-        (W.contents writer.old) (W.contents writer.new) (W.failures writer.old) (W.failures writer.new) }
+        (W.contents writer.old) (W.contents writer.new) (W.failures writer.old)
+        (W.failures writer.new) }
     ensures failed { result ≡ 4 →
         ((R.failures reader.new ≡ one_more (R.failures reader.old))
         × Puts (line_of Read) (W.contents writer.old) (W.contents writer.new)
@@ -120,7 +124,8 @@ fn perform<H: AllocGlobal + Threads + Sync, R: Source, W: Sink>(
     writer: &mut W,
 ) -> Result<(), StreamFault>
     ensures written { let asked = request.now in
-        Writes (saying_by asked) (R.remaining reader.old) asked.parameters.items asked.options.sides result
+        Writes (saying_by asked) (R.remaining reader.old) asked.parameters.items asked.options.sides
+        result
         (W.contents writer.old) (W.contents writer.new) }
     ensures read { CountsRead result (R.failures reader.old) (R.failures reader.new) }
     ensures write { CountsWritten result (W.failures writer.old) (W.failures writer.new) }

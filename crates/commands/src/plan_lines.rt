@@ -14,7 +14,8 @@ use std::alloc::{AllocError, Global};
 /// A line for each function and each accumulator, in the order of the stages.
 pub fn plan_lines(alloc: Global, job: &Job, schedule: &Schedule) -> Result<Vec<u8>, AllocError>
     requires { IsScheduleOf (pipeline_in job.now) schedule.now }
-    ensures { IfOk result (λ lines. lines.items ≡ plan_bytes (pipeline_in job.now) schedule.now.inlining) }
+    ensures { IfOk result
+        (λ lines. lines.items ≡ plan_bytes (pipeline_in job.now) schedule.now.inlining) }
 {
     let mut lines = Vec::new(alloc);
     for number in 0..job.stages().len() {
@@ -33,7 +34,8 @@ fn put_plan(
 ) -> Result<(), AllocError>
     requires schedule { IsScheduleOf (pipeline_in job.now) schedule.now }
     requires there { number < length (pipeline_in job.now).stages }
-    ensures { OnOk result (lines.new.items ≡ lines.old.items ++ plan_line_at (pipeline_in job.now) schedule.now.inlining number) }
+    ensures { OnOk result (lines.new.items
+        ≡ lines.old.items ++ plan_line_at (pipeline_in job.now) schedule.now.inlining number) }
 {
     match (job.kind(number), job.name(number)) {
         (Some(StageKind::Function | StageKind::Accumulator), Some(name)) => {

@@ -37,8 +37,10 @@ impl Reply {
 
 /// Writes the raw spelling of the picture, if there is one, and the lines behind it. It takes no memory.
 pub fn write_reply<W: Sink>(reply: &Reply, writer: &mut W) -> Result<(), StreamFault>
-    ensures ok { OnOk result (Appends (W.contents writer.old) (W.contents writer.new) (reply_bytes reply.now)) }
-    ensures part { OnErr result (AppendsPart (W.contents writer.old) (W.contents writer.new) (reply_bytes reply.now)) }
+    ensures ok { OnOk result
+        (Appends (W.contents writer.old) (W.contents writer.new) (reply_bytes reply.now)) }
+    ensures part { OnErr result
+        (AppendsPart (W.contents writer.old) (W.contents writer.new) (reply_bytes reply.now)) }
     ensures fault { IfErr result (λ fault. fault ≡ Write) }
     ensures write { CountsWritten result (W.failures writer.old) (W.failures writer.new) }
 {
@@ -49,8 +51,10 @@ pub fn write_reply<W: Sink>(reply: &Reply, writer: &mut W) -> Result<(), StreamF
 }
 
 fn write_parts<W: Sink>(reply: &Reply, writer: &mut W) -> Result<(), WriteFailed>
-    ensures ok { OnOk result (Appends (W.contents writer.old) (W.contents writer.new) (reply_bytes reply.now)) }
-    ensures part { OnErr result (AppendsPart (W.contents writer.old) (W.contents writer.new) (reply_bytes reply.now)) }
+    ensures ok { OnOk result
+        (Appends (W.contents writer.old) (W.contents writer.new) (reply_bytes reply.now)) }
+    ensures part { OnErr result
+        (AppendsPart (W.contents writer.old) (W.contents writer.new) (reply_bytes reply.now)) }
     ensures failed { CountsFailure result (W.failures writer.old) (W.failures writer.new) }
 {
     write_picture(&reply.picture, writer)?;
@@ -58,8 +62,10 @@ fn write_parts<W: Sink>(reply: &Reply, writer: &mut W) -> Result<(), WriteFailed
 }
 
 fn write_picture<W: Sink>(picture: &Option<Picture>, writer: &mut W) -> Result<(), WriteFailed>
-    ensures ok { OnOk result (Appends (W.contents writer.old) (W.contents writer.new) (option_map_or spelling picture.now [])) }
-    ensures part { OnErr result (AppendsPart (W.contents writer.old) (W.contents writer.new) (option_map_or spelling picture.now [])) }
+    ensures ok { OnOk result (Appends (W.contents writer.old) (W.contents writer.new)
+        (option_map_or spelling picture.now [])) }
+    ensures part { OnErr result (AppendsPart (W.contents writer.old) (W.contents writer.new)
+        (option_map_or spelling picture.now [])) }
     ensures failed { CountsFailure result (W.failures writer.old) (W.failures writer.new) }
 {
     match picture {

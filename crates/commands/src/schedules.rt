@@ -14,7 +14,8 @@ use std::alloc::{AllocError, Global};
 pub fn schedule_of(alloc: Global, job: &Job, options: &Options) -> Result<Schedule, AllocError>
     ensures schedule { IfOk result (IsScheduleOf (pipeline_in job.now)) }
     ensures fits { IfOk result (λ s. AllFitScratch (pipeline_in job.now) s.inlining) }
-    ensures inlining { IfOk result (λ s. s.inlining ≡ inlining_asked options.now.stored options.now.percent (pipeline_in job.now)) }
+    ensures inlining { IfOk result (λ s. s.inlining
+        ≡ inlining_asked options.now.stored options.now.percent (pipeline_in job.now)) }
 {
     if options.stored {
         Schedule::stored(alloc, job)

@@ -12,7 +12,8 @@ use std::alloc::{AllocError, Global};
 
 /// A line for the program's identity, one for that of what it is given, and one for each stage.
 pub fn check_lines(alloc: Global, job: &Job) -> Result<Vec<u8>, AllocError>
-    ensures { IfOk result (λ lines. lines.items ≡ check_bytes (program_text_in job.now) (pipeline_in job.now)) }
+    ensures { IfOk result
+        (λ lines. lines.items ≡ check_bytes (program_text_in job.now) (pipeline_in job.now)) }
 {
     let mut lines = Vec::new(alloc);
     put_identity(alloc, &mut lines, b"program", job.program_id().as_bytes())?;
@@ -50,7 +51,8 @@ fn put_stages(alloc: Global, lines: &mut Vec<u8>, job: &Job) -> Result<(), Alloc
 
 /// The line of the stage of this number, if there is one.
 fn put_stage(alloc: Global, lines: &mut Vec<u8>, job: &Job, number: usize) -> Result<(), AllocError>
-    ensures { OnOk result (lines.new.items ≡ lines.old.items ++ stage_line_at (pipeline_in job.now) number) }
+    ensures { OnOk result
+        (lines.new.items ≡ lines.old.items ++ stage_line_at (pipeline_in job.now) number) }
 {
     match job.stage(number) {
         Some(stage) => {
@@ -68,7 +70,8 @@ fn put_head(
     number: usize,
     stage: &Stage,
 ) -> Result<(), AllocError>
-    ensures { OnOk result (lines.new.items ≡ lines.old.items ++ stage_head number (stage_view stage.now)) }
+    ensures { OnOk result
+        (lines.new.items ≡ lines.old.items ++ stage_head number (stage_view stage.now)) }
 {
     let text = format!(in alloc; "stage {number} ")?;
     lines.extend_from_slice(text.as_bytes())?;

@@ -27,7 +27,8 @@ pub fn task_reply(
     job: &Job,
 ) -> Result<Reply, AllocError>
     ensures { IfOk result (λ reply. (tree : List Declaration) → program_text_in job.now ≡ canonical tree
-        → saying_of task options.now.stored options.now.percent tree (pipeline_in job.now) (reply_bytes reply)) }
+        → saying_of task options.now.stored options.now.percent tree (pipeline_in job.now)
+        (reply_bytes reply)) }
 {
     match task {
         Task::Eval => evaluate(rt, alloc, job, options),
@@ -39,7 +40,8 @@ pub fn task_reply(
 /// The lines of the schedule that the options ask for.
 fn planned_lines(alloc: Global, options: &Options, job: &Job) -> Result<Vec<u8>, AllocError>
     ensures { let job = pipeline_in job.now in
-        IfOk result (λ lines. IsPlan job (inlining_asked options.now.stored options.now.percent job) lines.items) }
+        IfOk result (λ lines. IsPlan job (inlining_asked options.now.stored options.now.percent job)
+        lines.items) }
 {
     let schedule = schedule_of(alloc, job, options)?;
     plan_lines(alloc, job, &schedule)

@@ -30,7 +30,8 @@ pub fn check_stream<H: AllocGlobal + Threads + Sync, R: Source, W: Sink>(
 ) -> Result<(), StreamFault>
     // At `Ok` the writer took all lines, and where it failed a part of them. Any other fault has written
     // nothing, and is the first fault of the input and the parameters.
-    ensures written { Writes SaysCheck (R.remaining reader.old) parameters.now options.now.sides result (W.contents writer.old) (W.contents writer.new) }
+    ensures written { Writes SaysCheck (R.remaining reader.old) parameters.now options.now.sides
+        result (W.contents writer.old) (W.contents writer.new) }
     // A fault of the reader or the writer is answered where it failed, and nowhere else.
     ensures read { CountsRead result (R.failures reader.old) (R.failures reader.new) }
     ensures write { CountsWritten result (W.failures writer.old) (W.failures writer.new) }
@@ -51,7 +52,8 @@ pub fn eval_stream<H: AllocGlobal + Threads + Sync, R: Source, W: Sink>(
 ) -> Result<(), StreamFault>
     // At `Ok` the writer took the bytes of the result, and where it failed a part of them. Any other fault has written
     // nothing, and is the first fault of the input and the parameters.
-    ensures written { Writes SaysResult (R.remaining reader.old) parameters.now options.now.sides result (W.contents writer.old) (W.contents writer.new) }
+    ensures written { Writes SaysResult (R.remaining reader.old) parameters.now options.now.sides
+        result (W.contents writer.old) (W.contents writer.new) }
     // A fault of the reader or the writer is answered where it failed, and nowhere else.
     ensures read { CountsRead result (R.failures reader.old) (R.failures reader.new) }
     ensures write { CountsWritten result (W.failures writer.old) (W.failures writer.new) }
@@ -72,7 +74,9 @@ pub fn plan_stream<H: AllocGlobal + Threads + Sync, R: Source, W: Sink>(
 ) -> Result<(), StreamFault>
     // At `Ok` the writer took all lines, and where it failed a part of them. Any other fault has written
     // nothing, and is the first fault of the input and the parameters.
-    ensures written { Writes (SaysPlan options.now.stored options.now.percent) (R.remaining reader.old) parameters.now options.now.sides result (W.contents writer.old) (W.contents writer.new) }
+    ensures written { Writes (SaysPlan options.now.stored options.now.percent)
+        (R.remaining reader.old) parameters.now options.now.sides result (W.contents writer.old)
+        (W.contents writer.new) }
     // A fault of the reader or the writer is answered where it failed, and nowhere else.
     ensures read { CountsRead result (R.failures reader.old) (R.failures reader.new) }
     ensures write { CountsWritten result (W.failures writer.old) (W.failures writer.new) }
@@ -89,7 +93,9 @@ fn task_stream<H: AllocGlobal + Threads + Sync, R: Source, W: Sink>(
     reader: &mut R,
     writer: &mut W,
 ) -> Result<(), StreamFault>
-    ensures written { Writes (saying_of task options.now.stored options.now.percent) (R.remaining reader.old) parameters.now options.now.sides result (W.contents writer.old) (W.contents writer.new) }
+    ensures written { Writes (saying_of task options.now.stored options.now.percent)
+        (R.remaining reader.old) parameters.now options.now.sides result (W.contents writer.old)
+        (W.contents writer.new) }
     ensures read { CountsRead result (R.failures reader.old) (R.failures reader.new) }
     ensures write { CountsWritten result (W.failures writer.old) (W.failures writer.new) }
 {
@@ -107,7 +113,9 @@ fn input_reply(
     given: &[(String, i32)],
     input: Vec<u8>,
 ) -> Result<Reply, StreamFault>
-    ensures said { IfOk result (λ reply. IsSaid (saying_of task options.now.stored options.now.percent) input.items given.now options.now.sides (reply_bytes reply)) }
+    ensures said { IfOk result (λ reply. IsSaid
+        (saying_of task options.now.stored options.now.percent) input.items given.now
+        options.now.sides (reply_bytes reply)) }
     ensures fault { IfErr result (IsFaultOf input.items given.now options.now.sides) }
 {
     let job = job_of(alloc, options.sides, given, input)?;

@@ -15,7 +15,8 @@ use std::alloc::{AllocError, Global};
 
 /// A line for each total.
 pub fn lines_of(alloc: Global, job: &Job, totals: &[Total]) -> Result<Vec<u8>, AllocError>
-    ensures { IfOk result (λ lines. lines.items ≡ flat_map (λ t. gathered_line (pipeline_in job.now) (gathered t)) totals.now) }
+    ensures { IfOk result (λ lines. lines.items
+        ≡ flat_map (λ t. gathered_line (pipeline_in job.now) (gathered t)) totals.now) }
 {
     let mut lines = Vec::new(alloc);
     for total in totals {
@@ -26,7 +27,8 @@ pub fn lines_of(alloc: Global, job: &Job, totals: &[Total]) -> Result<Vec<u8>, A
 
 /// The line of a total, if its stage is an accumulator.
 fn put_total(alloc: Global, lines: &mut Vec<u8>, job: &Job, total: &Total) -> Result<(), AllocError>
-    ensures { OnOk result (lines.new.items ≡ lines.old.items ++ gathered_line (pipeline_in job.now) (gathered total.now)) }
+    ensures { OnOk result (lines.new.items
+        ≡ lines.old.items ++ gathered_line (pipeline_in job.now) (gathered total.now)) }
 {
     match (job.name(total.stage), job.bins(total.stage)) {
         (Some(name), Some(span)) => put_line(alloc, lines, &name, &span, total.bins.as_slice()),
@@ -42,7 +44,8 @@ fn put_line(
     span: &Span,
     bins: &[i64],
 ) -> Result<(), AllocError>
-    ensures { OnOk result (lines.new.items ≡ lines.old.items ++ total_line name.now span.now bins.now) }
+    ensures { OnOk result
+        (lines.new.items ≡ lines.old.items ++ total_line name.now span.now bins.now) }
 {
     lines.extend_from_slice(name.as_bytes())?;
     put_ends(alloc, lines, span)?;

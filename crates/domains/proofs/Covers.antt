@@ -30,12 +30,15 @@ filter_meeting s side o first last f h =
     ∙ (λ i. range_with_len (from i) (last - from i))
 
 -- the cover is the rows that meet with the columns that meet
-pub cover_is : (g : Grid) (a : Area) (first last left right : ℕ) → AreMeeting g.area.rows g.sides.height a.rows first last → last ≤ tile_rows g → AreMeeting g.area.cols g.sides.width a.cols left right → right ≤ tile_cols g
+pub cover_is : (g : Grid) (a : Area) (first last left right : ℕ) → AreMeeting g.area.rows g.sides.height a.rows first last
+    → last ≤ tile_rows g → AreMeeting g.area.cols g.sides.width a.cols left right → right ≤ tile_cols g
     → pairs (range_with_len first (last - first)) (range_with_len left (right - left)) ≡ cover g a
 unfolding cover
 cover_is g a first last left right rows in_rows cols in_cols =
-    sym (filter-pairs (λ k. spans_meet (part_of g.area.rows g.sides.height k) a.rows) (λ k. spans_meet (part_of g.area.cols g.sides.width k) a.cols) (range_with_len 0 (tile_rows g)) (range_with_len 0 (tile_cols g))
-    ∙ (λ i. pairs (filter_meeting g.area.rows g.sides.height a.rows first last rows in_rows i) (filter_meeting g.area.cols g.sides.width a.cols left right cols in_cols i)))
+    sym (filter-pairs (λ k. spans_meet (part_of g.area.rows g.sides.height k) a.rows)
+    (λ k. spans_meet (part_of g.area.cols g.sides.width k) a.cols) (range_with_len 0 (tile_rows g)) (range_with_len 0 (tile_cols g))
+    ∙ (λ i. pairs (filter_meeting g.area.rows g.sides.height a.rows first last rows in_rows i)
+    (filter_meeting g.area.cols g.sides.width a.cols left right cols in_cols i)))
 
 -- a list of all tiles has exactly the tiles that are there
 pub Contains-tiles_of : (g : Grid) (i j : ℕ) → Contains (tiles_of g) (i, j) ↔ HasTile g i j
@@ -48,11 +51,13 @@ Contains-tiles_of g i j = (
       (omega arith, omega arith)),
   (λ h.
       let row = h.0 in let col = h.1 in
-      Contains-pairs (range_with_len 0 (tile_rows g)) (range_with_len 0 (tile_cols g)) i j (Contains-range 0 (tile_rows g) i (omega arith) (omega arith)) (Contains-range 0 (tile_cols g) j (omega arith) (omega arith))),
+      Contains-pairs (range_with_len 0 (tile_rows g)) (range_with_len 0 (tile_cols g)) i j
+      (Contains-range 0 (tile_rows g) i (omega arith) (omega arith)) (Contains-range 0 (tile_cols g) j (omega arith) (omega arith))),
 )
 
 -- the cover has exactly the tiles that have a point in common with the area
-pub cover_exact : (g : Grid) (a : Area) → IsArea g.area → IsArea a → IsSides g.sides → (i j : ℕ) → Contains (cover g a) (i, j) ↔ MeetsTile g a i j
+pub cover_exact : (g : Grid) (a : Area) → IsArea g.area → IsArea a → IsSides g.sides → (i j : ℕ) → Contains (cover g a) (i, j)
+    ↔ MeetsTile g a i j
 unfolding cover
 cover_exact g a ga aa sides i j = (to, from)
   where
@@ -61,8 +66,12 @@ cover_exact g a ga aa sides i j = (to, from)
         let kept = Contains-from_filter (λ t. areas_meet (tile_area g t.0 t.1) a) (tiles_of g) (i, j) h in
         let there = (Contains-tiles_of g i j).0 kept.0 in
         let both = and_parts (spans_meet (tile_area g i j).rows a.rows) (spans_meet (tile_area g i j).cols a.cols) kept.1 in
-        let row = common_number (tile_area g i j).rows a.rows (part_fits g.area.rows g.sides.height i ga.rows sides.height_least there.0).ordered aa.rows.ordered both.0 in
-        let col = common_number (tile_area g i j).cols a.cols (part_fits g.area.cols g.sides.width j ga.cols sides.width_least there.1).ordered aa.cols.ordered both.1 in
+        let row =
+        common_number (tile_area g i j).rows a.rows (part_fits g.area.rows g.sides.height i ga.rows sides.height_least there.0).ordered
+        aa.rows.ordered both.0 in
+        let col =
+        common_number (tile_area g i j).cols a.cols (part_fits g.area.cols g.sides.width j ga.cols sides.width_least there.1).ordered
+        aa.cols.ordered both.1 in
         record {
           there = there;
           row = int_max (tile_area g i j).rows.lo a.rows.lo;
@@ -79,14 +88,17 @@ cover_exact g a ga aa sides i j = (to, from)
         (meets_where_both_hold (tile_area g i j).cols a.cols m.col m.in_tile.1 m.in_area.1))
 
 pub tiles_in_order : (g : Grid) → AllPairs IsBefore (tiles_of g)
-tiles_in_order g = AllPairs-pairs ◌<◌ ◌<◌ (range_with_len 0 (tile_rows g)) (range_with_len 0 (tile_cols g)) (AllPairs-range 0 (tile_rows g)) (AllPairs-range 0 (tile_cols g))
+tiles_in_order g =
+    AllPairs-pairs ◌<◌ ◌<◌ (range_with_len 0 (tile_rows g)) (range_with_len 0 (tile_cols g)) (AllPairs-range 0 (tile_rows g))
+    (AllPairs-range 0 (tile_cols g))
 
 pub cover_in_order : (g : Grid) (a : Area) → AllPairs IsBefore (cover g a)
 unfolding cover
 cover_in_order g a = AllPairs-filter IsBefore (λ t. areas_meet (tile_area g t.0 t.1) a) (tiles_of g) (tiles_in_order g)
 
 -- the same, of the list that the code makes
-pub exact_from : (g : Grid) (a : Area) (ts : List (ℕ × ℕ)) → ts ≡ cover g a → IsArea g.area → IsArea a → IsSides g.sides → (i j : ℕ) → Contains ts (i, j) ↔ MeetsTile g a i j
+pub exact_from : (g : Grid) (a : Area) (ts : List (ℕ × ℕ)) → ts ≡ cover g a → IsArea g.area → IsArea a → IsSides g.sides → (i j : ℕ)
+    → Contains ts (i, j) ↔ MeetsTile g a i j
 exact_from g a ts e ga aa sides i j = subst (λ us. Contains us (i, j) ↔ MeetsTile g a i j) (sym e) (cover_exact g a ga aa sides i j)
 
 pub in_order_from : (g : Grid) (a : Area) (ts : List (ℕ × ℕ)) → ts ≡ cover g a → AllPairs IsBefore ts
@@ -128,14 +140,16 @@ part_begins s side i h p = (
   (λ k. let high = k.1 in starts_in (len_of s) side i p (omega (arith, ints, len_is s h))),
 )
 
-pub tile_begins : (g : Grid) (i j : ℕ) → IsGrid g → HasTile g i j ↔ HoldsPoint g.area (g.area.rows.lo +ℤ pos (i * g.sides.height)) (g.area.cols.lo +ℤ pos (j * g.sides.width))
+pub tile_begins : (g : Grid) (i j : ℕ) → IsGrid g → HasTile g i j
+    ↔ HoldsPoint g.area (g.area.rows.lo +ℤ pos (i * g.sides.height)) (g.area.cols.lo +ℤ pos (j * g.sides.width))
 tile_begins g i j h =
     let row = part_begins g.area.rows g.sides.height i h.area.rows h.sides.height_least in
     let col = part_begins g.area.cols g.sides.width j h.area.cols h.sides.width_least in
     ((λ k. (row.0 k.0, col.0 k.1)), (λ k. (row.1 k.0, col.1 k.1)))
 
 -- the tiles of a cover hold each point in common
-pub cover_holds : (g : Grid) (a : Area) (r c : ℤ) → IsGrid g → HoldsPoint g.area r c → HoldsPoint a r c → Contains (cover g a) (tile_at g r c) × IsTileOf g r c (tile_at g r c)
+pub cover_holds : (g : Grid) (a : Area) (r c : ℤ) → IsGrid g → HoldsPoint g.area r c → HoldsPoint a r c
+    → Contains (cover g a) (tile_at g r c) × IsTileOf g r c (tile_at g r c)
 unfolding cover
 cover_holds g a r c h k m =
     let t = tile_at g r c in

@@ -23,14 +23,17 @@ floor_splits (negsuc a) (negsuc d) p = absurd p.lt
 
 -- a greater number has no lesser quotient
 pub floor_div_rises : (a b d : ℤ) → pos 0 <ℤ d → a ≤ℤ b → floor_div a d ≤ℤ floor_div b d
-floor_div_rises (pos a) (pos b) (pos d) p h = let above : 0 < d = omega (arith, ints) in let under : a ≤ b = omega (arith, ints) in omega (arith, ints, div-mono a b d above under)
+floor_div_rises (pos a) (pos b) (pos d) p h =
+    let above : 0 < d = omega (arith, ints) in let under : a ≤ b = omega (arith, ints) in omega (arith, ints, div-mono a b d above under)
 floor_div_rises (pos a) (negsuc b) (pos d) p h = absurd h.le
 floor_div_rises (negsuc a) (pos b) (pos d) p h = omega (arith, ints)
-floor_div_rises (negsuc a) (negsuc b) (pos d) p h = let above : 0 < d = omega (arith, ints) in let under : b ≤ a = omega (arith, ints) in omega (arith, ints, div-mono b a d above under)
+floor_div_rises (negsuc a) (negsuc b) (pos d) p h =
+    let above : 0 < d = omega (arith, ints) in let under : b ≤ a = omega (arith, ints) in omega (arith, ints, div-mono b a d above under)
 floor_div_rises a b (negsuc d) p h = absurd p.lt
 
 -- a quotient lies no further from 0 than the number
-pub floor_div_within : (a d : ℤ) (n : ℕ) → pos 0 <ℤ d → negsuc n ≤ℤ a → a ≤ℤ pos (suc n) → (negsuc n ≤ℤ floor_div a d) × (floor_div a d ≤ℤ pos (suc n))
+pub floor_div_within : (a d : ℤ) (n : ℕ) → pos 0 <ℤ d → negsuc n ≤ℤ a → a ≤ℤ pos (suc n)
+    → (negsuc n ≤ℤ floor_div a d) × (floor_div a d ≤ℤ pos (suc n))
 floor_div_within (pos a) (pos d) n p low high = (omega (arith, ints), omega (arith, ints, div-le_self a d))
 floor_div_within (negsuc a) (pos d) n p low high = (omega (arith, ints, div-le_self a d), omega (arith, ints))
 floor_div_within (pos a) (negsuc d) n p low high = absurd p.lt

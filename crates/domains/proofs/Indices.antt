@@ -31,23 +31,29 @@ image_is x s i h = record {
 }
 
 -- what the code of an index computes
-pub scaled_is : (m v k d q : ℤ) → FitsSigned w32 m → FitsSigned w32 v → FitsSigned w32 k → FitsSigned w32 d → FitsSigned w32 (m *ℤ v) → FitsSigned w32 (m *ℤ v +ℤ k)
-    → q ≡ floor_div (to_z w32 (of_z w32 (to_z w32 (of_z w32 (to_z w32 (of_z w32 m) *ℤ to_z w32 (of_z w32 v))) +ℤ to_z w32 (of_z w32 k)))) (to_z w32 (of_z w32 d)) → q ≡ floor_div (m *ℤ v +ℤ k) d
+pub scaled_is : (m v k d q : ℤ) → FitsSigned w32 m → FitsSigned w32 v → FitsSigned w32 k → FitsSigned w32 d → FitsSigned w32 (m *ℤ v)
+    → FitsSigned w32 (m *ℤ v +ℤ k)
+    → q
+    ≡ floor_div (to_z w32 (of_z w32 (to_z w32 (of_z w32 (to_z w32 (of_z w32 m) *ℤ to_z w32 (of_z w32 v))) +ℤ to_z w32 (of_z w32 k))))
+    (to_z w32 (of_z w32 d)) → q ≡ floor_div (m *ℤ v +ℤ k) d
 scaled_is m v k d q fm fv fk fd fp fs h = h ∙ simp to_z-of_z
 
-sum_within : (p k : ℤ) → unsigned_abs p ≤ 524288 → negsuc 4095 ≤ℤ k → k ≤ℤ pos 4096 → (negsuc 1048575 ≤ℤ (p +ℤ k)) × ((p +ℤ k) ≤ℤ pos 1048576)
+sum_within : (p k : ℤ) → unsigned_abs p ≤ 524288 → negsuc 4095 ≤ℤ k → k ≤ℤ pos 4096
+    → (negsuc 1048575 ≤ℤ (p +ℤ k)) × ((p +ℤ k) ≤ℤ pos 1048576)
 sum_within (pos a) k h low high = (omega (arith, ints), omega (arith, ints))
 sum_within (negsuc a) k h low high = (omega (arith, ints), omega (arith, ints))
 
 -- the numerator of an index at an argument within its limits
-numerator_within : (x : Scale) (v : ℤ) → IsIndex x → negsuc 32767 ≤ℤ v → v ≤ℤ pos 32768 → (negsuc 1048575 ≤ℤ (x.mul *ℤ v +ℤ x.add)) × ((x.mul *ℤ v +ℤ x.add) ≤ℤ pos 1048576)
+numerator_within : (x : Scale) (v : ℤ) → IsIndex x → negsuc 32767 ≤ℤ v → v ≤ℤ pos 32768
+    → (negsuc 1048575 ≤ℤ (x.mul *ℤ v +ℤ x.add)) × ((x.mul *ℤ v +ℤ x.add) ≤ℤ pos 1048576)
 numerator_within x v i low high =
     let small : unsigned_abs x.mul ≤ 16 = omega (arith, ints) in
     let size : unsigned_abs v ≤ 32768 = omega (arith, ints) in
     let product : unsigned_abs (x.mul *ℤ v) ≤ 524288 = rw unsigned_abs-mul (le_trans (mul-le-mul small size) (lit≤ tt)) in
     sum_within (x.mul *ℤ v) x.add product i.add_least i.add_most
 
-pub index_within : (x : Scale) (v : ℤ) → IsIndex x → negsuc 32767 ≤ℤ v → v ≤ℤ pos 32768 → (negsuc 1048575 ≤ℤ index_at x v) × (index_at x v ≤ℤ pos 1048576)
+pub index_within : (x : Scale) (v : ℤ) → IsIndex x → negsuc 32767 ≤ℤ v → v ≤ℤ pos 32768
+    → (negsuc 1048575 ≤ℤ index_at x v) × (index_at x v ≤ℤ pos 1048576)
 index_within x v i low high =
     let n = numerator_within x v i low high in
     floor_div_within (x.mul *ℤ v +ℤ x.add) x.div 1048575 (omega (arith, ints)) n.0 n.1
@@ -76,13 +82,21 @@ images_rise x s t i h f =
 
 least_image : (x : Scale) (v w : ℤ) → IsIndex x → index_at x (int_min v w) ≡ int_min (index_at x v) (index_at x w)
 least_image x v w i = by_lt_z w v
-    (λ h. let rises = index_rises x w v i (omega (arith, ints)) in let least : int_min v w ≡ w = omega (arith, ints, clamps) in ap (index_at x) least ∙ (let same : index_at x w ≡ int_min (index_at x v) (index_at x w) = omega (arith, ints, clamps, rises) in same))
-    (λ h. let rises = index_rises x v w i h in let least : int_min v w ≡ v = omega (arith, ints, clamps) in ap (index_at x) least ∙ (let same : index_at x v ≡ int_min (index_at x v) (index_at x w) = omega (arith, ints, clamps, rises) in same))
+    (λ h. let rises = index_rises x w v i (omega (arith, ints)) in
+    let least : int_min v w ≡ w = omega (arith, ints, clamps) in
+    ap (index_at x) least ∙ (let same : index_at x w ≡ int_min (index_at x v) (index_at x w) = omega (arith, ints, clamps, rises) in same))
+    (λ h. let rises = index_rises x v w i h in
+    let least : int_min v w ≡ v = omega (arith, ints, clamps) in
+    ap (index_at x) least ∙ (let same : index_at x v ≡ int_min (index_at x v) (index_at x w) = omega (arith, ints, clamps, rises) in same))
 
 greatest_image : (x : Scale) (v w : ℤ) → IsIndex x → index_at x (int_max v w) ≡ int_max (index_at x v) (index_at x w)
 greatest_image x v w i = by_lt_z w v
-    (λ h. let rises = index_rises x w v i (omega (arith, ints)) in let most : int_max v w ≡ v = omega (arith, ints, clamps) in ap (index_at x) most ∙ (let same : index_at x v ≡ int_max (index_at x v) (index_at x w) = omega (arith, ints, clamps, rises) in same))
-    (λ h. let rises = index_rises x v w i h in let most : int_max v w ≡ w = omega (arith, ints, clamps) in ap (index_at x) most ∙ (let same : index_at x w ≡ int_max (index_at x v) (index_at x w) = omega (arith, ints, clamps, rises) in same))
+    (λ h. let rises = index_rises x w v i (omega (arith, ints)) in
+    let most : int_max v w ≡ v = omega (arith, ints, clamps) in
+    ap (index_at x) most ∙ (let same : index_at x v ≡ int_max (index_at x v) (index_at x w) = omega (arith, ints, clamps, rises) in same))
+    (λ h. let rises = index_rises x v w i h in
+    let most : int_max v w ≡ w = omega (arith, ints, clamps) in
+    ap (index_at x) most ∙ (let same : index_at x w ≡ int_max (index_at x v) (index_at x w) = omega (arith, ints, clamps, rises) in same))
 
 -- the image of a hull is the hull of the images
 pub image-hull : (x : Scale) (s t : Ends) → IsIndex x → image_of x (hull_of s t) ≡ hull_of (image_of x s) (image_of x t)

@@ -29,7 +29,8 @@ pub ends_meet : (a b : Ends) → a.lo ≤ℤ b.hi → b.lo ≤ℤ a.hi → IsTru
 ends_meet a b h k = and_from (int_le a.lo b.hi) (int_le b.lo a.hi) (to_le a.lo b.hi h) (to_le b.lo a.hi k)
 
 -- a number in common, where the two are not empty
-pub common_number : (a b : Ends) → a.lo ≤ℤ a.hi → b.lo ≤ℤ b.hi → IsTrue (spans_meet a b) → Holds a (int_max a.lo b.lo) × Holds b (int_max a.lo b.lo)
+pub common_number : (a b : Ends) → a.lo ≤ℤ a.hi → b.lo ≤ℤ b.hi → IsTrue (spans_meet a b)
+    → Holds a (int_max a.lo b.lo) × Holds b (int_max a.lo b.lo)
 common_number a b f g t =
     let e = meet_ends a b t in let first = e.0 in let second = e.1 in
     ((omega (arith, ints, clamps), omega (arith, ints, clamps)), (omega (arith, ints, clamps), omega (arith, ints, clamps)))
@@ -81,7 +82,8 @@ meeting_parts s o side k h m p there = (to, from)
         ends_meet (part_of s side k) o (omega (arith, ints, clamps, low, high)) (omega (arith, ints, clamps, low, high))
 
 -- the first of these is not behind the last
-pub parts_ordered : (s o : Ends) (side : ℕ) → IsSpan s → IsSpan (meet_of s o) → 1 ≤ side → part_at s side (meet_of s o).lo ≤ part_at s side (meet_of s o).hi
+pub parts_ordered : (s o : Ends) (side : ℕ) → IsSpan s → IsSpan (meet_of s o) → 1 ≤ side
+    → part_at s side (meet_of s o).lo ≤ part_at s side (meet_of s o).hi
 parts_ordered s o side h m p =
     let order = m.ordered in
     let low = gap_is s.lo (meet_of s o).lo (omega (arith, ints, clamps)) in
@@ -89,18 +91,23 @@ parts_ordered s o side h m p =
     div-mono (int_gap s.lo (meet_of s o).lo) (int_gap s.lo (meet_of s o).hi) side (omega arith) (omega (arith, ints, clamps))
 
 -- no part meets a span that has no number in common with the whole
-pub meeting_none : (s o : Ends) (side k : ℕ) → IsSpan s → IsSpan o → 1 ≤ side → k < part_count s side → AreApart s o → ¬ (IsTrue (spans_meet (part_of s side k) o))
+pub meeting_none : (s o : Ends) (side k : ℕ) → IsSpan s → IsSpan o → 1 ≤ side → k < part_count s side → AreApart s o
+    → ¬ (IsTrue (spans_meet (part_of s side k) o))
 meeting_none s o side k h g p there apart t =
     let fits = part_fits s side k h p there in
     let v = common_number (part_of s side k) o fits.ordered g.ordered t in
     apart (int_max (part_of s side k).lo o.lo) (part_inside s side k (int_max (part_of s side k).lo o.lo) v.0, v.1)
 
 -- the same, of the parts as the code finds them
-pub meeting_from : (s o : Ends) (side first last : ℕ) → IsSpan s → IsSpan (meet_of s o) → 1 ≤ side → first ≡ part_at s side (meet_of s o).lo → last ≡ part_at s side (meet_of s o).hi
+pub meeting_from : (s o : Ends) (side first last : ℕ) → IsSpan s → IsSpan (meet_of s o) → 1 ≤ side → first ≡ part_at s side (meet_of s o).lo
+    → last ≡ part_at s side (meet_of s o).hi
     → (k : ℕ) → k < part_count s side → IsTrue (spans_meet (part_of s side k) o) ↔ ((first ≤ k) × (k < last + 1))
 meeting_from s o side first last h m p e f k there =
     subst (λ (n : ℕ). IsTrue (spans_meet (part_of s side k) o) ↔ ((n ≤ k) × (k < last + 1))) (sym e)
-    (subst (λ (n : ℕ). IsTrue (spans_meet (part_of s side k) o) ↔ ((part_at s side (meet_of s o).lo ≤ k) × (k < n + 1))) (sym f) (meeting_parts s o side k h m p there))
+    (subst (λ (n : ℕ). IsTrue (spans_meet (part_of s side k) o) ↔ ((part_at s side (meet_of s o).lo ≤ k) × (k < n + 1))) (sym f)
+    (meeting_parts s o side k h m p there))
 
-pub meeting_from_none : (s o : Ends) (side : ℕ) → IsSpan s → IsSpan o → 1 ≤ side → AreApart s o → (k : ℕ) → k < part_count s side → IsTrue (spans_meet (part_of s side k) o) ↔ ((0 ≤ k) × (k < 0))
-meeting_from_none s o side h g p apart k there = ((λ t. absurd (meeting_none s o side k h g p there apart t)), (λ r. let high = r.1 in absurd (omega arith)))
+pub meeting_from_none : (s o : Ends) (side : ℕ) → IsSpan s → IsSpan o → 1 ≤ side → AreApart s o → (k : ℕ) → k < part_count s side
+    → IsTrue (spans_meet (part_of s side k) o) ↔ ((0 ≤ k) × (k < 0))
+meeting_from_none s o side h g p apart k there =
+    ((λ t. absurd (meeting_none s o side k h g p there apart t)), (λ r. let high = r.1 in absurd (omega arith)))

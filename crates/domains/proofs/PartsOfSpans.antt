@@ -27,7 +27,8 @@ len_small s h = omega (arith, ints, len_is s h)
 
 -- there are no more parts than numbers
 pub parts_few : (n side : ℕ) → 1 ≤ side → div_ceil n side ≤ n
-parts_few n side p = elim (cases_lt n (div_ceil n side)) [ inr h ↦ h | inl h ↦ absurd (omega (arith, starts_below n side n p h, mul-le-mul_left n p)) ]
+parts_few n side p =
+    elim (cases_lt n (div_ceil n side)) [ inr h ↦ h | inl h ↦ absurd (omega (arith, starts_below n side n p h, mul-le-mul_left n p)) ]
 
 -- a part begins within its span
 pub starts_within : (s : Ends) (side i : ℕ) → IsSpan s → 1 ≤ side → i < part_count s side → (s.lo +ℤ pos (i * side)) ≤ℤ s.hi
@@ -70,7 +71,8 @@ place_is s side v p h k =
       only = λ i f. place_only s side v i p f;
     }
 
-pub place_from : (s : Ends) (side : ℕ) (v : ℤ) (i : ℕ) → i ≡ part_at s side v → 1 ≤ side → IsSpan s → Holds s v → Holds s v × IsPlace s side v i
+pub place_from : (s : Ends) (side : ℕ) (v : ℤ) (i : ℕ) → i ≡ part_at s side v → 1 ≤ side → IsSpan s → Holds s v
+    → Holds s v × IsPlace s side v i
 place_from s side v i e p h k = (k, subst (IsPlace s side v) (sym e) (place_is s side v p h k))
 
 pub ends_from : (t u : Ends) (lo hi : ℤ) → t ≡ record { lo = lo; hi = hi } → lo ≡ u.lo → hi ≡ u.hi → t ≡ u

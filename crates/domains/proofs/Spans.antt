@@ -5,8 +5,11 @@ use Rattle.domains.specs.Span.{Ends, Holds, IsSpan, IsSubspan, IsMeet, AreApart,
 
 pub meet_is : (a b : Ends) → IsMeet a b (meet_of a b)
 meet_is a b v = (
-  (λ h. let low = h.0 in let high = h.1 in ((omega (arith, ints, clamps), omega (arith, ints, clamps)), (omega (arith, ints, clamps), omega (arith, ints, clamps)))),
-  (λ h. let a_low = h.0.0 in let a_high = h.0.1 in let b_low = h.1.0 in let b_high = h.1.1 in (omega (arith, ints, clamps), omega (arith, ints, clamps))),
+  (λ h. let low = h.0 in
+      let high = h.1 in
+      ((omega (arith, ints, clamps), omega (arith, ints, clamps)), (omega (arith, ints, clamps), omega (arith, ints, clamps)))),
+  (λ h. let a_low = h.0.0 in
+      let a_high = h.0.1 in let b_low = h.1.0 in let b_high = h.1.1 in (omega (arith, ints, clamps), omega (arith, ints, clamps))),
 )
 
 pub meet_some : (a b : Ends) (o : Option Ends) → IfSome o (λ m. m ≡ meet_of a b) → IfSome o (IsMeet a b)
@@ -34,7 +37,8 @@ pub inside_ends : (a b : Ends) → b.lo ≤ℤ a.lo → a.hi ≤ℤ b.hi → IsS
 inside_ends a b p q v h = let low = h.0 in let high = h.1 in (omega (arith, ints), omega (arith, ints))
 
 pub hull_fits : (a b : Ends) → IsSpan a → IsSpan b → IsSpan (hull_of a b)
-hull_fits a b s t = record { least = omega (arith, ints, clamps); ordered = omega (arith, ints, clamps); most = omega (arith, ints, clamps) }
+hull_fits a b s t =
+    record { least = omega (arith, ints, clamps); ordered = omega (arith, ints, clamps); most = omega (arith, ints, clamps) }
 
 pub hull_is : (a b : Ends) → IsSpan a → IsSpan b → IsHull a b (hull_of a b)
 hull_is a b s t = record {
@@ -60,7 +64,8 @@ pub counts_numbers : (n : ℕ) (s : Ends) → n ≡ len_of s → n ≡ length (n
 counts_numbers n s e = e ∙ sym (length-numbers_from s.lo (len_of s))
 
 -- a span lies in another exactly where both its ends do, of which the first is known to
-pub inside_by_ends : (a b : Ends) (t : Bool) (v w : ℤ) → IsSpan a → v ≡ a.lo → w ≡ a.hi → Holds b v → IsTrue t ↔ Holds b w → (IsTrue t → IsSubspan a b) × (IsSubspan a b → IsTrue t)
+pub inside_by_ends : (a b : Ends) (t : Bool) (v w : ℤ) → IsSpan a → v ≡ a.lo → w ≡ a.hi → Holds b v → IsTrue t ↔ Holds b w
+    → (IsTrue t → IsSubspan a b) × (IsSubspan a b → IsTrue t)
 inside_by_ends a b t v w s e f low high = (
   (λ h. let up = high.0 h in let first = low.0 in let last = up.1 in inside_ends a b (omega (arith, ints)) (omega (arith, ints))),
   (λ g. high.1 (subst (Holds b) (sym f) (g a.hi (s.ordered, omega (arith, ints))))),

@@ -16,7 +16,8 @@ pub bits_wrapped : (n : ℕ) → n < 2 ^ 32 → cast_signed w32 n ≡ int_wrap w
 unfolding int_wrap
 bits_wrapped n h = ap (cast_signed w32) (sym (mod-eq_of_lt h))
 
-pub abs_wrapped : (a r : ℤ) → FitsSigned w32 a → FitsSigned w32 r → r ≡ cast_signed w32 (unsigned_abs a) → to_z w32 (of_z w32 r) ≡ wrapped (pos (unsigned_abs a))
+pub abs_wrapped : (a r : ℤ) → FitsSigned w32 a → FitsSigned w32 r → r ≡ cast_signed w32 (unsigned_abs a)
+    → to_z w32 (of_z w32 r) ≡ wrapped (pos (unsigned_abs a))
 abs_wrapped a r f g e =
     let small : unsigned_abs a < 2 ^ 32 = omega (arith, ints) in
     to_z-of_z w32 r g ∙ e ∙ bits_wrapped (unsigned_abs a) small
@@ -31,7 +32,8 @@ shl_wrapped a k f h =
     ∙ int_wrap-mul_right w32 a (pos (2 ^ k))
 
 -- the signed number of some bits differs from their number by no or one modulus
-read_bits : (w : Width) (n : ℕ) → n < 2 ^ bits w → (t : Bool) → ltb n (2 ^ hbits w) ≡ t → (j : ℤ) × (pos n ≡ cond t (pos n) (negsuc (2 ^ bits w - suc n)) +ℤ j *ℤ pos (2 ^ bits w))
+read_bits : (w : Width) (n : ℕ) → n < 2 ^ bits w → (t : Bool) → ltb n (2 ^ hbits w) ≡ t
+    → (j : ℤ) × (pos n ≡ cond t (pos n) (negsuc (2 ^ bits w - suc n)) +ℤ j *ℤ pos (2 ^ bits w))
 read_bits w n h true e = (pos 0, omega (arith, ints))
 read_bits w n h false e = (pos 1, omega (arith, ints))
 
@@ -60,24 +62,28 @@ congruent_left : (w : Width) (z : ℤ) → IsCongruent (pos (2 ^ bits w)) z (int
 unfolding int_wrap
 congruent_left w (pos a) =
     let small : a % 2 ^ bits w < 2 ^ bits w = mod-lt a (pow_pos (bits w)) in
-    congruent_through (pos a) (pos (a % 2 ^ bits w)) (cast_signed w (a % 2 ^ bits w)) (2 ^ bits w) (to_bits a (2 ^ bits w)) (bits_read w (a % 2 ^ bits w) small)
+    congruent_through (pos a) (pos (a % 2 ^ bits w)) (cast_signed w (a % 2 ^ bits w)) (2 ^ bits w) (to_bits a (2 ^ bits w))
+    (bits_read w (a % 2 ^ bits w) small)
 congruent_left w (negsuc a) =
     let small : a % 2 ^ bits w < 2 ^ bits w = mod-lt a (pow_pos (bits w)) in
     let below : 2 ^ bits w - 1 - a % 2 ^ bits w < 2 ^ bits w = omega arith in
-    congruent_through (negsuc a) (pos (2 ^ bits w - 1 - a % 2 ^ bits w)) (cast_signed w (2 ^ bits w - 1 - a % 2 ^ bits w)) (2 ^ bits w) (to_bits_below a (2 ^ bits w) small) (bits_read w (2 ^ bits w - 1 - a % 2 ^ bits w) below)
+    congruent_through (negsuc a) (pos (2 ^ bits w - 1 - a % 2 ^ bits w)) (cast_signed w (2 ^ bits w - 1 - a % 2 ^ bits w)) (2 ^ bits w)
+    (to_bits_below a (2 ^ bits w) small) (bits_read w (2 ^ bits w - 1 - a % 2 ^ bits w) below)
 
 pub wrapped_is : (w : Width) (z : ℤ) → IsWrapped w (pos (2 ^ bits w)) z (int_wrap w z)
 wrapped_is w z = record { fits = SFits-int_wrap w z; congruent = congruent_left w z }
 
 -- a multiple of the modulus leaves nothing
-multiple_wrapped : (w : Width) (q : ℤ) → int_wrap w (pos (2 ^ bits w)) ≡ pos 0 → FitsSigned w (pos 0) → int_wrap w (q *ℤ pos (2 ^ bits w)) ≡ pos 0
+multiple_wrapped : (w : Width) (q : ℤ) → int_wrap w (pos (2 ^ bits w)) ≡ pos 0 → FitsSigned w (pos 0)
+    → int_wrap w (q *ℤ pos (2 ^ bits w)) ≡ pos 0
 multiple_wrapped w q e f =
     sym (int_wrap-mul_right w q (pos (2 ^ bits w)))
     ∙ ap (λ z. int_wrap w (q *ℤ z)) e
     ∙ ap (int_wrap w) (*ℤ-zero q)
     ∙ int_wrap_fits w (pos 0) f
 
-wrapped_only : (w : Width) (n r : ℤ) → int_wrap w (pos (2 ^ bits w)) ≡ pos 0 → FitsSigned w (pos 0) → IsWrapped w (pos (2 ^ bits w)) n r → r ≡ int_wrap w n
+wrapped_only : (w : Width) (n r : ℤ) → int_wrap w (pos (2 ^ bits w)) ≡ pos 0 → FitsSigned w (pos 0) → IsWrapped w (pos (2 ^ bits w)) n r
+    → r ≡ int_wrap w n
 wrapped_only w n r e f h = sym (
     ap (int_wrap w) h.congruent.1
     ∙ sym (int_wrap-add_right w r (h.congruent.0 *ℤ pos (2 ^ bits w)))

@@ -32,7 +32,8 @@ one_body job key (Partial xs) (Partial ys) p q = ap Partial (one_partial job key
 -- ---- jobs
 
 -- what holds of the job of a key by two accounts holds of one
-both : (catalog : List Entry) (key : Key) (P Q : Pipeline → Type 0) → IsCatalog catalog → HasJob catalog key P → HasJob catalog key Q → (job : Pipeline) × P job × Q job
+both : (catalog : List Entry) (key : Key) (P Q : Pipeline → Type 0) → IsCatalog catalog → HasJob catalog key P → HasJob catalog key Q
+    → (job : Pipeline) × P job × Q job
 both catalog key P Q c p q =
     let place = c.apart (ids_in key) p.index q.index (p.entry, p.there, p.ids) (q.entry, q.there, q.ids) in
     let same = same_Some p.entry q.entry (sym p.there ∙ ap (slice_get catalog) place ∙ q.there) in
@@ -50,12 +51,14 @@ one_true catalog a b c p q e =
 not_foreign : (catalog : List Entry) (fact : Fact) (P : Pipeline → Type 0) → HasJob catalog fact.key P → ¬ (IsVerdict catalog fact Foreign)
 not_foreign catalog fact P p none = none p.index (p.entry, p.there, p.ids)
 
-not_misshapen : (catalog : List Entry) (fact : Fact) (P : Pipeline → Type 0) → ((job : Pipeline) → P job → FitsJob fact job) → IsCatalog catalog
+not_misshapen : (catalog : List Entry) (fact : Fact) (P : Pipeline → Type 0) → ((job : Pipeline) → P job → FitsJob fact job)
+    → IsCatalog catalog
     → HasJob catalog fact.key P → ¬ (IsVerdict catalog fact Misshapen)
 not_misshapen catalog fact P fits c p q =
     let held = both catalog fact.key P (λ job. ¬ (FitsJob fact job)) c p q in held.2 (fits held.0 held.1)
 
-pub one_verdict : (catalog : List Entry) (fact : Fact) (v w : Verdict) → IsCatalog catalog → IsVerdict catalog fact v → IsVerdict catalog fact w → v ≡ w
+pub one_verdict : (catalog : List Entry) (fact : Fact) (v w : Verdict) → IsCatalog catalog → IsVerdict catalog fact v
+    → IsVerdict catalog fact w → v ≡ w
 one_verdict catalog fact Foreign Foreign c p q = refl
 one_verdict catalog fact Foreign Misshapen c p q = absurd (not_foreign catalog fact (λ job. ¬ (FitsJob fact job)) q p)
 one_verdict catalog fact Foreign True c p q = absurd (not_foreign catalog fact (IsTrueOf fact) q p)
@@ -74,7 +77,8 @@ one_verdict catalog fact False True c p q = absurd (p.1 q)
 one_verdict catalog fact False False c p q = refl
 
 -- what is said of a fact by the job that its key names
-pub by_job : (catalog : List Entry) (fact : Fact) (v : Verdict) → IsCatalog catalog → HasJob catalog fact.key (λ job. IsJobVerdict job fact v) → IsVerdict catalog fact v
+pub by_job : (catalog : List Entry) (fact : Fact) (v : Verdict) → IsCatalog catalog
+    → HasJob catalog fact.key (λ job. IsJobVerdict job fact v) → IsVerdict catalog fact v
 by_job catalog fact Foreign c p = absurd p.holds
 by_job catalog fact Misshapen c p = p
 by_job catalog fact True c p = p

@@ -32,27 +32,33 @@ one_area job g i j s t a b p q =
 
 pub one_tile : (job : Pipeline) (g i j : ℕ) (xs ys : List ℤ) → IsTrueTile job g i j xs → IsTrueTile job g i j ys → xs ≡ ys
 one_tile job g i j xs ys p q =
-    p.values ∙ ap (λ (a : Area). raster a (value job g)) (one_area job g i j p.tile.stage q.tile.stage p.area q.area p.tile.tile q.tile.tile) ∙ sym q.values
+    p.values
+    ∙ ap (λ (a : Area). raster a (value job g)) (one_area job g i j p.tile.stage q.tile.stage p.area q.area p.tile.tile q.tile.tile)
+    ∙ sym q.values
 
 pub tile_fits : (job : Pipeline) (g i j : ℕ) (xs : List ℤ) → IsTrueTile job g i j xs → IsTileShape job g i j xs
 tile_fits job g i j xs p = record {
   area = p.area;
   tile = p.tile;
-  count = ap length p.values ∙ length-map (points_of p.area) (λ at. value job g at.0 at.1) ∙ sym (counts_points (point_count p.area) p.area refl);
+  count =
+      ap length p.values ∙ length-map (points_of p.area) (λ at. value job g at.0 at.1)
+      ∙ sym (counts_points (point_count p.area) p.area refl);
 }
 
 -- ---- tiles of accumulators
 
 pub one_partial : (job : Pipeline) (g i j : ℕ) (xs ys : List ℤ) → IsTruePartial job g i j xs → IsTruePartial job g i j ys → xs ≡ ys
 one_partial job g i j xs ys p q =
-    p.totals ∙ ap (λ (a : Area). totals_over job a g) (one_area job g i j p.tile.stage q.tile.stage p.area q.area p.tile.tile q.tile.tile) ∙ sym q.totals
+    p.totals ∙ ap (λ (a : Area). totals_over job a g) (one_area job g i j p.tile.stage q.tile.stage p.area q.area p.tile.tile q.tile.tile)
+    ∙ sym q.totals
 
 has_bins : (b : Body) → is_accumulator b ≡ true → (ends : Ends) × (bins_of b ≡ Some ends)
 has_bins (plane n) e = absurd (true≢false (sym e))
 has_bins (function cases otherwise) e = absurd (true≢false (sym e))
 has_bins (accumulator way bins value bin) e = (bins, refl)
 
-counted : (job : Pipeline) (area : Area) (b : Body) (ends : Ends) → bins_of b ≡ Some ends → length (body_totals (value job) area b) ≡ len_of ends
+counted : (job : Pipeline) (area : Area) (b : Body) (ends : Ends) → bins_of b ≡ Some ends
+    → length (body_totals (value job) area b) ≡ len_of ends
 counted job area (plane n) ends e = absurd (none-some ends e)
 counted job area (function cases otherwise) ends e = absurd (none-some ends e)
 counted job area (accumulator way bins value' bin) ends e =
@@ -65,14 +71,17 @@ partial_fits job g i j xs p =
       ends = b.0;
       has = record { area = p.area; tile = p.tile; are = b.1 };
       count =
-          ap length (p.totals ∙ ap (λ (o : Option Stage). option_map_or (λ s. body_totals (value job) p.area s.body) o []) p.tile.tile.there)
+          ap length
+          (p.totals ∙ ap (λ (o : Option Stage). option_map_or (λ s. body_totals (value job) p.area s.body) o []) p.tile.tile.there)
           ∙ counted job p.area p.tile.stage.body b.0 b.1;
     }
 
 -- ---- of one kind alone
 
 pub no_both : (job : Pipeline) (g i j : ℕ) (a b : Area) → IsFunctionTile job g i j a → IsAccumulatorTile job g i j b → ⊥
-no_both job g i j a b p q = apart q.stage.body (subst (λ (s : Stage). IsFunction s.body) (one_stage job g p.stage q.stage p.tile.there q.tile.there) p.function) q.accumulator
+no_both job g i j a b p q =
+    apart q.stage.body (subst (λ (s : Stage). IsFunction s.body) (one_stage job g p.stage q.stage p.tile.there q.tile.there) p.function)
+    q.accumulator
   where
     apart : (body : Body) → IsFunction body → is_accumulator body ≡ true → ⊥
     apart (plane n) f e = f
@@ -81,18 +90,22 @@ no_both job g i j a b p q = apart q.stage.body (subst (λ (s : Stage). IsFunctio
 
 -- ---- what tests tell
 
-pub fits_where : (job : Pipeline) (g i j : ℕ) (xs : List ℤ) (area : Area) (r : Bool) → IsFunctionTile job g i j area → (IsTrue r ↔ (length xs ≡ point_count area))
+pub fits_where : (job : Pipeline) (g i j : ℕ) (xs : List ℤ) (area : Area) (r : Bool) → IsFunctionTile job g i j area
+    → (IsTrue r ↔ (length xs ≡ point_count area))
     → IsTrue r ↔ IsTileShape job g i j xs
 fits_where job g i j xs area r tile told = (
   (λ t. record { area = area; tile = tile; count = told.0 t }),
-  (λ (p : IsTileShape job g i j xs). told.1 (p.count ∙ ap point_count (one_area job g i j p.tile.stage tile.stage p.area area p.tile.tile tile.tile))),
+  (λ (p : IsTileShape job g i j xs). told.1
+      (p.count ∙ ap point_count (one_area job g i j p.tile.stage tile.stage p.area area p.tile.tile tile.tile))),
 )
 
 pub one_bins : (job : Pipeline) (g i j : ℕ) (a b : Ends) → HasBins job g i j a → HasBins job g i j b → a ≡ b
 one_bins job g i j a b p q =
-    same_Some a b (sym p.are ∙ ap (λ (s : Stage). bins_of s.body) (one_stage job g p.tile.stage q.tile.stage p.tile.tile.there q.tile.tile.there) ∙ q.are)
+    same_Some a b (sym p.are
+    ∙ ap (λ (s : Stage). bins_of s.body) (one_stage job g p.tile.stage q.tile.stage p.tile.tile.there q.tile.tile.there) ∙ q.are)
 
-pub bins_fit_where : (job : Pipeline) (g i j : ℕ) (xs : List ℤ) (ends : Ends) (r : Bool) → HasBins job g i j ends → (IsTrue r ↔ (length xs ≡ len_of ends))
+pub bins_fit_where : (job : Pipeline) (g i j : ℕ) (xs : List ℤ) (ends : Ends) (r : Bool) → HasBins job g i j ends
+    → (IsTrue r ↔ (length xs ≡ len_of ends))
     → IsTrue r ↔ IsPartialShape job g i j xs
 bins_fit_where job g i j xs ends r has told = (
   (λ t. record { ends = ends; has = has; count = told.0 t }),
@@ -100,7 +113,8 @@ bins_fit_where job g i j xs ends r has told = (
 )
 
 -- where P holds of one list, a list that equals it is the one of which P holds
-pub told_by : (P : List ℤ → Type 0) (xs vs : List ℤ) (r : Bool) → ((ys zs : List ℤ) → P ys → P zs → ys ≡ zs) → P vs → (IsTrue r ↔ (xs ≡ vs)) → IsTrue r ↔ P xs
+pub told_by : (P : List ℤ → Type 0) (xs vs : List ℤ) (r : Bool) → ((ys zs : List ℤ) → P ys → P zs → ys ≡ zs) → P vs → (IsTrue r ↔ (xs ≡ vs))
+    → IsTrue r ↔ P xs
 told_by P xs vs r one held told = ((λ t. subst P (sym (told.0 t)) held), (λ p. told.1 (one xs vs p held)))
 
 pub counted_by : (m n k : ℕ) → n ≡ k → IsTrue (m == n) ↔ (m ≡ k)
@@ -111,7 +125,8 @@ never none = ((λ t. absurd (true≢false (sym t))), (λ p. absurd (none p)))
 
 -- ---- bins of a tile that is there
 
-pub bins_some : (job : Pipeline) (g i j : ℕ) (area : Area) (found : Option Ends) → IsAccumulatorTile job g i j area → found ≡ stage_bins (slice_get job.stages g)
+pub bins_some : (job : Pipeline) (g i j : ℕ) (area : Area) (found : Option Ends) → IsAccumulatorTile job g i j area
+    → found ≡ stage_bins (slice_get job.stages g)
     → IfSome found (HasBins job g i j)
 bins_some job g i j area None tile e = tt
 bins_some job g i j area (Some ends) tile e = record { area = area; tile = tile; are = sym (ap stage_bins tile.tile.there) ∙ sym e }

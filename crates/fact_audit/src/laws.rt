@@ -11,7 +11,8 @@ ghost use Rattle.tile_fact.specs.declared.fact.Fact.{Fact};
 
 /// A key has at most one true fact.
 pub fn one_true_fact()
-    ensures { (catalog : List Entry) (a b : Fact) → IsCatalog catalog → IsTrueFact catalog a → IsTrueFact catalog b → a.key ≡ b.key → a ≡ b }
+    ensures { (catalog : List Entry) (a b : Fact) → IsCatalog catalog → IsTrueFact catalog a
+        → IsTrueFact catalog b → a.key ≡ b.key → a ≡ b }
 {}
 
 /// A true fact has the kind and the count of its tile.
@@ -21,5 +22,6 @@ pub fn true_facts_fit()
 
 /// No fact has two verdicts. So a true one is said to be true, one of no job to be foreign, and one that does not fit to be misshapen.
 pub fn one_verdict()
-    ensures { (catalog : List Entry) (fact : Fact) (v w : Verdict) → IsCatalog catalog → IsVerdict catalog fact v → IsVerdict catalog fact w → v ≡ w }
+    ensures { (catalog : List Entry) (fact : Fact) (v w : Verdict) → IsCatalog catalog
+        → IsVerdict catalog fact v → IsVerdict catalog fact w → v ≡ w }
 {}

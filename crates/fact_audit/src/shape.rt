@@ -27,7 +27,8 @@ pub fn shape_ok(job: &Job, fact: &Fact) -> bool
 
 // Whether there is a number for each point of the function's tile.
 fn samples_fit(job: &Job, key: &Key, samples: &[i32]) -> bool
-    ensures { IsTrue result ↔ IsTileShape (pipeline_in job.now) key.now.stage key.now.row key.now.col samples.now }
+    ensures { IsTrue result
+        ↔ IsTileShape (pipeline_in job.now) key.now.stage key.now.row key.now.col samples.now }
 {
     match function_tile(job, key) {
         Some(area) => samples.len() as u64 == area.points(),
@@ -37,7 +38,8 @@ fn samples_fit(job: &Job, key: &Key, samples: &[i32]) -> bool
 
 // Whether there is a number for each bin of the accumulator.
 fn bins_fit(job: &Job, key: &Key, bins: &[i64]) -> bool
-    ensures { IsTrue result ↔ IsPartialShape (pipeline_in job.now) key.now.stage key.now.row key.now.col bins.now }
+    ensures { IsTrue result
+        ↔ IsPartialShape (pipeline_in job.now) key.now.stage key.now.row key.now.col bins.now }
 {
     match accumulator_bins(job, key) {
         Some(span) => bins.len() == span.len() as usize,
@@ -47,8 +49,10 @@ fn bins_fit(job: &Job, key: &Key, bins: &[i64]) -> bool
 
 // The area of the function's tile that the key names; none of other stages.
 fn function_tile(job: &Job, key: &Key) -> Option<Area>
-    ensures some { IfSome result (IsFunctionTile (pipeline_in job.now) key.now.stage key.now.row key.now.col) }
-    ensures none { IfNone result ((area : Area) → ¬ (IsFunctionTile (pipeline_in job.now) key.now.stage key.now.row key.now.col area)) }
+    ensures some { IfSome result
+        (IsFunctionTile (pipeline_in job.now) key.now.stage key.now.row key.now.col) }
+    ensures none { IfNone result ((area : Area)
+        → ¬ (IsFunctionTile (pipeline_in job.now) key.now.stage key.now.row key.now.col area)) }
 {
     let found = job.stage(usize::from(key.stage))?;
     match found.body() {
@@ -59,8 +63,10 @@ fn function_tile(job: &Job, key: &Key) -> Option<Area>
 
 // The bins of the accumulator that has the tile that the key names; none of other stages.
 fn accumulator_bins(job: &Job, key: &Key) -> Option<Span>
-    ensures some { IfSome result (HasBins (pipeline_in job.now) key.now.stage key.now.row key.now.col) }
-    ensures none { IfNone result ((ends : Ends) → ¬ (HasBins (pipeline_in job.now) key.now.stage key.now.row key.now.col ends)) }
+    ensures some { IfSome result
+        (HasBins (pipeline_in job.now) key.now.stage key.now.row key.now.col) }
+    ensures none { IfNone result ((ends : Ends)
+        → ¬ (HasBins (pipeline_in job.now) key.now.stage key.now.row key.now.col ends)) }
 {
     match accumulator_tile(job, key) {
         Some(_) => job.bins(usize::from(key.stage)),
@@ -70,8 +76,10 @@ fn accumulator_bins(job: &Job, key: &Key) -> Option<Span>
 
 // The area of the accumulator's tile that the key names; none of other stages.
 fn accumulator_tile(job: &Job, key: &Key) -> Option<Area>
-    ensures some { IfSome result (IsAccumulatorTile (pipeline_in job.now) key.now.stage key.now.row key.now.col) }
-    ensures none { IfNone result ((area : Area) → ¬ (IsAccumulatorTile (pipeline_in job.now) key.now.stage key.now.row key.now.col area)) }
+    ensures some { IfSome result
+        (IsAccumulatorTile (pipeline_in job.now) key.now.stage key.now.row key.now.col) }
+    ensures none { IfNone result ((area : Area)
+        → ¬ (IsAccumulatorTile (pipeline_in job.now) key.now.stage key.now.row key.now.col area)) }
 {
     let found = job.stage(usize::from(key.stage))?;
     match found.body() {

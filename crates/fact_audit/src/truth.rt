@@ -26,7 +26,8 @@ pub(crate) fn verdict_by(
     stages: &TrueStages<'_>,
     fact: &Fact,
 ) -> Result<Verdict, AllocError>
-    requires { IsServed (pipeline_in stages.now.job.now) stages.now.known.buffers.items fact.now.key.stage }
+    requires { IsServed (pipeline_in stages.now.job.now) stages.now.known.buffers.items
+        fact.now.key.stage }
     ensures { IfOk result (IsJobVerdict (pipeline_in stages.now.job.now) fact.now) }
 {
     if !shape_ok(stages.job(), fact) {
@@ -40,7 +41,8 @@ pub(crate) fn verdict_by(
 
 // Whether a fact is true of the job.
 fn is_true(alloc: Global, stages: &TrueStages<'_>, fact: &Fact) -> Result<bool, AllocError>
-    requires { IsServed (pipeline_in stages.now.job.now) stages.now.known.buffers.items fact.now.key.stage }
+    requires { IsServed (pipeline_in stages.now.job.now) stages.now.known.buffers.items
+        fact.now.key.stage }
     ensures { IfOk result (λ is. IsTrue is ↔ IsTrueOf fact.now (pipeline_in stages.now.job.now)) }
 {
     let key = *fact.key();
@@ -57,8 +59,11 @@ fn are_samples(
     key: &Key,
     samples: &[i32],
 ) -> Result<bool, AllocError>
-    requires { IsServed (pipeline_in stages.now.job.now) stages.now.known.buffers.items key.now.stage }
-    ensures { IfOk result (λ is. IsTrue is ↔ IsTrueTile (pipeline_in stages.now.job.now) key.now.stage key.now.row key.now.col samples.now) }
+    requires { IsServed (pipeline_in stages.now.job.now) stages.now.known.buffers.items
+        key.now.stage }
+    ensures { IfOk result (λ is. IsTrue is
+        ↔ IsTrueTile (pipeline_in stages.now.job.now) key.now.stage key.now.row key.now.col
+        samples.now) }
 {
     match stages.tile(alloc, usize::from(key.stage), key.row, key.col)? {
         Some(values) => Ok(same_samples(samples, &values)),
@@ -73,8 +78,11 @@ fn are_bins(
     key: &Key,
     bins: &[i64],
 ) -> Result<bool, AllocError>
-    requires { IsServed (pipeline_in stages.now.job.now) stages.now.known.buffers.items key.now.stage }
-    ensures { IfOk result (λ is. IsTrue is ↔ IsTruePartial (pipeline_in stages.now.job.now) key.now.stage key.now.row key.now.col bins.now) }
+    requires { IsServed (pipeline_in stages.now.job.now) stages.now.known.buffers.items
+        key.now.stage }
+    ensures { IfOk result (λ is. IsTrue is
+        ↔ IsTruePartial (pipeline_in stages.now.job.now) key.now.stage key.now.row key.now.col
+        bins.now) }
 {
     match partial_of(alloc, stages, usize::from(key.stage), key.row, key.col)? {
         Some(totals) => Ok(same_bins(bins, &totals)),

@@ -33,15 +33,21 @@ one_dropped true true c h = refl
 one_dropped true false c h = sym (h refl)
 one_dropped false b c h = refl
 
-pub any_filter : (p : Fact → Bool) (g : Fact) (xs : List Fact) → list_any (eq_by_cmp fact_cmp g) (filter p xs) ≡ (list_any (eq_by_cmp fact_cmp g) xs && p g)
+pub any_filter : (p : Fact → Bool) (g : Fact) (xs : List Fact)
+    → list_any (eq_by_cmp fact_cmp g) (filter p xs) ≡ (list_any (eq_by_cmp fact_cmp g) xs && p g)
 any_filter p g [] = refl
 any_filter p g (x ∷ xs) =
-    elim (p x) as (λ b. p x ≡ b → list_any (eq_by_cmp fact_cmp g) (cond b (x ∷ filter p xs) (filter p xs)) ≡ ((eq_by_cmp fact_cmp g x || list_any (eq_by_cmp fact_cmp g) xs) && p g)) [
+    elim (p x) as (λ b. p x ≡ b
+    → list_any (eq_by_cmp fact_cmp g) (cond b (x ∷ filter p xs) (filter p xs))
+    ≡ ((eq_by_cmp fact_cmp g x || list_any (eq_by_cmp fact_cmp g) xs) && p g)) [
       | true ↦ λ e. ap (λ b. eq_by_cmp fact_cmp g x || b) (any_filter p g xs) ∙ held e (eq_by_cmp fact_cmp g x) refl
-      | false ↦ λ e. any_filter p g xs ∙ one_dropped (eq_by_cmp fact_cmp g x) (list_any (eq_by_cmp fact_cmp g) xs) (p g) (λ t. ap p (same_fact g x t) ∙ e)
+      | false ↦
+          λ e. any_filter p g xs
+          ∙ one_dropped (eq_by_cmp fact_cmp g x) (list_any (eq_by_cmp fact_cmp g) xs) (p g) (λ t. ap p (same_fact g x t) ∙ e)
     ] refl
   where
-    held : p x ≡ true → (a : Bool) → eq_by_cmp fact_cmp g x ≡ a → (a || (list_any (eq_by_cmp fact_cmp g) xs && p g)) ≡ ((a || list_any (eq_by_cmp fact_cmp g) xs) && p g)
+    held : p x ≡ true → (a : Bool) → eq_by_cmp fact_cmp g x ≡ a
+        → (a || (list_any (eq_by_cmp fact_cmp g) xs && p g)) ≡ ((a || list_any (eq_by_cmp fact_cmp g) xs) && p g)
     held e true t = sym (ap p (same_fact g x t) ∙ e)
     held e false t = refl
 
@@ -63,7 +69,8 @@ in_facts s f = (λ c. holds-facts_in s f ∙ (listed (facts_in s) f).1 c, λ h. 
 
 pub in_facts_of : (s : FactSet) (key : Key) (f : Fact) → Contains (facts_of s key) f ↔ ((holds s f ≡ true) × (f.key ≡ key))
 in_facts_of s key f = (
-  λ c. let parts = split (holds s f) (same_key key f.key) (sym (any_of_key s key f) ∙ (listed (facts_of s key) f).1 c) in (parts.0, sym (one_key key f.key parts.1)),
+  λ c. let parts = split (holds s f) (same_key key f.key) (sym (any_of_key s key f) ∙ (listed (facts_of s key) f).1 c) in
+      (parts.0, sym (one_key key f.key parts.1)),
   λ h. (listed (facts_of s key) f).0 (any_of_key s key f ∙ both (holds s f) (same_key key f.key) h.0 (its_own_key key f.key (sym h.1))),
 )
 
@@ -73,6 +80,7 @@ denied false e = refl
 
 pub in_lacked : (s t : FactSet) (f : Fact) → Contains (lacked s t) f ↔ ((holds t f ≡ true) × (holds s f ≡ false))
 in_lacked s t f = (
-  λ c. let parts = split (holds t f) (not (holds s f)) (sym (any_lacked s t f) ∙ (listed (lacked s t) f).1 c) in (parts.0, denied (holds s f) parts.1),
+  λ c. let parts = split (holds t f) (not (holds s f)) (sym (any_lacked s t f) ∙ (listed (lacked s t) f).1 c) in
+      (parts.0, denied (holds s f) parts.1),
   λ h. (listed (lacked s t) f).0 (any_lacked s t f ∙ both (holds t f) (not (holds s f)) h.0 (ap not h.1)),
 )

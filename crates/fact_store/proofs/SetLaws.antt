@@ -58,7 +58,8 @@ or_swap true true c = refl
 or_swap true false c = refl
 or_swap false b c = refl
 
-pub holds-with_facts : (s : FactSet) (fs : List Fact) (g : Fact) → holds (with_facts s fs) g ≡ (holds s g || list_any (eq_by_cmp fact_cmp g) fs)
+pub holds-with_facts : (s : FactSet) (fs : List Fact) (g : Fact)
+    → holds (with_facts s fs) g ≡ (holds s g || list_any (eq_by_cmp fact_cmp g) fs)
 unfolding with_facts
 holds-with_facts s [] g = sym (or_false (holds s g))
 holds-with_facts s (f ∷ fs) g =
@@ -76,7 +77,8 @@ there_already false b h = refl
 -- a fact that is held adds nothing
 pub with_held : (s : FactSet) (f : Fact) → holds s f ≡ true → with_fact s f ≡ s
 with_held s f h =
-    same_set _ _ (λ g. holds-with_fact s f g ∙ sym (there_already (eq_by_cmp fact_cmp g f) (holds s g) (λ e. ap (holds s) (same_fact g f e) ∙ h)))
+    same_set _ _
+    (λ g. holds-with_fact s f g ∙ sym (there_already (eq_by_cmp fact_cmp g f) (holds s g) (λ e. ap (holds s) (same_fact g f e) ∙ h)))
 
 -- ---- join
 or_comm : (a b : Bool) → (a || b) ≡ (b || a)
@@ -105,7 +107,8 @@ join_comm s t = same_set _ _ (λ f. holds-join s t f ∙ or_comm (holds s f) (ho
 
 pub join_assoc : (s t u : FactSet) → join (join s t) u ≡ join s (join t u)
 join_assoc s t u =
-    same_set _ _ (λ f. holds-join (join s t) u f ∙ ap (λ b. b || holds u f) (holds-join s t f) ∙ or_assoc (holds s f) (holds t f) (holds u f)
+    same_set _ _
+    (λ f. holds-join (join s t) u f ∙ ap (λ b. b || holds u f) (holds-join s t f) ∙ or_assoc (holds s f) (holds t f) (holds u f)
     ∙ sym (holds-join s (join t u) f ∙ ap (λ b. holds s f || b) (holds-join t u f)))
 
 pub join_idem : (s : FactSet) → join s s ≡ s
@@ -149,7 +152,8 @@ ties : (f g : Fact) → f ≡ g → eq_by_cmp fact_cmp f g ≡ true
 ties f g e = ap (eq_by_cmp fact_cmp f) (sym e) ∙ ap is_eq (tied_itself fact_order f)
 
 pub in_with_fact : (s : FactSet) (f g : Fact) → holds (with_fact s f) g ≡ true → (g ≡ f) ⊎ (holds s g ≡ true)
-in_with_fact s f g h = elim (or_cases (eq_by_cmp fact_cmp g f) (holds s g) (sym (holds-with_fact s f g) ∙ h)) [ inl e ↦ inl (same_fact g f e) | inr e ↦ inr e ]
+in_with_fact s f g h =
+    elim (or_cases (eq_by_cmp fact_cmp g f) (holds s g) (sym (holds-with_fact s f g) ∙ h)) [ inl e ↦ inl (same_fact g f e) | inr e ↦ inr e ]
 
 pub with_fact_has : (s : FactSet) (f g : Fact) → (g ≡ f) ⊎ (holds s g ≡ true) → holds (with_fact s f) g ≡ true
 with_fact_has s f g h =

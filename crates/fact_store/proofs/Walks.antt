@@ -21,7 +21,9 @@ first_above x (y ∷ ys) h = ap (λ b. cond b (Some y) (find (above x) ys)) ((sp
 
 below_later : (x f : Fact) (xs : List Fact) (i : ℕ) → below_each x xs ≡ true → slice_get xs i ≡ Some f → fact_cmp x f ≡ Less
 below_later x f [] i h e = cc
-below_later x f (y ∷ ys) zero h e = let same : y ≡ f = cc in subst (λ g. fact_cmp x g ≡ Less) same (less (fact_cmp x y) ((split (is_lt (fact_cmp x y)) (below_each x ys) h).0))
+below_later x f (y ∷ ys) zero h e =
+    let same : y ≡ f = cc in
+    subst (λ g. fact_cmp x g ≡ Less) same (less (fact_cmp x y) ((split (is_lt (fact_cmp x y)) (below_each x ys) h).0))
 below_later x f (y ∷ ys) (suc i) h e = below_later x f ys i ((split (is_lt (fact_cmp x y)) (below_each x ys) h).1) e
 
 next_in : (f : Fact) (xs : List Fact) (i : ℕ) → rises xs ≡ true → slice_get xs i ≡ Some f → find (above f) xs ≡ slice_get xs (suc i)
@@ -29,7 +31,8 @@ next_in f [] i h e = cc
 next_in f (y ∷ ys) zero h e =
     let same : y ≡ f = cc in
     subst (λ g. find (above g) (y ∷ ys) ≡ slice_get (y ∷ ys) 1) same
-    (ap (λ o. cond (is_lt o) (Some y) (find (above y) ys)) (tied_itself fact_order y) ∙ first_above y ys ((split (below_each y ys) (rises ys) h).0))
+    (ap (λ o. cond (is_lt o) (Some y) (find (above y) ys)) (tied_itself fact_order y)
+    ∙ first_above y ys ((split (below_each y ys) (rises ys) h).0))
 next_in f (y ∷ ys) (suc i) h e =
     let parts = split (below_each y ys) (rises ys) h in
     let lt : fact_cmp y f ≡ Less = below_later y f ys i parts.0 e in

@@ -74,7 +74,8 @@ least_above s f = find (λ g. is_lt (fact_cmp f g)) (facts_in s)
 
 abbrev coded_key : Coded Key
 coded_key =
-    code_by (List ℕ × (List ℕ × (ℕ × (ℕ × ℕ)))) (coded× (coded_list coded_ℕ) (coded× (coded_list coded_ℕ) (coded× coded_ℕ (coded× coded_ℕ coded_ℕ))))
+    code_by (List ℕ × (List ℕ × (ℕ × (ℕ × ℕ))))
+    (coded× (coded_list coded_ℕ) (coded× (coded_list coded_ℕ) (coded× coded_ℕ (coded× coded_ℕ coded_ℕ))))
     (λ k. (k.program, (k.input, (k.stage, (k.row, k.col)))))
     (λ p. record { program = p.0; input = p.1.0; stage = p.1.1.0; row = p.1.1.1.0; col = p.1.1.1.1 })
     (λ _. refl)

@@ -47,7 +47,8 @@ none_demanded t boxes g alone inlined none r = by (nat_eq r t.stage) refl (is_in
     by true e c f =
         let same : r ≡ t.stage = grind (arith, nat_tests) in
         none_of (λ h. is_inlined t.inlining h ≡ false) g (demands_by t boxes r) (λ h stored. differ t.inlining g h inlined stored)
-        (of_stage (λ h. is_inlined t.inlining h ≡ false) (slice_get t.job.stages r) (region_by t boxes r) (λ s is. alone s (ap (slice_get t.job.stages) (sym same) ∙ is)))
+        (of_stage (λ h. is_inlined t.inlining h ≡ false) (slice_get t.job.stages r) (region_by t boxes r)
+        (λ s is. alone s (ap (slice_get t.job.stages) (sym same) ∙ is)))
     by false e true f =
         let here = none r f e in out_of_target t boxes g r (λ i. if e i then Some t.region else (if f i then here i else None))
     by false e false f = out_of_target t boxes g r (λ i. if e i then Some t.region else (if f i then boxes r else None))

@@ -28,7 +28,8 @@ has_points a = int_le a.rows.lo a.rows.hi && int_le a.cols.lo a.cols.hi
 
 pub if_some-there : (a : Area) → a.rows.lo ≤ℤ a.rows.hi → a.cols.lo ≤ℤ a.cols.hi → if_some a ≡ Some a
 if_some-there a down right =
-    ap (λ t. if t then Some a else None) (and_from (int_le a.rows.lo a.rows.hi) (int_le a.cols.lo a.cols.hi) (to_le a.rows.lo a.rows.hi down) (to_le a.cols.lo a.cols.hi right))
+    ap (λ t. if t then Some a else None) (and_from (int_le a.rows.lo a.rows.hi) (int_le a.cols.lo a.cols.hi)
+    (to_le a.rows.lo a.rows.hi down) (to_le a.cols.lo a.cols.hi right))
 
 -- what if_some answers is the area itself, and has a point
 pub if_some-is : (a b : Area) → if_some a ≡ Some b → (a ≡ b) × (a.rows.lo ≤ℤ a.rows.hi) × (a.cols.lo ≤ℤ a.cols.hi)
@@ -98,4 +99,8 @@ near_subarea a b h area inside =
     let down = area.rows.ordered in let across = area.cols.ordered in
     let first = inside a.rows.lo a.cols.lo ((omega (arith, ints), down), (omega (arith, ints), across)) in
     let last = inside a.rows.hi a.cols.hi ((down, omega (arith, ints)), (across, omega (arith, ints))) in
-    record { rows = near_part a.rows b.rows h.rows area.rows first.0.0 last.0.1; cols = near_part a.cols b.cols h.cols area.cols first.1.0 last.1.1 }
+    record {
+      rows =
+          near_part a.rows b.rows h.rows area.rows first.0.0 last.0.1;
+      cols = near_part a.cols b.cols h.cols area.cols first.1.0 last.1.1;
+    }

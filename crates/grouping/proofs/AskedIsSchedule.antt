@@ -88,7 +88,9 @@ none_takes_none t none = ap points_in (filter_none (λ s. is_inlined t.inlining 
 
 pub stored_fits : (job : Pipeline) → AllFitScratch job (all_stored job)
 stored_fits job g s there has =
-    let make : ℕ × ℕ → Target = λ x. record { job = job; inlining = all_stored job; stage = g; region = tile_area (grid_of job s) x.0 x.1 } in
+    let make : ℕ × ℕ → Target =
+    λ x. record { job = job; inlining = all_stored job; stage = g; region = tile_area (grid_of job s) x.0 x.1 } in
     All-map (λ t. scratch t ≤ most_scratch) make (tiles_of (grid_of job s))
-    (λ k d below. let e : scratch (make (get_or (tiles_of (grid_of job s)) k d)) ≡ 0 = none_takes_none (make (get_or (tiles_of (grid_of job s)) k d)) (none_inlined job.stages) in
+    (λ k d below. let e : scratch (make (get_or (tiles_of (grid_of job s)) k d)) ≡ 0 =
+    none_takes_none (make (get_or (tiles_of (grid_of job s)) k d)) (none_inlined job.stages) in
     subst (λ (n : ℕ). n ≤ most_scratch) (sym e) (omega arith))

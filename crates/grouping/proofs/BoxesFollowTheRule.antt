@@ -50,7 +50,8 @@ pub box_by-same : (t : Target) (b c : ℕ → Option Area) (g : ℕ) → IsRanke
     → ((r : ℕ) → rank_of t.job.stages g < rank_of t.job.stages r → b r ≡ c r) → box_by t b g ≡ box_by t c g
 box_by-same t b c g ranked same =
     ap (λ xs. cut_to (slice_get t.job.stages g) (hull_of_all xs))
-    (same_areas (demands_by t b) (demands_by t c) g (backward t.job.stages) (λ r. from r (cases_lt (rank_of t.job.stages g) (rank_of t.job.stages r))))
+    (same_areas (demands_by t b) (demands_by t c) g (backward t.job.stages)
+    (λ r. from r (cases_lt (rank_of t.job.stages g) (rank_of t.job.stages r))))
   where
     from : (r : ℕ) → (rank_of t.job.stages g < rank_of t.job.stages r) ⊎ (rank_of t.job.stages r ≤ rank_of t.job.stages g)
         → areas_of g (demands_by t b r) ≡ areas_of g (demands_by t c r)

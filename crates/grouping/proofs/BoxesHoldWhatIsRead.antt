@@ -44,13 +44,17 @@ not_below k = omega arith
 pub ordered : (stages : List Stage) (g : ℕ) → g < length stages → Contains (in_order stages) g
 ordered stages g there =
     Contains-flat_map (with_rank stages) (range_with_len 0 (greatest_rank stages + 1)) (rank_of stages g) g
-    (Contains-range 0 (greatest_rank stages + 1) (rank_of stages g) (not_below (rank_of stages g)) (below_more (rank_of stages g) (greatest_rank stages) (rank_below stages g)))
-    (Contains-filter (λ h. nat_eq (rank_of stages h) (rank_of stages g)) (range_with_len 0 (length stages)) g (Contains-range 0 (length stages) g (not_below g) (below_start g (length stages) there)) (eq-eqb (rank_of stages g) (rank_of stages g) refl))
+    (Contains-range 0 (greatest_rank stages + 1) (rank_of stages g) (not_below (rank_of stages g))
+    (below_more (rank_of stages g) (greatest_rank stages) (rank_below stages g)))
+    (Contains-filter (λ h. nat_eq (rank_of stages h) (rank_of stages g)) (range_with_len 0 (length stages)) g
+    (Contains-range 0 (length stages) g (not_below g) (below_start g (length stages) there))
+    (eq-eqb (rank_of stages g) (rank_of stages g) refl))
 
 pub Contains-reverse : (xs : List ℕ) (x : ℕ) → Contains xs x → Contains (reverse xs) x
 Contains-reverse xs x h =
     All-contains (Contains (reverse xs)) xs x
-    (subst (All (Contains (reverse xs))) (reverse-reverse xs) (All-reverse (Contains (reverse xs)) (reverse xs) (All-contains_itself (reverse xs)))) h
+    (subst (All (Contains (reverse xs))) (reverse-reverse xs)
+    (All-reverse (Contains (reverse xs)) (reverse xs) (All-contains_itself (reverse xs)))) h
 
 -- ---- what is demanded lies in boxes
 
@@ -78,7 +82,8 @@ covered t d ranked there = λ r c holds readable.
 all_covered : (t : Target) (g : ℕ) → IsRanked t.job.stages → g < length t.job.stages → All (IsCovered t) (demands_by t (box t) g)
 all_covered t g ranked there =
     All-weaker (Contains (demands_by t (box t) g)) (IsCovered t)
-    (λ d inside. covered t d ranked (Contains-flat_map (demands_by t (box t)) (backward t.job.stages) g d (Contains-reverse (in_order t.job.stages) g (ordered t.job.stages g there)) inside))
+    (λ d inside. covered t d ranked (Contains-flat_map (demands_by t (box t)) (backward t.job.stages) g d
+    (Contains-reverse (in_order t.job.stages) g (ordered t.job.stages g there)) inside))
     (demands_by t (box t) g) (All-contains_itself (demands_by t (box t) g))
 
 -- ---- so does what is read
@@ -99,7 +104,8 @@ module _ (t : Target) (a : Area) (r c : ℤ) where
       All-both (λ x. IsCovered t (read_demand b x)) (λ x. IsRead x × EachTaken Readable x r c) (λ x. EachTaken (IsInBox t) x r c)
       (λ x over both. read_lies b x h over both.0 both.1) (reads_in f)
       (All-from_map (IsCovered t) (read_demand b) (reads_in f) cover)
-      (All-both IsRead (λ x. EachTaken Readable x r c) (λ x. IsRead x × EachTaken Readable x r c) (λ x one two. (one, two)) (reads_in f) (reads_are f is) taken)
+      (All-both IsRead (λ x. EachTaken Readable x r c) (λ x. IsRead x × EachTaken Readable x r c) (λ x one two. (one, two)) (reads_in f)
+      (reads_are f is) taken)
 
   case_lies : (p : JobCase) → HoldsPoint a r c → All (IsCovered t) (case_demands a p) → IsFormula p.formula → CaseReads Readable p r c
       → CaseReads (IsInBox t) p r c
@@ -114,8 +120,10 @@ module _ (t : Target) (a : Area) (r c : ℤ) where
   cases_lie [] h cover is taken = All-nil (λ p. CaseReads (IsInBox t) p r c)
   cases_lie (p ∷ ps) h cover is taken =
       All-cons (λ p. CaseReads (IsInBox t) p r c) p ps
-      (case_lies p h (All-left (IsCovered t) (case_demands a p) (flat_map (case_demands a) ps) cover) (All-head IsFormula p.formula (map (λ p. p.formula) ps) is) (All-head (λ p. CaseReads Readable p r c) p ps taken))
-      (cases_lie ps h (All-right (IsCovered t) (case_demands a p) (flat_map (case_demands a) ps) cover) (All-tail IsFormula p.formula (map (λ p. p.formula) ps) is) (All-tail (λ p. CaseReads Readable p r c) p ps taken))
+      (case_lies p h (All-left (IsCovered t) (case_demands a p) (flat_map (case_demands a) ps) cover)
+      (All-head IsFormula p.formula (map (λ p. p.formula) ps) is) (All-head (λ p. CaseReads Readable p r c) p ps taken))
+      (cases_lie ps h (All-right (IsCovered t) (case_demands a p) (flat_map (case_demands a) ps) cover)
+      (All-tail IsFormula p.formula (map (λ p. p.formula) ps) is) (All-tail (λ p. CaseReads Readable p r c) p ps taken))
 
   other_lies : (o : Option Formula) → HoldsPoint a r c → All (IsCovered t) (other_demands o a) → All IsFormula (other_formula o)
       → ForSome o (λ f. EachRead Readable f r c) → ForSome o (λ f. EachRead (IsInBox t) f r c)

@@ -80,7 +80,8 @@ listed_one t g job = by (is_boxed t g) refl
     with_box (Some a) e is =
         let owner = there_is t.job g e in
         let inside = box_inside t g owner.0 a job owner.1 is in
-        All-cons (IsListed t) (g, a) [] (record { owner = owner.0; there = owner.1; function = e; is = is; area = inside.0; inside = inside.1 }) (All-nil (IsListed t))
+        All-cons (IsListed t) (g, a) []
+        (record { owner = owner.0; there = owner.1; function = e; is = is; area = inside.0; inside = inside.1 }) (All-nil (IsListed t))
 
     by : (b : Bool) → is_boxed t g ≡ b → All (IsListed t) (if b then with_number g (box t g) else [])
     by true e = with_box (box t g) (and_parts (is_function t.job g) (not (nat_eq g t.stage)) e).0 refl

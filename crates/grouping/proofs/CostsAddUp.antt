@@ -106,7 +106,8 @@ cost_is job inlining g s =
     let t : Target = over_domain job inlining g s in
     let tiles : List (ℕ × ℕ) = tiles_of (grid_of job s) in
     let f : ℕ × ℕ → Area = λ x. tile_area (grid_of job s) x.0 x.1 in
-    ap sum (map_map points (λ x. over t (f x)) tiles ∙ sym (map_map (λ a. points (over t a)) f tiles) ∙ ap (map (λ a. points (over t a))) (areas_are (grid_of job s)))
+    ap sum (map_map points (λ x. over t (f x)) tiles ∙ sym (map_map (λ a. points (over t a)) f tiles)
+    ∙ ap (map (λ a. points (over t a))) (areas_are (grid_of job s)))
 
 has_tile : (g : Grid) (t : ℕ × ℕ) → Contains (range_with_len 0 (tile_rows g)) t.0 × Contains (range_with_len 0 (tile_cols g)) t.1
     → HasTile g t.0 t.1
@@ -165,7 +166,8 @@ below_all p n g all below =
 
 -- room for each tile is room for each area
 pub fits_is : (job : Pipeline) (inlining : List Bool) (g : ℕ) (s : Stage)
-    → list_all has_scratch (tile_targets job inlining g s) ≡ all_have_scratch (over_domain job inlining g s) (areas_of_tiles (grid_of job s))
+    → list_all has_scratch (tile_targets job inlining g s)
+    ≡ all_have_scratch (over_domain job inlining g s) (areas_of_tiles (grid_of job s))
 fits_is job inlining g s =
     let t : Target = over_domain job inlining g s in
     let tiles : List (ℕ × ℕ) = tiles_of (grid_of job s) in
@@ -183,7 +185,9 @@ fits_from job inlining n grid b at stored is =
     let all : b ≡ list_all has_scratch (tile_targets job inlining n g.stage) = is
     ∙ ap (λ (x : Grid). all_have_scratch t (areas_of_tiles x)) (sym g.is) ∙ sym (fits_is job inlining n g.stage) in
     let has : (has_tiles g.stage.body && not (is_inlined inlining n)) ≡ true = (λ i. g.tiles i && not (stored i)) in
-    all ∙ sym (ap (stage_fits job inlining n) g.there ∙ ap (λ d. if d then list_all has_scratch (tile_targets job inlining n g.stage) else true) has)
+    all
+    ∙ sym (ap (stage_fits job inlining n) g.there
+    ∙ ap (λ d. if d then list_all has_scratch (tile_targets job inlining n g.stage) else true) has)
 
 tiles_fit : (job : Pipeline) (inlining : List Bool) (g : ℕ) (s : Stage) → list_all has_scratch (tile_targets job inlining g s) ≡ true
     → FitsScratch job inlining g s

@@ -184,7 +184,8 @@ kept_small job inlining g is = by (slice_get job.stages g) refl
     pick : (s : Stage) → slice_get job.stages g ≡ Some s → (b : Bool) → (has_tiles s.body && not (is_inlined inlining g)) ≡ b
         → option_map_or (λ n. n) (if b then Some (cost_of job inlining g s) else None) 0 < 2 ^ 63
     pick s there true has =
-        let small = cost_small (over_domain job inlining g s) (areas_of_tiles (grid_of job s)) is (tiles_are_targets job inlining g s is there)
+        let small = cost_small (over_domain job inlining g s) (areas_of_tiles (grid_of job s)) is
+        (tiles_are_targets job inlining g s is there)
         (areas_few job g (grid_of job s) is (ap (stage_grid job) there
         ∙ ap (λ c. if c then Some (grid_of job s) else None) (and_parts (has_tiles s.body) (not (is_inlined inlining g)) has).0)) in
         omega (arith, cost_is job inlining g s, small)

@@ -63,7 +63,8 @@ one_step : (t : Target) (g x : ℕ) (b c : ℕ → Option Area) → IsRanked t.j
     → ((r : ℕ) → rank_of t.job.stages x < rank_of t.job.stages r → b r ≡ c r) → box_by (with_one t g) b x ≡ box_by t c x
 one_step t g x b c ranked low same =
     ap (λ xs. cut_to (slice_get t.job.stages x) (hull_of_all xs))
-    (same_areas (demands_by (with_one t g) b) (demands_by t c) x (backward t.job.stages) (λ r. from r (cases_lt (rank_of t.job.stages x) (rank_of t.job.stages r))))
+    (same_areas (demands_by (with_one t g) b) (demands_by t c) x (backward t.job.stages)
+    (λ r. from r (cases_lt (rank_of t.job.stages x) (rank_of t.job.stages r))))
   where
     from : (r : ℕ) → (rank_of t.job.stages x < rank_of t.job.stages r) ⊎ (rank_of t.job.stages r ≤ rank_of t.job.stages x)
         → areas_of x (demands_by (with_one t g) b r) ≡ areas_of x (demands_by t c r)
@@ -194,7 +195,8 @@ points_by job inlining h stored None = refl
 points_by job inlining h stored (Some s) = by (has_tiles s.body)
   where
     by : (b : Bool) → option_map_or (λ n. n) (if b && not (is_inlined inlining h) then Some (cost_of job inlining h s) else None) 0
-        ≡ sum (map (λ a. points (target_over job inlining h a)) (option_map_or areas_of_tiles (if b then Some (grid_of job s) else None) []))
+        ≡ sum
+        (map (λ a. points (target_over job inlining h a)) (option_map_or areas_of_tiles (if b then Some (grid_of job s) else None) []))
     by false = refl
     by true = ap (λ c. option_map_or (λ n. n) (if not c then Some (cost_of job inlining h s) else None) 0) stored ∙ cost_is job inlining h s
 
@@ -239,7 +241,8 @@ room_by job inlining h stored (Some s) = by (has_tiles s.body)
     fits = list_all has_scratch (tile_targets job inlining h s)
 
     by : (b : Bool) → (if b && not (is_inlined inlining h) then fits else true)
-        ≡ list_all (λ n. nat_le n most_scratch) (map (λ a. scratch (target_over job inlining h a)) (option_map_or areas_of_tiles (if b then Some (grid_of job s) else None) []))
+        ≡ list_all (λ n. nat_le n most_scratch)
+        (map (λ a. scratch (target_over job inlining h a)) (option_map_or areas_of_tiles (if b then Some (grid_of job s) else None) []))
     by false = refl
     by true =
         ap (λ c. if not c then fits else true) stored
@@ -268,7 +271,9 @@ areas_are_targets job inlining h is = by (slice_get job.stages h) refl
 
     by : (o : Option Stage) → slice_get job.stages h ≡ o → All (λ a. IsTarget (target_over job inlining h a)) (areas_at job h)
     by o there =
-        subst (λ (x : Option Stage). All (λ a. IsTarget (target_over job inlining h a)) (option_map_or areas_of_tiles (stage_grid job x) [])) (sym there) (from o there)
+        subst
+        (λ (x : Option Stage). All (λ a. IsTarget (target_over job inlining h a)) (option_map_or areas_of_tiles (stage_grid job x) []))
+        (sym there) (from o there)
 
 -- ---- where g has no box in h, neither the points of h nor its room change
 
@@ -296,7 +301,8 @@ scratch_stays job inlining g h is function other stored below behind group none 
     scratch_rises job inlining g h is function other stored below behind group
     ∙ map_same (λ a. scratch (target_over job inlining h a) + points_of_box (box (target_over job inlining h a) g))
     (λ a. scratch (target_over job inlining h a)) (areas_at job h)
-    (λ a. and_none (scratch (target_over job inlining h a)) (points_of_box (box (target_over job inlining h a) g)) (ap points_of_box (none a)))
+    (λ a. and_none (scratch (target_over job inlining h a)) (points_of_box (box (target_over job inlining h a) g))
+    (ap points_of_box (none a)))
 
 pub room_stays : (job : Pipeline) (inlining : List Bool) (g h : ℕ) → IsJob job → is_function job g ≡ true → nat_eq g h ≡ false
     → is_inlined inlining g ≡ false → g < length inlining → NoneInlinedBelow job inlining g → is_inlined inlining h ≡ false

@@ -34,7 +34,8 @@ of_cases : (P : ℕ → Type 0) (ps : List JobCase) (a : Area) → OfReads P (fl
 of_cases P [] a h = All-nil (λ d. P d.stage)
 of_cases P (p ∷ ps) a h =
     All-append (λ d. P d.stage) (case_demands a p) (flat_map (case_demands a) ps)
-    (of_some P p.formula (meet_of_box p.box a) (All-left (λ x. P (stage_read x)) (reads_in p.formula) (flat_map reads_in (map (λ p. p.formula) ps)) h))
+    (of_some P p.formula (meet_of_box p.box a)
+    (All-left (λ x. P (stage_read x)) (reads_in p.formula) (flat_map reads_in (map (λ p. p.formula) ps)) h))
     (of_cases P ps a (All-right (λ x. P (stage_read x)) (reads_in p.formula) (flat_map reads_in (map (λ p. p.formula) ps)) h))
 
 of_other : (P : ℕ → Type 0) (o : Option Formula) (a : Area) → OfReads P (flat_map reads_in (other_formula o))
@@ -49,7 +50,9 @@ of_body P (function cases otherwise) a h =
     All-append (λ d. P d.stage) (flat_map (case_demands a) cases) (other_demands otherwise a) (of_cases P cases a parts.0)
     (of_other P otherwise a parts.1)
   where
-    both : reads_of (function cases otherwise) ≡ flat_map reads_in (map (λ p. p.formula) cases) ++ flat_map reads_in (other_formula otherwise) → OfReads P (reads_of (function cases otherwise))
+    both : reads_of (function cases otherwise)
+        ≡ flat_map reads_in (map (λ p. p.formula) cases) ++ flat_map reads_in (other_formula otherwise)
+        → OfReads P (reads_of (function cases otherwise))
         → OfReads P (flat_map reads_in (map (λ p. p.formula) cases)) × OfReads P (flat_map reads_in (other_formula otherwise))
     both e k =
         let all : OfReads P (flat_map reads_in (map (λ p. p.formula) cases) ++ flat_map reads_in (other_formula otherwise)) = subst
@@ -62,7 +65,8 @@ of_body P (function cases otherwise) a h =
 of_body P (accumulator fold bins value bin) a h =
     All-append (λ d. P d.stage) (formula_demands value a) (formula_demands bin a)
     (of_formula P value a (All-left (λ x. P (stage_read x)) (reads_in value) (reads_in bin ++ []) h))
-    (of_formula P bin a (All-left (λ x. P (stage_read x)) (reads_in bin) [] (All-right (λ x. P (stage_read x)) (reads_in value) (reads_in bin ++ []) h)))
+    (of_formula P bin a
+    (All-left (λ x. P (stage_read x)) (reads_in bin) [] (All-right (λ x. P (stage_read x)) (reads_in value) (reads_in bin ++ []) h)))
 
 pub of_stage : (P : ℕ → Type 0) (o : Option Stage) (region : Option Area) → ((s : Stage) → o ≡ Some s → OfReads P (reads_of s.body))
     → OfDemands P (stage_demands o region)
@@ -96,4 +100,5 @@ pub none_of_higher : (t : Target) (boxes : ℕ → Option Area) (r g : ℕ) → 
     → rank_of t.job.stages r ≤ rank_of t.job.stages g → areas_of g (demands_by t boxes r) ≡ []
 none_of_higher t boxes r g ranked low =
     none_of (λ h. rank_of t.job.stages h < rank_of t.job.stages r) g (demands_by t boxes r) (λ h falls. differ t.job.stages g r h low falls)
-    (of_stage (λ h. rank_of t.job.stages h < rank_of t.job.stages r) (slice_get t.job.stages r) (region_by t boxes r) (λ s is. reads_fall t.job.stages ranked r s is))
+    (of_stage (λ h. rank_of t.job.stages h < rank_of t.job.stages r) (slice_get t.job.stages r) (region_by t boxes r)
+    (λ s is. reads_fall t.job.stages ranked r s is))

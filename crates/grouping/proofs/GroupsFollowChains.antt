@@ -118,7 +118,8 @@ follow_visited : (job : Pipeline) (percent : ℕ) (c : Grouping) (g : ℕ) → I
     → NoneInlinedBelow job c.inlining g → GroupsFollow job (visited job percent c g)
 follow_visited job percent c g valid follow there behind =
     visited_by (GroupsFollow job) job percent c g follow
-    (λ function inner h shared. groups_follow_next (record { valid = valid; follow = follow; there = there; behind = behind; one_group = shared }))
+    (λ function inner h shared. groups_follow_next
+    (record { valid = valid; follow = follow; there = there; behind = behind; one_group = shared }))
 
 follow_all : (job : Pipeline) (percent : ℕ) (c : Grouping) (gs : List ℕ) → IsJob job → GroupsFollow job c → Falls job.stages gs
     → All (λ g. g < length job.stages) gs → All (IsFree job c.inlining) gs
@@ -126,7 +127,8 @@ follow_all : (job : Pipeline) (percent : ℕ) (c : Grouping) (gs : List ℕ) →
 follow_all job percent c [] valid follow falls there free = follow
 follow_all job percent c (g ∷ gs) valid follow falls there free =
     follow_all job percent (visited job percent c g) gs valid
-    (follow_visited job percent c g valid follow (All-head (λ g. g < length job.stages) g gs there) (All-head (IsFree job c.inlining) g gs free).1)
+    (follow_visited job percent c g valid follow (All-head (λ g. g < length job.stages) g gs there)
+    (All-head (IsFree job c.inlining) g gs free).1)
     falls.1 (All-tail (λ g. g < length job.stages) g gs there)
     (all_free_still job percent c g gs falls.0 (All-tail (IsFree job c.inlining) g gs free))
 
@@ -193,7 +195,8 @@ module _ (job : Pipeline) (c : Grouping) (valid : IsJob job) (follow : GroupsFol
     in_steps : (n x : ℕ) → greatest_rank job.stages < n + rank_of job.stages x → Q x
     in_steps zero x enough = absurd (let low = rank_below job.stages x in omega arith)
     in_steps (suc n) x enough =
-        by_flag (is_inlined c.inlining x) x refl (λ r high. in_steps n r (enough_left (greatest_rank job.stages) n (rank_of job.stages x) (rank_of job.stages r) enough high))
+        by_flag (is_inlined c.inlining x) x refl
+        (λ r high. in_steps n r (enough_left (greatest_rank job.stages) n (rank_of job.stages x) (rank_of job.stages r) enough high))
 
     of_each : (x : ℕ) → Q x
     of_each x = in_steps (suc (greatest_rank job.stages)) x (all_enough (greatest_rank job.stages) (rank_of job.stages x))

@@ -58,7 +58,8 @@ pub demand_in_hull : (ds : List Demand) (d : Demand) (r c : ℤ) → Contains ds
 demand_in_hull ds d r c there h =
     All-contains (λ a. HoldsPoint a r c → InHull (hull_of_all (areas_of d.stage ds)) r c) (areas_of d.stage ds) d.area
     (fold_has (areas_of d.stage ds) None r c)
-    (Contains-map (λ e. e.area) (filter (λ e. nat_eq e.stage d.stage) ds) d (Contains-filter (λ e. nat_eq e.stage d.stage) ds d there (eq-eqb d.stage d.stage refl))) h
+    (Contains-map (λ e. e.area) (filter (λ e. nat_eq e.stage d.stage) ds) d
+    (Contains-filter (λ e. nat_eq e.stage d.stage) ds d there (eq-eqb d.stage d.stage refl))) h
 
 -- ---- meets
 
@@ -86,7 +87,8 @@ fold_least : (areas : List Area) (o : Option Area) (s h : Area) → ((b : Area) 
     → All (λ a. IsSubarea a s) areas → fold grown_by o areas ≡ Some h → IsSubarea h s
 fold_least [] o s h before each inside is = (before h is).1
 fold_least (a ∷ rest) o s h before each inside is =
-    fold_least rest (grown_by o a) s h (λ b made. least_with o a s b before (All-head IsArea a rest each) (All-head (λ a. IsSubarea a s) a rest inside) made)
+    fold_least rest (grown_by o a) s h
+    (λ b made. least_with o a s b before (All-head IsArea a rest each) (All-head (λ a. IsSubarea a s) a rest inside) made)
     (All-tail IsArea a rest each) (All-tail (λ a. IsSubarea a s) a rest inside) is
 
 in_this : (o : Option Area) (h : Area) (r c : ℤ) → o ≡ Some h → InHull o r c → HoldsPoint h r c

@@ -32,7 +32,8 @@ reads_are (clamp a low high) h =
     (All-append IsRead (reads_in a) (reads_in low) (reads_are a h.0) (reads_are low h.1)) (reads_are high h.2)
 reads_are (select a relation b first second) h =
     All-append IsRead (reads_in a ++ reads_in b ++ reads_in first) (reads_in second)
-    (All-append IsRead (reads_in a ++ reads_in b) (reads_in first) (All-append IsRead (reads_in a) (reads_in b) (reads_are a h.0) (reads_are b h.1)) (reads_are first h.2))
+    (All-append IsRead (reads_in a ++ reads_in b) (reads_in first)
+    (All-append IsRead (reads_in a) (reads_in b) (reads_are a h.0) (reads_are b h.1)) (reads_are first h.2))
     (reads_are second h.3)
 reads_are (stencil g divisor kernel) h = All-cons IsRead (window g kernel) [] h.1 (All-nil IsRead)
 
@@ -54,4 +55,7 @@ pub image_holds : (x : Read) (region : Area) (r c : ℤ) → IsRead x → HoldsP
     → EachTaken (λ g i j. HoldsPoint (image_under x region) i j) x r c
 image_holds (point g i j) region r c is h = (in_image i region.rows r is.0 h.0, in_image j region.cols c is.1 h.1)
 image_holds (window g kernel) region r c is h =
-    λ a b la lb. (in_widened region.rows r (length kernel) a la h.0, in_widened region.cols c (length (factors kernel 0)) b (width_of kernel a b is la lb) h.1)
+    λ a b la lb. (
+      in_widened region.rows r (length kernel) a la h.0,
+      in_widened region.cols c (length (factors kernel 0)) b (width_of kernel a b is la lb) h.1,
+    )

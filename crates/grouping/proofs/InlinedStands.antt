@@ -44,7 +44,8 @@ with_standing P job c standings r stand there stored inlined = by (slice_get_cas
     from (Stored n tiles) k = stored n tiles.items k
     from (Inlined boxes) k = inlined boxes.items k
 
-    by : ((s : Standing) × (r < length standings) × (slice_get standings r ≡ Some s) × (slice_index_or standings r s ≡ s)) ⊎ ((length standings ≤ r) × (slice_get standings r ≡ None)) → P
+    by : ((s : Standing) × (r < length standings) × (slice_get standings r ≡ Some s) × (slice_index_or standings r s ≡ s))
+        ⊎ ((length standings ≤ r) × (slice_get standings r ≡ None)) → P
     by (inl (s, below, is, same)) = from s (stand.each r s is)
     by (inr (past, none)) = let all = stand.all in absurd (omega (arith, past, there, all))
 
@@ -112,7 +113,8 @@ out_of_all job c standings g h k a (r ∷ rs) is stand off apart read shared =
     let here = All-head (λ r. group c r ≡ h) r rs shared in
     All-cons (λ r. region (target_over job c.inlining k a) r ≡ None) r rs
     (out_of job c standings g r k a stand behind off (λ e. apart (e ∙ here)))
-    (out_of_all job c standings g h k a rs is stand off apart (All-tail (λ r. does_read job g r ≡ true) r rs read) (All-tail (λ r. group c r ≡ h) r rs shared))
+    (out_of_all job c standings g h k a rs is stand off apart (All-tail (λ r. does_read job g r ≡ true) r rs read)
+    (All-tail (λ r. group c r ≡ h) r rs shared))
 
 -- a function has no box in the tiles of stored stages other than the one group of its readers
 pub none_elsewhere : (job : Pipeline) (c : Grouping) (standings : List Standing) (g h : ℕ) → IsJob job → AllStand job c standings
@@ -260,7 +262,8 @@ module _ {job : Pipeline} {c : Grouping} {standings : List Standing} {g h : ℕ}
       record {
         stored = flag_stays x other ∙ s.stored;
         own = group_stays x other ∙ s.own;
-        costs = s.costs ∙ sym (cost_stays job c.inlining g x step.valid step.function differ step.stored flag_there step.behind s.stored none);
+        costs =
+            s.costs ∙ sym (cost_stays job c.inlining g x step.valid step.function differ step.stored flag_there step.behind s.stored none);
         in_scratch = s.in_scratch
             ∙ sym (scratch_stays job c.inlining g x step.valid step.function differ step.stored flag_there step.behind s.stored none);
         room = room_stays job c.inlining g x step.valid step.function differ step.stored flag_there step.behind s.stored none ∙ s.room;
@@ -281,7 +284,8 @@ module _ {job : Pipeline} {c : Grouping} {standings : List Standing} {g h : ℕ}
   each_stands : (s s' : Standing) → Stands job (with_inlined c g h) g s → Stands job (with_inlined c g h) h s'
       → (x : ℕ) (y : Standing) → slice_get (slice_set (slice_set standings g s) h s') x ≡ Some y → Stands job (with_inlined c g h) x y
   each_stands s s' here there x y is =
-      by (set_twice standings g h x s s' y (let all = step.stand.all in let there = step.there in omega arith) (let all = step.stand.all in let there = step_group.2 in omega arith) is)
+      by (set_twice standings g h x s s' y (let all = step.stand.all in let there = step.there in omega arith)
+      (let all = step.stand.all in let there = step_group.2 in omega arith) is)
     where
       by : ((x ≡ h) × (s' ≡ y)) ⊎ (((x ≡ g) × (s ≡ y)) ⊎ ((x ≢ h) × (x ≢ g) × (slice_get standings x ≡ Some y)))
           → Stands job (with_inlined c g h) x y
@@ -313,7 +317,8 @@ module _ {job : Pipeline} {c : Grouping} {standings : List Standing} {g h : ℕ}
 
   -- and by the room in each tile
   pub fits_is : (tiles : List ℕ)
-      → tiles ≡ map (λ a. scratch (target_over job c.inlining h a) + points_of_box (box (target_over job c.inlining h a) g)) (areas_at job h)
+      → tiles
+      ≡ map (λ a. scratch (target_over job c.inlining h a) + points_of_box (box (target_over job c.inlining h a) g)) (areas_at job h)
       → list_all (λ n. nat_le n most_scratch) tiles ≡ has_room job c.inlining g h
   fits_is tiles are =
       ap (list_all (λ n. nat_le n most_scratch))
@@ -331,6 +336,7 @@ points_kept job c standings g stand there off = by (slice_get_cases standings g)
     from (Stored n tiles) k = k.costs
     from (Inlined boxes) k = absurd (false≢true (sym off ∙ k.inlined))
 
-    by : ((s : Standing) × (g < length standings) × (slice_get standings g ≡ Some s) × (slice_index_or standings g s ≡ s)) ⊎ ((length standings ≤ g) × (slice_get standings g ≡ None)) → kept_cost (slice_get standings g) ≡ cost_or_zero job c.inlining g
+    by : ((s : Standing) × (g < length standings) × (slice_get standings g ≡ Some s) × (slice_index_or standings g s ≡ s))
+        ⊎ ((length standings ≤ g) × (slice_get standings g ≡ None)) → kept_cost (slice_get standings g) ≡ cost_or_zero job c.inlining g
     by (inl (s, below, is, same)) = ap kept_cost is ∙ from s (stand.each g s is)
     by (inr (past, none)) = let all = stand.all in absurd (omega (arith, past, there, all))

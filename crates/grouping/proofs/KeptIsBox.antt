@@ -85,5 +85,8 @@ pub common_is : (c : Grouping) (rs : List ℕ) (r : ℕ) → slice_get rs 0 ≡ 
 common_is c [] r first = absurd (cc)
 common_is c (x ∷ xs) r first =
     let same : x ≡ r = cc in
-    subst (λ (y : ℕ). common_group c (x ∷ xs) ≡ (if list_all (λ g. nat_eq (group c g) (group c y)) (x ∷ xs) then Some (group c y) else None)) same
-    (sym (ap (λ b. if b && list_all (λ g. nat_eq (group c g) (group c x)) xs then Some (group c x) else None) (eq-eqb (group c x) (group c x) refl)))
+    subst
+    (λ (y : ℕ). common_group c (x ∷ xs) ≡ (if list_all (λ g. nat_eq (group c g) (group c y)) (x ∷ xs) then Some (group c y) else None))
+    same
+    (sym (ap (λ b. if b && list_all (λ g. nat_eq (group c g) (group c x)) xs then Some (group c x) else None)
+    (eq-eqb (group c x) (group c x) refl)))

@@ -38,7 +38,8 @@ pub none_unread : (t : Target) (boxes : ℕ → Option Area) (g r : ℕ) → doe
 none_unread t boxes g r e =
     none_of (λ h. nat_eq h g ≡ false) g (demands_by t boxes r) (λ h other. other)
     (of_stage (λ h. nat_eq h g ≡ false) (slice_get t.job.stages r) (region_by t boxes r)
-    (λ s is. not_read g (reads_of s.body) (ap (λ (o : Option Stage). list_any (λ x. nat_eq (stage_read x) g) (option_map_or (λ s. reads_of s.body) o [])) (sym is) ∙ e)))
+    (λ s is. not_read g (reads_of s.body)
+    (ap (λ (o : Option Stage). list_any (λ x. nat_eq (stage_read x) g) (option_map_or (λ s. reads_of s.body) o [])) (sym is) ∙ e)))
 
 -- ---- so the readers' demands alone make the box
 
@@ -73,7 +74,8 @@ pub no_box : (t : Target) (g : ℕ) → IsJob t.job → All (λ r. region t r �
 no_box t g job out =
     box_of_readers t g job
     ∙ ap (λ xs. cut_to (slice_get t.job.stages g) (hull_of_all xs)) (none_of_them (demands_by t (box t)) g (readers t.job g)
-    (All-weaker (λ r. region t r ≡ None) (λ r. areas_of g (demands_by t (box t) r) ≡ []) (λ r e. out_of_target t (box t) g r e) (readers t.job g) out))
+    (All-weaker (λ r. region t r ≡ None) (λ r. areas_of g (demands_by t (box t) r) ≡ []) (λ r e. out_of_target t (box t) g r e)
+    (readers t.job g) out))
     ∙ uncut (slice_get t.job.stages g)
 
 -- the hull after the readers have demanded, cut to the domain, is the box, whatever was demanded of others before
@@ -83,7 +85,8 @@ cut_is_box t g hulls job there =
     let demands = flat_map (demands_by t (box t)) (readers t.job g) in
     let kept = length-set hulls g None in
     let there_still : g < length (slice_set hulls g None) = omega arith in
-    ap (cut_to (slice_get t.job.stages g)) (hull_after demands (slice_set hulls g None) g there_still ∙ ap (λ h. fold grown_by h (areas_of g demands)) (get_or-set_same hulls g None None there)) ∙ sym (box_of_readers t g job)
+    ap (cut_to (slice_get t.job.stages g)) (hull_after demands (slice_set hulls g None) g there_still
+    ∙ ap (λ h. fold grown_by h (areas_of g demands)) (get_or-set_same hulls g None None there)) ∙ sym (box_of_readers t g job)
 
 -- ---- a reader has a greater rank
 
@@ -144,7 +147,8 @@ near_region t g a job target there = by (nat_eq g t.stage) there
     by : (b : Bool) → (if b then Some t.region else (if is_inlined t.inlining g then box t g else None)) ≡ Some a → InDomainRanges a
     by true k =
         let whole : t.region ≡ a = cc in
-        subst InDomainRanges whole (near_subarea t.region target.owner.domain (near_domain t t.stage target.owner job target.there) target.area target.inside)
+        subst InDomainRanges whole
+        (near_subarea t.region target.owner.domain (near_domain t t.stage target.owner job target.there) target.area target.inside)
     by false k = inlined (is_inlined t.inlining g) k
 
 -- ---- groups
@@ -159,5 +163,6 @@ group_shared c (r ∷ rs) h e = by (list_all (λ q. nat_eq (group c q) (group c 
     by true same k =
         let first : group c r ≡ h = cc in
         All-cons (λ r. group c r ≡ h) r rs first
-        (All-weaker (λ q. nat_eq (group c q) (group c r) ≡ true) (λ r. group c r ≡ h) (λ q e. eqb-true (group c q) (group c r) e ∙ first) rs (AllPass-from_list_all (λ q. nat_eq (group c q) (group c r)) rs same))
+        (All-weaker (λ q. nat_eq (group c q) (group c r) ≡ true) (λ r. group c r ≡ h) (λ q e. eqb-true (group c q) (group c r) e ∙ first) rs
+        (AllPass-from_list_all (λ q. nat_eq (group c q) (group c r)) rs same))
     by false same k = absurd (cc)

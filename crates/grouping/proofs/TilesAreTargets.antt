@@ -42,7 +42,14 @@ pub tile_of_stage_is_target : (job : Pipeline) (inlining : List Bool) (g : ℕ) 
     → slice_get job.stages g ≡ Some s → HasTile (grid_of job s) i j
     → IsTarget (target_over job inlining g (tile_area (grid_of job s) i j))
 tile_of_stage_is_target job inlining g s i j h there has =
-    record { owner = s; there = there; area = tile_fits (grid_of job s) i j (grid_of_stage_fits job g s h there) has; inside = tile_inside (grid_of job s) i j }
+    record {
+      owner =
+          s;
+      there =
+          there;
+      area = tile_fits (grid_of job s) i j (grid_of_stage_fits job g s h there) has;
+      inside = tile_inside (grid_of job s) i j;
+    }
 
 pub tile_is_target : (job : Pipeline) (inlining : List Bool) (g i j : ℕ) (grid : Grid) → IsJob job → grid_at job g ≡ Some grid
     → HasTile grid i j → IsTarget (target_over job inlining g (tile_area grid i j))

@@ -75,7 +75,8 @@ backward_falls stages = reverse_falls stages (in_order stages) (rises stages (in
 pub backward_there : (stages : List Stage) → All (λ g. g < length stages) (backward stages)
 backward_there stages =
     All-reverse (λ g. g < length stages) (in_order stages)
-    (All-weaker (Contains (in_order stages)) (λ g. g < length stages) (λ g inside. (order_has stages g).0 inside) (in_order stages) (All-contains_itself (in_order stages)))
+    (All-weaker (Contains (in_order stages)) (λ g. g < length stages) (λ g inside. (order_has stages g).0 inside) (in_order stages)
+    (All-contains_itself (in_order stages)))
 
 -- ---- visits
 
@@ -188,7 +189,9 @@ cost_at job inlining g = by (cases_lt g (length job.stages))
 pub all_have_room : (job : Pipeline) (inlining : List Bool)
     → ((g : ℕ) → g < length job.stages → stage_fits job inlining g (slice_get job.stages g) ≡ true) → AllFitScratch job inlining
 all_have_room job inlining room =
-    all_fit job inlining (list_all-from_AllPass (λ g. stage_fits job inlining g (slice_get job.stages g)) (range_with_len 0 (length job.stages)) (λ k d low. let g = get_or (range_with_len 0 (length job.stages)) k d in by g (cases_lt g (length job.stages))))
+    all_fit job inlining (list_all-from_AllPass (λ g. stage_fits job inlining g (slice_get job.stages g))
+    (range_with_len 0 (length job.stages))
+    (λ k d low. let g = get_or (range_with_len 0 (length job.stages)) k d in by g (cases_lt g (length job.stages))))
   where
     by : (g : ℕ) → (g < length job.stages) ⊎ (length job.stages ≤ g) → stage_fits job inlining g (slice_get job.stages g) ≡ true
     by g (inl below) = room g below

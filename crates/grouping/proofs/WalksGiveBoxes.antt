@@ -99,7 +99,8 @@ all_came_in t r done rest ranked e low =
     ∙ ap (areas_of r) (flat_map-append (demands_in t) done (r ∷ rest))
     ∙ areas_of-append r (flat_map (demands_in t) done) (flat_map (demands_in t) (r ∷ rest))
     ∙ ap (λ xs. areas_of r (flat_map (demands_in t) done) ++ xs)
-    (none_later t r (r ∷ rest) ranked (All-cons (λ q. rank_of t.job.stages q ≤ rank_of t.job.stages r) r rest (le_refl (rank_of t.job.stages r)) low))
+    (none_later t r (r ∷ rest) ranked
+    (All-cons (λ q. rank_of t.job.stages q ≤ rank_of t.job.stages r) r rest (le_refl (rank_of t.job.stages r)) low))
     ∙ append-nil (areas_of r (flat_map (demands_in t) done))
 
 cut_is_box : (t : Target) (r : ℕ) (done rest : List ℕ) → IsRanked t.job.stages → backward t.job.stages ≡ done ++ (r ∷ rest)
@@ -108,7 +109,8 @@ cut_is_box : (t : Target) (r : ℕ) (done rest : List ℕ) → IsRanked t.job.st
 cut_is_box t r done rest ranked e low =
     cut-same t.job.stages r (hull_at (demanded_all (no_hulls t.job.stages) (flat_map (demands_in t) done)) r)
     (hull_of_all (areas_of r (flat_map (demands_in t) (backward t.job.stages))))
-    (λ there. hull_from_none t.job.stages (flat_map (demands_in t) done) r there ∙ ap hull_of_all (sym (all_came_in t r done rest ranked e low)))
+    (λ there. hull_from_none t.job.stages (flat_map (demands_in t) done) r there
+    ∙ ap hull_of_all (sym (all_came_in t r done rest ranked e low)))
     ∙ sym (box_follows t r ranked)
 
 -- one step: what the stage demands over its region comes in
@@ -140,7 +142,8 @@ pub walk_gives_boxes : (t : Target) (g : ℕ) → IsJob t.job
     → cut_hull t.job.stages (walked t (no_hulls t.job.stages) (backward t.job.stages)) g ≡ box t g
 walk_gives_boxes t g job =
     let ranked = ranked_is t.job job in
-    ap (λ hs. cut_hull t.job.stages hs g) (walk_on t (backward t.job.stages) [] (no_hulls t.job.stages) ranked refl (never_rises t.job.stages) refl)
+    ap (λ hs. cut_hull t.job.stages hs g)
+    (walk_on t (backward t.job.stages) [] (no_hulls t.job.stages) ranked refl (never_rises t.job.stages) refl)
     ∙ cut-same t.job.stages g (hull_at (demanded_all (no_hulls t.job.stages) (flat_map (demands_in t) (backward t.job.stages))) g)
     (hull_of_all (areas_of g (flat_map (demands_in t) (backward t.job.stages))))
     (λ there. hull_from_none t.job.stages (flat_map (demands_in t) (backward t.job.stages)) g there)

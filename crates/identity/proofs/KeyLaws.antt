@@ -12,7 +12,8 @@ use Rattle.identity.specs.Keys.{key_cmp}
 pub key_order : IsTotalOrder key_cmp
 key_order =
     then_total (on_total (λ k. k.program) nat_list_cmp_total) (then_total (on_total (λ k. k.input) nat_list_cmp_total)
-    (then_total (on_total (λ k. k.stage) nat_cmp_total) (then_total (on_total (λ k. k.row) nat_cmp_total) (on_total (λ k. k.col) nat_cmp_total))))
+    (then_total (on_total (λ k. k.stage) nat_cmp_total)
+    (then_total (on_total (λ k. k.row) nat_cmp_total) (on_total (λ k. k.col) nat_cmp_total))))
 
 not_less : (r : Ordering) → r ≡ ordering_reverse r → r ≡ Equal
 not_less Less h = absurd (search rules)
@@ -33,7 +34,8 @@ same_key a b h =
     let input = tied (slice_cmp nat_cmp a.input b.input) _ program.1 in
     let stage = tied (nat_cmp a.stage b.stage) _ input.1 in
     let row = tied (nat_cmp a.row b.row) _ stage.1 in
-    one_key a b (exact_bytes _ _ program.0) (exact_bytes _ _ input.0) (exact_unsigned _ _ stage.0) (exact_unsigned _ _ row.0) (exact_unsigned _ _ row.1)
+    one_key a b (exact_bytes _ _ program.0) (exact_bytes _ _ input.0) (exact_unsigned _ _ stage.0) (exact_unsigned _ _ row.0)
+    (exact_unsigned _ _ row.1)
 
 pub equal_keys : (a b : Key) → (key_cmp a b ≡ Equal) ↔ (a ≡ b)
 equal_keys a b = (same_key a b, λ h. ap (λ k. key_cmp k b) h ∙ not_less (key_cmp b b) (key_order.antisymm b b))

@@ -19,25 +19,31 @@ use Rattle.inputs.specs.inside.Steps.{IsParamRefusal, TellsParam}
 one_more : {X : Type 0} (xs : List X) (i : ℕ) (x : X) → i < length xs → x ≡ get_or xs i x → take (i + 1) xs ≡ take i xs ++ x ∷ []
 one_more xs i x within is = ap (λ n. take n xs) (add-one i) ∙ take-suc xs i x within ∙ ap (λ y. take i xs ++ y ∷ []) (sym is)
 
-given_last : (old mid new : List Setting) (xs : List Given) (x : Given) → AreGiven old xs mid → SetsOne mid new (string_bytes x.0) x.1 → AreGiven old (xs ++ x ∷ []) new
+given_last : (old mid new : List Setting) (xs : List Given) (x : Given) → AreGiven old xs mid → SetsOne mid new (string_bytes x.0) x.1
+    → AreGiven old (xs ++ x ∷ []) new
 given_last old mid new [] x e set = (new, subst (λ ss. SetsOne ss new (string_bytes x.0) x.1) e set, refl)
 given_last old mid new ((name, value) ∷ xs) x (next, first, rest) set = (next, first, given_last next mid new xs x rest set)
 
-pub given_more : (old mid new : List Setting) (xs : List Given) (i : ℕ) (x : Given) → i < length xs → x ≡ get_or xs i x → AreGiven old (take i xs) mid
+pub given_more : (old mid new : List Setting) (xs : List Given) (i : ℕ) (x : Given) → i < length xs → x ≡ get_or xs i x
+    → AreGiven old (take i xs) mid
     → SetsOne mid new (string_bytes x.0) x.1 → AreGiven old (take (i + 1) xs) new
-given_more old mid new xs i x within is so_far set = subst (λ ys. AreGiven old ys new) (sym (one_more xs i x within is)) (given_last old mid new (take i xs) x so_far set)
+given_more old mid new xs i x within is so_far set =
+    subst (λ ys. AreGiven old ys new) (sym (one_more xs i x within is)) (given_last old mid new (take i xs) x so_far set)
 
 -- ---- names stay
 
-set_named : (old new : List Setting) (name : List ℕ) (value : ℤ) → SetsOne old new name value → map (λ (s : Setting). s.name) new ≡ map (λ (s : Setting). s.name) old
+set_named : (old new : List Setting) (name : List ℕ) (value : ℤ) → SetsOne old new name value
+    → map (λ (s : Setting). s.name) new ≡ map (λ (s : Setting). s.name) old
 set_named old new name value is =
     ap (map (λ (s : Setting). s.name)) is.set
     ∙ map-set_same (λ (s : Setting). s.name) old is.place (record is.setting { value = Some value }) is.setting
     (ap (λ (s : Setting). s.name) (sym (get_or_from_slice_get old is.place is.setting is.setting is.there)))
 
-given_named : (old : List Setting) (xs : List Given) (new : List Setting) → AreGiven old xs new → map (λ (s : Setting). s.name) new ≡ map (λ (s : Setting). s.name) old
+given_named : (old : List Setting) (xs : List Given) (new : List Setting) → AreGiven old xs new
+    → map (λ (s : Setting). s.name) new ≡ map (λ (s : Setting). s.name) old
 given_named old [] new e = ap (map (λ (s : Setting). s.name)) e
-given_named old ((name, value) ∷ xs) new (next, first, rest) = given_named next xs new rest ∙ set_named old next (string_bytes name) value first
+given_named old ((name, value) ∷ xs) new (next, first, rest) =
+    given_named next xs new rest ∙ set_named old next (string_bytes name) value first
 
 pub params_named : (ps : List Symbol) (xs : List Given) (new : List Setting) → AreGiven (map unset ps) xs new
     → map (λ (s : Setting). s.name) new ≡ map (λ (d : Symbol). d.name) ps
@@ -54,8 +60,10 @@ pub not_settable : (ss : List Setting) (name : List ℕ) (fault : ParamFault) (r
 not_settable ss name NoSuchParam r e none twice = none.0 e
 not_settable ss name SetTwice r e none twice = twice.0 e
 
-pub told_refusal : (start ss : List Setting) (given : List Given) (n : ℕ) (pair : Given) (fault : ParamFault) (f : StreamFault) → slice_get given n ≡ Some pair
-    → AreGiven start (take n given) ss → IsNotSettable ss (string_bytes pair.0) fault → TellsParam fault (string_bytes pair.0) f → IsParamRefusal start given f
+pub told_refusal : (start ss : List Setting) (given : List Given) (n : ℕ) (pair : Given) (fault : ParamFault) (f : StreamFault)
+    → slice_get given n ≡ Some pair
+    → AreGiven start (take n given) ss → IsNotSettable ss (string_bytes pair.0) fault → TellsParam fault (string_bytes pair.0) f
+    → IsParamRefusal start given f
 told_refusal start ss given n pair fault (faults.Param line) there before why told =
     record {
       n = n;

@@ -11,6 +11,7 @@ pub both_then : {X E : Type 0} {P Q R : X → Type 0} (r : Result X E) → ((x :
 both_then (Ok x) f p q = f x p q
 both_then (Err e) f p q = tt
 
-pub all_then : {X E : Type 0} {P Q R S : X → Type 0} (r : Result X E) → ((x : X) → P x → Q x → R x → S x) → IfOk r P → IfOk r Q → IfOk r R → IfOk r S
+pub all_then : {X E : Type 0} {P Q R S : X → Type 0} (r : Result X E) → ((x : X) → P x → Q x → R x → S x) → IfOk r P → IfOk r Q → IfOk r R
+    → IfOk r S
 all_then (Ok x) f p q s = f x p q s
 all_then (Err e) f p q s = tt

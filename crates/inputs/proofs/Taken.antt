@@ -17,11 +17,13 @@ appends_none (Some xs) = sym (append-nil xs)
 pub all_none : (a : Option (List ℕ)) (n : ℕ) → TakesAll [] a a n n
 all_none a n = record { taken = appends_none a; failures = refl }
 
-pub all_then : (front back : List ℕ) (a b c : Option (List ℕ)) (n m k : ℕ) → TakesAll front a b n m → TakesAll back b c m k → TakesAll (front ++ back) a c n k
+pub all_then : (front back : List ℕ) (a b c : Option (List ℕ)) (n m k : ℕ) → TakesAll front a b n m → TakesAll back b c m k
+    → TakesAll (front ++ back) a c n k
 all_then front back a b c n m k first second =
     record { taken = Appends-trans a b c front back first.taken second.taken; failures = second.failures ∙ first.failures }
 
-pub part_then : (front back : List ℕ) (a b c : Option (List ℕ)) (n m k : ℕ) → TakesAll front a b n m → TakesPart back b c m k → TakesPart (front ++ back) a c n k
+pub part_then : (front back : List ℕ) (a b c : Option (List ℕ)) (n m k : ℕ) → TakesAll front a b n m → TakesPart back b c m k
+    → TakesPart (front ++ back) a c n k
 part_then front back a b c n m k first second =
     record {
       taken = AppendsPart-next a b c front back [] (front ++ back) first.taken second.taken (sym (append-nil (front ++ back)));
@@ -29,14 +31,17 @@ part_then front back a b c n m k first second =
     }
 
 pub part_front : (front back : List ℕ) (a b : Option (List ℕ)) (n m : ℕ) → TakesPart front a b n m → TakesPart (front ++ back) a b n m
-part_front front back a b n m first = record { taken = AppendsPart-front a b front back (front ++ back) first.taken refl; failures = first.failures }
+part_front front back a b n m first =
+    record { taken = AppendsPart-front a b front back (front ++ back) first.taken refl; failures = first.failures }
 
-pub takes_then : {X E : Type 0} (r : Result X E) (front back : List ℕ) (a b c : Option (List ℕ)) (n m k : ℕ) → TakesAll front a b n m → Takes r back b c m k → Takes r (front ++ back) a c n k
+pub takes_then : {X E : Type 0} (r : Result X E) (front back : List ℕ) (a b c : Option (List ℕ)) (n m k : ℕ) → TakesAll front a b n m
+    → Takes r back b c m k → Takes r (front ++ back) a c n k
 takes_then (Ok x) front back a b c n m k first second = all_then front back a b c n m k first second
 takes_then (Err e) front back a b c n m k first second = part_then front back a b c n m k first second
 
 -- where an answer is no `Ok` a part was taken
-pub takes_err : {X E : Type 0} (r : Result X E) (bytes : List ℕ) (a b : Option (List ℕ)) (n m : ℕ) → IsErr r → TakesPart bytes a b n m → Takes r bytes a b n m
+pub takes_err : {X E : Type 0} (r : Result X E) (bytes : List ℕ) (a b : Option (List ℕ)) (n m : ℕ) → IsErr r → TakesPart bytes a b n m
+    → Takes r bytes a b n m
 takes_err (Ok x) bytes a b n m is part = cc
 takes_err (Err e) bytes a b n m is part = part
 
@@ -54,6 +59,7 @@ pub part_more : {X : Type 0} (f : X → List ℕ) (xs : List X) (i : ℕ) (d : X
     → TakesAll (flat_map f (take i xs)) a b n m → TakesPart (f (get_or xs i d)) b c m k → TakesPart (flat_map f xs) a c n k
 part_more f xs i d a b c n m k within first second =
     let more = flat_map_more f [] (take i xs) (get_or xs i d) ∙ ap (flat_map f) (sym (take_more xs i d within)) in
-    let front = subst (λ bytes. TakesPart bytes a c n k) more (part_then (flat_map f (take i xs)) (f (get_or xs i d)) a b c n m k first second) in
+    let front =
+    subst (λ bytes. TakesPart bytes a c n k) more (part_then (flat_map f (take i xs)) (f (get_or xs i d)) a b c n m k first second) in
     let whole = sym (flat_map-append f (take (i + 1) xs) (drop (i + 1) xs)) ∙ ap (flat_map f) (take-append-drop (i + 1) xs) in
     subst (λ bytes. TakesPart bytes a c n k) whole (part_front (flat_map f (take (i + 1) xs)) (flat_map f (drop (i + 1) xs)) a c n k front)

@@ -41,7 +41,8 @@ names_of stages numbers = filter_map (name_at stages) numbers
 
 -- the fault of a program, told by the names of its stages
 abbrev pub IsCheckLine : List Declaration → CheckLine → Type 0
-IsCheckLine tree (lines.Cycle names) = (cycle : List ℕ) × IsProgramFault tree (checks.Cycle cycle) × (names ≡ names_of (stages_of tree) cycle)
+IsCheckLine tree (lines.Cycle names) =
+    (cycle : List ℕ) × IsProgramFault tree (checks.Cycle cycle) × (names ≡ names_of (stages_of tree) cycle)
 IsCheckLine tree (lines.Fault (checks.Cycle cycle)) = ⊥
 IsCheckLine tree (lines.Fault checks.Memory) = ⊥
 IsCheckLine tree (lines.Fault fault) = IsProgramFault tree fault
@@ -80,13 +81,15 @@ pub record IsBindLine (tree : List Declaration) (given : List Given) (source : I
 -- the first fault of an input, of the parameters that are given and of the sides of tiles; memory may run out for any
 abbrev pub IsFaultOf : List ℕ → List Given → Sides → StreamFault → Type 0
 IsFaultOf input given sides NoSeparator = HasNoSeparator input
-IsFaultOf input given sides (Program fault) = (text spelling : List ℕ) × IsParted input text spelling × IsTextFault text fault × (fault ≢ texts.Memory)
+IsFaultOf input given sides (Program fault) =
+    (text spelling : List ℕ) × IsParted input text spelling × IsTextFault text fault × (fault ≢ texts.Memory)
 IsFaultOf input given sides (Picture fault) =
     (text spelling : List ℕ) × (tree : List Declaration) × IsParted input text spelling × IsText text tree
     × IsPictureFault spelling fault × (fault ≢ pictures.Memory)
 IsFaultOf input given sides (Check line) = (tree : List Declaration) × (source : Image) × IsInput input tree source × IsCheckLine tree line
 IsFaultOf input given sides (Param line) =
-    (tree : List Declaration) × (source : Image) × IsInput input tree source × MeansSomething tree × IsFirstRefused (unset_of tree) given line
+    (tree : List Declaration) × (source : Image) × IsInput input tree source × MeansSomething tree
+    × IsFirstRefused (unset_of tree) given line
 IsFaultOf input given sides (Bind line) =
     (tree : List Declaration) × (source : Image) × IsInput input tree source × MeansSomething tree × IsBindLine tree given source sides line
 IsFaultOf input given sides Memory = Unit {0}

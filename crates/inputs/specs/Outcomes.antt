@@ -70,7 +70,8 @@ IsFaultOfKnown known given sides fault = IfRead known (λ input. IsFaultOf input
 
 -- what was written: all that the command says; where the writer failed a part of it; else nothing, and the fault is the first
 -- one
-abbrev pub Writes : {X : Type 0} → Saying → Option (List ℕ) → List Given → Sides → Result X StreamFault → Option (List ℕ) → Option (List ℕ) → Type 0
+abbrev pub Writes : {X : Type 0} → Saying → Option (List ℕ) → List Given → Sides → Result X StreamFault → Option (List ℕ) → Option (List ℕ)
+    → Type 0
 Writes Says known given sides (Ok _) old new = AppendsSaid Says known given sides old new
 Writes Says known given sides (Err Write) old new = AppendsPartSaid Says known given sides old new
 Writes Says known given sides (Err fault) old new = (new ≡ old) × IsFaultOfKnown known given sides fault

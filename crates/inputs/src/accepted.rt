@@ -43,7 +43,8 @@ fn refusal(alloc: Global, items: &[Item], fault: CheckFault) -> StreamFault
 
 /// The names of the stages along a cycle.
 fn names_along(alloc: Global, items: &[Item], cycle: &Cycle) -> Result<StageNames, AllocError>
-    ensures { IfOk result (λ names. names ≡ names_of (stages_of (declarations items.now)) cycle.now) }
+    ensures { IfOk result
+        (λ names. names ≡ names_of (stages_of (declarations items.now)) cycle.now) }
 {
     let stages = declared_stages(alloc, items)?;
     names_of(alloc, &stages, cycle.stages())

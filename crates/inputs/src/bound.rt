@@ -32,11 +32,17 @@ pub fn bind(
     picture: Picture,
     sides: TileSides,
 ) -> Result<Job, StreamFault>
-    ensures ok { IfOk result (λ job. IsBound (content (tree_in checked)) (program_of checked params.now) picture sides (pipeline_in job)) }
+    ensures ok { IfOk result (λ job. IsBound (content (tree_in checked))
+        (program_of checked params.now) picture sides (pipeline_in job)) }
     ensures job { IfOk result (λ job. IsJob (pipeline_in job)) }
-    ensures says { IfOk result (λ job. map (λ s. s.name) params.now ≡ map (λ d. d.name) (params_in checked) → IsJobOf (content (tree_in checked)) params.now picture sides (pipeline_in job)) }
-    ensures text { IfOk result (λ job. program_text_in job ≡ canonical (content (tree_in checked))) }
-    ensures fault { IfErr result (λ told. (fault : BindFaultType) × IsBindFault (content (tree_in checked)) (program_of checked params.now) picture sides fault
+    ensures says { IfOk result (λ job. map (λ s. s.name) params.now
+        ≡ map (λ d. d.name) (params_in checked)
+        → IsJobOf (content (tree_in checked)) params.now picture sides (pipeline_in job)) }
+    ensures text { IfOk result
+        (λ job. program_text_in job ≡ canonical (content (tree_in checked))) }
+    ensures fault { IfErr result (λ told. (fault : BindFaultType)
+        × IsBindFault (content (tree_in checked)) (program_of checked params.now) picture sides
+        fault
         × TellsBind (params_in checked) (stages_in checked) fault told) }
 {
     match binding::bind(alloc, checked, params, picture, sides) {

@@ -28,7 +28,8 @@ const MAX_INPUT: usize = 536_870_912;
 
 /// All bytes of the input.
 pub fn read_input<R: Source>(alloc: Global, reader: &mut R) -> Result<Vec<u8>, StreamFault>
-    ensures whole { IfOk result (λ input. IfSome (R.remaining reader.old) (λ all. input.items ≡ all)) }
+    ensures whole { IfOk result
+        (λ input. IfSome (R.remaining reader.old) (λ all. input.items ≡ all)) }
     ensures within { IfOk result (λ input. length input.items ≤ most_input) }
     ensures read { CountsRead result (R.failures reader.old) (R.failures reader.new) }
     ensures fault { IfErr result (IsOfReader (R.remaining reader.old)) }
@@ -63,7 +64,8 @@ pub fn job_of(
 /// The program and the picture that the input spells; the input is let go.
 fn read_all(alloc: Global, input: Vec<u8>) -> Result<(Tree, Picture), StreamFault>
     ensures ok { IfOk result (λ read. IsInput input.items (content read.0) read.1) }
-    ensures fault { (given : List Given) (sides : Sides) → IfErr result (IsFaultOf input.items given sides) }
+    ensures fault { (given : List Given) (sides : Sides)
+        → IfErr result (IsFaultOf input.items given sides) }
 {
     read_sections(alloc, input.as_slice())
 }
@@ -71,7 +73,8 @@ fn read_all(alloc: Global, input: Vec<u8>) -> Result<(Tree, Picture), StreamFaul
 /// The program and the picture that the input spells.
 fn read_sections(alloc: Global, input: &[u8]) -> Result<(Tree, Picture), StreamFault>
     ensures ok { IfOk result (λ read. IsInput input.now (content read.0) read.1) }
-    ensures fault { (given : List Given) (sides : Sides) → IfErr result (IsFaultOf input.now given sides) }
+    ensures fault { (given : List Given) (sides : Sides)
+        → IfErr result (IsFaultOf input.now given sides) }
 {
     let Some((text, spelling)) = split_section(input) else {
         return Err(StreamFault::NoSeparator);

@@ -25,10 +25,12 @@ lt_last n = omega arith
 pub sum_below-agrees : (n : ℕ) (f h : ℕ → ℤ) → ((k : ℕ) → k < n → f k ≡ h k) → sum_below n f ≡ sum_below n h
 sum_below-agrees zero f h same = refl
 sum_below-agrees (suc n) f h same =
-    ap (λ (z : ℤ). z +ℤ f n) (sum_below-agrees n f h (λ k l. same k (lt_more k n l))) ∙ ap (λ (z : ℤ). sum_below n h +ℤ z) (same n (lt_last n))
+    ap (λ (z : ℤ). z +ℤ f n) (sum_below-agrees n f h (λ k l. same k (lt_more k n l)))
+    ∙ ap (λ (z : ℤ). sum_below n h +ℤ z) (same n (lt_last n))
 
 module _ (e h : Valuation) (r c : ℤ) where
-  pub weighted_sum-agrees : (g : ℕ) (kernel : List (List ℤ)) → EachTaken (SameAt e h) (window g kernel) r c → weighted_sum kernel (e g) r c ≡ weighted_sum kernel (h g) r c
+  pub weighted_sum-agrees : (g : ℕ) (kernel : List (List ℤ)) → EachTaken (SameAt e h) (window g kernel) r c
+      → weighted_sum kernel (e g) r c ≡ weighted_sum kernel (h g) r c
   weighted_sum-agrees g kernel same =
       sum_below-agrees (length kernel) _ _ (λ a la. sum_below-agrees (length (factors kernel a)) _ _ (λ b lb.
       ap (λ (z : ℤ). slice_index_or (factors kernel a) b (pos 0) *ℤ z) (same a b la lb)))
@@ -40,23 +42,34 @@ module _ (e h : Valuation) (r c : ℤ) where
   formula_value-agrees (read g i j) same = All-head (λ x. EachTaken (SameAt e h) x r c) (point g i j) [] same
   formula_value-agrees (neg a) same = ap (λ (z : ℤ). wrapped (neg_ℤ z)) (formula_value-agrees a same)
   formula_value-agrees (binary op a b) same =
-      ap (λ (z : ℤ). binary_value op z (formula_value e b r c)) (formula_value-agrees a (All-left (λ x. EachTaken (SameAt e h) x r c) (reads_in a) (reads_in b) same))
-      ∙ ap (λ (z : ℤ). binary_value op (formula_value h a r c) z) (formula_value-agrees b (All-right (λ x. EachTaken (SameAt e h) x r c) (reads_in a) (reads_in b) same))
+      ap (λ (z : ℤ). binary_value op z (formula_value e b r c))
+      (formula_value-agrees a (All-left (λ x. EachTaken (SameAt e h) x r c) (reads_in a) (reads_in b) same))
+      ∙ ap (λ (z : ℤ). binary_value op (formula_value h a r c) z)
+      (formula_value-agrees b (All-right (λ x. EachTaken (SameAt e h) x r c) (reads_in a) (reads_in b) same))
   formula_value-agrees (literal op a n) same = ap (λ (z : ℤ). literal_value op z n) (formula_value-agrees a same)
   formula_value-agrees (abs a) same = ap (λ (z : ℤ). wrapped (pos (unsigned_abs z))) (formula_value-agrees a same)
   formula_value-agrees (clamp a low high) same =
       let P : Read → Type 0 = λ x. EachTaken (SameAt e h) x r c in
       let front : All P (reads_in a ++ reads_in low) = All-left P (reads_in a ++ reads_in low) (reads_in high) same in
-      ap (λ (z : ℤ). clamped z (formula_value e low r c) (formula_value e high r c)) (formula_value-agrees a (All-left P (reads_in a) (reads_in low) front))
-      ∙ ap (λ (z : ℤ). clamped (formula_value h a r c) z (formula_value e high r c)) (formula_value-agrees low (All-right P (reads_in a) (reads_in low) front))
-      ∙ ap (λ (z : ℤ). clamped (formula_value h a r c) (formula_value h low r c) z) (formula_value-agrees high (All-right P (reads_in a ++ reads_in low) (reads_in high) same))
+      ap (λ (z : ℤ). clamped z (formula_value e low r c) (formula_value e high r c))
+      (formula_value-agrees a (All-left P (reads_in a) (reads_in low) front))
+      ∙ ap (λ (z : ℤ). clamped (formula_value h a r c) z (formula_value e high r c))
+      (formula_value-agrees low (All-right P (reads_in a) (reads_in low) front))
+      ∙ ap (λ (z : ℤ). clamped (formula_value h a r c) (formula_value h low r c) z)
+      (formula_value-agrees high (All-right P (reads_in a ++ reads_in low) (reads_in high) same))
   formula_value-agrees (select a relation b first second) same =
       let P : Read → Type 0 = λ x. EachTaken (SameAt e h) x r c in
-      let three : All P (reads_in a ++ reads_in b ++ reads_in first) = All-left P (reads_in a ++ reads_in b ++ reads_in first) (reads_in second) same in
+      let three : All P (reads_in a ++ reads_in b ++ reads_in first) =
+      All-left P (reads_in a ++ reads_in b ++ reads_in first) (reads_in second) same in
       let two : All P (reads_in a ++ reads_in b) = All-left P (reads_in a ++ reads_in b) (reads_in first) three in
-      ap (λ (z : ℤ). if is_related relation z (formula_value e b r c) then formula_value e first r c else formula_value e second r c) (formula_value-agrees a (All-left P (reads_in a) (reads_in b) two))
-      ∙ ap (λ (z : ℤ). if is_related relation (formula_value h a r c) z then formula_value e first r c else formula_value e second r c) (formula_value-agrees b (All-right P (reads_in a) (reads_in b) two))
-      ∙ ap (λ (z : ℤ). if is_related relation (formula_value h a r c) (formula_value h b r c) then z else formula_value e second r c) (formula_value-agrees first (All-right P (reads_in a ++ reads_in b) (reads_in first) three))
-      ∙ ap (λ (z : ℤ). if is_related relation (formula_value h a r c) (formula_value h b r c) then formula_value h first r c else z) (formula_value-agrees second (All-right P (reads_in a ++ reads_in b ++ reads_in first) (reads_in second) same))
+      ap (λ (z : ℤ). if is_related relation z (formula_value e b r c) then formula_value e first r c else formula_value e second r c)
+      (formula_value-agrees a (All-left P (reads_in a) (reads_in b) two))
+      ∙ ap (λ (z : ℤ). if is_related relation (formula_value h a r c) z then formula_value e first r c else formula_value e second r c)
+      (formula_value-agrees b (All-right P (reads_in a) (reads_in b) two))
+      ∙ ap (λ (z : ℤ). if is_related relation (formula_value h a r c) (formula_value h b r c) then z else formula_value e second r c)
+      (formula_value-agrees first (All-right P (reads_in a ++ reads_in b) (reads_in first) three))
+      ∙ ap (λ (z : ℤ). if is_related relation (formula_value h a r c) (formula_value h b r c) then formula_value h first r c else z)
+      (formula_value-agrees second (All-right P (reads_in a ++ reads_in b ++ reads_in first) (reads_in second) same))
   formula_value-agrees (stencil g divisor kernel) same =
-      ap (λ (z : ℤ). floor_div (wrapped z) (pos divisor)) (weighted_sum-agrees g kernel (All-head (λ x. EachTaken (SameAt e h) x r c) (window g kernel) [] same))
+      ap (λ (z : ℤ). floor_div (wrapped z) (pos divisor))
+      (weighted_sum-agrees g kernel (All-head (λ x. EachTaken (SameAt e h) x r c) (window g kernel) [] same))

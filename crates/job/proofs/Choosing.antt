@@ -23,11 +23,14 @@ module _ (e h : Valuation) (r c : ℤ) where
   some_alike None alike = refl
   some_alike (Some f) alike = alike f refl
 
-  first_alike : (passed : Bool) (f : Formula) (o : Option Formula) → (passed ≡ true → IsAlike f) → AreAlike o → AreAlike (if passed then Some f else o)
+  first_alike : (passed : Bool) (f : Formula) (o : Option Formula) → (passed ≡ true → IsAlike f) → AreAlike o
+      → AreAlike (if passed then Some f else o)
   first_alike true f o alike others = alike refl
   first_alike false f o alike others = others
 
-  pub chosen_alike : (ps : List JobCase) (otherwise : Option Formula) → All AlikeWhere ps → ForSome otherwise IsAlike → AreAlike (chosen ps otherwise r c)
+  pub chosen_alike : (ps : List JobCase) (otherwise : Option Formula) → All AlikeWhere ps → ForSome otherwise IsAlike
+      → AreAlike (chosen ps otherwise r c)
   chosen_alike [] otherwise alike other = some_alike otherwise other
   chosen_alike (p ∷ ps) otherwise alike other =
-      first_alike (all_passed p.tests r c) p.formula (chosen ps otherwise r c) (All-head AlikeWhere p ps alike) (chosen_alike ps otherwise (All-tail AlikeWhere p ps alike) other)
+      first_alike (all_passed p.tests r c) p.formula (chosen ps otherwise r c) (All-head AlikeWhere p ps alike)
+      (chosen_alike ps otherwise (All-tail AlikeWhere p ps alike) other)

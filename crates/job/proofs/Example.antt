@@ -49,16 +49,19 @@ beside v a low high l = (omega (arith, ints), omega (arith, ints))
 below_three : (b n : ℕ) → n ≡ 3 → b < n → b < 3
 below_three b n e l = omega arith
 
-taken : (r c : ℤ) → HoldsPoint (record { rows = ends (pos 1) (pos 1); cols = ends (pos 1) (pos 1) }) r c → EachTaken (IsReadable blur.stages) (window 0 ones) r c
+taken : (r c : ℤ) → HoldsPoint (record { rows = ends (pos 1) (pos 1); cols = ends (pos 1) (pos 1) }) r c
+    → EachTaken (IsReadable blur.stages) (window 0 ones) r c
 taken r c inside a b la lb =
-    readable (kernel_row ones r a) (kernel_column ones c b) (beside r a inside.0.0 inside.0.1 la) (beside c b inside.1.0 inside.1.1 (below_three b (length (factors ones a)) (width_is a la) lb))
+    readable (kernel_row ones r a) (kernel_column ones c b) (beside r a inside.0.0 inside.0.1 la)
+    (beside c b inside.1.0 inside.1.1 (below_three b (length (factors ones a)) (width_is a la) lb))
 
 -- ---- the stages
 
 middle_reads : (r c : ℤ) → CaseReads (IsReadable blur.stages) middle r c
 middle_reads r c box is inside =
     let same : record { rows = ends (pos 1) (pos 1); cols = ends (pos 1) (pos 1) } ≡ box = cc in
-    one_of_one (λ x. EachTaken (IsReadable blur.stages) x r c) (window 0 ones) (taken r c (subst (λ (b : Area). HoldsPoint b r c) (sym same) inside))
+    one_of_one (λ x. EachTaken (IsReadable blur.stages) x r c) (window 0 ones)
+    (taken r c (subst (λ (b : Area). HoldsPoint b r c) (sym same) inside))
 
 three_numbers : InDomainRange (ends (pos 0) (pos 2))
 three_numbers = record {
@@ -84,7 +87,9 @@ blur_is_a_stage = record {
   rank = refl;
   rows = three_numbers;
   cols = three_numbers;
-  body = one_of_one (λ p. All IsTest p.tests) middle (All-cons IsTest (compare row Equals (pos 1)) (compare column Equals (pos 1) ∷ []) tt (one_of_one IsTest (compare column Equals (pos 1)) tt));
+  body =
+      one_of_one (λ p. All IsTest p.tests) middle (All-cons IsTest (compare row Equals (pos 1)) (compare column Equals (pos 1) ∷ []) tt
+      (one_of_one IsTest (compare column Equals (pos 1)) tt));
   boxes = one_of_one (λ p. p.box ≡ box_of (area (pos 2) (pos 2)) p.tests) middle refl;
   formulas = one_of_one IsFormula (stencil 0 9 ones) ((omega arith, omega arith), kernel_is);
   reads = λ r c inside. (one_of_one (λ p. CaseReads (IsReadable blur.stages) p r c) middle (middle_reads r c), (λ f is. absurd (cc)));
@@ -102,7 +107,9 @@ one_plane : All (IsPlane 9 9) ((1 ∷ 2 ∷ 3 ∷ 4 ∷ 5 ∷ 6 ∷ 7 ∷ 8 ∷ 
 one_plane =
     one_of_one (IsPlane 9 9) (1 ∷ 2 ∷ 3 ∷ 4 ∷ 5 ∷ 6 ∷ 7 ∷ 8 ∷ 9 ∷ []) (record {
       whole = refl;
-      bounded = All-from_recursion (λ s. s ≤ 9) (1 ∷ 2 ∷ 3 ∷ 4 ∷ 5 ∷ 6 ∷ 7 ∷ 8 ∷ 9 ∷ []) (lit≤ tt, (lit≤ tt, (lit≤ tt, (lit≤ tt, (lit≤ tt, (lit≤ tt, (lit≤ tt, (lit≤ tt, (lit≤ tt, tt)))))))));
+      bounded =
+          All-from_recursion (λ s. s ≤ 9) (1 ∷ 2 ∷ 3 ∷ 4 ∷ 5 ∷ 6 ∷ 7 ∷ 8 ∷ 9 ∷ [])
+          (lit≤ tt, (lit≤ tt, (lit≤ tt, (lit≤ tt, (lit≤ tt, (lit≤ tt, (lit≤ tt, (lit≤ tt, (lit≤ tt, tt)))))))));
     })
 
 picture_is : IsImage blur.picture

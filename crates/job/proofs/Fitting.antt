@@ -76,7 +76,8 @@ index_bounded max [] k each = omega arith
 index_bounded max (x ∷ xs) zero each = All-head (λ x. x ≤ max) x xs each
 index_bounded max (x ∷ xs) (suc k) each = index_bounded max xs k (All-tail (λ x. x ≤ max) x xs each)
 
-plane_bounded : (area max : ℕ) (planes : List (List ℕ)) (n k : ℕ) → All (IsPlane area max) planes → slice_index (slice_index_or planes n []) k ≤ max
+plane_bounded : (area max : ℕ) (planes : List (List ℕ)) (n k : ℕ) → All (IsPlane area max) planes
+    → slice_index (slice_index_or planes n []) k ≤ max
 plane_bounded area max [] n k each = omega arith
 plane_bounded area max (xs ∷ planes) zero k each = index_bounded max xs k (All-head (IsPlane area max) xs planes each).bounded
 plane_bounded area max (xs ∷ planes) (suc n) k each = plane_bounded area max planes n k (All-tail (IsPlane area max) xs planes each)
@@ -86,7 +87,8 @@ small_fits n max low high = from_bounds (pos n) (omega (arith, ints)) (omega (ar
 
 sample_fits : (picture : Image) (n : ℕ) (r c : ℤ) → IsImage picture → FitsSigned w32 (sample_at picture n r c)
 sample_fits picture n r c is =
-    small_fits _ picture.max (plane_bounded (picture.rows * picture.cols) picture.max picture.planes n (unsigned_abs r * picture.cols + unsigned_abs c) is.planes) is.max.most
+    small_fits _ picture.max (plane_bounded (picture.rows * picture.cols) picture.max picture.planes n
+    (unsigned_abs r * picture.cols + unsigned_abs c) is.planes) is.max.most
 
 -- ---- operations
 
@@ -120,13 +122,16 @@ module _ (env : Valuation) (r c : ℤ) (row_fits : FitsSigned w32 r) (column_fit
   along_fits row = row_fits
   along_fits column = column_fits
 
-  pub formula_fits : (f : Formula) → IsFormula f → EachRead (λ g i j. FitsSigned w32 (env g i j)) f r c → FitsSigned w32 (formula_value env f r c)
+  pub formula_fits : (f : Formula) → IsFormula f → EachRead (λ g i j. FitsSigned w32 (env g i j)) f r c
+      → FitsSigned w32 (formula_value env f r c)
   formula_fits (number n) is reads = is
   formula_fits (coordinate x) is reads = along_fits x
   formula_fits (read g i j) is reads = All-head TakenFits (point g i j) [] reads
   formula_fits (neg a) is reads = SFits-int_wrap w32 _
   formula_fits (binary op a b) is reads =
-      binary_fits op (formula_value env a r c) (formula_value env b r c) (formula_fits a is.0 (All-left TakenFits (reads_in a) (reads_in b) reads)) (formula_fits b is.1 (All-right TakenFits (reads_in a) (reads_in b) reads))
+      binary_fits op (formula_value env a r c) (formula_value env b r c)
+      (formula_fits a is.0 (All-left TakenFits (reads_in a) (reads_in b) reads))
+      (formula_fits b is.1 (All-right TakenFits (reads_in a) (reads_in b) reads))
   formula_fits (literal op a n) is reads = literal_fits op (formula_value env a r c) n is.0 (formula_fits a is.1 reads)
   formula_fits (abs a) is reads = SFits-int_wrap w32 _
   formula_fits (clamp a low high) is reads =
@@ -136,40 +141,58 @@ module _ (env : Valuation) (r c : ℤ) (row_fits : FitsSigned w32 r) (column_fit
       (formula_fits low is.1 (All-right TakenFits (reads_in a) (reads_in low) front))
       (formula_fits high is.2 (All-right TakenFits (reads_in a ++ reads_in low) (reads_in high) reads))
   formula_fits (select a relation b first second) is reads =
-      let three : All TakenFits (reads_in a ++ reads_in b ++ reads_in first) = All-left TakenFits (reads_in a ++ reads_in b ++ reads_in first) (reads_in second) reads in
-      one_of_fits (is_related relation (formula_value env a r c) (formula_value env b r c)) (formula_value env first r c) (formula_value env second r c)
+      let three : All TakenFits (reads_in a ++ reads_in b ++ reads_in first) =
+      All-left TakenFits (reads_in a ++ reads_in b ++ reads_in first) (reads_in second) reads in
+      one_of_fits (is_related relation (formula_value env a r c) (formula_value env b r c)) (formula_value env first r c)
+      (formula_value env second r c)
       (formula_fits first is.2 (All-right TakenFits (reads_in a ++ reads_in b) (reads_in first) three))
       (formula_fits second is.3 (All-right TakenFits (reads_in a ++ reads_in b ++ reads_in first) (reads_in second) reads))
-  formula_fits (stencil g divisor kernel) is reads = quotient_fits (wrapped (weighted_sum kernel (env g) r c)) divisor is.0.0 (SFits-int_wrap w32 _)
+  formula_fits (stencil g divisor kernel) is reads =
+      quotient_fits (wrapped (weighted_sum kernel (env g) r c)) divisor is.0.0 (SFits-int_wrap w32 _)
 
   -- ---- stages
 
-  some_fits : (o : Option Formula) → ForSome o (λ f. FitsSigned w32 (formula_value env f r c)) → FitsSigned w32 (option_map_or (λ f. formula_value env f r c) o (pos 0))
+  some_fits : (o : Option Formula) → ForSome o (λ f. FitsSigned w32 (formula_value env f r c))
+      → FitsSigned w32 (option_map_or (λ f. formula_value env f r c) o (pos 0))
   some_fits None fits = from_bounds (pos 0) (omega (arith, ints)) (omega (arith, ints))
   some_fits (Some f) fits = fits f refl
 
-  first_fits : (passed : Bool) (f : Formula) (o : Option Formula) → (passed ≡ true → FitsSigned w32 (formula_value env f r c)) → FitsSigned w32 (option_map_or (λ a. formula_value env a r c) o (pos 0)) → FitsSigned w32 (option_map_or (λ a. formula_value env a r c) (if passed then Some f else o) (pos 0))
+  first_fits : (passed : Bool) (f : Formula) (o : Option Formula) → (passed ≡ true → FitsSigned w32 (formula_value env f r c))
+      → FitsSigned w32 (option_map_or (λ a. formula_value env a r c) o (pos 0))
+      → FitsSigned w32 (option_map_or (λ a. formula_value env a r c) (if passed then Some f else o) (pos 0))
   first_fits true f o here others = here refl
   first_fits false f o here others = others
 
   abbrev pub FitsWhere : JobCase → Type 0
   FitsWhere p = all_passed p.tests r c ≡ true → FitsSigned w32 (formula_value env p.formula r c)
 
-  chosen_fits : (ps : List JobCase) (otherwise : Option Formula) → All FitsWhere ps → ForSome otherwise (λ f. FitsSigned w32 (formula_value env f r c)) → FitsSigned w32 (option_map_or (λ f. formula_value env f r c) (chosen ps otherwise r c) (pos 0))
+  chosen_fits : (ps : List JobCase) (otherwise : Option Formula) → All FitsWhere ps
+      → ForSome otherwise (λ f. FitsSigned w32 (formula_value env f r c))
+      → FitsSigned w32 (option_map_or (λ f. formula_value env f r c) (chosen ps otherwise r c) (pos 0))
   chosen_fits [] otherwise each other = some_fits otherwise other
   chosen_fits (p ∷ ps) otherwise each other =
-      first_fits (all_passed p.tests r c) p.formula (chosen ps otherwise r c) (All-head FitsWhere p ps each) (chosen_fits ps otherwise (All-tail FitsWhere p ps each) other)
+      first_fits (all_passed p.tests r c) p.formula (chosen ps otherwise r c) (All-head FitsWhere p ps each)
+      (chosen_fits ps otherwise (All-tail FitsWhere p ps each) other)
 
-  pub body_fits : (picture : Image) (domain : Area) (body : Body) → IsImage picture → AreBoxed domain body → All IsFormula (formulas_of body) → HoldsPoint domain r c → BodyReads (λ g i j. FitsSigned w32 (env g i j)) body r c → FitsSigned w32 (body_value picture env body r c)
+  pub body_fits : (picture : Image) (domain : Area) (body : Body) → IsImage picture → AreBoxed domain body
+      → All IsFormula (formulas_of body) → HoldsPoint domain r c → BodyReads (λ g i j. FitsSigned w32 (env g i j)) body r c
+      → FitsSigned w32 (body_value picture env body r c)
   body_fits picture domain (plane n) is boxed formulas inside reads = sample_fits picture n r c is
   body_fits picture domain (function cases otherwise) is boxed formulas inside reads =
-      let front : All (λ p. IsFormula p.formula) cases = All-from_map IsFormula (λ p. p.formula) cases (All-left IsFormula (map (λ p. p.formula) cases) (other_formula otherwise) formulas) in
-      let back : ForSome otherwise IsFormula = other_each IsFormula otherwise (All-right IsFormula (map (λ p. p.formula) cases) (other_formula otherwise) formulas) in
+      let front : All (λ p. IsFormula p.formula) cases =
+      All-from_map IsFormula (λ p. p.formula) cases
+      (All-left IsFormula (map (λ p. p.formula) cases) (other_formula otherwise) formulas) in
+      let back : ForSome otherwise IsFormula =
+      other_each IsFormula otherwise (All-right IsFormula (map (λ p. p.formula) cases) (other_formula otherwise) formulas) in
       let both : All (λ p. IsFormula p.formula × CaseReads (λ g i j. FitsSigned w32 (env g i j)) p r c) cases =
-      All-both (λ p. IsFormula p.formula) (λ p. CaseReads (λ g i j. FitsSigned w32 (env g i j)) p r c) (λ p. IsFormula p.formula × CaseReads (λ g i j. FitsSigned w32 (env g i j)) p r c) (λ p a b. (a, b)) cases front reads.0 in
+      All-both (λ p. IsFormula p.formula) (λ p. CaseReads (λ g i j. FitsSigned w32 (env g i j)) p r c)
+      (λ p. IsFormula p.formula × CaseReads (λ g i j. FitsSigned w32 (env g i j)) p r c) (λ p a b. (a, b)) cases front reads.0 in
       chosen_fits cases otherwise
-      (All-both (λ p. p.box ≡ box_of domain p.tests) (λ p. IsFormula p.formula × CaseReads (λ g i j. FitsSigned w32 (env g i j)) p r c) FitsWhere
-      (λ p box parts passed. let there = passed_in_box domain p.tests r c inside passed in formula_fits p.formula parts.0 (parts.1 there.0 (box ∙ there.1) there.2))
+      (All-both (λ p. p.box ≡ box_of domain p.tests) (λ p. IsFormula p.formula × CaseReads (λ g i j. FitsSigned w32 (env g i j)) p r c)
+      FitsWhere
+      (λ p box parts passed. let there = passed_in_box domain p.tests r c inside passed in
+      formula_fits p.formula parts.0 (parts.1 there.0 (box ∙ there.1) there.2))
       cases boxed both)
       (λ f there. formula_fits f (back f there) (reads.1 f there))
-  body_fits picture domain (accumulator fold bins value bin) is boxed formulas inside reads = from_bounds (pos 0) (omega (arith, ints)) (omega (arith, ints))
+  body_fits picture domain (accumulator fold bins value bin) is boxed formulas inside reads =
+      from_bounds (pos 0) (omega (arith, ints)) (omega (arith, ints))

@@ -9,7 +9,8 @@ five_cases m a b c d e =
     ∙ append_assoc m a (b ++ (c ++ (d ++ e)))
 
 -- what holds of a message and cases one behind the other holds of it and of what the cases are together
-pub together : (P : List ℕ → Type 0) (m mark b c d e height width count rest : List ℕ) → b ≡ height → c ≡ width → d ≡ count → e ≡ rest → P (m ++ mark ++ b ++ c ++ d ++ e)
+pub together : (P : List ℕ → Type 0) (m mark b c d e height width count rest : List ℕ) → b ≡ height → c ≡ width → d ≡ count → e ≡ rest
+    → P (m ++ mark ++ b ++ c ++ d ++ e)
     → P (m ++ (mark ++ (height ++ (width ++ (count ++ rest)))))
 together P m mark b c d e height width count rest one two three four held =
     subst P

@@ -33,22 +33,29 @@ bits_fit : (z : ℤ) → FitsSigned w32 z → cast_unsigned w32 z < 2 ^ 32
 bits_fit (pos n) p = omega (arith, p)
 bits_fit (negsuc n) p = omega (arith, p)
 
-signed_32 : (y z : ℤ) → FitsSigned w32 y → FitsSigned w32 z → to_be_bytes w32 (cast_unsigned w32 y) ≡ to_be_bytes w32 (cast_unsigned w32 z) → y ≡ z
-signed_32 y z p q h = sym (to_z-of_z w32 y p) ∙ ap (cast_signed w32) (number_32 (cast_unsigned w32 y) (cast_unsigned w32 z) (bits_fit y p) (bits_fit z q) h) ∙ to_z-of_z w32 z q
+signed_32 : (y z : ℤ) → FitsSigned w32 y → FitsSigned w32 z → to_be_bytes w32 (cast_unsigned w32 y) ≡ to_be_bytes w32 (cast_unsigned w32 z)
+    → y ≡ z
+signed_32 y z p q h =
+    sym (to_z-of_z w32 y p) ∙ ap (cast_signed w32) (number_32 (cast_unsigned w32 y) (cast_unsigned w32 z) (bits_fit y p) (bits_fit z q) h)
+    ∙ to_z-of_z w32 z q
 
 -- ---- parameters
 
 one_parameter : (p q : Parameter) → p.name ≡ q.name → p.value ≡ q.value → p ≡ q
 one_parameter p q n v i = record { name = n i; value = v i }
 
-pub first_parameter : (p q : Parameter) (c d : List ℕ) → FitsSigned w32 p.value → FitsSigned w32 q.value → parameter_bytes p ++ c ≡ parameter_bytes q ++ d → (p ≡ q) × (c ≡ d)
+pub first_parameter : (p q : Parameter) (c d : List ℕ) → FitsSigned w32 p.value → FitsSigned w32 q.value
+    → parameter_bytes p ++ c ≡ parameter_bytes q ++ d → (p ≡ q) × (c ≡ d)
 first_parameter p q c d f g h =
     let bits : Parameter → List ℕ = λ x. to_be_bytes w32 (cast_unsigned w32 x.value) in
-    let names = split p.name q.name (bits p ++ c) (bits q ++ d) (ap (λ l. get_or l 0 0) h) (sym (append_assoc p.name (bits p) c) ∙ ap (drop 1) h ∙ append_assoc q.name (bits q) d) in
+    let names =
+    split p.name q.name (bits p ++ c) (bits q ++ d) (ap (λ l. get_or l 0 0) h)
+    (sym (append_assoc p.name (bits p) c) ∙ ap (drop 1) h ∙ append_assoc q.name (bits q) d) in
     let values = split (bits p) (bits q) c d refl names.1 in
     (one_parameter p q names.0 (signed_32 p.value q.value f g values.0), values.1)
 
-all_parameters : (ps qs : List Parameter) (c d : List ℕ) → All (λ p. FitsSigned w32 p.value) ps → All (λ p. FitsSigned w32 p.value) qs → length ps ≡ length qs
+all_parameters : (ps qs : List Parameter) (c d : List ℕ) → All (λ p. FitsSigned w32 p.value) ps → All (λ p. FitsSigned w32 p.value) qs
+    → length ps ≡ length qs
     → flat_map parameter_bytes ps ++ c ≡ flat_map parameter_bytes qs ++ d → (ps ≡ qs) × (c ≡ d)
 all_parameters [] [] c d f g e h = (refl, h)
 all_parameters [] (q ∷ qs) c d f g e h = absurd (omega arith)
@@ -80,6 +87,8 @@ one_picture p q i j e =
 pub one_input : (a b : Pipeline) → IsJob a → IsJob b → IsSmall a → IsSmall b → input_bytes a ≡ input_bytes b
     → (a.sides ≡ b.sides) × (a.params ≡ b.params) × (a.picture ≡ b.picture)
 one_input a b p q few less h =
-    let count = number_16 (length a.params) (length b.params) (omega (arith, few.few_params)) (omega (arith, less.few_params)) (ap (λ l. take 2 (drop 12 l)) h) in
+    let count =
+    number_16 (length a.params) (length b.params) (omega (arith, few.few_params)) (omega (arith, less.few_params))
+    (ap (λ l. take 2 (drop 12 l)) h) in
     let rest = all_parameters a.params b.params (spelling a.picture) (spelling b.picture) p.params q.params count (ap (drop 14) h) in
     (same_sides a b p.sides q.sides h, rest.0, one_picture a.picture b.picture p.picture q.picture rest.1)

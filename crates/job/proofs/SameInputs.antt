@@ -14,27 +14,39 @@ use Rattle.job.proofs.InputLaws.{split, first_parameter, one_picture}
 -- ---- parameters
 
 -- of a parameter in front of others
-pub first_fits : (ps xs : List KeptParameter) (x : KeptParameter) → ps ≡ x ∷ xs → All (λ (p : Parameter). FitsSigned w32 p.value) (map parameter_view ps) → FitsSigned w32 x.value
-first_fits ps xs x e h = All-head (λ (p : Parameter). FitsSigned w32 p.value) (parameter_view x) (map parameter_view xs) (subst (λ (l : List KeptParameter). All (λ (p : Parameter). FitsSigned w32 p.value) (map parameter_view l)) e h)
+pub first_fits : (ps xs : List KeptParameter) (x : KeptParameter) → ps ≡ x ∷ xs
+    → All (λ (p : Parameter). FitsSigned w32 p.value) (map parameter_view ps) → FitsSigned w32 x.value
+first_fits ps xs x e h =
+    All-head (λ (p : Parameter). FitsSigned w32 p.value) (parameter_view x) (map parameter_view xs)
+    (subst (λ (l : List KeptParameter). All (λ (p : Parameter). FitsSigned w32 p.value) (map parameter_view l)) e h)
 
-pub others_fit : (ps xs : List KeptParameter) (x : KeptParameter) → ps ≡ x ∷ xs → All (λ (p : Parameter). FitsSigned w32 p.value) (map parameter_view ps) → All (λ (p : Parameter). FitsSigned w32 p.value) (map parameter_view xs)
-others_fit ps xs x e h = All-tail (λ (p : Parameter). FitsSigned w32 p.value) (parameter_view x) (map parameter_view xs) (subst (λ (l : List KeptParameter). All (λ (p : Parameter). FitsSigned w32 p.value) (map parameter_view l)) e h)
+pub others_fit : (ps xs : List KeptParameter) (x : KeptParameter) → ps ≡ x ∷ xs
+    → All (λ (p : Parameter). FitsSigned w32 p.value) (map parameter_view ps)
+    → All (λ (p : Parameter). FitsSigned w32 p.value) (map parameter_view xs)
+others_fit ps xs x e h =
+    All-tail (λ (p : Parameter). FitsSigned w32 p.value) (parameter_view x) (map parameter_view xs)
+    (subst (λ (l : List KeptParameter). All (λ (p : Parameter). FitsSigned w32 p.value) (map parameter_view l)) e h)
 
 abbrev pub spelled : List KeptParameter → List ℕ → List ℕ
 spelled ps c = flat_map parameter_bytes (map parameter_view ps) ++ 80 ∷ c
 
 -- where the bytes of two lists of parameters and what is behind them are equal, so are the first parameters, and what is behind these
-pub firsts : (ps qs xs ys : List KeptParameter) (x y : KeptParameter) (c d : List ℕ) → ps ≡ x ∷ xs → qs ≡ y ∷ ys → FitsSigned w32 x.value → FitsSigned w32 y.value
+pub firsts : (ps qs xs ys : List KeptParameter) (x y : KeptParameter) (c d : List ℕ) → ps ≡ x ∷ xs → qs ≡ y ∷ ys → FitsSigned w32 x.value
+    → FitsSigned w32 y.value
     → spelled ps c ≡ spelled qs d → (parameter_view x ≡ parameter_view y) × (spelled xs c ≡ spelled ys d)
 firsts ps qs xs ys x y c d e g f k h =
     let rest : List KeptParameter → List ℕ = λ l. flat_map parameter_bytes (map parameter_view l) in
     first_parameter (parameter_view x) (parameter_view y) (spelled xs c) (spelled ys d) f k
-    (sym (append_assoc (parameter_bytes (parameter_view x)) (rest xs) (80 ∷ c)) ∙ sym (ap (λ (l : List KeptParameter). spelled l c) e) ∙ h ∙ ap (λ (l : List KeptParameter). spelled l d) g ∙ append_assoc (parameter_bytes (parameter_view y)) (rest ys) (80 ∷ d))
+    (sym (append_assoc (parameter_bytes (parameter_view x)) (rest xs) (80 ∷ c)) ∙ sym (ap (λ (l : List KeptParameter). spelled l c) e) ∙ h
+    ∙ ap (λ (l : List KeptParameter). spelled l d) g ∙ append_assoc (parameter_bytes (parameter_view y)) (rest ys) (80 ∷ d))
 
 -- no name is as long as the letter with which a picture begins
-pub no_picture : (ps qs xs : List KeptParameter) (x : KeptParameter) (c d : List ℕ) → ps ≡ x ∷ xs → qs ≡ [] → length x.name < 80 → spelled ps c ≡ spelled qs d → ⊥
+pub no_picture : (ps qs xs : List KeptParameter) (x : KeptParameter) (c d : List ℕ) → ps ≡ x ∷ xs → qs ≡ [] → length x.name < 80
+    → spelled ps c ≡ spelled qs d → ⊥
 no_picture ps qs xs x c d e g short h =
-    let same = sym (ap (λ (l : List KeptParameter). get_or (spelled l c) 0 0) e) ∙ ap (λ (l : List ℕ). get_or l 0 0) h ∙ ap (λ (l : List KeptParameter). get_or (spelled l d) 0 0) g in
+    let same =
+    sym (ap (λ (l : List KeptParameter). get_or (spelled l c) 0 0) e) ∙ ap (λ (l : List ℕ). get_or l 0 0) h
+    ∙ ap (λ (l : List KeptParameter). get_or (spelled l d) 0 0) g in
     let one : length x.name ≡ 80 = same in omega (arith, one, short)
 
 -- ---- inputs

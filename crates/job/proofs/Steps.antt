@@ -19,7 +19,8 @@ use Rattle.job.proofs.Choosing.{IsAlike, AlikeWhere, chosen_alike}
 -- what holds of each that is made of an element holds of what each element makes
 pub All-from_map : {X Y : Type 0} (P : Y → Type 0) (f : X → Y) (xs : List X) → All P (map f xs) → All (λ x. P (f x)) xs
 All-from_map P f [] h = All-nil (λ x. P (f x))
-All-from_map P f (x ∷ xs) h = All-cons (λ x. P (f x)) x xs (All-head P (f x) (map f xs) h) (All-from_map P f xs (All-tail P (f x) (map f xs) h))
+All-from_map P f (x ∷ xs) h =
+    All-cons (λ x. P (f x)) x xs (All-head P (f x) (map f xs) h) (All-from_map P f xs (All-tail P (f x) (map f xs) h))
 
 pub All-from_flat_map : {X Y : Type 0} (P : Y → Type 0) (f : X → List Y) (xs : List X) → All P (flat_map f xs) → All (λ x. All P (f x)) xs
 All-from_flat_map P f [] h = All-nil (λ x. All P (f x))
@@ -50,8 +51,10 @@ rank_read stages x = rank_of stages (stage_read x)
 
 pub rank_falls : (stages : List Stage) (body : Body) → All (λ x. rank_of stages (stage_read x) < rank_by stages body) (reads_of body)
 rank_falls stages (plane n) = All-nil (λ x. rank_of stages (stage_read x) < 0)
-rank_falls stages (function cases otherwise) = each_at_most (λ x. rank_of stages (stage_read x)) (reads_of (function cases otherwise)) _ (le_same _)
-rank_falls stages (accumulator fold bins value bin) = each_at_most (λ x. rank_of stages (stage_read x)) (reads_of (accumulator fold bins value bin)) _ (le_same _)
+rank_falls stages (function cases otherwise) =
+    each_at_most (λ x. rank_of stages (stage_read x)) (reads_of (function cases otherwise)) _ (le_same _)
+rank_falls stages (accumulator fold bins value bin) =
+    each_at_most (λ x. rank_of stages (stage_read x)) (reads_of (accumulator fold bins value bin)) _ (le_same _)
 
 -- ---- one value for all stages that are read
 
@@ -66,15 +69,19 @@ module _ (e h : Valuation) where
 
   read_alike : (r c : ℤ) (f : Formula) → All (λ x. IsSame (stage_read x)) (reads_in f) → IsAlike e h r c f
   read_alike r c f same =
-      formula_value-agrees e h r c f (All-weaker (λ x. IsSame (stage_read x)) (λ x. EachTaken (SameAt e h) x r c) (taken_alike r c) (reads_in f) same)
+      formula_value-agrees e h r c f
+      (All-weaker (λ x. IsSame (stage_read x)) (λ x. EachTaken (SameAt e h) x r c) (taken_alike r c) (reads_in f) same)
 
-  pub body_value-agrees : (picture : Image) (body : Body) → All (λ x. IsSame (stage_read x)) (reads_of body) → (r c : ℤ) → body_value picture e body r c ≡ body_value picture h body r c
+  pub body_value-agrees : (picture : Image) (body : Body) → All (λ x. IsSame (stage_read x)) (reads_of body) → (r c : ℤ)
+      → body_value picture e body r c ≡ body_value picture h body r c
   body_value-agrees picture (plane n) same r c = refl
   body_value-agrees picture (function cases otherwise) same r c =
       let P : Formula → Type 0 = IsAlike e h r c in
       let alike : All P (map (λ p. p.formula) cases ++ other_formula otherwise) =
-      All-weaker (λ f. All (λ x. IsSame (stage_read x)) (reads_in f)) P (read_alike r c) _ (All-from_flat_map (λ x. IsSame (stage_read x)) reads_in (map (λ p. p.formula) cases ++ other_formula otherwise) same) in
+      All-weaker (λ f. All (λ x. IsSame (stage_read x)) (reads_in f)) P (read_alike r c) _
+      (All-from_flat_map (λ x. IsSame (stage_read x)) reads_in (map (λ p. p.formula) cases ++ other_formula otherwise) same) in
       chosen_alike e h r c cases otherwise
-      (All-weaker (λ p. P p.formula) (AlikeWhere e h r c) (λ p alike passed. alike) cases (All-from_map P (λ p. p.formula) cases (All-left P (map (λ p. p.formula) cases) (other_formula otherwise) alike)))
+      (All-weaker (λ p. P p.formula) (AlikeWhere e h r c) (λ p alike passed. alike) cases
+      (All-from_map P (λ p. p.formula) cases (All-left P (map (λ p. p.formula) cases) (other_formula otherwise) alike)))
       (other_each P otherwise (All-right P (map (λ p. p.formula) cases) (other_formula otherwise) alike))
   body_value-agrees picture (accumulator fold bins value bin) same r c = refl

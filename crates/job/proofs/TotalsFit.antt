@@ -36,8 +36,12 @@ start_fits Max = omega arith
 
 pub total_fits : (way : Fold) (vs : List ℤ) → All (FitsSigned w64) vs → FitsSigned w64 (total_of way vs)
 total_fits Sum vs each = SFits-int_wrap w64 _
-total_fits Min vs each = one_of (FitsSigned w64) vs (start_of Min) (fold int_min (start_of Min) vs) (start_fits Min) each (fold-int_min_reached (start_of Min) vs _ refl)
-total_fits Max vs each = one_of (FitsSigned w64) vs (start_of Max) (fold int_max (start_of Max) vs) (start_fits Max) each (fold-int_max_reached (start_of Max) vs _ refl)
+total_fits Min vs each =
+    one_of (FitsSigned w64) vs (start_of Min) (fold int_min (start_of Min) vs) (start_fits Min) each
+    (fold-int_min_reached (start_of Min) vs _ refl)
+total_fits Max vs each =
+    one_of (FitsSigned w64) vs (start_of Max) (fold int_max (start_of Max) vs) (start_fits Max) each
+    (fold-int_max_reached (start_of Max) vs _ refl)
 
 All-map : {X Y : Type 0} (P : Y → Type 0) (f : X → Y) (xs : List X) → All (λ x. P (f x)) xs → All P (map f xs)
 All-map P f [] h = All-nil P
@@ -50,38 +54,49 @@ all_of P f (x ∷ xs) = All-cons P x xs (f x) (all_of P f xs)
 module _ (job : Pipeline) (is : IsJob job) where
   taken_fits : (r c : ℤ) (x : Read) → EachTaken (IsReadable job.stages) x r c → EachTaken (λ g i j. FitsSigned w32 (value job g i j)) x r c
   taken_fits r c (point g i j) there = value_fits job is g _ _ there
-  taken_fits r c (window g kernel) there = λ a b la lb. value_fits job is g (kernel_row kernel r a) (kernel_column kernel c b) (there a b la lb)
+  taken_fits r c (window g kernel) there =
+      λ a b la lb. value_fits job is g (kernel_row kernel r a) (kernel_column kernel c b) (there a b la lb)
 
   read_fits : (f : Formula) (r c : ℤ) → EachRead (IsReadable job.stages) f r c → EachRead (λ g i j. FitsSigned w32 (value job g i j)) f r c
   read_fits f r c there =
-      All-weaker (λ x. EachTaken (IsReadable job.stages) x r c) (λ x. EachTaken (λ g i j. FitsSigned w32 (value job g i j)) x r c) (taken_fits r c) (reads_in f) there
+      All-weaker (λ x. EachTaken (IsReadable job.stages) x r c) (λ x. EachTaken (λ g i j. FitsSigned w32 (value job g i j)) x r c)
+      (taken_fits r c) (reads_in f) there
 
-  body_totals_fit : (s : Stage) (area : Area) (body : Body) → IsStage job s → s.body ≡ body → IsArea area → IsSubarea area s.domain → All (FitsSigned w64) (body_totals (value job) area body)
+  body_totals_fit : (s : Stage) (area : Area) (body : Body) → IsStage job s → s.body ≡ body → IsArea area → IsSubarea area s.domain
+      → All (FitsSigned w64) (body_totals (value job) area body)
   body_totals_fit s area (plane n) h b within inside = All-nil (FitsSigned w64)
   body_totals_fit s area (function cases otherwise) h b within inside = All-nil (FitsSigned w64)
   body_totals_fit s area (accumulator way bins v bin) h b within inside =
-      let reads : (r c : ℤ) → HoldsPoint s.domain r c → BodyReads (IsReadable job.stages) (accumulator way bins v bin) r c = subst (λ (x : Body). (r c : ℤ) → HoldsPoint s.domain r c → BodyReads (IsReadable job.stages) x r c) b h.reads in
+      let reads : (r c : ℤ) → HoldsPoint s.domain r c → BodyReads (IsReadable job.stages) (accumulator way bins v bin) r c =
+      subst (λ (x : Body). (r c : ℤ) → HoldsPoint s.domain r c → BodyReads (IsReadable job.stages) x r c) b h.reads in
       let good : IsFormula v = All-head IsFormula v (bin ∷ []) (subst (λ (x : Body). All IsFormula (formulas_of x)) b h.formulas) in
       let at : (t : ℤ × ℤ) → HoldsPoint area t.0 t.1 → FitsSigned w64 (formula_value (value job) v t.0 t.1) = λ t there.
       let here = inside t.0 t.1 there in
-      widens _ (formula_fits (value job) t.0 t.1 (near_fits s.domain.rows t.0 h.rows here.0) (near_fits s.domain.cols t.1 h.cols here.1) v good (read_fits v t.0 t.1 (reads t.0 t.1 here).0)) in
-      let all : All (λ t. FitsSigned w64 (formula_value (value job) v t.0 t.1)) (points_of area) = All-weaker (λ t. HoldsPoint area t.0 t.1) (λ t. FitsSigned w64 (formula_value (value job) v t.0 t.1)) at (points_of area) (points_inside area within) in
+      widens _ (formula_fits (value job) t.0 t.1 (near_fits s.domain.rows t.0 h.rows here.0) (near_fits s.domain.cols t.1 h.cols here.1) v
+      good (read_fits v t.0 t.1 (reads t.0 t.1 here).0)) in
+      let all : All (λ t. FitsSigned w64 (formula_value (value job) v t.0 t.1)) (points_of area) =
+      All-weaker (λ t. HoldsPoint area t.0 t.1) (λ t. FitsSigned w64 (formula_value (value job) v t.0 t.1)) at (points_of area)
+      (points_inside area within) in
       All-map (FitsSigned w64) (λ b. total_of way (values_in_bin (value job) v bin area b)) (numbers_of bins)
       (all_of (λ b. FitsSigned w64 (total_of way (values_in_bin (value job) v bin area b))) (λ b.
       total_fits way (values_in_bin (value job) v bin area b)
-      (All-map (FitsSigned w64) (λ p. formula_value (value job) v p.0 p.1) (filter (λ p. int_eq (formula_value (value job) bin p.0 p.1) b) (points_of area))
-      (All-filter (λ p. int_eq (formula_value (value job) bin p.0 p.1) b) (λ t. FitsSigned w64 (formula_value (value job) v t.0 t.1)) (points_of area) all)))
+      (All-map (FitsSigned w64) (λ p. formula_value (value job) v p.0 p.1)
+      (filter (λ p. int_eq (formula_value (value job) bin p.0 p.1) b) (points_of area))
+      (All-filter (λ p. int_eq (formula_value (value job) bin p.0 p.1) b) (λ t. FitsSigned w64 (formula_value (value job) v t.0 t.1))
+      (points_of area) all)))
       (numbers_of bins))
 
   domain_is : (s : Stage) → IsStage job s → IsArea s.domain
   domain_is s h = record { rows = h.rows.span; cols = h.cols.span }
 
-  pub totals_over_fit : (g : ℕ) (s : Stage) (area : Area) → slice_get job.stages g ≡ Some s → IsArea area → IsSubarea area s.domain → All (FitsSigned w64) (totals_over job area g)
+  pub totals_over_fit : (g : ℕ) (s : Stage) (area : Area) → slice_get job.stages g ≡ Some s → IsArea area → IsSubarea area s.domain
+      → All (FitsSigned w64) (totals_over job area g)
   totals_over_fit g s area there within inside =
       subst (λ (o : Option Stage). All (FitsSigned w64) (option_map_or (λ t. body_totals (value job) area t.body) o [])) (sym there)
       (body_totals_fit s area s.body (is.stages g s there) refl within inside)
 
-  by_stage : (g : ℕ) (o : Option Stage) → slice_get job.stages g ≡ o → All (FitsSigned w64) (option_map_or (λ s. body_totals (value job) s.domain s.body) o [])
+  by_stage : (g : ℕ) (o : Option Stage) → slice_get job.stages g ≡ o
+      → All (FitsSigned w64) (option_map_or (λ s. body_totals (value job) s.domain s.body) o [])
   by_stage g None there = All-nil (FitsSigned w64)
   by_stage g (Some s) there = body_totals_fit s s.domain s.body (is.stages g s there) refl (domain_is s (is.stages g s there)) (λ r c h. h)
 

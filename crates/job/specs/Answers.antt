@@ -35,7 +35,14 @@ width_of job g = option_map_or (λ s. len_of s.domain.cols) (slice_get job.stage
 -- a plane for each stage of the output; their domains have equal sides
 abbrev pub picture_of : Pipeline → Output → Image
 picture_of job o =
-    record { rows = height_of job (slice_index o.stages 0); cols = width_of job (slice_index o.stages 0); max = o.max; planes = map (samples job o.max) o.stages }
+    record {
+      rows =
+          height_of job (slice_index o.stages 0);
+      cols =
+          width_of job (slice_index o.stages 0);
+      max = o.max;
+      planes = map (samples job o.max) o.stages;
+    }
 
 -- the picture of a job that has an output
 abbrev pub image : Pipeline → Option Image
@@ -66,7 +73,8 @@ is_accumulator (accumulator fold bins value bin) = true
 -- the tiles of a stage, row by row
 abbrev pub tiles : Pipeline → ℕ → List Tile
 tiles job g =
-    option_map_or (λ s. if has_tiles s.body then map (λ t. record { stage = g; row = t.0; col = t.1 }) (tiles_of (grid_of job s)) else []) (slice_get job.stages g) []
+    option_map_or (λ s. if has_tiles s.body then map (λ t. record { stage = g; row = t.0; col = t.1 }) (tiles_of (grid_of job s)) else [])
+    (slice_get job.stages g) []
 
 abbrev pub is_output : Pipeline → ℕ → Bool
 is_output job g = option_map_or (λ o. list_any (λ h. h == g) o.stages) job.output false

@@ -18,7 +18,8 @@ abbrev pub leaning : Pipeline
 leaning =
     job_of
     (plane_stage 73 0 (area (pos 0) (pos 2))
-    ∷ everywhere 102 1 (record { rows = ends (pos 0) (pos 0); cols = ends (pos 1) (pos 1) }) (stencil 0 1 ((pos 1 ∷ pos 10 ∷ pos 100 ∷ []) ∷ []))
+    ∷ everywhere 102 1 (record { rows = ends (pos 0) (pos 0); cols = ends (pos 1) (pos 1) })
+    (stencil 0 1 ((pos 1 ∷ pos 10 ∷ pos 100 ∷ []) ∷ []))
     ∷ [])
     (1 ∷ [])
     255

@@ -81,7 +81,8 @@ reads_of body = flat_map reads_in (formulas_of body)
 abbrev pub rank_by : List Stage → Body → ℕ
 rank_by stages (plane n) = 0
 rank_by stages (function cases otherwise) = greatest (map (λ x. rank_of stages (stage_read x)) (reads_of (function cases otherwise))) + 1
-rank_by stages (accumulator fold bins value bin) = greatest (map (λ x. rank_of stages (stage_read x)) (reads_of (accumulator fold bins value bin))) + 1
+rank_by stages (accumulator fold bins value bin) =
+    greatest (map (λ x. rank_of stages (stage_read x)) (reads_of (accumulator fold bins value bin))) + 1
 
 -- each stage has its rank
 abbrev pub IsRanked : List Stage → Type 0

@@ -82,7 +82,8 @@ blur =
 abbrev pub halving : Pipeline
 halving =
     job_of
-    (plane_stage 73 0 (area (pos 3) (pos 3)) ∷ everywhere 102 1 (area (pos 1) (pos 1)) (read 0 twice twice) ∷ everywhere 103 2 (area (pos 3) (pos 3)) (read 1 half half) ∷ [])
+    (plane_stage 73 0 (area (pos 3) (pos 3)) ∷ everywhere 102 1 (area (pos 1) (pos 1)) (read 0 twice twice)
+    ∷ everywhere 103 2 (area (pos 3) (pos 3)) (read 1 half half) ∷ [])
     (2 ∷ [])
     255
     (image 4 4 15 ((0 ∷ 1 ∷ 2 ∷ 3 ∷ 4 ∷ 5 ∷ 6 ∷ 7 ∷ 8 ∷ 9 ∷ 10 ∷ 11 ∷ 12 ∷ 13 ∷ 14 ∷ 15 ∷ []) ∷ []))
@@ -138,7 +139,16 @@ counting =
     record {
       stages =
           plane_stage 73 0 (area (pos 2) (pos 2))
-          ∷ record { name = 104 ∷ []; rank = 1; domain = area (pos 2) (pos 2); body = accumulator Sum (ends (pos 0) (pos 3)) (number (pos 1)) (literal Rem (read 0 same same) 4) }
+          ∷ record {
+            name =
+                104 ∷ [];
+            rank =
+                1;
+            domain =
+                area (pos 2) (pos 2);
+            body =
+                accumulator Sum (ends (pos 0) (pos 3)) (number (pos 1)) (literal Rem (read 0 same same) 4);
+          }
           ∷ [];
       output = None;
       params = [];
@@ -153,7 +163,14 @@ outside =
     record {
       stages =
           plane_stage 73 0 (area (pos 0) (pos 0))
-          ∷ record { name = 109 ∷ []; rank = 1; domain = area (pos 0) (pos 0); body = accumulator Min (ends (pos 0) (pos 2)) (read 0 same same) (read 0 same same) }
+          ∷ record {
+            name =
+                109 ∷ [];
+            rank =
+                1;
+            domain = area (pos 0) (pos 0);
+            body = accumulator Min (ends (pos 0) (pos 2)) (read 0 same same) (read 0 same same);
+          }
           ∷ [];
       output = None;
       params = [];

@@ -34,7 +34,8 @@ pub(crate) fn input_id(parts: &BoundPipeline) -> InputId
 
 // What is hashed before the picture.
 fn hash_settings<D: Digest>(hasher: &mut D, parts: &BoundPipeline)
-    ensures { (m : List ℕ) → D.holds hasher.old m → D.holds hasher.new (m ++ settings_bytes (pipeline_of parts.now)) }
+    ensures { (m : List ℕ) → D.holds hasher.old m
+        → D.holds hasher.new (m ++ settings_bytes (pipeline_of parts.now)) }
 {
     let parameters = parts.params.as_slice();
     hasher.update(b"PTI1");
@@ -45,7 +46,8 @@ fn hash_settings<D: Digest>(hasher: &mut D, parts: &BoundPipeline)
 }
 
 fn hash_parameters<D: Digest>(hasher: &mut D, parameters: &[Parameter])
-    ensures { (m : List ℕ) → D.holds hasher.old m → D.holds hasher.new (m ++ flat_map parameter_bytes (map parameter_view parameters.now)) }
+    ensures { (m : List ℕ) → D.holds hasher.old m
+        → D.holds hasher.new (m ++ flat_map parameter_bytes (map parameter_view parameters.now)) }
 {
     for parameter in parameters {
         hash_parameter(hasher, parameter);
@@ -53,7 +55,8 @@ fn hash_parameters<D: Digest>(hasher: &mut D, parameters: &[Parameter])
 }
 
 fn hash_parameter<D: Digest>(hasher: &mut D, parameter: &Parameter)
-    ensures { (m : List ℕ) → D.holds hasher.old m → D.holds hasher.new (m ++ parameter_bytes (parameter_view parameter.now)) }
+    ensures { (m : List ℕ) → D.holds hasher.old m
+        → D.holds hasher.new (m ++ parameter_bytes (parameter_view parameter.now)) }
 {
     let name = parameter.name.as_bytes();
     hasher.update(&[name.len() as u8]);
@@ -94,7 +97,8 @@ fn count_bytes(count: usize) -> [u8; 2]
 }
 
 fn push_parameter(bytes: &mut Vec<u8>, parameter: &Parameter) -> Result<(), AllocError>
-    ensures { OnOk result (bytes.new.items ≡ bytes.old.items ++ parameter_bytes (parameter_view parameter.now)) }
+    ensures { OnOk result
+        (bytes.new.items ≡ bytes.old.items ++ parameter_bytes (parameter_view parameter.now)) }
 {
     let name = parameter.name.as_bytes();
     bytes.push(name.len() as u8)?;

@@ -70,7 +70,8 @@ impl Job {
 
     /// The stage of this number.
     pub fn stage(&self, number: usize) -> Option<&Stage>
-        ensures { option_map (λ s. stage_view s.now) result ≡ slice_get (pipeline_in self.now).stages number }
+        ensures { option_map (λ s. stage_view s.now) result
+            ≡ slice_get (pipeline_in self.now).stages number }
     {
         self.parts.stages.as_slice().get(number)
     }
@@ -115,7 +116,8 @@ impl Job {
 
     /// The rank of the stage of this number.
     pub fn rank(&self, number: usize) -> Option<usize>
-        ensures { result ≡ option_map (λ s. s.rank) (slice_get (pipeline_in self.now).stages number) }
+        ensures { result
+            ≡ option_map (λ s. s.rank) (slice_get (pipeline_in self.now).stages number) }
     {
         match self.stage(number) {
             Some(stage) => Some(stage.rank()),
@@ -125,7 +127,8 @@ impl Job {
 
     /// The domain of the stage of this number; of an accumulator the area that it reduces.
     pub fn domain(&self, number: usize) -> Option<Area>
-        ensures { result ≡ option_map (λ s. s.domain) (slice_get (pipeline_in self.now).stages number) }
+        ensures { result
+            ≡ option_map (λ s. s.domain) (slice_get (pipeline_in self.now).stages number) }
     {
         match self.stage(number) {
             Some(stage) => Some(*stage.domain()),
@@ -135,7 +138,8 @@ impl Job {
 
     /// The name of the stage of this number.
     pub fn name(&self, number: usize) -> Option<Name>
-        ensures { result ≡ option_map (λ s. s.name) (slice_get (pipeline_in self.now).stages number) }
+        ensures { result
+            ≡ option_map (λ s. s.name) (slice_get (pipeline_in self.now).stages number) }
     {
         match self.stage(number) {
             Some(stage) => Some(*stage.name()),
@@ -220,7 +224,9 @@ impl Job {
     /// Whether the same bytes are hashed of both jobs: of the programs their canonical texts, and of what they are given
     /// `input_bytes`. Where they are, all identities are equal. No picture is copied, and no memory is taken.
     pub fn hashes_the_same(&self, other: &Job) -> bool
-        ensures { IsTrue result ↔ (program_text_in self.now ≡ program_text_in other.now) × (input_bytes (pipeline_in self.now) ≡ input_bytes (pipeline_in other.now)) }
+        ensures { IsTrue result
+            ↔ (program_text_in self.now ≡ program_text_in other.now)
+            × (input_bytes (pipeline_in self.now) ≡ input_bytes (pipeline_in other.now)) }
     {
         if self.text.as_slice() != other.text.as_slice() {
             return false;
@@ -232,7 +238,16 @@ impl Job {
     /// program is given, at the cost of `input_id`.
     pub fn key(&self, stage: u16, row: u32, col: u32) -> Option<Key>
         ensures there { IsSome result ↔ HasTileAt (pipeline_in self.now) stage row col }
-        ensures key { IfSome result (λ k. k ≡ record { program = program_id_in self.now; input = input_id (pipeline_in self.now); stage = stage; row = row; col = col }) }
+        ensures key { IfSome result (λ k. k
+            ≡ record {
+              program =
+                  program_id_in self.now;
+              input =
+                  input_id (pipeline_in self.now);
+              stage = stage;
+              row = row;
+              col = col;
+            }) }
     {
         let grid = self.grid(usize::from(stage))?;
         grid.tile(row, col)?;

@@ -19,51 +19,70 @@ ghost use Rattle.job.specs.Identity.{input_bytes};
 
 /// Reads lead to lower ranks. So a value is what its stage makes of the values that it reads, and steps beyond the rank change nothing.
 pub fn values_unroll()
-    ensures falls { (stages : List Stage) (g : ℕ) (s : Stage) → IsRanked stages → slice_get stages g ≡ Some s → All (λ x. rank_of stages (stage_read x) < rank_of stages g) (reads_of s.body) }
-    ensures unrolls { (job : Pipeline) (g : ℕ) (r c : ℤ) → IsRanked job.stages → value job g r c ≡ stage_value job (value job) (slice_get job.stages g) r c }
-    ensures enough { (job : Pipeline) (n g : ℕ) (r c : ℤ) → IsRanked job.stages → rank_of job.stages g < n → value_within job n g r c ≡ value job g r c }
+    ensures falls { (stages : List Stage) (g : ℕ) (s : Stage) → IsRanked stages
+        → slice_get stages g ≡ Some s
+        → All (λ x. rank_of stages (stage_read x) < rank_of stages g) (reads_of s.body) }
+    ensures unrolls { (job : Pipeline) (g : ℕ) (r c : ℤ) → IsRanked job.stages
+        → value job g r c ≡ stage_value job (value job) (slice_get job.stages g) r c }
+    ensures enough { (job : Pipeline) (n g : ℕ) (r c : ℤ) → IsRanked job.stages
+        → rank_of job.stages g < n → value_within job n g r c ≡ value job g r c }
 {}
 
 /// On their domains the stages' equations have one solution, the values of the job.
 pub fn values_are_the_one_solution()
     ensures solves { (job : Pipeline) → IsJob job → Solves job (value job) }
-    ensures only { (job : Pipeline) (env : Valuation) (g : ℕ) (r c : ℤ) → IsJob job → Solves job env → IsReadable job.stages g r c → env g r c ≡ value job g r c }
+    ensures only { (job : Pipeline) (env : Valuation) (g : ℕ) (r c : ℤ) → IsJob job → Solves job env
+        → IsReadable job.stages g r c → env g r c ≡ value job g r c }
 {}
 
 /// Each value of a job is a number of 32 bits.
 pub fn values_fit()
-    ensures { (job : Pipeline) (g : ℕ) (r c : ℤ) → IsJob job → IsReadable job.stages g r c → FitsSigned w32 (value job g r c) }
+    ensures { (job : Pipeline) (g : ℕ) (r c : ℤ) → IsJob job → IsReadable job.stages g r c
+        → FitsSigned w32 (value job g r c) }
 {}
 
 /// Each total of a job is a number of 64 bits, over all points and over a part of them.
 pub fn totals_fit()
     ensures whole { (job : Pipeline) (g : ℕ) → IsJob job → All (FitsSigned w64) (totals job g) }
-    ensures part { (job : Pipeline) (g : ℕ) (s : Stage) (area : Area) → IsJob job → slice_get job.stages g ≡ Some s → IsArea area → IsSubarea area s.domain → All (FitsSigned w64) (totals_over job area g) }
+    ensures part { (job : Pipeline) (g : ℕ) (s : Stage) (area : Area) → IsJob job
+        → slice_get job.stages g ≡ Some s → IsArea area → IsSubarea area s.domain
+        → All (FitsSigned w64) (totals_over job area g) }
 {}
 
 /// Two valuations that have one value for all that is read give one value: for a formula at a point or over a
 /// region, for a stage at a point of its domain,
 /// and for the totals of an accumulator over an area.
 pub fn what_is_read_decides()
-    ensures formula { (e h : Valuation) (f : Formula) (r c : ℤ) → EachRead (SameAt e h) f r c → formula_value e f r c ≡ formula_value h f r c }
-    ensures region { (e h : Valuation) (region : Area) (f : Formula) → AgreeOver e h region f → (r c : ℤ) → HoldsPoint region r c → formula_value e f r c ≡ formula_value h f r c }
-    ensures stage { (picture : Image) (e h : Valuation) (domain : Area) (body : Body) (r c : ℤ) → AreBoxed domain body → HoldsPoint domain r c → BodyReads (SameAt e h) body r c → body_value picture e body r c ≡ body_value picture h body r c }
-    ensures totals { (e h : Valuation) (area : Area) (body : Body) → IsArea area → ((r c : ℤ) → HoldsPoint area r c → BodyReads (SameAt e h) body r c) → body_totals e area body ≡ body_totals h area body }
+    ensures formula { (e h : Valuation) (f : Formula) (r c : ℤ) → EachRead (SameAt e h) f r c
+        → formula_value e f r c ≡ formula_value h f r c }
+    ensures region { (e h : Valuation) (region : Area) (f : Formula) → AgreeOver e h region f
+        → (r c : ℤ) → HoldsPoint region r c → formula_value e f r c ≡ formula_value h f r c }
+    ensures stage { (picture : Image) (e h : Valuation) (domain : Area) (body : Body) (r c : ℤ)
+        → AreBoxed domain body → HoldsPoint domain r c → BodyReads (SameAt e h) body r c
+        → body_value picture e body r c ≡ body_value picture h body r c }
+    ensures totals { (e h : Valuation) (area : Area) (body : Body) → IsArea area
+        → ((r c : ℤ) → HoldsPoint area r c → BodyReads (SameAt e h) body r c)
+        → body_totals e area body ≡ body_totals h area body }
 {}
 
 /// The total of two lists of values, one behind the other, is that of their totals.
 pub fn totals_join()
-    ensures { (way : Fold) (vs ws : List ℤ) → total_of way (vs ++ ws) ≡ joined way (total_of way vs) (total_of way ws) }
+    ensures { (way : Fold) (vs ws : List ℤ)
+        → total_of way (vs ++ ws) ≡ joined way (total_of way vs) (total_of way ws) }
 {}
 
 /// The box of tests has the points of the domain at which the tests of bounds hold, and is an area if there are any.
 pub fn boxes_are_cut_by_bounds()
-    ensures cut { (domain : Area) (tests : List Test) → IsCutArea (BoundsHold tests) domain (box_of domain tests) }
-    ensures area { (domain box : Area) (tests : List Test) → IsArea domain → box_of domain tests ≡ Some box → IsArea box }
+    ensures cut { (domain : Area) (tests : List Test)
+        → IsCutArea (BoundsHold tests) domain (box_of domain tests) }
+    ensures area { (domain box : Area) (tests : List Test) → IsArea domain
+        → box_of domain tests ≡ Some box → IsArea box }
 {}
 
 /// Equal bytes are of one input: the sides of the tiles, the parameters and the picture are the same. There are few parameters, as
 /// in a text.
 pub fn one_input()
-    ensures { (a b : Pipeline) → IsJob a → IsJob b → IsSmall a → IsSmall b → input_bytes a ≡ input_bytes b → (a.sides ≡ b.sides) × (a.params ≡ b.params) × (a.picture ≡ b.picture) }
+    ensures { (a b : Pipeline) → IsJob a → IsJob b → IsSmall a → IsSmall b
+        → input_bytes a ≡ input_bytes b
+        → (a.sides ≡ b.sides) × (a.params ≡ b.params) × (a.picture ≡ b.picture) }
 {}

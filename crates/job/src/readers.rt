@@ -27,7 +27,8 @@ impl Job {
 
     /// The value of the parameter of this number, in the order of the text.
     pub fn param(&self, number: usize) -> Option<i32>
-        ensures { result ≡ option_map (λ p. p.value) (slice_get (pipeline_in self.now).params number) }
+        ensures { result
+            ≡ option_map (λ p. p.value) (slice_get (pipeline_in self.now).params number) }
     {
         match self.params().get(number) {
             Some(parameter) => Some(parameter.value),
@@ -40,14 +41,17 @@ impl Job {
         requires in_planes { plane < length (pipeline_in self.now).picture.planes }
         requires in_rows { row < (pipeline_in self.now).picture.rows }
         requires in_cols { col < (pipeline_in self.now).picture.cols }
-        ensures { result ≡ slice_index (slice_index_or (pipeline_in self.now).picture.planes plane []) (row * (pipeline_in self.now).picture.cols + col) }
+        ensures { result
+            ≡ slice_index (slice_index_or (pipeline_in self.now).picture.planes plane [])
+            (row * (pipeline_in self.now).picture.cols + col) }
     {
         self.picture().sample(plane, row, col)
     }
 
     /// The cases of the function of this number, in the order of the text; none of other stages.
     pub fn cases(&self, number: usize) -> Option<&[JobCase]>
-        ensures { option_map (λ cases. map case_view cases.now) result ≡ stage_cases (slice_get (pipeline_in self.now).stages number) }
+        ensures { option_map (λ cases. map case_view cases.now) result
+            ≡ stage_cases (slice_get (pipeline_in self.now).stages number) }
     {
         match self.stage(number)?.body() {
             Body::Function(function) => Some(function.cases()),
@@ -61,7 +65,8 @@ impl Job {
     ///
     /// Fails only where memory is refused.
     pub fn reads(&self, alloc: Global, number: usize) -> Result<Option<Vec<Read>>, AllocError>
-        ensures { IfOk result (λ found. option_map (λ reads. map read_view reads.items) found ≡ option_map (λ s. reads_of s.body) (slice_get (pipeline_in self.now).stages number)) }
+        ensures { IfOk result (λ found. option_map (λ reads. map read_view reads.items) found
+            ≡ option_map (λ s. reads_of s.body) (slice_get (pipeline_in self.now).stages number)) }
     {
         match self.stage(number) {
             Some(stage) => Ok(Some(stage.reads(alloc)?)),

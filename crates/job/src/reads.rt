@@ -25,7 +25,8 @@ pub enum Read {
 
 // Puts the reads of a formula behind those that were found.
 fn add_reads(alloc: Global, found: &mut Vec<Read>, formula: &Formula) -> Result<(), AllocError>
-    ensures { OnOk result (map read_view found.new.items ≡ map read_view found.old.items ++ reads_in (formula_view formula.now)) }
+    ensures { OnOk result (map read_view found.new.items
+        ≡ map read_view found.old.items ++ reads_in (formula_view formula.now)) }
 {
     match formula {
         Formula::Number(_) | Formula::Coordinate(_) => Ok(()),
@@ -59,7 +60,9 @@ fn add_reads(alloc: Global, found: &mut Vec<Read>, formula: &Formula) -> Result<
 }
 
 fn add_cases(alloc: Global, found: &mut Vec<Read>, cases: &[JobCase]) -> Result<(), AllocError>
-    ensures { OnOk result (map read_view found.new.items ≡ map read_view found.old.items ++ flat_map reads_in (map (λ p. p.formula) (map case_view cases.now))) }
+    ensures { OnOk result (map read_view found.new.items
+        ≡ map read_view found.old.items
+        ++ flat_map reads_in (map (λ p. p.formula) (map case_view cases.now))) }
 {
     for case in cases {
         add_reads(alloc, found, case.formula())?;
@@ -72,7 +75,9 @@ fn add_other(
     found: &mut Vec<Read>,
     other: &Option<Formula>,
 ) -> Result<(), AllocError>
-    ensures { OnOk result (map read_view found.new.items ≡ map read_view found.old.items ++ flat_map reads_in (other_formula (option_map formula_view other.now))) }
+    ensures { OnOk result (map read_view found.new.items
+        ≡ map read_view found.old.items
+        ++ flat_map reads_in (other_formula (option_map formula_view other.now))) }
 {
     match other {
         Some(formula) => add_reads(alloc, found, formula),
@@ -83,7 +88,10 @@ fn add_other(
 impl Function {
     // Puts the reads of the cases, and then those of what holds elsewhere, behind those that were found.
     fn add_reads(&self, alloc: Global, found: &mut Vec<Read>) -> Result<(), AllocError>
-        ensures { OnOk result (map read_view found.new.items ≡ map read_view found.old.items ++ reads_of (function (map case_view self.now.cases.items) (option_map formula_view self.now.otherwise))) }
+        ensures { OnOk result (map read_view found.new.items
+            ≡ map read_view found.old.items
+            ++ reads_of (function (map case_view self.now.cases.items)
+            (option_map formula_view self.now.otherwise))) }
     {
         add_cases(alloc, found, self.cases())?;
         add_other(alloc, found, self.otherwise())
@@ -92,7 +100,10 @@ impl Function {
 
 impl Accumulator {
     fn add_reads(&self, alloc: Global, found: &mut Vec<Read>) -> Result<(), AllocError>
-        ensures { OnOk result (map read_view found.new.items ≡ map read_view found.old.items ++ reads_of (accumulator self.now.fold self.now.bins (formula_view self.now.value) (formula_view self.now.bin))) }
+        ensures { OnOk result (map read_view found.new.items
+            ≡ map read_view found.old.items
+            ++ reads_of (accumulator self.now.fold self.now.bins (formula_view self.now.value)
+            (formula_view self.now.bin))) }
     {
         add_reads(alloc, found, self.value())?;
         add_reads(alloc, found, self.bin())

@@ -41,7 +41,9 @@ fn same_parameters(a: &[Parameter], b: &[Parameter]) -> bool
     requires first { All (λ p. FitsSigned w32 p.value) (map parameter_view a.now) }
     requires second { All (λ p. FitsSigned w32 p.value) (map parameter_view b.now) }
     ensures same { IsTrue result → map parameter_view a.now ≡ map parameter_view b.now }
-    ensures told { (c d : List ℕ) → flat_map parameter_bytes (map parameter_view a.now) ++ 80 ∷ c ≡ flat_map parameter_bytes (map parameter_view b.now) ++ 80 ∷ d → IsTrue result }
+    ensures told { (c d : List ℕ)
+        → flat_map parameter_bytes (map parameter_view a.now) ++ 80 ∷ c
+        ≡ flat_map parameter_bytes (map parameter_view b.now) ++ 80 ∷ d → IsTrue result }
 {
     match (a.split_first(), b.split_first()) {
         (None, None) => true,

@@ -127,7 +127,9 @@ impl Stage {
 
     /// The tiles of these sides of a function or accumulator.
     pub(crate) fn grid(&self, sides: TileSides) -> Option<Grid>
-        ensures { result ≡ (if has_tiles (stage_view self.now).body then Some (record { area = self.now.domain; sides = sides }) else None) }
+        ensures { result
+            ≡ (if has_tiles (stage_view self.now).body
+            then Some (record { area = self.now.domain; sides = sides }) else None) }
     {
         match self.body {
             Body::Plane(_) => None,

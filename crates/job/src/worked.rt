@@ -16,13 +16,16 @@ ghost use Rattle.job.specs.Lopsided.{leaning, odd_columns, right_half, choosing,
 /// A stencil in the one case whose tests hold at the middle; elsewhere no case holds, and there is no `else`.
 pub fn blurs_the_middle()
     ensures is_job { IsJob blur }
-    ensures answers { image blur ≡ Some (picture 3 3 255 ((0 ∷ 0 ∷ 0 ∷ 0 ∷ 5 ∷ 0 ∷ 0 ∷ 0 ∷ 0 ∷ []) ∷ [])) }
+    ensures answers { image blur
+        ≡ Some (picture 3 3 255 ((0 ∷ 0 ∷ 0 ∷ 0 ∷ 5 ∷ 0 ∷ 0 ∷ 0 ∷ 0 ∷ []) ∷ [])) }
 {}
 
 /// Reads at every other point, and reads of each point four times.
 pub fn halves_then_doubles()
     ensures halves { samples halving 255 1 ≡ 0 ∷ 2 ∷ 8 ∷ 10 ∷ [] }
-    ensures doubles { image halving ≡ Some (picture 4 4 255 ((0 ∷ 0 ∷ 2 ∷ 2 ∷ 0 ∷ 0 ∷ 2 ∷ 2 ∷ 8 ∷ 8 ∷ 10 ∷ 10 ∷ 8 ∷ 8 ∷ 10 ∷ 10 ∷ []) ∷ [])) }
+    ensures doubles { image halving
+        ≡ Some (picture 4 4 255
+        ((0 ∷ 0 ∷ 2 ∷ 2 ∷ 0 ∷ 0 ∷ 2 ∷ 2 ∷ 8 ∷ 8 ∷ 10 ∷ 10 ∷ 8 ∷ 8 ∷ 10 ∷ 10 ∷ []) ∷ [])) }
 {}
 
 /// A sum past the greatest number is the least; the least has no absolute value; quotients are rounded down.
@@ -42,13 +45,15 @@ pub fn picture_of_three_planes()
 /// How many samples leave each remainder, over all points and over those of the first tile.
 pub fn histogram_by_tiles()
     ensures whole { totals counting 1 ≡ pos 2 ∷ pos 3 ∷ pos 2 ∷ pos 2 ∷ [] }
-    ensures tile { totals_over counting (area (pos 1) (pos 1)) 1 ≡ pos 1 ∷ pos 2 ∷ pos 1 ∷ pos 0 ∷ [] }
+    ensures tile { totals_over counting (area (pos 1) (pos 1)) 1
+        ≡ pos 1 ∷ pos 2 ∷ pos 1 ∷ pos 0 ∷ [] }
     ensures tiles { wanted counting ≡ tile 1 0 0 ∷ tile 1 0 1 ∷ tile 1 1 0 ∷ tile 1 1 1 ∷ [] }
 {}
 
 /// A point whose bin lies outside changes nothing, and a bin without a point keeps its start.
 pub fn empty_bins_keep_start()
-    ensures { totals outside 1 ≡ pos 9223372036854775807 ∷ pos 9223372036854775807 ∷ pos 9223372036854775807 ∷ [] }
+    ensures { totals outside 1
+        ≡ pos 9223372036854775807 ∷ pos 9223372036854775807 ∷ pos 9223372036854775807 ∷ [] }
 {}
 
 /// The first column of a kernel is over the point to the left.
@@ -58,23 +63,37 @@ pub fn kernels_are_not_turned()
 
 /// The first case that holds counts, then the next, then the other formula. A shift goes before a sum.
 pub fn first_case_counts()
-    ensures { image choosing ≡ Some (picture 3 4 20 ((0 ∷ 1 ∷ 8 ∷ 1 ∷ 10 ∷ 1 ∷ 9 ∷ 1 ∷ 20 ∷ 20 ∷ 10 ∷ 10 ∷ []) ∷ [])) }
+    ensures { image choosing
+        ≡ Some (picture 3 4 20 ((0 ∷ 1 ∷ 8 ∷ 1 ∷ 10 ∷ 1 ∷ 9 ∷ 1 ∷ 20 ∷ 20 ∷ 10 ∷ 10 ∷ []) ∷ [])) }
 {}
 
 /// Rows are cut by tests of the first variable, columns by those of the second, and nothing by a remainder.
 pub fn boxes_by_axis()
     ensures rows { box_of (area (pos 2) (pos 3)) odd_columns ≡ Some (area (pos 1) (pos 3)) }
-    ensures columns { box_of (area (pos 2) (pos 3)) right_half ≡ Some (record { rows = ends (pos 0) (pos 2); cols = ends (pos 2) (pos 3) }) }
+    ensures columns { box_of (area (pos 2) (pos 3)) right_half
+        ≡ Some (record { rows = ends (pos 0) (pos 2); cols = ends (pos 2) (pos 3) }) }
 {}
 
 /// A clamp is cut from below and then from above; a comparison has its left side on the left; shifts double and halve.
 pub fn operations_by_hand()
-    ensures clamp { (env : Valuation) (r c : ℤ) → formula_value env (clamp (number (pos 5)) (number (pos 7)) (number (pos 3))) r c ≡ pos 3 }
-    ensures at_most { (env : Valuation) (r c : ℤ) → formula_value env (select (number (pos 1)) AtMost (number (pos 2)) (number (pos 3)) (number (pos 4))) r c ≡ pos 3 }
-    ensures at_least { (env : Valuation) (r c : ℤ) → formula_value env (select (number (pos 1)) AtLeast (number (pos 2)) (number (pos 3)) (number (pos 4))) r c ≡ pos 4 }
-    ensures equals { (env : Valuation) (r c : ℤ) → formula_value env (select (number (pos 2)) Equals (number (pos 2)) (number (pos 3)) (number (pos 4))) r c ≡ pos 3 }
-    ensures doubles { (env : Valuation) (r c : ℤ) → formula_value env (literal Shl (number (pos 1)) 31) r c ≡ negsuc 2147483647 }
-    ensures halves { (env : Valuation) (r c : ℤ) → formula_value env (literal Shr (neg (number (pos 5))) 1) r c ≡ negsuc 2 }
+    ensures clamp { (env : Valuation) (r c : ℤ)
+        → formula_value env (clamp (number (pos 5)) (number (pos 7)) (number (pos 3))) r c ≡ pos 3 }
+    ensures at_most { (env : Valuation) (r c : ℤ)
+        → formula_value env
+        (select (number (pos 1)) AtMost (number (pos 2)) (number (pos 3)) (number (pos 4))) r c
+        ≡ pos 3 }
+    ensures at_least { (env : Valuation) (r c : ℤ)
+        → formula_value env
+        (select (number (pos 1)) AtLeast (number (pos 2)) (number (pos 3)) (number (pos 4))) r c
+        ≡ pos 4 }
+    ensures equals { (env : Valuation) (r c : ℤ)
+        → formula_value env
+        (select (number (pos 2)) Equals (number (pos 2)) (number (pos 3)) (number (pos 4))) r c
+        ≡ pos 3 }
+    ensures doubles { (env : Valuation) (r c : ℤ)
+        → formula_value env (literal Shl (number (pos 1)) 31) r c ≡ negsuc 2147483647 }
+    ensures halves { (env : Valuation) (r c : ℤ)
+        → formula_value env (literal Shr (neg (number (pos 5))) 1) r c ≡ negsuc 2 }
 {}
 
 /// Points and indices may lie below 0, and an index is rounded down.
@@ -87,5 +106,6 @@ pub fn indices_below_zero()
 /// The greatest sample of each column, over all points and over those of the first tile.
 pub fn greatest_of_columns()
     ensures whole { totals greatest_samples 1 ≡ pos 5 ∷ pos 8 ∷ pos 4 ∷ [] }
-    ensures tile { totals_over greatest_samples (area (pos 1) (pos 1)) 1 ≡ pos 5 ∷ pos 8 ∷ negsuc 9223372036854775807 ∷ [] }
+    ensures tile { totals_over greatest_samples (area (pos 1) (pos 1)) 1
+        ≡ pos 5 ∷ pos 8 ∷ negsuc 9223372036854775807 ∷ [] }
 {}

@@ -32,7 +32,8 @@ end_of-more q until (d ∷ h) e before =
     let first : time_of d ≤ time_of e = All-head (λ d. time_of d ≤ time_of e) d h before in
     let rest = end_of-more q until h e (All-tail (λ d. time_of d ≤ time_of e) d h before) in
     elim (ends q d) as (λ b. (if b then min until (time_of d) else end_of q until (h ++ e ∷ []))
-    ≡ (if ends q e then min (if b then min until (time_of d) else end_of q until h) (time_of e) else (if b then min until (time_of d) else end_of q until h)))
+    ≡ (if ends q e then min (if b then min until (time_of d) else end_of q until h) (time_of e)
+    else (if b then min until (time_of d) else end_of q until h)))
     [ true ↦ cut_twice until (time_of d) (time_of e) (ends q e) first | false ↦ rest ]
 
 given_alone : (q : Key) (o : Option Lease) → option_to_list (option_map (ended q []) o) ++ [] ≡ option_to_list o
@@ -130,8 +131,10 @@ pub apart_push : (ls : List Lease) (n : Lease) → Apart ls → All (λ l. l.unt
 apart_push [] n apart before = (All-nil (λ m. n.until ≤ m.from), tt)
 apart_push (l ∷ ls) n apart before =
     let P : Lease → Type 0 = λ l. l.until ≤ n.from in
-    let Q : Lease → Type 0 = λ m. l.until ≤ m.from in
-    (All-append Q ls (n ∷ []) apart.0 (All-cons Q n [] (All-head P l ls before) (All-nil Q)), apart_push ls n apart.1 (All-tail P l ls before))
+    let Q : Lease → Type 0 = λ m. l.until ≤ m.from in (
+      All-append Q ls (n ∷ []) apart.0 (All-cons Q n [] (All-head P l ls before) (All-nil Q)),
+      apart_push ls n apart.1 (All-tail P l ls before),
+    )
 
 -- leases of which each is over before the next begins are pairwise so
 pub pairs_apart : (ls : List Lease) → Apart ls → AllPairs (λ a b. a.until ≤ b.from) ls

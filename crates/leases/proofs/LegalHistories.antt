@@ -79,18 +79,21 @@ kept_more h e k m =
       times = All-push (λ d. time_of d ≤ time_of e) h e k.times now;
       rising = all_pairs_push (λ a b. time_of a ≤ time_of b) h e k.rising k.times;
       begun = λ q. rw (leases_of-more q h e k.times)
-          (All-append P (map (cut q e) (leases_of q h)) (option_to_list (given q e)) (All-map P (cut q e) (leases_of q h) (k.begun q)) (given_begun q h e (given q e) k m refl).0);
+          (All-append P (map (cut q e) (leases_of q h)) (option_to_list (given q e)) (All-map P (cut q e) (leases_of q h) (k.begun q))
+          (given_begun q h e (given q e) k m refl).0);
       apart = λ q. rw (leases_of-more q h e k.times) (given_begun q h e (given q e) k m refl).1;
     }
 
 -- what is recorded of a claim by the rules may come
-claim_more_by : (P : List Entry → Type 0) (h : List Entry) (time node : ℕ) (key : Key) (ttl : ℕ) (o : Option Lease) → in_force key time h ≡ o
+claim_more_by : (P : List Entry → Type 0) (h : List Entry) (time node : ℕ) (key : Key) (ttl : ℕ) (o : Option Lease)
+    → in_force key time h ≡ o
     → ((e : Entry) → MayCome h e → time_of e ≡ time → P (h ++ e ∷ []))
     → P (recorded h (claim_entry time node key (claim_by o time node ttl)))
 claim_more_by P h time node key ttl None eq step =
     step (Granted key (record { node = node; from = time; until = until_of time ttl })) eq refl
 claim_more_by P h time node key ttl (Some l) eq step =
-    elim (l.node == node) as (λ b. P (recorded h (claim_entry time node key (if b then claim.Renewed (until_of time ttl) else claim.Held l.node l.until)))) [
+    elim (l.node == node) as
+    (λ b. P (recorded h (claim_entry time node key (if b then claim.Renewed (until_of time ttl) else claim.Held l.node l.until)))) [
       | true ↦ step (Renewed key (record { node = node; from = time; until = until_of time ttl })) tt refl
       | false ↦ step (Held key node time) tt refl
     ]

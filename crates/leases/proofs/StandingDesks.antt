@@ -58,11 +58,13 @@ before_entry : (q : Key) (h : List Entry) (e : Entry) → Kept h (time_of e) →
     ≡ unless_over (time_of e) (if b then None else in_force q (time_of e) h)
 before_entry q h e k true eq =
     ap (λ o. option_or o None)
-    (none_lasts (time_of e) (map (cut q e) (leases_of q h)) (All-map (λ l. l.until ≤ time_of e) (cut q e) (leases_of q h) (cut_over q e (leases_of q h) eq)))
+    (none_lasts (time_of e) (map (cut q e) (leases_of q h))
+    (All-map (λ l. l.until ≤ time_of e) (cut q e) (leases_of q h) (cut_over q e (leases_of q h) eq)))
 before_entry q h e k false eq =
     let t = time_of e in
     let uncut : map (cut q e) (leases_of q h) ≡ leases_of q h =
-    ap (λ b. map (λ (l : Lease). record l { until = if b then min l.until t else l.until }) (leases_of q h)) eq ∙ map_same (leases_of q h) in
+    ap (λ b. map (λ (l : Lease). record l { until = if b then min l.until t else l.until }) (leases_of q h)) eq
+    ∙ map_same (leases_of q h) in
     or_none (find (lasts t) (map (cut q e) (leases_of q h))) ∙ ap (find (lasts t)) uncut ∙ sym (in_force_later q t t h k (omega arith))
 
 -- what is in force after an entry
@@ -107,7 +109,8 @@ shown_later desk h t x q s le =
     sym (over_twice t x (get key_cmp desk.leases q) le) ∙ ap (unless_over x) (s.shows q) ∙ in_force_later q t x h (kept h t s.legal) le
 
 -- and so does one whose time alone has moved
-pub stands_later : (old new : Desk) (h : List Entry) (t x : ℕ) → StandsFor old h t → t ≤ x → new.clock ≡ x → new.leases ≡ old.leases → StandsFor new h x
+pub stands_later : (old new : Desk) (h : List Entry) (t x : ℕ) → StandsFor old h t → t ≤ x → new.clock ≡ x → new.leases ≡ old.leases
+    → StandsFor new h x
 stands_later old new h t x s le clock table = record {
   legal = later h t x s.legal le;
   clock = clock;
@@ -132,8 +135,11 @@ shows_claim q h t node key ttl o p None k eq shown =
     shows_more q h (Granted key (record { node = node; from = t; until = until_of t ttl })) o p k eq shown
 shows_claim q h t node key ttl o p (Some l) k eq shown =
     let n : Lease = record { node = node; from = t; until = until_of t ttl } in
-    elim (l.node == node) as (λ b. p ≡ option_or (if same key q then lease_of t node (if b then claim.Renewed (until_of t ttl) else claim.Held l.node l.until) else None) o
-    → unless_over t p ≡ in_force q t (recorded h (claim_entry t node key (if b then claim.Renewed (until_of t ttl) else claim.Held l.node l.until)))) [
+    elim (l.node == node) as (λ b. p
+    ≡ option_or (if same key q then lease_of t node (if b then claim.Renewed (until_of t ttl) else claim.Held l.node l.until) else None)
+    o
+    → unless_over t p
+    ≡ in_force q t (recorded h (claim_entry t node key (if b then claim.Renewed (until_of t ttl) else claim.Held l.node l.until)))) [
       | true ↦ λ table. shows_more q h (Renewed key n) o p k tt shown (table ∙ given_claim (same key q) n o)
       | false ↦ λ table. shows_more q h (Held key node t) o p k tt shown (table ∙ given_none (same key q) o)
     ]
@@ -150,8 +156,11 @@ stands_claimed old new h t x node key ttl c s le answer clock table =
       subst (λ d. StandsFor new (recorded h (claim_entry x node key d)) x) (sym by) (record {
         legal = claimed h x node key ttl legal;
         clock = clock;
-        shows = λ q. shows_claim q h x node key ttl (get key_cmp old.leases q) (get key_cmp new.leases q) (in_force key x h) (kept h x legal) refl
-            (shown_later old h t x q s le) (table q ∙ ap (λ d. option_or (if same key q then lease_of x node d else None) (get key_cmp old.leases q)) by);
+        shows =
+            λ q. shows_claim q h x node key ttl (get key_cmp old.leases q) (get key_cmp new.leases q) (in_force key x h) (kept h x legal)
+            refl
+            (shown_later old h t x q s le)
+            (table q ∙ ap (λ d. option_or (if same key q then lease_of x node d else None) (get key_cmp old.leases q)) by);
       }),
     )
 
@@ -163,7 +172,8 @@ time_after_by t now x node ttl (Some l) =
     [ true ↦ refl | false ↦ refl ]
 
 -- a call's answer and what is left of the desk, by the greater of its time and the call's
-pub claim_done : (old new : Desk) (h : List Entry) (t now x node : ℕ) (key : Key) (ttl : ℕ) (c : Claim) (g : Option Lease) → StandsFor old h t
+pub claim_done : (old new : Desk) (h : List Entry) (t now x node : ℕ) (key : Key) (ttl : ℕ) (c : Claim) (g : Option Lease)
+    → StandsFor old h t
     → x ≡ max old.clock now → c ≡ claim_by (shown_at x old key) x node ttl → g ≡ lease_of x node c → new.clock ≡ x
     → ((q : Key) → get key_cmp new.leases q ≡ option_or (if same key q then g else None) (get key_cmp old.leases q))
     → (c ≡ claim_answer h (max t now) node key ttl) × StandsFor new (recorded h (claim_entry (max t now) node key c)) (time_after t now c)

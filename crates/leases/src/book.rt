@@ -79,7 +79,8 @@ impl DeskBook {
 
     /// Ends the lease of a node, as `Desk::release` does, and records it if it was in force.
     pub fn release(&mut self, now: u64, node: u8, key: &Key) -> Release
-        ensures answer { result ≡ release_answer self.old.history (max self.old.time now) node key.now }
+        ensures answer { result
+            ≡ release_answer self.old.history (max self.old.time now) node key.now }
         ensures history { self.new.history
             ≡ recorded self.old.history (release_entry (max self.old.time now) node key.now result) }
         ensures time { self.new.time ≡ max self.old.time now }

@@ -56,7 +56,8 @@ impl Desk {
         ensures memory { (h : List Entry) (t : ℕ) → StandsFor self.old h t → result ≡ Claim.Memory
             → in_force key (max t now) h ≡ None }
         ensures stands { (h : List Entry) (t : ℕ) → StandsFor self.old h t
-            → StandsFor self.new (recorded h (claim_entry (max t now) node key result)) (time_after t now result) }
+            → StandsFor self.new (recorded h (claim_entry (max t now) node key result))
+            (time_after t now result) }
         ensures kept { kept_by self.new ≤ kept_by self.old + 1 }
     {
         let time = self.clock.max(now);
@@ -75,7 +76,8 @@ impl Desk {
         ensures answer { (h : List Entry) (t : ℕ) → StandsFor self.old h t
             → result ≡ release_answer h (max t now) node key.now }
         ensures stands { (h : List Entry) (t : ℕ) → StandsFor self.old h t
-            → StandsFor self.new (recorded h (release_entry (max t now) node key.now result)) (max t now) }
+            → StandsFor self.new (recorded h (release_entry (max t now) node key.now result))
+            (max t now) }
         ensures kept { kept_by self.new ≤ kept_by self.old }
         ensures fewer { result ≡ Release.Released → kept_by self.new + 1 ≤ kept_by self.old }
     {
@@ -89,8 +91,10 @@ impl Desk {
 
     /// The node whose lease of a key is in force. The question moves the time.
     pub fn holder(&mut self, now: u64, key: &Key) -> Option<u8>
-        ensures answer { (h : List Entry) (t : ℕ) → StandsFor self.old h t → result ≡ holder_of h (max t now) key.now }
-        ensures stands { (h : List Entry) (t : ℕ) → StandsFor self.old h t → StandsFor self.new h (max t now) }
+        ensures answer { (h : List Entry) (t : ℕ) → StandsFor self.old h t
+            → result ≡ holder_of h (max t now) key.now }
+        ensures stands { (h : List Entry) (t : ℕ) → StandsFor self.old h t
+            → StandsFor self.new h (max t now) }
         ensures kept { kept_by self.new ≡ kept_by self.old }
     {
         self.clock = self.clock.max(now);

@@ -75,7 +75,8 @@ impl<'a> Scheduled<'a> {
 
     // The plan of a tile of a function.
     fn plan_of_function(&self, tile: Tile) -> Result<TilePlan<'a>, Fail>
-        ensures { IfOk result (IsFunctionPlan (program_id_in self.now.job.now) (pipeline_in self.now.job.now)) }
+        ensures { IfOk result
+            (IsFunctionPlan (program_id_in self.now.job.now) (pipeline_in self.now.job.now)) }
     {
         if !is_function(self.job, tile.0) {
             return Err(Fail::new("no function"));
@@ -86,7 +87,8 @@ impl<'a> Scheduled<'a> {
 
     // The plan of a tile of an accumulator.
     fn plan_of_accumulator(&self, tile: Tile) -> Result<TilePlan<'a>, Fail>
-        ensures { IfOk result (IsAccumulatorPlan (program_id_in self.now.job.now) (pipeline_in self.now.job.now)) }
+        ensures { IfOk result
+            (IsAccumulatorPlan (program_id_in self.now.job.now) (pipeline_in self.now.job.now)) }
     {
         if !is_accumulator(self.job, tile.0) {
             return Err(Fail::new("no accumulator"));
@@ -114,7 +116,8 @@ impl<'a> Scheduled<'a> {
 
     // Compares each tile of a stage with the one that a run stored.
     fn compare(&self, stored: &Stored, stage: usize) -> Result<(), Fail>
-        requires whole { AreWhole (pipeline_in self.now.job.now) (stored_tiles stored.now.stages.items) }
+        requires whole { AreWhole (pipeline_in self.now.job.now)
+            (stored_tiles stored.now.stages.items) }
     {
         let grid = self.job.grid(stage).ok_or("no grid")?;
         for row in 0..grid.tile_rows() {

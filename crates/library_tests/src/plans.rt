@@ -73,14 +73,14 @@ output r max 255;";
 
 /// The last of them is inlined.
 const ONE_OF_SEVENTEEN: &[bool] = &[
-    false, false, false, false, false, false, false, false, false, false, false, false, false, false, false,
-    false, false, true, false,
+    false, false, false, false, false, false, false, false, false, false, false, false, false,
+    false, false, false, false, true, false,
 ];
 
 /// All of them are inlined.
 const ALL_OF_SEVENTEEN: &[bool] = &[
-    false, true, true, true, true, true, true, true, true, true, true, true, true, true, true, true, true,
-    true, false,
+    false, true, true, true, true, true, true, true, true, true, true, true, true, true, true,
+    true, true, true, false,
 ];
 
 /// Pictures of one sample, of four, of sixteen, and of thirty-six that are 1.

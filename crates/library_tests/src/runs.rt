@@ -54,8 +54,10 @@ pub(crate) fn run(
 ) -> Result<Stored, Fail>
     requires schedule { IsScheduleOf (pipeline_in job.now) schedule.now }
     ensures few { IfOk result (λ _. length (pipeline_in job.now).stages ≤ 64) }
-    ensures all { IfOk result (λ stored. GivesAllTiles (pipeline_in job.now) schedule.now.inlining (stored_tiles stored.stages.items)) }
-    ensures values { IfOk result (λ stored. AreTrue (pipeline_in job.now) (stored_tiles stored.stages.items)) }
+    ensures all { IfOk result (λ stored. GivesAllTiles (pipeline_in job.now) schedule.now.inlining
+        (stored_tiles stored.stages.items)) }
+    ensures values { IfOk result
+        (λ stored. AreTrue (pipeline_in job.now) (stored_tiles stored.stages.items)) }
 {
     has_few_stages(job)?;
     Ok(run_all(rt, alloc, job, schedule)?)

@@ -15,9 +15,11 @@ one_digit n last before lt e =
     let same : last ≡ 48 + n = omega arith in
     ap (λ d. before ++ d ∷ []) same ∙ ap (λ ds. before ++ ds) (sym (decimal_digit n lt))
 
-pub more_digits : (n last : ℕ) (before : List ℕ) → 10 ≤ n → n < 2 ^ 32 → last ≡ 48 + n % 10 → (before ++ decimal (n / 10)) ++ last ∷ [] ≡ before ++ decimal n
+pub more_digits : (n last : ℕ) (before : List ℕ) → 10 ≤ n → n < 2 ^ 32 → last ≡ 48 + n % 10
+    → (before ++ decimal (n / 10)) ++ last ∷ [] ≡ before ++ decimal n
 more_digits n last before some small e =
-    append_assoc before (decimal (n / 10)) (last ∷ []) ∙ ap (λ d. before ++ (decimal (n / 10) ++ d ∷ [])) e ∙ ap (λ ds. before ++ ds) (sym (decimal_step n some (omega arith)))
+    append_assoc before (decimal (n / 10)) (last ∷ []) ∙ ap (λ d. before ++ (decimal (n / 10) ++ d ∷ [])) e
+    ∙ ap (λ ds. before ++ ds) (sym (decimal_step n some (omega arith)))
 
 -- no number of a header has more than five digits
 pub short_decimal : (n : ℕ) → n ≤ 65535 → length (decimal n) ≤ 5

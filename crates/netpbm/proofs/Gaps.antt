@@ -50,7 +50,8 @@ from_scan (b ∷ xs) = (outside (from_scan xs), inside (from_scan xs))
     opened : eqb b 35 ≡ true → (c : CommentThere xs) × Filler c.rest → Filler (b ∷ xs)
     opened hash there =
         let c = there.0 in
-        subst Filler (ap (λ (n : ℕ). n ∷ (c.body ++ c.end ∷ c.rest)) (sym (eqb-true b 35 hash)) ∙ ap (λ l. b ∷ l) (sym c.parts)) (comment c.body c.end c.rest c.body_is c.end_is there.1)
+        subst Filler (ap (λ (n : ℕ). n ∷ (c.body ++ c.end ∷ c.rest)) (sym (eqb-true b 35 hash)) ∙ ap (λ l. b ∷ l) (sym c.parts))
+        (comment c.body c.end c.rest c.body_is c.end_is there.1)
 
     outside : FillerAt xs → is_filler false (b ∷ xs) ≡ true → Filler (b ∷ xs)
     outside later h =
@@ -76,13 +77,17 @@ behind_white : (b : ℕ) (xs : List ℕ) → is_white b ≡ true → CutFiller x
 behind_white b _ is (ended filler f) = ended (b ∷ filler) (white b filler is f)
 behind_white b _ is (open_comment filler body f all) = open_comment (b ∷ filler) body (white b filler is f) all
 
-behind_comment : (body : List ℕ) (end : ℕ) (rest : List ℕ) → list_all is_comment_byte body ≡ true → is_comment_end end ≡ true → CutFiller rest → CutFiller (35 ∷ (body ++ end ∷ rest))
+behind_comment : (body : List ℕ) (end : ℕ) (rest : List ℕ) → list_all is_comment_byte body ≡ true → is_comment_end end ≡ true
+    → CutFiller rest → CutFiller (35 ∷ (body ++ end ∷ rest))
 behind_comment body end _ body_is end_is (ended filler f) = ended (35 ∷ (body ++ end ∷ filler)) (comment body end filler body_is end_is f)
 behind_comment body end _ body_is end_is (open_comment filler last f all) =
-    subst CutFiller (ap (λ l. 35 ∷ l) (append_assoc body (end ∷ filler) (35 ∷ last))) (open_comment (35 ∷ (body ++ end ∷ filler)) last (comment body end filler body_is end_is f) all)
+    subst CutFiller (ap (λ l. 35 ∷ l) (append_assoc body (end ∷ filler) (35 ∷ last)))
+    (open_comment (35 ∷ (body ++ end ∷ filler)) last (comment body end filler body_is end_is f) all)
 
 CutAt : List ℕ → Type 0
-CutAt xs = (is_cut_filler false xs ≡ true → CutFiller xs) × (is_cut_filler true xs ≡ true → (list_all is_comment_byte xs ≡ true) ⊎ ((c : CommentThere xs) × CutFiller c.rest))
+CutAt xs =
+    (is_cut_filler false xs ≡ true → CutFiller xs)
+    × (is_cut_filler true xs ≡ true → (list_all is_comment_byte xs ≡ true) ⊎ ((c : CommentThere xs) × CutFiller c.rest))
 
 from_cut : (xs : List ℕ) → CutAt xs
 unfolding CutAt end_here more_comment
@@ -93,7 +98,8 @@ from_cut (b ∷ xs) = (outside (from_cut xs), inside (from_cut xs))
     opened hash (inl all) = subst (λ (n : ℕ). CutFiller (n ∷ xs)) (sym (eqb-true b 35 hash)) (open_comment [] xs nothing all)
     opened hash (inr there) =
         let c = there.0 in
-        subst CutFiller (ap (λ (n : ℕ). n ∷ (c.body ++ c.end ∷ c.rest)) (sym (eqb-true b 35 hash)) ∙ ap (λ l. b ∷ l) (sym c.parts)) (behind_comment c.body c.end c.rest c.body_is c.end_is there.1)
+        subst CutFiller (ap (λ (n : ℕ). n ∷ (c.body ++ c.end ∷ c.rest)) (sym (eqb-true b 35 hash)) ∙ ap (λ l. b ∷ l) (sym c.parts))
+        (behind_comment c.body c.end c.rest c.body_is c.end_is there.1)
 
     outside : CutAt xs → is_cut_filler false (b ∷ xs) ≡ true → CutFiller (b ∷ xs)
     outside later h =
@@ -103,7 +109,8 @@ from_cut (b ∷ xs) = (outside (from_cut xs), inside (from_cut xs))
           | inr other ↦ behind_white b xs (white_or_hash b other both.0) (later.0 (ap (λ o. is_cut_filler o xs) (sym other) ∙ both.1))
         ]
 
-    inside : CutAt xs → is_cut_filler true (b ∷ xs) ≡ true → (list_all is_comment_byte (b ∷ xs) ≡ true) ⊎ ((c : CommentThere (b ∷ xs)) × CutFiller c.rest)
+    inside : CutAt xs → is_cut_filler true (b ∷ xs) ≡ true
+        → (list_all is_comment_byte (b ∷ xs) ≡ true) ⊎ ((c : CommentThere (b ∷ xs)) × CutFiller c.rest)
     inside later h = elim (cases_Bool (is_comment_end b)) [
       | inl ends ↦ inr (end_here b xs ends, later.0 (ap (λ e. is_cut_filler (not e) xs) (sym ends) ∙ h))
       | inr goes_on ↦ elim (later.1 (ap (λ e. is_cut_filler (not e) xs) (sym goes_on) ∙ h)) [
@@ -124,7 +131,8 @@ white_no_hash b is = elim (cases_Bool (eqb b 35)) [
   | inr other ↦ other
 ]
 
-scans_body : (body : List ℕ) (end : ℕ) (rest : List ℕ) → list_all is_comment_byte body ≡ true → is_comment_end end ≡ true → is_filler false rest ≡ true → is_filler true (body ++ end ∷ rest) ≡ true
+scans_body : (body : List ℕ) (end : ℕ) (rest : List ℕ) → list_all is_comment_byte body ≡ true → is_comment_end end ≡ true
+    → is_filler false rest ≡ true → is_filler true (body ++ end ∷ rest) ≡ true
 scans_body [] end rest body_is end_is later = ap (λ e. is_filler (not e) rest) end_is ∙ later
 scans_body (b ∷ body) end rest body_is end_is later =
     let both = and_parts (is_comment_byte b) (list_all is_comment_byte body) body_is in
@@ -133,5 +141,6 @@ scans_body (b ∷ body) end rest body_is end_is later =
 pub filler_scans : (xs : List ℕ) → Filler xs → is_filler false xs ≡ true
 filler_scans _ nothing = refl
 filler_scans _ (white b filler is f) =
-    and_from (may_stand false b) (is_filler (eqb b 35) filler) (ap (λ w. w || eqb b 35) is) (ap (λ o. is_filler o filler) (white_no_hash b is) ∙ filler_scans filler f)
+    and_from (may_stand false b) (is_filler (eqb b 35) filler) (ap (λ w. w || eqb b 35) is)
+    (ap (λ o. is_filler o filler) (white_no_hash b is) ∙ filler_scans filler f)
 filler_scans _ (comment body end filler body_is end_is f) = scans_body body end filler body_is end_is (filler_scans filler f)

@@ -47,7 +47,8 @@ pub record StopThere (bytes : List ℕ) (at : ℕ) (e : PicFault) : Type 0 where
   pub cut : CutFiller filler
   pub which :
       ((rest ≡ []) × (e ≡ HeaderCut (length bytes)))
-      ⊎ ((byte : ℕ) × (more : List ℕ) × (rest ≡ byte ∷ more) × Filler filler × (begins_filler byte ≡ false) × (e ≡ BadNumber (at + length filler)) × (is_ascii_digit byte ≡ true → filler ≡ []))
+      ⊎ ((byte : ℕ) × (more : List ℕ) × (rest ≡ byte ∷ more) × Filler filler × (begins_filler byte ≡ false)
+      × (e ≡ BadNumber (at + length filler)) × (is_ascii_digit byte ≡ true → filler ≡ []))
 
 some_digit : (xs : List ℕ) → 0 < digits_len xs → (x : ℕ) × (rest : List ℕ) × (xs ≡ x ∷ rest)
 some_digit [] lt = absurd (omega arith)
@@ -62,7 +63,8 @@ drop_empty bytes at le e = let n = ap length e in omega (arith, n, length-drop a
 drop_some : (bytes : List ℕ) (at x : ℕ) (rest : List ℕ) → drop at bytes ≡ x ∷ rest → at < length bytes
 drop_some bytes at x rest e = let n = ap length e in omega (arith, n, length-drop at bytes)
 
-pub number_view : (bytes : List ℕ) (at : ℕ) → at ≤ length bytes → MatchResult (number_read bytes at) (NumberThere bytes at) (StopThere bytes at)
+pub number_view : (bytes : List ℕ) (at : ℕ) → at ≤ length bytes
+    → MatchResult (number_read bytes at) (NumberThere bytes at) (StopThere bytes at)
 unfolding number_read
 number_view bytes at le =
     let xs = drop at bytes in
@@ -94,7 +96,9 @@ number_view bytes at le =
             taken = digits_stop rest;
             value = refl;
             start = ap (λ k. at + k) (sym size);
-            end = ap (λ k. at + k + count) (sym size) ∙ ap (λ k. at + length (take len xs) + k) (sym (length-take-le count rest (digits_len-le rest)));
+            end =
+                ap (λ k. at + k + count) (sym size)
+                ∙ ap (λ k. at + length (take len xs) + k) (sym (length-take-le count rest (digits_len-le rest)));
           } in
           subst P (sym (cond-true test (Ok n) (Err (header_stop bytes start)) h)) there
       | inr h ↦
@@ -106,7 +110,11 @@ number_view bytes at le =
             which = elim (nil_or_cons rest) [
               | inl none ↦
                   let there : start ≡ length bytes = drop_empty bytes start (omega (arith, within, length-drop at bytes)) none in
-                  inl (none, cond-false (ltb start (length bytes)) (BadNumber start) (HeaderCut start) (le-ltb start (length bytes) (omega arith)) ∙ ap HeaderCut there)
+                  inl (
+                    none,
+                    cond-false (ltb start (length bytes)) (BadNumber start) (HeaderCut start) (le-ltb start (length bytes) (omega arith))
+                        ∙ ap HeaderCut there,
+                  )
               | inr (byte, more, e) ↦
                   let closed = gap_whole false xs byte more (rest-is ∙ e) in
                   let inside = drop_some bytes start byte more e in
@@ -116,7 +124,8 @@ number_view bytes at le =
                     e,
                     filler_from _ closed.0,
                     closed.1,
-                    cond-true (ltb start (length bytes)) (BadNumber start) (HeaderCut start) (lt-ltb start (length bytes) inside) ∙ ap (λ k. BadNumber (at + k)) (sym size),
+                    cond-true (ltb start (length bytes)) (BadNumber start) (HeaderCut start) (lt-ltb start (length bytes) inside)
+                        ∙ ap (λ k. BadNumber (at + k)) (sym size),
                     λ digit. elim (and_cases (ltb at start) (ltb start (start + count)) h) [
                       | inl a ↦ let zero' : len ≡ 0 = omega (arith, ltb-false at start a) in ap (λ k. take k xs) zero'
                       | inr b ↦ let none : count ≡ 0 = omega (arith, ltb-false start (start + count) b) in
@@ -132,11 +141,14 @@ number_view bytes at le =
     digits_len-le : (xs : List ℕ) → digits_len xs ≤ length xs
     digits_len-le xs = prefix_len-le-length is_ascii_digit xs
 
-pub number_complete : (bytes : List ℕ) (at : ℕ) (gap digits rest : List ℕ) → drop at bytes ≡ gap ++ (digits ++ rest) → IsGap gap → IsNumeral 10 digits → NoDigit rest
-    → number_read bytes at ≡ Ok (record { value = min 65536 (digits_value 10 digits); start = at + length gap; end = at + length gap + length digits })
+pub number_complete : (bytes : List ℕ) (at : ℕ) (gap digits rest : List ℕ) → drop at bytes ≡ gap ++ (digits ++ rest) → IsGap gap
+    → IsNumeral 10 digits → NoDigit rest
+    → number_read bytes at
+    ≡ Ok (record { value = min 65536 (digits_value 10 digits); start = at + length gap; end = at + length gap + length digits })
 unfolding number_read
 number_complete bytes at gap digits rest e g d stops =
-    let len : gap_len false (drop at bytes) ≡ length gap = ap (gap_len false) e ∙ gap_len-append false gap (digits ++ rest) (filler_scans gap g.filler) (starts_no_filler digits rest d) in
+    let len : gap_len false (drop at bytes) ≡ length gap =
+    ap (gap_len false) e ∙ gap_len-append false gap (digits ++ rest) (filler_scans gap g.filler) (starts_no_filler digits rest d) in
     let there : drop (at + length gap) bytes ≡ digits ++ rest = behind bytes gap (digits ++ rest) at e in
     let count : digits_len (digits ++ rest) ≡ length digits = digits_len-append digits rest d.1 stops in
     let front : take (length digits) (digits ++ rest) ≡ digits = take_at digits rest (length digits) refl in
@@ -177,7 +189,8 @@ field_read limit bad r = r >>= λ n. cond (ltb n.value 1 || ltb limit n.value) (
 abbrev pub FieldFails : ℕ → (ℕ → PicFault) → List ℕ → ℕ → PicFault → Type 0
 FieldFails limit bad bytes at e = StopThere bytes at e ⊎ ((start : ℕ) × (e ≡ bad start) × BadThere limit bytes at start)
 
-pub field_view : (limit : ℕ) (bad : ℕ → PicFault) (bytes : List ℕ) (at : ℕ) (r : Result Number PicFault) → limit ≤ 65535 → MatchResult r (NumberThere bytes at) (StopThere bytes at)
+pub field_view : (limit : ℕ) (bad : ℕ → PicFault) (bytes : List ℕ) (at : ℕ) (r : Result Number PicFault) → limit ≤ 65535
+    → MatchResult r (NumberThere bytes at) (StopThere bytes at)
     → MatchResult (field_read limit bad r) (FieldThere limit bytes at) (FieldFails limit bad bytes at)
 field_view limit bad bytes at (Err e) le h = inl h
 field_view limit bad bytes at (Ok n) le h =
@@ -220,32 +233,40 @@ field_view limit bad bytes at (Ok n) le h =
           subst P (sym (cond-false test (Err (bad n.start)) (Ok (n.value, n.end)) f)) there
     ]
 
-pub size_view : (bytes : List ℕ) (at : ℕ) → at ≤ length bytes → MatchResult (size_read bytes at) (FieldThere 4096 bytes at) (FieldFails 4096 BadSize bytes at)
+pub size_view : (bytes : List ℕ) (at : ℕ) → at ≤ length bytes
+    → MatchResult (size_read bytes at) (FieldThere 4096 bytes at) (FieldFails 4096 BadSize bytes at)
 unfolding size_read
 size_view bytes at le = field_view 4096 BadSize bytes at (number_read bytes at) (omega arith) (number_view bytes at le)
 
-pub max_view : (bytes : List ℕ) (at : ℕ) → at ≤ length bytes → MatchResult (max_read bytes at) (FieldThere 65535 bytes at) (FieldFails 65535 BadMax bytes at)
+pub max_view : (bytes : List ℕ) (at : ℕ) → at ≤ length bytes
+    → MatchResult (max_read bytes at) (FieldThere 65535 bytes at) (FieldFails 65535 BadMax bytes at)
 unfolding max_read
 max_view bytes at le = field_view 65535 BadMax bytes at (number_read bytes at) (omega arith) (number_view bytes at le)
 
-field_complete : (limit : ℕ) (bad : ℕ → PicFault) (n : Number) (value : ℕ) → limit ≤ 65535 → n.value ≡ min 65536 value → InRange limit value → field_read limit bad (Ok n) ≡ Ok (value, n.end)
+field_complete : (limit : ℕ) (bad : ℕ → PicFault) (n : Number) (value : ℕ) → limit ≤ 65535 → n.value ≡ min 65536 value → InRange limit value
+    → field_read limit bad (Ok n) ≡ Ok (value, n.end)
 field_complete limit bad n value le e range =
     let same : n.value ≡ value = omega (arith, range.most) in
     cond-false (ltb n.value 1 || ltb limit n.value) (Err (bad n.start)) (Ok (n.value, n.end))
-    (or_from (ltb n.value 1) (ltb limit n.value) (le-ltb n.value 1 (omega (arith, range.least))) (le-ltb limit n.value (omega (arith, range.most))))
+    (or_from (ltb n.value 1) (ltb limit n.value) (le-ltb n.value 1 (omega (arith, range.least)))
+    (le-ltb limit n.value (omega (arith, range.most))))
     ∙ ap (λ v. Ok (v, n.end)) same
 
-pub size_complete : (bytes : List ℕ) (at : ℕ) (gap digits rest : List ℕ) (value : ℕ) → drop at bytes ≡ gap ++ (digits ++ rest) → IsGap gap → IsNumber digits value → NoDigit rest → InRange 4096 value
+pub size_complete : (bytes : List ℕ) (at : ℕ) (gap digits rest : List ℕ) (value : ℕ) → drop at bytes ≡ gap ++ (digits ++ rest) → IsGap gap
+    → IsNumber digits value → NoDigit rest → InRange 4096 value
     → size_read bytes at ≡ Ok (value, at + length gap + length digits)
 unfolding size_read
 size_complete bytes at gap digits rest value e g d stops range =
-    rw (number_complete bytes at gap digits rest e g d.numeral stops) (field_complete 4096 BadSize _ value (omega arith) (ap (λ v. min 65536 v) (sym d.value)) range)
+    rw (number_complete bytes at gap digits rest e g d.numeral stops)
+    (field_complete 4096 BadSize _ value (omega arith) (ap (λ v. min 65536 v) (sym d.value)) range)
 
-pub max_complete : (bytes : List ℕ) (at : ℕ) (gap digits rest : List ℕ) (value : ℕ) → drop at bytes ≡ gap ++ (digits ++ rest) → IsGap gap → IsNumber digits value → NoDigit rest → InRange 65535 value
+pub max_complete : (bytes : List ℕ) (at : ℕ) (gap digits rest : List ℕ) (value : ℕ) → drop at bytes ≡ gap ++ (digits ++ rest) → IsGap gap
+    → IsNumber digits value → NoDigit rest → InRange 65535 value
     → max_read bytes at ≡ Ok (value, at + length gap + length digits)
 unfolding max_read
 max_complete bytes at gap digits rest value e g d stops range =
-    rw (number_complete bytes at gap digits rest e g d.numeral stops) (field_complete 65535 BadMax _ value (omega arith) (ap (λ v. min 65536 v) (sym d.value)) range)
+    rw (number_complete bytes at gap digits rest e g d.numeral stops)
+    (field_complete 65535 BadMax _ value (omega arith) (ap (λ v. min 65536 v) (sym d.value)) range)
 
 -- ---- the white byte
 
@@ -263,12 +284,14 @@ first_at bytes at x rest e = sym (ap (λ l. get_or l 0 0) (sym e) ∙ get_or-dro
 
 abbrev white_body : Bool → Bool → Bool → List ℕ → ℕ → Result ℕ PicFault
 white_body inside white comment bytes at =
-    cond (inside && white) (Ok (at + 1)) (cond (inside && comment) (Err (CommentBehindDigit at)) (Err (cond inside (BadNumber at) (HeaderCut at))))
+    cond (inside && white) (Ok (at + 1))
+    (cond (inside && comment) (Err (CommentBehindDigit at)) (Err (cond inside (BadNumber at) (HeaderCut at))))
 
 white_body-outside : (white comment : Bool) (bytes : List ℕ) (at : ℕ) → white_body false white comment bytes at ≡ Err (HeaderCut at)
 white_body-outside white comment bytes at = refl
 
-pub white_view : (bytes : List ℕ) (at : ℕ) → at ≤ length bytes → MatchResult (white_read bytes at) (WhiteThere bytes at) (WhiteFails bytes at)
+pub white_view : (bytes : List ℕ) (at : ℕ) → at ≤ length bytes
+    → MatchResult (white_read bytes at) (WhiteThere bytes at) (WhiteFails bytes at)
 unfolding white_read
 white_view bytes at le =
     let P : Result ℕ PicFault → Type 0 = λ r. MatchResult r (WhiteThere bytes at) (WhiteFails bytes at) in
@@ -288,13 +311,16 @@ white_view bytes at le =
             | inr nw ↦ elim (cases_Bool (eqb x 35)) [
               | inl c ↦
                   let there : x ≡ 35 = eqb-true x 35 c in
-                  subst P (sym (from ∙ ap (λ b. body true b (eqb x 35)) nw ∙ ap (body true false) c)) (inr (inl (more, e ∙ ap (λ k. k ∷ more) there, refl)))
-              | inr nc ↦ subst P (sym (from ∙ ap (λ b. body true b (eqb x 35)) nw ∙ ap (body true false) nc)) (inr (inr (x, more, e, or_from (is_white x) (eqb x 35) nw nc, refl)))
+                  subst P (sym (from ∙ ap (λ b. body true b (eqb x 35)) nw ∙ ap (body true false) c))
+                  (inr (inl (more, e ∙ ap (λ k. k ∷ more) there, refl)))
+              | inr nc ↦ subst P (sym (from ∙ ap (λ b. body true b (eqb x 35)) nw ∙ ap (body true false) nc))
+                  (inr (inr (x, more, e, or_from (is_white x) (eqb x 35) nw nc, refl)))
             ]
           ]
     ]
 
-pub white_complete : (bytes : List ℕ) (at white : ℕ) (more : List ℕ) → drop at bytes ≡ white ∷ more → is_white white ≡ true → white_read bytes at ≡ Ok (at + 1)
+pub white_complete : (bytes : List ℕ) (at white : ℕ) (more : List ℕ) → drop at bytes ≡ white ∷ more → is_white white ≡ true
+    → white_read bytes at ≡ Ok (at + 1)
 unfolding white_read
 white_complete bytes at white more e w =
     let inside = lt-ltb at (length bytes) (drop_some bytes at white more e) in

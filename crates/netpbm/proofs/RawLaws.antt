@@ -60,7 +60,8 @@ two_back (suc n) (a ∷ b ∷ bytes) h le =
     let again = two_back n bytes (AreBytes-tail b bytes (AreBytes-tail a (b ∷ bytes) h)) (omega arith) in
     rw (high, rest, more) (ap (λ (l : List ℕ). a ∷ b ∷ l) again)
 
-pub raster_back : (max n : ℕ) (bytes : List ℕ) → AreBytes bytes → n ≤ length bytes / width_of max → raw_raster max (take n (decoded max bytes)) ≡ take (n * width_of max) bytes
+pub raster_back : (max n : ℕ) (bytes : List ℕ) → AreBytes bytes → n ≤ length bytes / width_of max
+    → raw_raster max (take n (decoded max bytes)) ≡ take (n * width_of max) bytes
 raster_back max n bytes h le = elim (cases_lt max 256) [
   | inl lt ↦
       let w = width_one max lt in
@@ -69,21 +70,28 @@ raster_back max n bytes h le = elim (cases_lt max 256) [
   | inr ge ↦
       let w = width_two max ge in
       let fits : n ≤ length bytes / 2 = subst (λ k. n ≤ length bytes / k) w le in
-      raw_raster_two max _ ge ∙ ap (λ (l : List ℕ). flat_map two_bytes (take n l)) (decoded_two max bytes ge) ∙ two_back n bytes h fits ∙ ap (λ k. take (n * k) bytes) (sym w)
+      raw_raster_two max _ ge ∙ ap (λ (l : List ℕ). flat_map two_bytes (take n l)) (decoded_two max bytes ge) ∙ two_back n bytes h fits
+      ∙ ap (λ k. take (n * k) bytes) (sym w)
 ]
 
 -- what follows the first samples, and one more
-pub raster_split : (max n : ℕ) (bytes : List ℕ) → AreBytes bytes → n ≤ length bytes / width_of max → bytes ≡ raw_raster max (take n (decoded max bytes)) ++ drop (n * width_of max) bytes
-raster_split max n bytes h le = sym (take-append-drop (n * width_of max) bytes) ∙ ap (λ (l : List ℕ). l ++ drop (n * width_of max) bytes) (sym (raster_back max n bytes h le))
+pub raster_split : (max n : ℕ) (bytes : List ℕ) → AreBytes bytes → n ≤ length bytes / width_of max
+    → bytes ≡ raw_raster max (take n (decoded max bytes)) ++ drop (n * width_of max) bytes
+raster_split max n bytes h le =
+    sym (take-append-drop (n * width_of max) bytes)
+    ∙ ap (λ (l : List ℕ). l ++ drop (n * width_of max) bytes) (sym (raster_back max n bytes h le))
 
 pub raster_next : (max n : ℕ) (bytes : List ℕ) → AreBytes bytes → n < length bytes / width_of max
-    → bytes ≡ raw_raster max (take n (decoded max bytes)) ++ (sample_bytes max (get_or (decoded max bytes) n 0) ++ drop ((n + 1) * width_of max) bytes)
+    → bytes
+    ≡ raw_raster max (take n (decoded max bytes))
+    ++ (sample_bytes max (get_or (decoded max bytes) n 0) ++ drop ((n + 1) * width_of max) bytes)
 raster_next max n bytes h lt =
     let samples = decoded max bytes in
     let s = get_or samples n 0 in
     let inside : n < length samples = omega (arith, length-decoded max bytes) in
     let more : raw_raster max (take (n + 1) samples) ≡ raw_raster max (take n samples) ++ sample_bytes max s =
-    ap (raw_raster max) (take_more samples n 0 inside) ∙ flat_map-append (sample_bytes max) (take n samples) (s ∷ []) ∙ ap (λ (l : List ℕ). raw_raster max (take n samples) ++ l) (append-nil (sample_bytes max s)) in
+    ap (raw_raster max) (take_more samples n 0 inside) ∙ flat_map-append (sample_bytes max) (take n samples) (s ∷ [])
+    ∙ ap (λ (l : List ℕ). raw_raster max (take n samples) ++ l) (append-nil (sample_bytes max s)) in
     raster_split max (n + 1) bytes h (omega arith) ∙ ap (λ (l : List ℕ). l ++ drop ((n + 1) * width_of max) bytes) more
     ∙ append_assoc (raw_raster max (take n samples)) (sample_bytes max s) (drop ((n + 1) * width_of max) bytes)
 
@@ -101,14 +109,17 @@ pub record RawFails (bytes : List ℕ) (start max count : ℕ) (e : PicFault) : 
   pub bounded : All (λ s. s ≤ max) samples
   pub which :
       ((length samples < count) × (length rest < width_of max) × (e ≡ RasterCut (length bytes)))
-      ⊎ (((s : ℕ) × (more : List ℕ) × (length samples < count) × (rest ≡ sample_bytes max s ++ more) × (max < s) × (e ≡ SampleTooBig (start + length (raw_raster max samples))))
-      ⊎ ((byte : ℕ) × (more : List ℕ) × (length samples ≡ count) × (rest ≡ byte ∷ more) × (e ≡ TrailingBytes (start + length (raw_raster max samples)))))
+      ⊎ (((s : ℕ) × (more : List ℕ) × (length samples < count) × (rest ≡ sample_bytes max s ++ more) × (max < s)
+      × (e ≡ SampleTooBig (start + length (raw_raster max samples))))
+      ⊎ ((byte : ℕ) × (more : List ℕ) × (length samples ≡ count) × (rest ≡ byte ∷ more)
+      × (e ≡ TrailingBytes (start + length (raw_raster max samples)))))
 
 -- no sample before the first one above the greatest is above it
 before_big : (max : ℕ) (samples : List ℕ) (n : ℕ) → n ≤ first_big max samples → All (λ s. s ≤ max) (take n samples)
 before_big max samples n le = All-from_get_or (λ s. s ≤ max) (take n samples) 0 (λ k lt.
     let inside : k < n = omega (arith, length-take n samples) in
-    let low : get_or samples k 0 ≤ max = ltb-false max (get_or samples k 0) (fails_before_first (λ s. ltb max s) samples k 0 (omega arith)) in
+    let low : get_or samples k 0 ≤ max =
+    ltb-false max (get_or samples k 0) (fails_before_first (λ s. ltb max s) samples k 0 (omega arith)) in
     subst (λ v. v ≤ max) (sym (get_or-take n samples k 0 inside)) low)
 
 quotient_rest : (n w : ℕ) → (w ≡ 1) ⊎ (w ≡ 2) → n - (n / w * w) < w
@@ -123,7 +134,8 @@ fits_quotient n w count h le ge = elim h [
   | inr e ↦ let le' = subst (λ k. n ≤ count * k) e le in let ge' = subst (λ k. count ≤ n / k) e ge in rw e (omega arith)
 ]
 
-pub raw_view : (bytes : List ℕ) (start max count : ℕ) → AreBytes bytes → MatchResult (raw_read bytes start max count) (RawThere bytes start max count) (RawFails bytes start max count)
+pub raw_view : (bytes : List ℕ) (start max count : ℕ) → AreBytes bytes
+    → MatchResult (raw_read bytes start max count) (RawThere bytes start max count) (RawFails bytes start max count)
 unfolding raw_read
 raw_view bytes start max count h =
     let raster = drop start bytes in
@@ -144,20 +156,31 @@ raw_view bytes start max count h =
           let above : max < s = ltb-true max s (subst (λ v. ltb max v ≡ true) same (passes_at_first (λ v. ltb max v) firsts 0 inside)) in
           let whole : place < length raster / w = omega (arith, len, size) in
           let shorter : take place firsts ≡ take place samples = take-take-le place count samples (omega arith) in
-          let bounded : All (λ v. v ≤ max) (take place samples) = subst (All (λ v. v ≤ max)) shorter (before_big max firsts place (omega arith)) in
+          let bounded : All (λ v. v ≤ max) (take place samples) =
+          subst (All (λ v. v ≤ max)) shorter (before_big max firsts place (omega arith)) in
           let amount : length (take place samples) ≡ place = length-take-le place samples (omega (arith, len)) in
-          let written : length (raw_raster max (take place samples)) ≡ place * w = length-raw_raster max (take place samples) ∙ ap (λ k. k * w) amount in
+          let written : length (raw_raster max (take place samples)) ≡ place * w =
+          length-raw_raster max (take place samples) ∙ ap (λ k. k * w) amount in
           let fails : RawFails bytes start max count (SampleTooBig (start + place * w)) = record {
             samples = take place samples;
             rest = sample_bytes max s ++ drop ((place + 1) * w) raster;
             parts = raster_next max place raster are whole;
             bounded = bounded;
-            which = inr (inl (s, drop ((place + 1) * w) raster, omega (arith, amount), refl, above, ap (λ k. SampleTooBig (start + k)) (sym written)));
+            which =
+                inr (inl (
+                  s,
+                  drop ((place + 1) * w) raster,
+                  omega (arith, amount),
+                  refl,
+                  above,
+                  ap (λ k. SampleTooBig (start + k)) (sym written),
+                ));
           } in
           subst V (sym (cond-true (ltb place (length firsts)) _ _ big)) fails
       | inr none ↦
           let top : length firsts ≤ place = ltb-false place (length firsts) none in
-          let low : All (λ v. v ≤ max) firsts = subst (All (λ v. v ≤ max)) (take_all (length firsts) firsts (omega arith)) (before_big max firsts (length firsts) top) in
+          let low : All (λ v. v ≤ max) firsts =
+          subst (All (λ v. v ≤ max)) (take_all (length firsts) firsts (omega arith)) (before_big max firsts (length firsts) top) in
           elim (cases_Bool (ltb (length samples) count)) [
             | inl short ↦
                 let few : length samples < count = ltb-true (length samples) count short in
@@ -193,17 +216,22 @@ raw_view bytes start max count h =
                           | inr (byte, more, e) ↦ inr (inr (byte, more, amount, e, ap (λ k. TrailingBytes (start + k)) (sym written)))
                         ];
                       } in
-                      subst V (sym (cond-false (ltb place (length firsts)) _ _ none ∙ cond-false (ltb (length samples) count) _ _ enough ∙ cond-true (ltb (count * w) (length raster)) _ _ long)) fails
+                      subst V (sym (cond-false (ltb place (length firsts)) _ _ none ∙ cond-false (ltb (length samples) count) _ _ enough
+                      ∙ cond-true (ltb (count * w) (length raster)) _ _ long)) fails
                   | inr fits ↦
                       let le : length raster ≤ count * w = ltb-false (count * w) (length raster) fits in
-                      let exact : length raster ≡ count * w = fits_quotient (length raster) w count (width_is max) le (omega (arith, size)) in
+                      let exact : length raster ≡ count * w =
+                      fits_quotient (length raster) w count (width_is max) le (omega (arith, size)) in
                       let back = raster_back max (length samples) raster are (omega (arith, size)) in
                       let number : length samples ≡ count = size ∙ ap (λ k. k / w) exact ∙ product_quotient count w (width_is max) in
                       let all : firsts ≡ samples = take_all count samples (omega (arith, number)) in
                       let whole : raw_raster max samples ≡ raster =
-                      ap (raw_raster max) (sym (take_all (length samples) samples (omega arith))) ∙ back ∙ take_all (length samples * w) raster (subst (λ k. length raster ≤ k * w) (sym number) le) in
-                      let there : RawThere bytes start max count samples = record { raster = sym whole; bounded = subst (All (λ v. v ≤ max)) all low; number = number } in
-                      subst V (sym (cond-false (ltb place (length firsts)) _ _ none ∙ cond-false (ltb (length samples) count) _ _ enough ∙ cond-false (ltb (count * w) (length raster)) _ _ fits)) there
+                      ap (raw_raster max) (sym (take_all (length samples) samples (omega arith))) ∙ back
+                      ∙ take_all (length samples * w) raster (subst (λ k. length raster ≤ k * w) (sym number) le) in
+                      let there : RawThere bytes start max count samples =
+                      record { raster = sym whole; bounded = subst (All (λ v. v ≤ max)) all low; number = number } in
+                      subst V (sym (cond-false (ltb place (length firsts)) _ _ none ∙ cond-false (ltb (length samples) count) _ _ enough
+                      ∙ cond-false (ltb (count * w) (length raster)) _ _ fits)) there
                 ]
           ]
     ]
@@ -214,11 +242,15 @@ raw_view bytes start max count h =
     product_quotient : (count w : ℕ) → (w ≡ 1) ⊎ (w ≡ 2) → count * w / w ≡ count
     product_quotient count w h = elim h [ inl e ↦ rw e (omega arith) | inr e ↦ rw e (omega arith) ]
 
-pub raw_complete : (bytes : List ℕ) (start max : ℕ) (samples : List ℕ) → drop start bytes ≡ raw_raster max samples → All (λ s. s ≤ max) samples → raw_read bytes start max (length samples) ≡ Ok samples
+pub raw_complete : (bytes : List ℕ) (start max : ℕ) (samples : List ℕ) → drop start bytes ≡ raw_raster max samples
+    → All (λ s. s ≤ max) samples → raw_read bytes start max (length samples) ≡ Ok samples
 raw_complete bytes start max samples e bounded =
     let raster = drop start bytes in
     let back : decoded max raster ≡ samples = ap (decoded max) e ∙ decoded_back max samples in
-    let same : decoded max raster ≡ take (length samples) (decoded max raster) = sym (take_all (length samples) (decoded max raster) (omega (arith, ap length back))) in
-    let none : first_big max (decoded max raster) ≡ length (decoded max raster) = none_big max (decoded max raster) (subst (All (λ s. s ≤ max)) (sym back) bounded) in
+    let same : decoded max raster ≡ take (length samples) (decoded max raster) =
+    sym (take_all (length samples) (decoded max raster) (omega (arith, ap length back))) in
+    let none : first_big max (decoded max raster) ≡ length (decoded max raster) =
+    none_big max (decoded max raster) (subst (All (λ s. s ≤ max)) (sym back) bounded) in
     let size : length raster ≡ length samples * width_of max = ap length e ∙ length-raw_raster max samples in
-    is_whole bytes raster start max (length samples) same none (omega (arith, ap length back)) (omega (arith, size)) ∙ ap (λ (l : List ℕ). Ok l) back
+    is_whole bytes raster start max (length samples) same none (omega (arith, ap length back)) (omega (arith, size))
+    ∙ ap (λ (l : List ℕ). Ok l) back

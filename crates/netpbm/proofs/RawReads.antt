@@ -40,7 +40,8 @@ length-decoded max bytes =
       | inr le ↦ ap length (decoded_two max bytes le) ∙ length-pairs bytes ∙ sym (ap (λ w. length bytes / w) (width_two max le))
     ]
 
-pub decoded-take : (max count : ℕ) (bytes : List ℕ) → decoded max (take (min count (length bytes / width_of max) * width_of max) bytes) ≡ take count (decoded max bytes)
+pub decoded-take : (max count : ℕ) (bytes : List ℕ)
+    → decoded max (take (min count (length bytes / width_of max) * width_of max) bytes) ≡ take count (decoded max bytes)
 decoded-take max count bytes =
     elim (cases_lt max 256) [
       | inl lt ↦
@@ -50,50 +51,70 @@ decoded-take max count bytes =
           let k = min count (length bytes / 2) in
           let n : min count (length bytes / width_of max) * width_of max ≡ 2 * k = rw (width_two max le) (omega arith) in
           decoded_two max _ le ∙ ap (λ m. pairs (take m bytes)) n ∙ pairs-take k bytes (omega arith)
-          ∙ ap (λ m. take (min count m) (pairs bytes)) (sym (length-pairs bytes)) ∙ take_min count (pairs bytes) ∙ ap (take count) (sym (decoded_two max bytes le))
+          ∙ ap (λ m. take (min count m) (pairs bytes)) (sym (length-pairs bytes)) ∙ take_min count (pairs bytes)
+          ∙ ap (take count) (sym (decoded_two max bytes le))
     ]
 
 pub place_fits : (max place : ℕ) (bytes : List ℕ) → place < length (decoded max bytes) → place * width_of max < length bytes
 place_fits max place bytes h =
     elim (cases_lt max 256) [
-      | inl lt ↦ let k : place < length bytes = subst (λ (l : List ℕ). place < length l) (decoded_one max bytes lt) h in rw (width_one max lt) (omega arith)
-      | inr le ↦ let k : place < length (pairs bytes) = subst (λ (l : List ℕ). place < length l) (decoded_two max bytes le) h in rw (width_two max le) (omega (arith, length-pairs bytes))
+      | inl lt ↦
+          let k : place < length bytes = subst (λ (l : List ℕ). place < length l) (decoded_one max bytes lt) h in
+          rw (width_one max lt) (omega arith)
+      | inr le ↦
+          let k : place < length (pairs bytes) = subst (λ (l : List ℕ). place < length l) (decoded_two max bytes le) h in
+          rw (width_two max le) (omega (arith, length-pairs bytes))
     ]
 
 -- ---- the first sample above the greatest
 
 pub none_big : (max : ℕ) (xs : List ℕ) → All (λ s. s ≤ max) xs → first_big max xs ≡ length xs
-none_big max xs h = position_or_len_is (λ s. ltb max s) xs (length xs) 0 (omega arith) (λ k lt. le-ltb max (get_or xs k 0) (h k 0 lt)) (λ lt. absurd (omega arith))
+none_big max xs h =
+    position_or_len_is (λ s. ltb max s) xs (length xs) 0 (omega arith) (λ k lt. le-ltb max (get_or xs k 0) (h k 0 lt))
+    (λ lt. absurd (omega arith))
 
-pub some_big : (max : ℕ) (xs : List ℕ) (i : ℕ) → i < length xs → ((k : ℕ) → k < i → get_or xs k 0 ≤ max) → max < get_or xs i 0 → i ≡ first_big max xs
-some_big max xs i lt h big = sym (position_or_len_is (λ s. ltb max s) xs i 0 (omega arith) (λ k below. le-ltb max (get_or xs k 0) (h k below)) (λ there. lt-ltb max (get_or xs i 0) big))
+pub some_big : (max : ℕ) (xs : List ℕ) (i : ℕ) → i < length xs → ((k : ℕ) → k < i → get_or xs k 0 ≤ max) → max < get_or xs i 0
+    → i ≡ first_big max xs
+some_big max xs i lt h big =
+    sym (position_or_len_is (λ s. ltb max s) xs i 0 (omega arith) (λ k below. le-ltb max (get_or xs k 0) (h k below))
+    (λ there. lt-ltb max (get_or xs i 0) big))
 
-pub pairs_bounded : (max : ℕ) (bytes : List ℕ) → ((k : ℕ) → k < length bytes / 2 → 256 * get_or bytes (2 * k) 0 + get_or bytes (2 * k + 1) 0 ≤ max) → All (λ s. s ≤ max) (pairs bytes)
+pub pairs_bounded : (max : ℕ) (bytes : List ℕ)
+    → ((k : ℕ) → k < length bytes / 2 → 256 * get_or bytes (2 * k) 0 + get_or bytes (2 * k + 1) 0 ≤ max) → All (λ s. s ≤ max) (pairs bytes)
 pairs_bounded max bytes h = All-from_get_or (λ s. s ≤ max) (pairs bytes) 0 (λ k lt.
     let inside : k < length bytes / 2 = omega (arith, length-pairs bytes) in
     rw (get_or-pairs bytes k (omega arith)) (h k inside))
 
-pub pairs_below : (max greatest : ℕ) (bytes : List ℕ) → ((k : ℕ) → k < length bytes / 2 → 256 * get_or bytes (2 * k) 0 + get_or bytes (2 * k + 1) 0 ≤ greatest) → OnTrue (leb greatest max) (All (λ s. s ≤ max) (pairs bytes))
+pub pairs_below : (max greatest : ℕ) (bytes : List ℕ)
+    → ((k : ℕ) → k < length bytes / 2 → 256 * get_or bytes (2 * k) 0 + get_or bytes (2 * k + 1) 0 ≤ greatest)
+    → OnTrue (leb greatest max) (All (λ s. s ≤ max) (pairs bytes))
 pairs_below max greatest bytes h = OnTrue_from (leb greatest max) (All (λ s. s ≤ max) (pairs bytes)) (λ e.
     let le : greatest ≤ max = leb-true greatest max e in
     pairs_bounded max bytes (λ k lt. let here = h k lt in omega arith))
 
-pub big_pair : (max : ℕ) (bytes : List ℕ) (i : ℕ) → i < length bytes / 2 → ((k : ℕ) → k < i → 256 * get_or bytes (2 * k) 0 + get_or bytes (2 * k + 1) 0 ≤ max)
+pub big_pair : (max : ℕ) (bytes : List ℕ) (i : ℕ) → i < length bytes / 2
+    → ((k : ℕ) → k < i → 256 * get_or bytes (2 * k) 0 + get_or bytes (2 * k + 1) 0 ≤ max)
     → max < 256 * get_or bytes (2 * i) 0 + get_or bytes (2 * i + 1) 0 → i ≡ first_big max (pairs bytes)
 big_pair max bytes i lt h big =
-    some_big max (pairs bytes) i (omega (arith, length-pairs bytes)) (λ k below. let here = h k below in rw (get_or-pairs bytes k (omega arith)) here) (rw (get_or-pairs bytes i (omega arith)) big)
+    some_big max (pairs bytes) i (omega (arith, length-pairs bytes))
+    (λ k below. let here = h k below in rw (get_or-pairs bytes k (omega arith)) here) (rw (get_or-pairs bytes i (omega arith)) big)
 
 -- ---- what reading answers
 
 -- the part that is looked at has the samples that the picture is to have, as far as they are whole
-pub looked : (bytes part : List ℕ) (start max count : ℕ) → decoded max part ≡ take count (decoded max (take (length bytes - start) (drop start bytes))) → decoded max part ≡ take count (decoded max (drop start bytes))
+pub looked : (bytes part : List ℕ) (start max count : ℕ)
+    → decoded max part ≡ take count (decoded max (take (length bytes - start) (drop start bytes)))
+    → decoded max part ≡ take count (decoded max (drop start bytes))
 looked bytes part start max count h = h ∙ ap (λ (r : List ℕ). take count (decoded max r)) (take_rest bytes start)
 
-pub whole_samples : (max width start : ℕ) (bytes : List ℕ) → width ≡ width_of max → length (decoded max (drop start bytes)) ≡ length (take (length bytes - start) (drop start bytes)) / width
+pub whole_samples : (max width start : ℕ) (bytes : List ℕ) → width ≡ width_of max
+    → length (decoded max (drop start bytes)) ≡ length (take (length bytes - start) (drop start bytes)) / width
 whole_samples max width start bytes e =
-    length-decoded max (drop start bytes) ∙ ap (λ (r : List ℕ). length r / width_of max) (sym (take_rest bytes start)) ∙ ap (λ w. length (take (length bytes - start) (drop start bytes)) / w) (sym e)
+    length-decoded max (drop start bytes) ∙ ap (λ (r : List ℕ). length r / width_of max) (sym (take_rest bytes start))
+    ∙ ap (λ w. length (take (length bytes - start) (drop start bytes)) / w) (sym e)
 
-pub too_big : (bytes part : List ℕ) (start max count place : ℕ) → decoded max part ≡ take count (decoded max (drop start bytes)) → place ≡ first_big max (decoded max part) → place < length (decoded max part)
+pub too_big : (bytes part : List ℕ) (start max count place : ℕ) → decoded max part ≡ take count (decoded max (drop start bytes))
+    → place ≡ first_big max (decoded max part) → place < length (decoded max part)
     → raw_read bytes start max count ≡ Err (SampleTooBig (start + place * width_of max))
 unfolding raw_read
 too_big bytes part start max count place same is lt =
@@ -102,7 +123,8 @@ too_big bytes part start max count place same is lt =
     let short : first_big max samples < length samples = omega (arith, is', ap length same) in
     rw (lt-ltb (first_big max samples) (length samples) short) (ap (λ p. Err (SampleTooBig (start + p * width_of max))) (sym is'))
 
-pub is_cut : (bytes part : List ℕ) (start max count : ℕ) → decoded max part ≡ take count (decoded max (drop start bytes)) → first_big max (decoded max part) ≡ length (decoded max part) → length (decoded max (drop start bytes)) < count
+pub is_cut : (bytes part : List ℕ) (start max count : ℕ) → decoded max part ≡ take count (decoded max (drop start bytes))
+    → first_big max (decoded max part) ≡ length (decoded max part) → length (decoded max (drop start bytes)) < count
     → raw_read bytes start max count ≡ Err (RasterCut (length bytes))
 unfolding raw_read
 is_cut bytes part start max count same none short =
@@ -110,18 +132,28 @@ is_cut bytes part start max count same none short =
     let none' : first_big max samples ≡ length samples = ap (first_big max) (sym same) ∙ none ∙ ap length same in
     rw (le-ltb (first_big max samples) (length samples) (omega arith), lt-ltb (length (decoded max (drop start bytes))) count short) refl
 
-pub is_long : (bytes part : List ℕ) (start max count : ℕ) → decoded max part ≡ take count (decoded max (drop start bytes)) → first_big max (decoded max part) ≡ length (decoded max part) → count ≤ length (decoded max (drop start bytes))
+pub is_long : (bytes part : List ℕ) (start max count : ℕ) → decoded max part ≡ take count (decoded max (drop start bytes))
+    → first_big max (decoded max part) ≡ length (decoded max part) → count ≤ length (decoded max (drop start bytes))
     → count * width_of max < length (drop start bytes) → raw_read bytes start max count ≡ Err (TrailingBytes (start + count * width_of max))
 unfolding raw_read
 is_long bytes part start max count same none whole long =
     let samples = take count (decoded max (drop start bytes)) in
     let none' : first_big max samples ≡ length samples = ap (first_big max) (sym same) ∙ none ∙ ap length same in
-    rw (le-ltb (first_big max samples) (length samples) (omega arith), le-ltb (length (decoded max (drop start bytes))) count whole, lt-ltb (count * width_of max) (length (drop start bytes)) long) refl
+    rw (
+      le-ltb (first_big max samples) (length samples) (omega arith),
+      le-ltb (length (decoded max (drop start bytes))) count whole,
+      lt-ltb (count * width_of max) (length (drop start bytes)) long,
+    ) refl
 
-pub is_whole : (bytes part : List ℕ) (start max count : ℕ) → decoded max part ≡ take count (decoded max (drop start bytes)) → first_big max (decoded max part) ≡ length (decoded max part) → count ≤ length (decoded max (drop start bytes))
+pub is_whole : (bytes part : List ℕ) (start max count : ℕ) → decoded max part ≡ take count (decoded max (drop start bytes))
+    → first_big max (decoded max part) ≡ length (decoded max part) → count ≤ length (decoded max (drop start bytes))
     → length (drop start bytes) ≤ count * width_of max → raw_read bytes start max count ≡ Ok (decoded max (drop start bytes))
 unfolding raw_read
 is_whole bytes part start max count same none whole short =
     let samples = take count (decoded max (drop start bytes)) in
     let none' : first_big max samples ≡ length samples = ap (first_big max) (sym same) ∙ none ∙ ap length same in
-    rw (le-ltb (first_big max samples) (length samples) (omega arith), le-ltb (length (decoded max (drop start bytes))) count whole, le-ltb (count * width_of max) (length (drop start bytes)) short) refl
+    rw (
+      le-ltb (first_big max samples) (length samples) (omega arith),
+      le-ltb (length (decoded max (drop start bytes))) count whole,
+      le-ltb (count * width_of max) (length (drop start bytes)) short,
+    ) refl

@@ -29,14 +29,20 @@ is_read_through : (r : Result (List ℕ) PicFault) (f : List ℕ → Image) → 
 is_read_through (Ok x) f h = tt
 is_read_through (Err e) f h = h
 
-pub raster_fails : (bytes : List ℕ) (h : Header) (e : PicFault) → header_read bytes ≡ Ok h → Fails e (raster_read h.coding bytes h.end h.max (h.colours * (h.rows * h.cols))) → Fails e (picture_read bytes)
+pub raster_fails : (bytes : List ℕ) (h : Header) (e : PicFault) → header_read bytes ≡ Ok h
+    → Fails e (raster_read h.coding bytes h.end h.max (h.colours * (h.rows * h.cols))) → Fails e (picture_read bytes)
 unfolding picture_read
 raster_fails bytes h e is fails = elim fails [
   | inl f ↦ inl (rw (is, f) refl)
-  | inr (m, r) ↦ inr (m, rw is (is_read_through (raster_read h.coding bytes h.end h.max (h.colours * (h.rows * h.cols))) (λ samples. image h.rows h.cols h.max (separated h.colours samples)) r))
+  | inr (m, r) ↦ inr (
+    m,
+    rw is (is_read_through (raster_read h.coding bytes h.end h.max (h.colours * (h.rows * h.cols)))
+        (λ samples. image h.rows h.cols h.max (separated h.colours samples)) r),
+  )
 ]
 
-pub reads : (bytes : List ℕ) (h : Header) (samples : List ℕ) → header_read bytes ≡ Ok h → raster_read h.coding bytes h.end h.max (h.colours * (h.rows * h.cols)) ≡ Ok samples
+pub reads : (bytes : List ℕ) (h : Header) (samples : List ℕ) → header_read bytes ≡ Ok h
+    → raster_read h.coding bytes h.end h.max (h.colours * (h.rows * h.cols)) ≡ Ok samples
     → picture_read bytes ≡ Ok (image h.rows h.cols h.max (separated h.colours samples))
 unfolding picture_read
 reads bytes h samples is r = rw (is, r) refl
@@ -46,7 +52,8 @@ is_picture bytes p h e = MatchResult-at_ok (IsPicture bytes) (IsFault bytes) p e
 
 -- ---- what callers see
 
-pub is_found : (bytes : List ℕ) (r : Result Image PicFault) → AreBytes bytes → Gives (λ p. p) r (picture_read bytes) → IfOk r (IsPicture bytes)
+pub is_found : (bytes : List ℕ) (r : Result Image PicFault) → AreBytes bytes → Gives (λ p. p) r (picture_read bytes)
+    → IfOk r (IsPicture bytes)
 is_found bytes (Ok p) h g = is_picture bytes p h g
 is_found bytes (Err e) h g = tt
 
@@ -56,18 +63,21 @@ same_value a b e = cc
 never_both : (a : Image) (e : PicFault) → (let r : Result Image PicFault = Ok a in r) ≡ Err e → ⊥
 never_both a e h = cc
 
-pub is_only : (bytes : List ℕ) (r : Result Image PicFault) (p : Image) → Gives (λ q. q) r (picture_read bytes) → IsPicture bytes p → IsReadAs r p
+pub is_only : (bytes : List ℕ) (r : Result Image PicFault) (p : Image) → Gives (λ q. q) r (picture_read bytes) → IsPicture bytes p
+    → IsReadAs r p
 is_only bytes (Ok q) p g h = same_value q p (sym g ∙ picture_complete bytes p h)
 is_only bytes (Err e) p g h = elim g [
   | inl f ↦ absurd (never_both p e (sym (picture_complete bytes p h) ∙ f))
   | inr (m, r) ↦ m
 ]
 
-memory_fault : (bytes : List ℕ) (r : Result Image PicFault) → MatchResult r (IsPicture bytes) (IsFault bytes) → IsRead r → IsFault bytes Memory
+memory_fault : (bytes : List ℕ) (r : Result Image PicFault) → MatchResult r (IsPicture bytes) (IsFault bytes) → IsRead r
+    → IsFault bytes Memory
 memory_fault bytes (Ok p) h r = (p, h)
 memory_fault bytes (Err e) h r = absurd r
 
-pub is_fault : (bytes : List ℕ) (r : Result Image PicFault) → AreBytes bytes → Gives (λ p. p) r (picture_read bytes) → IfErr r (IsFault bytes)
+pub is_fault : (bytes : List ℕ) (r : Result Image PicFault) → AreBytes bytes → Gives (λ p. p) r (picture_read bytes)
+    → IfErr r (IsFault bytes)
 is_fault bytes (Ok p) h g = tt
 is_fault bytes (Err e) h g = elim g [
   | inl f ↦ MatchResult-at_err (IsPicture bytes) (IsFault bytes) e f (picture_view bytes h)
@@ -85,9 +95,12 @@ spelling_is p h =
     let rows = decimal p.rows in
     let max = decimal p.max in
     let raster = raw_raster p.max (interleaved p.planes) in
-    let gap : (c : ℕ) → (c ≡ 10) ⊎ (c ≡ 32) → IsGap (c ∷ []) = λ c e. record { some = omega arith; filler = white c [] (elim e [ inl ten ↦ rw ten refl | inr blank ↦ rw blank refl ]) nothing } in
-    let third : IsFields (p.max ∷ []) (10 ∷ max) = (10 ∷ [], max, [], ap (λ (l : List ℕ). 10 ∷ l) (sym (append-nil max)), gap 10 (inl refl), decimal_number p.max h.max.most, refl) in
-    let second : IsFields (p.rows ∷ p.max ∷ []) (32 ∷ (rows ++ (10 ∷ max))) = (32 ∷ [], rows, 10 ∷ max, refl, gap 32 (inr refl), decimal_number p.rows (omega (arith, h.rows.most)), third) in
+    let gap : (c : ℕ) → (c ≡ 10) ⊎ (c ≡ 32) → IsGap (c ∷ []) =
+    λ c e. record { some = omega arith; filler = white c [] (elim e [ inl ten ↦ rw ten refl | inr blank ↦ rw blank refl ]) nothing } in
+    let third : IsFields (p.max ∷ []) (10 ∷ max) =
+    (10 ∷ [], max, [], ap (λ (l : List ℕ). 10 ∷ l) (sym (append-nil max)), gap 10 (inl refl), decimal_number p.max h.max.most, refl) in
+    let second : IsFields (p.rows ∷ p.max ∷ []) (32 ∷ (rows ++ (10 ∷ max))) =
+    (32 ∷ [], rows, 10 ∷ max, refl, gap 32 (inr refl), decimal_number p.rows (omega (arith, h.rows.most)), third) in
     let first : IsFields (p.cols ∷ p.rows ∷ p.max ∷ []) (10 ∷ (cols ++ (32 ∷ (rows ++ (10 ∷ max))))) =
     (10 ∷ [], cols, 32 ∷ (rows ++ (10 ∷ max)), refl, gap 10 (inl refl), decimal_number p.cols (omega (arith, h.cols.most)), second) in
     record {

@@ -24,13 +24,20 @@ white_is c h = elim (cases_lt 32 c) [ inl lt ↦ absurd (both_ways (is_white c) 
   where
     not_white : (c : ℕ) → 32 < c → is_white c ≡ false
     not_white c lt =
-        rw (ne_eqb c 32 (λ e. omega arith), ne_eqb c 9 (λ e. omega arith), ne_eqb c 13 (λ e. omega arith), ne_eqb c 10 (λ e. omega arith)) refl
+        rw (ne_eqb c 32 (λ e. omega arith), ne_eqb c 9 (λ e. omega arith), ne_eqb c 13 (λ e. omega arith), ne_eqb c 10 (λ e. omega arith))
+        refl
 
 -- behind a filler a digit begins a number
 pub digit_stands_not : (c : ℕ) → is_ascii_digit c ≡ true → may_stand false c ≡ false
 digit_stands_not c h =
     let r = digit_is c h in
-    rw (ne_eqb c 32 (λ e. omega arith), ne_eqb c 9 (λ e. omega arith), ne_eqb c 13 (λ e. omega arith), ne_eqb c 10 (λ e. omega arith), ne_eqb c 35 (λ e. omega arith)) refl
+    rw (
+      ne_eqb c 32 (λ e. omega arith),
+      ne_eqb c 9 (λ e. omega arith),
+      ne_eqb c 13 (λ e. omega arith),
+      ne_eqb c 10 (λ e. omega arith),
+      ne_eqb c 35 (λ e. omega arith),
+    ) refl
 
 pub digit_not_white : (c : ℕ) → is_ascii_digit c ≡ true → is_white c ≡ false
 digit_not_white c h =
@@ -72,7 +79,9 @@ NoWhite (c ∷ cs) = is_white c ≡ false
 pub white_stops : (xs : List ℕ) → NoWhite (drop (white_len xs) xs)
 white_stops [] = tt
 white_stops (c ∷ cs) = elim (cases_Bool (is_white c)) [
-  | inl holds ↦ let n : white_len (c ∷ cs) ≡ suc (white_len cs) = cond-true (is_white c) _ 0 holds ∙ omega arith in subst (λ k. NoWhite (drop k (c ∷ cs))) (sym n) (white_stops cs)
+  | inl holds ↦
+      let n : white_len (c ∷ cs) ≡ suc (white_len cs) = cond-true (is_white c) _ 0 holds ∙ omega arith in
+      subst (λ k. NoWhite (drop k (c ∷ cs))) (sym n) (white_stops cs)
   | inr fails ↦ let n : white_len (c ∷ cs) ≡ 0 = cond-false (is_white c) _ 0 fails in subst (λ k. NoWhite (drop k (c ∷ cs))) (sym n) fails
 ]
 
@@ -94,14 +103,18 @@ digits_all (c ∷ cs) = elim (cases_Bool (is_ascii_digit c)) [
       let r = digit_is c holds in
       let value : digit_value c < 10 = omega (arith, digit_value_digit c r) in
       subst (λ k. AllDigits 10 (take k (c ∷ cs))) (sym n) (value, digits_all cs)
-  | inr fails ↦ let n : digits_len (c ∷ cs) ≡ 0 = cond-false (is_ascii_digit c) _ 0 fails in subst (λ k. AllDigits 10 (take k (c ∷ cs))) (sym n) tt
+  | inr fails ↦
+      let n : digits_len (c ∷ cs) ≡ 0 = cond-false (is_ascii_digit c) _ 0 fails in subst (λ k. AllDigits 10 (take k (c ∷ cs))) (sym n) tt
 ]
 
 pub digits_stop : (xs : List ℕ) → NoDigit (drop (digits_len xs) xs)
 digits_stop [] = tt
 digits_stop (c ∷ cs) = elim (cases_Bool (is_ascii_digit c)) [
-  | inl holds ↦ let n : digits_len (c ∷ cs) ≡ suc (digits_len cs) = cond-true (is_ascii_digit c) _ 0 holds ∙ omega arith in subst (λ k. NoDigit (drop k (c ∷ cs))) (sym n) (digits_stop cs)
-  | inr fails ↦ let n : digits_len (c ∷ cs) ≡ 0 = cond-false (is_ascii_digit c) _ 0 fails in subst (λ k. NoDigit (drop k (c ∷ cs))) (sym n) fails
+  | inl holds ↦
+      let n : digits_len (c ∷ cs) ≡ suc (digits_len cs) = cond-true (is_ascii_digit c) _ 0 holds ∙ omega arith in
+      subst (λ k. NoDigit (drop k (c ∷ cs))) (sym n) (digits_stop cs)
+  | inr fails ↦
+      let n : digits_len (c ∷ cs) ≡ 0 = cond-false (is_ascii_digit c) _ 0 fails in subst (λ k. NoDigit (drop k (c ∷ cs))) (sym n) fails
 ]
 
 pub digit_of_value : (c : ℕ) → digit_value c < 10 → is_ascii_digit c ≡ true
@@ -130,7 +143,8 @@ pub starts_no_filler : (ds rest : List ℕ) → IsNumeral 10 ds → NoFiller (ds
 starts_no_filler [] rest h = absurd (omega (arith, h.0))
 starts_no_filler (d ∷ ds) rest h = digit_stands_not d (digit_of_value d h.1.0)
 
-gap_more : (in_comment : Bool) (c : ℕ) (cs : List ℕ) → may_stand in_comment c ≡ true → gap_len in_comment (c ∷ cs) ≡ suc (gap_len (is_open_behind in_comment c) cs)
+gap_more : (in_comment : Bool) (c : ℕ) (cs : List ℕ) → may_stand in_comment c ≡ true
+    → gap_len in_comment (c ∷ cs) ≡ suc (gap_len (is_open_behind in_comment c) cs)
 gap_more in_comment c cs holds = cond-true (may_stand in_comment c) _ 0 holds
 
 gap_none : (in_comment : Bool) (c : ℕ) (cs : List ℕ) → may_stand in_comment c ≡ false → gap_len in_comment (c ∷ cs) ≡ 0
@@ -141,12 +155,14 @@ gap_cut in_comment [] = refl
 gap_cut in_comment (c ∷ cs) = elim (cases_Bool (may_stand in_comment c)) [
   | inl holds ↦
       let open' = is_open_behind in_comment c in
-      rw (gap_more in_comment c cs holds) (and_from (may_stand in_comment c) (is_cut_filler open' (take (gap_len open' cs) cs)) holds (gap_cut open' cs))
+      rw (gap_more in_comment c cs holds)
+      (and_from (may_stand in_comment c) (is_cut_filler open' (take (gap_len open' cs) cs)) holds (gap_cut open' cs))
   | inr fails ↦ rw (gap_none in_comment c cs fails) refl
 ]
 
 -- where a byte stands behind it, each comment has ended, and that byte goes on with nothing
-pub gap_whole : (in_comment : Bool) (xs : List ℕ) (byte : ℕ) (rest : List ℕ) → drop (gap_len in_comment xs) xs ≡ byte ∷ rest → (is_filler in_comment (take (gap_len in_comment xs) xs) ≡ true) × (may_stand false byte ≡ false)
+pub gap_whole : (in_comment : Bool) (xs : List ℕ) (byte : ℕ) (rest : List ℕ) → drop (gap_len in_comment xs) xs ≡ byte ∷ rest
+    → (is_filler in_comment (take (gap_len in_comment xs) xs) ≡ true) × (may_stand false byte ≡ false)
 gap_whole in_comment [] byte rest e = absurd cc
 gap_whole in_comment (c ∷ cs) byte rest e = elim (cases_Bool (may_stand in_comment c)) [
   | inl holds ↦
@@ -168,7 +184,8 @@ gap_whole in_comment (c ∷ cs) byte rest e = elim (cases_Bool (may_stand in_com
     stand_or true c = refl
     stand_or false c = refl
 
-pub gap_len-append : (in_comment : Bool) (gap rest : List ℕ) → is_filler in_comment gap ≡ true → NoFiller rest → gap_len in_comment (gap ++ rest) ≡ length gap
+pub gap_len-append : (in_comment : Bool) (gap rest : List ℕ) → is_filler in_comment gap ≡ true → NoFiller rest
+    → gap_len in_comment (gap ++ rest) ≡ length gap
 gap_len-append true [] rest h fails = absurd cc
 gap_len-append false [] [] h fails = refl
 gap_len-append false [] (c ∷ cs) h fails = gap_none false c cs fails

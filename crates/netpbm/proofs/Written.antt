@@ -16,7 +16,8 @@ use Rattle.std.specs.Result.{OnErr}
 use Rattle.std.proofs.Common.{Result, Ok, Err}
 
 -- a picture has one plane or three
-pub by_colours : (P : List (List ℕ) → Type 0) → ((grey : List ℕ) → P (grey ∷ [])) → ((red green blue : List ℕ) → P (red ∷ green ∷ blue ∷ []))
+pub by_colours : (P : List (List ℕ) → Type 0) → ((grey : List ℕ) → P (grey ∷ []))
+    → ((red green blue : List ℕ) → P (red ∷ green ∷ blue ∷ []))
     → (planes : List (List ℕ)) → (length planes ≡ 1) ⊎ (length planes ≡ 3) → P planes
 by_colours P one three [] h = elim h [ inl e ↦ absurd (omega arith) | inr e ↦ absurd (omega arith) ]
 by_colours P one three (a ∷ []) h = one a
@@ -24,18 +25,21 @@ by_colours P one three (a ∷ b ∷ []) h = elim h [ inl e ↦ absurd (omega ari
 by_colours P one three (a ∷ b ∷ c ∷ []) h = three a b c
 by_colours P one three (a ∷ b ∷ c ∷ d ∷ planes) h = elim h [ inl e ↦ absurd (omega arith) | inr e ↦ absurd (omega arith) ]
 
-pub one_plane : (planes : List (Vec ℕ)) (grey : Vec ℕ) → length planes ≡ 1 → grey ≡ get_or planes 0 grey → samples_of planes ≡ grey.items ∷ []
+pub one_plane : (planes : List (Vec ℕ)) (grey : Vec ℕ) → length planes ≡ 1 → grey ≡ get_or planes 0 grey
+    → samples_of planes ≡ grey.items ∷ []
 one_plane [] grey e h = absurd (omega arith)
 one_plane (a ∷ []) grey e h = ap (λ (v : Vec ℕ). v.items ∷ []) (sym h)
 one_plane (a ∷ b ∷ planes) grey e h = absurd (omega arith)
 
-pub three_planes : (planes : List (Vec ℕ)) (red green blue : Vec ℕ) → length planes ≡ 3 → red ≡ get_or planes 0 red → green ≡ get_or planes 1 green → blue ≡ get_or planes 2 blue
+pub three_planes : (planes : List (Vec ℕ)) (red green blue : Vec ℕ) → length planes ≡ 3 → red ≡ get_or planes 0 red
+    → green ≡ get_or planes 1 green → blue ≡ get_or planes 2 blue
     → samples_of planes ≡ red.items ∷ green.items ∷ blue.items ∷ []
 three_planes [] red green blue e f g h = absurd (omega arith)
 three_planes (a ∷ []) red green blue e f g h = absurd (omega arith)
 three_planes (a ∷ b ∷ []) red green blue e f g h = absurd (omega arith)
 three_planes (a ∷ b ∷ c ∷ []) red green blue e f g h =
-    ap (λ (v : Vec ℕ). v.items ∷ b.items ∷ c.items ∷ []) (sym f) ∙ ap (λ (v : Vec ℕ). red.items ∷ v.items ∷ c.items ∷ []) (sym g) ∙ ap (λ (v : Vec ℕ). red.items ∷ green.items ∷ v.items ∷ []) (sym h)
+    ap (λ (v : Vec ℕ). v.items ∷ b.items ∷ c.items ∷ []) (sym f) ∙ ap (λ (v : Vec ℕ). red.items ∷ v.items ∷ c.items ∷ []) (sym g)
+    ∙ ap (λ (v : Vec ℕ). red.items ∷ green.items ∷ v.items ∷ []) (sym h)
 three_planes (a ∷ b ∷ c ∷ d ∷ planes) red green blue e f g h = absurd (omega arith)
 
 -- ---- bounds
@@ -43,7 +47,8 @@ three_planes (a ∷ b ∷ c ∷ d ∷ planes) red green blue e f g h = absurd (o
 pub All-part : (max : ℕ) (xs : List ℕ) (start end : ℕ) → All (λ s. s ≤ max) xs → All (λ s. s ≤ max) (slice_range xs start end)
 All-part max xs start end h = All-take (λ s. s ≤ max) (end - start) (drop start xs) (All-drop (λ s. s ≤ max) start xs h)
 
-pub All-woven : (max : ℕ) (rs gs bs : List ℕ) → All (λ s. s ≤ max) rs → All (λ s. s ≤ max) gs → All (λ s. s ≤ max) bs → All (λ s. s ≤ max) (woven rs gs bs)
+pub All-woven : (max : ℕ) (rs gs bs : List ℕ) → All (λ s. s ≤ max) rs → All (λ s. s ≤ max) gs → All (λ s. s ≤ max) bs
+    → All (λ s. s ≤ max) (woven rs gs bs)
 All-woven max [] gs bs p q r = All-nil (λ s. s ≤ max)
 All-woven max (x ∷ rs) [] bs p q r = All-nil (λ s. s ≤ max)
 All-woven max (x ∷ rs) (y ∷ gs) [] p q r = All-nil (λ s. s ≤ max)
@@ -51,47 +56,60 @@ All-woven max (x ∷ rs) (y ∷ gs) (z ∷ bs) p q r =
     let P : ℕ → Type 0 = λ s. s ≤ max in
     All-cons P x (y ∷ z ∷ woven rs gs bs) (All-head P x rs p)
     (All-cons P y (z ∷ woven rs gs bs) (All-head P y gs q)
-    (All-cons P z (woven rs gs bs) (All-head P z bs r) (All-woven max rs gs bs (All-tail P x rs p) (All-tail P y gs q) (All-tail P z bs r))))
+    (All-cons P z (woven rs gs bs) (All-head P z bs r)
+    (All-woven max rs gs bs (All-tail P x rs p) (All-tail P y gs q) (All-tail P z bs r))))
 
-pub three_long : (planes : List (Vec ℕ)) (seen : List (List ℕ)) → samples_of planes ≡ seen → (length seen ≡ 1) ⊎ (length seen ≡ 3) → (length planes ≡ 1 → ⊥) → length planes ≡ 3
+pub three_long : (planes : List (Vec ℕ)) (seen : List (List ℕ)) → samples_of planes ≡ seen → (length seen ≡ 1) ⊎ (length seen ≡ 3)
+    → (length planes ≡ 1 → ⊥) → length planes ≡ 3
 three_long planes seen e h none =
     let same : length planes ≡ length seen = sym (length-map planes (λ (v : Vec ℕ). v.items)) ∙ ap length e in
     elim h [ inl one ↦ absurd (none (same ∙ one)) | inr three ↦ same ∙ three ]
 
-pub woven_bounded : (max start end area : ℕ) (rs gs bs out : List ℕ) → IsPlane area max rs → IsPlane area max gs → IsPlane area max bs → start ≤ end → end ≤ area
-    → take (3 * length (slice_range rs start end)) out ≡ woven (slice_range rs start end) (slice_range gs start end) (slice_range bs start end) → All (λ s. s ≤ max) (take (3 * (end - start)) out)
+pub woven_bounded : (max start end area : ℕ) (rs gs bs out : List ℕ) → IsPlane area max rs → IsPlane area max gs → IsPlane area max bs
+    → start ≤ end → end ≤ area
+    → take (3 * length (slice_range rs start end)) out
+    ≡ woven (slice_range rs start end) (slice_range gs start end) (slice_range bs start end)
+    → All (λ s. s ≤ max) (take (3 * (end - start)) out)
 woven_bounded max start end area rs gs bs out p q r le within e =
     let P : List ℕ → Type 0 = All (λ s. s ≤ max) in
-    let len : length (slice_range rs start end) ≡ end - start = length-take-le (end - start) (drop start rs) (omega (arith, length-drop start rs, p.whole)) in
+    let len : length (slice_range rs start end) ≡ end - start =
+    length-take-le (end - start) (drop start rs) (omega (arith, length-drop start rs, p.whole)) in
     subst P (sym e ∙ ap (λ n. take (3 * n) out) len)
-    (All-woven max (slice_range rs start end) (slice_range gs start end) (slice_range bs start end) (All-part max rs start end p.bounded) (All-part max gs start end q.bounded) (All-part max bs start end r.bounded))
+    (All-woven max (slice_range rs start end) (slice_range gs start end) (slice_range bs start end) (All-part max rs start end p.bounded)
+    (All-part max gs start end q.bounded) (All-part max bs start end r.bounded))
 
 -- ---- pixel by pixel
 
-woven-append : (n : ℕ) (rs gs bs rs' gs' bs' : List ℕ) → length rs ≡ n → length gs ≡ n → length bs ≡ n → woven (rs ++ rs') (gs ++ gs') (bs ++ bs') ≡ woven rs gs bs ++ woven rs' gs' bs'
+woven-append : (n : ℕ) (rs gs bs rs' gs' bs' : List ℕ) → length rs ≡ n → length gs ≡ n → length bs ≡ n
+    → woven (rs ++ rs') (gs ++ gs') (bs ++ bs') ≡ woven rs gs bs ++ woven rs' gs' bs'
 woven-append n [] [] [] rs' gs' bs' e f g = refl
 woven-append n [] [] (z ∷ bs) rs' gs' bs' e f g = absurd (omega arith)
 woven-append n [] (y ∷ gs) bs rs' gs' bs' e f g = absurd (omega arith)
 woven-append n (x ∷ rs) [] bs rs' gs' bs' e f g = absurd (omega arith)
 woven-append n (x ∷ rs) (y ∷ gs) [] rs' gs' bs' e f g = absurd (omega arith)
 woven-append zero (x ∷ rs) (y ∷ gs) (z ∷ bs) rs' gs' bs' e f g = absurd (omega arith)
-woven-append (suc n) (x ∷ rs) (y ∷ gs) (z ∷ bs) rs' gs' bs' e f g = ap (λ l. x ∷ y ∷ z ∷ l) (woven-append n rs gs bs rs' gs' bs' (omega arith) (omega arith) (omega arith))
+woven-append (suc n) (x ∷ rs) (y ∷ gs) (z ∷ bs) rs' gs' bs' e f g =
+    ap (λ l. x ∷ y ∷ z ∷ l) (woven-append n rs gs bs rs' gs' bs' (omega arith) (omega arith) (omega arith))
 
 take_part : (xs : List ℕ) (start end : ℕ) → start ≤ end → take end xs ≡ take start xs ++ slice_range xs start end
 take_part xs start end le =
     let sum : end ≡ start + (end - start) = omega arith in
     ap (λ n. take n xs) sum ∙ take-add start (end - start) xs
 
-pub pixels_more : (area max : ℕ) (planes : List (List ℕ)) (start end : ℕ) → (length planes ≡ 1) ⊎ (length planes ≡ 3) → All (IsPlane area max) planes → start ≤ end → end ≤ area
+pub pixels_more : (area max : ℕ) (planes : List (List ℕ)) (start end : ℕ) → (length planes ≡ 1) ⊎ (length planes ≡ 3)
+    → All (IsPlane area max) planes → start ≤ end → end ≤ area
     → first_pixels start planes ++ pixels start end planes ≡ first_pixels end planes
 pixels_more area max planes start end colours each le within =
     by_colours (λ ps. All (IsPlane area max) ps → first_pixels start ps ++ pixels start end ps ≡ first_pixels end ps)
     (λ grey h. sym (take_part grey start end le))
     (λ red green blue h.
-    let long : (plane : List ℕ) → length plane ≡ area → length (take start plane) ≡ start = λ plane e. length-take-le start plane (omega arith) in
-    sym (woven-append start (take start red) (take start green) (take start blue) (slice_range red start end) (slice_range green start end) (slice_range blue start end)
+    let long : (plane : List ℕ) → length plane ≡ area → length (take start plane) ≡ start =
+    λ plane e. length-take-le start plane (omega arith) in
+    sym (woven-append start (take start red) (take start green) (take start blue) (slice_range red start end) (slice_range green start end)
+    (slice_range blue start end)
     (long red (h 0 [] (omega arith)).whole) (long green (h 1 [] (omega arith)).whole) (long blue (h 2 [] (omega arith)).whole))
-    ∙ ap (λ l. woven l (take start green ++ slice_range green start end) (take start blue ++ slice_range blue start end)) (sym (take_part red start end le))
+    ∙ ap (λ l. woven l (take start green ++ slice_range green start end) (take start blue ++ slice_range blue start end))
+    (sym (take_part red start end le))
     ∙ ap (λ l. woven (take end red) l (take start blue ++ slice_range blue start end)) (sym (take_part green start end le))
     ∙ ap (λ l. woven (take end red) (take end green) l) (sym (take_part blue start end le)))
     planes colours each
@@ -99,21 +117,24 @@ pixels_more area max planes start end colours each le within =
 pub pixels_none : (planes : List (List ℕ)) → (length planes ≡ 1) ⊎ (length planes ≡ 3) → first_pixels 0 planes ≡ []
 pixels_none planes colours = by_colours (λ ps. first_pixels 0 ps ≡ []) (λ grey. refl) (λ red green blue. refl) planes colours
 
-pub pixels_all : (area max : ℕ) (planes : List (List ℕ)) → (length planes ≡ 1) ⊎ (length planes ≡ 3) → All (IsPlane area max) planes → first_pixels area planes ≡ interleaved planes
+pub pixels_all : (area max : ℕ) (planes : List (List ℕ)) → (length planes ≡ 1) ⊎ (length planes ≡ 3) → All (IsPlane area max) planes
+    → first_pixels area planes ≡ interleaved planes
 pixels_all area max planes colours each =
     let whole : (plane : List ℕ) → length plane ≡ area → take area plane ≡ plane = λ plane e. take_all area plane (omega arith) in
     by_colours (λ ps. All (IsPlane area max) ps → first_pixels area ps ≡ interleaved ps)
     (λ grey h. whole grey (h 0 [] (omega arith)).whole)
     (λ red green blue h.
     ap (λ l. woven l (take area green) (take area blue)) (whole red (h 0 [] (omega arith)).whole)
-    ∙ ap (λ l. woven red l (take area blue)) (whole green (h 1 [] (omega arith)).whole) ∙ ap (λ l. woven red green l) (whole blue (h 2 [] (omega arith)).whole))
+    ∙ ap (λ l. woven red l (take area blue)) (whole green (h 1 [] (omega arith)).whole)
+    ∙ ap (λ l. woven red green l) (whole blue (h 2 [] (omega arith)).whole))
     planes colours each
 
 -- the spelling up to so many pixels
 abbrev pub spelling_to : ℕ → Image → List ℕ
 spelling_to n p = header p ++ raw_raster p.max (first_pixels n p.planes)
 
-pub spelling_more : (p : Image) (start end : ℕ) → IsImage p → start ≤ end → end ≤ p.rows * p.cols → spelling_to start p ++ raw_raster p.max (pixels start end p.planes) ≡ spelling_to end p
+pub spelling_more : (p : Image) (start end : ℕ) → IsImage p → start ≤ end → end ≤ p.rows * p.cols
+    → spelling_to start p ++ raw_raster p.max (pixels start end p.planes) ≡ spelling_to end p
 spelling_more p start end h le within =
     append_assoc (header p) (raw_raster p.max (first_pixels start p.planes)) (raw_raster p.max (pixels start end p.planes))
     ∙ ap (λ l. header p ++ l) (sym (flat_map-append (sample_bytes p.max) (first_pixels start p.planes) (pixels start end p.planes))
@@ -123,10 +144,12 @@ pub spelling_none : (p : Image) → IsImage p → header p ≡ spelling_to 0 p
 spelling_none p h = sym (ap (λ l. header p ++ raw_raster p.max l) (pixels_none p.planes h.colours) ∙ append-nil (header p))
 
 pub spelling_all : (p : Image) (n : ℕ) → IsImage p → n ≡ p.rows * p.cols → spelling_to n p ≡ spelling p
-spelling_all p n h e = ap (λ m. spelling_to m p) e ∙ ap (λ l. header p ++ raw_raster p.max l) (pixels_all (p.rows * p.cols) p.max p.planes h.colours h.planes)
+spelling_all p n h e =
+    ap (λ m. spelling_to m p) e ∙ ap (λ l. header p ++ raw_raster p.max l) (pixels_all (p.rows * p.cols) p.max p.planes h.colours h.planes)
 
 pub spelling_parts : (p : Image) (start end : ℕ) → IsImage p → start ≤ end → end ≤ p.rows * p.cols
-    → spelling p ≡ (spelling_to start p ++ raw_raster p.max (pixels start end p.planes)) ++ raw_raster p.max (pixels end (p.rows * p.cols) p.planes)
+    → spelling p
+    ≡ (spelling_to start p ++ raw_raster p.max (pixels start end p.planes)) ++ raw_raster p.max (pixels end (p.rows * p.cols) p.planes)
 spelling_parts p start end h le within =
     sym (ap (λ l. l ++ raw_raster p.max (pixels end (p.rows * p.cols) p.planes)) (spelling_more p start end h le within)
     ∙ spelling_more p end (p.rows * p.cols) h within (omega arith) ∙ spelling_all p (p.rows * p.cols) h refl)

@@ -24,7 +24,8 @@ pub record IsNumber (digits : List ℕ) (n : ℕ) : Type 0 where
 pub data Filler : List ℕ → Type 0 where
   nothing : Filler []
   white : (byte : ℕ) (filler : List ℕ) → is_white byte ≡ true → Filler filler → Filler (byte ∷ filler)
-  comment : (body : List ℕ) (end : ℕ) (filler : List ℕ) → list_all is_comment_byte body ≡ true → is_comment_end end ≡ true → Filler filler → Filler (35 ∷ (body ++ end ∷ filler))
+  comment : (body : List ℕ) (end : ℕ) (filler : List ℕ) → list_all is_comment_byte body ≡ true → is_comment_end end ≡ true → Filler filler
+      → Filler (35 ∷ (body ++ end ∷ filler))
 
 -- one byte of it or more
 pub record IsGap (bytes : List ℕ) : Type 0 where
@@ -47,7 +48,9 @@ IsWhite bytes = list_all is_white bytes ≡ true
 -- numbers, each behind white space or none; no digit stands directly behind one, so white space parts two of them
 abbrev pub IsSamples : List ℕ → List ℕ → Type 0
 IsSamples [] bytes = bytes ≡ []
-IsSamples (n ∷ ns) bytes = (white digits rest : List ℕ) × (bytes ≡ white ++ (digits ++ rest)) × IsWhite white × IsNumber digits n × NoDigit rest × IsSamples ns rest
+IsSamples (n ∷ ns) bytes =
+    (white digits rest : List ℕ) × (bytes ≡ white ++ (digits ++ rest)) × IsWhite white × IsNumber digits n × NoDigit rest
+    × IsSamples ns rest
 
 -- behind a plain raster white space may stand, and nothing behind a raw one
 abbrev pub IsRaster : Coding → ℕ → List ℕ → List ℕ → Type 0

@@ -115,7 +115,8 @@ impl Picture {
         requires in_planes { plane < length self.now.planes }
         requires in_rows { row < self.now.rows }
         requires in_cols { col < self.now.cols }
-        ensures { result ≡ slice_index (slice_index_or self.now.planes plane []) (row * self.now.cols + col) }
+        ensures { result
+            ≡ slice_index (slice_index_or self.now.planes plane []) (row * self.now.cols + col) }
     {
         self.planes[plane][row as usize * self.cols as usize + col as usize]
     }

@@ -54,7 +54,8 @@ fn whole_part(raster: &[u8], max: u16, count: usize) -> &[u8]
 fn first_above(raster: &[u8], max: u16) -> Option<usize>
     ensures place { IfSome result (λ place. place ≡ first_big max (decoded max raster.now)) }
     ensures within { IfSome result (λ place. place < length (decoded max raster.now)) }
-    ensures none { IfNone result (first_big max (decoded max raster.now) ≡ length (decoded max raster.now)) }
+    ensures none { IfNone result
+        (first_big max (decoded max raster.now) ≡ length (decoded max raster.now)) }
 {
     if max < 256 {
         first_byte_above(raster, max)

@@ -46,7 +46,8 @@ fn read_raster(alloc: Global, bytes: &[u8], header: &Header) -> Result<Vec<u16>,
     requires rows { InRange 4096 header.now.rows }
     requires cols { InRange 4096 header.now.cols }
     requires colours { (header.now.colours ≡ 1) ⊎ (header.now.colours ≡ 3) }
-    ensures { Gives (λ samples. samples.items) result (raster_read header.now.coding bytes.now header.now.end header.now.max
+    ensures { Gives (λ samples. samples.items) result
+        (raster_read header.now.coding bytes.now header.now.end header.now.max
         (header.now.colours * (header.now.rows * header.now.cols))) }
 {
     let count = header.colours * (header.rows as usize * header.cols as usize);

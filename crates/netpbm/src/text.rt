@@ -63,7 +63,8 @@ fn stays_open(in_comment: bool, byte: u8) -> bool
 /// The number at a place, which stops at 65536, and where its digits end.
 pub fn digits_at(bytes: &[u8], start: usize) -> (u32, usize)
     requires { start ≤ length bytes.now }
-    ensures value { result.0 ≡ min 65536 (digits_value 10 (digits_in_front (drop start bytes.now))) }
+    ensures value { result.0
+        ≡ min 65536 (digits_value 10 (digits_in_front (drop start bytes.now))) }
     ensures end { result.1 ≡ start + digits_len (drop start bytes.now) }
     ensures within { result.1 ≤ length bytes.now }
 {

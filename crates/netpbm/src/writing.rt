@@ -42,8 +42,10 @@ pub fn raw(alloc: Global, picture: &Picture) -> Result<Vec<u8>, AllocError>
 
 /// Writes the written form of a picture. It takes no memory.
 pub fn write_raw<W: Sink>(picture: &Picture, writer: &mut W) -> Result<(), WriteFailed>
-    ensures ok { OnOk result (Appends (W.contents writer.old) (W.contents writer.new) (spelling picture.now)) }
-    ensures part { OnErr result (AppendsPart (W.contents writer.old) (W.contents writer.new) (spelling picture.now)) }
+    ensures ok { OnOk result
+        (Appends (W.contents writer.old) (W.contents writer.new) (spelling picture.now)) }
+    ensures part { OnErr result
+        (AppendsPart (W.contents writer.old) (W.contents writer.new) (spelling picture.now)) }
     ensures failed { CountsFailure result (W.failures writer.old) (W.failures writer.new) }
 {
     let mut header = [0u8; LONGEST_HEADER];
@@ -63,7 +65,8 @@ pub fn write_raw<W: Sink>(picture: &Picture, writer: &mut W) -> Result<(), Write
 
 /// Adds the written form of a picture to the message that a hasher holds. It takes no memory.
 pub fn hash_raw<D: Digest>(picture: &Picture, hasher: &mut D)
-    ensures { (message : List ℕ) → D.holds hasher.old message → D.holds hasher.new (message ++ spelling picture.now) }
+    ensures { (message : List ℕ) → D.holds hasher.old message
+        → D.holds hasher.new (message ++ spelling picture.now) }
 {
     let mut header = [0u8; LONGEST_HEADER];
     let header_len = put_header(&mut header, picture);
@@ -93,7 +96,8 @@ fn put_pixels(out: &mut [u8], picture: &Picture, start: usize, end: usize) -> us
     requires few { end - start ≤ 16384 }
     requires room { 98304 ≤ length out.old }
     ensures end { result ≤ 98304 }
-    ensures written { take result out.new ≡ raw_raster picture.now.max (pixels start end picture.now.planes) }
+    ensures written { take result out.new
+        ≡ raw_raster picture.now.max (pixels start end picture.now.planes) }
 {
     let planes = picture.planes();
     if planes.len() == 1 {

@@ -43,35 +43,45 @@ less Equal e = cc
 less Greater e = cc
 
 -- a key that is held is passed over
-held_pushed : (s : State) (keys : List Key) (key : Key) (found : Option Key) → (IsNotHeld s key → ⊥) → IsFound s keys found → IsFound s (keys ++ key ∷ []) found
+held_pushed : (s : State) (keys : List Key) (key : Key) (found : Option Key) → (IsNotHeld s key → ⊥) → IsFound s keys found
+    → IsFound s (keys ++ key ∷ []) found
 held_pushed s keys key None held h =
-    λ other c none. elim (Contains-push_cases keys key other c) [ inl was ↦ h other was none | inr is ↦ held (subst (IsNotHeld s) (sym is) none) ]
+    λ other c none. elim (Contains-push_cases keys key other c)
+    [ inl was ↦ h other was none | inr is ↦ held (subst (IsNotHeld s) (sym is) none) ]
 held_pushed s keys key (Some old) held h =
     record {
       asked = Contains-append_left keys (key ∷ []) old h.asked;
       not_held = h.not_held;
-      least = λ other c none. elim (Contains-push_cases keys key other c) [ inl was ↦ h.least other was none | inr is ↦ absurd (held (subst (IsNotHeld s) (sym is) none)) ];
+      least =
+          λ other c none. elim (Contains-push_cases keys key other c)
+          [ inl was ↦ h.least other was none | inr is ↦ absurd (held (subst (IsNotHeld s) (sym is) none)) ];
     }
 
 -- a key that is not held is not below the one found before
-later_pushed : (s : State) (keys : List Key) (key old : Key) → key_cmp key old ≢ Less → IsLeastNotHeld s keys old → IsLeastNotHeld s (keys ++ key ∷ []) old
+later_pushed : (s : State) (keys : List Key) (key old : Key) → key_cmp key old ≢ Less → IsLeastNotHeld s keys old
+    → IsLeastNotHeld s (keys ++ key ∷ []) old
 later_pushed s keys key old above h =
     record {
       asked = Contains-append_left keys (key ∷ []) old h.asked;
       not_held = h.not_held;
-      least = λ other c none. elim (Contains-push_cases keys key other c) [ inl was ↦ h.least other was none | inr is ↦ subst (λ k. key_cmp k old ≢ Less) is above ];
+      least =
+          λ other c none. elim (Contains-push_cases keys key other c)
+          [ inl was ↦ h.least other was none | inr is ↦ subst (λ k. key_cmp k old ≢ Less) is above ];
     }
 
 -- below the least of the keys so far is none of them
 under_least : (key old other : Key) → key_cmp key old ≡ Less → key_cmp other old ≢ Less → key_cmp other key ≢ Less
 under_least key old other lt above low = above (key_order.trans other key old low lt)
 
-first_pushed : (s : State) (keys : List Key) (key : Key) (found : Option Key) → IsNotHeld s key → is_first key found ≡ true → IsFound s keys found → IsLeastNotHeld s (keys ++ key ∷ []) key
+first_pushed : (s : State) (keys : List Key) (key : Key) (found : Option Key) → IsNotHeld s key → is_first key found ≡ true
+    → IsFound s keys found → IsLeastNotHeld s (keys ++ key ∷ []) key
 first_pushed s keys key None alone is h =
     record {
       asked = Contains-push keys key;
       not_held = alone;
-      least = λ other c none. elim (Contains-push_cases keys key other c) [ inl was ↦ absurd (h other was none) | inr e ↦ subst (λ k. key_cmp k key ≢ Less) e (not_below_itself key) ];
+      least =
+          λ other c none. elim (Contains-push_cases keys key other c)
+          [ inl was ↦ absurd (h other was none) | inr e ↦ subst (λ k. key_cmp k key ≢ Less) e (not_below_itself key) ];
     }
 first_pushed s keys key (Some old) alone is h =
     record {
@@ -84,12 +94,14 @@ first_pushed s keys key (Some old) alone is h =
           ];
     }
 
-later_found : (s : State) (keys : List Key) (key : Key) (found : Option Key) → is_first key found ≡ false → IsFound s keys found → IsFound s (keys ++ key ∷ []) found
+later_found : (s : State) (keys : List Key) (key : Key) (found : Option Key) → is_first key found ≡ false → IsFound s keys found
+    → IsFound s (keys ++ key ∷ []) found
 later_found s keys key None is h = cc
 later_found s keys key (Some old) is h = later_pushed s keys key old (not_first key old is) h
 
 -- ---- one more key
-pub found_first : (s : State) (keys : List Key) (i n : ℕ) (key : Key) (found : Option Key) → i < length keys → key ≡ get_or keys i key → n ≡ length (facts_of s key) → n ≡ 0
+pub found_first : (s : State) (keys : List Key) (i n : ℕ) (key : Key) (found : Option Key) → i < length keys → key ≡ get_or keys i key
+    → n ≡ length (facts_of s key) → n ≡ 0
     → is_first key found ≡ true → IsFound s (take i keys) found → IsFound s (take (i + 1) keys) (Some key)
 found_first s keys i n key found lt at len zero is h =
     subst (λ ks. IsLeastNotHeld s ks key) (sym (take_more keys i key lt ∙ ap (λ k. take i keys ++ k ∷ []) (sym at)))
@@ -98,16 +110,19 @@ found_first s keys i n key found lt at len zero is h =
 pub found_later : (s : State) (keys : List Key) (i : ℕ) (key : Key) (found : Option Key) → i < length keys → key ≡ get_or keys i key
     → is_first key found ≡ false → IsFound s (take i keys) found → IsFound s (take (i + 1) keys) found
 found_later s keys i key found lt at is h =
-    subst (λ ks. IsFound s ks found) (sym (take_more keys i key lt ∙ ap (λ k. take i keys ++ k ∷ []) (sym at))) (later_found s (take i keys) key found is h)
+    subst (λ ks. IsFound s ks found) (sym (take_more keys i key lt ∙ ap (λ k. take i keys ++ k ∷ []) (sym at)))
+    (later_found s (take i keys) key found is h)
 
-pub found_held : (s : State) (keys : List Key) (i n : ℕ) (key : Key) (found : Option Key) → i < length keys → key ≡ get_or keys i key → n ≡ length (facts_of s key) → (n ≡ 0 → ⊥)
+pub found_held : (s : State) (keys : List Key) (i n : ℕ) (key : Key) (found : Option Key) → i < length keys → key ≡ get_or keys i key
+    → n ≡ length (facts_of s key) → (n ≡ 0 → ⊥)
     → IsFound s (take i keys) found → IsFound s (take (i + 1) keys) found
 found_held s keys i n key found lt at len some h =
     subst (λ ks. IsFound s ks found) (sym (take_more keys i key lt ∙ ap (λ k. take i keys ++ k ∷ []) (sym at)))
     (held_pushed s (take i keys) key found (some_length (facts_of s key) n len some) h)
 
 -- ---- all keys
-pub found_all : (s : State) (keys : List Key) (i : ℕ) (found : Option Key) → length keys ≤ i → IsFound s (take i keys) found → IsFound s keys found
+pub found_all : (s : State) (keys : List Key) (i : ℕ) (found : Option Key) → length keys ≤ i → IsFound s (take i keys) found
+    → IsFound s keys found
 found_all s keys i found past h = subst (λ ks. IsFound s ks found) (take_all i keys past) h
 
 pub none_asked : (s : State) → IsFound s [] None

@@ -15,7 +15,8 @@ pub first_next : (s : State) (out : List Fact) → out ≡ [] → least s ≡ sl
 first_next s out e = first_fact s ∙ ap (λ xs. slice_get (facts_in s) (length xs)) (sym e)
 
 -- one more is copied
-pub copied_more : (all out : List Fact) (f : Fact) → out ≡ take (length out) all → slice_get all (length out) ≡ Some f → out ++ f ∷ [] ≡ take (length (out ++ f ∷ [])) all
+pub copied_more : (all out : List Fact) (f : Fact) → out ≡ take (length out) all → slice_get all (length out) ≡ Some f
+    → out ++ f ∷ [] ≡ take (length (out ++ f ∷ [])) all
 copied_more all out f w e =
     let lt : length out < length all = slice_get_within all (length out) f e in
     let len : length (out ++ f ∷ []) ≡ length out + 1 = length-append out (f ∷ []) in
@@ -23,7 +24,8 @@ copied_more all out f w e =
     ∙ sym (take_more all (length out) f lt) ∙ ap (λ n. take n all) (sym len)
 
 -- and the next one is at hand
-pub next_more : (s : State) (out : List Fact) (f : Fact) → slice_get (facts_in s) (length out) ≡ Some f → least_above s f ≡ slice_get (facts_in s) (length (out ++ f ∷ []))
+pub next_more : (s : State) (out : List Fact) (f : Fact) → slice_get (facts_in s) (length out) ≡ Some f
+    → least_above s f ≡ slice_get (facts_in s) (length (out ++ f ∷ []))
 next_more s out f e = next_fact s f (length out) e ∙ ap (slice_get (facts_in s)) (sym (length-append out (f ∷ []) ∙ add-one (length out)))
 
 pub none_left : {X : Type 0} (xs : List X) (i : ℕ) → slice_get xs i ≡ None → length xs ≤ i

@@ -59,7 +59,8 @@ impl<S: FactStore> NodeState<S> {
     // Adds the facts of a key that another state holds.
     fn take_of_key(&mut self, other: &NodeState<S>, key: &Key) -> Result<(), AllocError>
         ensures { OnOk result ((f : Fact) →
-            holds self.new f ≡ (holds self.old f || (holds other.now f && same_key key.now f.key))) }
+            holds self.new f
+            ≡ (holds self.old f || (holds other.now f && same_key key.now f.key))) }
     {
         for n in 0..other.count(key) {
             if let Some(fact) = other.nth(key, n) {

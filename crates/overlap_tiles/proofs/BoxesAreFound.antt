@@ -22,7 +22,8 @@ module _ (f : ℕ → Option Area) (g : ℕ) where
       ap (λ (t : Bool). option_map (λ (x : ℕ × Area). x.1) (if t then Some (h, a) else find (λ x. eqb x.0 g) rest)) e ∙ by b
     where
       by : (t : Bool)
-          → option_map (λ (x : ℕ × Area). x.1) (if t then Some (h, a) else find (λ x. eqb x.0 g) rest) ≡ (if t then Some a else area_in rest g)
+          → option_map (λ (x : ℕ × Area). x.1) (if t then Some (h, a) else find (λ x. eqb x.0 g) rest)
+          ≡ (if t then Some a else area_in rest g)
       by true = refl
       by false = refl
 

@@ -22,7 +22,8 @@ demanded_of P (Some s) g area [] e h = absurd (cc)
 demanded_of P o g area (d ∷ ds) e h = by (eqb d.stage g) refl e (λ rest. demanded_of P o g area ds rest (All-tail (λ x. P x.stage) d ds h))
   where
     by : (b : Bool) → eqb d.stage g ≡ b
-        → cut_to o (hull_of_all (map (λ x. x.area) (if b then d ∷ filter (λ x. eqb x.stage g) ds else filter (λ x. eqb x.stage g) ds))) ≡ Some area
+        → cut_to o (hull_of_all (map (λ x. x.area) (if b then d ∷ filter (λ x. eqb x.stage g) ds else filter (λ x. eqb x.stage g) ds)))
+        ≡ Some area
         → (cut_to o (hull_of_all (areas_of g ds)) ≡ Some area → P g) → P g
     by true same cut rest = subst P (eqb-true d.stage g same) (All-head (λ x. P x.stage) d ds h)
     by false other cut rest = rest cut
@@ -54,7 +55,8 @@ module _ (t : Target) (ranked : IsRanked t.job.stages) where
       by (Some s) there (Some a) is =
           let here = region_low boxes r a (low r) is in
           of_body IsLower s.body a
-          (All-weaker (λ x. rank_of t.job.stages (stage_read x) < rank_of t.job.stages r) (λ x. IsLower (stage_read x)) (λ x falls. omega arith) (reads_of s.body) (reads_fall t.job.stages ranked r s there))
+          (All-weaker (λ x. rank_of t.job.stages (stage_read x) < rank_of t.job.stages r) (λ x. IsLower (stage_read x))
+          (λ x falls. omega arith) (reads_of s.body) (reads_fall t.job.stages ranked r s there))
 
   within_low : (n g : ℕ) (a : Area) → box_within t n g ≡ Some a → IsLower g
   within_low zero g a e = absurd (cc)

@@ -42,11 +42,13 @@ tile_less m n h = elim h [
       (ap (λ (o : Ordering). ordering_then o (ordering_then (nat_cmp m.row n.row) (nat_cmp m.col n.col))) (is_equal m.stage n.stage rest.0)
       ∙ elim rest.1 [
         | inl row ↦ ap (λ (o : Ordering). ordering_then o (nat_cmp m.col n.col)) (is_less m.row n.row row)
-        | inr last ↦ (ap (λ (o : Ordering). ordering_then o (nat_cmp m.col n.col)) (is_equal m.row n.row last.0) ∙ is_less m.col n.col last.1)
+        | inr last ↦
+            (ap (λ (o : Ordering). ordering_then o (nat_cmp m.col n.col)) (is_equal m.row n.row last.0) ∙ is_less m.col n.col last.1)
       ])
 ]
 
-pub key_before : (program : List ℕ) (job : Pipeline) (m n : Tile) → IsTileBefore m n → IsKeyBefore (key_of program job m) (key_of program job n)
+pub key_before : (program : List ℕ) (job : Pipeline) (m n : Tile) → IsTileBefore m n
+    → IsKeyBefore (key_of program job m) (key_of program job n)
 unfolding tile_cmp
 key_before program job m n h =
     ap (λ (o : Ordering). ordering_then o (ordering_then (slice_cmp nat_cmp (input_id job) (input_id job)) (tile_cmp m n)))

@@ -53,7 +53,8 @@ is_layout t p made =
       steps = made.steps ∙ ap (λ (ss : List (ℕ × Area)). ss ++ (t.stage, t.region) ∷ []) kept;
       points = made.points ∙ ap (λ (ss : List (ℕ × Area)). points_in ss + point_count t.region) kept
           ∙ sym (points_in-push (inner_steps t) (t.stage, t.region));
-      ranges = subst (λ (n : ℕ). HaveRoom t p.ranges n) size (subst (λ (rs : List (ℕ × ℕ)). HaveRoom t rs (scratch t)) ranges (have_room t));
+      ranges =
+          subst (λ (n : ℕ). HaveRoom t p.ranges n) size (subst (λ (rs : List (ℕ × ℕ)). HaveRoom t rs (scratch t)) ranges (have_room t));
       inlining = made.inlining;
     }
 
@@ -73,7 +74,16 @@ layout_in program job inlining g i j p is =
       area = is.area;
       tile = is.tile;
       layout = record {
-        layout = record { needs = ap (map key_tile) made.needs ∙ tiles_back program job (needs (target_over job inlining g is.area)); steps = made.steps; points = made.points; ranges = made.ranges; inlining = made.inlining };
+        layout =
+            record {
+              needs =
+                  ap (map key_tile) made.needs ∙ tiles_back program job (needs (target_over job inlining g is.area));
+              steps =
+                  made.steps;
+              points = made.points;
+              ranges = made.ranges;
+              inlining = made.inlining;
+            };
         fits = is.plan.fits;
       };
     }

@@ -80,7 +80,8 @@ from_needs t n good h =
           stored = stored;
           area = area;
           boxed = boxed;
-          meets = (cover_exact grid area fits.area (box_inside t g at.stage area good at.there boxed).0 fits.sides tile.0.0 tile.0.1).0 tile.1;
+          meets =
+              (cover_exact grid area fits.area (box_inside t g at.stage area good at.there boxed).0 fits.sides tile.0.0 tile.0.1).0 tile.1;
         })
 
 pub to_needs : (t : Target) (n : Tile) → IsJob t.job → IsNeeded t n → Contains (needs t) n
@@ -94,7 +95,8 @@ to_needs t n good is =
     (Contains-range 0 (length t.job.stages) n.stage (omega arith) (omega arith))
     (subst (λ (ns : List Tile). Contains ns n) (sym list)
     (Contains-map (tile_of_stage n.stage) (cover is.grid is.area) (n.row, n.col)
-    ((cover_exact is.grid is.area fits.area (box_inside t n.stage at.stage is.area good at.there is.boxed).0 fits.sides n.row n.col).1 is.meets)))
+    ((cover_exact is.grid is.area fits.area (box_inside t n.stage at.stage is.area good at.there is.boxed).0 fits.sides n.row n.col).1
+    is.meets)))
 
 -- ---- in order
 

@@ -31,4 +31,7 @@ next_below steps i s total all within is sum =
     let next : points_from total (drop i steps) ≡ points_from (total + point_count (get_or steps i s).area)
     (drop (i + 1) steps) = at_drop_more (points_from total) steps i s within in
     let here : point_count s.area ≡ point_count (get_or steps i s).area = ap (λ (x : Step). point_count x.area) is in
-    omega (arith, begins_below (total + point_count (get_or steps i s).area) (map (λ x. point_count x.1) (map step_view (drop (i + 1) steps))))
+    omega (
+      arith,
+      begins_below (total + point_count (get_or steps i s).area) (map (λ x. point_count x.1) (map step_view (drop (i + 1) steps))),
+    )

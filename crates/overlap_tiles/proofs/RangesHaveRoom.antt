@@ -34,7 +34,8 @@ ends_within : (start : ℕ) (ns : List ℕ) → All (λ r. r.0 + r.1 ≤ start +
 ends_within start [] = All-nil (λ r. r.0 + r.1 ≤ start + 0)
 ends_within start (n ∷ ns) =
     All-cons (λ r. r.0 + r.1 ≤ start + sum (n ∷ ns)) (start, n) (end_to_end (start + n) ns) (omega (arith, sum_by-cons (λ x. x) n ns))
-    (All-weaker (λ r. r.0 + r.1 ≤ start + n + sum ns) (λ r. r.0 + r.1 ≤ start + sum (n ∷ ns)) (λ r h. omega (arith, sum_by-cons (λ x. x) n ns)) (end_to_end (start + n) ns) (ends_within (start + n) ns))
+    (All-weaker (λ r. r.0 + r.1 ≤ start + n + sum ns) (λ r. r.0 + r.1 ≤ start + sum (n ∷ ns))
+    (λ r h. omega (arith, sum_by-cons (λ x. x) n ns)) (end_to_end (start + n) ns) (ends_within (start + n) ns))
 
 -- ranges end to end have room in the sum of their lengths, whichever lives meet
 pub have_room : (t : Target) → HaveRoom t (end_to_end 0 (map (λ s. point_count s.1) (inner_steps t))) (scratch t)

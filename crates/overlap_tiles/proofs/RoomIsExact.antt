@@ -62,7 +62,8 @@ module _ (job : Pipeline) (inlining : List Bool) (t : Tile) where
       ∙ sym (more_is (scratch (target_over job inlining t.stage (tile_area grid t.row t.col))) most_scratch)
       ∙ ap (λ (a : Area). nat_lt most_scratch (scratch (target_over job inlining t.stage a))) (sym is)
 
-  from_bool : lacks_room job inlining t ≡ true → (o : Option Grid) → grid_at job t.stage ≡ o → IsPlanFault job inlining t.stage t.row t.col ScratchTooBig
+  from_bool : lacks_room job inlining t ≡ true → (o : Option Grid) → grid_at job t.stage ≡ o
+      → IsPlanFault job inlining t.stage t.row t.col ScratchTooBig
   from_bool is None there = absurd (false≢true (sym (none_lacks there) ∙ is))
   from_bool is (Some grid) there = by (cases_lt t.row (tile_rows grid)) (cases_lt t.col (tile_cols grid))
     where

@@ -116,7 +116,8 @@ module _ (t : Target) (job : IsJob t.job) where
     in_a_step k g b e inlined here does lower =
         before k g h b a r c here
         (Contains-append_left (inner_steps t) ((t.stage, t.region) ∷ []) (h, a)
-        (Contains-filter (λ x. is_inlined t.inlining x.0) (boxes t) (h, a) (function_listed h a (slice_get_within t.job.stages h s there) (boxed e) is) inlined))
+        (Contains-filter (λ x. is_inlined t.inlining x.0) (boxes t) (h, a)
+        (function_listed h a (slice_get_within t.job.stages h s there) (boxed e) is) inlined))
         does lower holds
 
     in_a_tile : is_function_body s.body ≡ true → has_tiles s.body ≡ true → is_inlined t.inlining h ≡ false → HoldsPoint s.domain r c
@@ -148,9 +149,11 @@ module _ (t : Target) (job : IsJob t.job) where
       by : (body : Body) → both.1.stage.body ≡ body → (i : Bool) → is_inlined t.inlining h ≡ i → IsAvailable t k h r c
       by (plane n) e i inlined = inl (record { stage = both.1.stage; there = both.1.there; number = n; plane = e })
       by (function cases otherwise) e true inlined =
-          inr (inl (in_a_step h both.1.stage both.1.there both.0.area both.0.there r c both.0.holds k g a (ap is_function_body e) inlined here does lower))
+          inr (inl (in_a_step h both.1.stage both.1.there both.0.area both.0.there r c both.0.holds k g a (ap is_function_body e) inlined
+          here does lower))
       by (function cases otherwise) e false inlined =
-          inr (inr (in_a_tile h both.1.stage both.1.there both.0.area both.0.there r c both.0.holds (ap is_function_body e) (ap has_tiles e) inlined both.1.within))
+          inr (inr (in_a_tile h both.1.stage both.1.there both.0.area both.0.there r c both.0.holds (ap is_function_body e) (ap has_tiles e)
+          inlined both.1.within))
       by (accumulator fold bins value bin) e i inlined = absurd (subst IsValued e both.1.valued)
 
   -- a read of stage g, which leads to a lower rank
@@ -182,7 +185,8 @@ reads_available t job target = λ k g s a here is r c holds.
     let inside = (step_in_domain t k g s a job target here is).1 r c holds in
     BodyReads-both (Both (IsInBox t) (IsReadable t.job.stages)) (IsAvailable t k) (IsReadOf t job g) s.body r c
     (taken_at_hand t job k g a here r c) (reads_of_stage t job g s is)
-    (both_body (IsInBox t) (IsReadable t.job.stages) r c s.body (has_what_it_reads t job target g s a is (step_region t k g a here) r c holds) ((job.stages g s is).reads r c inside))
+    (both_body (IsInBox t) (IsReadable t.job.stages) r c s.body
+    (has_what_it_reads t job target g s a is (step_region t k g a here) r c holds) ((job.stages g s is).reads r c inside))
 
 -- what is read is alive at each step up to the one that reads it
 pub lives_last : (job : Pipeline) (ss : List (ℕ × Area)) (k l m : ℕ) → k < l → l ≤ m → IsReadAt job ss k m → LivesMeet job ss k l

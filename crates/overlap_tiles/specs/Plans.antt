@@ -60,7 +60,9 @@ pub record IsFittingPlan (program : List ℕ) (t : Target) (p : Plan) : Type 0 w
 
 -- what is left of a plan without identities
 abbrev pub layout_of : Plan → Layout
-layout_of p = record { needs = map key_tile p.needs; steps = p.steps; points = p.points; ranges = p.ranges; scratch = p.scratch; inlining = p.inlining }
+layout_of p =
+    record
+    { needs = map key_tile p.needs; steps = p.steps; points = p.points; ranges = p.ranges; scratch = p.scratch; inlining = p.inlining }
 
 -- why a target has no layout, and no plan. Memory may be refused at any
 abbrev pub IsTargetFault : Target → PlanFault → Type 0

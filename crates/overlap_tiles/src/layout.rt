@@ -39,7 +39,18 @@ impl<'a> Model for Layout<'a> {
 
     ghost Value = { Outline };
 
-    ghost view = { λ l. record { needs = map need_view l.needs.items; steps = map step_view l.steps.items; points = l.points; ranges = l.ranges.items; scratch = l.scratch; inlining = l.schedule.now.inlining } };
+    ghost view = { λ l. record {
+      needs =
+          map need_view l.needs.items;
+      steps =
+          map step_view l.steps.items;
+      points =
+          l.points;
+      ranges =
+          l.ranges.items;
+      scratch = l.scratch;
+      inlining = l.schedule.now.inlining;
+    } };
 }
 
 // The area of a tile of a function or accumulator.

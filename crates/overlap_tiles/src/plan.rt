@@ -32,7 +32,18 @@ impl<'a> Model for TilePlan<'a> {
 
     ghost Value = { Plan };
 
-    ghost view = { λ p. record { needs = p.needs.items; steps = p.layout.steps; points = p.layout.points; ranges = p.layout.ranges; scratch = p.layout.scratch; inlining = p.layout.inlining } };
+    ghost view = { λ p. record {
+      needs =
+          p.needs.items;
+      steps =
+          p.layout.steps;
+      points =
+          p.layout.points;
+      ranges =
+          p.layout.ranges;
+      scratch = p.layout.scratch;
+      inlining = p.layout.inlining;
+    } };
 }
 
 impl<'a> TilePlan<'a> {

@@ -48,7 +48,8 @@ one_extent side (Err TooWide) (Ok d) h g = absurd (omega (arith, ints, g.most, h
 one_extent side (Err TooWide) (Err Empty) h g = absurd (omega (arith, ints, h, g))
 one_extent side (Err TooWide) (Err TooWide) h g = refl
 
-no_more_bins : (first last : ℤ) (e : Ends) → IsSpanFrom first last e → last <ℤ (first +ℤ pos 4096) → ((first <ℤ negsuc 16383) ⊎ (pos 16384 <ℤ last)) ⊎ ((first +ℤ pos 4096) ≤ℤ last) → ⊥
+no_more_bins : (first last : ℤ) (e : Ends) → IsSpanFrom first last e → last <ℤ (first +ℤ pos 4096)
+    → ((first <ℤ negsuc 16383) ⊎ (pos 16384 <ℤ last)) ⊎ ((first +ℤ pos 4096) ≤ℤ last) → ⊥
 no_more_bins first last e h few (inl far) = reaches_no_further first last e h far
 no_more_bins first last e h few (inr many) = omega (arith, ints, few, many)
 
@@ -73,7 +74,8 @@ same_err : {X : Type 0} (P : Result X IntervalFault → Type 0) (f g : IntervalF
 same_err P f g one h k = let same : ◌≡◌ {A = Result _ IntervalFault} (Err f) (Err g) = one (Err f) (Err g) h k in cc
 
 one_area : (R C : Result Ends IntervalFault → Type 0) → IsFunctional R → IsFunctional C → IsFunctional (IsArea R C)
-one_area R C r c (Ok a) (Ok b) h g = ap Ok (λ i. record { rows = same_ok R a.rows b.rows r h.0 g.0 i; cols = same_ok C a.cols b.cols c h.1 g.1 i })
+one_area R C r c (Ok a) (Ok b) h g =
+    ap Ok (λ i. record { rows = same_ok R a.rows b.rows r h.0 g.0 i; cols = same_ok C a.cols b.cols c h.1 g.1 i })
 one_area R C r c (Ok a) (Err f) h (inl g) = absurd (not_both R a.rows f r h.0 g)
 one_area R C r c (Ok a) (Err f) h (inr g) = absurd (not_both C a.cols f c h.1 g.2)
 one_area R C r c (Err f) (Ok b) (inl h) g = absurd (not_both R b.rows f r g.0 h)
@@ -83,7 +85,8 @@ one_area R C r c (Err f) (Err e) (inl h) (inr g) = absurd (not_both R g.0 f r g.
 one_area R C r c (Err f) (Err e) (inr h) (inl g) = absurd (not_both R h.0 e r h.1 g)
 one_area R C r c (Err f) (Err e) (inr h) (inr g) = ap Err (same_err C f e c h.2 g.2)
 
-one_after : (B : Result Ends IntervalFault → Type 0) (T : Result Area IntervalFault → Type 0) → IsFunctional B → IsFunctional T → IsFunctional (IsAfter B T)
+one_after : (B : Result Ends IntervalFault → Type 0) (T : Result Area IntervalFault → Type 0) → IsFunctional B → IsFunctional T
+    → IsFunctional (IsAfter B T)
 one_after B T b t (Ok x) (Ok y) h g = t (Ok x) (Ok y) h.2 g.2
 one_after B T b t (Ok x) (Err f) h (inl g) = absurd (not_both B h.0 f b h.1 g)
 one_after B T b t (Ok x) (Err f) h (inr g) = absurd (not_both T x f t h.2 g.2)
@@ -100,18 +103,24 @@ one_domain ss (image i) r q h g = one_area _ _ (one_extent (affine_value ss i.ro
 one_domain ss (function f) r q h g =
     one_area (IsSpanOf ss f.row.span) (IsSpanOf ss f.column.span) (one_interval _ _) (one_interval _ _) r q h g
 one_domain ss (accumulator a) r q h g =
-    one_after _ (IsArea (IsSpanOf ss a.row.span) (IsSpanOf ss a.column.span)) (one_bins (affine_value ss a.bins.first) (affine_value ss a.bins.last)) (one_area (IsSpanOf ss a.row.span) (IsSpanOf ss a.column.span) (one_interval _ _) (one_interval _ _)) r q h g
+    one_after _ (IsArea (IsSpanOf ss a.row.span) (IsSpanOf ss a.column.span))
+    (one_bins (affine_value ss a.bins.first) (affine_value ss a.bins.last))
+    (one_area (IsSpanOf ss a.row.span) (IsSpanOf ss a.column.span) (one_interval _ _) (one_interval _ _)) r q h g
 one_domain ss (output o) r q h g = h ∙ sym g
 
-pub one_stage_domain : (ss : List Setting) (ds : List Declaration) (s : Symbol) (r q : Result Area IntervalFault) → IsStageDomain ss ds s r → IsStageDomain ss ds s q → r ≡ q
+pub one_stage_domain : (ss : List Setting) (ds : List Declaration) (s : Symbol) (r q : Result Area IntervalFault) → IsStageDomain ss ds s r
+    → IsStageDomain ss ds s q → r ≡ q
 one_stage_domain ss ds s r q h g =
     one_domain ss h.0 r q h.2 (subst (λ (d : Declaration). IsDomain ss d q) (same_Some g.0 h.0 (sym g.1 ∙ h.1)) g.2)
 
-pub not_ok_and_err : (ss : List Setting) (ds : List Declaration) (s : Symbol) (a : Area) (f : IntervalFault) → IsStageDomain ss ds s (Ok a) → IsStageDomain ss ds s (Err f) → ⊥
+pub not_ok_and_err : (ss : List Setting) (ds : List Declaration) (s : Symbol) (a : Area) (f : IntervalFault) → IsStageDomain ss ds s (Ok a)
+    → IsStageDomain ss ds s (Err f) → ⊥
 not_ok_and_err ss ds s a f ok err = not_both (IsStageDomain ss ds s) a f (one_stage_domain ss ds s) ok err
 
-pub same_area : (ss : List Setting) (ds : List Declaration) (s : Symbol) (a b : Area) → IsStageDomain ss ds s (Ok a) → IsStageDomain ss ds s (Ok b) → a ≡ b
+pub same_area : (ss : List Setting) (ds : List Declaration) (s : Symbol) (a b : Area) → IsStageDomain ss ds s (Ok a)
+    → IsStageDomain ss ds s (Ok b) → a ≡ b
 same_area ss ds s a b h g = same_ok (IsStageDomain ss ds s) a b (one_stage_domain ss ds s) h g
 
-pub same_fault : (ss : List Setting) (ds : List Declaration) (s : Symbol) (f e : IntervalFault) → IsStageDomain ss ds s (Err f) → IsStageDomain ss ds s (Err e) → f ≡ e
+pub same_fault : (ss : List Setting) (ds : List Declaration) (s : Symbol) (f e : IntervalFault) → IsStageDomain ss ds s (Err f)
+    → IsStageDomain ss ds s (Err e) → f ≡ e
 same_fault ss ds s f e h g = same_err (IsStageDomain ss ds s) f e (one_stage_domain ss ds s) h g

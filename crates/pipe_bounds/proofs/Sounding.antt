@@ -57,11 +57,14 @@ named_by m n (output o) h = tt
 
 named_from : (m n : ℕ) (ds : List Declaration) → n + length ds ≤ m → AllByRecursion (λ s. s.item < m) (names_from n ds)
 named_from m n [] h = tt
-named_from m n (d ∷ ds) h = all_both (λ (s : Symbol). s.item < m) (item_names n d) (names_from (n + 1) ds) (named_by m n d (omega (arith, h))) (named_from m (n + 1) ds (omega (arith, h)))
+named_from m n (d ∷ ds) h =
+    all_both (λ (s : Symbol). s.item < m) (item_names n d) (names_from (n + 1) ds) (named_by m n d (omega (arith, h)))
+    (named_from m (n + 1) ds (omega (arith, h)))
 
 all_declared : (ds : List Declaration) → AreDeclared ds (stages_of ds)
 all_declared ds =
-    each_of (λ (s : Symbol). s.item < length ds) (stages_of ds) (all_kept (λ (s : Symbol). s.item < length ds) _ (declared_names ds) (named_from (length ds) 0 ds (omega arith)))
+    each_of (λ (s : Symbol). s.item < length ds) (stages_of ds)
+    (all_kept (λ (s : Symbol). s.item < length ds) _ (declared_names ds) (named_from (length ds) 0 ds (omega arith)))
 
 -- ---- indices
 
@@ -87,14 +90,16 @@ index_is i h = record {
 abbrev Sound : List Symbol → List Access → Type 0
 Sound stages accesses = AllByRecursion (IsSound (length stages)) accesses
 
-read_sound : (stages : List Symbol) (x : List ℕ) (i j : Index) → IsIndex (scale_of i) → IsIndex (scale_of j) → Sound stages (read_at (number_of stages x) i j)
+read_sound : (stages : List Symbol) (x : List ℕ) (i j : Index) → IsIndex (scale_of i) → IsIndex (scale_of j)
+    → Sound stages (read_at (number_of stages x) i j)
 read_sound stages x i j first second = by_number (number_of stages x) refl
   where
     by_number : (o : Option ℕ) → number_of stages x ≡ o → Sound stages (read_at o i j)
     by_number None e = tt
     by_number (Some g) e = ((position_within (λ (d : Symbol). bytes_eq d.name x) stages g e, first, second), tt)
 
-stencil_sound : (stages : List Symbol) (x : List ℕ) (k : List (List ℤ)) → length k ≤ 15 → width_of k ≤ 15 → Sound stages (stencil_at (number_of stages x) k)
+stencil_sound : (stages : List Symbol) (x : List ℕ) (k : List (List ℤ)) → length k ≤ 15 → width_of k ≤ 15
+    → Sound stages (stencil_at (number_of stages x) k)
 stencil_sound stages x k rows columns = by_number (number_of stages x) refl
   where
     by_number : (o : Option ℕ) → number_of stages x ≡ o → Sound stages (stencil_at o k)
@@ -114,12 +119,16 @@ node_sound names stages (binary op a b) h =
 node_sound names stages (literal op a n) h = node_sound names stages a h.0
 node_sound names stages (abs a) h = node_sound names stages a h
 node_sound names stages (clamp a b c) h =
-    let first = both_sound stages (accesses_of stages a) (accesses_of stages b) (node_sound names stages a h.0) (node_sound names stages b h.1) in
+    let first =
+    both_sound stages (accesses_of stages a) (accesses_of stages b) (node_sound names stages a h.0) (node_sound names stages b h.1) in
     both_sound stages (accesses_of stages a ++ accesses_of stages b) (accesses_of stages c) first (node_sound names stages c h.2)
 node_sound names stages (select a r b c d) h =
-    let first = both_sound stages (accesses_of stages a) (accesses_of stages b) (node_sound names stages a h.0) (node_sound names stages b h.1) in
-    let then = both_sound stages (accesses_of stages a ++ accesses_of stages b) (accesses_of stages c) first (node_sound names stages c h.2) in
-    both_sound stages (accesses_of stages a ++ accesses_of stages b ++ accesses_of stages c) (accesses_of stages d) then (node_sound names stages d h.3)
+    let first =
+    both_sound stages (accesses_of stages a) (accesses_of stages b) (node_sound names stages a h.0) (node_sound names stages b h.1) in
+    let then =
+    both_sound stages (accesses_of stages a ++ accesses_of stages b) (accesses_of stages c) first (node_sound names stages c h.2) in
+    both_sound stages (accesses_of stages a ++ accesses_of stages b ++ accesses_of stages c) (accesses_of stages d)
+    then (node_sound names stages d h.3)
 node_sound names stages (stencil x d k) h = stencil_sound stages x k h.2.height.1 h.2.width.1
 
 -- ---- items
@@ -127,12 +136,16 @@ node_sound names stages (stencil x d k) h = stencil_sound stages x k h.2.height.
 abbrev SoundCase : List Symbol → ReadCase → Type 0
 SoundCase stages x = Sound stages x.accesses
 
-branches_sound : (names stages : List Symbol) (row : List ℕ) (bs : List Branch) → All (IsSoundBranch names) bs → AllByRecursion (SoundCase stages) (map (branch_case stages row) bs)
+branches_sound : (names stages : List Symbol) (row : List ℕ) (bs : List Branch) → All (IsSoundBranch names) bs
+    → AllByRecursion (SoundCase stages) (map (branch_case stages row) bs)
 branches_sound names stages row [] h = tt
-branches_sound names stages row (b ∷ bs) h =
-    (node_sound names stages b.value (All-head (IsSoundBranch names) b bs h).value, branches_sound names stages row bs (All-tail (IsSoundBranch names) b bs h))
+branches_sound names stages row (b ∷ bs) h = (
+  node_sound names stages b.value (All-head (IsSoundBranch names) b bs h).value,
+  branches_sound names stages row bs (All-tail (IsSoundBranch names) b bs h),
+)
 
-otherwise_sound : (names stages : List Symbol) (row : List ℕ) (o : Option Node) → ForSome o (accepted.IsSound names) → AllByRecursion (SoundCase stages) (otherwise_cases stages row o)
+otherwise_sound : (names stages : List Symbol) (row : List ℕ) (o : Option Node) → ForSome o (accepted.IsSound names)
+    → AllByRecursion (SoundCase stages) (otherwise_cases stages row o)
 otherwise_sound names stages row None h = tt
 otherwise_sound names stages row (Some a) h = (node_sound names stages a (h a refl), tt)
 
@@ -142,8 +155,11 @@ item_sound names stages (image i) h = tt
 item_sound names stages (function f) h =
     all_both (SoundCase stages) (map (branch_case stages f.row.name) f.cases) (otherwise_cases stages f.row.name f.otherwise)
     (branches_sound names stages f.row.name f.cases h.0) (otherwise_sound names stages f.row.name f.otherwise h.1)
-item_sound names stages (accumulator a) h =
-    (both_sound stages (accesses_of stages a.value) (accesses_of stages a.bin) (node_sound names stages a.value h.0) (node_sound names stages a.bin h.1), tt)
+item_sound names stages (accumulator a) h = (
+  both_sound stages (accesses_of stages a.value) (accesses_of stages a.bin) (node_sound names stages a.value h.0)
+      (node_sound names stages a.bin h.1),
+  tt,
+)
 item_sound names stages (output o) h = tt
 
 -- each read of an accepted program can be taken
@@ -158,6 +174,7 @@ pub checked_declared : (ds items : List Declaration) (stages : List Symbol) → 
 checked_declared ds items stages same is =
     subst (λ xs. AreDeclared xs stages) (sym same) (subst (AreDeclared ds) (sym is) (all_declared ds))
 
-pub checked_sound : (ds items : List Declaration) (stages : List Symbol) → items ≡ ds → AllGood (declared_names ds) ds → AreSoundItems stages items
+pub checked_sound : (ds items : List Declaration) (stages : List Symbol) → items ≡ ds → AllGood (declared_names ds) ds
+    → AreSoundItems stages items
 checked_sound ds items stages same good =
     subst (AreSoundItems stages) (sym same) (all_sound (declared_names ds) stages ds good)

@@ -24,7 +24,8 @@ near_domain ss (accumulator x) a h = (near_span _ _ a.rows h.2.0, near_span _ _ 
 near_domain ss (output o) a h = let never : ⊥ = cc in absurd never
 
 -- and so do their boxes
-pub near_box : (P : ℤ → ℤ → Type 0) (domain box : Area) → IsCutArea P domain (Some box) → IsArea box → InDomainRanges domain → InDomainRanges box
+pub near_box : (P : ℤ → ℤ → Type 0) (domain box : Area) → IsCutArea P domain (Some box) → IsArea box → InDomainRanges domain
+    → InDomainRanges box
 near_box P domain box cut is near = (
   (λ v h. near.0 v ((cut v box.cols.lo).0 (h, (omega (arith, ints), is.cols.ordered))).0.0),
   (λ v h. near.1 v ((cut box.rows.lo v).0 ((omega (arith, ints), is.rows.ordered), h)).0.1),

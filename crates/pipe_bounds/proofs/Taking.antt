@@ -44,7 +44,8 @@ pub reach_columns : (access : Access) (a t : Area) → IsArea a → IsTaken acce
 reach_columns (Read g i j) a t area h = reach_of_image (scale_of j) a.cols t.cols h.1
 reach_columns (Stencil g m n) a t area h = reach_of_widened (n / 2) a.cols t.cols area.cols h.1
 
-pub stays_by_spans : (areas : List Area) (access : Access) (a t d : Area) → IsArea a → IsTaken access a t → slice_get areas (stage_read access) ≡ Some d → StaysWithin t d → Stays areas (HoldsPoint a) access
+pub stays_by_spans : (areas : List Area) (access : Access) (a t d : Area) → IsArea a → IsTaken access a t
+    → slice_get areas (stage_read access) ≡ Some d → StaysWithin t d → Stays areas (HoldsPoint a) access
 stays_by_spans areas access a t d area taken there stays r c box x y row column =
     let rows = reach_rows access a t area taken in
     let columns = reach_columns access a t area taken in
@@ -55,7 +56,8 @@ held_between : (t d : Ends) → Holds d t.lo → Holds d t.hi → IsSubspan t d
 held_between t d first last v h = (omega (arith, ints, first, last, h), omega (arith, ints, first, last, h))
 
 -- the numbers that are taken along an axis are those from one end to the other
-rows_extremes : (access : Access) (a t : Area) → IsArea a → IsReach (TakesRow access) a.rows t.rows → AreExtremes (IsTakenAlong (HoldsPoint a) access Rows) t.rows.lo t.rows.hi
+rows_extremes : (access : Access) (a t : Area) → IsArea a → IsReach (TakesRow access) a.rows t.rows
+    → AreExtremes (IsTakenAlong (HoldsPoint a) access Rows) t.rows.lo t.rows.hi
 rows_extremes access a t area h =
     let column : Holds a.cols a.cols.lo = (omega (arith, ints), area.cols.ordered) in
     record {
@@ -64,7 +66,8 @@ rows_extremes access a t area h =
       between = λ v taken. h.within taken.0 v taken.2.0 taken.3;
     }
 
-columns_extremes : (access : Access) (a t : Area) → IsArea a → IsReach (TakesColumn access) a.cols t.cols → AreExtremes (IsTakenAlong (HoldsPoint a) access Columns) t.cols.lo t.cols.hi
+columns_extremes : (access : Access) (a t : Area) → IsArea a → IsReach (TakesColumn access) a.cols t.cols
+    → AreExtremes (IsTakenAlong (HoldsPoint a) access Columns) t.cols.lo t.cols.hi
 columns_extremes access a t area h =
     let row : Holds a.rows a.rows.lo = (omega (arith, ints), area.rows.ordered) in
     record {
@@ -77,14 +80,18 @@ columns_extremes access a t area h =
 along_held : (Is : ℤ → Type 0) (t d : Ends) → AreExtremes Is t.lo t.hi → ((v : ℤ) → Is v → Holds d v) → IsSubspan t d
 along_held Is t d h all = held_between t d (all t.lo h.first) (all t.hi h.last)
 
-pub leaves_by_spans : (areas : List Area) (access : Access) (a t d : Area) (axis : Axis) (least greatest : ℤ) → IsArea a → IsTaken access a t → slice_get areas (stage_read access) ≡ Some d → LeavesAlong t d axis least greatest → Leaves areas (HoldsPoint a) access axis least greatest
+pub leaves_by_spans : (areas : List Area) (access : Access) (a t d : Area) (axis : Axis) (least greatest : ℤ) → IsArea a
+    → IsTaken access a t → slice_get areas (stage_read access) ≡ Some d → LeavesAlong t d axis least greatest
+    → Leaves areas (HoldsPoint a) access axis least greatest
 leaves_by_spans areas access a t d Rows least greatest area taken there h =
     let extremes = rows_extremes access a t area (reach_rows access a t area taken) in
     record {
       domain = d;
       there = there;
       leaves = λ stays. h.0 (along_held (IsTakenAlong (HoldsPoint a) access Rows) t.rows d.rows extremes stays);
-      extremes = subst (λ v. AreExtremes (IsTakenAlong (HoldsPoint a) access Rows) v greatest) (sym h.1) (subst (AreExtremes (IsTakenAlong (HoldsPoint a) access Rows) t.rows.lo) (sym h.2) extremes);
+      extremes =
+          subst (λ v. AreExtremes (IsTakenAlong (HoldsPoint a) access Rows) v greatest) (sym h.1)
+          (subst (AreExtremes (IsTakenAlong (HoldsPoint a) access Rows) t.rows.lo) (sym h.2) extremes);
       rows = λ e. cc;
     }
 leaves_by_spans areas access a t d Columns least greatest area taken there h =
@@ -94,7 +101,9 @@ leaves_by_spans areas access a t d Columns least greatest area taken there h =
       domain = d;
       there = there;
       leaves = λ stays. h.1 (along_held (IsTakenAlong (HoldsPoint a) access Columns) t.cols d.cols extremes stays);
-      extremes = subst (λ v. AreExtremes (IsTakenAlong (HoldsPoint a) access Columns) v greatest) (sym h.2) (subst (AreExtremes (IsTakenAlong (HoldsPoint a) access Columns) t.cols.lo) (sym h.3) extremes);
+      extremes =
+          subst (λ v. AreExtremes (IsTakenAlong (HoldsPoint a) access Columns) v greatest) (sym h.2)
+          (subst (AreExtremes (IsTakenAlong (HoldsPoint a) access Columns) t.cols.lo) (sym h.3) extremes);
       rows = λ e v taken. h.0 v (rows.within taken.0 v taken.2.0 taken.3);
     }
 
@@ -104,8 +113,10 @@ sound_within count (Stencil g m n) h = h.0
 
 -- the domain of the stage that is read
 -- the domain of the stage that is read
-pub domain_read : (found : List StageBounds) (access : Access) (g : ℕ) (b : StageBounds) (d : Area) → IsSound (length found) access → g ≡ stage_read access → d ≡ (get_or found g b).domain → slice_get (domains_in found) (stage_read access) ≡ Some d
+pub domain_read : (found : List StageBounds) (access : Access) (g : ℕ) (b : StageBounds) (d : Area) → IsSound (length found) access
+    → g ≡ stage_read access → d ≡ (get_or found g b).domain → slice_get (domains_in found) (stage_read access) ≡ Some d
 domain_read found access g b d sound same has =
     slice_get-map (λ (x : StageBounds). x.domain) found (stage_read access)
-    ∙ ap (option_map (λ (x : StageBounds). x.domain)) (slice_get-get_or found (stage_read access) b (sound_within (length found) access sound))
+    ∙ ap (option_map (λ (x : StageBounds). x.domain))
+    (slice_get-get_or found (stage_read access) b (sound_within (length found) access sound))
     ∙ ap (λ k. Some (get_or found k b).domain) (sym same) ∙ ap Some (sym has)

@@ -59,5 +59,6 @@ IsDomain ss (param p) r = r ≡ Err Empty
 IsDomain ss (image i) r = IsArea (IsExtent (affine_value ss i.rows)) (IsExtent (affine_value ss i.columns)) r
 IsDomain ss (function f) r = IsArea (IsSpanOf ss f.row.span) (IsSpanOf ss f.column.span) r
 IsDomain ss (accumulator a) r =
-    IsAfter (IsBins (affine_value ss a.bins.first) (affine_value ss a.bins.last)) (IsArea (IsSpanOf ss a.row.span) (IsSpanOf ss a.column.span)) r
+    IsAfter (IsBins (affine_value ss a.bins.first) (affine_value ss a.bins.last))
+    (IsArea (IsSpanOf ss a.row.span) (IsSpanOf ss a.column.span)) r
 IsDomain ss (output o) r = r ≡ Err Empty

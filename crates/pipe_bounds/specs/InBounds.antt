@@ -163,22 +163,24 @@ pub record IsFirstRead (areas : List Area) (Box : ℤ → ℤ → Type 0) (acces
   pub tells : TellsRead areas Box access k n number f
 
 -- of the cases of stage k
-pub record IsFirstCase (ss : List Setting) (areas : List Area) (domain : Area) (cases : List ReadCase) (k : ℕ) (f : BoundFault) : Type 0 where
-  pub number : ℕ
-  pub place : ReadCase
-  pub there : slice_get cases number ≡ Some place
-  pub before : (n : ℕ) (y : ReadCase) → n < number → slice_get cases n ≡ Some y → AllStay areas (IsInBox ss domain y) y.accesses
-  pub read : IsFirstRead areas (IsInBox ss domain place) place.accesses k number f
+pub record IsFirstCase (ss : List Setting) (areas : List Area) (domain : Area) (cases : List ReadCase) (k : ℕ) (f : BoundFault) : Type 0
+  where
+    pub number : ℕ
+    pub place : ReadCase
+    pub there : slice_get cases number ≡ Some place
+    pub before : (n : ℕ) (y : ReadCase) → n < number → slice_get cases n ≡ Some y → AllStay areas (IsInBox ss domain y) y.accesses
+    pub read : IsFirstRead areas (IsInBox ss domain place) place.accesses k number f
 
 -- of the stages
-pub record IsFirstStage (ss : List Setting) (ds : List Declaration) (stages : List Symbol) (areas : List Area) (f : BoundFault) : Type 0 where
-  pub number : ℕ
-  pub stage : Symbol
-  pub there : slice_get stages number ≡ Some stage
-  pub domain : Area
-  pub has : slice_get areas number ≡ Some domain
-  pub before : (k : ℕ) (y : Symbol) → k < number → slice_get stages k ≡ Some y → StaysAt ss ds stages areas k y
-  pub case : IsFirstCase ss areas domain (stage_cases ds stages stage) number f
+pub record IsFirstStage (ss : List Setting) (ds : List Declaration) (stages : List Symbol) (areas : List Area) (f : BoundFault) : Type 0
+  where
+    pub number : ℕ
+    pub stage : Symbol
+    pub there : slice_get stages number ≡ Some stage
+    pub domain : Area
+    pub has : slice_get areas number ≡ Some domain
+    pub before : (k : ℕ) (y : Symbol) → k < number → slice_get stages k ≡ Some y → StaysAt ss ds stages areas k y
+    pub case : IsFirstCase ss areas domain (stage_cases ds stages stage) number f
 
 -- f tells the first read that leaves what it reads, of a program whose stages have domains
 pub record IsFirstDeparture (ss : List Setting) (ds : List Declaration) (f : BoundFault) : Type 0 where

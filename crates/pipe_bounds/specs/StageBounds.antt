@@ -38,7 +38,8 @@ pub record IsBox (ss : List Setting) (row : List ℕ) (domain : Area) (tests : L
 -- the box of each case, in the order of the text
 pub record AreBoxes (ss : List Setting) (row : List ℕ) (domain : Area) (cases : List Branch) (boxes : List (Option Area)) : Type 0 where
   pub each : length boxes ≡ length cases
-  pub box : (n : ℕ) (b : Branch) (o : Option Area) → slice_get cases n ≡ Some b → slice_get boxes n ≡ Some o → IsBox ss row domain b.condition o
+  pub box : (n : ℕ) (b : Branch) (o : Option Area) → slice_get cases n ≡ Some b → slice_get boxes n ≡ Some o
+      → IsBox ss row domain b.condition o
 
 -- a function's cases have boxes; what stands under no condition has none
 abbrev pub HasBoxes : List Setting → Declaration → Area → List (Option Area) → Type 0

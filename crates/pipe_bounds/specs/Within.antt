@@ -38,8 +38,9 @@ pub record HaveDomains (ss : List Setting) (ds : List Declaration) (stages : Lis
   pub domain : (k : ℕ) (s : Symbol) (a : Area) → slice_get stages k ≡ Some s → slice_get areas k ≡ Some a → IsStageDomain ss ds s (Ok a)
 
 -- stage k is the first without a domain, for this fault of its intervals
-pub record IsFirstFaultyDomain (ss : List Setting) (ds : List Declaration) (stages : List Symbol) (fault : IntervalFault) (k : ℕ) : Type 0 where
-  pub stage : Symbol
-  pub there : slice_get stages k ≡ Some stage
-  pub faulty : IsStageDomain ss ds stage (Err fault)
-  pub before : (i : ℕ) (s : Symbol) → i < k → slice_get stages i ≡ Some s → (a : Area) × IsStageDomain ss ds s (Ok a)
+pub record IsFirstFaultyDomain (ss : List Setting) (ds : List Declaration) (stages : List Symbol) (fault : IntervalFault) (k : ℕ) : Type 0
+  where
+    pub stage : Symbol
+    pub there : slice_get stages k ≡ Some stage
+    pub faulty : IsStageDomain ss ds stage (Err fault)
+    pub before : (i : ℕ) (s : Symbol) → i < k → slice_get stages i ≡ Some s → (a : Area) × IsStageDomain ss ds s (Ok a)

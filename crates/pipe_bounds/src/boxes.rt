@@ -95,7 +95,8 @@ pub(crate) fn case_boxes(
     domain: &Area,
     cases: &[Case],
 ) -> Result<Vec<Option<Area>>, AllocError>
-    ensures { IfOk result (λ v. AreBoxes params.now row.now domain.now (branches cases.now) v.items) }
+    ensures { IfOk result
+        (λ v. AreBoxes params.now row.now domain.now (branches cases.now) v.items) }
 {
     let mut boxes = Vec::new(alloc);
     for case in cases {

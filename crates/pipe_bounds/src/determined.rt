@@ -10,7 +10,8 @@ use crate::fault::BoundFault;
 
 /// No program has two faults at the same values, and none that is in bounds has one. Memory may run out for any.
 pub fn bound_faults_are_determined()
-    ensures one { (ss : List SettingType) (ds : List Declaration) (f g : BoundFault) → IsBoundFault ss ds f → IsBoundFault ss ds g
+    ensures one { (ss : List SettingType) (ds : List Declaration) (f g : BoundFault)
+        → IsBoundFault ss ds f → IsBoundFault ss ds g
         → f ≢ BoundFault.Memory → g ≢ BoundFault.Memory → f ≡ g }
     ensures none { (ss : List SettingType) (ds : List Declaration) (f : BoundFault) → IsInBounds ss ds
         → IsBoundFault ss ds f → f ≡ BoundFault.Memory }

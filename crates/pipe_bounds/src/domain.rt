@@ -50,7 +50,8 @@ fn interval(first: i128, last: i128) -> Result<Span, IntervalFault>
 }
 
 fn interval_of(params: &Params, span: &AffineSpan) -> Result<Span, IntervalFault>
-    ensures { IsInterval (affine_value params.now span.now.first) (affine_value params.now span.now.last) result }
+    ensures { IsInterval (affine_value params.now span.now.first)
+        (affine_value params.now span.now.last) result }
 {
     interval(
         affine_value(params, &span.first),
@@ -78,7 +79,8 @@ fn extent_of(params: &Params, side: &Affine) -> Result<Span, IntervalFault>
 
 // The bins of an accumulator.
 fn bins(params: &Params, accum: &Accum) -> Result<Span, IntervalFault>
-    ensures { IsBins (affine_value params.now accum.now.bins.first) (affine_value params.now accum.now.bins.last) result }
+    ensures { IsBins (affine_value params.now accum.now.bins.first)
+        (affine_value params.now accum.now.bins.last) result }
 {
     let bins = interval_of(params, &accum.bins)?;
     if i128::from(bins.len()) <= MAX_SIZE {
@@ -89,7 +91,8 @@ fn bins(params: &Params, accum: &Accum) -> Result<Span, IntervalFault>
 }
 
 fn image_domain(params: &Params, image: &Image) -> Result<Area, IntervalFault>
-    ensures { IsArea (IsExtent (affine_value params.now image.now.rows)) (IsExtent (affine_value params.now image.now.columns)) result }
+    ensures { IsArea (IsExtent (affine_value params.now image.now.rows))
+        (IsExtent (affine_value params.now image.now.columns)) result }
 {
     let rows = extent_of(params, &image.rows)?;
     let cols = extent_of(params, &image.columns)?;
@@ -97,7 +100,8 @@ fn image_domain(params: &Params, image: &Image) -> Result<Area, IntervalFault>
 }
 
 fn func_domain(params: &Params, func: &Func) -> Result<Area, IntervalFault>
-    ensures { IsArea (IsSpanOf params.now func.now.row.span) (IsSpanOf params.now func.now.column.span) result }
+    ensures { IsArea (IsSpanOf params.now func.now.row.span)
+        (IsSpanOf params.now func.now.column.span) result }
 {
     let rows = interval_of(params, &func.row.span)?;
     let cols = interval_of(params, &func.column.span)?;

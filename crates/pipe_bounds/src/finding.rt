@@ -60,7 +60,8 @@ pub(crate) fn bounds_of_stages(
     stages: &[Symbol],
 ) -> Result<Vec<StageBounds>, BoundFault>
     requires { AreDeclared (declarations items.now) stages.now }
-    ensures { IsAnswer (λ v. AreBoundsOf params.now (declarations items.now) stages.now v.items) (TellsDomain params.now (declarations items.now) stages.now) result }
+    ensures { IsAnswer (λ v. AreBoundsOf params.now (declarations items.now) stages.now v.items)
+        (TellsDomain params.now (declarations items.now) stages.now) result }
 {
     let mut found = Vec::new(alloc);
     for (stage, declared) in stages.iter().enumerate() {

@@ -36,7 +36,10 @@ impl Reader<'_> {
     fn read(&self, case: usize, read: usize, access: &Access, area: &Area) -> Result<(), BoundFault>
         requires sound { IsSound (length self.now.found.now) access.now }
         requires near { InDomainRanges area.now }
-        ensures { IsAnswer (λ _. Stays (domains_in self.now.found.now) (HoldsPoint area.now) access.now) (TellsRead (domains_in self.now.found.now) (HoldsPoint area.now) access.now self.now.stage case read) result }
+        ensures { IsAnswer
+            (λ _. Stays (domains_in self.now.found.now) (HoldsPoint area.now) access.now)
+            (TellsRead (domains_in self.now.found.now) (HoldsPoint area.now) access.now
+            self.now.stage case read) result }
     {
         let taken = taken(access, area);
         match departing(&taken, self.found[access.stage()].domain()) {
@@ -55,7 +58,8 @@ impl Reader<'_> {
     fn accesses(&self, case: usize, accesses: &[Access], area: &Area) -> Result<(), BoundFault>
         requires sound { AreSound (length self.now.found.now) accesses.now }
         requires near { InDomainRanges area.now }
-        ensures { AnswersReads (domains_in self.now.found.now) (HoldsPoint area.now) accesses.now self.now.stage case result }
+        ensures { AnswersReads (domains_in self.now.found.now) (HoldsPoint area.now) accesses.now
+            self.now.stage case result }
     {
         for (read, access) in accesses.iter().enumerate() {
             self.read(case, read, access, area)?;
@@ -64,9 +68,11 @@ impl Reader<'_> {
     }
 
     fn expr(&self, case: usize, value: &Expr, area: &Area) -> Result<(), BoundFault>
-        requires sound { AreSound (length self.now.found.now) (accesses_of self.now.stages.now (view value.now)) }
+        requires sound { AreSound (length self.now.found.now)
+            (accesses_of self.now.stages.now (view value.now)) }
         requires near { InDomainRanges area.now }
-        ensures { AnswersReads (domains_in self.now.found.now) (HoldsPoint area.now) (accesses_of self.now.stages.now (view value.now)) self.now.stage case result }
+        ensures { AnswersReads (domains_in self.now.found.now) (HoldsPoint area.now)
+            (accesses_of self.now.stages.now (view value.now)) self.now.stage case result }
     {
         let accesses = accesses(self.alloc, self.stages, value)?;
         self.accesses(case, &accesses, area)
@@ -79,10 +85,15 @@ impl Reader<'_> {
         case: &Case,
         area: &Option<Area>,
     ) -> Result<(), BoundFault>
-        requires sound { AreSound (length self.now.found.now) (accesses_of self.now.stages.now (view case.now.value)) }
+        requires sound { AreSound (length self.now.found.now)
+            (accesses_of self.now.stages.now (view case.now.value)) }
         requires near { InDomainRanges self.now.domain.now }
-        requires area { IsBox self.now.params.now row.now self.now.domain.now (branch case.now).condition area.now }
-        ensures { AnswersReads (domains_in self.now.found.now) (IsInBox self.now.params.now self.now.domain.now (branch_case self.now.stages.now row.now (branch case.now))) (accesses_of self.now.stages.now (view case.now.value)) self.now.stage number result }
+        requires area { IsBox self.now.params.now row.now self.now.domain.now
+            (branch case.now).condition area.now }
+        ensures { AnswersReads (domains_in self.now.found.now)
+            (IsInBox self.now.params.now self.now.domain.now
+            (branch_case self.now.stages.now row.now (branch case.now)))
+            (accesses_of self.now.stages.now (view case.now.value)) self.now.stage number result }
     {
         match area {
             Some(area) => self.expr(number, &case.value, area),
@@ -91,10 +102,14 @@ impl Reader<'_> {
     }
 
     fn branches(&self, row: &Name, cases: &[Case]) -> Result<(), BoundFault>
-        requires sound { AreSoundCases (length self.now.found.now) (map (branch_case self.now.stages.now row.now) (branches cases.now)) }
+        requires sound { AreSoundCases (length self.now.found.now)
+            (map (branch_case self.now.stages.now row.now) (branches cases.now)) }
         requires near { InDomainRanges self.now.domain.now }
-        requires boxes { AreBoxes self.now.params.now row.now self.now.domain.now (branches cases.now) self.now.boxes.now }
-        ensures { AnswersCases self.now.params.now (domains_in self.now.found.now) self.now.domain.now (map (branch_case self.now.stages.now row.now) (branches cases.now)) self.now.stage result }
+        requires boxes { AreBoxes self.now.params.now row.now self.now.domain.now
+            (branches cases.now) self.now.boxes.now }
+        ensures { AnswersCases self.now.params.now (domains_in self.now.found.now)
+            self.now.domain.now (map (branch_case self.now.stages.now row.now) (branches cases.now))
+            self.now.stage result }
     {
         for (number, case) in cases.iter().enumerate() {
             self.branch(number, row, case, &self.boxes[number])?;
@@ -103,10 +118,14 @@ impl Reader<'_> {
     }
 
     fn func(&self, func: &Func) -> Result<(), BoundFault>
-        requires sound { AreSoundCases (length self.now.found.now) (item_cases self.now.stages.now (function (function_of func.now))) }
+        requires sound { AreSoundCases (length self.now.found.now)
+            (item_cases self.now.stages.now (function (function_of func.now))) }
         requires near { InDomainRanges self.now.domain.now }
-        requires boxes { HasBoxes self.now.params.now (function (function_of func.now)) self.now.domain.now self.now.boxes.now }
-        ensures { AnswersCases self.now.params.now (domains_in self.now.found.now) self.now.domain.now (item_cases self.now.stages.now (function (function_of func.now))) self.now.stage result }
+        requires boxes { HasBoxes self.now.params.now (function (function_of func.now))
+            self.now.domain.now self.now.boxes.now }
+        ensures { AnswersCases self.now.params.now (domains_in self.now.found.now)
+            self.now.domain.now (item_cases self.now.stages.now (function (function_of func.now)))
+            self.now.stage result }
     {
         let cases = func.cases.list();
         self.branches(&func.row.name, cases)?;
@@ -117,9 +136,13 @@ impl Reader<'_> {
     }
 
     fn accum(&self, accum: &Accum) -> Result<(), BoundFault>
-        requires sound { AreSoundCases (length self.now.found.now) (item_cases self.now.stages.now (accumulator (accumulator_of accum.now))) }
+        requires sound { AreSoundCases (length self.now.found.now)
+            (item_cases self.now.stages.now (accumulator (accumulator_of accum.now))) }
         requires near { InDomainRanges self.now.domain.now }
-        ensures { AnswersCases self.now.params.now (domains_in self.now.found.now) self.now.domain.now (item_cases self.now.stages.now (accumulator (accumulator_of accum.now))) self.now.stage result }
+        ensures { AnswersCases self.now.params.now (domains_in self.now.found.now)
+            self.now.domain.now
+            (item_cases self.now.stages.now (accumulator (accumulator_of accum.now))) self.now.stage
+            result }
     {
         let mut found = Vec::new(self.alloc);
         add_accesses(&mut found, self.stages, &accum.value)?;
@@ -129,10 +152,14 @@ impl Reader<'_> {
 
     /// Judges the reads of the stage, which the item declares.
     pub(crate) fn item(&self, item: &Item) -> Result<(), BoundFault>
-        requires sound { AreSoundCases (length self.now.found.now) (item_cases self.now.stages.now (declaration item.now)) }
+        requires sound { AreSoundCases (length self.now.found.now)
+            (item_cases self.now.stages.now (declaration item.now)) }
         requires near { InDomainRanges self.now.domain.now }
-        requires boxes { HasBoxes self.now.params.now (declaration item.now) self.now.domain.now self.now.boxes.now }
-        ensures { AnswersCases self.now.params.now (domains_in self.now.found.now) self.now.domain.now (item_cases self.now.stages.now (declaration item.now)) self.now.stage result }
+        requires boxes { HasBoxes self.now.params.now (declaration item.now) self.now.domain.now
+            self.now.boxes.now }
+        ensures { AnswersCases self.now.params.now (domains_in self.now.found.now)
+            self.now.domain.now (item_cases self.now.stages.now (declaration item.now))
+            self.now.stage result }
     {
         match item {
             Item::Func(func) => self.func(func),

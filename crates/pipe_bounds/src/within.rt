@@ -42,7 +42,10 @@ fn judge_reads(
     requires declared { AreDeclared (declarations items.now) stages.now }
     requires sound { AreSoundItems stages.now (declarations items.now) }
     requires found { AreBoundsOf params.now (declarations items.now) stages.now found.now }
-    ensures { IsAnswer (λ _. AreInBounds params.now (declarations items.now) stages.now (domains_in found.now)) (IsFirstStage params.now (declarations items.now) stages.now (domains_in found.now)) result }
+    ensures { IsAnswer
+        (λ _. AreInBounds params.now (declarations items.now) stages.now (domains_in found.now))
+        (IsFirstStage params.now (declarations items.now) stages.now (domains_in found.now))
+        result }
 {
     for (stage, declared) in stages.iter().enumerate() {
         let here = &found[stage];
@@ -68,7 +71,8 @@ pub fn bounds_by_stage(
     params: &Params,
 ) -> Result<Vec<StageBounds>, BoundFault>
     ensures ok { OnOk result (IsInBounds params.now (content (tree_in checked.now))) }
-    ensures found { IfOk result (λ v. AreBoundsOf params.now (content (tree_in checked.now)) (stages_of (content (tree_in checked.now))) v.items) }
+    ensures found { IfOk result (λ v. AreBoundsOf params.now (content (tree_in checked.now))
+        (stages_of (content (tree_in checked.now))) v.items) }
     ensures fault { IfErr result (IsBoundFault params.now (content (tree_in checked.now))) }
     ensures unset { (n : ℕ) → IsFirstUnset params.now n → result ≡ Err (ParamUnset n) }
 {

@@ -104,14 +104,16 @@ IsSoundItem names (tree.output o) = AreFuncs names o.names × IsWithin 1 65535 o
 
 -- ---- places that are served
 
-parted : (names : List Symbol) (locals : Locals) (xs ys : List Place) → are_served names locals (xs ++ ys) ≡ true → (are_served names locals xs ≡ true) × (are_served names locals ys ≡ true)
+parted : (names : List Symbol) (locals : Locals) (xs ys : List Place) → are_served names locals (xs ++ ys) ≡ true
+    → (are_served names locals xs ≡ true) × (are_served names locals ys ≡ true)
 parted names locals [] ys h = (refl, h)
 parted names locals (x ∷ xs) ys h =
     let both = and_parts (is_served names locals x) (are_served names locals (xs ++ ys)) h in
     let rest = parted names locals xs ys both.1 in
     (and_from (is_served names locals x) (are_served names locals xs) both.0 rest.0, rest.1)
 
-first_of : (names : List Symbol) (locals : Locals) (x : Place) (xs : List Place) → are_served names locals (x ∷ xs) ≡ true → (is_served names locals x ≡ true) × (are_served names locals xs ≡ true)
+first_of : (names : List Symbol) (locals : Locals) (x : Place) (xs : List Place) → are_served names locals (x ∷ xs) ≡ true
+    → (is_served names locals x ≡ true) × (are_served names locals xs ≡ true)
 first_of names locals x xs h = and_parts (is_served names locals x) (are_served names locals xs) h
 
 if_served : (b : Bool) (e : Violation) → is_none (if b then None else Some e) ≡ true → b ≡ true
@@ -151,24 +153,32 @@ side_ok n h = let both = and_parts (n % 2 == 1) (nat_le n 15) h in (same_number 
 
 kernel_ok : (k : List (List ℤ)) → is_none (wrong_kernel k) ≡ true → IsSoundKernel k
 kernel_ok k h =
-    let parts = and_parts (is_side (length k)) (is_side (width_of k) && list_all (λ row. length row == width_of k) k) (if_served _ BadKernel h) in
+    let parts =
+    and_parts (is_side (length k)) (is_side (width_of k) && list_all (λ row. length row == width_of k) k) (if_served _ BadKernel h) in
     let rest = and_parts (is_side (width_of k)) (list_all (λ row. length row == width_of k) k) parts.1 in
     record {
       height = side_ok (length k) parts.0;
       width = side_ok (width_of k) rest.0;
-      one_width = All-weaker (λ row. (length row == width_of k) ≡ true) (λ row. length row ≡ width_of k) (λ row same. same_number (length row) (width_of k) same) k (AllPass-from_list_all (λ row. length row == width_of k) k rest.1);
+      one_width =
+          All-weaker (λ row. (length row == width_of k) ≡ true) (λ row. length row ≡ width_of k)
+          (λ row same. same_number (length row) (width_of k) same) k (AllPass-from_list_all (λ row. length row == width_of k) k rest.1);
     }
 
 -- ---- names
 
 -- what a place allows that takes no variable
-by_kind : (w : Expected) (IsKind : NameKind → Type 0) → ((k : NameKind) → allows w (role_of k) ≡ true → IsKind k) → allows w role.Row ≡ false → allows w role.Column ≡ false → (names : List Symbol) (locals : Locals) (x : List ℕ) → is_none (wrong_name w (role_at names locals x)) ≡ true → IsNameOf IsKind names x
+by_kind : (w : Expected) (IsKind : NameKind → Type 0) → ((k : NameKind) → allows w (role_of k) ≡ true → IsKind k)
+    → allows w role.Row ≡ false → allows w role.Column ≡ false → (names : List Symbol) (locals : Locals) (x : List ℕ)
+    → is_none (wrong_name w (role_at names locals x)) ≡ true → IsNameOf IsKind names x
 by_kind w IsKind kinds no_row no_column names locals x = by (is_it locals.row x) (is_it locals.column x) (declared_at names x) refl
   where
-    declared_by : (d : Symbol) → declared_at names x ≡ Some d → is_none (wrong_name w (Some (role_of d.kind))) ≡ true → IsNameOf IsKind names x
+    declared_by : (d : Symbol) → declared_at names x ≡ Some d → is_none (wrong_name w (Some (role_of d.kind))) ≡ true
+        → IsNameOf IsKind names x
     declared_by d found h = record { declared = d; found = found; kind = kinds d.kind (if_served (allows w (role_of d.kind)) Kind h) }
 
-    by : (b c : Bool) (o : Option Symbol) → declared_at names x ≡ o → is_none (wrong_name w (if b then Some role.Row else (if c then Some role.Column else declared_role o))) ≡ true → IsNameOf IsKind names x
+    by : (b c : Bool) (o : Option Symbol) → declared_at names x ≡ o
+        → is_none (wrong_name w (if b then Some role.Row else (if c then Some role.Column else declared_role o))) ≡ true
+        → IsNameOf IsKind names x
     by true c o found h = absurd (false≢true (sym no_row ∙ if_served (allows w role.Row) Kind h))
     by false true o found h = absurd (false≢true (sym no_column ∙ if_served (allows w role.Column) Kind h))
     by false false None found h = absurd (false≢true h)
@@ -202,7 +212,8 @@ module _ (names : List Symbol) (locals : Locals) where
       let div = first_of names locals (ranged i.div 1 16) [] add.1 in
       record { mul = range_ok i.mul 1 16 mul.0; add = add_ok i.add add.0; div = range_ok i.div 1 16 div.0 }
 
-  both_of : (xs ys : List Place) → are_served names locals (xs ++ ys) ≡ true → (are_served names locals xs ≡ true) × (are_served names locals ys ≡ true)
+  both_of : (xs ys : List Place) → are_served names locals (xs ++ ys) ≡ true
+      → (are_served names locals xs ≡ true) × (are_served names locals ys ≡ true)
   both_of = parted names locals
 
   only_of : (x : Place) → are_served names locals (x ∷ []) ≡ true → is_served names locals x ≡ true
@@ -257,7 +268,8 @@ module _ (names : List Symbol) (locals : Locals) where
   sound_branches (b ∷ bs) h =
       let both = both_of (branch_places b) (branches_places bs) h in
       let parts = both_of (tests_places b.condition) (expr_places b.value) both.0 in
-      All-cons (IsSoundBranch names) b bs (record { tests = sound_tests b.condition parts.0; value = sound b.value parts.1 }) (sound_branches bs both.1)
+      All-cons (IsSoundBranch names) b bs (record { tests = sound_tests b.condition parts.0; value = sound b.value parts.1 })
+      (sound_branches bs both.1)
 
   sound_otherwise : (o : Option Node) → are_served names locals (otherwise_places o) ≡ true → ForSome o (IsSound names)
   sound_otherwise None h = λ a is. absurd (cc)

@@ -53,7 +53,8 @@ same_twice names ds m n h k = by_order (cases_lt m n) (cases_lt n m)
     by_order (inr l) (inl p) = absurd (h.first n k.item p k.there k.twice)
     by_order (inr l) (inr p) = omega arith
 
-same_wrong : (names : List Symbol) (ds : List Declaration) (v w : Violation) (m n : ℕ) → IsFirstWrong names ds v m → IsFirstWrong names ds w n → (m ≡ n) × (v ≡ w)
+same_wrong : (names : List Symbol) (ds : List Declaration) (v w : Violation) (m n : ℕ) → IsFirstWrong names ds v m
+    → IsFirstWrong names ds w n → (m ≡ n) × (v ≡ w)
 same_wrong names ds v w m n h k = by_order (cases_lt m n) (cases_lt n m)
   where
     by_order : (m < n) ⊎ (n ≤ m) → (n < m) ⊎ (m ≤ n) → (m ≡ n) × (v ≡ w)
@@ -76,7 +77,8 @@ same_wrong names ds v w m n h k = by_order (cases_lt m n) (cases_lt n m)
 
 data Told (ds : List Declaration) (f : CheckFault) : Type 0 where
   TwiceTold : (n : ℕ) → IsFirstTwice (declared_names ds) ds n → f ≡ Twice n → Told ds f
-  WrongTold : (w : Violation) (n : ℕ) → NoneTwice (declared_names ds) ds → IsFirstWrong (declared_names ds) ds w n → f ≡ fault_of w n → Told ds f
+  WrongTold : (w : Violation) (n : ℕ) → NoneTwice (declared_names ds) ds → IsFirstWrong (declared_names ds) ds w n → f ≡ fault_of w n
+      → Told ds f
   ResultTold : IsNamed ds → list_any is_result ds ≡ false → f ≡ NoResult → Told ds f
   CycleTold : (c : List ℕ) → IsNamed ds → list_any is_result ds ≡ true → IsShortestCycle (graph_of ds) c → f ≡ Cycle c → Told ds f
 

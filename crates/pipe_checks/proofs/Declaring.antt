@@ -34,7 +34,8 @@ some_any : {X : Type 0} (p : X → Bool) (n : ℕ) (xs : List X) → is_some (po
 some_any p n [] = refl
 some_any p n (x ∷ xs) = by (p x) (some_any p (n + 1) xs)
   where
-    by : (b : Bool) → is_some (position_from p (n + 1) xs) ≡ list_any p xs → is_some (cond b (Some n) (position_from p (n + 1) xs)) ≡ (b || list_any p xs)
+    by : (b : Bool) → is_some (position_from p (n + 1) xs) ≡ list_any p xs
+        → is_some (cond b (Some n) (position_from p (n + 1) xs)) ≡ (b || list_any p xs)
     by true later = refl
     by false later = later
 
@@ -52,7 +53,8 @@ unfolding is_here
 put_any [] s x = refl
 put_any (d ∷ ds) s x = by (bytes_eq d.name s.name) ((bytes_eq-Decides d.name s.name).0) (put_any ds s x)
   where
-    by : (b : Bool) → (b ≡ true → d.name ≡ s.name) → list_any (is_here x) (put ds s) ≡ list_any (is_here x) (ds ++ s ∷ []) → list_any (is_here x) (if b then s ∷ ds else d ∷ put ds s) ≡ (is_here x d || list_any (is_here x) (ds ++ s ∷ []))
+    by : (b : Bool) → (b ≡ true → d.name ≡ s.name) → list_any (is_here x) (put ds s) ≡ list_any (is_here x) (ds ++ s ∷ [])
+        → list_any (is_here x) (if b then s ∷ ds else d ∷ put ds s) ≡ (is_here x d || list_any (is_here x) (ds ++ s ∷ []))
     by true same later =
         ap (λ (n : List ℕ). bytes_eq n x || list_any (is_here x) ds) (sym (same refl)) ∙ or_three (is_here x d) (list_any (is_here x) ds)
         ∙ ap (λ (n : List ℕ). is_here x d || (list_any (is_here x) ds || (bytes_eq n x || false))) (same refl)
@@ -62,7 +64,8 @@ put_any (d ∷ ds) s x = by (bytes_eq d.name s.name) ((bytes_eq-Decides d.name s
 known_put : (ds : List Symbol) (s : Symbol) (x : List ℕ) → is_some (number_of (put ds s) x) ≡ is_some (number_of (ds ++ s ∷ []) x)
 known_put ds s x = known_any (put ds s) x ∙ put_any ds s x ∙ sym (known_any (ds ++ s ∷ []) x)
 
-known_append : (ds es : List Symbol) (s : Symbol) (x : List ℕ) → is_some (number_of ds x) ≡ is_some (number_of es x) → is_some (number_of (ds ++ s ∷ []) x) ≡ is_some (number_of (es ++ s ∷ []) x)
+known_append : (ds es : List Symbol) (s : Symbol) (x : List ℕ) → is_some (number_of ds x) ≡ is_some (number_of es x)
+    → is_some (number_of (ds ++ s ∷ []) x) ≡ is_some (number_of (es ++ s ∷ []) x)
 known_append ds es s x e =
     known_any (ds ++ s ∷ []) x ∙ list_any-append (is_here x) ds (s ∷ [])
     ∙ ap (λ b. b || list_any (is_here x) (s ∷ [])) (sym (known_any ds x) ∙ e ∙ known_any es x)
@@ -73,18 +76,22 @@ unfolding is_here
 put_new [] s h = refl
 put_new (d ∷ ds) s h = by (bytes_eq d.name s.name) h (put_new ds s)
   where
-    by : (b : Bool) → (b || list_any (λ (e : Symbol). bytes_eq e.name s.name) ds) ≡ false → (list_any (λ (e : Symbol). bytes_eq e.name s.name) ds ≡ false → put ds s ≡ ds ++ s ∷ []) → (if b then s ∷ ds else d ∷ put ds s) ≡ d ∷ (ds ++ s ∷ [])
+    by : (b : Bool) → (b || list_any (λ (e : Symbol). bytes_eq e.name s.name) ds) ≡ false
+        → (list_any (λ (e : Symbol). bytes_eq e.name s.name) ds ≡ false → put ds s ≡ ds ++ s ∷ [])
+        → (if b then s ∷ ds else d ∷ put ds s) ≡ d ∷ (ds ++ s ∷ [])
     by true none later = absurd (false≢true (sym none))
     by false none later = ap (λ l. d ∷ l) (later none)
 
 -- ---- which are there again
 
-get_more : {X : Type 0} (xs ys : List X) (k : ℕ) (x : X) → slice_get xs k ≡ Some x → (slice_get (xs ++ ys) k ≡ Some x) × (take k (xs ++ ys) ≡ take k xs)
+get_more : {X : Type 0} (xs ys : List X) (k : ℕ) (x : X) → slice_get xs k ≡ Some x
+    → (slice_get (xs ++ ys) k ≡ Some x) × (take k (xs ++ ys) ≡ take k xs)
 get_more [] ys k x e = absurd (none-some x e)
 get_more (z ∷ xs) ys zero x e = (e, refl)
 get_more (z ∷ xs) ys (suc k) x e = let later = get_more xs ys k x e in (later.0, ap (λ l. z ∷ l) later.1)
 
-get_split : {X : Type 0} (xs : List X) (y : X) (k : ℕ) (x : X) → slice_get (xs ++ y ∷ []) k ≡ Some x → ((slice_get xs k ≡ Some x) × (take k (xs ++ y ∷ []) ≡ take k xs)) ⊎ ((y ≡ x) × (take k (xs ++ y ∷ []) ≡ xs))
+get_split : {X : Type 0} (xs : List X) (y : X) (k : ℕ) (x : X) → slice_get (xs ++ y ∷ []) k ≡ Some x
+    → ((slice_get xs k ≡ Some x) × (take k (xs ++ y ∷ []) ≡ take k xs)) ⊎ ((y ≡ x) × (take k (xs ++ y ∷ []) ≡ xs))
 get_split [] y zero x e = inr (same_Some y x e, refl)
 get_split [] y (suc k) x e = absurd (none-some x e)
 get_split (z ∷ xs) y zero x e = inl (e, refl)
@@ -97,7 +104,15 @@ module _ (names : List Symbol) (s : Symbol) where
   more_again : (n : ℕ) → DeclaresAgain names n → DeclaresAgain (names ++ s ∷ []) n
   more_again n h =
       let m = get_more names (s ∷ []) h.place h.again h.there in
-      record { place = h.place; again = h.again; there = m.0; item = h.item; before = subst (λ l. IsTrue (is_some (number_of l h.again.name))) (sym m.1) h.before }
+      record {
+        place =
+            h.place;
+        again =
+            h.again;
+        there = m.0;
+        item = h.item;
+        before = subst (λ l. IsTrue (is_some (number_of l h.again.name))) (sym m.1) h.before;
+      }
 
   here_again : is_some (number_of names s.name) ≡ true → DeclaresAgain (names ++ s ∷ []) s.item
   here_again h = record {
@@ -108,14 +123,28 @@ module _ (names : List Symbol) (s : Symbol) where
     before = subst (λ l. IsTrue (is_some (number_of l s.name))) (sym (take-append_seam names (s ∷ []))) h;
   }
 
-  split_again : (n : ℕ) → DeclaresAgain (names ++ s ∷ []) n → DeclaresAgain names n ⊎ ((s.item ≡ n) × (is_some (number_of names s.name) ≡ true))
+  split_again : (n : ℕ) → DeclaresAgain (names ++ s ∷ []) n
+      → DeclaresAgain names n ⊎ ((s.item ≡ n) × (is_some (number_of names s.name) ≡ true))
   split_again n h = elim (get_split names s h.place h.again h.there) [
-    | inl a ↦ inl (record { place = h.place; again = h.again; there = a.0; item = h.item; before = subst (λ l. IsTrue (is_some (number_of l h.again.name))) a.1 h.before })
-    | inr b ↦ inr (ap (λ (d : Symbol). d.item) b.0 ∙ h.item, ap (λ (d : Symbol). is_some (number_of names d.name)) b.0 ∙ subst (λ l. IsTrue (is_some (number_of l h.again.name))) b.1 h.before)
+    | inl a ↦ inl (record {
+      place =
+          h.place;
+      again =
+          h.again;
+      there = a.0;
+      item = h.item;
+      before = subst (λ l. IsTrue (is_some (number_of l h.again.name))) a.1 h.before;
+    })
+    | inr b ↦ inr (
+      ap (λ (d : Symbol). d.item) b.0 ∙ h.item,
+      ap (λ (d : Symbol). is_some (number_of names d.name)) b.0 ∙ subst (λ l. IsTrue (is_some (number_of l h.again.name))) b.1 h.before,
+    )
   ]
 
-  first_here : (a : Option ℕ) → IsFirstAgain names a → is_some (number_of names s.name) ≡ true → IsFirstAgain (names ++ s ∷ []) (Some (earlier a s.item))
-  first_here None h known = (here_again known, λ k l again. elim (split_again k again) [ inl old ↦ h k old | inr new ↦ absurd (omega (arith, new.0, l)) ])
+  first_here : (a : Option ℕ) → IsFirstAgain names a → is_some (number_of names s.name) ≡ true
+      → IsFirstAgain (names ++ s ∷ []) (Some (earlier a s.item))
+  first_here None h known =
+      (here_again known, λ k l again. elim (split_again k again) [ inl old ↦ h k old | inr new ↦ absurd (omega (arith, new.0, l)) ])
   first_here (Some m) h known = (
     elim (cases_lt m s.item) [
       | inl l ↦ subst (DeclaresAgain (names ++ s ∷ [])) (omega (arith, l)) (more_again m h.0)
@@ -126,16 +155,26 @@ module _ (names : List Symbol) (s : Symbol) where
 
   first_later : (a : Option ℕ) → IsFirstAgain names a → is_some (number_of names s.name) ≡ false → IsFirstAgain (names ++ s ∷ []) a
   first_later None h new = λ n again. elim (split_again n again) [ inl old ↦ h n old | inr known ↦ false≢true (sym new ∙ known.1) ]
-  first_later (Some m) h new = (more_again m h.0, λ k l again. elim (split_again k again) [ inl old ↦ h.1 k l old | inr known ↦ false≢true (sym new ∙ known.1) ])
+  first_later (Some m) h new =
+      (more_again m h.0, λ k l again. elim (split_again k again) [ inl old ↦ h.1 k l old | inr known ↦ false≢true (sym new ∙ known.1) ])
 
 -- ---- one more
 
-module _ (names : List Symbol) (d : Declared) (s : Symbol) (h : IsTableOf names d) (known : Bool) (is : known ≡ is_some (number_of d.table s.name)) where
+module _ (names : List Symbol) (d : Declared) (s : Symbol) (h : IsTableOf names d) (known : Bool)
+    (is : known ≡ is_some (number_of d.table s.name)) where
   known_more : (x : List ℕ) → is_some (number_of (put d.table s) x) ≡ is_some (number_of (names ++ s ∷ []) x)
   known_more x = known_put d.table s x ∙ known_append d.table names s x (h.known x)
 
   pub table_here : known ≡ true → IsTableOf (names ++ s ∷ []) (record { table = put d.table s; again = Some (earlier d.again s.item) })
-  table_here holds = record { known = known_more; whole = λ e. absurd (none-some (earlier d.again s.item) (sym e)); first = first_here names s d.again h.first (sym (h.known s.name) ∙ sym is ∙ holds) }
+  table_here holds =
+      record {
+        known =
+            known_more;
+        whole =
+            λ e. absurd (none-some (earlier d.again s.item) (sym e));
+        first =
+            first_here names s d.again h.first (sym (h.known s.name) ∙ sym is ∙ holds);
+      }
 
   pub table_later : known ≡ false → IsTableOf (names ++ s ∷ []) (record { table = put d.table s; again = d.again })
   table_later fails = record {
@@ -147,14 +186,19 @@ module _ (names : List Symbol) (d : Declared) (s : Symbol) (h : IsTableOf names 
 pub table_none : IsTableOf [] (record { table = []; again = None })
 table_none = record { known = λ x. refl; whole = λ e. refl; first = λ n again. none-some again.again again.there }
 
-pub table_turn : (names : List Symbol) (i : ℕ) (s : Symbol) → i < length names → s ≡ get_or names i s → (d next : Declared) → IsTableOf (take i names) d → (known : Bool) → known ≡ is_some (number_of d.table s.name)
-    → next.table ≡ put d.table s → next.again ≡ (if known then Some (earlier d.again s.item) else d.again) → IsTableOf (take (i + 1) names) next
+pub table_turn : (names : List Symbol) (i : ℕ) (s : Symbol) → i < length names → s ≡ get_or names i s → (d next : Declared)
+    → IsTableOf (take i names) d → (known : Bool) → known ≡ is_some (number_of d.table s.name)
+    → next.table ≡ put d.table s → next.again ≡ (if known then Some (earlier d.again s.item) else d.again)
+    → IsTableOf (take (i + 1) names) next
 table_turn names i s l at d next h known is table again =
     let more : take (i + 1) names ≡ take i names ++ s ∷ [] = take_more names i s l ∙ ap (λ (x : Symbol). take i names ++ x ∷ []) (sym at) in
-    let whole : record { table = put d.table s; again = if known then Some (earlier d.again s.item) else d.again } ≡ next = λ j. record { table = sym table j; again = sym again j } in
+    let whole : record { table = put d.table s; again = if known then Some (earlier d.again s.item) else d.again } ≡ next =
+    λ j. record { table = sym table j; again = sym again j } in
     subst (λ ns. IsTableOf ns next) (sym more) (subst (IsTableOf (take i names ++ s ∷ [])) whole (by known is refl))
   where
-    by : (b : Bool) → b ≡ is_some (number_of d.table s.name) → b ≡ known → IsTableOf (take i names ++ s ∷ []) (record { table = put d.table s; again = if b then Some (earlier d.again s.item) else d.again })
+    by : (b : Bool) → b ≡ is_some (number_of d.table s.name) → b ≡ known
+        → IsTableOf (take i names ++ s ∷ [])
+        (record { table = put d.table s; again = if b then Some (earlier d.again s.item) else d.again })
     by true e same = table_here (take i names) d s h true e refl
     by false e same = table_later (take i names) d s h false e refl
 
@@ -180,7 +224,8 @@ names_come n [] = All-nil (Comes n [])
 names_come n (d ∷ ds) =
     All-append (Comes n (d ∷ ds)) (item_names n d) (names_from (n + 1) ds)
     (All-weaker (λ x. x.item ≡ n) (Comes n (d ∷ ds)) (λ x e. (0, e ∙ omega arith, d, refl)) (item_names n d) (item_comes n d))
-    (All-weaker (Comes (n + 1) ds) (Comes n (d ∷ ds)) (λ x c. (suc c.0, c.1 ∙ omega arith, c.2, c.3)) (names_from (n + 1) ds) (names_come (n + 1) ds))
+    (All-weaker (Comes (n + 1) ds) (Comes n (d ∷ ds)) (λ x c. (suc c.0, c.1 ∙ omega arith, c.2, c.3)) (names_from (n + 1) ds)
+    (names_come (n + 1) ds))
 
 -- the first item that declares a name again is an item
 pub again_there : (ds : List Declaration) (n : ℕ) → DeclaresAgain (declared_names ds) n → (d : Declaration) × (slice_get ds n ≡ Some d)
@@ -189,7 +234,8 @@ again_there ds n h =
     (c.2, subst (λ k. slice_get ds k ≡ Some c.2) (omega (arith, c.1, h.item)) c.3)
 
 -- an item that is passed declares no name again
-pub passed_again : (names : List Symbol) (a : Option ℕ) (n : ℕ) → IsFirstAgain names a → ((k : ℕ) → k < n → a ≡ Some k → ⊥) → is_number a n ≡ false → ¬ (DeclaresAgain names n)
+pub passed_again : (names : List Symbol) (a : Option ℕ) (n : ℕ) → IsFirstAgain names a → ((k : ℕ) → k < n → a ≡ Some k → ⊥)
+    → is_number a n ≡ false → ¬ (DeclaresAgain names n)
 passed_again names None n first before not_here again = first n again
 passed_again names (Some m) n first before not_here again = elim (cases_lt m n) [
   | inl less ↦ before m less refl
@@ -211,12 +257,14 @@ not_number (Some m) n k l none before e = elim (cases_lt k n) [
 ]
 
 -- where all items are passed, no name is declared again
-pub none_again : (ds : List Declaration) (a : Option ℕ) → IsFirstAgain (declared_names ds) a → ((k : ℕ) → k < length ds → a ≡ Some k → ⊥) → a ≡ None
+pub none_again : (ds : List Declaration) (a : Option ℕ) → IsFirstAgain (declared_names ds) a → ((k : ℕ) → k < length ds → a ≡ Some k → ⊥)
+    → a ≡ None
 none_again ds None first passed = refl
 none_again ds (Some n) first passed = let t = again_there ds n first.0 in absurd (passed n (slice_get_within ds n t.0 t.1) refl)
 
 -- a variable is a name of the table where it is a declared one
-pub varies_same : (names table : List Symbol) (locals : Locals) → ((x : List ℕ) → is_some (number_of table x) ≡ is_some (number_of names x)) → varies_again table locals ≡ varies_again names locals
+pub varies_same : (names table : List Symbol) (locals : Locals) → ((x : List ℕ) → is_some (number_of table x) ≡ is_some (number_of names x))
+    → varies_again table locals ≡ varies_again names locals
 varies_same names table locals same =
     ap (λ b. are_same locals.row locals.column || b || is_declared table locals.column) (by locals.row)
     ∙ ap (λ b. are_same locals.row locals.column || is_declared names locals.row || b) (by locals.column)

@@ -19,7 +19,8 @@ and_then_last : (v : Verdict) → and_then v (Ok tt) ≡ v
 and_then_last (Ok tt) = refl
 and_then_last (Err e) = refl
 
-pub judged_append : (names : List Symbol) (locals : Locals) (xs ys : List Place) → judged names locals (xs ++ ys) ≡ and_then (judged names locals xs) (judged names locals ys)
+pub judged_append : (names : List Symbol) (locals : Locals) (xs ys : List Place)
+    → judged names locals (xs ++ ys) ≡ and_then (judged names locals xs) (judged names locals ys)
 judged_append names locals [] ys = refl
 judged_append names locals (x ∷ xs) ys =
     ap (and_then (verdict (wrong_at names locals x))) (judged_append names locals xs ys)
@@ -31,17 +32,25 @@ judged_one names locals x = and_then_last (verdict (wrong_at names locals x))
 -- ---- loops
 
 -- one turn of a loop over what has places
-module _ {X : Type 0} (names : List Symbol) (locals : Locals) (places : X → List Place) (all : List X → List Place) (step : (x : X) (xs : List X) → all (x ∷ xs) ≡ places x ++ all xs) (xs : List X) (i : ℕ) (x : X) (h : i < length xs) (is : x ≡ get_or xs i x) where
-  turn : (v : Verdict) → v ≡ judged names locals (places x) → judged names locals (all (drop i xs)) ≡ and_then v (judged names locals (all (drop (i + 1) xs)))
+module _ {X : Type 0} (names : List Symbol) (locals : Locals) (places : X → List Place) (all : List X → List Place)
+    (step : (x : X) (xs : List X) → all (x ∷ xs) ≡ places x ++ all xs) (xs : List X) (i : ℕ) (x : X) (h : i < length xs)
+    (is : x ≡ get_or xs i x) where
+  turn : (v : Verdict) → v ≡ judged names locals (places x)
+      → judged names locals (all (drop i xs)) ≡ and_then v (judged names locals (all (drop (i + 1) xs)))
   turn v e =
-      ap (judged names locals) (ap all (next_of xs i x h is) ∙ step x (drop (i + 1) xs)) ∙ judged_append names locals (places x) (all (drop (i + 1) xs))
+      ap (judged names locals) (ap all (next_of xs i x h is) ∙ step x (drop (i + 1) xs))
+      ∙ judged_append names locals (places x) (all (drop (i + 1) xs))
       ∙ ap (λ w. and_then w (judged names locals (all (drop (i + 1) xs)))) (sym e)
 
-  pub turn_holds : (v : Verdict) → v ≡ judged names locals (places x) → v ≡ Ok tt → judged names locals (all (drop i xs)) ≡ judged names locals (all xs) → judged names locals (all (drop (i + 1) xs)) ≡ judged names locals (all xs)
+  pub turn_holds : (v : Verdict) → v ≡ judged names locals (places x) → v ≡ Ok tt
+      → judged names locals (all (drop i xs)) ≡ judged names locals (all xs)
+      → judged names locals (all (drop (i + 1) xs)) ≡ judged names locals (all xs)
   turn_holds v e good inv = sym (turn v e ∙ ap (λ w. and_then w (judged names locals (all (drop (i + 1) xs)))) good) ∙ inv
 
-  pub turn_fails : (v : Verdict) (w : Violation) (r : Verdict) → v ≡ judged names locals (places x) → v ≡ Err w → judged names locals (all (drop i xs)) ≡ judged names locals (all xs) → r ≡ Err w → r ≡ judged names locals (all xs)
-  turn_fails v w r e fails inv told = told ∙ sym (sym inv ∙ turn v e ∙ ap (λ u. and_then u (judged names locals (all (drop (i + 1) xs)))) fails)
+  pub turn_fails : (v : Verdict) (w : Violation) (r : Verdict) → v ≡ judged names locals (places x) → v ≡ Err w
+      → judged names locals (all (drop i xs)) ≡ judged names locals (all xs) → r ≡ Err w → r ≡ judged names locals (all xs)
+  turn_fails v w r e fails inv told =
+      told ∙ sym (sym inv ∙ turn v e ∙ ap (λ u. and_then u (judged names locals (all (drop (i + 1) xs)))) fails)
 
 -- ---- what a verdict says of the places
 
@@ -50,7 +59,8 @@ module _ (names : List Symbol) (locals : Locals) where
   served_judged [] h = refl
   served_judged (p ∷ ps) h = by_wrong (wrong_at names locals p) h (served_judged ps)
     where
-      by_wrong : (o : Option Violation) → (is_none o && are_served names locals ps) ≡ true → (are_served names locals ps ≡ true → judged names locals ps ≡ Ok tt) → and_then (verdict o) (judged names locals ps) ≡ Ok tt
+      by_wrong : (o : Option Violation) → (is_none o && are_served names locals ps) ≡ true
+          → (are_served names locals ps ≡ true → judged names locals ps ≡ Ok tt) → and_then (verdict o) (judged names locals ps) ≡ Ok tt
       by_wrong None holds later = later holds
       by_wrong (Some w) holds later = absurd (false≢true holds)
 
@@ -64,7 +74,8 @@ module _ (names : List Symbol) (locals : Locals) where
   judged_served [] h = refl
   judged_served (p ∷ ps) h = by_wrong (wrong_at names locals p) h (judged_served ps)
     where
-      by_wrong : (o : Option Violation) → and_then (verdict o) (judged names locals ps) ≡ Ok tt → (judged names locals ps ≡ Ok tt → are_served names locals ps ≡ true) → (is_none o && are_served names locals ps) ≡ true
+      by_wrong : (o : Option Violation) → and_then (verdict o) (judged names locals ps) ≡ Ok tt
+          → (judged names locals ps ≡ Ok tt → are_served names locals ps ≡ true) → (is_none o && are_served names locals ps) ≡ true
       by_wrong None holds later = later holds
       by_wrong (Some w) holds later = absurd (ok_not_err w (sym holds))
 
@@ -82,7 +93,8 @@ module _ (names : List Symbol) (locals : Locals) where
         is = later.is;
       }
 
-      by_wrong : (o : Option Violation) → wrong_at names locals p ≡ o → and_then (verdict o) (judged names locals ps) ≡ Err w → (judged names locals ps ≡ Err w → IsFirstUnserved names locals ps w) → IsFirstUnserved names locals (p ∷ ps) w
+      by_wrong : (o : Option Violation) → wrong_at names locals p ≡ o → and_then (verdict o) (judged names locals ps) ≡ Err w
+          → (judged names locals ps ≡ Err w → IsFirstUnserved names locals ps w) → IsFirstUnserved names locals (p ∷ ps) w
       by_wrong None e holds later = behind e (later holds)
       by_wrong (Some v) e holds later = record { before = []; place = p; after = ps; parts = refl; served = refl; is = e ∙ ap Some (cc) }
 

@@ -56,23 +56,33 @@ ranked_of g ranks h = record { each = h.each; plane = λ s p. plane s p (cases_l
 
     above : (s t : ℕ) → (IsPlane g s → ⊥) → Reads g s t → slice_index ranks t < slice_index ranks s
     above s t n r =
-        omega (arith, h.rank s (reads_within g s t r), rank_of_other (slice_index ranks) (links_at g s) n, at_most_greatest (slice_index ranks) (links_at g s).reads r.0 t r.1 r.2)
+        omega (
+          arith,
+          h.rank s (reads_within g s t r),
+          rank_of_other (slice_index ranks) (links_at g s) n,
+          at_most_greatest (slice_index ranks) (links_at g s).reads r.0 t r.1 r.2,
+        )
 
 -- one stage, where all below it have no greater rank than elsewhere
-no_greater : (g : List Links) (ranks others : List ℕ) (s : ℕ) → Recurs g ranks → IsRanked g others → ((t : ℕ) → slice_index ranks t < slice_index ranks s → slice_index ranks t ≤ slice_index others t) → slice_index ranks s ≤ slice_index others s
+no_greater : (g : List Links) (ranks others : List ℕ) (s : ℕ) → Recurs g ranks → IsRanked g others
+    → ((t : ℕ) → slice_index ranks t < slice_index ranks s → slice_index ranks t ≤ slice_index others t)
+    → slice_index ranks s ≤ slice_index others s
 no_greater g ranks others s h o below = by_place (cases_lt s (length g))
   where
     by_kind : s < length g → (IsPlane g s) ⊎ (IsPlane g s → ⊥) → slice_index ranks s ≤ slice_index others s
     by_kind l (inl p) = omega (arith, h.rank s l, rank_of_plane (slice_index ranks) (links_at g s) p)
     by_kind l (inr n) =
-        let most = greatest_at_most (slice_index ranks) (links_at g s).reads (slice_index others s - 1) (λ t c. omega (arith, o.above s t n c, below t ((ranked_of g ranks h).above s t n c))) in
+        let most =
+        greatest_at_most (slice_index ranks) (links_at g s).reads (slice_index others s - 1)
+        (λ t c. omega (arith, o.above s t n c, below t ((ranked_of g ranks h).above s t n c))) in
         omega (arith, h.rank s l, rank_of_other (slice_index ranks) (links_at g s) n, most, o.other s l n)
 
     by_place : (s < length g) ⊎ (length g ≤ s) → slice_index ranks s ≤ slice_index others s
     by_place (inl l) = by_kind l (cases_true (links_at g s).is_plane)
     by_place (inr l) = omega (arith, get_or_past ranks s 0 (omega (arith, h.each)))
 
-least_up_to : (g : List Links) (ranks others : List ℕ) → Recurs g ranks → IsRanked g others → (n s : ℕ) → slice_index ranks s < n → slice_index ranks s ≤ slice_index others s
+least_up_to : (g : List Links) (ranks others : List ℕ) → Recurs g ranks → IsRanked g others → (n s : ℕ) → slice_index ranks s < n
+    → slice_index ranks s ≤ slice_index others s
 least_up_to g ranks others h o zero s l = absurd (omega arith)
 least_up_to g ranks others h o (suc n) s l = no_greater g ranks others s h o (λ t less. least_up_to g ranks others h o n t (omega arith))
 
@@ -85,7 +95,8 @@ ranking-from_recurrence g ranks h = record {
 -- ---- and back
 
 -- a stage may have any lesser number that is above all that it reads
-lowered : (g : List Links) (ranks : List ℕ) (s m : ℕ) → IsRanked g ranks → s < length g → (IsPlane g s → ⊥) → 1 ≤ m → m ≤ slice_index ranks s → ((t : ℕ) → Reads g s t → slice_index ranks t < m) → IsRanked g (set ranks s m)
+lowered : (g : List Links) (ranks : List ℕ) (s m : ℕ) → IsRanked g ranks → s < length g → (IsPlane g s → ⊥) → 1 ≤ m
+    → m ≤ slice_index ranks s → ((t : ℕ) → Reads g s t → slice_index ranks t < m) → IsRanked g (set ranks s m)
 lowered g ranks s m h within not_plane one less top = record {
   each = length-set ranks s m ∙ h.each;
   plane = λ t p. plane t p (cases_eq t s);
@@ -111,11 +122,13 @@ lowered g ranks s m h within not_plane one less top = record {
     other t l n (inl e) = omega (arith, here t e)
     other t l n (inr d) = omega (arith, there t d, h.other t l n)
 
-    above : (u t : ℕ) → (IsPlane g u → ⊥) → Reads g u t → (u ≡ s) ⊎ (u ≡ s → ⊥) → slice_index (set ranks s m) t < slice_index (set ranks s m) u
+    above : (u t : ℕ) → (IsPlane g u → ⊥) → Reads g u t → (u ≡ s) ⊎ (u ≡ s → ⊥)
+        → slice_index (set ranks s m) t < slice_index (set ranks s m) u
     above u t n r (inl e) = omega (arith, here u e, falls t (cases_eq t s), top t (subst (λ v. Reads g v t) e r))
     above u t n r (inr d) = omega (arith, there u d, falls t (cases_eq t s), h.above u t n r)
 
-pub ranking-recurs : (g : List Links) (ranks : List ℕ) → IsRanking g ranks → (s : ℕ) → s < length g → slice_index ranks s ≡ rank_over (slice_index ranks) (links_at g s)
+pub ranking-recurs : (g : List Links) (ranks : List ℕ) → IsRanking g ranks → (s : ℕ) → s < length g
+    → slice_index ranks s ≡ rank_over (slice_index ranks) (links_at g s)
 ranking-recurs g ranks h s within = by_kind (cases_true (links_at g s).is_plane)
   where
     most : ℕ
@@ -126,7 +139,9 @@ ranking-recurs g ranks h s within = by_kind (cases_true (links_at g s).is_plane)
 
     at_least : (IsPlane g s → ⊥) → most + 1 ≤ slice_index ranks s
     at_least n =
-        let top = greatest_at_most (slice_index ranks) (links_at g s).reads (slice_index ranks s - 1) (λ t c. omega (arith, h.ranked.above s t n c)) in
+        let top =
+        greatest_at_most (slice_index ranks) (links_at g s).reads (slice_index ranks s - 1)
+        (λ t c. omega (arith, h.ranked.above s t n c)) in
         omega (arith, top, h.ranked.other s within n)
 
     at_most : (IsPlane g s → ⊥) → slice_index ranks s ≤ most + 1

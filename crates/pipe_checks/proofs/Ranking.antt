@@ -18,14 +18,16 @@ use Rattle.domains.proofs.Places.{slice_get-set_same, slice_get-set_other}
 -- ---- the greatest
 
 -- the greatest so far, and one more
-pub greatest_more : (f : ℕ → ℕ) (xs : List ℕ) (i g : ℕ) → i < length xs → max g (greatest (map f (drop i xs))) ≡ max (max g (f (get_or xs i 0))) (greatest (map f (drop (i + 1) xs)))
+pub greatest_more : (f : ℕ → ℕ) (xs : List ℕ) (i g : ℕ) → i < length xs
+    → max g (greatest (map f (drop i xs))) ≡ max (max g (f (get_or xs i 0))) (greatest (map f (drop (i + 1) xs)))
 greatest_more f xs i g h = let e = at_drop_more (λ ys. max g (greatest (map f ys))) xs i 0 h in omega (arith, e)
 
 pub greatest-le : (f : ℕ → ℕ) (xs : List ℕ) (m : ℕ) → ((t : ℕ) → f t ≤ m) → greatest (map f xs) ≤ m
 greatest-le f [] m h = omega arith
 greatest-le f (x ∷ xs) m h = omega (arith, h x, greatest-le f xs m h)
 
-pub greatest_same : (f g : ℕ → ℕ) (xs : List ℕ) → ((k : ℕ) → k < length xs → f (get_or xs k 0) ≡ g (get_or xs k 0)) → greatest (map f xs) ≡ greatest (map g xs)
+pub greatest_same : (f g : ℕ → ℕ) (xs : List ℕ) → ((k : ℕ) → k < length xs → f (get_or xs k 0) ≡ g (get_or xs k 0))
+    → greatest (map f xs) ≡ greatest (map g xs)
 greatest_same f g [] h = refl
 greatest_same f g (x ∷ xs) h =
     let first : f x ≡ g x = h 0 (omega arith) in
@@ -33,10 +35,14 @@ greatest_same f g (x ∷ xs) h =
     cc
 
 -- one step of the loop over what a stage reads
-pub above_step : (ranks : List (Option ℕ)) (xs : List ℕ) (i g k : ℕ) → i < length xs → known_rank ranks (get_or xs i 0) ≡ k → max g (greatest (map (known_rank ranks) (drop i xs))) ≡ greatest (map (known_rank ranks) xs) → max (max g k) (greatest (map (known_rank ranks) (drop (i + 1) xs))) ≡ greatest (map (known_rank ranks) xs)
+pub above_step : (ranks : List (Option ℕ)) (xs : List ℕ) (i g k : ℕ) → i < length xs → known_rank ranks (get_or xs i 0) ≡ k
+    → max g (greatest (map (known_rank ranks) (drop i xs))) ≡ greatest (map (known_rank ranks) xs)
+    → max (max g k) (greatest (map (known_rank ranks) (drop (i + 1) xs))) ≡ greatest (map (known_rank ranks) xs)
 above_step ranks xs i g k h e inv =
     let step = greatest_more (known_rank ranks) xs i g h in
-    let same : max (max g (known_rank ranks (get_or xs i 0))) (greatest (map (known_rank ranks) (drop (i + 1) xs))) ≡ max (max g k) (greatest (map (known_rank ranks) (drop (i + 1) xs))) = ap (λ n. max (max g n) (greatest (map (known_rank ranks) (drop (i + 1) xs)))) e in
+    let same : max (max g (known_rank ranks (get_or xs i 0))) (greatest (map (known_rank ranks) (drop (i + 1) xs)))
+    ≡ max (max g k) (greatest (map (known_rank ranks) (drop (i + 1) xs))) =
+    ap (λ n. max (max g n) (greatest (map (known_rank ranks) (drop (i + 1) xs)))) e in
     sym same ∙ sym step ∙ inv
 
 pub known_is : (ranks : List (Option ℕ)) (t r : ℕ) → slice_get ranks t ≡ Some (Some r) → known_rank ranks t ≡ r
@@ -53,7 +59,8 @@ known_past ranks t e = by_place (cases_lt t (length ranks))
     by_place (inl h) = absurd (none-some _ (sym e ∙ slice_get-get_or ranks t None h))
 
 -- none of the stages is unranked, place by place
-pub none_of_them : (ranks : List (Option ℕ)) (xs : List ℕ) → ((k : ℕ) → k < length xs → slice_get ranks (get_or xs k 0) ≡ Some None → ⊥) → SomeUnranked ranks xs → ⊥
+pub none_of_them : (ranks : List (Option ℕ)) (xs : List ℕ) → ((k : ℕ) → k < length xs → slice_get ranks (get_or xs k 0) ≡ Some None → ⊥)
+    → SomeUnranked ranks xs → ⊥
 none_of_them ranks xs h u = h u.0 u.2 (ap (slice_get ranks) (get_or_default xs u.0 0 u.1 u.2 ∙ u.3) ∙ u.4)
 
 -- ---- one stage more has its rank
@@ -74,7 +81,8 @@ rank_over-le rank l m h = by_kind l.is_plane
     by_kind false = omega (arith, greatest-le rank l.reads m h)
 
 -- the stages whose ranks count keep them where an unknown one becomes known
-reads_same : (ranks : List (Option ℕ)) (l : Links) (s r : ℕ) → slice_get ranks s ≡ Some None → (SomeUnranked ranks l.reads → ⊥) → rank_over (known_rank (set ranks s (Some r))) l ≡ rank_over (known_rank ranks) l
+reads_same : (ranks : List (Option ℕ)) (l : Links) (s r : ℕ) → slice_get ranks s ≡ Some None → (SomeUnranked ranks l.reads → ⊥)
+    → rank_over (known_rank (set ranks s (Some r))) l ≡ rank_over (known_rank ranks) l
 reads_same ranks l s r unknown ranked =
     ap (λ n. cond l.is_plane 0 (n + 1)) (greatest_same (known_rank (set ranks s (Some r))) (known_rank ranks) l.reads same)
   where
@@ -85,18 +93,22 @@ reads_same ranks l s r unknown ranked =
     same k h = ap (λ o. unwrap_or o 0) (get_or-set_other ranks s (get_or l.reads k 0) (Some r) None (apart k h))
 
 -- what is unranked afterwards was unranked before
-unranked_before : (ranks : List (Option ℕ)) (reads : List ℕ) (s r : ℕ) → s < length ranks → SomeUnranked (set ranks s (Some r)) reads → SomeUnranked ranks reads
+unranked_before : (ranks : List (Option ℕ)) (reads : List ℕ) (s r : ℕ) → s < length ranks → SomeUnranked (set ranks s (Some r)) reads
+    → SomeUnranked ranks reads
 unranked_before ranks reads s r h u = (u.0, u.1, u.2, u.3, before (cases_eq u.1 s))
   where
     before : (u.1 ≡ s) ⊎ (u.1 ≡ s → ⊥) → slice_get ranks u.1 ≡ Some None
     before (inl e) =
-        let known : slice_get (set ranks s (Some r)) u.1 ≡ Some (Some r) = ap (slice_get (set ranks s (Some r))) e ∙ slice_get-set_same ranks s (Some r) h in
+        let known : slice_get (set ranks s (Some r)) u.1 ≡ Some (Some r) =
+        ap (slice_get (set ranks s (Some r))) e ∙ slice_get-set_same ranks s (Some r) h in
         let both : Some (Some r) ≡ Some None = sym known ∙ u.4 in
         absurd (none-some r (sym (same_Some _ _ both)))
     before (inr n) = sym (slice_get-set_other ranks s u.1 (Some r) n) ∙ u.4
 
-pub ranked_more : (g : List Links) (ranks : List (Option ℕ)) (s r : ℕ) → AreRanked g ranks → slice_get ranks s ≡ Some None → r ≡ rank_over (known_rank ranks) (links_at g s) → (SomeUnranked ranks (links_at g s).reads → ⊥) → AreRanked g (set ranks s (Some r))
-ranked_more g ranks s r h unknown is ready = record { each = length-set ranks s (Some r) ∙ h.each; bounded = bounded; rank = rank; ranked = ranked }
+pub ranked_more : (g : List Links) (ranks : List (Option ℕ)) (s r : ℕ) → AreRanked g ranks → slice_get ranks s ≡ Some None
+    → r ≡ rank_over (known_rank ranks) (links_at g s) → (SomeUnranked ranks (links_at g s).reads → ⊥) → AreRanked g (set ranks s (Some r))
+ranked_more g ranks s r h unknown is ready =
+    record { each = length-set ranks s (Some r) ∙ h.each; bounded = bounded; rank = rank; ranked = ranked }
   where
     within : s < length ranks
     within = slice_get_within ranks s None unknown
@@ -131,7 +143,8 @@ ranked_more g ranks s r h unknown is ready = record { each = length-set ranks s 
       where
         by_place : (t ≡ s) ⊎ (t ≡ s → ⊥) → q ≡ rank_over (known_rank (set ranks s (Some r))) (links_at g t)
         by_place (inl e) =
-            value t q e p ∙ is ∙ sym (reads_same ranks (links_at g s) s r unknown ready) ∙ ap (λ x. rank_over (known_rank (set ranks s (Some r))) (links_at g x)) (sym e)
+            value t q e p ∙ is ∙ sym (reads_same ranks (links_at g s) s r unknown ready)
+            ∙ ap (λ x. rank_over (known_rank (set ranks s (Some r))) (links_at g x)) (sym e)
         by_place (inr n) =
             let old = sym (slice_get-set_other ranks s t (Some r) n) ∙ p in
             h.rank t q old ∙ sym (reads_same ranks (links_at g t) s r unknown (h.ranked t q old))
@@ -183,8 +196,11 @@ ranking_of g ranks v h e = ranking-from_recurrence g v (record { each = each; ra
     rank s l =
         let within : s < length v = omega (arith, each) in
         let got : slice_get ranks s ≡ Some (Some (get_or v s 0)) =
-        ap (λ xs. slice_get xs s) (sym e) ∙ slice_get-get_or (map Some v) s None (omega (arith, length-map v (λ (x : ℕ). Some x))) ∙ ap Some (get_or-map Some v s 0 None within) in
-        h.rank s (get_or v s 0) got ∙ ap (λ n. cond (links_at g s).is_plane 0 (n + 1)) (greatest_same (known_rank ranks) (slice_index v) (links_at g s).reads (λ k l. known _))
+        ap (λ xs. slice_get xs s) (sym e) ∙ slice_get-get_or (map Some v) s None (omega (arith, length-map v (λ (x : ℕ). Some x)))
+        ∙ ap Some (get_or-map Some v s 0 None within) in
+        h.rank s (get_or v s 0) got
+        ∙ ap (λ n. cond (links_at g s).is_plane 0 (n + 1))
+        (greatest_same (known_rank ranks) (slice_index v) (links_at g s).reads (λ k l. known _))
 
 -- ---- no stage can have its rank
 
@@ -197,9 +213,13 @@ way_then g (suc k) s t u w r = (w.0, w.1, way_then g k w.0 t u w.2 r)
 Unranked : List (Option ℕ) → Type 0
 Unranked ranks = (s : ℕ) × (slice_get ranks s ≡ Some None)
 
-pub stuck_is_cyclic : (g : List Links) (ranks : List (Option ℕ)) → length ranks ≡ length g → ((s : ℕ) → slice_get ranks s ≡ Some None → SomeUnranked ranks (links_at g s).reads) → (s : ℕ) → slice_get ranks s ≡ Some None → IsAcyclic g → ⊥
+pub stuck_is_cyclic : (g : List Links) (ranks : List (Option ℕ)) → length ranks ≡ length g
+    → ((s : ℕ) → slice_get ranks s ≡ Some None → SomeUnranked ranks (links_at g s).reads) → (s : ℕ) → slice_get ranks s ≡ Some None
+    → IsAcyclic g → ⊥
 stuck_is_cyclic g ranks each stuck start unknown acyclic =
-    let long = length-le_from_distinct_below (chain (suc (length g)) start unknown) (length g) (distinct (suc (length g)) start unknown) (below (suc (length g)) start unknown) in
+    let long =
+    length-le_from_distinct_below (chain (suc (length g)) start unknown) (length g) (distinct (suc (length g)) start unknown)
+    (below (suc (length g)) start unknown) in
     omega (arith, long, length-chain (suc (length g)) start unknown)
   where
     next : (s : ℕ) → slice_get ranks s ≡ Some None → ℕ
@@ -226,14 +246,16 @@ stuck_is_cyclic g ranks each stuck start unknown acyclic =
         rest : List ℕ
         rest = chain n (next s u) (next_unknown s u)
 
-        by_test : ((eqb q s ≡ true) × (q ≡ s)) ⊎ ((eqb q s ≡ false) × (q ≢ s)) → (list_any (eqb q) rest ≡ true → q < length g) → q < length g
+        by_test : ((eqb q s ≡ true) × (q ≡ s)) ⊎ ((eqb q s ≡ false) × (q ≢ s)) → (list_any (eqb q) rest ≡ true → q < length g)
+            → q < length g
         by_test (inl p) others = omega (arith, p.1, slice_get_within ranks s None u, each)
         by_test (inr p) others = others (sym (ap (λ b. b || list_any (eqb q) rest) p.0) ∙ e)
 
     -- a stage that leads to the chain is not in it
     later : (n k s t : ℕ) (u : slice_get ranks t ≡ Some None) → Way g (suc k) s t → AllByRecursion (λ y. eqb s y ≡ false) (chain n t u)
     later zero k s t u w = tt
-    later (suc n) k s t u w = (by_test (eqb_tells s t), later n (suc k) s (next t u) (next_unknown t u) (way_then g (suc k) s t (next t u) w (next_reads t u)))
+    later (suc n) k s t u w =
+        (by_test (eqb_tells s t), later n (suc k) s (next t u) (next_unknown t u) (way_then g (suc k) s t (next t u) w (next_reads t u)))
       where
         by_test : ((eqb s t ≡ true) × (s ≡ t)) ⊎ ((eqb s t ≡ false) × (s ≢ t)) → eqb s t ≡ false
         by_test (inl p) = absurd (acyclic s k (subst (Way g (suc k) s) (sym p.1) w))
@@ -241,7 +263,9 @@ stuck_is_cyclic g ranks each stuck start unknown acyclic =
 
     distinct : (n s : ℕ) (u : slice_get ranks s ≡ Some None) → IsDistinct eqb (chain n s u)
     distinct zero s u = unfold IsDistinct in tt
-    distinct (suc n) s u = IsDistinct-cons eqb s _ (later n 0 s (next s u) (next_unknown s u) (next s u, next_reads s u, refl)) (distinct n (next s u) (next_unknown s u))
+    distinct (suc n) s u =
+        IsDistinct-cons eqb s _ (later n 0 s (next s u) (next_unknown s u) (next s u, next_reads s u, refl))
+        (distinct n (next s u) (next_unknown s u))
 
 -- what `graph[s]` gives
 pub links_read : (g : List Links) (s : ℕ) (l : Links) → s < length g → l ≡ get_or g s l → links_at g s ≡ l

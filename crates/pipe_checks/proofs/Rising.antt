@@ -21,7 +21,9 @@ use Rattle.pipe_checks.proofs.Distances.{reads_within}
 
 -- where x is a plane, the item that declares it has no reads; the items begin with number n
 abbrev Blank : ℕ → List Declaration → Symbol → Type 0
-Blank n ds x = is_plane x.kind ≡ true → (k : ℕ) × (x.item ≡ n + k) × (d : Declaration) × (slice_get ds k ≡ Some d) × ((names : List Symbol) → item_accesses names d ≡ [])
+Blank n ds x =
+    is_plane x.kind ≡ true
+    → (k : ℕ) × (x.item ≡ n + k) × (d : Declaration) × (slice_get ds k ≡ Some d) × ((names : List Symbol) → item_accesses names d ≡ [])
 
 -- the names of an item, by the item alone
 abbrev BlankHere : ℕ → Declaration → Symbol → Type 0
@@ -42,18 +44,24 @@ blank_from : (n : ℕ) (ds : List Declaration) → All (Blank n ds) (names_from 
 blank_from n [] = All-nil (Blank n [])
 blank_from n (d ∷ ds) =
     All-append (Blank n (d ∷ ds)) (item_names n d) (names_from (n + 1) ds)
-    (All-weaker (BlankHere n d) (Blank n (d ∷ ds)) (λ x h e. let b = h e in (0, b.0 ∙ omega arith, d, refl, b.1)) (item_names n d) (All-from_recursion (BlankHere n d) (item_names n d) (blank_here n d)))
-    (All-weaker (Blank (n + 1) ds) (Blank n (d ∷ ds)) (λ x h e. let b = h e in (suc b.0, b.1 ∙ omega arith, b.2, b.3, b.4)) (names_from (n + 1) ds) (blank_from (n + 1) ds))
+    (All-weaker (BlankHere n d) (Blank n (d ∷ ds)) (λ x h e. let b = h e in (0, b.0 ∙ omega arith, d, refl, b.1)) (item_names n d)
+    (All-from_recursion (BlankHere n d) (item_names n d) (blank_here n d)))
+    (All-weaker (Blank (n + 1) ds) (Blank n (d ∷ ds)) (λ x h e. let b = h e in (suc b.0, b.1 ∙ omega arith, b.2, b.3, b.4))
+    (names_from (n + 1) ds) (blank_from (n + 1) ds))
 
 -- the stage of a number
-stage_is : (ds : List Declaration) (s : ℕ) (x : Symbol) → slice_get (stages_of ds) s ≡ Some x → links_at (graph_of ds) s ≡ links_of ds (stages_of ds) x
+stage_is : (ds : List Declaration) (s : ℕ) (x : Symbol) → slice_get (stages_of ds) s ≡ Some x
+    → links_at (graph_of ds) s ≡ links_of ds (stages_of ds) x
 stage_is ds s x there =
-    get_or_from_slice_get (graph_of ds) s (links_of ds (stages_of ds) x) _ (slice_get-map (links_of ds (stages_of ds)) (stages_of ds) s ∙ ap (option_map (links_of ds (stages_of ds))) there)
+    get_or_from_slice_get (graph_of ds) s (links_of ds (stages_of ds) x) _
+    (slice_get-map (links_of ds (stages_of ds)) (stages_of ds) s ∙ ap (option_map (links_of ds (stages_of ds))) there)
 
-plane_is_blank : (ds : List Declaration) (s : ℕ) (x : Symbol) → slice_get (stages_of ds) s ≡ Some x → IsPlane (graph_of ds) s → (links_at (graph_of ds) s).reads ≡ []
+plane_is_blank : (ds : List Declaration) (s : ℕ) (x : Symbol) → slice_get (stages_of ds) s ≡ Some x → IsPlane (graph_of ds) s
+    → (links_at (graph_of ds) s).reads ≡ []
 plane_is_blank ds s x there plane =
     let all = All-filter _ (Blank 0 ds) (declared_names ds) (blank_from 0 ds) in
-    let here : Blank 0 ds x = subst (Blank 0 ds) (get_or_from_slice_get (stages_of ds) s x x there) (all s x (slice_get_within (stages_of ds) s x there)) in
+    let here : Blank 0 ds x =
+    subst (Blank 0 ds) (get_or_from_slice_get (stages_of ds) s x x there) (all s x (slice_get_within (stages_of ds) s x there)) in
     let is = stage_is ds s x there in
     let b = here (sym (ap (λ (l : Links). l.is_plane) is) ∙ plane) in
     let item : slice_get ds x.item ≡ Some b.2 = ap (slice_get ds) (b.1 ∙ omega arith) ∙ b.3 in
@@ -63,7 +71,8 @@ plane_is_blank ds s x there plane =
 pub no_plane_reads : (ds : List Declaration) (s t : ℕ) → Reads (graph_of ds) s t → IsPlane (graph_of ds) s → ⊥
 no_plane_reads ds s t r plane = by_stage (slice_get_cases (stages_of ds) s).1
   where
-    by_stage : ((x : Symbol) × (s < length (stages_of ds)) × (slice_get (stages_of ds) s ≡ Some x) × (get_or (stages_of ds) s x ≡ x)) ⊎ ((length (stages_of ds) ≤ s) × (slice_get (stages_of ds) s ≡ None)) → ⊥
+    by_stage : ((x : Symbol) × (s < length (stages_of ds)) × (slice_get (stages_of ds) s ≡ Some x) × (get_or (stages_of ds) s x ≡ x))
+        ⊎ ((length (stages_of ds) ≤ s) × (slice_get (stages_of ds) s ≡ None)) → ⊥
     by_stage (inl f) =
         let none : Contains [] t = subst (λ (xs : List ℕ). Contains xs t) (plane_is_blank ds s f.0 f.2 plane) r in
         omega (arith, none.1)
@@ -71,14 +80,21 @@ no_plane_reads ds s t r plane = by_stage (slice_get_cases (stages_of ds) s).1
 
 -- ---- ranks fall along a cycle
 
-falls_along : (g : List Links) (ranks c : List ℕ) → ((s t : ℕ) → Reads g s t → slice_index ranks t < slice_index ranks s) → IsCycle g c → (i : ℕ) → i < length c → slice_index ranks (slice_index c i) + i ≤ slice_index ranks (slice_index c 0)
+falls_along : (g : List Links) (ranks c : List ℕ) → ((s t : ℕ) → Reads g s t → slice_index ranks t < slice_index ranks s) → IsCycle g c
+    → (i : ℕ) → i < length c → slice_index ranks (slice_index c i) + i ≤ slice_index ranks (slice_index c 0)
 falls_along g ranks c falls cycle zero l = omega arith
 falls_along g ranks c falls cycle (suc i) l =
     let one : suc i ≡ i + 1 = omega arith in
-    omega (arith, falls_along g ranks c falls cycle i (omega arith), falls _ _ (cycle.reads i (omega arith)), ap (λ k. slice_index ranks (slice_index c k)) one)
+    omega (
+      arith,
+      falls_along g ranks c falls cycle i (omega arith),
+      falls _ _ (cycle.reads i (omega arith)),
+      ap (λ k. slice_index ranks (slice_index c k)) one,
+    )
 
 pub no_ranked_cycle : (ds : List Declaration) (ranks c : List ℕ) → IsRanked (graph_of ds) ranks → IsCycle (graph_of ds) c → ⊥
 no_ranked_cycle ds ranks c h cycle =
-    let falls : (s t : ℕ) → Reads (graph_of ds) s t → slice_index ranks t < slice_index ranks s = λ s t r. h.above s t (no_plane_reads ds s t r) r in
+    let falls : (s t : ℕ) → Reads (graph_of ds) s t → slice_index ranks t < slice_index ranks s =
+    λ s t r. h.above s t (no_plane_reads ds s t r) r in
     let round = falls_along (graph_of ds) ranks c falls cycle (length c - 1) (omega (arith, cycle.long)) in
     omega (arith, round, cycle.long, ap (slice_index ranks) cycle.closed)

@@ -35,7 +35,8 @@ none_then None p f = f p
 none_then (Some x) p f = tt
 
 -- one more at the end
-pub pushed : {X : Type 0} (P : ℕ → X → Type 0) (xs : List X) (n : ℕ) (y : X) → length xs ≡ n → ((i : ℕ) (d : X) → slice_get xs i ≡ Some d → P i d) → P n y → (i : ℕ) (d : X) → slice_get (xs ++ y ∷ []) i ≡ Some d → P i d
+pub pushed : {X : Type 0} (P : ℕ → X → Type 0) (xs : List X) (n : ℕ) (y : X) → length xs ≡ n
+    → ((i : ℕ) (d : X) → slice_get xs i ≡ Some d → P i d) → P n y → (i : ℕ) (d : X) → slice_get (xs ++ y ∷ []) i ≡ Some d → P i d
 pushed P [] zero y l h here zero d e = subst (P 0) (same_Some y d e) here
 pushed P [] zero y l h here (suc i) d e = absurd (none-some d e)
 pushed P [] (suc n) y l h here i d e = absurd (omega arith)

@@ -49,7 +49,8 @@ pub record IsShortestFrom (g : List Links) (s : ℕ) (c : List ℕ) : Type 0 whe
   pub cycle : IsCycle g c
   pub start : slice_index c 0 ≡ s
   pub shortest : (d : List ℕ) → IsCycle g d → slice_index d 0 ≡ s → length c ≤ length d
-  pub first : (d : List ℕ) → IsCycle g d → slice_index d 0 ≡ s → length d ≡ length c → (i : ℕ) → i < length c → ((k : ℕ) → k < i → slice_index d k ≡ slice_index c k) → slice_index c i ≤ slice_index d i
+  pub first : (d : List ℕ) → IsCycle g d → slice_index d 0 ≡ s → length d ≡ length c → (i : ℕ) → i < length c
+      → ((k : ℕ) → k < i → slice_index d k ≡ slice_index c k) → slice_index c i ≤ slice_index d i
 
 -- the first of the shortest cycles from the least stage that lies on any
 pub record IsShortestCycle (g : List Links) (c : List ℕ) : Type 0 where

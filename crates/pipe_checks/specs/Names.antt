@@ -12,7 +12,8 @@ use Rattle.pipe_checks.specs.declared.symbol.Symbol.{Symbol}
 abbrev pub names_of : ℕ → Names → List Symbol
 names_of n (One x) = record { name = x; kind = Plane; item = n } ∷ []
 names_of n (Three x y z) =
-    record { name = x; kind = Plane; item = n } ∷ record { name = y; kind = Plane; item = n } ∷ record { name = z; kind = Plane; item = n } ∷ []
+    record { name = x; kind = Plane; item = n } ∷ record { name = y; kind = Plane; item = n } ∷ record { name = z; kind = Plane; item = n }
+    ∷ []
 
 -- the names that item n declares
 abbrev pub item_names : ℕ → Declaration → List Symbol

@@ -186,7 +186,8 @@ is_side n = (n % 2 == 1) && nat_le n 15
 
 abbrev pub wrong_kernel : List (List ℤ) → Option Violation
 wrong_kernel rows =
-    if is_side (length rows) && (is_side (width_of rows) && list_all (λ row. length row == width_of rows) rows) then None else Some BadKernel
+    if is_side (length rows) && (is_side (width_of rows) && list_all (λ row. length row == width_of rows) rows) then None
+    else Some BadKernel
 
 abbrev pub wrong_at : List Symbol → Locals → Place → Option Violation
 wrong_at names locals (name x roles) = wrong_name roles (role_at names locals x)

@@ -39,7 +39,8 @@ fn add_read(
     row: &Index,
     column: &Index,
 ) -> Result<(), AllocError>
-    ensures { OnOk result (found.new.items ≡ found.old.items ++ read_at (number_of stages.now name.now) row.now column.now) }
+    ensures { OnOk result (found.new.items
+        ≡ found.old.items ++ read_at (number_of stages.now name.now) row.now column.now) }
 {
     match number_of(stages, name) {
         Some(stage) => {
@@ -66,7 +67,8 @@ fn add_stencil(
     name: &Name,
     kernel: &Kernel,
 ) -> Result<(), AllocError>
-    ensures { OnOk result (found.new.items ≡ found.old.items ++ stencil_at (number_of stages.now name.now) kernel.now) }
+    ensures { OnOk result (found.new.items
+        ≡ found.old.items ++ stencil_at (number_of stages.now name.now) kernel.now) }
 {
     match number_of(stages, name) {
         Some(stage) => {
@@ -83,7 +85,8 @@ pub fn add_accesses(
     stages: &[Symbol],
     expr: &Expr,
 ) -> Result<(), AllocError>
-    ensures { OnOk result (found.new.items ≡ found.old.items ++ accesses_of stages.now (view expr.now)) }
+    ensures { OnOk result
+        (found.new.items ≡ found.old.items ++ accesses_of stages.now (view expr.now)) }
 {
     match expr {
         Expr::Number(_) | Expr::Name(_) => Ok(()),

@@ -48,9 +48,27 @@ impl Model for Checked {
 
     ghost use Rattle.pipe_checks.specs.Checking.{IsCheckedOf};
 
-    ghost view = { λ c. record { tree = c.tree; stages = c.stages.items; params = c.params.items; graph = c.graph.items; ranks = c.ranks.items } };
+    ghost view = { λ c. record {
+      tree =
+          c.tree;
+      stages =
+          c.stages.items;
+      params =
+          c.params.items;
+      graph = c.graph.items;
+      ranks = c.ranks.items;
+    } };
 
-    ghost invariant = { λ c. IsCheckedOf c.tree (record { tree = c.tree; stages = c.stages.items; params = c.params.items; graph = c.graph.items; ranks = c.ranks.items }) };
+    ghost invariant = { λ c. IsCheckedOf c.tree (record {
+      tree =
+          c.tree;
+      stages =
+          c.stages.items;
+      params =
+          c.params.items;
+      graph = c.graph.items;
+      ranks = c.ranks.items;
+    }) };
 }
 
 impl Checked {
@@ -109,7 +127,8 @@ fn fault_at(violation: Violation, item: usize) -> CheckFault
 #[tactic(auto, using(crate::proofs::Judging::result_served, crate::proofs::Judging::result_unserved))]
 fn judge(names: &NameTable, item: &Item) -> Result<(), Violation>
     ensures good { OnOk result (is_good names.now (declaration item.now) ≡ true) }
-    ensures wrong { IfErr result (IsFirstUnserved names.now (locals_of (declaration item.now)) (places_of (declaration item.now))) }
+    ensures wrong { IfErr result (IsFirstUnserved names.now (locals_of (declaration item.now))
+        (places_of (declaration item.now))) }
 {
     judge_item(names, &locals_of(item), item)
 }

@@ -82,7 +82,8 @@ fn one_more(
 // The goal alone, at distance 0.
 fn only(alloc: Global, count: usize, goal: usize) -> Result<Vec<Option<usize>>, AllocError>
     ensures each { IfOk result (λ v. length v.items ≡ count) }
-    ensures only { IfOk result (λ v. (t : ℕ) → t < count → slice_get v.items t ≡ Some (if t == goal then Some 0 else None)) }
+    ensures only { IfOk result (λ v. (t : ℕ) → t < count
+        → slice_get v.items t ≡ Some (if t == goal then Some 0 else None)) }
 {
     let mut far = Vec::new(alloc);
     for stage in 0..count {
@@ -128,7 +129,8 @@ fn least_at(links: &Links, far: &[Option<usize>], steps: usize) -> usize
     requires { SomeAt far.now links.now.reads steps }
     ensures read { Contains links.now.reads result }
     ensures at { slice_get far.now result ≡ Some (Some steps) }
-    ensures least { (u : ℕ) → Contains links.now.reads u → slice_get far.now u ≡ Some (Some steps) → result ≤ u }
+    ensures least { (u : ℕ) → Contains links.now.reads u → slice_get far.now u ≡ Some (Some steps)
+        → result ≤ u }
 {
     let mut least: Option<usize> = None;
     for stage in links.reads() {

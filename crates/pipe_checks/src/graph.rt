@@ -51,7 +51,8 @@ pub(crate) fn known(list: &[Option<usize>], stage: usize) -> Option<Option<usize
 }
 
 fn add_cases(found: &mut Vec<Access>, stages: &[Symbol], cases: &[Case]) -> Result<(), AllocError>
-    ensures { OnOk result (found.new.items ≡ found.old.items ++ branch_accesses stages.now (branches cases.now)) }
+    ensures { OnOk result
+        (found.new.items ≡ found.old.items ++ branch_accesses stages.now (branches cases.now)) }
 {
     for case in cases {
         add_accesses(found, stages, &case.value)?;
@@ -64,7 +65,8 @@ fn add_otherwise(
     stages: &[Symbol],
     otherwise: &Option<Expr>,
 ) -> Result<(), AllocError>
-    ensures { OnOk result (found.new.items ≡ found.old.items ++ otherwise_accesses stages.now (option_map view otherwise.now)) }
+    ensures { OnOk result (found.new.items
+        ≡ found.old.items ++ otherwise_accesses stages.now (option_map view otherwise.now)) }
 {
     match otherwise {
         Some(value) => add_accesses(found, stages, value),
@@ -125,7 +127,8 @@ pub(crate) fn graph(
     items: &[Item],
     stages: &[Symbol],
 ) -> Result<Vec<Links>, AllocError>
-    ensures { IfOk result (λ v. v.items ≡ links_from (declarations items.now) stages.now stages.now) }
+    ensures { IfOk result
+        (λ v. v.items ≡ links_from (declarations items.now) stages.now stages.now) }
 {
     let mut graph = Vec::new(alloc);
     for stage in stages {

@@ -32,9 +32,12 @@ fn ready(graph: &[Links], ranks: &[Option<usize>]) -> Option<(usize, usize)>
     requires bounded { IsBounded ranks.now (length graph.now) }
     ensures unknown { IfSome result (λ f. slice_get ranks.now f.0 ≡ Some None) }
     ensures within { IfSome result (λ f. f.0 < length ranks.now) }
-    ensures rank { IfSome result (λ f. f.1 ≡ rank_over (known_rank ranks.now) (links_at graph.now f.0)) }
-    ensures ranked { IfSome result (λ f. ¬ (SomeUnranked ranks.now (links_at graph.now f.0).reads)) }
-    ensures stuck { IfNone result ((s : ℕ) → slice_get ranks.now s ≡ Some None → SomeUnranked ranks.now (links_at graph.now s).reads) }
+    ensures rank { IfSome result
+        (λ f. f.1 ≡ rank_over (known_rank ranks.now) (links_at graph.now f.0)) }
+    ensures ranked { IfSome result
+        (λ f. ¬ (SomeUnranked ranks.now (links_at graph.now f.0).reads)) }
+    ensures stuck { IfNone result ((s : ℕ) → slice_get ranks.now s ≡ Some None
+        → SomeUnranked ranks.now (links_at graph.now s).reads) }
 {
     for (stage, links) in graph.iter().enumerate() {
         if ranks[stage].is_none() {

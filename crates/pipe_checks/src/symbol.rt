@@ -62,7 +62,8 @@ fn declare(
     kind: NameKind,
     item: usize,
 ) -> Result<(), AllocError>
-    ensures { OnOk result (names.new.items ≡ names.old.items ++ record { name = name.now; kind = kind; item = item } ∷ []) }
+    ensures { OnOk result (names.new.items
+        ≡ names.old.items ++ record { name = name.now; kind = kind; item = item } ∷ []) }
 {
     names.push(Symbol {
         name: *name,
@@ -86,7 +87,8 @@ fn declare_planes(names: &mut Vec<Symbol>, planes: &Names, item: usize) -> Resul
 }
 
 fn declare_item(names: &mut Vec<Symbol>, item: &Item, number: usize) -> Result<(), AllocError>
-    ensures { OnOk result (names.new.items ≡ names.old.items ++ item_names number (declaration item.now)) }
+    ensures { OnOk result
+        (names.new.items ≡ names.old.items ++ item_names number (declaration item.now)) }
 {
     match item {
         Item::Param(param) => declare(names, &param.name, NameKind::Param, number),

@@ -74,8 +74,10 @@ fn varies_again(names: &NameTable, locals: &Locals) -> bool
 /// The first item with a name that stands for two things.
 pub(crate) fn first_twice(declared: &Declared, items: &[Item]) -> Option<usize>
     requires { IsTableOf (declared_names (declarations items.now)) declared.now }
-    ensures first { IfSome result (IsFirstTwice (declared_names (declarations items.now)) (declarations items.now)) }
-    ensures none { IfNone result (NoneTwice (declared_names (declarations items.now)) (declarations items.now)) }
+    ensures first { IfSome result
+        (IsFirstTwice (declared_names (declarations items.now)) (declarations items.now)) }
+    ensures none { IfNone result
+        (NoneTwice (declared_names (declarations items.now)) (declarations items.now)) }
     ensures same { IfNone result (declared.now.table ≡ declared_names (declarations items.now)) }
 {
     for (number, item) in items.iter().enumerate() {

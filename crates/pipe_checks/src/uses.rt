@@ -356,7 +356,8 @@ fn judge_otherwise(
     locals: &Locals,
     otherwise: &Option<Expr>,
 ) -> Result<(), Violation>
-    ensures { result ≡ judged names.now locals.now (otherwise_places (option_map view otherwise.now)) }
+    ensures { result
+        ≡ judged names.now locals.now (otherwise_places (option_map view otherwise.now)) }
 {
     match otherwise {
         Some(value) => judge_expr(names, locals, value),

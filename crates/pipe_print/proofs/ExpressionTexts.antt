@@ -27,21 +27,61 @@ use Rattle.pipe_print.proofs.IndexTexts.{named_printed, stencil_printed}
 -- ---- turns
 
 -- no turn
-none_more : {A : Type 0} {R : Rule A} {T : A → Rule A} {a : A} {d : List Token} {text : List Tagged} → Printed R a d text → Printed (Then R (many T)) a d text
+none_more : {A : Type 0} {R : Rule A} {T : A → Rule A} {a : A} {d : List Token} {text : List Tagged} → Printed R a d text
+    → Printed (Then R (many T)) a d text
 none_more {a = a} p = record {
   tagged = p.tagged;
   tokens = p.tokens;
   shorter = p.shorter;
-  rule = record { front = p.tagged; back = []; value = a; parts = sym (append-nil p.tagged); first = p.rule; second = record { which = 0; it = record { empty = refl; value = refl } } };
+  rule =
+      record {
+        front =
+            p.tagged;
+        back =
+            [];
+        value =
+            a;
+        parts =
+            sym (append-nil p.tagged);
+        first =
+            p.rule;
+        second = record { which = 0; it = record { empty = refl; value = refl } };
+      };
 }
 
-times_last : {A : Type 0} (T : A → Rule A) (n : ℕ) (a b e : A) (x y : List Tagged) → times T n a x b → T b y e → times T (suc n) a (x ++ y) e
+times_last : {A : Type 0} (T : A → Rule A) (n : ℕ) (a b e : A) (x y : List Tagged) → times T n a x b → T b y e
+    → times T (suc n) a (x ++ y) e
 times_last T zero a b e x y p q =
-    record { front = y; back = []; value = e; parts = ap (λ (l : List Tagged). l ++ y) p.empty ∙ sym (append-nil y); first = subst (λ v. T v y e) p.value q; second = record { empty = refl; value = refl } }
+    record {
+      front =
+          y;
+      back =
+          [];
+      value =
+          e;
+      parts =
+          ap (λ (l : List Tagged). l ++ y) p.empty ∙ sym (append-nil y);
+      first =
+          subst (λ v. T v y e) p.value q;
+      second = record { empty = refl; value = refl };
+    }
 times_last T (suc n) a b e x y p q =
-    record { front = p.front; back = p.back ++ y; value = p.value; parts = ap (λ (l : List Tagged). l ++ y) p.parts ∙ append_assoc p.front p.back y; first = p.first; second = times_last T n p.value b e p.back y p.second q }
+    record {
+      front =
+          p.front;
+      back =
+          p.back ++ y;
+      value =
+          p.value;
+      parts =
+          ap (λ (l : List Tagged). l ++ y) p.parts ∙ append_assoc p.front p.back y;
+      first =
+          p.first;
+      second = times_last T n p.value b e p.back y p.second q;
+    }
 
-turn_last : {A : Type 0} (R : Rule A) (T : A → Rule A) (b e : A) (x y : List Tagged) → Then R (many T) x b → T b y e → Then R (many T) (x ++ y) e
+turn_last : {A : Type 0} (R : Rule A) (T : A → Rule A) (b e : A) (x y : List Tagged) → Then R (many T) x b → T b y e
+    → Then R (many T) (x ++ y) e
 turn_last R T b e x y p q =
     record {
       front = p.front;
@@ -53,36 +93,50 @@ turn_last R T b e x y p q =
     }
 
 -- one more turn
-one_more : {A : Type 0} {R : Rule A} {T : A → Rule A} {a b : A} {d d' : List Token} {s t : List Tagged} → Printed (Then R (many T)) a d s → Printed (T a) b d' t → Printed (Then R (many T)) b (d ++ d') (s ++ t)
+one_more : {A : Type 0} {R : Rule A} {T : A → Rule A} {a b : A} {d d' : List Token} {s t : List Tagged} → Printed (Then R (many T)) a d s
+    → Printed (T a) b d' t → Printed (Then R (many T)) b (d ++ d') (s ++ t)
 one_more {R = R} {T = T} {a = a} {b = b} p q = fused (λ s t h k. turn_last R T a b s t h k) p q
 
 -- ---- groups
 
 bracketed : List Tagged → List Tagged
-bracketed text = record { token = token.Punct mark.OpenRound; role = plain } ∷ (text ++ record { token = token.Punct mark.CloseRound; role = plain } ∷ [])
+bracketed text =
+    record { token = token.Punct mark.OpenRound; role = plain }
+    ∷ (text ++ record { token = token.Punct mark.CloseRound; role = plain } ∷ [])
 
 -- parentheses that are left out
 in_brackets : {X : Type 0} {R : Rule X} {v : X} {d : List Token} {text : List Tagged} → Printed R v d text → Printed R v d (bracketed text)
 unfolding bracketed
 in_brackets {text = text} p =
-    let close : Shortens [] (record { token = token.Punct mark.CloseRound; role = plain } ∷ []) = leaves_out (token.Punct mark.CloseRound) [] [] nothing in
+    let close : Shortens [] (record { token = token.Punct mark.CloseRound; role = plain } ∷ []) =
+    leaves_out (token.Punct mark.CloseRound) [] [] nothing in
     record {
       tagged = p.tagged;
       tokens = p.tokens;
       rule = p.rule;
-      shorter = leaves_out (token.Punct mark.OpenRound) p.tagged _ (subst (λ (l : List Tagged). Shortens l (text ++ record { token = token.Punct mark.CloseRound; role = plain } ∷ [])) (append-nil p.tagged) (Shortens-append p.tagged text [] _ p.shorter close));
+      shorter =
+          leaves_out (token.Punct mark.OpenRound) p.tagged _ (subst
+          (λ (l : List Tagged). Shortens l (text ++ record { token = token.Punct mark.CloseRound; role = plain } ∷ []))
+          (append-nil p.tagged) (Shortens-append p.tagged text [] _ p.shorter close));
     }
 
 mark_again : (m : Punct) → g.mark m plain (record { token = token.Punct m; role = plain } ∷ []) tt
 mark_again m = record { text_is = refl; value = refl }
 
 -- parentheses that are kept
-group_printed : (m : ℕ) (e : Node) (d : List Token) (text : List Tagged) → Printed (sums (product (Unary m))) e d text → Printed (Unary (suc m)) e (grouped d) (bracketed text)
+group_printed : (m : ℕ) (e : Node) (d : List Token) (text : List Tagged) → Printed (sums (product (Unary m))) e d text
+    → Printed (Unary (suc m)) e (grouped d) (bracketed text)
 unfolding Unary bracketed
 group_printed m e d text p =
-    let end : Printed (Then (g.mark mark.CloseRound plain) (λ _. Gives e)) e (c.mark mark.CloseRound) (record { token = token.Punct mark.CloseRound; role = plain } ∷ []) = ended (λ (u : Unit {0}). e) (takes (mark_again mark.CloseRound)) in
-    let inner : Printed (Then (sums (product (Unary m))) (λ a. Then (g.mark mark.CloseRound plain) (λ _. Gives a))) e (d ++ c.mark mark.CloseRound) (text ++ record { token = token.Punct mark.CloseRound; role = plain } ∷ []) = joined {Q = λ a. Then (g.mark mark.CloseRound plain) (λ _. Gives a)} p end in
-    let all : Printed (group (sums (product (Unary m)))) e (grouped d) (bracketed text) = joined {Q = λ _. Then (sums (product (Unary m))) (λ a. Then (g.mark mark.CloseRound plain) (λ _. Gives a))} (takes (mark_again mark.OpenRound)) inner in
+    let end : Printed (Then (g.mark mark.CloseRound plain) (λ _. Gives e)) e (c.mark mark.CloseRound)
+    (record { token = token.Punct mark.CloseRound; role = plain } ∷ []) =
+    ended (λ (u : Unit {0}). e) (takes (mark_again mark.CloseRound)) in
+    let inner : Printed (Then (sums (product (Unary m))) (λ a. Then (g.mark mark.CloseRound plain) (λ _. Gives a))) e
+    (d ++ c.mark mark.CloseRound) (text ++ record { token = token.Punct mark.CloseRound; role = plain } ∷ []) =
+    joined {Q = λ a. Then (g.mark mark.CloseRound plain) (λ _. Gives a)} p end in
+    let all : Printed (group (sums (product (Unary m)))) e (grouped d) (bracketed text) =
+    joined {Q = λ _. Then (sums (product (Unary m))) (λ a. Then (g.mark mark.CloseRound plain) (λ _. Gives a))}
+    (takes (mark_again mark.OpenRound)) inner in
     becomes (λ t h. inr (inl (inl (inl (inl (inl (inr h))))))) all
 
 -- ---- the places of an expression
@@ -97,13 +151,17 @@ abbrev Everywhere : Rule Node → Node → List Tagged → Type 0
 Everywhere V e text = Fits V (product V) (sums (product V)) e text text text
 
 -- what is no sum and no product is the same everywhere
-same_places : (V : Rule Node) (e : Node) (text : List Tagged) → ((p : Place) → Printed V e (expression_tokens e p) text) → Everywhere V e text
-same_places V e text at = record { operand = at place.Unary; factor = none_more (at place.Product); whole = none_more (none_more (at place.Sum)) }
+same_places : (V : Rule Node) (e : Node) (text : List Tagged) → ((p : Place) → Printed V e (expression_tokens e p) text)
+    → Everywhere V e text
+same_places V e text at =
+    record { operand = at place.Unary; factor = none_more (at place.Product); whole = none_more (none_more (at place.Sum)) }
 
 -- ---- leaves
 
 leaf_printed : (p : Place) (text : List Tagged) (e : Node) → leaf text e → Printed leaf e (expression_tokens e p) text
-leaf_printed p text e (inl (inl h)) = becomes (λ t k. inl (inl k)) (relabel (ap (λ (e : Node). expression_tokens e p) (sym h.second.value)) (chain h (int_printed h.first) (gives h.second)))
+leaf_printed p text e (inl (inl h)) =
+    becomes (λ t k. inl (inl k))
+    (relabel (ap (λ (e : Node). expression_tokens e p) (sym h.second.value)) (chain h (int_printed h.first) (gives h.second)))
 leaf_printed p text e (inl (inr h)) = becomes (λ t k. inl (inr k)) (named_printed p text e h)
 leaf_printed p text e (inr h) = becomes (λ t k. inr k) (stencil_printed p text e h)
 
@@ -127,10 +185,12 @@ record Operand (R : Rule Node) (t : Token) (a b : Node) (text : List Tagged) : T
 
 module _ (n m : ℕ) (each : (text : List Tagged) (e : Node) → Unary n text e → Everywhere (Unary m) e text)
     (above : (text : List Tagged) (e : Node) → Unary n text e → Everywhere (Unary (suc m)) e text) where
-  times_operand : (a b : Node) (text : List Tagged) → Then (Unary n) (λ b. Gives (binary Mul a b)) text b → Operand (Then (Unary m) (λ b. Gives (binary Mul a b))) (token.Punct mark.Star) a b text
+  times_operand : (a b : Node) (text : List Tagged) → Then (Unary n) (λ b. Gives (binary Mul a b)) text b
+      → Operand (Then (Unary m) (λ b. Gives (binary Mul a b))) (token.Punct mark.Star) a b text
   times_operand a b text p =
       let right = (each p.front p.value p.first).operand in
-      subst (λ (b : Node). Operand (Then (Unary m) (λ b. Gives (binary Mul a b))) (token.Punct mark.Star) a b text) (sym p.second.value) (record {
+      subst (λ (b : Node). Operand (Then (Unary m) (λ b. Gives (binary Mul a b))) (token.Punct mark.Star) a b text) (sym p.second.value)
+      (record {
         more = expression_tokens p.value place.Unary;
         printed = ended (λ (b : Node). binary Mul a b) (skip_back p right (gives_dropped p.second));
         factor = refl;
@@ -138,9 +198,11 @@ module _ (n m : ℕ) (each : (text : List Tagged) (e : Node) → Unary n text e 
         operand = refl;
       })
 
-  literal_operand : (op : LiteralOp) (a b : Node) (text : List Tagged) → Then (g.int plain) (λ k. Gives (literal op a k)) text b → Operand (Then (g.int plain) (λ k. Gives (literal op a k))) (token.Punct (literal_mark op)) a b text
+  literal_operand : (op : LiteralOp) (a b : Node) (text : List Tagged) → Then (g.int plain) (λ k. Gives (literal op a k)) text b
+      → Operand (Then (g.int plain) (λ k. Gives (literal op a k))) (token.Punct (literal_mark op)) a b text
   literal_operand op a b text p =
-      subst (λ (b : Node). Operand (Then (g.int plain) (λ k. Gives (literal op a k))) (token.Punct (literal_mark op)) a b text) (sym p.second.value) (record {
+      subst (λ (b : Node). Operand (Then (g.int plain) (λ k. Gives (literal op a k))) (token.Punct (literal_mark op)) a b text)
+      (sym p.second.value) (record {
         more = c.int p.value;
         printed = ended (λ (k : ℕ). literal op a k) (skip_back p (int_printed p.first) (gives_dropped p.second));
         factor = refl;
@@ -148,12 +210,23 @@ module _ (n m : ℕ) (each : (text : List Tagged) (e : Node) → Unary n text e 
         operand = refl;
       })
 
-  operand_printed : (t : Token) (f : _) → factor_at (Some t) ≡ Some f → (a b : Node) (text : List Tagged) → operand (Unary n) a f text b → Operand (operand (Unary m) a f) t a b text
-  operand_printed (token.Punct mark.Star) f e a b text = subst (λ k. operand (Unary n) a k text b → Operand (operand (Unary m) a k) (token.Punct mark.Star) a b text) (some_is e) (times_operand a b text)
-  operand_printed (token.Punct mark.Slash) f e a b text = subst (λ k. operand (Unary n) a k text b → Operand (operand (Unary m) a k) (token.Punct mark.Slash) a b text) (some_is e) (literal_operand Div a b text)
-  operand_printed (token.Punct mark.Percent) f e a b text = subst (λ k. operand (Unary n) a k text b → Operand (operand (Unary m) a k) (token.Punct mark.Percent) a b text) (some_is e) (literal_operand Rem a b text)
-  operand_printed (token.Punct mark.ShiftLeft) f e a b text = subst (λ k. operand (Unary n) a k text b → Operand (operand (Unary m) a k) (token.Punct mark.ShiftLeft) a b text) (some_is e) (literal_operand Shl a b text)
-  operand_printed (token.Punct mark.ShiftRight) f e a b text = subst (λ k. operand (Unary n) a k text b → Operand (operand (Unary m) a k) (token.Punct mark.ShiftRight) a b text) (some_is e) (literal_operand Shr a b text)
+  operand_printed : (t : Token) (f : _) → factor_at (Some t) ≡ Some f → (a b : Node) (text : List Tagged) → operand (Unary n) a f text b
+      → Operand (operand (Unary m) a f) t a b text
+  operand_printed (token.Punct mark.Star) f e a b text =
+      subst (λ k. operand (Unary n) a k text b → Operand (operand (Unary m) a k) (token.Punct mark.Star) a b text) (some_is e)
+      (times_operand a b text)
+  operand_printed (token.Punct mark.Slash) f e a b text =
+      subst (λ k. operand (Unary n) a k text b → Operand (operand (Unary m) a k) (token.Punct mark.Slash) a b text) (some_is e)
+      (literal_operand Div a b text)
+  operand_printed (token.Punct mark.Percent) f e a b text =
+      subst (λ k. operand (Unary n) a k text b → Operand (operand (Unary m) a k) (token.Punct mark.Percent) a b text) (some_is e)
+      (literal_operand Rem a b text)
+  operand_printed (token.Punct mark.ShiftLeft) f e a b text =
+      subst (λ k. operand (Unary n) a k text b → Operand (operand (Unary m) a k) (token.Punct mark.ShiftLeft) a b text) (some_is e)
+      (literal_operand Shl a b text)
+  operand_printed (token.Punct mark.ShiftRight) f e a b text =
+      subst (λ k. operand (Unary n) a k text b → Operand (operand (Unary m) a k) (token.Punct mark.ShiftRight) a b text) (some_is e)
+      (literal_operand Shr a b text)
   operand_printed _ f e a b text = λ p. absurd cc
 
   -- of a product of a
@@ -164,16 +237,19 @@ module _ (n m : ℕ) (each : (text : List Tagged) (e : Node) → Unary n text e 
   product_turn_fits a b s t fits p =
       let o = operand_printed p.first.token p.value p.first.means a b p.back p.second in
       let turn : Printed (product_more (Unary m) a) b (p.first.token ∷ o.more) t = rechain p (means p.first) o.printed in
-      let factor : Printed (product (Unary m)) b (expression_tokens b place.Product) (s ++ t) = relabel (sym o.factor) (one_more fits.factor turn) in
+      let factor : Printed (product (Unary m)) b (expression_tokens b place.Product) (s ++ t) =
+      relabel (sym o.factor) (one_more fits.factor turn) in
       record {
         operand = relabel (sym o.operand) (group_printed m b (expression_tokens b place.Product) (s ++ t) (none_more factor));
         factor = factor;
         whole = relabel (sym o.whole) (none_more factor);
       }
 
-  product_times_fit : (k : ℕ) (a b : Node) (s t : List Tagged) → ProductFits a s → times (product_more (Unary n)) k a t b → ProductFits b (s ++ t)
+  product_times_fit : (k : ℕ) (a b : Node) (s t : List Tagged) → ProductFits a s → times (product_more (Unary n)) k a t b
+      → ProductFits b (s ++ t)
   product_times_fit zero a b s t fits p =
-      subst (ProductFits b) (sym (ap (λ (l : List Tagged). s ++ l) p.empty ∙ append-nil s)) (subst (λ (e : Node). ProductFits e s) (sym p.value) fits)
+      subst (ProductFits b) (sym (ap (λ (l : List Tagged). s ++ l) p.empty ∙ append-nil s))
+      (subst (λ (e : Node). ProductFits e s) (sym p.value) fits)
   product_times_fit (suc k) a b s t fits p =
       let all = product_times_fit k p.value b (s ++ p.front) p.back (product_turn_fits a p.value s p.front fits p.first) p.second in
       subst (ProductFits b) (append_assoc s p.front p.back ∙ ap (λ (l : List Tagged). s ++ l) (sym p.parts)) all
@@ -181,13 +257,17 @@ module _ (n m : ℕ) (each : (text : List Tagged) (e : Node) → Unary n text e 
   product_fits : (text : List Tagged) (e : Node) → product (Unary n) text e → ProductFits e text
   product_fits text e p =
       let a = each p.front p.value p.first in
-      let first : ProductFits p.value p.front = record { operand = in_brackets (above p.front p.value p.first).operand; factor = a.factor; whole = a.whole } in
+      let first : ProductFits p.value p.front =
+      record { operand = in_brackets (above p.front p.value p.first).operand; factor = a.factor; whole = a.whole } in
       subst (ProductFits e) (sym p.parts) (product_times_fit p.second.which p.value e p.front p.back first p.second.it)
 
 -- ---- sums
 
-sum_tokens : (negative : Bool) (a b : Node) → (expression_tokens a place.Sum ++ (c.sign_tokens negative ++ expression_tokens b place.Product) ≡ expression_tokens (binary (sum_op negative) a b) place.Sum)
-    × (grouped (expression_tokens (binary (sum_op negative) a b) place.Sum) ≡ expression_tokens (binary (sum_op negative) a b) place.Product)
+sum_tokens : (negative : Bool) (a b : Node)
+    → (expression_tokens a place.Sum ++ (c.sign_tokens negative ++ expression_tokens b place.Product)
+    ≡ expression_tokens (binary (sum_op negative) a b) place.Sum)
+    × (grouped (expression_tokens (binary (sum_op negative) a b) place.Sum)
+    ≡ expression_tokens (binary (sum_op negative) a b) place.Product)
     × (grouped (expression_tokens (binary (sum_op negative) a b) place.Sum) ≡ expression_tokens (binary (sum_op negative) a b) place.Unary)
 sum_tokens true a b = (refl, refl, refl)
 sum_tokens false a b = (refl, refl, refl)
@@ -196,22 +276,29 @@ abbrev UnaryFits : ℕ → Type 0
 UnaryFits n = (m : ℕ) → n ≤ m → (text : List Tagged) (e : Node) → Unary n text e → Everywhere (Unary m) e text
 
 module _ (n : ℕ) (each : UnaryFits n) where
-  product_fits_at : (m : ℕ) → n ≤ m → (text : List Tagged) (e : Node) → product (Unary n) text e → Fits (Unary (suc m)) (product (Unary m)) (sums (product (Unary m))) e (bracketed text) text text
+  product_fits_at : (m : ℕ) → n ≤ m → (text : List Tagged) (e : Node) → product (Unary n) text e
+      → Fits (Unary (suc m)) (product (Unary m)) (sums (product (Unary m))) e (bracketed text) text text
   product_fits_at m h = product_fits n m (each m h) (each (suc m) (omega arith))
 
   -- of a sum, with m levels
   abbrev SumFits : ℕ → Node → List Tagged → Type 0
   SumFits m e text = Fits (Unary (suc m)) (product (Unary (suc m))) (sums (product (Unary m))) e (bracketed text) (bracketed text) text
 
-  sum_turn_fits : (m : ℕ) → n ≤ m → (a b : Node) (s t : List Tagged) → SumFits m a s → sum_more (product (Unary n)) a t b → SumFits m b (s ++ t)
+  sum_turn_fits : (m : ℕ) → n ≤ m → (a b : Node) (s t : List Tagged) → SumFits m a s → sum_more (product (Unary n)) a t b
+      → SumFits m b (s ++ t)
   sum_turn_fits m h a b s t fits p =
       let q = p.second in
       let e = sum_tokens p.value a q.value in
-      let right : Printed (Then (product (Unary m)) (λ b. Gives (binary (sum_op p.value) a b))) (binary (sum_op p.value) a q.value) (expression_tokens q.value place.Product) p.back =
-      ended (λ (b : Node). binary (sum_op p.value) a b) (skip_back q (product_fits_at m h q.front q.value q.first).factor (gives_dropped q.second)) in
-      let turn : Printed (sum_more (product (Unary m)) a) (binary (sum_op p.value) a q.value) (c.sign_tokens p.value ++ expression_tokens q.value place.Product) t =
-      at_text (sym p.parts) (joined {Q = λ negative. Then (product (Unary m)) (λ b. Gives (binary (sum_op negative) a b))} (sign_printed p.first) right) in
-      let whole : Printed (sums (product (Unary m))) (binary (sum_op p.value) a q.value) (expression_tokens (binary (sum_op p.value) a q.value) place.Sum) (s ++ t) = relabel e.0 (one_more fits.whole turn) in
+      let right : Printed (Then (product (Unary m)) (λ b. Gives (binary (sum_op p.value) a b))) (binary (sum_op p.value) a q.value)
+      (expression_tokens q.value place.Product) p.back =
+      ended (λ (b : Node). binary (sum_op p.value) a b)
+      (skip_back q (product_fits_at m h q.front q.value q.first).factor (gives_dropped q.second)) in
+      let turn : Printed (sum_more (product (Unary m)) a) (binary (sum_op p.value) a q.value)
+      (c.sign_tokens p.value ++ expression_tokens q.value place.Product) t =
+      at_text (sym p.parts)
+      (joined {Q = λ negative. Then (product (Unary m)) (λ b. Gives (binary (sum_op negative) a b))} (sign_printed p.first) right) in
+      let whole : Printed (sums (product (Unary m))) (binary (sum_op p.value) a q.value)
+      (expression_tokens (binary (sum_op p.value) a q.value) place.Sum) (s ++ t) = relabel e.0 (one_more fits.whole turn) in
       let grouped_whole = group_printed m (binary (sum_op p.value) a q.value) _ (s ++ t) whole in
       subst (λ (b : Node). SumFits m b (s ++ t)) (sym q.second.value) (record {
         operand = relabel e.2 grouped_whole;
@@ -219,9 +306,11 @@ module _ (n : ℕ) (each : UnaryFits n) where
         whole = whole;
       })
 
-  sum_times_fit : (m : ℕ) → n ≤ m → (k : ℕ) (a b : Node) (s t : List Tagged) → SumFits m a s → times (sum_more (product (Unary n))) k a t b → SumFits m b (s ++ t)
+  sum_times_fit : (m : ℕ) → n ≤ m → (k : ℕ) (a b : Node) (s t : List Tagged) → SumFits m a s → times (sum_more (product (Unary n))) k a t b
+      → SumFits m b (s ++ t)
   sum_times_fit m h zero a b s t fits p =
-      subst (SumFits m b) (sym (ap (λ (l : List Tagged). s ++ l) p.empty ∙ append-nil s)) (subst (λ (e : Node). SumFits m e s) (sym p.value) fits)
+      subst (SumFits m b) (sym (ap (λ (l : List Tagged). s ++ l) p.empty ∙ append-nil s))
+      (subst (λ (e : Node). SumFits m e s) (sym p.value) fits)
   sum_times_fit m h (suc k) a b s t fits p =
       let all = sum_times_fit m h k p.value b (s ++ p.front) p.back (sum_turn_fits m h a p.value s p.front fits p.first) p.second in
       subst (SumFits m b) (append_assoc s p.front p.back ∙ ap (λ (l : List Tagged). s ++ l) (sym p.parts)) all
@@ -240,10 +329,14 @@ module _ (U E V F : Rule Node) (unary : (text : List Tagged) (e : Node) → U te
   negation_printed : (p : Place) (text : List Tagged) (e : Node) → negation U text e → Printed (negation V) e (expression_tokens e p) text
   negation_printed p text e p1 =
       let p2 = p1.second in
-      relabel (ap (λ (l : List Token). c.mark mark.Minus ++ l) (append-nil _) ∙ ap (λ (e : Node). expression_tokens e p) (sym p2.second.value))
+      relabel
+      (ap (λ (l : List Token). c.mark mark.Minus ++ l) (append-nil _) ∙ ap (λ (e : Node). expression_tokens e p) (sym p2.second.value))
       (rechain p1 (takes p1.first) (rechain p2 (unary p2.front p2.value p2.first) (gives p2.second)))
 
-  pair_printed : (w : Keyword) (op : BinaryOp) (p : Place) → ((a b : Node) → c.word w ⌢ c.mark mark.OpenRound ⌢ expression_tokens a place.Sum ⌢ c.mark mark.Comma ⌢ expression_tokens b place.Sum ⌢ c.mark mark.CloseRound ≡ expression_tokens (binary op a b) p)
+  pair_printed : (w : Keyword) (op : BinaryOp) (p : Place)
+      → ((a b : Node)
+      → c.word w ⌢ c.mark mark.OpenRound ⌢ expression_tokens a place.Sum ⌢ c.mark mark.Comma ⌢ expression_tokens b place.Sum ⌢ c.mark
+      mark.CloseRound ≡ expression_tokens (binary op a b) p)
       → (text : List Tagged) (e : Node) → pair w op E text e → Printed (pair w op F) e (expression_tokens e p) text
   pair_printed w op p tokens text e p1 =
       let p2 = p1.second in
@@ -261,7 +354,8 @@ module _ (U E V F : Rule Node) (unary : (text : List Tagged) (e : Node) → U te
       let p3 = p2.second in
       let p4 = p3.second in
       relabel (ap (λ (e : Node). expression_tokens e p) (sym p4.second.value))
-      (rechain p1 (takes p1.first) (rechain p2 (takes p2.first) (rechain p3 (inner p3.front p3.value p3.first) (rechain p4 (takes p4.first) (gives p4.second)))))
+      (rechain p1 (takes p1.first)
+      (rechain p2 (takes p2.first) (rechain p3 (inner p3.front p3.value p3.first) (rechain p4 (takes p4.first) (gives p4.second)))))
 
   clamped_printed : (p : Place) (text : List Tagged) (e : Node) → clamped E text e → Printed (clamped F) e (expression_tokens e p) text
   clamped_printed p text e p1 =
@@ -274,7 +368,8 @@ module _ (U E V F : Rule Node) (unary : (text : List Tagged) (e : Node) → U te
       let p8 = p7.second in
       relabel (ap (λ (e : Node). expression_tokens e p) (sym p8.second.value))
       (rechain p1 (takes p1.first) (rechain p2 (takes p2.first) (rechain p3 (inner p3.front p3.value p3.first) (rechain p4 (takes p4.first)
-      (rechain p5 (inner p5.front p5.value p5.first) (rechain p6 (takes p6.first) (rechain p7 (inner p7.front p7.value p7.first) (rechain p8 (takes p8.first) (gives p8.second)))))))))
+      (rechain p5 (inner p5.front p5.value p5.first)
+      (rechain p6 (takes p6.first) (rechain p7 (inner p7.front p7.value p7.first) (rechain p8 (takes p8.first) (gives p8.second)))))))))
 
   selected_printed : (p : Place) (text : List Tagged) (e : Node) → selected E text e → Printed (selected F) e (expression_tokens e p) text
   selected_printed p text e p1 =
@@ -288,8 +383,10 @@ module _ (U E V F : Rule Node) (unary : (text : List Tagged) (e : Node) → U te
       let p9 = p8.second in
       let p10 = p9.second in
       relabel (ap (λ (e : Node). expression_tokens e p) (sym p10.second.value))
-      (rechain p1 (takes p1.first) (rechain p2 (takes p2.first) (rechain p3 (inner p3.front p3.value p3.first) (rechain p4 (relation_printed p4.first)
-      (rechain p5 (inner p5.front p5.value p5.first) (rechain p6 (takes p6.first) (rechain p7 (inner p7.front p7.value p7.first) (rechain p8 (takes p8.first)
+      (rechain p1 (takes p1.first)
+      (rechain p2 (takes p2.first) (rechain p3 (inner p3.front p3.value p3.first) (rechain p4 (relation_printed p4.first)
+      (rechain p5 (inner p5.front p5.value p5.first)
+      (rechain p6 (takes p6.first) (rechain p7 (inner p7.front p7.value p7.first) (rechain p8 (takes p8.first)
       (rechain p9 (inner p9.front p9.value p9.first) (rechain p10 (takes p10.first) (gives p10.second)))))))))))
 
 -- ---- all levels
@@ -300,14 +397,18 @@ bracketed_is n text e p =
     let q = p.second in
     let r = q.second in
     let close : Tagged = record { token = token.Punct mark.CloseRound; role = plain } in
-    let end : q.back ≡ close ∷ [] = r.parts ∙ ap (λ (l : List Tagged). l ++ r.back) r.first.text_is ∙ ap (λ (l : List Tagged). close ∷ l) r.second.empty in
-    p.parts ∙ ap (λ (l : List Tagged). l ++ p.back) p.first.text_is ∙ ap (λ (l : List Tagged). record { token = token.Punct mark.OpenRound; role = plain } ∷ l) (q.parts ∙ ap (λ (l : List Tagged). q.front ++ l) end)
+    let end : q.back ≡ close ∷ [] =
+    r.parts ∙ ap (λ (l : List Tagged). l ++ r.back) r.first.text_is ∙ ap (λ (l : List Tagged). close ∷ l) r.second.empty in
+    p.parts ∙ ap (λ (l : List Tagged). l ++ p.back) p.first.text_is
+    ∙ ap (λ (l : List Tagged). record { token = token.Punct mark.OpenRound; role = plain } ∷ l)
+    (q.parts ∙ ap (λ (l : List Tagged). q.front ++ l) end)
 
 module _ (n : ℕ) (each : UnaryFits n) (m : ℕ) (low : n ≤ m) where
   operand_at : (text : List Tagged) (e : Node) → Unary n text e → Printed (Unary m) e (expression_tokens e place.Unary) text
   operand_at text e p = (each m low text e p).operand
 
-  inner_at : (text : List Tagged) (e : Node) → sums (product (Unary n)) text e → Printed (sums (product (Unary m))) e (expression_tokens e place.Sum) text
+  inner_at : (text : List Tagged) (e : Node) → sums (product (Unary n)) text e
+      → Printed (sums (product (Unary m))) e (expression_tokens e place.Sum) text
   inner_at text e p = (sum_fits n each m low text e p).whole
 
   group_fits : (text : List Tagged) (e : Node) → group (sums (product (Unary n))) text e → Everywhere (Unary (suc m)) e text
@@ -315,18 +416,24 @@ module _ (n : ℕ) (each : UnaryFits n) (m : ℕ) (low : n ≤ m) where
       let q = p.second in
       let at = sum_fits n each m low q.front q.value q.first in
       let above = sum_fits n each (suc m) (omega arith) q.front q.value q.first in
-      let fits : Everywhere (Unary (suc m)) q.value (bracketed q.front) = record { operand = at.operand; factor = at.factor; whole = in_brackets above.whole } in
-      subst (λ (e : Node). Everywhere (Unary (suc m)) e text) (sym q.second.second.value) (subst (Everywhere (Unary (suc m)) q.value) (sym (bracketed_is n text e p)) fits)
+      let fits : Everywhere (Unary (suc m)) q.value (bracketed q.front) =
+      record { operand = at.operand; factor = at.factor; whole = in_brackets above.whole } in
+      subst (λ (e : Node). Everywhere (Unary (suc m)) e text) (sym q.second.second.value)
+      (subst (Everywhere (Unary (suc m)) q.value) (sym (bracketed_is n text e p)) fits)
 
   opened_fits : (text : List Tagged) (e : Node) → opened (Unary n) (sums (product (Unary n))) text e → Everywhere (Unary (suc m)) e text
   unfolding Unary
-  opened_fits text e (inl (inl (inl (inl (inl (inl h)))))) = same_places (Unary (suc m)) e text (λ p. becomes (λ t k. inr (inl (inl (inl (inl (inl (inl k)))))))
+  opened_fits text e (inl (inl (inl (inl (inl (inl h)))))) =
+      same_places (Unary (suc m)) e text (λ p. becomes (λ t k. inr (inl (inl (inl (inl (inl (inl k)))))))
       (negation_printed (Unary n) (sums (product (Unary n))) (Unary m) (sums (product (Unary m))) operand_at inner_at p text e h))
   opened_fits text e (inl (inl (inl (inl (inl (inr h)))))) = group_fits text e h
-  opened_fits text e (inl (inl (inl (inl (inr h))))) = same_places (Unary (suc m)) e text (λ p. becomes (λ t k. inr (inl (inl (inl (inl (inr k))))))
-      (pair_printed (Unary n) (sums (product (Unary n))) (Unary m) (sums (product (Unary m))) operand_at inner_at word.Min Min p (λ a b. refl) text e h))
+  opened_fits text e (inl (inl (inl (inl (inr h))))) =
+      same_places (Unary (suc m)) e text (λ p. becomes (λ t k. inr (inl (inl (inl (inl (inr k))))))
+      (pair_printed (Unary n) (sums (product (Unary n))) (Unary m) (sums (product (Unary m))) operand_at inner_at word.Min Min p
+      (λ a b. refl) text e h))
   opened_fits text e (inl (inl (inl (inr h)))) = same_places (Unary (suc m)) e text (λ p. becomes (λ t k. inr (inl (inl (inl (inr k)))))
-      (pair_printed (Unary n) (sums (product (Unary n))) (Unary m) (sums (product (Unary m))) operand_at inner_at word.Max Max p (λ a b. refl) text e h))
+      (pair_printed (Unary n) (sums (product (Unary n))) (Unary m) (sums (product (Unary m))) operand_at inner_at word.Max Max p
+      (λ a b. refl) text e h))
   opened_fits text e (inl (inl (inr h))) = same_places (Unary (suc m)) e text (λ p. becomes (λ t k. inr (inl (inl (inr k))))
       (absolute_printed (Unary n) (sums (product (Unary n))) (Unary m) (sums (product (Unary m))) operand_at inner_at p text e h))
   opened_fits text e (inl (inr h)) = same_places (Unary (suc m)) e text (λ p. becomes (λ t k. inr (inl (inr k)))
@@ -347,6 +454,7 @@ unary_fits zero m h text e p = leaf_fits m text e p
 unary_fits (suc n) m h text e p = more_levels n (unary_fits n) m h text e p
 
 -- Where an expression stands alone, its canonical text is read with as many levels.
-pub expression_printed : (levels : ℕ) (text : List Tagged) (e : Node) → Expression levels text e → Printed (Expression levels) e (expression_tokens e place.Sum) text
+pub expression_printed : (levels : ℕ) (text : List Tagged) (e : Node) → Expression levels text e
+    → Printed (Expression levels) e (expression_tokens e place.Sum) text
 unfolding Expression Product
 expression_printed levels text e p = (sum_fits levels (unary_fits levels) levels (omega arith) text e p).whole

@@ -31,7 +31,8 @@ names_printed text ns p = elim p.second [
       let s = r.second in
       let u = s.second in
       relabel (ap names_tokens (sym u.second.value))
-      (chain p (name_printed p.first) (becomes (λ t k. inl k) (chain q (takes q.first) (chain r (name_printed r.first) (chain s (takes s.first) (chain u (name_printed u.first) (gives u.second)))))))
+      (chain p (name_printed p.first) (becomes (λ t k. inl k) (chain q (takes q.first)
+      (chain r (name_printed r.first) (chain s (takes s.first) (chain u (name_printed u.first) (gives u.second)))))))
   | inr q ↦ relabel (ap names_tokens (sym q.value)) (chain p (name_printed p.first) (becomes (λ t k. inr k) (gives q)))
 ]
 
@@ -41,7 +42,8 @@ param_printed : (text : List Tagged) (x : Param) → a_param text x → Printed 
 param_printed text x p1 =
     let p2 = p1.second in
     let p3 = p2.second in
-    relabel (ap param_tokens (sym p3.second.value)) (chain p1 (takes p1.first) (chain p2 (name_printed p2.first) (chain p3 (takes p3.first) (gives p3.second))))
+    relabel (ap param_tokens (sym p3.second.value))
+    (chain p1 (takes p1.first) (chain p2 (name_printed p2.first) (chain p3 (takes p3.first) (gives p3.second))))
 
 image_printed : (text : List Tagged) (x : Image) → an_image text x → Printed an_image x (image_tokens x) text
 unfolding an_image
@@ -54,8 +56,10 @@ image_printed text x p1 =
     let p7 = p6.second in
     let p8 = p7.second in
     relabel (ap image_tokens (sym p8.second.value))
-    (chain p1 (takes p1.first) (chain p2 (names_printed p2.front p2.value p2.first) (chain p3 (takes p3.first) (chain p4 (affine_printed p4.front p4.value p4.first)
-    (chain p5 (takes p5.first) (chain p6 (affine_printed p6.front p6.value p6.first) (chain p7 (takes p7.first) (chain p8 (takes p8.first) (gives p8.second)))))))))
+    (chain p1 (takes p1.first) (chain p2 (names_printed p2.front p2.value p2.first)
+    (chain p3 (takes p3.first) (chain p4 (affine_printed p4.front p4.value p4.first)
+    (chain p5 (takes p5.first) (chain p6 (affine_printed p6.front p6.value p6.first)
+    (chain p7 (takes p7.first) (chain p8 (takes p8.first) (gives p8.second)))))))))
 
 output_printed : (text : List Tagged) (x : Output) → an_output text x → Printed an_output x (output_tokens x) text
 output_printed text x p1 =
@@ -64,9 +68,11 @@ output_printed text x p1 =
     let p4 = p3.second in
     let p5 = p4.second in
     relabel (ap output_tokens (sym p5.second.value))
-    (chain p1 (takes p1.first) (chain p2 (names_printed p2.front p2.value p2.first) (chain p3 (takes p3.first) (chain p4 (int_printed p4.first) (chain p5 (takes p5.first) (gives p5.second))))))
+    (chain p1 (takes p1.first) (chain p2 (names_printed p2.front p2.value p2.first)
+    (chain p3 (takes p3.first) (chain p4 (int_printed p4.first) (chain p5 (takes p5.first) (gives p5.second))))))
 
-variables_printed : (text : List Tagged) (vs : Variable × Variable) → variables text vs → Printed variables vs (variables_tokens vs.0 vs.1) text
+variables_printed : (text : List Tagged) (vs : Variable × Variable) → variables text vs
+    → Printed variables vs (variables_tokens vs.0 vs.1) text
 unfolding variables
 variables_printed text vs p1 =
     let p2 = p1.second in
@@ -74,7 +80,8 @@ variables_printed text vs p1 =
     let p4 = p3.second in
     let p5 = p4.second in
     relabel (ap (λ (vs : Variable × Variable). variables_tokens vs.0 vs.1) (sym p5.second.value))
-    (chain p1 (takes p1.first) (chain p2 (variable_printed p2.front p2.value p2.first) (chain p3 (takes p3.first) (chain p4 (variable_printed p4.front p4.value p4.first) (chain p5 (takes p5.first) (gives p5.second))))))
+    (chain p1 (takes p1.first) (chain p2 (variable_printed p2.front p2.value p2.first)
+    (chain p3 (takes p3.first) (chain p4 (variable_printed p4.front p4.value p4.first) (chain p5 (takes p5.first) (gives p5.second))))))
 
 -- ---- conditions
 
@@ -85,11 +92,14 @@ test_printed text t p = elim p.second [
       let q3 = q2.second in
       let q4 = q3.second in
       relabel (ap test_tokens (sym q4.second.value))
-      (chain p (name_printed p.first) (becomes (λ t k. inl k) (chain q1 (takes q1.first) (chain q2 (int_printed q2.first) (chain q3 (takes q3.first) (chain q4 (int_printed q4.first) (gives q4.second)))))))
+      (chain p (name_printed p.first) (becomes (λ t k. inl k) (chain q1 (takes q1.first)
+      (chain q2 (int_printed q2.first) (chain q3 (takes q3.first) (chain q4 (int_printed q4.first) (gives q4.second)))))))
   | inr q1 ↦
       let q2 = q1.second in
-      relabel (ap (λ (l : List Token). c.name p.value ++ (c.mark (c.relation_mark q1.value) ++ l)) (append-nil (c.affine_tokens q2.value)) ∙ ap test_tokens (sym q2.second.value))
-      (chain p (name_printed p.first) (becomes (λ t k. inr k) (chain q1 (relation_printed q1.first) (chain q2 (affine_printed q2.front q2.value q2.first) (gives q2.second)))))
+      relabel (ap (λ (l : List Token). c.name p.value ++ (c.mark (c.relation_mark q1.value) ++ l)) (append-nil (c.affine_tokens q2.value))
+      ∙ ap test_tokens (sym q2.second.value))
+      (chain p (name_printed p.first) (becomes (λ t k. inr k)
+      (chain q1 (relation_printed q1.first) (chain q2 (affine_printed q2.front q2.value q2.first) (gives q2.second)))))
 ]
 
 condition_printed : (text : List Tagged) (tests : List Test) → condition text tests → Printed condition tests (condition_tokens tests) text
@@ -103,20 +113,25 @@ module _ (levels : ℕ) where
   value_printed text e p1 =
       let p2 = p1.second in
       let p3 = p2.second in
-      relabel (ap value_tokens (sym p3.second.value)) (chain p1 (takes p1.first) (chain p2 (expression_printed levels p2.front p2.value p2.first) (chain p3 (takes p3.first) (gives p3.second))))
+      relabel (ap value_tokens (sym p3.second.value)) (chain p1 (takes p1.first)
+      (chain p2 (expression_printed levels p2.front p2.value p2.first) (chain p3 (takes p3.first) (gives p3.second))))
 
-  case_adds : (cases more : List Branch) (text : List Tagged) → a_case levels cases text more → Adds (a_case levels cases) case_tokens cases text more
+  case_adds : (cases more : List Branch) (text : List Tagged) → a_case levels cases text more
+      → Adds (a_case levels cases) case_tokens cases text more
   case_adds cases more text p1 =
       let p2 = p1.second in
       let p3 = p2.second in
       adds_one (record { condition = p2.value; value = p3.value }) p3.second.value
       (relabel (ap (λ (l : List Token). c.word word.Case ++ (condition_tokens p2.value ++ l)) (append-nil (value_tokens p3.value)))
-      (chain p1 (takes p1.first) (chain p2 (condition_printed p2.front p2.value p2.first) (chain p3 (value_printed p3.front p3.value p3.first) (gives p3.second)))))
+      (chain p1 (takes p1.first) (chain p2 (condition_printed p2.front p2.value p2.first)
+      (chain p3 (value_printed p3.front p3.value p3.first) (gives p3.second)))))
 
-  otherwise_printed : (text : List Tagged) (e : Option Node) → otherwise levels text e → Printed (otherwise levels) e (otherwise_tokens e) text
+  otherwise_printed : (text : List Tagged) (e : Option Node) → otherwise levels text e
+      → Printed (otherwise levels) e (otherwise_tokens e) text
   otherwise_printed text e (inl p1) =
       let p2 = p1.second in
-      relabel (ap (λ (l : List Token). c.word word.Else ++ l) (append-nil (value_tokens p2.value)) ∙ ap otherwise_tokens (sym p2.second.value))
+      relabel
+      (ap (λ (l : List Token). c.word word.Else ++ l) (append-nil (value_tokens p2.value)) ∙ ap otherwise_tokens (sym p2.second.value))
       (becomes (λ t k. inl k) (chain p1 (takes p1.first) (chain p2 (value_printed p2.front p2.value p2.first) (gives p2.second))))
   otherwise_printed text e (inr p) = relabel (ap otherwise_tokens (sym p.value)) (becomes (λ t k. inr k) (gives p))
 
@@ -131,10 +146,13 @@ module _ (levels : ℕ) where
       let p7 = p6.second in
       let cases = many_adds (a_case levels) case_tokens case_adds [] p5.value p5.front p5.first in
       relabel (ap function_tokens (sym p7.second.value))
-      (chain p1 (takes p1.first) (chain p2 (name_printed p2.first) (chain p3 (variables_printed p3.front p3.value p3.first) (chain p4 (takes p4.first)
-      (chain p5 (relabel (ap (flat_map case_tokens) (sym cases.list)) cases.printed) (chain p6 (otherwise_printed p6.front p6.value p6.first) (chain p7 (takes p7.first) (gives p7.second))))))))
+      (chain p1 (takes p1.first)
+      (chain p2 (name_printed p2.first) (chain p3 (variables_printed p3.front p3.value p3.first) (chain p4 (takes p4.first)
+      (chain p5 (relabel (ap (flat_map case_tokens) (sym cases.list)) cases.printed)
+      (chain p6 (otherwise_printed p6.front p6.value p6.first) (chain p7 (takes p7.first) (gives p7.second))))))))
 
-  accumulator_printed : (text : List Tagged) (a : Accumulator) → an_accumulator levels text a → Printed (an_accumulator levels) a (accumulator_tokens a) text
+  accumulator_printed : (text : List Tagged) (a : Accumulator) → an_accumulator levels text a
+      → Printed (an_accumulator levels) a (accumulator_tokens a) text
   unfolding an_accumulator
   accumulator_printed text a p1 =
       let p2 = p1.second in
@@ -147,23 +165,35 @@ module _ (levels : ℕ) where
       let p9 = p8.second in
       let p10 = p9.second in
       relabel (ap accumulator_tokens (sym p10.second.value))
-      (chain p1 (takes p1.first) (chain p2 (name_printed p2.first) (chain p3 (span_printed p3.front p3.value p3.first) (chain p4 (takes p4.first) (chain p5 (variables_printed p5.front p5.value p5.first)
+      (chain p1 (takes p1.first) (chain p2 (name_printed p2.first) (chain p3 (span_printed p3.front p3.value p3.first)
+      (chain p4 (takes p4.first) (chain p5 (variables_printed p5.front p5.value p5.first)
       (chain p6 (fold_printed p6.first) (chain p7 (expression_printed levels p7.front p7.value p7.first) (chain p8 (takes p8.first)
       (chain p9 (expression_printed levels p9.front p9.value p9.first) (chain p10 (takes p10.first) (gives p10.second)))))))))))
 
   -- ---- programs
 
-  first_output : (items : List Declaration) (text : List Tagged) (o : Output) → FirstOutput items text o → Printed (FirstOutput items) o (output_tokens o) text
+  first_output : (items : List Declaration) (text : List Tagged) (o : Output) → FirstOutput items text o
+      → Printed (FirstOutput items) o (output_tokens o) text
   first_output items text o p = becomes (λ t k. record { no_other = p.no_other; it = k }) (output_printed text o p.it)
 
-  other_adds : (items more : List Declaration) (text : List Tagged) → other levels items text more → Adds (other levels items) item_tokens items text more
-  other_adds items more text (inl (inl (inl p))) = adds_one (param p.value) p.second.value (relabel (append-nil (param_tokens p.value)) (becomes (λ t k. inl (inl (inl k))) (chain p (param_printed p.front p.value p.first) (gives p.second))))
-  other_adds items more text (inl (inl (inr p))) = adds_one (function p.value) p.second.value (relabel (append-nil (function_tokens p.value)) (becomes (λ t k. inl (inl (inr k))) (chain p (function_printed p.front p.value p.first) (gives p.second))))
-  other_adds items more text (inl (inr p)) = adds_one (accumulator p.value) p.second.value (relabel (append-nil (accumulator_tokens p.value)) (becomes (λ t k. inl (inr k)) (chain p (accumulator_printed p.front p.value p.first) (gives p.second))))
-  other_adds items more text (inr p) = adds_one (output p.value) p.second.value (relabel (append-nil (output_tokens p.value)) (becomes (λ t k. inr k) (chain p (first_output items p.front p.value p.first) (gives p.second))))
+  other_adds : (items more : List Declaration) (text : List Tagged) → other levels items text more
+      → Adds (other levels items) item_tokens items text more
+  other_adds items more text (inl (inl (inl p))) =
+      adds_one (param p.value) p.second.value (relabel (append-nil (param_tokens p.value))
+      (becomes (λ t k. inl (inl (inl k))) (chain p (param_printed p.front p.value p.first) (gives p.second))))
+  other_adds items more text (inl (inl (inr p))) =
+      adds_one (function p.value) p.second.value (relabel (append-nil (function_tokens p.value))
+      (becomes (λ t k. inl (inl (inr k))) (chain p (function_printed p.front p.value p.first) (gives p.second))))
+  other_adds items more text (inl (inr p)) =
+      adds_one (accumulator p.value) p.second.value (relabel (append-nil (accumulator_tokens p.value))
+      (becomes (λ t k. inl (inr k)) (chain p (accumulator_printed p.front p.value p.first) (gives p.second))))
+  other_adds items more text (inr p) =
+      adds_one (output p.value) p.second.value (relabel (append-nil (output_tokens p.value))
+      (becomes (λ t k. inr k) (chain p (first_output items p.front p.value p.first) (gives p.second))))
 
   -- A program's canonical text is read with as many levels.
-  pub program_printed : (text : List Tagged) (tree : List Declaration) → Program levels text tree → Printed (Program levels) tree (canonical_tokens tree) text
+  pub program_printed : (text : List Tagged) (tree : List Declaration) → Program levels text tree
+      → Printed (Program levels) tree (canonical_tokens tree) text
   unfolding Program
   program_printed text tree p =
       let q = p.second in
@@ -171,6 +201,8 @@ module _ (levels : ℕ) where
       let items : List Declaration = p.value ++ image q.value ∷ [] in
       let behind = many_adds (other levels) item_tokens other_adds items tree q.back q.second in
       let list : canonical_tokens tree ≡ canonical_tokens p.value ++ (image_tokens q.value ++ canonical_tokens behind.added) =
-      ap canonical_tokens (behind.list ∙ append_assoc p.value (image q.value ∷ []) behind.added) ∙ flat_map-append item_tokens p.value (image q.value ∷ behind.added) in
+      ap canonical_tokens (behind.list ∙ append_assoc p.value (image q.value ∷ []) behind.added)
+      ∙ flat_map-append item_tokens p.value (image q.value ∷ behind.added) in
       relabel (sym list)
-      (chain p (relabel (ap canonical_tokens (sym before.list)) before.printed) (chain q (image_printed q.front q.value q.first) behind.printed))
+      (chain p (relabel (ap canonical_tokens (sym before.list)) before.printed)
+      (chain q (image_printed q.front q.value q.first) behind.printed))

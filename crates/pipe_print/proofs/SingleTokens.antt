@@ -14,7 +14,8 @@ use Rattle.pipe_print.specs.Canonical as c
 use Rattle.pipe_print.proofs.Printed.{Shortens, Shortens-refl, nothing, leaves_out, puts_zero, Printed, Drops, becomes, relabel, takes, takes_dropped}
 
 -- one token that means something
-pub means : {X : Type 0} {meaning : Option Token → Option X} {role : _} {text : List Tagged} {x : X} (p : Means meaning role text x) → Printed (Means meaning role) x (p.token ∷ []) text
+pub means : {X : Type 0} {meaning : Option Token → Option X} {role : _} {text : List Tagged} {x : X} (p : Means meaning role text x)
+    → Printed (Means meaning role) x (p.token ∷ []) text
 means {role = role} p = record {
   tagged = record { token = p.token; role = role } ∷ [];
   tokens = refl;
@@ -61,13 +62,16 @@ fold_printed {f = f} p = relabel (means_fold p.token f p.means) (means p)
 -- a number; one that is too big is read as 0
 pub int_printed : {role : _} {text : List Tagged} {n : ℕ} → g.int role text n → Printed (g.int role) n (c.int n) text
 int_printed {role = role} {text = text} {n = n} (inl p) =
-    subst (λ (k : ℕ). Printed (g.int role) k (c.int k) text) (sym p.it.value) (becomes (λ t h. inl (record { which = p.which; it = h })) (takes (record { text_is = p.it.text_is; value = refl })))
+    subst (λ (k : ℕ). Printed (g.int role) k (c.int k) text) (sym p.it.value)
+    (becomes (λ t h. inl (record { which = p.which; it = h })) (takes (record { text_is = p.it.text_is; value = refl })))
 int_printed {role = role} {text = text} {n = n} (inr p) =
     subst (λ (k : ℕ). Printed (g.int role) k (c.int k) text) (sym p.value) (record {
       tagged = record { token = token.Int 0; role = role } ∷ [];
       tokens = refl;
       rule = inl (record { which = 0; it = record { text_is = refl; value = refl } });
-      shorter = subst (λ (l : List Tagged). Shortens (record { token = token.Int 0; role = role } ∷ []) l) (sym p.text_is) (puts_zero (record { token = token.TooBig; role = role }) [] [] refl nothing);
+      shorter =
+          subst (λ (l : List Tagged). Shortens (record { token = token.Int 0; role = role } ∷ []) l) (sym p.text_is)
+          (puts_zero (record { token = token.TooBig; role = role }) [] [] refl nothing);
     })
 
 -- ---- left out

@@ -121,7 +121,8 @@ is_zero _ = false
 
 -- parentheses stand exactly where something is added and the sum is divided
 abbrev pub index_tokens : Index → List Token
-index_tokens i = grouped_if (not (is_zero i.add) && not (i.div == 1)) (scaled_tokens i.mul i.name ⌢ addend_tokens i.add) ⌢ divisor_tokens i.div
+index_tokens i =
+    grouped_if (not (is_zero i.add) && not (i.div == 1)) (scaled_tokens i.mul i.name ⌢ addend_tokens i.add) ⌢ divisor_tokens i.div
 
 abbrev pub entry_tokens : ℤ → List Token
 entry_tokens (pos n) = int n
@@ -182,7 +183,8 @@ expression_tokens (binary Max a b) p = pair_tokens words.Max (expression_tokens 
 expression_tokens (literal op a n) p = product_in p (expression_tokens a places.Product ⌢ mark (literal_mark op) ⌢ int n)
 expression_tokens (abs a) p = word words.Abs ⌢ grouped (expression_tokens a places.Sum)
 expression_tokens (clamp a low high) p =
-    word words.Clamp ⌢ mark OpenRound ⌢ expression_tokens a places.Sum ⌢ mark Comma ⌢ expression_tokens low places.Sum ⌢ mark Comma ⌢ expression_tokens high places.Sum ⌢ mark CloseRound
+    word words.Clamp ⌢ mark OpenRound ⌢ expression_tokens a places.Sum ⌢ mark Comma ⌢ expression_tokens low places.Sum ⌢ mark Comma ⌢
+    expression_tokens high places.Sum ⌢ mark CloseRound
 expression_tokens (select a relation b held other) p =
     word words.Select ⌢ mark OpenRound ⌢ expression_tokens a places.Sum ⌢ mark (relation_mark relation) ⌢ expression_tokens b places.Sum
     ⌢ mark Comma ⌢ expression_tokens held places.Sum ⌢ mark Comma ⌢ expression_tokens other places.Sum ⌢ mark CloseRound
@@ -224,18 +226,22 @@ param_tokens p = word words.Param ⌢ name p.name ⌢ mark Semicolon
 
 abbrev pub image_tokens : Image → List Token
 image_tokens i =
-    word words.Image ⌢ names_tokens i.names ⌢ mark OpenRound ⌢ affine_tokens i.rows ⌢ mark Comma ⌢ affine_tokens i.columns ⌢ mark CloseRound ⌢ mark Semicolon
+    word words.Image ⌢ names_tokens i.names ⌢ mark OpenRound ⌢ affine_tokens i.rows ⌢ mark Comma ⌢ affine_tokens i.columns ⌢ mark CloseRound
+    ⌢ mark Semicolon
 
 abbrev pub function_tokens : Function → List Token
 function_tokens f =
-    word words.Func ⌢ name f.name ⌢ variables_tokens f.row f.column ⌢ mark OpenCurly ⌢ flat_map case_tokens f.cases ⌢ otherwise_tokens f.otherwise ⌢ mark CloseCurly
+    word words.Func ⌢ name f.name ⌢ variables_tokens f.row f.column ⌢ mark OpenCurly ⌢ flat_map case_tokens f.cases ⌢ otherwise_tokens
+    f.otherwise ⌢ mark CloseCurly
 
 -- what a point gives to its bin, and which bin that is
 abbrev pub update_tokens : Accumulator → List Token
-update_tokens a = word (fold_word a.fold) ⌢ expression_tokens a.value places.Sum ⌢ word words.At ⌢ expression_tokens a.bin places.Sum ⌢ mark Semicolon
+update_tokens a =
+    word (fold_word a.fold) ⌢ expression_tokens a.value places.Sum ⌢ word words.At ⌢ expression_tokens a.bin places.Sum ⌢ mark Semicolon
 
 abbrev pub accumulator_tokens : Accumulator → List Token
-accumulator_tokens a = word words.Accum ⌢ name a.name ⌢ span_tokens a.bins ⌢ word words.Over ⌢ variables_tokens a.row a.column ⌢ update_tokens a
+accumulator_tokens a =
+    word words.Accum ⌢ name a.name ⌢ span_tokens a.bins ⌢ word words.Over ⌢ variables_tokens a.row a.column ⌢ update_tokens a
 
 abbrev pub output_tokens : Output → List Token
 output_tokens o = word words.Output ⌢ names_tokens o.names ⌢ word words.Max ⌢ int o.max ⌢ mark Semicolon

@@ -14,7 +14,8 @@ use std::alloc::AllocError;
 
 // Whether the expression has parentheses there.
 fn is_grouped(e: &Expr, place: Place) -> bool
-    ensures { expression_tokens (view e.now) place ≡ grouped_if result (expression_tokens (view e.now) Place.Sum) }
+    ensures { expression_tokens (view e.now) place
+        ≡ grouped_if result (expression_tokens (view e.now) Place.Sum) }
 {
     match e {
         Expr::Binary(op, ..) => match op {
@@ -79,7 +80,8 @@ impl Printer {
     // A mark, and an expression behind it.
     #[cycle(expression)]
     fn behind(&mut self, mark: Punct, e: &Expr, place: Place) -> Result<(), AllocError>
-        ensures { OnOk result (self.new ≡ self.old ++ (mark_tokens mark ⌢ expression_tokens (view e.now) place)) }
+        ensures { OnOk result
+            (self.new ≡ self.old ++ (mark_tokens mark ⌢ expression_tokens (view e.now) place)) }
     {
         self.mark(mark)?;
         self.expression(e, place)
@@ -127,7 +129,8 @@ impl Printer {
 
     #[cycle(expression)]
     fn binary(&mut self, op: BinaryOp, a: &Expr, b: &Expr) -> Result<(), AllocError>
-        ensures { OnOk result (self.new ≡ self.old ++ expression_tokens (binary op (view a.now) (view b.now)) Place.Sum) }
+        ensures { OnOk result (self.new
+            ≡ self.old ++ expression_tokens (binary op (view a.now) (view b.now)) Place.Sum) }
     {
         match op {
             BinaryOp::Add => {
@@ -150,7 +153,10 @@ impl Printer {
     // `min` or `max` of two.
     #[cycle(expression)]
     fn pair(&mut self, word: Keyword, a: &Expr, b: &Expr) -> Result<(), AllocError>
-        ensures { OnOk result (self.new ≡ self.old ++ pair_tokens word (expression_tokens (view a.now) Place.Sum) (expression_tokens (view b.now) Place.Sum)) }
+        ensures { OnOk result (self.new
+            ≡ self.old
+            ++ pair_tokens word (expression_tokens (view a.now) Place.Sum)
+            (expression_tokens (view b.now) Place.Sum)) }
     {
         self.word(word)?;
         self.behind(Punct::OpenRound, a, Place::Sum)?;

@@ -35,7 +35,9 @@ impl Printer {
 
     // What is divided.
     fn shifted(&mut self, index: &Index) -> Result<(), AllocError>
-        ensures { OnOk result (self.new ≡ self.old ++ (scaled_tokens index.now.mul index.now.name ⌢ addend_tokens index.now.add)) }
+        ensures { OnOk result (self.new
+            ≡ self.old
+            ++ (scaled_tokens index.now.mul index.now.name ⌢ addend_tokens index.now.add)) }
     {
         self.scaled(index.mul, &index.name)?;
         self.addend(index.add)
@@ -87,7 +89,8 @@ impl Printer {
     }
 
     fn rows(&mut self, rows: &[Row]) -> Result<(), AllocError>
-        ensures { OnOk result (self.new ≡ self.old ++ separated (mark_tokens Punct.Comma) row_tokens rows.now) }
+        ensures { OnOk result
+            (self.new ≡ self.old ++ separated (mark_tokens Punct.Comma) row_tokens rows.now) }
     {
         let [first, others @ ..] = rows else {
             return Ok(());
@@ -109,7 +112,8 @@ impl Printer {
     }
 
     fn entries(&mut self, entries: &[i32]) -> Result<(), AllocError>
-        ensures { OnOk result (self.new ≡ self.old ++ separated (mark_tokens Punct.Comma) entry_tokens entries.now) }
+        ensures { OnOk result
+            (self.new ≡ self.old ++ separated (mark_tokens Punct.Comma) entry_tokens entries.now) }
     {
         let [first, others @ ..] = entries else {
             return Ok(());

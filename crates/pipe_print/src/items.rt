@@ -129,7 +129,8 @@ impl Printer {
     }
 
     fn otherwise(&mut self, otherwise: &Option<Expr>) -> Result<(), AllocError>
-        ensures { OnOk result (self.new ≡ self.old ++ otherwise_tokens (option_map view otherwise.now)) }
+        ensures { OnOk result
+            (self.new ≡ self.old ++ otherwise_tokens (option_map view otherwise.now)) }
     {
         match otherwise {
             Some(value) => {
@@ -164,7 +165,8 @@ impl Printer {
     }
 
     fn accum(&mut self, accum: &Accum) -> Result<(), AllocError>
-        ensures { OnOk result (self.new ≡ self.old ++ accumulator_tokens (accumulator_of accum.now)) }
+        ensures { OnOk result
+            (self.new ≡ self.old ++ accumulator_tokens (accumulator_of accum.now)) }
     {
         self.word(Keyword::Accum)?;
         self.name(&accum.name)?;

@@ -13,9 +13,12 @@ ghost use Rattle.pipe_print.specs.Within.{IsTextWithin};
 /// What a text says is said by its canonical text too, which keeps all limits that the text keeps. All texts of a tree
 /// have the canonical tokens in their order, with others between them, and none is shorter than the canonical text.
 pub fn canonical_text_is_least()
-    ensures text { (bytes : List ℕ) (tree : List Declaration) → IsText bytes tree → IsText (canonical tree) tree }
-    ensures fewest_tokens { (bytes : List ℕ) (tree : List Declaration) → IsText bytes tree → IsSubsequence (canonical_tokens tree) (tokens_of bytes) }
-    ensures no_longer { (bytes : List ℕ) (tree : List Declaration) → IsText bytes tree → length (canonical tree) ≤ length bytes }
+    ensures text { (bytes : List ℕ) (tree : List Declaration) → IsText bytes tree
+        → IsText (canonical tree) tree }
+    ensures fewest_tokens { (bytes : List ℕ) (tree : List Declaration) → IsText bytes tree
+        → IsSubsequence (canonical_tokens tree) (tokens_of bytes) }
+    ensures no_longer { (bytes : List ℕ) (tree : List Declaration) → IsText bytes tree
+        → length (canonical tree) ≤ length bytes }
     // It is no deeper, and has as many nodes.
     ensures no_deeper { (levels : ℕ) (counts : CountsSoFar) (bytes : List ℕ) (tree : List Declaration)
         → IsTextWithin levels counts bytes tree → IsTextWithin levels counts (canonical tree) tree }
@@ -24,7 +27,9 @@ pub fn canonical_text_is_least()
 /// The canonical text of a tree is a text of no other tree, so that two trees that have texts have one canonical text
 /// exactly where they are equal.
 pub fn canonical_text_is_of_one_tree()
-    ensures alone { (bytes : List ℕ) (tree other : List Declaration) → IsText bytes tree → IsText (canonical tree) other → other ≡ tree }
+    ensures alone { (bytes : List ℕ) (tree other : List Declaration) → IsText bytes tree
+        → IsText (canonical tree) other → other ≡ tree }
     ensures apart { (bytes bytes' : List ℕ) (tree tree' : List Declaration)
-        → IsText bytes tree → IsText bytes' tree' → (canonical tree ≡ canonical tree') ↔ (tree ≡ tree') }
+        → IsText bytes tree → IsText bytes' tree' → (canonical tree ≡ canonical tree')
+        ↔ (tree ≡ tree') }
 {}

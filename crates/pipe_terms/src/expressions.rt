@@ -28,7 +28,8 @@ impl Parser<'_> {
     // The levels that are left behind the token ahead, which opens one.
     fn open_level(&self, levels: u32) -> Result<u32, ParseError>
         ensures ok { IfOk result (λ rest. levels ≡ suc rest) }
-        ensures err { IfErr result (λ e. (levels ≡ 0) × (e ≡ ParseError.Fault (halt_of Kind.TooDeep self.now.rest.now))) }
+        ensures err { IfErr result
+            (λ e. (levels ≡ 0) × (e ≡ ParseError.Fault (halt_of Kind.TooDeep self.now.rest.now))) }
     {
         if levels == 0 {
             return Err(self.halt(Kind::TooDeep));
@@ -39,7 +40,8 @@ impl Parser<'_> {
     #[cycle(expression)]
     #[tactic(auto, using(pipe_tree::proofs::ExpressionLaws::expression_unroll), unfolding(pipe_tree::specs::Reading::expression_at))]
     pub fn expression(&mut self, levels: u32) -> Result<Expr, ParseError>
-        ensures exact { Reads (λ e. (view e, at self.new)) result (expression_at levels (at self.old)) }
+        ensures exact { Reads (λ e. (view e, at self.new)) result
+            (expression_at levels (at self.old)) }
         ensures shorter { length self.new.rest.now ≤ length self.old.rest.now }
     {
         let mut left = self.product(levels)?;
@@ -59,7 +61,8 @@ impl Parser<'_> {
     // An expression in a box of its own, as an operand stands in another.
     #[cycle(expression)]
     fn operand(&mut self, levels: u32) -> Result<Box<Expr>, ParseError>
-        ensures exact { Reads (λ e. (view e.value, at self.new)) result (expression_at levels (at self.old)) }
+        ensures exact { Reads (λ e. (view e.value, at self.new)) result
+            (expression_at levels (at self.old)) }
         ensures shorter { length self.new.rest.now ≤ length self.old.rest.now }
     {
         let value = self.expression(levels)?;
@@ -69,7 +72,8 @@ impl Parser<'_> {
     #[cycle(expression)]
     #[tactic(auto, using(pipe_tree::proofs::ExpressionLaws::product_at_unroll), unfolding(pipe_tree::specs::Reading::product_at))]
     fn product(&mut self, levels: u32) -> Result<Expr, ParseError>
-        ensures exact { Reads (λ e. (view e, at self.new)) result (product_at levels (at self.old)) }
+        ensures exact { Reads (λ e. (view e, at self.new)) result
+            (product_at levels (at self.old)) }
         ensures shorter { length self.new.rest.now ≤ length self.old.rest.now }
     {
         let mut left = self.unary(levels)?;

@@ -129,7 +129,8 @@ impl Parser<'_> {
 
     #[tactic(auto, unfolding(pipe_tree::specs::Reading::a_stencil))]
     pub(crate) fn stencil(&mut self) -> Result<Expr, ParseError>
-        ensures exact { Reads (λ e. (view e, at self.new)) result (reading.a_stencil (at self.old)) }
+        ensures exact { Reads (λ e. (view e, at self.new)) result
+            (reading.a_stencil (at self.old)) }
         ensures shorter { length self.new.rest.now ≤ length self.old.rest.now }
     {
         self.word(Keyword::Stencil, Role::Node)?;

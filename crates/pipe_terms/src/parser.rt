@@ -88,7 +88,8 @@ impl Parser<'_> {
 
     /// The fault of the token ahead, or of the end, where it has no place.
     pub fn refuse(&self) -> ParseError
-        ensures { result ≡ ParseError.Fault (halt_of (kind_at (head self.now.rest.now)) self.now.rest.now) }
+        ensures { result
+            ≡ ParseError.Fault (halt_of (kind_at (head self.now.rest.now)) self.now.rest.now) }
     {
         match self.rest {
             [Token::NotAscii, ..] => self.halt(Kind::NotAscii),
@@ -116,7 +117,8 @@ impl Parser<'_> {
     /// Passes this punctuation, which counts as the role.
     #[tactic(auto, using(crate::proofs::Passing::mark_passes))]
     pub fn mark(&mut self, mark: Punct, role: Role) -> Result<(), ParseError>
-        ensures exact { Reads (λ _. (tt, at self.new)) result (reading.mark mark role (at self.old)) }
+        ensures exact { Reads (λ _. (tt, at self.new)) result
+            (reading.mark mark role (at self.old)) }
         ensures shorter { length self.new.rest.now ≤ length self.old.rest.now }
         ensures passes { OnOk result (length self.new.rest.now < length self.old.rest.now) }
     {
@@ -129,7 +131,8 @@ impl Parser<'_> {
 
     // Passes the token ahead, which counts as the role, where it means something; that is given back.
     fn meant<T: Drop>(&mut self, meaning: Option<T>, role: Role) -> Result<T, ParseError>
-        ensures exact { Reads (λ x. (x, at self.new)) result (reading.meant role meaning (at self.old)) }
+        ensures exact { Reads (λ x. (x, at self.new)) result
+            (reading.meant role meaning (at self.old)) }
         ensures shorter { length self.new.rest.now ≤ length self.old.rest.now }
         ensures passes { OnOk result (self.new.rest.now ≡ tail self.old.rest.now) }
         ensures means { IfOk result (λ x. meaning ≡ Some x) }
@@ -143,7 +146,8 @@ impl Parser<'_> {
 
     /// Gives back what was read, if this punctuation comes after it.
     pub fn ended<T: Drop>(&mut self, value: T, mark: Punct) -> Result<T, ParseError>
-        ensures exact { Reads (λ _. (tt, at self.new)) result (reading.mark mark Role.Plain (at self.old)) }
+        ensures exact { Reads (λ _. (tt, at self.new)) result
+            (reading.mark mark Role.Plain (at self.old)) }
         ensures shorter { length self.new.rest.now ≤ length self.old.rest.now }
         ensures same { IfOk result (λ x. x ≡ value) }
     {
@@ -154,7 +158,8 @@ impl Parser<'_> {
     /// Passes this keyword, which counts as the role.
     #[tactic(auto, using(crate::proofs::Passing::word_passes))]
     pub fn word(&mut self, word: Keyword, role: Role) -> Result<(), ParseError>
-        ensures exact { Reads (λ _. (tt, at self.new)) result (reading.word word role (at self.old)) }
+        ensures exact { Reads (λ _. (tt, at self.new)) result
+            (reading.word word role (at self.old)) }
         ensures shorter { length self.new.rest.now ≤ length self.old.rest.now }
         ensures passes { OnOk result (length self.new.rest.now < length self.old.rest.now) }
     {

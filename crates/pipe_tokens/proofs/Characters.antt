@@ -54,7 +54,8 @@ digit_no_letter b e =
 pub no_white : (b : ℕ) → 48 ≤ b → is_white b ≡ false
 no_white b le =
     let apart : (n : ℕ) → n < 48 → eqb b n ≡ false = λ n lt. ne_eqb b n (λ e. omega arith) in
-    or_from _ _ (or_from _ _ (or_from _ _ (apart 32 (omega arith)) (apart 9 (omega arith))) (apart 13 (omega arith))) (apart 10 (omega arith))
+    or_from _ _ (or_from _ _ (or_from _ _ (apart 32 (omega arith)) (apart 9 (omega arith))) (apart 13 (omega arith)))
+    (apart 10 (omega arith))
 
 pub no_comment : (b : ℕ) → 48 ≤ b → eqb b 35 ≡ false
 no_comment b le = ne_eqb b 35 (λ e. omega arith)

@@ -38,7 +38,8 @@ front_within p (b ∷ front) back all =
     omega (arith, cond-true (p b) (1 + prefix_len p (front ++ back)) 0 parts.0, front_within p front back parts.1)
 
 -- behind a front that passes the run goes on
-pub run_behind : (p : ℕ → Bool) (front back : List ℕ) → list_all p front ≡ true → prefix_len p (front ++ back) ≡ length front + prefix_len p back
+pub run_behind : (p : ℕ → Bool) (front back : List ℕ) → list_all p front ≡ true
+    → prefix_len p (front ++ back) ≡ length front + prefix_len p back
 run_behind p [] back all = omega arith
 run_behind p (b ∷ front) back all =
     let parts = and_parts (p b) (list_all p front) all in
@@ -86,7 +87,8 @@ word_in_name front (inl e) = identifier_in_name front e
 word_in_name front (inr d) = (d.some, run_within is_ascii_digit is_name_byte front digit_in_name d.digits)
 
 -- where a text begins with a name byte, no token is longer than its run of these
-within_run : (text : List ℕ) (other : Token) (front back : List ℕ) → 0 < prefix_len is_name_byte text → text ≡ front ++ back → Spells other front → length front ≤ prefix_len is_name_byte text
+within_run : (text : List ℕ) (other : Token) (front back : List ℕ) → 0 < prefix_len is_name_byte text → text ≡ front ++ back
+    → Spells other front → length front ≤ prefix_len is_name_byte text
 within_run text other front back some e h = go (kinds_of_token other front h)
   where
     go : IsWord front ⊎ ((m : Punct) × (front ≡ bytes_of_mark m)) → length front ≤ prefix_len is_name_byte text
@@ -94,7 +96,8 @@ within_run text other front back some e h = go (kinds_of_token other front h)
     go (inr m) = absurd (omega (arith, ap (prefix_len is_name_byte) (e ∙ ap (λ (x : List ℕ). x ++ back) m.1), mark_stops m.0 back))
 
 -- a mark that a text begins with is its piece
-same_piece : (text : List ℕ) (m : Punct) (front back : List ℕ) → text ≡ front ++ back → front ≡ bytes_of_mark m → piece_of text ≡ lexeme (tokens.Punct m) (length (bytes_of_mark m))
+same_piece : (text : List ℕ) (m : Punct) (front back : List ℕ) → text ≡ front ++ back → front ≡ bytes_of_mark m
+    → piece_of text ≡ lexeme (tokens.Punct m) (length (bytes_of_mark m))
 same_piece text m front back e is = ap piece_of (e ∙ ap (λ (x : List ℕ). x ++ back) is) ∙ mark_is_piece m back
 
 -- ---- words
@@ -103,7 +106,8 @@ module _ (b : ℕ) (bytes : List ℕ) where
   abbrev pub text : List ℕ
   text = b ∷ bytes
 
-  word_longest : (token : Token) (n : ℕ) → 0 < prefix_len is_name_byte text → prefix_len is_name_byte text ≡ n → Spells token (take n text) → IsLongest token (take n text) (drop n text)
+  word_longest : (token : Token) (n : ℕ) → 0 < prefix_len is_name_byte text → prefix_len is_name_byte text ≡ n → Spells token (take n text)
+      → IsLongest token (take n text) (drop n text)
   word_longest token n some run spelled =
       let whole = take-append-drop n text in
       let len : length (take n text) ≡ n = subst (λ (k : ℕ). length (take k text) ≡ k) run (length-prefix_len is_name_byte text) in
@@ -122,7 +126,8 @@ module _ (b : ℕ) (bytes : List ℕ) where
 
   run_is_identifier : is_ascii_alphabetic b ≡ true → is_identifier (take_while is_name_byte text) ≡ true
   run_is_identifier e =
-      let run : prefix_len is_name_byte text ≡ suc (prefix_len is_name_byte bytes) = cond-true (is_name_byte b) (1 + prefix_len is_name_byte bytes) 0 (letter_in_name b e) ∙ omega arith in
+      let run : prefix_len is_name_byte text ≡ suc (prefix_len is_name_byte bytes) =
+      cond-true (is_name_byte b) (1 + prefix_len is_name_byte bytes) 0 (letter_in_name b e) ∙ omega arith in
       ap (λ (n : ℕ). is_identifier (take n text)) run ∙ and_from (is_ascii_alphabetic b) _ e (run_passes is_name_byte bytes)
 
   word_stands : is_ascii_alphabetic b ≡ true → Stands (token_of_word (take_while is_name_byte text)) (prefix_len is_name_byte text)
@@ -140,22 +145,33 @@ module _ (b : ℕ) (bytes : List ℕ) where
       parts : text ≡ run ++ drop (prefix_len is_name_byte text) text
       parts = sym (take-append-drop (prefix_len is_name_byte text) text)
 
-      go : (found : Option Keyword) → word_of run ≡ found → Stands (unwrap_or (option_map tokens.Keyword found) (cond (is_name run) (tokens.Name run) tokens.Bad)) (prefix_len is_name_byte text)
-      go (Some word) is = (λ _. word_longest (tokens.Keyword word) (prefix_len is_name_byte text) some refl (sym (word_is run word is)), λ fault. absurd cc)
+      go : (found : Option Keyword) → word_of run ≡ found
+          → Stands (unwrap_or (option_map tokens.Keyword found) (cond (is_name run) (tokens.Name run) tokens.Bad))
+          (prefix_len is_name_byte text)
+      go (Some word) is =
+          (λ _. word_longest (tokens.Keyword word) (prefix_len is_name_byte text) some refl (sym (word_is run word is)), λ fault. absurd cc)
       go None is =
           cond_both (is_name run) (tokens.Name run) tokens.Bad (λ (t : Token). Stands t (prefix_len is_name_byte text))
           (λ short. (λ _. word_longest (tokens.Name run) (prefix_len is_name_byte text) some refl ((short, is), refl), λ fault. absurd cc))
-          (λ long. fault_stands tokens.Bad (prefix_len is_name_byte text) refl (refl, inr (inl (record { name = run; others = drop (prefix_len is_name_byte text) text; parts = parts; named = named; long = long_of long }))))
+          (λ long. fault_stands tokens.Bad (prefix_len is_name_byte text) refl (
+            refl,
+            inr (inl (record
+                { name = run; others = drop (prefix_len is_name_byte text) text; parts = parts; named = named; long = long_of long })),
+          ))
         where
           long_of : is_name run ≡ false → 32 < length run
-          long_of fails = elim (and_cases (is_identifier run) (leb (length run) 32) fails) [ inl h ↦ absurd (both_ways (is_identifier run) h named) | inr h ↦ leb-false (length run) 32 h ]
+          long_of fails =
+              elim (and_cases (is_identifier run) (leb (length run) 32) fails)
+              [ inl h ↦ absurd (both_ways (is_identifier run) h named) | inr h ↦ leb-false (length run) 32 h ]
 
   -- ---- digits
 
   pub digits_stand : is_ascii_digit b ≡ true
-      → Stands (cond (eqb (prefix_len is_name_byte text) (prefix_len is_ascii_digit text)) (token_of_digits (take_while is_ascii_digit text)) tokens.Bad) (prefix_len is_ascii_digit text)
+      → Stands (cond (eqb (prefix_len is_name_byte text) (prefix_len is_ascii_digit text))
+      (token_of_digits (take_while is_ascii_digit text)) tokens.Bad) (prefix_len is_ascii_digit text)
   digits_stand e =
-      cond_both (eqb (prefix_len is_name_byte text) n) (token_of_digits ds) tokens.Bad (λ (t : Token). Stands t n) (λ same. number (eqb-true _ _ same))
+      cond_both (eqb (prefix_len is_name_byte text) n) (token_of_digits ds) tokens.Bad (λ (t : Token). Stands t n)
+      (λ same. number (eqb-true _ _ same))
       (λ differ. fault_stands tokens.Bad n refl (refl, inr (inr (letter_behind (eqb-false _ _ differ)))))
     where
       n : ℕ
@@ -179,15 +195,21 @@ module _ (b : ℕ) (bytes : List ℕ) where
       number : prefix_len is_name_byte text ≡ n → Stands (token_of_digits ds) n
       number same =
           cond_both (leb (digits_value 10 ds) 2147483647) (tokens.Int (digits_value 10 ds)) tokens.TooBig (λ (t : Token). Stands t n)
-          (λ small. (λ _. word_longest (tokens.Int (digits_value 10 ds)) n names same (are_digits, refl, leb-true _ _ small), λ fault. absurd cc))
+          (λ small. (
+            λ _. word_longest (tokens.Int (digits_value 10 ds)) n names same (are_digits, refl, leb-true _ _ small),
+            λ fault. absurd cc,
+          ))
           (λ big. (λ _. word_longest tokens.TooBig n names same (are_digits, leb-false _ _ big), λ fault. absurd cc))
 
       letter_behind : (prefix_len is_name_byte text ≡ n → ⊥) → BeginsDigitsAndLetter text
       letter_behind differ =
           let whole : ds ++ drop n text ≡ text = take-append-drop n text in
           let behind : prefix_len is_name_byte text ≡ length ds + prefix_len is_name_byte (drop n text) =
-          ap (prefix_len is_name_byte) (sym whole) ∙ run_behind is_name_byte ds (drop n text) (run_within is_ascii_digit is_name_byte ds digit_in_name are_digits.digits) in
-          let first = run_first is_name_byte (drop n text) (elim (zero_or_more (prefix_len is_name_byte (drop n text))) [ inl none ↦ absurd (differ (omega (arith, behind, len))) | inr more ↦ more ]) in
+          ap (prefix_len is_name_byte) (sym whole)
+          ∙ run_behind is_name_byte ds (drop n text) (run_within is_ascii_digit is_name_byte ds digit_in_name are_digits.digits) in
+          let first =
+          run_first is_name_byte (drop n text) (elim (zero_or_more (prefix_len is_name_byte (drop n text)))
+          [ inl none ↦ absurd (differ (omega (arith, behind, len))) | inr more ↦ more ]) in
           record {
             digits = ds;
             letter = first.0;
@@ -210,14 +232,17 @@ module _ (b : ℕ) (bytes : List ℕ) where
 
   -- ---- marks
 
-  mark_longest : (m : Punct) → text ≡ bytes_of_mark m ++ drop (length (bytes_of_mark m)) text → IsLongest (tokens.Punct m) (take (length (bytes_of_mark m)) text) (drop (length (bytes_of_mark m)) text)
+  mark_longest : (m : Punct) → text ≡ bytes_of_mark m ++ drop (length (bytes_of_mark m)) text
+      → IsLongest (tokens.Punct m) (take (length (bytes_of_mark m)) text) (drop (length (bytes_of_mark m)) text)
   mark_longest m at =
       let n = length (bytes_of_mark m) in
       let front-is : take n text ≡ bytes_of_mark m = ap (take n) at ∙ take_at (bytes_of_mark m) (drop n text) n refl in
       let whole = take-append-drop n text in
       record {
         spelled = front-is;
-        longest = λ other front back e h. subst (λ (x : List ℕ). length front ≤ length x) (sym front-is) (within other front back (sym whole ∙ e) (kinds_of_token other front h));
+        longest =
+            λ other front back e h. subst (λ (x : List ℕ). length front ≤ length x) (sym front-is)
+            (within other front back (sym whole ∙ e) (kinds_of_token other front h));
         parted = λ some. absurd (omega (arith, some, ap (prefix_len is_name_byte) front-is, mark_alone));
       }
     where
@@ -227,8 +252,16 @@ module _ (b : ℕ) (bytes : List ℕ) where
       no_run : prefix_len is_name_byte text ≡ 0
       no_run = ap (prefix_len is_name_byte) at ∙ mark_stops m (drop (length (bytes_of_mark m)) text)
 
-      within : (other : Token) (front back : List ℕ) → text ≡ front ++ back → IsWord front ⊎ ((k : Punct) × (front ≡ bytes_of_mark k)) → length front ≤ length (bytes_of_mark m)
-      within other front back e (inl word) = absurd (omega (arith, (word_in_name front word).0, front_within is_name_byte front back (word_in_name front word).1, ap (prefix_len is_name_byte) e, no_run))
+      within : (other : Token) (front back : List ℕ) → text ≡ front ++ back → IsWord front ⊎ ((k : Punct) × (front ≡ bytes_of_mark k))
+          → length front ≤ length (bytes_of_mark m)
+      within other front back e (inl word) =
+          absurd (omega (
+            arith,
+            (word_in_name front word).0,
+            front_within is_name_byte front back (word_in_name front word).1,
+            ap (prefix_len is_name_byte) e,
+            no_run,
+          ))
       within other front back e (inr k) =
           let one = same_piece text m (bytes_of_mark m) (drop (length (bytes_of_mark m)) text) at refl in
           let two = same_piece text k.0 front back e k.1 in
@@ -247,17 +280,20 @@ module _ (b : ℕ) (bytes : List ℕ) where
     where
       none : (front back : List ℕ) → text ≡ front ++ back → IsWord front ⊎ ((k : Punct) × (front ≡ bytes_of_mark k)) → ⊥
       none front back e (inr k) =
-          let two : lexeme tokens.Bad 1 ≡ lexeme (tokens.Punct k.0) (length (bytes_of_mark k.0)) = sym bad ∙ same_piece text k.0 front back e k.1 in
+          let two : lexeme tokens.Bad 1 ≡ lexeme (tokens.Punct k.0) (length (bytes_of_mark k.0)) =
+          sym bad ∙ same_piece text k.0 front back e k.1 in
           let token : some_token tokens.Bad ≡ some_token (tokens.Punct k.0) = ap (λ (p : Piece). p.token) two in
           cc
       none [] back e (inl (inl named)) = absurd cc
       none (c ∷ front) back e (inl (inl named)) =
           let same : b ≡ c = cc in
-          both_ways (is_ascii_alphabetic b) other.letter (ap is_ascii_alphabetic same ∙ (and_parts (is_ascii_alphabetic c) (list_all is_name_byte front) named).0)
+          both_ways (is_ascii_alphabetic b) other.letter
+          (ap is_ascii_alphabetic same ∙ (and_parts (is_ascii_alphabetic c) (list_all is_name_byte front) named).0)
       none [] back e (inl (inr digits)) = absurd (omega (arith, digits.some))
       none (c ∷ front) back e (inl (inr digits)) =
           let same : b ≡ c = cc in
-          both_ways (is_ascii_digit b) other.digit (ap is_ascii_digit same ∙ (and_parts (is_ascii_digit c) (list_all is_ascii_digit front) digits.digits).0)
+          both_ways (is_ascii_digit b) other.digit
+          (ap is_ascii_digit same ∙ (and_parts (is_ascii_digit c) (list_all is_ascii_digit front) digits.digits).0)
 
   -- ---- the piece
 
@@ -265,8 +301,12 @@ module _ (b : ℕ) (bytes : List ℕ) where
   IfStands None n = Unit {0}
   IfStands (Some token) n = Stands token n
 
-  mark_stands_there : IsOther b → (found : Option Punct) → mark_at text ≡ found → piece_of text ≡ unwrap_or (option_map (λ (mark : Punct). lexeme (tokens.Punct mark) (length (bytes_of_mark mark))) found) (lexeme tokens.Bad 1)
-      → (let piece : Piece = unwrap_or (option_map (λ (mark : Punct). lexeme (tokens.Punct mark) (length (bytes_of_mark mark))) found) (lexeme tokens.Bad 1) in IfStands piece.token piece.len)
+  mark_stands_there : IsOther b → (found : Option Punct) → mark_at text ≡ found
+      → piece_of text
+      ≡ unwrap_or (option_map (λ (mark : Punct). lexeme (tokens.Punct mark) (length (bytes_of_mark mark))) found) (lexeme tokens.Bad 1)
+      → (let piece : Piece =
+      unwrap_or (option_map (λ (mark : Punct). lexeme (tokens.Punct mark) (length (bytes_of_mark mark))) found) (lexeme tokens.Bad 1) in
+      IfStands piece.token piece.len)
   mark_stands_there other None e piece = fault_stands tokens.Bad 1 refl (refl, inl (nothing_begins other piece))
   mark_stands_there other (Some m) e piece = (λ _. mark_longest m (mark_stands text m e), λ fault. absurd cc)
 
@@ -275,7 +315,8 @@ module _ (b : ℕ) (bytes : List ℕ) where
   kind_stands _ is (at_comment e) = tt
   kind_stands _ is (at_letter e) = word_stands e
   kind_stands _ is (at_digit e) = digits_stand e
-  kind_stands _ is (at_not_ascii e) = fault_stands tokens.NotAscii 1 refl (refl, record { first = b; others = bytes; parts = refl; above = e })
+  kind_stands _ is (at_not_ascii e) =
+      fault_stands tokens.NotAscii 1 refl (refl, record { first = b; others = bytes; parts = refl; above = e })
   kind_stands _ is (at_other e) = mark_stands_there e (mark_at text) refl is
 
   -- the piece of a text is what stands there
@@ -290,16 +331,24 @@ module _ (b : ℕ) (bytes : List ℕ) where
   IfGap (Some token) n = Unit {0}
   IfGap None n = (gap rest : List ℕ) → drop n text ≡ gap ++ rest → Gap rest gap → Gap rest (take n text ++ gap)
 
-  mark_no_gap : (found : Option Punct) → (let piece : Piece = unwrap_or (option_map (λ (mark : Punct). lexeme (tokens.Punct mark) (length (bytes_of_mark mark))) found) (lexeme tokens.Bad 1) in IfGap piece.token piece.len)
+  mark_no_gap : (found : Option Punct)
+      → (let piece : Piece =
+      unwrap_or (option_map (λ (mark : Punct). lexeme (tokens.Punct mark) (length (bytes_of_mark mark))) found) (lexeme tokens.Bad 1) in
+      IfGap piece.token piece.len)
   mark_no_gap None = tt
   mark_no_gap (Some m) = tt
 
-  comment_gap : b ≡ 35 → (n : ℕ) → prefix_len is_comment_byte text ≡ n → (gap rest : List ℕ) → drop n text ≡ gap ++ rest → Gap rest gap → Gap rest (take n text ++ gap)
+  comment_gap : b ≡ 35 → (n : ℕ) → prefix_len is_comment_byte text ≡ n → (gap rest : List ℕ) → drop n text ≡ gap ++ rest → Gap rest gap
+      → Gap rest (take n text ++ gap)
   comment_gap e n run gap rest behind h =
       let body = take (prefix_len is_comment_byte bytes) bytes in
-      let more : prefix_len is_comment_byte text ≡ suc (prefix_len is_comment_byte bytes) = cond-true (is_comment_byte b) (1 + prefix_len is_comment_byte bytes) 0 (subst (λ (c : ℕ). is_comment_byte c ≡ true) (sym e) refl) ∙ omega arith in
+      let more : prefix_len is_comment_byte text ≡ suc (prefix_len is_comment_byte bytes) =
+      cond-true (is_comment_byte b) (1 + prefix_len is_comment_byte bytes) 0 (subst (λ (c : ℕ). is_comment_byte c ≡ true) (sym e) refl)
+      ∙ omega arith in
       let front : take n text ≡ 35 ∷ body = ap (λ (k : ℕ). take k text) (sym run ∙ more) ∙ ap (λ (c : ℕ). c ∷ body) e in
-      let ended : prefix_len is_comment_byte (gap ++ rest) ≡ 0 = ap (prefix_len is_comment_byte) (sym behind) ∙ ap (λ (k : ℕ). prefix_len is_comment_byte (drop k text)) (sym run) ∙ run_stops is_comment_byte text in
+      let ended : prefix_len is_comment_byte (gap ++ rest) ≡ 0 =
+      ap (prefix_len is_comment_byte) (sym behind) ∙ ap (λ (k : ℕ). prefix_len is_comment_byte (drop k text)) (sym run)
+      ∙ run_stops is_comment_byte text in
       subst (λ (x : List ℕ). Gap rest (x ++ gap)) (sym front) (comment body gap (run_passes is_comment_byte bytes) ended h)
 
   kind_gap : (piece : Piece) → Kind b text piece → IfGap piece.token piece.len

@@ -13,10 +13,14 @@ pub holds_name : (bytes : List ℕ) → is_name bytes ≡ true → HoldsName (by
 holds_name bytes e =
     let short = short_name bytes e in
     let zeros : drop (length bytes) (replicate 32 0) ≡ replicate (32 - length bytes) 0 = drop-replicate (length bytes) 32 0 in
-    let zeros_len : length (drop (length bytes) (replicate 32 0)) ≡ 32 - length bytes = ap length zeros ∙ length-replicate (32 - length bytes) 0 in
+    let zeros_len : length (drop (length bytes) (replicate 32 0)) ≡ 32 - length bytes =
+    ap length zeros ∙ length-replicate (32 - length bytes) 0 in
     record {
       width = omega (arith, short, length-append bytes (drop (length bytes) (replicate 32 0)), zeros_len);
       fits = short;
-      name = let same : take (length bytes) (bytes ++ drop (length bytes) (replicate 32 0)) ≡ bytes = take_at bytes (drop (length bytes) (replicate 32 0)) (length bytes) refl in subst (λ (x : List ℕ). IsTrue (is_name x)) (sym same) e;
+      name =
+          let same : take (length bytes) (bytes ++ drop (length bytes) (replicate 32 0)) ≡ bytes =
+          take_at bytes (drop (length bytes) (replicate 32 0)) (length bytes) refl in
+          subst (λ (x : List ℕ). IsTrue (is_name x)) (sym same) e;
       padded = drop_at bytes (drop (length bytes) (replicate 32 0)) (length bytes) refl ∙ zeros;
     }

@@ -32,4 +32,11 @@ kind_of first text =
     (λ no_comment. cond_both (is_ascii_alphabetic first) (word_piece text) _ K at_letter
     (λ no_letter. cond_both (is_ascii_digit first) (digits_piece text) _ K at_digit
     (λ no_digit. cond_both (leb 128 first) (lexeme tokens.NotAscii 1) (mark_piece text) K (λ e. at_not_ascii (leb-true 128 first e))
-    (λ e. at_other (record { white = no_white; comment = eqb-false first 35 no_comment; letter = no_letter; digit = no_digit; ascii = leb-false 128 first e }))))))
+    (λ e. at_other (record {
+      white =
+          no_white;
+      comment = eqb-false first 35 no_comment;
+      letter = no_letter;
+      digit = no_digit;
+      ascii = leb-false 128 first e;
+    }))))))

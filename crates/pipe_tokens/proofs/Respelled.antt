@@ -42,7 +42,8 @@ no_fault tokens.Bad h = absurd h
 no_fault tokens.NotAscii h = absurd h
 
 -- behind a word or a number stands no letter, digit or `_`
-behind_stops : (behind_word : Bool) (ts : List Token) → AllByRecursion HasSpelling ts → behind_word ≡ true → prefix_len is_name_byte (blank_behind behind_word ts ++ spelling ts) ≡ 0
+behind_stops : (behind_word : Bool) (ts : List Token) → AllByRecursion HasSpelling ts → behind_word ≡ true
+    → prefix_len is_name_byte (blank_behind behind_word ts ++ spelling ts) ≡ 0
 unfolding spelling
 behind_stops behind_word [] h e = refl
 behind_stops behind_word (tokens.Keyword word ∷ ts) h e = rw e refl
@@ -57,7 +58,8 @@ blank_is_gap : (offset : ℕ) (text : List ℕ) → cut offset (32 ∷ text) ≡
 unfolding piece_of
 blank_is_gap offset text = ap (map (λ (l : Lexeme). l.token)) (lexemes_from-piece offset (32 ∷ text) (omega arith))
 
-blank_is_passed : (behind_word : Bool) (ts : List Token) (text : List ℕ) (tokens : List Token) → ((offset : ℕ) → cut offset text ≡ tokens) → (offset : ℕ) → cut offset (blank_behind behind_word ts ++ text) ≡ tokens
+blank_is_passed : (behind_word : Bool) (ts : List Token) (text : List ℕ) (tokens : List Token) → ((offset : ℕ) → cut offset text ≡ tokens)
+    → (offset : ℕ) → cut offset (blank_behind behind_word ts ++ text) ≡ tokens
 blank_is_passed behind_word [] text tokens h offset = h offset
 blank_is_passed behind_word (t ∷ ts) text tokens h offset = go (behind_word && begins_word t)
   where
@@ -76,8 +78,11 @@ comes_back (t ∷ ts) h offset =
     let first : Lexeme = record { token = t; start = offset } in
     let later = lexemes_from (offset + length (bytes_of t)) 0 (drop (length (bytes_of t)) text) in
     let others : cut (offset + length (bytes_of t)) (drop (length (bytes_of t)) text) ≡ ts =
-    ap (cut (offset + length (bytes_of t))) (drop_at (bytes_of t) rest (length (bytes_of t)) refl) ∙ blank_is_passed (begins_word t) ts (spelling ts) ts (comes_back ts h.1) (offset + length (bytes_of t)) in
-    ap (map (λ (l : Lexeme). l.token)) (lexemes_from-piece offset text some ∙ ap (λ p. lexemes_with offset p.token (lexemes_from (offset + p.len) 0 (drop p.len text))) piece ∙ ap (λ (b : Bool). first ∷ cond b [] later) (no_fault t h.0))
+    ap (cut (offset + length (bytes_of t))) (drop_at (bytes_of t) rest (length (bytes_of t)) refl)
+    ∙ blank_is_passed (begins_word t) ts (spelling ts) ts (comes_back ts h.1) (offset + length (bytes_of t)) in
+    ap (map (λ (l : Lexeme). l.token)) (lexemes_from-piece offset text some
+    ∙ ap (λ p. lexemes_with offset p.token (lexemes_from (offset + p.len) 0 (drop p.len text))) piece
+    ∙ ap (λ (b : Bool). first ∷ cond b [] later) (no_fault t h.0))
     ∙ ap (λ (us : List Token). t ∷ us) others
 
 pub spelling_comes_back : (ts : List Token) → AllByRecursion HasSpelling ts → tokens_of (spelling ts) ≡ ts

@@ -11,7 +11,8 @@ AllPass-run p text n e k d lt =
     ap p (get_or-take n text k d below) ∙ prefix_len_passes p text k d (omega arith)
 
 -- bytes that all pass, and none behind them that does
-pub run_is : (p : ℕ → Bool) (bytes rest : List ℕ) → list_all p bytes ≡ true → prefix_len p rest ≡ 0 → prefix_len p (bytes ++ rest) ≡ length bytes
+pub run_is : (p : ℕ → Bool) (bytes rest : List ℕ) → list_all p bytes ≡ true → prefix_len p rest ≡ 0
+    → prefix_len p (bytes ++ rest) ≡ length bytes
 run_is p [] rest all stops = stops
 run_is p (b ∷ bytes) rest all stops =
     let parts = and_parts (p b) (list_all p bytes) all in
@@ -21,7 +22,8 @@ run_is p (b ∷ bytes) rest all stops =
 pub run_stops : (p : ℕ → Bool) (text : List ℕ) → prefix_len p (drop (prefix_len p text) text) ≡ 0
 run_stops p [] = refl
 run_stops p (b ∷ text) =
-    cond_both (p b) (1 + prefix_len p text) 0 (λ (n : ℕ). (p b ≡ true → n ≡ suc (prefix_len p text)) → (p b ≡ false → n ≡ 0) → prefix_len p (drop n (b ∷ text)) ≡ 0)
+    cond_both (p b) (1 + prefix_len p text) 0
+    (λ (n : ℕ). (p b ≡ true → n ≡ suc (prefix_len p text)) → (p b ≡ false → n ≡ 0) → prefix_len p (drop n (b ∷ text)) ≡ 0)
     (λ passes is _. ap (λ (n : ℕ). prefix_len p (drop n (b ∷ text))) (is passes) ∙ run_stops p text)
     (λ fails _ _. cond-false (p b) (1 + prefix_len p text) 0 fails)
     (λ passes. cond-true (p b) (1 + prefix_len p text) 0 passes ∙ omega arith)
@@ -31,7 +33,8 @@ run_stops p (b ∷ text) =
 pub run_passes : (p : ℕ → Bool) (text : List ℕ) → list_all p (take (prefix_len p text) text) ≡ true
 run_passes p [] = refl
 run_passes p (b ∷ text) =
-    cond_both (p b) (1 + prefix_len p text) 0 (λ (n : ℕ). (p b ≡ true → n ≡ suc (prefix_len p text)) → list_all p (take n (b ∷ text)) ≡ true)
+    cond_both (p b) (1 + prefix_len p text) 0
+    (λ (n : ℕ). (p b ≡ true → n ≡ suc (prefix_len p text)) → list_all p (take n (b ∷ text)) ≡ true)
     (λ passes is. ap (λ (n : ℕ). list_all p (take n (b ∷ text))) (is passes) ∙ and_from (p b) _ passes (run_passes p text))
     (λ fails _. refl)
     (λ passes. cond-true (p b) (1 + prefix_len p text) 0 passes ∙ omega arith)

@@ -10,20 +10,27 @@ use Rattle.pipe_tokens.specs.Spelling.{bytes_of, begins_word, blank_behind, spel
 abbrev pub blank : Bool → Bool → List ℕ
 blank behind_word is_word = cond (behind_word && is_word) (32 ∷ []) []
 
-pub with_blank : (behind_word is_word : Bool) (before : List ℕ) → behind_word ≡ true → is_word ≡ true → before ++ 32 ∷ [] ≡ before ++ blank behind_word is_word
-with_blank behind_word is_word before b w = sym (ap (λ (x : List ℕ). before ++ x) (cond-true (behind_word && is_word) (32 ∷ []) [] (and_from behind_word is_word b w)))
+pub with_blank : (behind_word is_word : Bool) (before : List ℕ) → behind_word ≡ true → is_word ≡ true
+    → before ++ 32 ∷ [] ≡ before ++ blank behind_word is_word
+with_blank behind_word is_word before b w =
+    sym (ap (λ (x : List ℕ). before ++ x) (cond-true (behind_word && is_word) (32 ∷ []) [] (and_from behind_word is_word b w)))
 
 pub first_no_blank : (behind_word is_word : Bool) (before : List ℕ) → behind_word ≡ false → before ≡ before ++ blank behind_word is_word
-first_no_blank behind_word is_word before b = sym (ap (λ (x : List ℕ). before ++ x) (cond-false (behind_word && is_word) (32 ∷ []) [] (and_left behind_word is_word b)) ∙ append-nil before)
+first_no_blank behind_word is_word before b =
+    sym (ap (λ (x : List ℕ). before ++ x) (cond-false (behind_word && is_word) (32 ∷ []) [] (and_left behind_word is_word b))
+    ∙ append-nil before)
 
 pub next_no_blank : (behind_word is_word : Bool) (before : List ℕ) → is_word ≡ false → before ≡ before ++ blank behind_word is_word
-next_no_blank behind_word is_word before w = sym (ap (λ (x : List ℕ). before ++ x) (cond-false (behind_word && is_word) (32 ∷ []) [] (and_right behind_word is_word w)) ∙ append-nil before)
+next_no_blank behind_word is_word before w =
+    sym (ap (λ (x : List ℕ). before ++ x) (cond-false (behind_word && is_word) (32 ∷ []) [] (and_right behind_word is_word w))
+    ∙ append-nil before)
 
 -- what is left to spell
 abbrev pub left : Bool → List Token → List ℕ
 left behind_word ts = blank_behind behind_word ts ++ spelling ts
 
-pub goes_on : (ts : List Token) (i : ℕ) (t : Token) (before middle after total : List ℕ) (behind_word is_word : Bool) → i < length ts → t ≡ get_or ts i t → is_word ≡ begins_word t
+pub goes_on : (ts : List Token) (i : ℕ) (t : Token) (before middle after total : List ℕ) (behind_word is_word : Bool) → i < length ts
+    → t ≡ get_or ts i t → is_word ≡ begins_word t
     → middle ≡ before ++ blank behind_word is_word → after ≡ middle ++ bytes_of t
     → before ++ left behind_word (drop i ts) ≡ total → after ++ left is_word (drop (i + 1) ts) ≡ total
 unfolding spelling
@@ -31,7 +38,8 @@ goes_on ts i t before middle after total behind_word is_word lt at word spaced b
     let others = drop (i + 1) ts in
     let next : drop i ts ≡ t ∷ others = drop_more ts i t lt ∙ ap (λ (u : Token). u ∷ others) (sym at) in
     let gap = blank behind_word (begins_word t) in
-    let parts : after ≡ (before ++ gap) ++ bytes_of t = bytes ∙ ap (λ (x : List ℕ). x ++ bytes_of t) (spaced ∙ ap (λ (w : Bool). before ++ blank behind_word w) word) in
+    let parts : after ≡ (before ++ gap) ++ bytes_of t =
+    bytes ∙ ap (λ (x : List ℕ). x ++ bytes_of t) (spaced ∙ ap (λ (w : Bool). before ++ blank behind_word w) word) in
     ap (λ (w : Bool). after ++ left w others) word
     ∙ ap (λ (x : List ℕ). x ++ left (begins_word t) others) parts
     ∙ append_assoc (before ++ gap) (bytes_of t) (left (begins_word t) others)
@@ -39,6 +47,8 @@ goes_on ts i t before middle after total behind_word is_word lt at word spaced b
     ∙ ap (λ (us : List Token). before ++ left behind_word us) (sym next)
     ∙ so_far
 
-pub is_done : (ts : List Token) (i : ℕ) (before total : List ℕ) (behind_word : Bool) → length ts ≤ i → before ++ left behind_word (drop i ts) ≡ total → before ≡ total
+pub is_done : (ts : List Token) (i : ℕ) (before total : List ℕ) (behind_word : Bool) → length ts ≤ i
+    → before ++ left behind_word (drop i ts) ≡ total → before ≡ total
 unfolding spelling
-is_done ts i before total behind_word le so_far = sym (append-nil before) ∙ ap (λ (us : List Token). before ++ left behind_word us) (sym (drop_all i ts le)) ∙ so_far
+is_done ts i before total behind_word le so_far =
+    sym (append-nil before) ∙ ap (λ (us : List Token). before ++ left behind_word us) (sym (drop_all i ts le)) ∙ so_far

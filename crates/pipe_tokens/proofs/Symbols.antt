@@ -104,7 +104,8 @@ mark_len marks.Equals = omega arith
 mark_len marks.DotDot = omega arith
 
 -- a text that begins with a mark has it as its first piece
-pub mark_is_piece : (mark : Punct) (rest : List ℕ) → piece_of (bytes_of_mark mark ++ rest) ≡ lexeme (tokens.Punct mark) (length (bytes_of_mark mark))
+pub mark_is_piece : (mark : Punct) (rest : List ℕ)
+    → piece_of (bytes_of_mark mark ++ rest) ≡ lexeme (tokens.Punct mark) (length (bytes_of_mark mark))
 unfolding bytes_of_mark piece_of
 mark_is_piece marks.OpenRound rest = refl
 mark_is_piece marks.CloseRound rest = refl

@@ -31,7 +31,8 @@ Spells tokens.NotAscii bytes = ⊥
 pub data Gap (rest : List ℕ) : List ℕ → Type 0 where
   nothing : Gap rest []
   white : (b : ℕ) (gap : List ℕ) → is_white b ≡ true → Gap rest gap → Gap rest (b ∷ gap)
-  comment : (body gap : List ℕ) → list_all is_comment_byte body ≡ true → prefix_len is_comment_byte (gap ++ rest) ≡ 0 → Gap rest gap → Gap rest (35 ∷ (body ++ gap))
+  comment : (body gap : List ℕ) → list_all is_comment_byte body ≡ true → prefix_len is_comment_byte (gap ++ rest) ≡ 0 → Gap rest gap
+      → Gap rest (35 ∷ (body ++ gap))
 
 -- bytes that are a token, and no more of the text is one. No letter, digit or `_` stands directly behind a name, a
 -- reserved word or a number

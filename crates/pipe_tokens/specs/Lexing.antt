@@ -31,10 +31,12 @@ word_piece text = lexeme (token_of_word (take_while is_name_byte text)) (prefix_
 -- digits, with no letter or `_` directly behind them
 abbrev pub digits_piece : List ℕ → Piece
 digits_piece text =
-    lexeme (if prefix_len is_name_byte text == prefix_len is_ascii_digit text then token_of_digits (take_while is_ascii_digit text) else tokens.Bad) (prefix_len is_ascii_digit text)
+    lexeme (if prefix_len is_name_byte text == prefix_len is_ascii_digit text then token_of_digits (take_while is_ascii_digit text)
+    else tokens.Bad) (prefix_len is_ascii_digit text)
 
 abbrev pub mark_piece : List ℕ → Piece
-mark_piece text = unwrap_or (option_map (λ mark. lexeme (tokens.Punct mark) (length (bytes_of_mark mark))) (mark_at text)) (lexeme tokens.Bad 1)
+mark_piece text =
+    unwrap_or (option_map (λ mark. lexeme (tokens.Punct mark) (length (bytes_of_mark mark))) (mark_at text)) (lexeme tokens.Bad 1)
 
 -- the longest piece at the front of a text whose first byte is given. A comment begins with `#`
 abbrev pub piece_from : ℕ → List ℕ → Piece

@@ -8,4 +8,5 @@ len_again bytes len h = omega (arith, length-take len bytes, h.width, h.fits)
 
 pub bytes_again : (bytes : List ℕ) (len : ℕ) → HoldsName bytes len → take len bytes ++ replicate (32 - length (take len bytes)) 0 ≡ bytes
 bytes_again bytes len h =
-    ap (λ (n : ℕ). take len bytes ++ replicate (32 - n) 0) (len_again bytes len h) ∙ ap (λ (r : List ℕ). take len bytes ++ r) (sym h.padded) ∙ take-append-drop len bytes
+    ap (λ (n : ℕ). take len bytes ++ replicate (32 - n) 0) (len_again bytes len h) ∙ ap (λ (r : List ℕ). take len bytes ++ r) (sym h.padded)
+    ∙ take-append-drop len bytes

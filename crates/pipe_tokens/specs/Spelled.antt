@@ -30,7 +30,9 @@ bytes_of_word words.Stencil = codes "stencil"
 bytes_of_word words.Table = codes "table"
 
 abbrev pub all_words : List Keyword
-all_words = words.Param ∷ words.Image ∷ words.Func ∷ words.In ∷ words.Case ∷ words.Else ∷ words.Accum ∷ words.Over ∷ words.Sum ∷ words.Min ∷ words.Max ∷ words.At ∷ words.Output ∷ words.And ∷ words.Abs ∷ words.Clamp ∷ words.Select ∷ words.Stencil ∷ words.Table ∷ []
+all_words =
+    words.Param ∷ words.Image ∷ words.Func ∷ words.In ∷ words.Case ∷ words.Else ∷ words.Accum ∷ words.Over ∷ words.Sum ∷ words.Min
+    ∷ words.Max ∷ words.At ∷ words.Output ∷ words.And ∷ words.Abs ∷ words.Clamp ∷ words.Select ∷ words.Stencil ∷ words.Table ∷ []
 
 -- the reserved word that the bytes are
 abbrev pub word_of : List ℕ → Option Keyword
@@ -59,7 +61,10 @@ bytes_of_mark marks.Equals = codes "=="
 bytes_of_mark marks.DotDot = codes ".."
 
 abbrev pub all_marks : List Punct
-all_marks = marks.OpenRound ∷ marks.CloseRound ∷ marks.OpenSquare ∷ marks.CloseSquare ∷ marks.OpenCurly ∷ marks.CloseCurly ∷ marks.Comma ∷ marks.Semicolon ∷ marks.Colon ∷ marks.Plus ∷ marks.Minus ∷ marks.Star ∷ marks.Slash ∷ marks.Percent ∷ marks.ShiftLeft ∷ marks.ShiftRight ∷ marks.AtMost ∷ marks.AtLeast ∷ marks.Equals ∷ marks.DotDot ∷ []
+all_marks =
+    marks.OpenRound ∷ marks.CloseRound ∷ marks.OpenSquare ∷ marks.CloseSquare ∷ marks.OpenCurly ∷ marks.CloseCurly ∷ marks.Comma
+    ∷ marks.Semicolon ∷ marks.Colon ∷ marks.Plus ∷ marks.Minus ∷ marks.Star ∷ marks.Slash ∷ marks.Percent ∷ marks.ShiftLeft
+    ∷ marks.ShiftRight ∷ marks.AtMost ∷ marks.AtLeast ∷ marks.Equals ∷ marks.DotDot ∷ []
 
 -- the mark that a text begins with. None is the front of another, so that there is one at most
 abbrev pub mark_at : List ℕ → Option Punct

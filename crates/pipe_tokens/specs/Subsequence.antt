@@ -16,7 +16,10 @@ pub IsSubsequence-none : (tokens : List Token) → IsSubsequence [] tokens
 IsSubsequence-none [] = nothing
 IsSubsequence-none (token ∷ tokens) = leaves_out token [] tokens (IsSubsequence-none tokens)
 
-pub IsSubsequence-append : (few many few' many' : List Token) → IsSubsequence few many → IsSubsequence few' many' → IsSubsequence (few ++ few') (many ++ many')
+pub IsSubsequence-append : (few many few' many' : List Token) → IsSubsequence few many → IsSubsequence few' many'
+    → IsSubsequence (few ++ few') (many ++ many')
 IsSubsequence-append _ _ few' many' nothing h = h
-IsSubsequence-append _ _ few' many' (keeps token few many first) h = keeps token (few ++ few') (many ++ many') (IsSubsequence-append few many few' many' first h)
-IsSubsequence-append _ _ few' many' (leaves_out token few many first) h = leaves_out token (few ++ few') (many ++ many') (IsSubsequence-append few many few' many' first h)
+IsSubsequence-append _ _ few' many' (keeps token few many first) h =
+    keeps token (few ++ few') (many ++ many') (IsSubsequence-append few many few' many' first h)
+IsSubsequence-append _ _ few' many' (leaves_out token few many first) h =
+    leaves_out token (few ++ few') (many ++ many') (IsSubsequence-append few many few' many' first h)

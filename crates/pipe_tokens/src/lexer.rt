@@ -21,14 +21,16 @@ pub struct Lexed {
 /// token then. The text has any length. Memory is the only error.
 pub fn lex(alloc: Global, text: &[u8]) -> Result<Lexed, AllocError>
     // Gaps and longest tokens in turn.
-    ensures longest { IfOk result (λ lexed. CutsInto 0 text.now lexed.tokens.items lexed.starts.items) }
+    ensures longest { IfOk result
+        (λ lexed. CutsInto 0 text.now lexed.tokens.items lexed.starts.items) }
     // These are the one such list, which can be computed.
     ensures tokens { IfOk result (λ lexed. lexed.tokens.items ≡ tokens_of text.now) }
     ensures starts { IfOk result (λ lexed. lexed.starts.items ≡ starts_of text.now) }
 
     ensures as_many { IfOk result (λ lexed. vec_len lexed.starts ≡ vec_len lexed.tokens) }
     ensures rising { IfOk result (λ lexed. IsStrictlyIncreasing lexed.starts.items) }
-    ensures within { IfOk result (λ lexed. All (λ start. start < length text.now) lexed.starts.items) }
+    ensures within { IfOk result
+        (λ lexed. All (λ start. start < length text.now) lexed.starts.items) }
 {
     cut(alloc, text)
 }
@@ -57,6 +59,8 @@ fn cut(alloc: Global, text: &[u8]) -> Result<Lexed, AllocError>
 
 /// A text is cut in one way only.
 pub fn tokens_are_determined()
-    ensures tokens { (text : List ℕ) (tokens : List Token) (starts : List ℕ) → CutsInto 0 text tokens starts → tokens ≡ tokens_of text }
-    ensures starts { (text : List ℕ) (tokens : List Token) (starts : List ℕ) → CutsInto 0 text tokens starts → starts ≡ starts_of text }
+    ensures tokens { (text : List ℕ) (tokens : List Token) (starts : List ℕ)
+        → CutsInto 0 text tokens starts → tokens ≡ tokens_of text }
+    ensures starts { (text : List ℕ) (tokens : List Token) (starts : List ℕ)
+        → CutsInto 0 text tokens starts → starts ≡ starts_of text }
 {}

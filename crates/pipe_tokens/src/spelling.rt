@@ -30,7 +30,8 @@ pub fn spell(alloc: Global, tokens: &[Token]) -> Result<Vec<u8>, AllocError>
 
 /// What was spelled is cut into the same tokens again.
 pub fn spelled_tokens_come_back()
-    ensures { (tokens : List Token) → AllByRecursion HasSpelling tokens → tokens_of (spelling tokens) ≡ tokens }
+    ensures { (tokens : List Token) → AllByRecursion HasSpelling tokens
+        → tokens_of (spelling tokens) ≡ tokens }
 {}
 
 /// A text is no shorter than the spelling of its tokens, and the tokens have a spelling but for numbers that are too
@@ -42,7 +43,8 @@ pub fn spelling_is_shortest()
 
 /// Tokens of which some are left out have a spelling that is no longer.
 pub fn fewer_tokens_are_no_longer()
-    ensures { (few : List Token) (many : List Token) → IsSubsequence few many → AllByRecursion HasSpelling many → length (spelling few) ≤ length (spelling many) }
+    ensures { (few : List Token) (many : List Token) → IsSubsequence few many
+        → AllByRecursion HasSpelling many → length (spelling few) ≤ length (spelling many) }
 {}
 
 /// Whether the token begins with a letter or a digit.

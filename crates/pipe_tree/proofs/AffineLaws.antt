@@ -69,8 +69,10 @@ module _ (n : ℕ) where
       parses_choose n is_number_at _ _ NoStar _ _
       (parses_next n _ _ NoStar _ _ (parses_int roles.Plain n) (λ k. parses_factor_end k))
       (parses_next n _ _ NoStar _ _ (parses_name n roles.Plain) (λ x. parses_gives n (1, Some x) NoStar))
-      (λ m. starts_by (g.int roles.Plain) _ NoStar (Passing is_number_at) (starts_int roles.Plain Any (Passing is_number_at) (λ k. refl) refl))
-      (λ m. starts_by (g.name roles.Plain) _ NoStar (Failing is_number_at) (starts_means name_at roles.Plain Any (Failing is_number_at) name_is_no_number))
+      (λ m. starts_by (g.int roles.Plain) _ NoStar (Passing is_number_at)
+      (starts_int roles.Plain Any (Passing is_number_at) (λ k. refl) refl))
+      (λ m. starts_by (g.name roles.Plain) _ NoStar (Failing is_number_at)
+      (starts_means name_at roles.Plain Any (Failing is_number_at) name_is_no_number))
 
   parses_term : (negative : Bool) (terms : List Term) → Parses n (term negative terms) NoStar (λ _. g.term negative terms)
   parses_term negative terms =
@@ -92,13 +94,18 @@ module _ (n : ℕ) where
   affine_turns = record {
     each = parses_next_term;
     some = λ m a b text p. long_front (g.sign roles.Plain) _ (long_means sign_at roles.Plain) text b p;
-    begins = λ m a b text rest p s. starts_by (g.sign roles.Plain) _ NoStar (Passing is_sign_at) (starts_means sign_at roles.Plain Any (Passing is_sign_at) sign_is_sign) text rest b p s;
-    follows = λ m a b text rest p s. starts_by (g.sign roles.Plain) _ NoStar NoStar (starts_means sign_at roles.Plain Any NoStar sign_is_no_star) text rest b p s;
+    begins =
+        λ m a b text rest p s. starts_by (g.sign roles.Plain) _ NoStar (Passing is_sign_at)
+        (starts_means sign_at roles.Plain Any (Passing is_sign_at) sign_is_sign) text rest b p s;
+    follows =
+        λ m a b text rest p s. starts_by (g.sign roles.Plain) _ NoStar NoStar (starts_means sign_at roles.Plain Any NoStar sign_is_no_star)
+        text rest b p s;
     stops = λ a h e. e.1;
     ends = λ h e. e.0;
   }
 
-  pub affine_unroll : (terms : List Term) (s : At) → while is_sign_at next_term terms s ≡ choose is_sign_at (next_term terms >>= while is_sign_at next_term) (gives terms) s
+  pub affine_unroll : (terms : List Term) (s : At)
+      → while is_sign_at next_term terms s ≡ choose is_sign_at (next_term terms >>= while is_sign_at next_term) (gives terms) s
   affine_unroll terms s = loop_unroll n _ _ NoStar NoTerm _ affine_turns terms s
 
   pub parses_affine : Parses n affine NoTerm (λ _. g.affine)
@@ -108,7 +115,8 @@ module _ (n : ℕ) where
       (λ negative. parses_then n (term negative []) _ NoStar NoTerm _ _ (parses_term negative [])
       (λ terms. parses_loop n _ _ NoStar NoTerm _ affine_turns terms)
       (λ m terms. loop_follows n _ _ NoStar NoTerm _ affine_turns m terms))
-      (λ m negative. starts_then (g.term negative []) _ NoStar NoTerm NoMinus (term_starts negative []) (λ terms. loop_follows n _ _ NoStar NoTerm _ affine_turns m terms))
+      (λ m negative. starts_then (g.term negative []) _ NoStar NoTerm NoMinus (term_starts negative [])
+      (λ terms. loop_follows n _ _ NoStar NoTerm _ affine_turns m terms))
 
   pub parses_span : Parses n span Any (λ _. g.span)
   unfolding span g.span

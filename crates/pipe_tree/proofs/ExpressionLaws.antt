@@ -81,20 +81,26 @@ name_starts_name t x e = absurd cc
 
 module _ (n : ℕ) (u : Reader Node) (U : ℕ → Rule Node) (reads : Parses n u NoOpen U) where
   parses_operand : (a : Node) (f : Factor) → Parses n (operand u a f) NoOpen (λ m. g.operand (U m) a f)
-  parses_operand a factors.Times = parses_then n u _ NoOpen NoOpen _ _ reads (λ b. parses_gives n _ NoOpen) (λ m b. starts_gives _ NoOpen NoOpen (λ h s. s))
+  parses_operand a factors.Times =
+      parses_then n u _ NoOpen NoOpen _ _ reads (λ b. parses_gives n _ NoOpen) (λ m b. starts_gives _ NoOpen NoOpen (λ h s. s))
   parses_operand a (factors.Literal op) = parses_next n _ _ NoOpen _ _ (parses_int roles.Plain n) (λ k. parses_gives n _ NoOpen)
 
   product_turns : Turns n (λ _. is_factor_at) (product_more u) NoOpen NoFactor (λ a m. g.product_more (U m) a)
   product_turns = record {
     each = λ a. parses_next n _ _ NoOpen _ _ (parses_factor n) (λ f. parses_operand a f);
     some = λ m a b text p. long_front g.factor _ (long_means factor_at roles.Node) text b p;
-    begins = λ m a b text rest p s. starts_by g.factor _ NoOpen (Passing is_factor_at) (starts_means factor_at roles.Node Any (Passing is_factor_at) factor_is_factor) text rest b p s;
-    follows = λ m a b text rest p s. starts_by g.factor _ NoOpen NoOpen (starts_means factor_at roles.Node Any NoOpen factor_is_no_open) text rest b p s;
+    begins =
+        λ m a b text rest p s. starts_by g.factor _ NoOpen (Passing is_factor_at)
+        (starts_means factor_at roles.Node Any (Passing is_factor_at) factor_is_factor) text rest b p s;
+    follows =
+        λ m a b text rest p s. starts_by g.factor _ NoOpen NoOpen (starts_means factor_at roles.Node Any NoOpen factor_is_no_open) text rest
+        b p s;
     stops = λ a h e. e.1;
     ends = λ h e. e.0;
   }
 
-  pub product_unroll : (a : Node) (s : At) → while is_factor_at (product_more u) a s ≡ choose is_factor_at (product_more u a >>= while is_factor_at (product_more u)) (gives a) s
+  pub product_unroll : (a : Node) (s : At)
+      → while is_factor_at (product_more u) a s ≡ choose is_factor_at (product_more u a >>= while is_factor_at (product_more u)) (gives a) s
   product_unroll a s = loop_unroll n _ _ NoOpen NoFactor _ product_turns a s
 
   pub parses_product : Parses n (product_of u) NoFactor (λ m. g.product (U m))
@@ -106,15 +112,21 @@ module _ (n : ℕ) (p : Reader Node) (P : ℕ → Rule Node) (reads : Parses n p
   sum_turns : Turns n (λ _. is_sign_at) (sum_more p) NoFactor NoOperator (λ a m. g.sum_more (P m) a)
   sum_turns = record {
     each = λ a. parses_next n _ _ NoFactor _ _ (parses_sign n roles.Node) (λ negative.
-        parses_then n p _ NoFactor NoFactor _ _ reads (λ b. parses_gives n _ NoFactor) (λ m b. starts_gives _ NoFactor NoFactor (λ h s. s)));
+        parses_then n p _ NoFactor NoFactor _ _ reads (λ b. parses_gives n _ NoFactor)
+        (λ m b. starts_gives _ NoFactor NoFactor (λ h s. s)));
     some = λ m a b text q. long_front (g.sign roles.Node) _ (long_means sign_at roles.Node) text b q;
-    begins = λ m a b text rest q s. starts_by (g.sign roles.Node) _ NoFactor (Passing is_sign_at) (starts_means sign_at roles.Node Any (Passing is_sign_at) sign_is_sign) text rest b q s;
-    follows = λ m a b text rest q s. starts_by (g.sign roles.Node) _ NoFactor NoFactor (starts_means sign_at roles.Node Any NoFactor sign_is_no_factor) text rest b q s;
+    begins =
+        λ m a b text rest q s. starts_by (g.sign roles.Node) _ NoFactor (Passing is_sign_at)
+        (starts_means sign_at roles.Node Any (Passing is_sign_at) sign_is_sign) text rest b q s;
+    follows =
+        λ m a b text rest q s. starts_by (g.sign roles.Node) _ NoFactor NoFactor
+        (starts_means sign_at roles.Node Any NoFactor sign_is_no_factor) text rest b q s;
     stops = λ a h e. e.2;
     ends = λ h e. (e.0, e.1);
   }
 
-  pub sum_unroll : (a : Node) (s : At) → while is_sign_at (sum_more p) a s ≡ choose is_sign_at (sum_more p a >>= while is_sign_at (sum_more p)) (gives a) s
+  pub sum_unroll : (a : Node) (s : At)
+      → while is_sign_at (sum_more p) a s ≡ choose is_sign_at (sum_more p a >>= while is_sign_at (sum_more p)) (gives a) s
   sum_unroll a s = loop_unroll n _ _ NoFactor NoOperator _ sum_turns a s
 
   pub parses_sum : Parses n (sum_of p) NoOperator (λ m. g.sums (P m))
@@ -124,7 +136,8 @@ module _ (n : ℕ) (p : Reader Node) (P : ℕ → Rule Node) (reads : Parses n p
 
 -- ---- what opens a level
 
-ends_mark : {Y : Type 0} (m : Punct) (role : Role) (Q : Unit {0} → Rule Y) (T : Follow) → NoOperator (Some (token.Punct m)) → Starts (Then (g.mark m role) Q) T NoOperator
+ends_mark : {Y : Type 0} (m : Punct) (role : Role) (Q : Unit {0} → Rule Y) (T : Follow) → NoOperator (Some (token.Punct m))
+    → Starts (Then (g.mark m role) Q) T NoOperator
 ends_mark m role Q T f = starts_with (token.Punct m) role Q T NoOperator f
 
 module _ (n : ℕ) (u : Reader Node) (U : ℕ → Rule Node) (reads : Parses n u NoOpen U) where
@@ -135,8 +148,13 @@ module _ (n : ℕ) (u : Reader Node) (U : ℕ → Rule Node) (reads : Parses n u
 
 module _ (n : ℕ) (e : Reader Node) (E : ℕ → Rule Node) (reads : Parses n e NoOperator E) where
   -- the last operand, and the parenthesis behind it
-  last : (f : Node → Node) → Parses n (e >>= λ a. mark marks.CloseRound roles.Plain >>= λ _. gives (f a)) Any (λ m. Then (E m) (λ a. Then (g.mark marks.CloseRound roles.Plain) (λ _. Gives (f a))))
-  last f = parses_then n e _ NoOperator Any _ _ reads (λ a. parses_next n _ _ Any _ _ (parses_mark n marks.CloseRound roles.Plain) (λ _. parses_gives n (f a) Any)) (λ m a. ends_mark marks.CloseRound roles.Plain _ Any (refl, refl, refl))
+  last : (f : Node → Node)
+      → Parses n (e >>= λ a. mark marks.CloseRound roles.Plain >>= λ _. gives (f a)) Any
+      (λ m. Then (E m) (λ a. Then (g.mark marks.CloseRound roles.Plain) (λ _. Gives (f a))))
+  last f =
+      parses_then n e _ NoOperator Any _ _ reads
+      (λ a. parses_next n _ _ Any _ _ (parses_mark n marks.CloseRound roles.Plain) (λ _. parses_gives n (f a) Any))
+      (λ m a. ends_mark marks.CloseRound roles.Plain _ Any (refl, refl, refl))
 
   pub parses_group : Parses n (group e) Any (λ m. g.group (E m))
   parses_group = parses_next n _ _ Any _ _ (parses_mark n marks.OpenRound roles.Plain) (λ _. last (λ a. a))
@@ -181,13 +199,15 @@ module _ (n : ℕ) (e : Reader Node) (E : ℕ → Rule Node) (reads : Parses n e
 
 -- ---- unaries, by what they begin with
 
-deeper_ends : {X : Type 0} (D E : Type 0) (c : Counts) (x : X) (text : List Tagged) (rest : List Token) (a : Answer X) → (D → E) → Ends D c x text rest a → Ends E c x text rest a
+deeper_ends : {X : Type 0} (D E : Type 0) (c : Counts) (x : X) (text : List Tagged) (rest : List Token) (a : Answer X) → (D → E)
+    → Ends D c x text rest a → Ends E c x text rest a
 deeper_ends D E c x text rest (Ok a) up e = e
 deeper_ends D E c x text rest (Err h) up (inl e) = inl (e.0, up e.1)
 deeper_ends D E c x text rest (Err h) up (inr e) = inr e
 
 deeper : {X : Type 0} (D E : Type 0) (r : Reader X) (S : Follow) (R : Rule X) → (D → E) → All D r S R → All E r S R
-deeper D E r S R up p = record { read_all = λ c text rest x h t. deeper_ends D E c x text rest (r (state c (on text rest))) up (p.read_all c text rest x h t) }
+deeper D E r S R up p =
+    record { read_all = λ c text rest x h t. deeper_ends D E c x text rest (r (state c (on text rest))) up (p.read_all c text rest x h t) }
 
 -- what no level matters to
 at_levels : {X : Type 0} (deep : Type 0) (r : Reader X) (S : Follow) (R : Rule X) → Parses 0 r S (λ _. R) → All deep r S R
@@ -200,15 +220,21 @@ module _ (deep : Type 0) (open_level : Opening → Reader Node) where
       let any = λ (r : Reader Node) (R : Rule Node) (p : All deep r Any R). all_weaker deep r Any NoOpen R (λ h s. tt) p in
       or_all deep _ NoOpen _ _
       (or_all deep _ NoOpen _ _
-      (key g.literal_number start.Number (starts_by (g.int roles.Node) _ NoOpen (λ h. start_at h ≡ start.Number) (starts_int roles.Node Any (λ h. start_at h ≡ start.Number) (λ k. refl) refl))
+      (key g.literal_number start.Number (starts_by (g.int roles.Node) _ NoOpen (λ h. start_at h ≡ start.Number)
+      (starts_int roles.Node Any (λ h. start_at h ≡ start.Number) (λ k. refl) refl))
       (any literal_number g.literal_number (at_levels deep literal_number Any g.literal_number (parses_literal_number 0))))
-      (key g.named start.Name (starts_by (g.name roles.Node) _ NoOpen (λ h. start_at h ≡ start.Name) (starts_means name_at roles.Node Any (λ h. start_at h ≡ start.Name) name_starts_name))
+      (key g.named start.Name (starts_by (g.name roles.Node) _ NoOpen (λ h. start_at h ≡ start.Name)
+      (starts_means name_at roles.Node Any (λ h. start_at h ≡ start.Name) name_starts_name))
       (at_levels deep named NoOpen g.named (parses_named 0))))
       (key g.a_stencil start.Stencil (starts_with (token.Keyword words.Stencil) roles.Node _ NoOpen (λ h. start_at h ≡ start.Stencil) refl)
       (any a_stencil g.a_stencil (at_levels deep a_stencil Any g.a_stencil (parses_stencil 0))))
 
   -- what opens a level, each as the rule says
-  levels_all : (U E : Rule Node) → All deep (open_level opening.Minus) NoOpen (g.negation U) → All deep (open_level opening.Group) NoOpen (g.group E) → All deep (open_level (opening.Pair Min)) NoOpen (g.pair words.Min Min E) → All deep (open_level (opening.Pair Max)) NoOpen (g.pair words.Max Max E) → All deep (open_level opening.Abs) NoOpen (g.absolute E) → All deep (open_level opening.Clamp) NoOpen (g.clamped E) → All deep (open_level opening.Select) NoOpen (g.selected E) → All deep (by_key start_at (unary_by open_level)) NoOpen (leaf or g.opened U E)
+  levels_all : (U E : Rule Node) → All deep (open_level opening.Minus) NoOpen (g.negation U)
+      → All deep (open_level opening.Group) NoOpen (g.group E) → All deep (open_level (opening.Pair Min)) NoOpen (g.pair words.Min Min E)
+      → All deep (open_level (opening.Pair Max)) NoOpen (g.pair words.Max Max E) → All deep (open_level opening.Abs) NoOpen (g.absolute E)
+      → All deep (open_level opening.Clamp) NoOpen (g.clamped E) → All deep (open_level opening.Select) NoOpen (g.selected E)
+      → All deep (by_key start_at (unary_by open_level)) NoOpen (leaf or g.opened U E)
   levels_all U E negated grouped least most absolute clamped selected =
       let key = key_all start_at (unary_by open_level) deep NoOpen in
       or_all deep _ NoOpen _ _ leaf_all
@@ -218,13 +244,20 @@ module _ (deep : Type 0) (open_level : Opening → Reader Node) where
       (or_all deep _ NoOpen _ _
       (or_all deep _ NoOpen _ _
       (or_all deep _ NoOpen _ _
-      (key (g.negation U) (start.Opening opening.Minus) (starts_with (token.Punct marks.Minus) roles.Node _ NoOpen (λ h. start_at h ≡ start.Opening opening.Minus) refl) negated)
-      (key (g.group E) (start.Opening opening.Group) (starts_with (token.Punct marks.OpenRound) roles.Plain _ NoOpen (λ h. start_at h ≡ start.Opening opening.Group) refl) grouped))
-      (key (g.pair words.Min Min E) (start.Opening (opening.Pair Min)) (starts_with (token.Keyword words.Min) roles.Node _ NoOpen (λ h. start_at h ≡ start.Opening (opening.Pair Min)) refl) least))
-      (key (g.pair words.Max Max E) (start.Opening (opening.Pair Max)) (starts_with (token.Keyword words.Max) roles.Node _ NoOpen (λ h. start_at h ≡ start.Opening (opening.Pair Max)) refl) most))
-      (key (g.absolute E) (start.Opening opening.Abs) (starts_with (token.Keyword words.Abs) roles.Node _ NoOpen (λ h. start_at h ≡ start.Opening opening.Abs) refl) absolute))
-      (key (g.clamped E) (start.Opening opening.Clamp) (starts_with (token.Keyword words.Clamp) roles.Node _ NoOpen (λ h. start_at h ≡ start.Opening opening.Clamp) refl) clamped))
-      (key (g.selected E) (start.Opening opening.Select) (starts_with (token.Keyword words.Select) roles.Node _ NoOpen (λ h. start_at h ≡ start.Opening opening.Select) refl) selected))
+      (key (g.negation U) (start.Opening opening.Minus)
+      (starts_with (token.Punct marks.Minus) roles.Node _ NoOpen (λ h. start_at h ≡ start.Opening opening.Minus) refl) negated)
+      (key (g.group E) (start.Opening opening.Group)
+      (starts_with (token.Punct marks.OpenRound) roles.Plain _ NoOpen (λ h. start_at h ≡ start.Opening opening.Group) refl) grouped))
+      (key (g.pair words.Min Min E) (start.Opening (opening.Pair Min))
+      (starts_with (token.Keyword words.Min) roles.Node _ NoOpen (λ h. start_at h ≡ start.Opening (opening.Pair Min)) refl) least))
+      (key (g.pair words.Max Max E) (start.Opening (opening.Pair Max))
+      (starts_with (token.Keyword words.Max) roles.Node _ NoOpen (λ h. start_at h ≡ start.Opening (opening.Pair Max)) refl) most))
+      (key (g.absolute E) (start.Opening opening.Abs)
+      (starts_with (token.Keyword words.Abs) roles.Node _ NoOpen (λ h. start_at h ≡ start.Opening opening.Abs) refl) absolute))
+      (key (g.clamped E) (start.Opening opening.Clamp)
+      (starts_with (token.Keyword words.Clamp) roles.Node _ NoOpen (λ h. start_at h ≡ start.Opening opening.Clamp) refl) clamped))
+      (key (g.selected E) (start.Opening opening.Select)
+      (starts_with (token.Keyword words.Select) roles.Node _ NoOpen (λ h. start_at h ≡ start.Opening opening.Select) refl) selected))
 
 -- ---- the levels
 
@@ -273,7 +306,8 @@ pair_is (Some (token.Punct m)) op e = absurd (no_pair_mark m op e)
 pair_is (Some t) op e = absurd cc
 pair_is None op e = absurd cc
 
-opened_within : (U E : Rule Node) (h : Option Token) (o : Opening) → start_at h ≡ start.Opening o → Within (opened_rule U E o) (g.opened U E)
+opened_within : (U E : Rule Node) (h : Option Token) (o : Opening) → start_at h ≡ start.Opening o
+    → Within (opened_rule U E o) (g.opened U E)
 opened_within U E h opening.Minus e text x p = inl (inl (inl (inl (inl (inl p)))))
 opened_within U E h opening.Group e text x p = inl (inl (inl (inl (inl (inr p)))))
 opened_within U E h opening.Abs e text x p = inl (inl (inr p))
@@ -286,18 +320,29 @@ opened_within U E h (opening.Pair op) e text x p = within_pair (pair_is h op e)
     within_pair (inr is) = inl (inl (inl (inr (subst (λ (q : BinaryOp). g.pair (word_of q) q E text x) is p))))
 
 -- a rule that begins with a token goes on with it
-going_with : (t : Token) (role : Role) (Q : Unit {0} → Rule Node) → fits t ≡ true → HasText (Q tt) → GoesOn (Then (token_rule t role) Q) [] (Some t) (λ u. fits u.token ≡ true)
+going_with : (t : Token) (role : Role) (Q : Unit {0} → Rule Node) → fits t ≡ true → HasText (Q tt)
+    → GoesOn (Then (token_rule t role) Q) [] (Some t) (λ u. fits u.token ≡ true)
 going_with t role Q good q = record {
   next = tagged t role;
   more = q.text;
   value = q.value;
   ahead_is = refl;
   holds = good;
-  rule = record { front = tagged t role ∷ []; back = q.text; value = tt; parts = refl; first = record { text_is = refl; value = refl }; second = q.rule };
+  rule =
+      record {
+        front =
+            tagged t role ∷ [];
+        back = q.text;
+        value = tt;
+        parts = refl;
+        first = record { text_is = refl; value = refl };
+        second = q.rule;
+      };
 }
 
 goes_within : (R Q : Rule Node) (h : Option Token) (P : Tagged → Type 0) → Within R Q → GoesOn R [] h P → GoesOn Q [] h P
-goes_within R Q h P up f = record { next = f.next; more = f.more; value = f.value; ahead_is = f.ahead_is; rule = up _ _ f.rule; holds = f.holds }
+goes_within R Q h P up f =
+    record { next = f.next; more = f.more; value = f.value; ahead_is = f.ahead_is; rule = up _ _ f.rule; holds = f.holds }
 
 mark_has : (m : Punct) (role : Role) → HasText (g.mark m role)
 mark_has m role = (parses_mark 0 m role).has
@@ -306,13 +351,17 @@ zero_many : (T : Node → Rule Node) (a : Node) → HasText (many T a)
 zero_many T a = record { text = []; value = a; rule = record { which = 0; it = record { empty = refl; value = refl } } }
 
 sum_has : HasText (g.sums (g.product (Unary 0)))
-sum_has = then_has (g.product (Unary 0)) _ (then_has (Unary 0) _ (unary_has 0) (λ a. zero_many (g.product_more (Unary 0)) a)) (λ a. zero_many (g.sum_more (g.product (Unary 0))) a)
+sum_has =
+    then_has (g.product (Unary 0)) _ (then_has (Unary 0) _ (unary_has 0) (λ a. zero_many (g.product_more (Unary 0)) a))
+    (λ a. zero_many (g.sum_more (g.product (Unary 0))) a)
 
-closes : (f : Node → Node) → HasText (Then (g.sums (g.product (Unary 0))) (λ a. Then (g.mark marks.CloseRound roles.Plain) (λ _. Gives (f a))))
+closes : (f : Node → Node)
+    → HasText (Then (g.sums (g.product (Unary 0))) (λ a. Then (g.mark marks.CloseRound roles.Plain) (λ _. Gives (f a))))
 closes f = then_has _ _ sum_has (λ a. then_has _ _ (mark_has marks.CloseRound roles.Plain) (λ _. (parses_gives 0 (f a) Any).has))
 
 -- an argument, and what is behind the comma
-argument : (Q : Node → Rule Node) → ((a : Node) → HasText (Q a)) → HasText (Then (g.sums (g.product (Unary 0))) (λ a. Then (g.mark marks.Comma roles.Plain) (λ _. Q a)))
+argument : (Q : Node → Rule Node) → ((a : Node) → HasText (Q a))
+    → HasText (Then (g.sums (g.product (Unary 0))) (λ a. Then (g.mark marks.Comma roles.Plain) (λ _. Q a)))
 argument Q has = then_has _ _ sum_has (λ a. then_has _ _ (mark_has marks.Comma roles.Plain) (λ _. has a))
 
 -- a level that is opened has its place, if there is one more level
@@ -321,20 +370,26 @@ too_deep (Some (token.Punct marks.Minus)) o e =
     goes_within (g.negation (Unary 0)) (Unary 1) _ _ (λ text x p. level_in_unary 0 text x (inl (inl (inl (inl (inl (inl p)))))))
     (going_with (token.Punct marks.Minus) roles.Node _ refl (then_has _ _ (unary_has 0) (λ a. (parses_gives 0 _ Any).has)))
 too_deep (Some (token.Punct marks.OpenRound)) o e =
-    goes_within (g.group (g.sums (g.product (Unary 0)))) (Unary 1) _ _ (λ text x p. level_in_unary 0 text x (inl (inl (inl (inl (inl (inr p)))))))
+    goes_within (g.group (g.sums (g.product (Unary 0)))) (Unary 1) _ _
+    (λ text x p. level_in_unary 0 text x (inl (inl (inl (inl (inl (inr p)))))))
     (going_with (token.Punct marks.OpenRound) roles.Plain _ refl (closes (λ a. a)))
 too_deep (Some (token.Keyword words.Min)) o e =
-    goes_within (g.pair words.Min Min (g.sums (g.product (Unary 0)))) (Unary 1) _ _ (λ text x p. level_in_unary 0 text x (inl (inl (inl (inl (inr p))))))
-    (going_with (token.Keyword words.Min) roles.Node _ refl (then_has _ _ (mark_has marks.OpenRound roles.Plain) (λ _. argument _ (λ a. closes _))))
+    goes_within (g.pair words.Min Min (g.sums (g.product (Unary 0)))) (Unary 1) _ _
+    (λ text x p. level_in_unary 0 text x (inl (inl (inl (inl (inr p))))))
+    (going_with (token.Keyword words.Min) roles.Node _ refl
+    (then_has _ _ (mark_has marks.OpenRound roles.Plain) (λ _. argument _ (λ a. closes _))))
 too_deep (Some (token.Keyword words.Max)) o e =
-    goes_within (g.pair words.Max Max (g.sums (g.product (Unary 0)))) (Unary 1) _ _ (λ text x p. level_in_unary 0 text x (inl (inl (inl (inr p)))))
-    (going_with (token.Keyword words.Max) roles.Node _ refl (then_has _ _ (mark_has marks.OpenRound roles.Plain) (λ _. argument _ (λ a. closes _))))
+    goes_within (g.pair words.Max Max (g.sums (g.product (Unary 0)))) (Unary 1) _ _
+    (λ text x p. level_in_unary 0 text x (inl (inl (inl (inr p)))))
+    (going_with (token.Keyword words.Max) roles.Node _ refl
+    (then_has _ _ (mark_has marks.OpenRound roles.Plain) (λ _. argument _ (λ a. closes _))))
 too_deep (Some (token.Keyword words.Abs)) o e =
     goes_within (g.absolute (g.sums (g.product (Unary 0)))) (Unary 1) _ _ (λ text x p. level_in_unary 0 text x (inl (inl (inr p))))
     (going_with (token.Keyword words.Abs) roles.Node _ refl (then_has _ _ (mark_has marks.OpenRound roles.Plain) (λ _. closes _)))
 too_deep (Some (token.Keyword words.Clamp)) o e =
     goes_within (g.clamped (g.sums (g.product (Unary 0)))) (Unary 1) _ _ (λ text x p. level_in_unary 0 text x (inl (inr p)))
-    (going_with (token.Keyword words.Clamp) roles.Node _ refl (then_has _ _ (mark_has marks.OpenRound roles.Plain) (λ _. argument _ (λ a. argument _ (λ b. closes _)))))
+    (going_with (token.Keyword words.Clamp) roles.Node _ refl
+    (then_has _ _ (mark_has marks.OpenRound roles.Plain) (λ _. argument _ (λ a. argument _ (λ b. closes _)))))
 too_deep (Some (token.Keyword words.Select)) o e =
     goes_within (g.selected (g.sums (g.product (Unary 0)))) (Unary 1) _ _ (λ text x p. level_in_unary 0 text x (inr p))
     (going_with (token.Keyword words.Select) roles.Node _ refl (then_has _ _ (mark_has marks.OpenRound roles.Plain) (λ _.
@@ -343,10 +398,18 @@ too_deep (Some t) o e = absurd cc
 too_deep None o e = absurd cc
 
 -- what opens no level, with any reader of levels
-leaf_sound : (open_level : Opening → Reader Node) (R W : Rule Node) → Within leaf R → Within leaf W → (s : At) → ((o : Opening) → start_at (head s.rest) ≡ start.Opening o → Sound (open_level o) R W s (open_level o s)) → (k : Start) → start_at (head s.rest) ≡ k → Sound (unary_by open_level k) R W s (unary_by open_level k s)
-leaf_sound open_level R W up wide s opens start.Number e = widen literal_number g.literal_number g.literal_number R W s (literal_number s) (λ text x p. up text x (inl (inl p))) (λ text x p. wide text x (inl (inl p))) ((parses_literal_number 0).sound s)
-leaf_sound open_level R W up wide s opens start.Name e = widen named g.named g.named R W s (named s) (λ text x p. up text x (inl (inr p))) (λ text x p. wide text x (inl (inr p))) ((parses_named 0).sound s)
-leaf_sound open_level R W up wide s opens start.Stencil e = widen a_stencil g.a_stencil g.a_stencil R W s (a_stencil s) (λ text x p. up text x (inr p)) (λ text x p. wide text x (inr p)) ((parses_stencil 0).sound s)
+leaf_sound : (open_level : Opening → Reader Node) (R W : Rule Node) → Within leaf R → Within leaf W → (s : At)
+    → ((o : Opening) → start_at (head s.rest) ≡ start.Opening o → Sound (open_level o) R W s (open_level o s)) → (k : Start)
+    → start_at (head s.rest) ≡ k → Sound (unary_by open_level k) R W s (unary_by open_level k s)
+leaf_sound open_level R W up wide s opens start.Number e =
+    widen literal_number g.literal_number g.literal_number R W s (literal_number s) (λ text x p. up text x (inl (inl p)))
+    (λ text x p. wide text x (inl (inl p))) ((parses_literal_number 0).sound s)
+leaf_sound open_level R W up wide s opens start.Name e =
+    widen named g.named g.named R W s (named s) (λ text x p. up text x (inl (inr p))) (λ text x p. wide text x (inl (inr p)))
+    ((parses_named 0).sound s)
+leaf_sound open_level R W up wide s opens start.Stencil e =
+    widen a_stencil g.a_stencil g.a_stencil R W s (a_stencil s) (λ text x p. up text x (inr p)) (λ text x p. wide text x (inr p))
+    ((parses_stencil 0).sound s)
 leaf_sound open_level R W up wide s opens (start.Opening o) e = opens o e
 leaf_sound open_level R W up wide s opens start.Nothing e = refuse_sound R W (has_within leaf R up leaf_has) s
 
@@ -376,7 +439,8 @@ zero_all zero = leaf_all (0 < 0) (λ _. stop TooDeep)
 zero_all (suc m) =
     let D = 0 < suc m in
     let d : D = omega arith in
-    levels_all D (λ _. stop TooDeep) (Unary m) (g.sums (g.product (Unary m))) (deep_all D _ d) (deep_all D _ d) (deep_all D _ d) (deep_all D _ d) (deep_all D _ d) (deep_all D _ d) (deep_all D _ d)
+    levels_all D (λ _. stop TooDeep) (Unary m) (g.sums (g.product (Unary m))) (deep_all D _ d) (deep_all D _ d) (deep_all D _ d)
+    (deep_all D _ d) (deep_all D _ d) (deep_all D _ d) (deep_all D _ d)
 
 zero_wider : Within (Unary 0) (Unary 1)
 unfolding Unary
@@ -384,7 +448,9 @@ zero_wider text x p = inl p
 
 zero_sound : (s : At) → Sound (unary_at 0) (Unary 0) (Unary 1) s (unary_at 0 s)
 unfolding unary_at
-zero_sound s = key_sound start_at (unary_by (λ _. stop TooDeep)) (Unary 0) (Unary 1) s (leaf_sound (λ _. stop TooDeep) (Unary 0) (Unary 1) (leaf_in_unary 0) (leaf_in_unary 1) s (stop_deep s) (start_at (head s.rest)) refl)
+zero_sound s =
+    key_sound start_at (unary_by (λ _. stop TooDeep)) (Unary 0) (Unary 1) s (leaf_sound (λ _. stop TooDeep) (Unary 0) (Unary 1)
+    (leaf_in_unary 0) (leaf_in_unary 1) s (stop_deep s) (start_at (head s.rest)) refl)
 
 zero_parses : Parses 0 (unary_at 0) NoOpen Unary
 zero_parses = record { sound = zero_sound; wider = zero_wider; has = unary_has 0; all = zero_all }
@@ -402,7 +468,8 @@ module _ (n : ℕ) (reads : Parses n (unary_at n) NoOpen Unary) where
   inner : Parses n e NoOperator (λ m. g.sums (g.product (Unary m)))
   inner = parses_sum n (product_of u) (λ m. g.product (Unary m)) (parses_product n u Unary reads)
 
-  open_sound : (s : At) (o : Opening) → Sound (opened u e o) (opened_rule (Unary n) (E n) o) (opened_rule (Unary (suc n)) (E (suc n)) o) s (opened u e o s)
+  open_sound : (s : At) (o : Opening)
+      → Sound (opened u e o) (opened_rule (Unary n) (E n) o) (opened_rule (Unary (suc n)) (E (suc n)) o) s (opened u e o s)
   open_sound s opening.Minus = (parses_negation n u Unary reads).sound s
   open_sound s opening.Group = (parses_group n e E inner).sound s
   open_sound s opening.Abs = (parses_absolute n e E inner).sound s
@@ -410,9 +477,11 @@ module _ (n : ℕ) (reads : Parses n (unary_at n) NoOpen Unary) where
   open_sound s opening.Select = (parses_selected n e E inner).sound s
   open_sound s (opening.Pair op) = (parses_pair n e E inner op).sound s
 
-  open_within : (s : At) (o : Opening) → start_at (head s.rest) ≡ start.Opening o → Sound (opened u e o) (Unary (suc n)) (Unary (suc (suc n))) s (opened u e o s)
+  open_within : (s : At) (o : Opening) → start_at (head s.rest) ≡ start.Opening o
+      → Sound (opened u e o) (Unary (suc n)) (Unary (suc (suc n))) s (opened u e o s)
   open_within s o is =
-      widen (opened u e o) (opened_rule (Unary n) (E n) o) (opened_rule (Unary (suc n)) (E (suc n)) o) (Unary (suc n)) (Unary (suc (suc n))) s (opened u e o s)
+      widen (opened u e o) (opened_rule (Unary n) (E n) o) (opened_rule (Unary (suc n)) (E (suc n)) o) (Unary (suc n)) (Unary (suc (suc n)))
+      s (opened u e o s)
       (λ text x p. level_in_unary n text x (opened_within (Unary n) (E n) (head s.rest) o is text x p))
       (λ text x p. level_in_unary (suc n) text x (opened_within (Unary (suc n)) (E (suc n)) (head s.rest) o is text x p))
       (open_sound s o)
@@ -421,7 +490,8 @@ module _ (n : ℕ) (reads : Parses n (unary_at n) NoOpen Unary) where
   unfolding unary_at
   next_sound s =
       key_sound start_at (unary_by (opened u e)) (Unary (suc n)) (Unary (suc (suc n))) s
-      (leaf_sound (opened u e) (Unary (suc n)) (Unary (suc (suc n))) (leaf_in_unary (suc n)) (leaf_in_unary (suc (suc n))) s (open_within s) (start_at (head s.rest)) refl)
+      (leaf_sound (opened u e) (Unary (suc n)) (Unary (suc (suc n))) (leaf_in_unary (suc n)) (leaf_in_unary (suc (suc n))) s (open_within s)
+      (start_at (head s.rest)) refl)
 
   next_wider : Within (Unary (suc n)) (Unary (suc (suc n)))
   unfolding Unary
@@ -447,7 +517,9 @@ module _ (n : ℕ) (reads : Parses n (unary_at n) NoOpen Unary) where
   next_all (suc m) =
       let D = suc n < suc m in
       let up : n < m → D = λ less. omega (arith, less) in
-      let any = λ (r : Reader Node) (R : Rule Node) (p : All (n < m) r Any R). deeper (n < m) D r NoOpen R up (all_weaker (n < m) r Any NoOpen R (λ h s. tt) p) in
+      let any =
+      λ (r : Reader Node) (R : Rule Node) (p : All (n < m) r Any R). deeper (n < m) D r NoOpen R up
+      (all_weaker (n < m) r Any NoOpen R (λ h s. tt) p) in
       levels_all D (opened u e) (Unary m) (E m)
       (deeper (n < m) D (negation u) NoOpen (g.negation (Unary m)) up ((parses_negation n u Unary reads).all m))
       (any (group e) (g.group (E m)) ((parses_group n e E inner).all m))
@@ -474,8 +546,12 @@ parses_expression n = parses_sum n (product_at n) Product (parses_product_at n)
 
 -- ---- one turn of each loop
 
-pub product_at_unroll : (n : ℕ) (a : Node) (s : At) → while is_factor_at (product_more (unary_at n)) a s ≡ choose is_factor_at (product_more (unary_at n) a >>= while is_factor_at (product_more (unary_at n))) (gives a) s
+pub product_at_unroll : (n : ℕ) (a : Node) (s : At)
+    → while is_factor_at (product_more (unary_at n)) a s
+    ≡ choose is_factor_at (product_more (unary_at n) a >>= while is_factor_at (product_more (unary_at n))) (gives a) s
 product_at_unroll n a s = product_unroll n (unary_at n) Unary (parses_unary n) a s
 
-pub expression_unroll : (n : ℕ) (a : Node) (s : At) → while is_sign_at (sum_more (product_at n)) a s ≡ choose is_sign_at (sum_more (product_at n) a >>= while is_sign_at (sum_more (product_at n))) (gives a) s
+pub expression_unroll : (n : ℕ) (a : Node) (s : At)
+    → while is_sign_at (sum_more (product_at n)) a s
+    ≡ choose is_sign_at (sum_more (product_at n) a >>= while is_sign_at (sum_more (product_at n))) (gives a) s
 expression_unroll n a s = sum_unroll n (product_at n) Product (parses_product_at n) a s

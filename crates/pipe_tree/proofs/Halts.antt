@@ -33,8 +33,10 @@ data Fronts (a b x y : List Token) : Type 0 where
 
 fronts_behind : (t : Token) (a b x y : List Token) → Fronts a b x y → Fronts (t ∷ a) (t ∷ b) x y
 fronts_behind t a b x y (same e f) = same (ap (λ (l : List Token). t ∷ l) e) f
-fronts_behind t a b x y (first p) = first (record { next = p.next; others = p.others; front_is = ap (λ (l : List Token). t ∷ l) p.front_is; back_is = p.back_is })
-fronts_behind t a b x y (second p) = second (record { next = p.next; others = p.others; front_is = ap (λ (l : List Token). t ∷ l) p.front_is; back_is = p.back_is })
+fronts_behind t a b x y (first p) =
+    first (record { next = p.next; others = p.others; front_is = ap (λ (l : List Token). t ∷ l) p.front_is; back_is = p.back_is })
+fronts_behind t a b x y (second p) =
+    second (record { next = p.next; others = p.others; front_is = ap (λ (l : List Token). t ∷ l) p.front_is; back_is = p.back_is })
 
 fronts : (a b x y : List Token) → a ++ x ≡ b ++ y → Fronts a b x y
 fronts [] [] x y e = same refl e
@@ -68,7 +70,8 @@ pub record Parted (text : List Tagged) (before : List Token) (t : Token) (others
 cons_same : (t u : Token) (a b : List Token) → t ≡ u → a ≡ b → t ∷ a ≡ u ∷ b
 cons_same t u a b e f = cc
 
-parted : (text : List Tagged) (before : List Token) (t : Token) (others : List Token) → untagged text ≡ before ++ t ∷ others → Parted text before t others
+parted : (text : List Tagged) (before : List Token) (t : Token) (others : List Token) → untagged text ≡ before ++ t ∷ others
+    → Parted text before t others
 parted [] [] t others e = absurd cc
 parted [] (u ∷ before) t others e = absurd cc
 parted (v ∷ text) [] t others e = record { front = []; at = v; back = text; parts = refl; front_is = refl; token_is = (cc); back_is = (cc) }
@@ -97,51 +100,67 @@ untagged-length (t ∷ a) = ap suc (untagged-length a)
 
 -- a text passes its limit at one token
 first_none : (o : Option Counts) (a b : List Tagged) (t u : Tagged) (x y : List Tagged) (c d : Counts)
-    → a ++ t ∷ x ≡ b ++ u ∷ y → counted_all o a ≡ Some c → counted_next (Some c) t ≡ None → counted_all o b ≡ Some d → counted_next (Some d) u ≡ None → length x ≡ length y
+    → a ++ t ∷ x ≡ b ++ u ∷ y → counted_all o a ≡ Some c → counted_next (Some c) t ≡ None → counted_all o b ≡ Some d
+    → counted_next (Some d) u ≡ None → length x ≡ length y
 first_none o [] [] t u x y c d e few passes few' passes' = let is : x ≡ y = cc in ap length is
 first_none o [] (v ∷ b) t u x y c d e few passes few' passes' =
     let is : t ≡ v = cc in
     let none : counted_all (counted_next o v) b ≡ None =
-    ap (λ (w : Tagged). counted_all (counted_next o w) b) (sym is) ∙ ap (λ (p : Option Counts). counted_all (counted_next p t) b) few ∙ ap (λ (p : Option Counts). counted_all p b) passes ∙ counted_all-none b in
+    ap (λ (w : Tagged). counted_all (counted_next o w) b) (sym is) ∙ ap (λ (p : Option Counts). counted_all (counted_next p t) b) few
+    ∙ ap (λ (p : Option Counts). counted_all p b) passes ∙ counted_all-none b in
     absurd cc
 first_none o (v ∷ a) [] t u x y c d e few passes few' passes' =
     let is : u ≡ v = cc in
     let none : counted_all (counted_next o v) a ≡ None =
-    ap (λ (w : Tagged). counted_all (counted_next o w) a) (sym is) ∙ ap (λ (p : Option Counts). counted_all (counted_next p u) a) few' ∙ ap (λ (p : Option Counts). counted_all p a) passes' ∙ counted_all-none a in
+    ap (λ (w : Tagged). counted_all (counted_next o w) a) (sym is) ∙ ap (λ (p : Option Counts). counted_all (counted_next p u) a) few'
+    ∙ ap (λ (p : Option Counts). counted_all p a) passes' ∙ counted_all-none a in
     absurd cc
 first_none o (v ∷ a) (w ∷ b) t u x y c d e few passes few' passes' =
     let is : w ≡ v = cc in
     let tails : a ++ t ∷ x ≡ b ++ u ∷ y = cc in
-    first_none (counted_next o v) a b t u x y c d tails few passes (subst (λ (z : Tagged). counted_all (counted_next o z) b ≡ Some d) is few') passes'
+    first_none (counted_next o v) a b t u x y c d tails few passes
+    (subst (λ (z : Tagged). counted_all (counted_next o z) b ≡ Some d) is few') passes'
 
 -- the reading of tokens stops where so many are left
 abbrev Stops : List Token → ℕ → Type 0
 Stops tokens remaining = (kind : Kind) × (reading tokens ≡ Err (record { kind = kind; remaining = remaining }))
 
 module _ (before : List Tagged) (next : Tagged) (more : List Tagged) (tree : List Declaration) (c : Counts)
-    (program : Program most_levels (before ++ next ∷ more) tree) (few : counted_all (Some none_yet) before ≡ Some c) (passes : counted_next (Some c) next ≡ None)
+    (program : Program most_levels (before ++ next ∷ more) tree) (few : counted_all (Some none_yet) before ≡ Some c)
+    (passes : counted_next (Some c) next ≡ None)
     (last : List Token) (ahead : head last ≡ Some next.token) where
-  stops_where : (h : Halt) → Passes (before ++ next ∷ more) none_yet [] h → IsSound (untagged (before ++ next ∷ more)) (Err h) → Stops (untagged before ++ last) (length last)
+  stops_where : (h : Halt) → Passes (before ++ next ∷ more) none_yet [] h → IsSound (untagged (before ++ next ∷ more)) (Err h)
+      → Stops (untagged before ++ last) (length last)
   stops_where h p f =
       let backs = first_none (Some none_yet) before p.front next p.at more p.back c p.counts p.parts few passes p.few p.passes in
-      let whole_is : untagged before ++ next.token ∷ untagged more ≡ untagged f.text ++ f.last = sym (untagged-append before (next ∷ more)) ∙ f.parts ∙ on-untagged f.text f.last in
-      let lengths : length (next.token ∷ untagged more) ≡ length f.last = omega (arith, backs, untagged-length more, untagged-length p.back, ap length (on-all p.back), p.remaining, f.remaining) in
-      let is = same_fronts (untagged before) (untagged f.text) (next.token ∷ untagged more) f.last whole_is lengths in
-      (h.kind, ap (λ (l : List Token). reading (l ++ last)) is.0 ∙ ap reading (sym (on-untagged f.text last)) ∙ f.again last (ahead ∙ ap head is.1))
+      let whole_is : untagged before ++ next.token ∷ untagged more ≡ untagged f.text ++ f.last =
+      sym (untagged-append before (next ∷ more)) ∙ f.parts ∙ on-untagged f.text f.last in
+      let lengths : length (next.token ∷ untagged more) ≡ length f.last =
+      omega (arith, backs, untagged-length more, untagged-length p.back, ap length (on-all p.back), p.remaining, f.remaining) in
+      let is = same_fronts (untagged before) (untagged f.text) (next.token ∷ untagged more) f.last whole_is lengths in (
+        h.kind,
+        ap (λ (l : List Token). reading (l ++ last)) is.0 ∙ ap reading (sym (on-untagged f.text last))
+            ∙ f.again last (ahead ∙ ap head is.1),
+      )
 
-  stops_at : (a : Answer (List Declaration)) → Ends (most_levels < most_levels) none_yet tree (before ++ next ∷ more) [] a → IsSound (untagged (before ++ next ∷ more)) a → Stops (untagged before ++ last) (length last)
+  stops_at : (a : Answer (List Declaration)) → Ends (most_levels < most_levels) none_yet tree (before ++ next ∷ more) [] a
+      → IsSound (untagged (before ++ next ∷ more)) a → Stops (untagged before ++ last) (length last)
   stops_at (Ok b) e f = let none = passed_none (Some none_yet) before more next c few passes in absurd (let some = e.1 in cc)
   stops_at (Err h) (inl e) f = absurd (omega (arith, e.1))
   stops_at (Err h) (inr p) f = stops_where h p f
 
   stops : Stops (untagged before ++ last) (length last)
-  stops = stops_at (reading (untagged (before ++ next ∷ more))) (program_ends most_levels (before ++ next ∷ more) tree program) (is_sound (untagged (before ++ next ∷ more)))
+  stops =
+      stops_at (reading (untagged (before ++ next ∷ more))) (program_ends most_levels (before ++ next ∷ more) tree program)
+      (is_sound (untagged (before ++ next ∷ more)))
 
 -- ---- no text goes past a fault
 
-some_counted : (front back : List Tagged) (o : Option Counts) (c : Counts) → counted_all o (front ++ back) ≡ Some c → (p : Option Counts) → counted_all o front ≡ p → (d : Counts) × (counted_all o front ≡ Some d)
+some_counted : (front back : List Tagged) (o : Option Counts) (c : Counts) → counted_all o (front ++ back) ≡ Some c → (p : Option Counts)
+    → counted_all o front ≡ p → (d : Counts) × (counted_all o front ≡ Some d)
 some_counted front back o c e None is =
-    let none : counted_all o (front ++ back) ≡ None = counted_all-append o front back ∙ ap (λ (p : Option Counts). counted_all p back) is ∙ counted_all-none back in
+    let none : counted_all o (front ++ back) ≡ None =
+    counted_all-append o front back ∙ ap (λ (p : Option Counts). counted_all p back) is ∙ counted_all-none back in
     absurd cc
 some_counted front back o c e (Some d) is = (d, is)
 
@@ -152,10 +171,13 @@ pub record Through (front : List Tagged) (at : Tagged) : Type 0 where
   pub next : Counts
   pub next_is : counted_next (Some few) at ≡ Some next
 
-through : (front : List Tagged) (at : Tagged) (back : List Tagged) (c : Counts) → counted_all (Some none_yet) (front ++ at ∷ back) ≡ Some c → Through front at
+through : (front : List Tagged) (at : Tagged) (back : List Tagged) (c : Counts) → counted_all (Some none_yet) (front ++ at ∷ back) ≡ Some c
+    → Through front at
 through front at back c e =
     let few = some_counted front (at ∷ back) (Some none_yet) c e (counted_all (Some none_yet) front) refl in
-    let rest : counted_all (counted_next (Some few.0) at) back ≡ Some c = ap (λ (p : Option Counts). counted_all (counted_next p at) back) (sym few.1) ∙ sym (counted_all-append (Some none_yet) front (at ∷ back)) ∙ e in
+    let rest : counted_all (counted_next (Some few.0) at) back ≡ Some c =
+    ap (λ (p : Option Counts). counted_all (counted_next p at) back) (sym few.1)
+    ∙ sym (counted_all-append (Some none_yet) front (at ∷ back)) ∙ e in
     let next = some_counted [] back (counted_next (Some few.0) at) c rest (counted_next (Some few.0) at) refl in
     record { few = few.0; few_is = few.1; next = next.0; next_is = next.1 }
 
@@ -165,30 +187,37 @@ unfit t c d e is = let none : counted_next (Some c) t ≡ None = ap (λ (b : Boo
 token_is : (t u : Token) → Some t ≡ Some u → t ≡ u
 token_is t u e = cc
 
-module _ (tokens : List Token) (h : Halt) (p : IsHalt tokens h) (front : List Tagged) (at : Tagged) (back : List Tagged) (tree : List Declaration) (program : Program most_levels (front ++ at ∷ back) tree)
+module _ (tokens : List Token) (h : Halt) (p : IsHalt tokens h) (front : List Tagged) (at : Tagged) (back : List Tagged)
+    (tree : List Declaration) (program : Program most_levels (front ++ at ∷ back) tree)
     (front_is : untagged front ≡ untagged p.before) (ahead : head p.last ≡ Some at.token) (counts : Through front at) where
   parts_are : untagged (front ++ at ∷ back) ≡ untagged p.before ++ at.token ∷ untagged back
   parts_are = untagged-append front (at ∷ back) ∙ ap (λ (l : List Token). l ++ at.token ∷ untagged back) front_is
 
   -- where the tokens up to the fault pass no limit
-  ends_later : (text : List Tagged) (kind : Kind) → text ≡ front ++ at ∷ back → (a : Answer (List Declaration)) → a ≡ Err (record { kind = kind; remaining = length (at.token ∷ untagged back) }) → Ends (most_levels < most_levels) none_yet tree text [] a → ⊥
+  ends_later : (text : List Tagged) (kind : Kind) → text ≡ front ++ at ∷ back → (a : Answer (List Declaration))
+      → a ≡ Err (record { kind = kind; remaining = length (at.token ∷ untagged back) })
+      → Ends (most_levels < most_levels) none_yet tree text [] a → ⊥
   ends_later text kind is (Ok b) e ends = cc
   ends_later text kind is (Err k) e (inl deep) = omega (arith, deep.1)
   ends_later text kind is (Err k) e (inr q) =
       let remaining = ap (λ (x : Halt). x.remaining) (err_is k (record { kind = kind; remaining = length (at.token ∷ untagged back) }) e) in
-      let backs : length (at ∷ back) ≡ length (q.at ∷ q.back) = omega (arith, remaining, q.remaining, untagged-length back, untagged-length q.back, ap length (on-all q.back)) in
+      let backs : length (at ∷ back) ≡ length (q.at ∷ q.back) =
+      omega (arith, remaining, q.remaining, untagged-length back, untagged-length q.back, ap length (on-all q.back)) in
       let same = same_fronts front q.front (at ∷ back) (q.at ∷ q.back) (sym is ∙ q.parts) backs in
       let at_is : at ≡ q.at = (let e : at ∷ back ≡ q.at ∷ q.back = same.1 in cc) in
       let few_is : Some counts.few ≡ Some q.counts = sym counts.few_is ∙ ap (counted_all (Some none_yet)) same.0 ∙ q.few in
-      let next_is : counted_next (Some q.counts) q.at ≡ Some counts.next = ap (λ (c : Option Counts). counted_next c q.at) (sym few_is) ∙ ap (counted_next (Some counts.few)) (sym at_is) ∙ counts.next_is in
+      let next_is : counted_next (Some q.counts) q.at ≡ Some counts.next =
+      ap (λ (c : Option Counts). counted_next c q.at) (sym few_is) ∙ ap (counted_next (Some counts.few)) (sym at_is) ∙ counts.next_is in
       let none : counted_next (Some q.counts) q.at ≡ None = q.passes in
       let clash : Some counts.next ≡ None = sym next_is ∙ none in
       cc
 
-  no_limit : (next : Tagged) (more : List Tagged) (other : List Declaration) → Program most_levels (p.before ++ next ∷ more) other → head p.last ≡ Some next.token → counted_next (Some p.counts) next ≡ None → ⊥
+  no_limit : (next : Tagged) (more : List Tagged) (other : List Declaration) → Program most_levels (p.before ++ next ∷ more) other
+      → head p.last ≡ Some next.token → counted_next (Some p.counts) next ≡ None → ⊥
   no_limit next more other q is passes =
       let stop = stops p.before next more other p.counts q p.few passes (at.token ∷ untagged back) (sym ahead ∙ is) in
-      ends_later (front ++ at ∷ back) stop.0 refl (reading (untagged (front ++ at ∷ back))) (ap reading parts_are ∙ stop.1) (program_ends most_levels (front ++ at ∷ back) tree program)
+      ends_later (front ++ at ∷ back) stop.0 refl (reading (untagged (front ++ at ∷ back))) (ap reading parts_are ∙ stop.1)
+      (program_ends most_levels (front ++ at ∷ back) tree program)
 
   fit_at : (next : Tagged) → head p.last ≡ Some next.token → fits next.token ≡ false → ⊥
   fit_at next is e = unfit at counts.few counts.next (ap fits (token_is at.token next.token (sym ahead ∙ is)) ∙ e) counts.next_is
@@ -196,23 +225,30 @@ module _ (tokens : List Token) (h : Halt) (p : IsHalt tokens h) (front : List Ta
   past_kind : (kind : Kind) → Wrong kind p.before p.counts (head p.last) → ⊥
   past_kind NotAscii w = unfit at counts.few counts.next (ap fits (token_is at.token token.NotAscii (sym ahead ∙ w))) counts.next_is
   past_kind BadToken w = unfit at counts.few counts.next (ap fits (token_is at.token token.Bad (sym ahead ∙ w))) counts.next_is
-  past_kind Unexpected w = w.1 (front ++ at ∷ back) tree (at.token ∷ untagged back) (record { which = most_levels; it = program }) parts_are (sym ahead)
+  past_kind Unexpected w =
+      w.1 (front ++ at ∷ back) tree (at.token ∷ untagged back) (record { which = most_levels; it = program }) parts_are (sym ahead)
   past_kind NumberTooBig w = fit_at w.next w.ahead_is w.holds.1
   past_kind TooDeep w = w.1 (front ++ at ∷ back) tree (at.token ∷ untagged back) program parts_are (sym ahead)
-  past_kind TooMany w = no_limit w.next w.more w.value w.rule w.ahead_is (ap (λ (b : Bool). if b then counted w.next.role p.counts else None) w.holds.0 ∙ w.holds.1)
+  past_kind TooMany w =
+      no_limit w.next w.more w.value w.rule w.ahead_is
+      (ap (λ (b : Bool). if b then counted w.next.role p.counts else None) w.holds.0 ∙ w.holds.1)
 
   pub past : ⊥
   past = past_kind h.kind p.wrong
 
 -- ---- a text has no fault
 
-past_parted : (tokens : List Token) (h : Halt) (p : IsHalt tokens h) (text : List Tagged) (tree : List Declaration) (c : Counts) → Program most_levels text tree → counted_all (Some none_yet) text ≡ Some c
+past_parted : (tokens : List Token) (h : Halt) (p : IsHalt tokens h) (text : List Tagged) (tree : List Declaration) (c : Counts)
+    → Program most_levels text tree → counted_all (Some none_yet) text ≡ Some c
     → (t : Token) (others : List Token) → head p.last ≡ Some t → Parted text (untagged p.before) t others → ⊥
 past_parted tokens h p text tree c program few t others ahead q =
-    past tokens h p q.front q.at q.back tree (subst (λ (l : List Tagged). Program most_levels l tree) q.parts program) q.front_is (ahead ∙ ap (λ (u : Token). Some u) (sym q.token_is))
+    past tokens h p q.front q.at q.back tree (subst (λ (l : List Tagged). Program most_levels l tree) q.parts program) q.front_is
+    (ahead ∙ ap (λ (u : Token). Some u) (sym q.token_is))
     (through q.front q.at q.back c (ap (counted_all (Some none_yet)) (sym q.parts) ∙ few))
 
-not_at_end : (tokens : List Token) (h : Halt) (p : IsHalt tokens h) (text : List Tagged) (tree : List Declaration) → Program most_levels text tree → untagged text ≡ untagged p.before ++ [] → head p.last ≡ None → (kind : Kind) → Wrong kind p.before p.counts (head p.last) → ⊥
+not_at_end : (tokens : List Token) (h : Halt) (p : IsHalt tokens h) (text : List Tagged) (tree : List Declaration)
+    → Program most_levels text tree → untagged text ≡ untagged p.before ++ [] → head p.last ≡ None → (kind : Kind)
+    → Wrong kind p.before p.counts (head p.last) → ⊥
 not_at_end tokens h p text tree program e none NotAscii w = let is : Some token.NotAscii ≡ None = sym w ∙ none in cc
 not_at_end tokens h p text tree program e none BadToken w = let is : Some token.Bad ≡ None = sym w ∙ none in cc
 not_at_end tokens h p text tree program e none Unexpected w = w.1 text tree [] (record { which = most_levels; it = program }) e (sym none)
@@ -220,9 +256,11 @@ not_at_end tokens h p text tree program e none NumberTooBig w = let is : Some w.
 not_at_end tokens h p text tree program e none TooDeep w = w.1 text tree [] program e (sym none)
 not_at_end tokens h p text tree program e none TooMany w = let is : Some w.next.token ≡ None = sym w.ahead_is ∙ none in cc
 
-not_behind : (tokens : List Token) (h : Halt) (p : IsHalt tokens h) (tree : List Declaration) (t : Text tokens tree) (last : List Token) → p.last ≡ last → ⊥
+not_behind : (tokens : List Token) (h : Halt) (p : IsHalt tokens h) (tree : List Declaration) (t : Text tokens tree) (last : List Token)
+    → p.last ≡ last → ⊥
 not_behind tokens h p tree t [] is =
-    not_at_end tokens h p t.text tree t.program (sym t.tokens_are ∙ p.parts ∙ ap (λ (l : List Token). untagged p.before ++ l) is) (ap head is) h.kind p.wrong
+    not_at_end tokens h p t.text tree t.program (sym t.tokens_are ∙ p.parts ∙ ap (λ (l : List Token). untagged p.before ++ l) is)
+    (ap head is) h.kind p.wrong
 not_behind tokens h p tree t (u ∷ others) is =
     past_parted tokens h p t.text tree t.counts t.program t.few u others (ap head is)
     (parted t.text (untagged p.before) u others (sym t.tokens_are ∙ p.parts ∙ ap (λ (l : List Token). untagged p.before ++ l) is))
@@ -233,12 +271,15 @@ text_has_no_halt tokens tree h t p = not_behind tokens h p tree t p.last refl
 -- ---- tokens have one fault
 
 -- no fault stands in front of another
-not_before : (tokens : List Token) (h k : Halt) (p : IsHalt tokens h) (q : IsHalt tokens k) → Longer (untagged p.before) (untagged q.before) p.last q.last → ⊥
+not_before : (tokens : List Token) (h k : Halt) (p : IsHalt tokens h) (q : IsHalt tokens k)
+    → Longer (untagged p.before) (untagged q.before) p.last q.last → ⊥
 not_before tokens h k p q longer =
     let more = q.begins in
     let r = parted q.before (untagged p.before) longer.next longer.others longer.front_is in
-    let parts : q.before ++ more.more ≡ r.front ++ r.at ∷ (r.back ++ more.more) = ap (λ (l : List Tagged). l ++ more.more) r.parts ∙ append_assoc r.front (r.at ∷ r.back) more.more in
-    past tokens h p r.front r.at (r.back ++ more.more) more.value (subst (λ (l : List Tagged). Program most_levels l more.value) parts more.rule) r.front_is
+    let parts : q.before ++ more.more ≡ r.front ++ r.at ∷ (r.back ++ more.more) =
+    ap (λ (l : List Tagged). l ++ more.more) r.parts ∙ append_assoc r.front (r.at ∷ r.back) more.more in
+    past tokens h p r.front r.at (r.back ++ more.more) more.value
+    (subst (λ (l : List Tagged). Program most_levels l more.value) parts more.rule) r.front_is
     (ap head longer.back_is ∙ ap (λ (u : Token). Some u) (sym r.token_is))
     (through r.front r.at r.back q.counts (ap (counted_all (Some none_yet)) (sym r.parts) ∙ q.few))
 
@@ -282,12 +323,17 @@ low_is NumberTooBig b c ahead w = ap kind_at w.ahead_is ∙ number_kind w.next.t
 low_is TooDeep b c ahead w = ap kind_at w.0.ahead_is ∙ fit_kind w.0.next.token w.0.holds
 low_is TooMany b c ahead w = ap kind_at w.ahead_is ∙ fit_kind w.next.token w.holds.0
 
-any_goes : (m : ℕ) (b : List Tagged) (ahead : Option Token) (P : Tagged → Type 0) → GoesOn (Program m) b ahead P → GoesOn AnyProgram b ahead P
-any_goes m b ahead P g = record { next = g.next; more = g.more; value = g.value; ahead_is = g.ahead_is; rule = record { which = m; it = g.rule }; holds = g.holds }
+any_goes : (m : ℕ) (b : List Tagged) (ahead : Option Token) (P : Tagged → Type 0) → GoesOn (Program m) b ahead P
+    → GoesOn AnyProgram b ahead P
+any_goes m b ahead P g =
+    record
+    { next = g.next; more = g.more; value = g.value; ahead_is = g.ahead_is; rule = record { which = m; it = g.rule }; holds = g.holds }
 
-goes_none : (R : Rule (List Declaration)) (b d : List Tagged) (ahead : Option Token) (P : Tagged → Type 0) → untagged b ≡ untagged d → GoesOn R b ahead P → NoneGoesOn R (untagged d) ahead → ⊥
+goes_none : (R : Rule (List Declaration)) (b d : List Tagged) (ahead : Option Token) (P : Tagged → Type 0) → untagged b ≡ untagged d
+    → GoesOn R b ahead P → NoneGoesOn R (untagged d) ahead → ⊥
 goes_none R b d ahead P e g none =
-    none (b ++ g.next ∷ g.more) g.value (g.next.token ∷ untagged g.more) g.rule (untagged-append b (g.next ∷ g.more) ∙ ap (λ (l : List Token). l ++ g.next.token ∷ untagged g.more) e) (sym g.ahead_is)
+    none (b ++ g.next ∷ g.more) g.value (g.next.token ∷ untagged g.more) g.rule
+    (untagged-append b (g.next ∷ g.more) ∙ ap (λ (l : List Token). l ++ g.next.token ∷ untagged g.more) e) (sym g.ahead_is)
 
 fits_both : (ahead : Option Token) (t u : Token) → ahead ≡ Some t → ahead ≡ Some u → fits t ≡ true → fits u ≡ false → ⊥
 fits_both ahead t u e f yes_fits no_fits = let is : fits t ≡ fits u = ap fits (token_is t u (sym e ∙ f)) in cc
@@ -316,12 +362,16 @@ module _ (b d : List Tagged) (c e : Counts) (ahead : Option Token) (same : untag
   one_kind TooMany TooMany w v = refl
 
 same_halt : (h k : Halt) → h.kind ≡ k.kind → h.remaining ≡ k.remaining → h ≡ k
-same_halt h k e f = ap (λ (kind : Kind). record { kind = kind; remaining = h.remaining }) e ∙ ap (λ (remaining : ℕ). record { kind = k.kind; remaining = remaining }) f
+same_halt h k e f =
+    ap (λ (kind : Kind). record { kind = kind; remaining = h.remaining }) e
+    ∙ ap (λ (remaining : ℕ). record { kind = k.kind; remaining = remaining }) f
 
-halts_at : (tokens : List Token) (h k : Halt) (p : IsHalt tokens h) (q : IsHalt tokens k) → Fronts (untagged p.before) (untagged q.before) p.last q.last → h ≡ k
+halts_at : (tokens : List Token) (h k : Halt) (p : IsHalt tokens h) (q : IsHalt tokens k)
+    → Fronts (untagged p.before) (untagged q.before) p.last q.last → h ≡ k
 halts_at tokens h k p q (same e f) =
     same_halt h k
-    (one_kind p.before q.before p.counts q.counts (head p.last) e h.kind k.kind p.wrong (subst (λ (l : List Token). Wrong k.kind q.before q.counts (head l)) (sym f) q.wrong))
+    (one_kind p.before q.before p.counts q.counts (head p.last) e h.kind k.kind p.wrong
+    (subst (λ (l : List Token). Wrong k.kind q.before q.counts (head l)) (sym f) q.wrong))
     (p.remaining ∙ ap length f ∙ sym q.remaining)
 halts_at tokens h k p q (first longer) = absurd (not_before tokens k h q p longer)
 halts_at tokens h k p q (second longer) = absurd (not_before tokens h k p q longer)

@@ -51,7 +51,8 @@ module _ (n : ℕ) where
       parses_next n _ _ Any _ _ (parses_name n roles.Plain) (λ x. parses_gives n (m, x) Any))))
       (parses_next n _ _ Any _ _ (parses_name n roles.Plain) (λ x. parses_gives n (1, x) Any))
       (λ m. starts_by (g.int roles.Plain) _ Any (Passing is_number_at) (starts_int roles.Plain Any (Passing is_number_at) (λ k. refl) refl))
-      (λ m. starts_by (g.name roles.Plain) _ Any (Failing is_number_at) (starts_means name_at roles.Plain Any (Failing is_number_at) name_is_no_number))
+      (λ m. starts_by (g.name roles.Plain) _ Any (Failing is_number_at)
+      (starts_means name_at roles.Plain Any (Failing is_number_at) name_is_no_number))
 
   scaled_starts : Starts g.scaled Any NoOpen
   scaled_starts =
@@ -66,7 +67,8 @@ module _ (n : ℕ) where
       (parses_next n _ _ NoSign _ _ (parses_sign n roles.Plain) (λ negative.
       parses_next n _ _ NoSign _ _ (parses_int roles.Plain n) (λ k. parses_gives n _ NoSign)))
       (parses_gives n (pos 0) NoSign)
-      (λ m. starts_by (g.sign roles.Plain) _ NoSign (Passing is_sign_at) (starts_means sign_at roles.Plain Any (Passing is_sign_at) sign_is_sign))
+      (λ m. starts_by (g.sign roles.Plain) _ NoSign (Passing is_sign_at)
+      (starts_means sign_at roles.Plain Any (Passing is_sign_at) sign_is_sign))
       (λ m. starts_gives (pos 0) NoSign NoSign (λ h s. s))
 
   addend_starts : Starts g.addend NoIndexEnd NoSlash
@@ -83,8 +85,10 @@ module _ (n : ℕ) where
   parses_index_end f =
       parses_choose n (is_mark_at marks.Slash) _ _ NoIndexEnd _ _
       (parses_next n _ _ NoIndexEnd _ _ parses_divisor (λ d. parses_gives n _ NoIndexEnd))
-      (parses_then n addend _ NoSign NoIndexEnd _ _ parses_addend (λ k. parses_gives n _ NoIndexEnd) (λ m k. starts_gives _ NoIndexEnd NoSign (λ h s. s.1)))
-      (λ m. starts_by g.divisor _ NoIndexEnd (Passing (is_mark_at marks.Slash)) (starts_with (token.Punct marks.Slash) roles.Plain _ Any (Passing (is_mark_at marks.Slash)) refl))
+      (parses_then n addend _ NoSign NoIndexEnd _ _ parses_addend (λ k. parses_gives n _ NoIndexEnd)
+      (λ m k. starts_gives _ NoIndexEnd NoSign (λ h s. s.1)))
+      (λ m. starts_by g.divisor _ NoIndexEnd (Passing (is_mark_at marks.Slash))
+      (starts_with (token.Punct marks.Slash) roles.Plain _ Any (Passing (is_mark_at marks.Slash)) refl))
       (λ m. starts_then g.addend _ NoIndexEnd NoIndexEnd NoSlash addend_starts (λ k. starts_gives _ NoIndexEnd NoIndexEnd (λ h s. s)))
 
   pub parses_grouped_index : Parses n grouped_index Any (λ _. g.grouped_index)
@@ -139,25 +143,37 @@ module _ (n : ℕ) where
   unfolding row g.row
   parses_row =
       parses_next n _ _ Any _ _ (parses_mark n marks.OpenSquare roles.Plain) (λ _.
-      parses_then n _ _ _ Any _ _ (parses_separated n (is_mark_at marks.Comma) (token.Punct marks.Comma) roles.Plain refl entry Any tt g.entry (parses_mark n marks.Comma roles.Plain) parses_entry) (λ es.
+      parses_then n _ _ _ Any _ _ (parses_separated n (is_mark_at marks.Comma) (token.Punct marks.Comma) roles.Plain refl entry Any tt
+      g.entry (parses_mark n marks.Comma roles.Plain) parses_entry) (λ es.
       parses_next n _ _ Any _ _ (parses_mark n marks.CloseSquare roles.Plain) (λ _.
       parses_gives n _ Any))
       (λ m es. starts_with (token.Punct marks.CloseSquare) roles.Plain _ Any (Behind (is_mark_at marks.Comma) Any) (refl, tt)))
 
-  pub row_unroll : (es : List ℤ) (s : At) → while (is_mark_at marks.Comma) (next_behind (mark marks.Comma roles.Plain) entry) es s ≡ choose (is_mark_at marks.Comma) (next_behind (mark marks.Comma roles.Plain) entry es >>= while (is_mark_at marks.Comma) (next_behind (mark marks.Comma roles.Plain) entry)) (gives es) s
-  row_unroll es s = separated_unroll n (is_mark_at marks.Comma) (token.Punct marks.Comma) roles.Plain refl entry Any tt g.entry (parses_mark n marks.Comma roles.Plain) parses_entry es s
+  pub row_unroll : (es : List ℤ) (s : At)
+      → while (is_mark_at marks.Comma) (next_behind (mark marks.Comma roles.Plain) entry) es s
+      ≡ choose (is_mark_at marks.Comma) (next_behind (mark marks.Comma roles.Plain) entry es
+      >>= while (is_mark_at marks.Comma) (next_behind (mark marks.Comma roles.Plain) entry)) (gives es) s
+  row_unroll es s =
+      separated_unroll n (is_mark_at marks.Comma) (token.Punct marks.Comma) roles.Plain refl entry Any tt g.entry
+      (parses_mark n marks.Comma roles.Plain) parses_entry es s
 
   pub parses_kernel : Parses n kernel Any (λ _. g.kernel)
   unfolding kernel g.kernel
   parses_kernel =
       parses_next n _ _ Any _ _ (parses_mark n marks.OpenSquare roles.Plain) (λ _.
-      parses_then n _ _ _ Any _ _ (parses_separated n (is_mark_at marks.Comma) (token.Punct marks.Comma) roles.Plain refl row Any tt g.row (parses_mark n marks.Comma roles.Plain) parses_row) (λ rows.
+      parses_then n _ _ _ Any _ _ (parses_separated n (is_mark_at marks.Comma) (token.Punct marks.Comma) roles.Plain refl row Any tt g.row
+      (parses_mark n marks.Comma roles.Plain) parses_row) (λ rows.
       parses_next n _ _ Any _ _ (parses_mark n marks.CloseSquare roles.Plain) (λ _.
       parses_gives n _ Any))
       (λ m rows. starts_with (token.Punct marks.CloseSquare) roles.Plain _ Any (Behind (is_mark_at marks.Comma) Any) (refl, tt)))
 
-  pub kernel_unroll : (rows : List (List ℤ)) (s : At) → while (is_mark_at marks.Comma) (next_behind (mark marks.Comma roles.Plain) row) rows s ≡ choose (is_mark_at marks.Comma) (next_behind (mark marks.Comma roles.Plain) row rows >>= while (is_mark_at marks.Comma) (next_behind (mark marks.Comma roles.Plain) row)) (gives rows) s
-  kernel_unroll rows s = separated_unroll n (is_mark_at marks.Comma) (token.Punct marks.Comma) roles.Plain refl row Any tt g.row (parses_mark n marks.Comma roles.Plain) parses_row rows s
+  pub kernel_unroll : (rows : List (List ℤ)) (s : At)
+      → while (is_mark_at marks.Comma) (next_behind (mark marks.Comma roles.Plain) row) rows s
+      ≡ choose (is_mark_at marks.Comma) (next_behind (mark marks.Comma roles.Plain) row rows
+      >>= while (is_mark_at marks.Comma) (next_behind (mark marks.Comma roles.Plain) row)) (gives rows) s
+  kernel_unroll rows s =
+      separated_unroll n (is_mark_at marks.Comma) (token.Punct marks.Comma) roles.Plain refl row Any tt g.row
+      (parses_mark n marks.Comma roles.Plain) parses_row rows s
 
   pub parses_stencil : Parses n a_stencil Any (λ _. g.a_stencil)
   unfolding a_stencil

@@ -108,9 +108,11 @@ module _ (n : ℕ) where
       parses_next n _ _ NoTerm _ _ (parses_int roles.Plain n) (λ r.
       parses_gives n _ NoTerm)))))
       (parses_next n _ _ NoTerm _ _ (parses_relation n) (λ r.
-      parses_then n _ _ NoTerm NoTerm _ _ (parses_affine n) (λ bound. parses_gives n _ NoTerm) (λ m bound. starts_gives _ NoTerm NoTerm (λ h s. s))))
+      parses_then n _ _ NoTerm NoTerm _ _ (parses_affine n) (λ bound. parses_gives n _ NoTerm)
+      (λ m bound. starts_gives _ NoTerm NoTerm (λ h s. s))))
       (λ m. starts_with (token.Punct marks.Percent) roles.Plain _ NoTerm (Passing (is_mark_at marks.Percent)) refl)
-      (λ m. starts_by g.relation _ NoTerm (Failing (is_mark_at marks.Percent)) (starts_means relation_at roles.Plain Any (Failing (is_mark_at marks.Percent)) relation_is_no_percent))
+      (λ m. starts_by g.relation _ NoTerm (Failing (is_mark_at marks.Percent))
+      (starts_means relation_at roles.Plain Any (Failing (is_mark_at marks.Percent)) relation_is_no_percent))
 
   pub parses_test : Parses n a_test NoTerm (λ _. g.a_test)
   unfolding a_test
@@ -118,10 +120,17 @@ module _ (n : ℕ) where
 
   pub parses_condition : Parses n condition NoAnd (λ _. g.condition)
   unfolding condition g.condition
-  parses_condition = parses_separated n (is_word_at words.And) (token.Keyword words.And) roles.Plain refl a_test NoTerm (refl, refl) g.a_test (parses_word n words.And roles.Plain) parses_test
+  parses_condition =
+      parses_separated n (is_word_at words.And) (token.Keyword words.And) roles.Plain refl a_test NoTerm (refl, refl) g.a_test
+      (parses_word n words.And roles.Plain) parses_test
 
-  pub condition_unroll : (tests : List Test) (s : At) → while (is_word_at words.And) (next_behind (word words.And roles.Plain) a_test) tests s ≡ choose (is_word_at words.And) (next_behind (word words.And roles.Plain) a_test tests >>= while (is_word_at words.And) (next_behind (word words.And roles.Plain) a_test)) (gives tests) s
-  condition_unroll tests s = separated_unroll n (is_word_at words.And) (token.Keyword words.And) roles.Plain refl a_test NoTerm (refl, refl) g.a_test (parses_word n words.And roles.Plain) parses_test tests s
+  pub condition_unroll : (tests : List Test) (s : At)
+      → while (is_word_at words.And) (next_behind (word words.And roles.Plain) a_test) tests s
+      ≡ choose (is_word_at words.And) (next_behind (word words.And roles.Plain) a_test tests
+      >>= while (is_word_at words.And) (next_behind (word words.And roles.Plain) a_test)) (gives tests) s
+  condition_unroll tests s =
+      separated_unroll n (is_word_at words.And) (token.Keyword words.And) roles.Plain refl a_test NoTerm (refl, refl) g.a_test
+      (parses_word n words.And roles.Plain) parses_test tests s
 
   pub parses_value : Parses n (value n) Any g.value
   unfolding value
@@ -144,7 +153,9 @@ module _ (n : ℕ) where
   case_turns = record {
     each = parses_case;
     some = λ m a b text p. long_front _ _ (long_token (token.Keyword words.Case) roles.Case) text b p;
-    begins = λ m a b text rest p s. starts_with (token.Keyword words.Case) roles.Case _ Any (Passing (is_word_at words.Case)) refl text rest b p s;
+    begins =
+        λ m a b text rest p s. starts_with (token.Keyword words.Case) roles.Case _ Any (Passing (is_word_at words.Case)) refl text rest b p
+        s;
     follows = λ m a b text rest p s. tt;
     stops = λ a h e. e;
     ends = λ h e. tt;
@@ -154,7 +165,9 @@ module _ (n : ℕ) where
   unfolding cases_at
   parses_cases = parses_loop n _ _ Any NoCase _ case_turns []
 
-  pub cases_unroll : (cases : List Branch) (s : At) → while (is_word_at words.Case) (a_case n) cases s ≡ choose (is_word_at words.Case) (a_case n cases >>= while (is_word_at words.Case) (a_case n)) (gives cases) s
+  pub cases_unroll : (cases : List Branch) (s : At)
+      → while (is_word_at words.Case) (a_case n) cases s
+      ≡ choose (is_word_at words.Case) (a_case n cases >>= while (is_word_at words.Case) (a_case n)) (gives cases) s
   cases_unroll cases s = loop_unroll n _ _ Any NoCase _ case_turns cases s
 
   pub parses_otherwise : Parses n (otherwise n) NoElse g.otherwise
@@ -185,7 +198,8 @@ module _ (n : ℕ) where
       parses_next n _ _ Any _ _ (parses_mark n marks.CloseCurly roles.Plain) (λ _.
       parses_gives n _ Any))
       (λ m e. starts_with (token.Punct marks.CloseCurly) roles.Plain _ Any NoElse refl))
-      (λ m cases. starts_then (g.otherwise m) _ NoBranch Any NoCase (otherwise_starts m) (λ e. starts_with (token.Punct marks.CloseCurly) roles.Plain _ Any NoBranch (refl, refl)))))))
+      (λ m cases. starts_then (g.otherwise m) _ NoBranch Any NoCase (otherwise_starts m)
+      (λ e. starts_with (token.Punct marks.CloseCurly) roles.Plain _ Any NoBranch (refl, refl)))))))
 
   -- ---- accumulators and outputs
 

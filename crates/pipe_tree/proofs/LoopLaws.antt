@@ -17,7 +17,8 @@ length-on (t ∷ text) rest = omega (arith, length-on text rest)
 abbrev pub IsSome_long : {A : Type 0} → (A → Rule A) → Type 0
 IsSome_long {A} T = (a b : A) (text : List Tagged) → T a text b → 0 < length text
 
-module _ {A : Type 0} (goes : A → Option Token → Bool) (turn : A → Reader A) (T V : A → Rule A) (each : (a : A) (s : At) → Sound (turn a) (T a) (V a) s (turn a s)) (some : IsSome_long T) where
+module _ {A : Type 0} (goes : A → Option Token → Bool) (turn : A → Reader A) (T V : A → Rule A)
+    (each : (a : A) (s : At) → Sound (turn a) (T a) (V a) s (turn a s)) (some : IsSome_long T) where
   -- a turn takes a token
   shrinks : (a b : A) (s s' : At) → turn a s ≡ Ok (b, s') → length s'.rest < length s.rest
   shrinks a b s s' reads =
@@ -26,11 +27,13 @@ module _ {A : Type 0} (goes : A → Option Token → Bool) (turn : A → Reader 
       let parts = ap length f.parts ∙ length-on f.text s'.rest in
       omega (arith, long, parts)
 
-  after_turn : (a : A) (s : At) (x : Answer A) → turn a s ≡ x → (f q : A → Reader A) → ((b : A) (s' : At) → length s'.rest < length s.rest → f b s' ≡ q b s') → on_ok x f ≡ on_ok x q
+  after_turn : (a : A) (s : At) (x : Answer A) → turn a s ≡ x → (f q : A → Reader A)
+      → ((b : A) (s' : At) → length s'.rest < length s.rest → f b s' ≡ q b s') → on_ok x f ≡ on_ok x q
   after_turn a s (Ok p) reads f q same = same p.0 p.1 (shrinks a p.0 s p.1 reads)
   after_turn a s (Err h) reads f q same = refl
 
-  alike : (a : A) (s : At) (c : Bool) → (f q : A → Reader A) → ((b : A) (s' : At) → length s'.rest < length s.rest → f b s' ≡ q b s') → (if c then (turn a >>= f) s else gives a s) ≡ (if c then (turn a >>= q) s else gives a s)
+  alike : (a : A) (s : At) (c : Bool) → (f q : A → Reader A) → ((b : A) (s' : At) → length s'.rest < length s.rest → f b s' ≡ q b s')
+      → (if c then (turn a >>= f) s else gives a s) ≡ (if c then (turn a >>= q) s else gives a s)
   alike a s false f q same = refl
   alike a s true f q same = after_turn a s (turn a s) refl f q same
 
@@ -38,37 +41,57 @@ module _ {A : Type 0} (goes : A → Option Token → Bool) (turn : A → Reader 
   unfolding turns
   enough zero m a s lt lt' = absurd (omega arith)
   enough (suc n) zero a s lt lt' = absurd (omega arith)
-  enough (suc n) (suc m) a s lt lt' = alike a s (goes a (head s.rest)) (turns goes turn n) (turns goes turn m) (λ b s' less. enough n m b s' (omega arith) (omega arith))
+  enough (suc n) (suc m) a s lt lt' =
+      alike a s (goes a (head s.rest)) (turns goes turn n) (turns goes turn m) (λ b s' less. enough n m b s' (omega arith) (omega arith))
 
   pub unroll : (a : A) (s : At) → loop goes turn a s ≡ choose (goes a) (turn a >>= loop goes turn) (gives a) s
   unfolding loop turns
-  unroll a s = alike a s (goes a (head s.rest)) (turns goes turn (length s.rest)) (loop goes turn) (λ b s' less. enough (length s.rest) (suc (length s'.rest)) b s' less (omega arith))
+  unroll a s =
+      alike a s (goes a (head s.rest)) (turns goes turn (length s.rest)) (loop goes turn)
+      (λ b s' less. enough (length s.rest) (suc (length s'.rest)) b s' less (omega arith))
 
   -- the same by the value of the test
-  unrolled : (a : A) (s s' : At) (c : Bool) → head s'.rest ≡ head s.rest → goes a (head s.rest) ≡ c → loop goes turn a s' ≡ (if c then (turn a >>= loop goes turn) s' else gives a s')
-  unrolled a s s' c same e = unroll a s' ∙ ap (λ (b : Bool). if b then (turn a >>= loop goes turn) s' else gives a s') (ap (goes a) same ∙ e)
+  unrolled : (a : A) (s s' : At) (c : Bool) → head s'.rest ≡ head s.rest → goes a (head s.rest) ≡ c
+      → loop goes turn a s' ≡ (if c then (turn a >>= loop goes turn) s' else gives a s')
+  unrolled a s s' c same e =
+      unroll a s' ∙ ap (λ (b : Bool). if b then (turn a >>= loop goes turn) s' else gives a s') (ap (goes a) same ∙ e)
 
   -- a loop ends where no turn begins
-  ends_later : (a b : A) (s s' : At) (x : Answer A) → turn a s ≡ x → on_ok x (loop goes turn) ≡ Ok (b, s') → ((d : A) (s1 : At) → length s1.rest < length s.rest → loop goes turn d s1 ≡ Ok (b, s') → goes b (head s'.rest) ≡ false) → goes b (head s'.rest) ≡ false
+  ends_later : (a b : A) (s s' : At) (x : Answer A) → turn a s ≡ x → on_ok x (loop goes turn) ≡ Ok (b, s')
+      → ((d : A) (s1 : At) → length s1.rest < length s.rest → loop goes turn d s1 ≡ Ok (b, s') → goes b (head s'.rest) ≡ false)
+      → goes b (head s'.rest) ≡ false
   ends_later a b s s' (Ok p) reads e others = others p.0 p.1 (shrinks a p.0 s p.1 reads) e
   ends_later a b s s' (Err h) reads e others = absurd cc
 
-  ends_turn : (a b : A) (s s' : At) (c : Bool) → goes a (head s.rest) ≡ c → (if c then (turn a >>= loop goes turn) s else gives a s) ≡ Ok (b, s') → ((d : A) (s1 : At) → length s1.rest < length s.rest → loop goes turn d s1 ≡ Ok (b, s') → goes b (head s'.rest) ≡ false) → goes b (head s'.rest) ≡ false
+  ends_turn : (a b : A) (s s' : At) (c : Bool) → goes a (head s.rest) ≡ c
+      → (if c then (turn a >>= loop goes turn) s else gives a s) ≡ Ok (b, s')
+      → ((d : A) (s1 : At) → length s1.rest < length s.rest → loop goes turn d s1 ≡ Ok (b, s') → goes b (head s'.rest) ≡ false)
+      → goes b (head s'.rest) ≡ false
   ends_turn a b s s' false is e others = subst (λ (p : A × At). goes p.0 (head p.1.rest) ≡ false) (ok_is (a, s) (b, s') e) is
   ends_turn a b s s' true is e others = ends_later a b s s' (turn a s) refl e others
 
   pub loop_ends : (k : ℕ) (a b : A) (s s' : At) → length s.rest < k → loop goes turn a s ≡ Ok (b, s') → goes b (head s'.rest) ≡ false
   loop_ends zero a b s s' lt e = absurd (omega arith)
-  loop_ends (suc k) a b s s' lt e = ends_turn a b s s' (goes a (head s.rest)) refl (sym (unroll a s) ∙ e) (λ d s1 less f. loop_ends k d b s1 s' (omega arith) f)
+  loop_ends (suc k) a b s s' lt e =
+      ends_turn a b s s' (goes a (head s.rest)) refl (sym (unroll a s) ∙ e) (λ d s1 less f. loop_ends k d b s1 s' (omega arith) f)
 
   pub many_has : (R : A → Rule A) (a : A) → HasText (many R a)
   many_has R a = record { text = []; value = a; rule = record { which = 0; it = record { empty = refl; value = refl } } }
 
   one_more : (R : A → Rule A) (a : A) → Within (Then (R a) (many R)) (many R a)
-  one_more R a text x p = record { which = suc p.second.which; it = record { front = p.front; back = p.back; value = p.value; parts = p.parts; first = p.first; second = p.second.it } }
+  one_more R a text x p =
+      record {
+        which =
+            suc p.second.which;
+        it =
+            record { front = p.front; back = p.back; value = p.value; parts = p.parts; first = p.first; second = p.second.it };
+      }
 
   module _ (wide : (a : A) → Within (T a) (V a)) where
-    loop_at : (a : A) (s : At) → ((b : A) (s' : At) → length s'.rest < length s.rest → Sound (loop goes turn b) (many T b) (many V b) s' (loop goes turn b s')) → (c : Bool) → goes a (head s.rest) ≡ c → Sound (loop goes turn a) (many T a) (many V a) s (if c then (turn a >>= loop goes turn) s else gives a s)
+    loop_at : (a : A) (s : At)
+        → ((b : A) (s' : At) → length s'.rest < length s.rest → Sound (loop goes turn b) (many T b) (many V b) s' (loop goes turn b s'))
+        → (c : Bool) → goes a (head s.rest) ≡ c
+        → Sound (loop goes turn a) (many T a) (many V a) s (if c then (turn a >>= loop goes turn) s else gives a s)
     loop_at a s rest false is = record {
       text = [];
       parts = refl;
@@ -77,9 +100,14 @@ module _ {A : Type 0} (goes : A → Option Token → Bool) (turn : A → Reader 
       again = λ more e. unrolled a s (state s.counts more) false e is;
     }
     loop_at a s rest true is =
-        let both = then_at (turn a) (loop goes turn) (T a) (V a) (many T) (many V) s (turn a s) (wide a) (many_has T) (many_has V) (each a s) (λ b reads. rest b.0 b.1 (shrinks a b.0 s b.1 reads)) in
-        let larger = widen (turn a >>= loop goes turn) (Then (T a) (many T)) (Then (V a) (many V)) (many T a) (many V a) s (on_ok (turn a s) (loop goes turn)) (one_more T a) (one_more V a) both in
-        retarget (turn a >>= loop goes turn) (loop goes turn a) (many T a) (many V a) s (on_ok (turn a s) (loop goes turn)) (λ s' e. unrolled a s s' true e is) larger
+        let both =
+        then_at (turn a) (loop goes turn) (T a) (V a) (many T) (many V) s (turn a s) (wide a) (many_has T) (many_has V) (each a s)
+        (λ b reads. rest b.0 b.1 (shrinks a b.0 s b.1 reads)) in
+        let larger =
+        widen (turn a >>= loop goes turn) (Then (T a) (many T)) (Then (V a) (many V)) (many T a) (many V a) s
+        (on_ok (turn a s) (loop goes turn)) (one_more T a) (one_more V a) both in
+        retarget (turn a >>= loop goes turn) (loop goes turn a) (many T a) (many V a) s (on_ok (turn a s) (loop goes turn))
+        (λ s' e. unrolled a s s' true e is) larger
 
     loop_below : (k : ℕ) (a : A) (s : At) → length s.rest < k → Sound (loop goes turn a) (many T a) (many V a) s (loop goes turn a s)
     loop_below zero a s lt = absurd (omega arith)
@@ -108,21 +136,31 @@ module _ {A : Type 0} (deep : Type 0) (goes : A → Option Token → Bool) (turn
   times_follows zero a b text rest p e = subst (λ (l : List Tagged). S (head (on l rest))) (sym p.empty) (ends (head rest) e)
   times_follows (suc n) a b text rest p e =
       subst (λ (l : List Tagged). S (head (on l rest))) (sym p.parts)
-      (subst (λ (l : List Token). S (head l)) (sym (on-append p.front p.back rest)) (follows a p.value p.front (on p.back rest) p.first (times_follows n p.value b p.back rest p.second e)))
+      (subst (λ (l : List Token). S (head l)) (sym (on-append p.front p.back rest))
+      (follows a p.value p.front (on p.back rest) p.first (times_follows n p.value b p.back rest p.second e)))
 
   times_all : (n : ℕ) (a : A) → All deep (loop goes turn a) E (times T n a)
   times_all zero a = record {
     read_all = λ c text rest b p e.
-        rw (p.empty, p.value) (subst (λ (x : Answer A). Ends deep c a [] rest x) (sym (opens a (state c rest) ∙ ap (λ (q : Bool). if q then (turn a >>= loop goes turn) (state c rest) else gives a (state c rest)) (stops a (head rest) e))) (refl, refl));
+        rw (p.empty, p.value) (subst (λ (x : Answer A). Ends deep c a [] rest x) (sym (opens a (state c rest)
+        ∙ ap (λ (q : Bool). if q then (turn a >>= loop goes turn) (state c rest) else gives a (state c rest)) (stops a (head rest) e)))
+        (refl, refl));
   }
   times_all (suc n) a = record {
     read_all = λ c text rest b p e.
         let s = state c (on p.front (on p.back rest)) in
         let ahead = times_follows n p.value b p.back rest p.second e in
-        let both = first_ends deep (turn a) (loop goes turn) c p.front p.back rest b p.value (turn a s) ((each a).read_all c p.front (on p.back rest) p.value p.first ahead) (λ d. (times_all n p.value).read_all d p.back rest b p.second e) in
-        let opened : loop goes turn a s ≡ on_ok (turn a s) (loop goes turn) = opens a s ∙ ap (λ (q : Bool). if q then (turn a >>= loop goes turn) s else gives a s) (begins a p.value p.front (on p.back rest) p.first ahead) in
+        let both =
+        first_ends deep (turn a) (loop goes turn) c p.front p.back rest b p.value (turn a s)
+        ((each a).read_all c p.front (on p.back rest) p.value p.first ahead)
+        (λ d. (times_all n p.value).read_all d p.back rest b p.second e) in
+        let opened : loop goes turn a s ≡ on_ok (turn a s) (loop goes turn) =
+        opens a s
+        ∙ ap (λ (q : Bool). if q then (turn a >>= loop goes turn) s else gives a s)
+        (begins a p.value p.front (on p.back rest) p.first ahead) in
         subst (λ (l : List Tagged). Ends deep c b l rest (loop goes turn a (state c (on l rest)))) (sym p.parts)
-        (subst (λ (l : List Token). Ends deep c b (p.front ++ p.back) rest (loop goes turn a (state c l))) (sym (on-append p.front p.back rest))
+        (subst (λ (l : List Token). Ends deep c b (p.front ++ p.back) rest (loop goes turn a (state c l)))
+        (sym (on-append p.front p.back rest))
         (subst (λ (x : Answer A). Ends deep c b (p.front ++ p.back) rest x) (sym opened) both));
   }
 
@@ -133,15 +171,18 @@ module _ {A : Type 0} (deep : Type 0) (goes : A → Option Token → Bool) (turn
   many_follows a b text rest p e = times_follows p.which a b text rest p.it e
 
 -- what is to be known of a loop's turns
-pub record Turns {A : Type 0} (n : ℕ) (goes : A → Option Token → Bool) (turn : A → Reader A) (S E : Follow) (T : A → ℕ → Rule A) : Type 0 where
-  pub each : (a : A) → Parses n (turn a) S (T a)
-  pub some : (m : ℕ) → IsSome_long (λ a. T a m)
-  pub begins : (m : ℕ) (a b : A) (text : List Tagged) (rest : List Token) → T a m text b → S (head rest) → goes a (head (on text rest)) ≡ true
-  pub follows : (m : ℕ) (a b : A) (text : List Tagged) (rest : List Token) → T a m text b → S (head rest) → S (head (on text rest))
-  pub stops : (a : A) (h : Option Token) → E h → goes a h ≡ false
-  pub ends : (h : Option Token) → E h → S h
+pub record Turns {A : Type 0} (n : ℕ) (goes : A → Option Token → Bool) (turn : A → Reader A) (S E : Follow) (T : A → ℕ → Rule A) : Type 0
+  where
+    pub each : (a : A) → Parses n (turn a) S (T a)
+    pub some : (m : ℕ) → IsSome_long (λ a. T a m)
+    pub begins : (m : ℕ) (a b : A) (text : List Tagged) (rest : List Token) → T a m text b → S (head rest)
+        → goes a (head (on text rest)) ≡ true
+    pub follows : (m : ℕ) (a b : A) (text : List Tagged) (rest : List Token) → T a m text b → S (head rest) → S (head (on text rest))
+    pub stops : (a : A) (h : Option Token) → E h → goes a h ≡ false
+    pub ends : (h : Option Token) → E h → S h
 
-module _ {A : Type 0} (n : ℕ) (goes : A → Option Token → Bool) (turn : A → Reader A) (S E : Follow) (T : A → ℕ → Rule A) (t : Turns n goes turn S E T) where
+module _ {A : Type 0} (n : ℕ) (goes : A → Option Token → Bool) (turn : A → Reader A) (S E : Follow) (T : A → ℕ → Rule A)
+    (t : Turns n goes turn S E T) where
   pub loop_unroll : (a : A) (s : At) → loop goes turn a s ≡ choose (goes a) (turn a >>= loop goes turn) (gives a) s
   loop_unroll a s = unroll goes turn (λ b. T b n) (λ b. T b (suc n)) (λ b. (t.each b).sound) (t.some n) a s
 
@@ -154,4 +195,6 @@ module _ {A : Type 0} (n : ℕ) (goes : A → Option Token → Bool) (turn : A �
   }
 
   pub loop_follows : (m : ℕ) (a : A) → Starts (many (λ b. T b m) a) E S
-  loop_follows m a text rest b p e = many_follows (n < m) goes turn S E (λ b. T b m) loop_unroll (λ b. (t.each b).all m) (t.begins m) (t.follows m) t.stops t.ends a b text rest p e
+  loop_follows m a text rest b p e =
+      many_follows (n < m) goes turn S E (λ b. T b m) loop_unroll (λ b. (t.each b).all m) (t.begins m) (t.follows m) t.stops t.ends a b text
+      rest p e

@@ -29,10 +29,12 @@ module _ {X : Type 0} (r q : Reader X) where
   sound_as : (R W : Rule X) (s : At) → ((s' : At) → head s'.rest ≡ head s.rest → q s' ≡ r s') → Sound r R W s (r s) → Sound q R W s (q s)
   sound_as R W s same p = subst (λ (a : Answer X). Sound q R W s a) (sym (same s refl)) (retarget r q R W s (r s) same p)
 
-  all_as : (deep : Type 0) (S F : Follow) (R : Rule X) → Starts R S F → ((s : At) → F (head s.rest) → q s ≡ r s) → All deep r S R → All deep q S R
+  all_as : (deep : Type 0) (S F : Follow) (R : Rule X) → Starts R S F → ((s : At) → F (head s.rest) → q s ≡ r s) → All deep r S R
+      → All deep q S R
   all_as deep S F R starts same p = record {
     read_all = λ c text rest x h t.
-        subst (λ (a : Answer X). Ends deep c x text rest a) (sym (same (state c (on text rest)) (starts text rest x h t))) (p.read_all c text rest x h t);
+        subst (λ (a : Answer X). Ends deep c x text rest a) (sym (same (state c (on text rest)) (starts text rest x h t)))
+        (p.read_all c text rest x h t);
   }
 
   parses_as : (n : ℕ) (S : Follow) (R : ℕ → Rule X) → ((s : At) → q s ≡ r s) → Parses n r S R → Parses n q S R
@@ -58,7 +60,9 @@ made_behind R f items text y p = record {
   back = [];
   value = p.first.value;
   first = p.first.first;
-  parts = p.parts ∙ ap (λ (l : List Tagged). p.front ++ l) p.second.empty ∙ append-nil p.front ∙ p.first.parts ∙ ap (λ (l : List Tagged). p.first.front ++ l) p.first.second.empty;
+  parts =
+      p.parts ∙ ap (λ (l : List Tagged). p.front ++ l) p.second.empty ∙ append-nil p.front ∙ p.first.parts
+      ∙ ap (λ (l : List Tagged). p.first.front ++ l) p.first.second.empty;
   second = record { empty = refl; value = p.second.value ∙ ap (λ (d : Declaration). items ++ d ∷ []) p.first.second.value };
 }
 
@@ -69,16 +73,28 @@ behind_made R f items text y p = record {
   value = f p.value;
   parts = p.parts;
   second = p.second;
-  first = record { front = p.front; back = []; value = p.value; parts = sym (append-nil p.front); first = p.first; second = record { empty = refl; value = refl } };
+  first =
+      record {
+        front =
+            p.front;
+        back =
+            [];
+        value = p.value;
+        parts = sym (append-nil p.front);
+        first = p.first;
+        second = record { empty = refl; value = refl };
+      };
 }
 
 module _ (n : ℕ) (items : List Declaration) where
   abbrev put : {X : Type 0} → Reader X → (X → Declaration) → Reader (List Declaration)
   put r f = (r >>= λ x. gives (f x)) >>= λ d. gives (items ++ d ∷ [])
 
-  parses_put : {X : Type 0} (r : Reader X) (R : ℕ → Rule X) (f : X → Declaration) → Parses n r Any R → Parses n (put r f) Any (λ m. Behind (R m) f items)
+  parses_put : {X : Type 0} (r : Reader X) (R : ℕ → Rule X) (f : X → Declaration) → Parses n r Any R
+      → Parses n (put r f) Any (λ m. Behind (R m) f items)
   parses_put r R f p =
-      parses_same n (put r f) Any (λ m. Made (R m) f items) (λ m. Behind (R m) f items) (λ m. made_behind (R m) f items) (λ m. behind_made (R m) f items)
+      parses_same n (put r f) Any (λ m. Made (R m) f items) (λ m. Behind (R m) f items) (λ m. made_behind (R m) f items)
+      (λ m. behind_made (R m) f items)
       (parses_next n _ _ Any _ _ (parses_next n r _ Any R _ p (λ x. parses_gives n (f x) Any)) (λ d. parses_gives n _ Any))
 
   puts_param : Parses n (put a_param param) Any (λ _. Behind g.a_param param items)
@@ -94,7 +110,8 @@ module _ (n : ℕ) (items : List Declaration) where
   puts_output : list_any is_output items ≡ false → Parses n (put an_output output) Any (λ _. Behind (FirstOutput items) output items)
   puts_output none =
       parses_put an_output (λ _. FirstOutput items) output
-      (parses_same n an_output Any (λ _. g.an_output) (λ _. FirstOutput items) (λ m text o p. record { no_other = none; it = p }) (λ m text o p. p.it) (parses_output n))
+      (parses_same n an_output Any (λ _. g.an_output) (λ _. FirstOutput items) (λ m text o p. record { no_other = none; it = p })
+      (λ m text o p. p.it) (parses_output n))
 
   -- one more item, where it may go on
   abbrev turn : Reader (List Declaration)
@@ -110,7 +127,8 @@ module _ (n : ℕ) (items : List Declaration) where
   alike : (s s' : At) (k : ItemStart) → item_at (head s.rest) ≡ k → head s'.rest ≡ head s.rest → turn s' ≡ by_start k s'
   alike s s' k e same = turn_is s' k (ap item_at same ∙ e)
 
-  output_is : (b : Bool) → list_any is_output items ≡ b → (s : At) → by_start start.Output s ≡ (if (if b then false else true) then put an_output output s else refuse s)
+  output_is : (b : Bool) → list_any is_output items ≡ b → (s : At)
+      → by_start start.Output s ≡ (if (if b then false else true) then put an_output output s else refuse s)
   output_is b e s = ap (λ (b : Bool). if (if b then false else true) then put an_output output s else refuse s) e
 
   has_other : (m : ℕ) → HasText (g.other m items)
@@ -119,22 +137,27 @@ module _ (n : ℕ) (items : List Declaration) where
   refuses : (s : At) → Sound refuse (g.other n items) (g.other (suc n) items) s (refuse s)
   refuses s = refuse_sound (g.other n items) (g.other (suc n) items) (has_other n) s
 
-  sound_output : (s : At) → item_at (head s.rest) ≡ start.Output → (b : Bool) → list_any is_output items ≡ b → Sound turn (g.other n items) (g.other (suc n) items) s (turn s)
+  sound_output : (s : At) → item_at (head s.rest) ≡ start.Output → (b : Bool) → list_any is_output items ≡ b
+      → Sound turn (g.other n items) (g.other (suc n) items) s (turn s)
   sound_output s e true some = sound_as refuse turn _ _ s (λ s' same. alike s s' start.Output e same ∙ output_is true some s') (refuses s)
   sound_output s e false none =
       sound_as (put an_output output) turn _ _ s (λ s' same. alike s s' start.Output e same ∙ output_is false none s')
-      (widen (put an_output output) _ _ (g.other n items) (g.other (suc n) items) s (put an_output output s) (λ text x p. inr p) (λ text x p. inr p) ((puts_output none).sound s))
+      (widen (put an_output output) _ _ (g.other n items) (g.other (suc n) items) s (put an_output output s) (λ text x p. inr p)
+      (λ text x p. inr p) ((puts_output none).sound s))
 
   sound_by : (s : At) (k : ItemStart) → item_at (head s.rest) ≡ k → Sound turn (g.other n items) (g.other (suc n) items) s (turn s)
   sound_by s start.Param e =
       sound_as (put a_param param) turn _ _ s (λ s' same. alike s s' start.Param e same)
-      (widen (put a_param param) _ _ (g.other n items) (g.other (suc n) items) s (put a_param param s) (λ text x p. inl (inl (inl p))) (λ text x p. inl (inl (inl p))) (puts_param.sound s))
+      (widen (put a_param param) _ _ (g.other n items) (g.other (suc n) items) s (put a_param param s) (λ text x p. inl (inl (inl p)))
+      (λ text x p. inl (inl (inl p))) (puts_param.sound s))
   sound_by s start.Func e =
       sound_as (put (a_function n) function) turn _ _ s (λ s' same. alike s s' start.Func e same)
-      (widen (put (a_function n) function) _ _ (g.other n items) (g.other (suc n) items) s (put (a_function n) function s) (λ text x p. inl (inl (inr p))) (λ text x p. inl (inl (inr p))) (puts_function.sound s))
+      (widen (put (a_function n) function) _ _ (g.other n items) (g.other (suc n) items) s (put (a_function n) function s)
+      (λ text x p. inl (inl (inr p))) (λ text x p. inl (inl (inr p))) (puts_function.sound s))
   sound_by s start.Accum e =
       sound_as (put (an_accumulator n) accumulator) turn _ _ s (λ s' same. alike s s' start.Accum e same)
-      (widen (put (an_accumulator n) accumulator) _ _ (g.other n items) (g.other (suc n) items) s (put (an_accumulator n) accumulator s) (λ text x p. inl (inr p)) (λ text x p. inl (inr p)) (puts_accumulator.sound s))
+      (widen (put (an_accumulator n) accumulator) _ _ (g.other n items) (g.other (suc n) items) s (put (an_accumulator n) accumulator s)
+      (λ text x p. inl (inr p)) (λ text x p. inl (inr p)) (puts_accumulator.sound s))
   sound_by s start.Output e = sound_output s e (list_any is_output items) refl
   sound_by s start.Nothing e = sound_as refuse turn _ _ s (λ s' same. alike s s' start.Nothing e same) (refuses s)
 
@@ -143,15 +166,20 @@ module _ (n : ℕ) (items : List Declaration) where
 
   -- what each kind of item begins with
   begins_param : Starts (Behind g.a_param param items) Any (Begun start.Param)
-  begins_param = starts_by g.a_param _ Any (Begun start.Param) (starts_with (token.Keyword words.Param) roles.Plain _ Any (Begun start.Param) refl)
+  begins_param =
+      starts_by g.a_param _ Any (Begun start.Param) (starts_with (token.Keyword words.Param) roles.Plain _ Any (Begun start.Param) refl)
 
   begins_function : (m : ℕ) → Starts (Behind (g.a_function m) function items) Any (Begun start.Func)
   unfolding g.a_function
-  begins_function m = starts_by (g.a_function m) _ Any (Begun start.Func) (starts_with (token.Keyword words.Func) roles.Function _ Any (Begun start.Func) refl)
+  begins_function m =
+      starts_by (g.a_function m) _ Any (Begun start.Func)
+      (starts_with (token.Keyword words.Func) roles.Function _ Any (Begun start.Func) refl)
 
   begins_accumulator : (m : ℕ) → Starts (Behind (g.an_accumulator m) accumulator items) Any (Begun start.Accum)
   unfolding g.an_accumulator
-  begins_accumulator m = starts_by (g.an_accumulator m) _ Any (Begun start.Accum) (starts_with (token.Keyword words.Accum) roles.Plain _ Any (Begun start.Accum) refl)
+  begins_accumulator m =
+      starts_by (g.an_accumulator m) _ Any (Begun start.Accum)
+      (starts_with (token.Keyword words.Accum) roles.Plain _ Any (Begun start.Accum) refl)
 
   -- where no output was before
   First : Follow
@@ -159,7 +187,8 @@ module _ (n : ℕ) (items : List Declaration) where
 
   first_output : Starts (FirstOutput items) Any First
   unfolding First
-  first_output text rest o p t = (starts_with (token.Keyword words.Output) roles.Plain _ Any (Begun start.Output) refl text rest o p.it t, p.no_other)
+  first_output text rest o p t =
+      (starts_with (token.Keyword words.Output) roles.Plain _ Any (Begun start.Output) refl text rest o p.it t, p.no_other)
 
   begins_output : Starts (Behind (FirstOutput items) output items) Any First
   begins_output = starts_by (FirstOutput items) _ Any First first_output
@@ -182,7 +211,8 @@ module _ (n : ℕ) (items : List Declaration) where
   first_reads s e = turn_is s start.Output e.0 ∙ output_is false e.1 s
 
   output_all : (m : ℕ) (b : Bool) → list_any is_output items ≡ b → All (n < m) turn Any (Behind (FirstOutput items) output items)
-  output_all m true some = record { read_all = λ c text rest x p t. let none = p.first.no_other in let clash : true ≡ false = sym some ∙ none in absurd cc }
+  output_all m true some =
+      record { read_all = λ c text rest x p t. let none = p.first.no_other in let clash : true ≡ false = sym some ∙ none in absurd cc }
   output_all m false none = all_as (put an_output output) turn (n < m) Any First _ begins_output first_reads ((puts_output none).all m)
 
   turn_all : (m : ℕ) → All (n < m) turn Any (g.other m items)
@@ -191,8 +221,10 @@ module _ (n : ℕ) (items : List Declaration) where
       (or_all (n < m) turn Any _ _
       (or_all (n < m) turn Any _ _
       (all_as (put a_param param) turn (n < m) Any (Begun start.Param) _ begins_param (λ s e. turn_is s start.Param e) (puts_param.all m))
-      (all_as (put (a_function n) function) turn (n < m) Any (Begun start.Func) _ (begins_function m) (λ s e. turn_is s start.Func e) (puts_function.all m)))
-      (all_as (put (an_accumulator n) accumulator) turn (n < m) Any (Begun start.Accum) _ (begins_accumulator m) (λ s e. turn_is s start.Accum e) (puts_accumulator.all m)))
+      (all_as (put (a_function n) function) turn (n < m) Any (Begun start.Func) _ (begins_function m) (λ s e. turn_is s start.Func e)
+      (puts_function.all m)))
+      (all_as (put (an_accumulator n) accumulator) turn (n < m) Any (Begun start.Accum) _ (begins_accumulator m)
+      (λ s e. turn_is s start.Accum e) (puts_accumulator.all m)))
       (output_all m (list_any is_output items) refl)
 
   parses_turn : Parses n turn Any (λ m. g.other m items)
@@ -220,7 +252,8 @@ module _ {A : Type 0} (goes : A → Option Token → Bool) (turn : A → Reader 
   guarded a = choose (goes a) (turn a) refuse
 
   guarded_at : (k : ℕ) (a : A) (s : At) → ((b : A) (s' : At) → turns goes turn k b s' ≡ turns goes guarded k b s') → (b : Bool)
-      → (if b then on_ok (turn a s) (turns goes turn k) else gives a s) ≡ (if b then on_ok (if b then turn a s else refuse s) (turns goes guarded k) else gives a s)
+      → (if b then on_ok (turn a s) (turns goes turn k) else gives a s)
+      ≡ (if b then on_ok (if b then turn a s else refuse s) (turns goes guarded k) else gives a s)
   guarded_at k a s same true = on_ok_alike (turn a s) (turns goes turn k) (turns goes guarded k) same
   guarded_at k a s same false = refl
 
@@ -233,8 +266,11 @@ module _ {A : Type 0} (goes : A → Option Token → Bool) (turn : A → Reader 
   unfolding loop
   guarded_loop a s = guarded_turns (suc (length s.rest)) a s
 
-  unguarded : (a : A) (s : At) (b : Bool) → goes a (head s.rest) ≡ b → (if b then on_ok (guarded a s) (loop goes guarded) else gives a s) ≡ (if b then on_ok (turn a s) (loop goes turn) else gives a s)
-  unguarded a s true e = ap (λ (c : Bool). on_ok (if c then turn a s else refuse s) (loop goes guarded)) e ∙ on_ok_alike (turn a s) (loop goes guarded) (loop goes turn) (λ b s'. sym (guarded_loop b s'))
+  unguarded : (a : A) (s : At) (b : Bool) → goes a (head s.rest) ≡ b
+      → (if b then on_ok (guarded a s) (loop goes guarded) else gives a s) ≡ (if b then on_ok (turn a s) (loop goes turn) else gives a s)
+  unguarded a s true e =
+      ap (λ (c : Bool). on_ok (if c then turn a s else refuse s) (loop goes guarded)) e
+      ∙ on_ok_alike (turn a s) (loop goes guarded) (loop goes turn) (λ b s'. sym (guarded_loop b s'))
   unguarded a s false e = refl
 
 -- no item begins that is no image
@@ -243,10 +279,14 @@ NoItem h = item_at h ≡ start.Nothing
 
 other_long : (m : ℕ) (items : List Declaration) (text : List Tagged) (x : List Declaration) → g.other m items text x → 0 < length text
 unfolding g.a_function g.an_accumulator
-other_long m items text x (inl (inl (inl p))) = long_front g.a_param _ (long_front _ _ (long_token (token.Keyword words.Param) roles.Plain)) text x p
-other_long m items text x (inl (inl (inr p))) = long_front (g.a_function m) _ (long_front _ _ (long_token (token.Keyword words.Func) roles.Function)) text x p
-other_long m items text x (inl (inr p)) = long_front (g.an_accumulator m) _ (long_front _ _ (long_token (token.Keyword words.Accum) roles.Plain)) text x p
-other_long m items text x (inr p) = long_front (FirstOutput items) _ (λ text o p. long_front _ _ (long_token (token.Keyword words.Output) roles.Plain) text o p.it) text x p
+other_long m items text x (inl (inl (inl p))) =
+    long_front g.a_param _ (long_front _ _ (long_token (token.Keyword words.Param) roles.Plain)) text x p
+other_long m items text x (inl (inl (inr p))) =
+    long_front (g.a_function m) _ (long_front _ _ (long_token (token.Keyword words.Func) roles.Function)) text x p
+other_long m items text x (inl (inr p)) =
+    long_front (g.an_accumulator m) _ (long_front _ _ (long_token (token.Keyword words.Accum) roles.Plain)) text x p
+other_long m items text x (inr p) =
+    long_front (FirstOutput items) _ (λ text o p. long_front _ _ (long_token (token.Keyword words.Output) roles.Plain) text o p.it) text x p
 
 module _ (n : ℕ) where
   item_turns : Turns n goes_on (guarded goes_on (other n)) Any NoItem (λ items m. g.other m items)
@@ -283,7 +323,8 @@ pub program_parses : (n : ℕ) → Parses n (program_at n) AtEnd g.Program
 program_parses n = parses_weaker n (program_at n) NoItem AtEnd g.Program (λ h e. ap item_at e) (parses_program n)
 
 -- one more item, and then the others
-pub others_unroll : (n : ℕ) (items : List Declaration) (s : At) → others n items s ≡ choose (goes_on items) (other n items >>= others n) (gives items) s
+pub others_unroll : (n : ℕ) (items : List Declaration) (s : At)
+    → others n items s ≡ choose (goes_on items) (other n items >>= others n) (gives items) s
 unfolding others
 others_unroll n items s =
     guarded_loop goes_on (other n) items s

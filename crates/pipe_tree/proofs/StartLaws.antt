@@ -20,10 +20,12 @@ Passing test h = test h ≡ true
 abbrev pub Failing : (Option Token → Bool) → Follow
 Failing test h = test h ≡ false
 
-pub starts_then : {X Y : Type 0} (R : Rule X) (Q : X → Rule Y) (S T F : Follow) → Starts R S F → ((x : X) → Starts (Q x) T S) → Starts (Then R Q) T F
+pub starts_then : {X Y : Type 0} (R : Rule X) (Q : X → Rule Y) (S T F : Follow) → Starts R S F → ((x : X) → Starts (Q x) T S)
+    → Starts (Then R Q) T F
 starts_then R Q S T F first second text rest y p t =
     subst (λ (l : List Tagged). F (head (on l rest))) (sym p.parts)
-    (subst (λ (l : List Token). F (head l)) (sym (on-append p.front p.back rest)) (first p.front (on p.back rest) p.value p.first (second p.value p.back rest y p.second t)))
+    (subst (λ (l : List Token). F (head l)) (sym (on-append p.front p.back rest))
+    (first p.front (on p.back rest) p.value p.first (second p.value p.back rest y p.second t)))
 
 -- where the first text is not empty
 pub starts_by : {X Y : Type 0} (R : Rule X) (Q : X → Rule Y) (T F : Follow) → Starts R Any F → Starts (Then R Q) T F
@@ -33,10 +35,12 @@ pub starts_token : (t : Token) (role : Role) (S F : Follow) → F (Some t) → S
 starts_token t role S F f text rest x p s = subst (λ (l : List Tagged). F (head (on l rest))) (sym p.text_is) f
 
 -- a rule that begins with one token
-pub starts_with : {Y : Type 0} (t : Token) (role : Role) (Q : Unit {0} → Rule Y) (S F : Follow) → F (Some t) → Starts (Then (token_rule t role) Q) S F
+pub starts_with : {Y : Type 0} (t : Token) (role : Role) (Q : Unit {0} → Rule Y) (S F : Follow) → F (Some t)
+    → Starts (Then (token_rule t role) Q) S F
 starts_with t role Q S F f = starts_by (token_rule t role) Q S F (starts_token t role Any F f)
 
-pub starts_means : {X : Type 0} (meaning : Option Token → Option X) (role : Role) (S F : Follow) → ((t : Token) (x : X) → meaning (Some t) ≡ Some x → F (Some t)) → Starts (Means meaning role) S F
+pub starts_means : {X : Type 0} (meaning : Option Token → Option X) (role : Role) (S F : Follow)
+    → ((t : Token) (x : X) → meaning (Some t) ≡ Some x → F (Some t)) → Starts (Means meaning role) S F
 starts_means meaning role S F f text rest x p s = subst (λ (l : List Tagged). F (head (on l rest))) (sym p.text_is) (f p.token x p.means)
 
 pub starts_int : (role : Role) (S F : Follow) → ((k : ℕ) → F (Some (token.Int k))) → F (Some token.TooBig) → Starts (g.int role) S F
@@ -56,19 +60,22 @@ Behind test S h = (test h ≡ false) × S h
 
 -- ---- texts that are not empty
 
-pub long_front : {X Y : Type 0} (R : Rule X) (Q : X → Rule Y) → ((text : List Tagged) (x : X) → R text x → 0 < length text) → (text : List Tagged) (y : Y) → Then R Q text y → 0 < length text
+pub long_front : {X Y : Type 0} (R : Rule X) (Q : X → Rule Y) → ((text : List Tagged) (x : X) → R text x → 0 < length text)
+    → (text : List Tagged) (y : Y) → Then R Q text y → 0 < length text
 long_front R Q long text y p = omega (arith, ap length p.parts, length-append p.front p.back, long p.front p.value p.first)
 
 pub long_token : (t : Token) (role : Role) (text : List Tagged) (x : Unit {0}) → token_rule t role text x → 0 < length text
 long_token t role text x p = omega (arith, ap length p.text_is)
 
-pub long_means : {X : Type 0} (meaning : Option Token → Option X) (role : Role) (text : List Tagged) (x : X) → Means meaning role text x → 0 < length text
+pub long_means : {X : Type 0} (meaning : Option Token → Option X) (role : Role) (text : List Tagged) (x : X) → Means meaning role text x
+    → 0 < length text
 long_means meaning role text x p = omega (arith, ap length p.text_is)
 
 -- ---- lists with separators
 
 -- behind an element stands no separator that is not one
-module _ {X : Type 0} (n : ℕ) (test : Option Token → Bool) (t : Token) (role : Role) (passes : test (Some t) ≡ true) (one : Reader X) (S : Follow) (follows : S (Some t)) (R : Rule X)
+module _ {X : Type 0} (n : ℕ) (test : Option Token → Bool) (t : Token) (role : Role) (passes : test (Some t) ≡ true) (one : Reader X)
+    (S : Follow) (follows : S (Some t)) (R : Rule X)
     (separates : Parses n (expect test roles.Plain) Any (λ _. token_rule t roles.Plain)) (reads : Parses n one S (λ _. R)) where
   abbrev E : Follow
   E = Behind test S
@@ -78,7 +85,8 @@ module _ {X : Type 0} (n : ℕ) (test : Option Token → Bool) (t : Token) (role
       parses_next n _ _ S _ _ separates (λ _.
       parses_then n one _ S S _ _ reads (λ x. parses_gives n (xs ++ x ∷ []) S) (λ m x. starts_gives _ S S (λ h s. s)))
 
-  separated_turns : Turns n (λ _. test) (next_behind (expect test roles.Plain) one) S E (λ xs _. g.next_behind (token_rule t roles.Plain) R xs)
+  separated_turns : Turns n (λ _. test) (next_behind (expect test roles.Plain) one) S E
+      (λ xs _. g.next_behind (token_rule t roles.Plain) R xs)
   separated_turns = record {
     each = turn;
     some = λ m a b text p. long_front (token_rule t roles.Plain) _ (long_token t roles.Plain) text b p;
@@ -93,17 +101,24 @@ module _ {X : Type 0} (n : ℕ) (test : Option Token → Bool) (t : Token) (role
       parses_then n one _ S E _ _ reads (λ x. parses_loop n _ _ S E _ separated_turns (x ∷ []))
       (λ m x. loop_follows n _ _ S E _ separated_turns m (x ∷ []))
 
-  pub separated_unroll : (xs : List X) (s : At) → while test (next_behind (expect test roles.Plain) one) xs s ≡ choose test (next_behind (expect test roles.Plain) one xs >>= while test (next_behind (expect test roles.Plain) one)) (gives xs) s
+  pub separated_unroll : (xs : List X) (s : At)
+      → while test (next_behind (expect test roles.Plain) one) xs s
+      ≡ choose test (next_behind (expect test roles.Plain) one xs >>= while test (next_behind (expect test roles.Plain) one)) (gives xs)
+      s
   separated_unroll xs s = loop_unroll n _ _ S E _ separated_turns xs s
 
 -- ---- by a key of the token ahead
 
 module _ {K X : Type 0} (key : Option Token → K) (f : K → Reader X) where
-  pub key_sound : (R W : Rule X) (s : At) → Sound (f (key (head s.rest))) R W s (f (key (head s.rest)) s) → Sound (by_key key f) R W s (by_key key f s)
-  key_sound R W s p = retarget (f (key (head s.rest))) (by_key key f) R W s (f (key (head s.rest)) s) (λ s' e. ap (λ (h : Option Token). f (key h) s') e) p
+  pub key_sound : (R W : Rule X) (s : At) → Sound (f (key (head s.rest))) R W s (f (key (head s.rest)) s)
+      → Sound (by_key key f) R W s (by_key key f s)
+  key_sound R W s p =
+      retarget (f (key (head s.rest))) (by_key key f) R W s (f (key (head s.rest)) s) (λ s' e. ap (λ (h : Option Token). f (key h) s') e) p
 
-  pub key_all : (deep : Type 0) (S : Follow) (R : Rule X) (k : K) → Starts R S (λ h. key h ≡ k) → All deep (f k) S R → All deep (by_key key f) S R
+  pub key_all : (deep : Type 0) (S : Follow) (R : Rule X) (k : K) → Starts R S (λ h. key h ≡ k) → All deep (f k) S R
+      → All deep (by_key key f) S R
   key_all deep S R k starts p = record {
     read_all = λ c text rest x h s.
-        subst (λ (q : K). Ends deep c x text rest (f q (state c (on text rest)))) (sym (starts text rest x h s)) (p.read_all c text rest x h s);
+        subst (λ (q : K). Ends deep c x text rest (f q (state c (on text rest)))) (sym (starts text rest x h s))
+        (p.read_all c text rest x h s);
   }

@@ -24,12 +24,15 @@ on-all [] = refl
 on-all (t ∷ text) = ap (λ (l : List Token). t.token ∷ l) (on-all text)
 
 module _ {X : Type 0} (x : X) where
-  at_end_sound : (s : At) (b : Bool) → is_some (head s.rest) ≡ b → Sound (at_end x) (Gives x) (Gives x) s (if b then refuse s else gives x s)
+  at_end_sound : (s : At) (b : Bool) → is_some (head s.rest) ≡ b
+      → Sound (at_end x) (Gives x) (Gives x) s (if b then refuse s else gives x s)
   at_end_sound s true e =
-      retarget refuse (at_end x) (Gives x) (Gives x) s (refuse s) (λ s' same. ap (λ (b : Bool). if b then refuse s' else gives x s') (ap is_some same ∙ e))
+      retarget refuse (at_end x) (Gives x) (Gives x) s (refuse s)
+      (λ s' same. ap (λ (b : Bool). if b then refuse s' else gives x s') (ap is_some same ∙ e))
       (refuse_sound (Gives x) (Gives x) (parses_gives 0 x Any).has s)
   at_end_sound s false e =
-      retarget (gives x) (at_end x) (Gives x) (Gives x) s (gives x s) (λ s' same. ap (λ (b : Bool). if b then refuse s' else gives x s') (ap is_some same ∙ e))
+      retarget (gives x) (at_end x) (Gives x) (Gives x) s (gives x s)
+      (λ s' same. ap (λ (b : Bool). if b then refuse s' else gives x s') (ap is_some same ∙ e))
       ((parses_gives 0 x Any).sound s)
 
   at_end_all : (deep : Type 0) → All deep (at_end x) AtEnd (Gives x)
@@ -67,7 +70,9 @@ ended m text tree p =
     subst (λ (x : List Declaration). Program m text x) (sym p.second.value) (subst (λ (l : List Tagged). Program m l p.value) e p.first)
 
 ends : (m : ℕ) (text : List Tagged) (tree : List Declaration) → Program m text tree → Ended m text tree
-ends m text tree p = record { front = text; back = []; value = tree; parts = sym (append-nil text); first = p; second = record { empty = refl; value = refl } }
+ends m text tree p =
+    record
+    { front = text; back = []; value = tree; parts = sym (append-nil text); first = p; second = record { empty = refl; value = refl } }
 
 pub whole_parses : (n : ℕ) → Parses n (whole n) AtEnd Program
 whole_parses n =
@@ -88,9 +93,11 @@ pub is_sound : (tokens : List Token) → IsSound tokens (reading tokens)
 is_sound tokens = (whole_parses most_levels).sound (start tokens)
 
 -- how the reading of a program with any number of levels ends
-pub program_ends : (m : ℕ) (text : List Tagged) (tree : List Declaration) → Program m text tree → Ends (most_levels < m) none_yet tree text [] (reading (untagged text))
+pub program_ends : (m : ℕ) (text : List Tagged) (tree : List Declaration) → Program m text tree
+    → Ends (most_levels < m) none_yet tree text [] (reading (untagged text))
 program_ends m text tree p =
-    subst (λ (l : List Token). Ends (most_levels < m) none_yet tree text [] (reading l)) (on-all text) (((whole_parses most_levels).all m).read_all none_yet text [] tree p refl)
+    subst (λ (l : List Token). Ends (most_levels < m) none_yet tree text [] (reading l)) (on-all text)
+    (((whole_parses most_levels).all m).read_all none_yet text [] tree p refl)
 
 -- ---- what is read is a text
 
@@ -109,7 +116,8 @@ all_read (Err h) tree s e = absurd cc
 pub on-parts : (text : List Tagged) (last : List Token) → last ≡ [] → on text last ≡ untagged text
 on-parts text last e = ap (on text) e ∙ on-all text
 
-found_at : (tokens : List Token) (tree : List Declaration) (s : At) → reading tokens ≡ Ok (tree, s) → Found (whole most_levels) (Program most_levels) (start tokens) tree s → Text tokens tree
+found_at : (tokens : List Token) (tree : List Declaration) (s : At) → reading tokens ≡ Ok (tree, s)
+    → Found (whole most_levels) (Program most_levels) (start tokens) tree s → Text tokens tree
 found_at tokens tree s e f =
     record {
       text = f.text;
@@ -128,14 +136,17 @@ found tokens tree e =
 -- ---- each text is read
 
 -- a text that passes a limit has no counts
-pub passed_none : (o : Option Counts) (front back : List Tagged) (t : Tagged) (c : Counts) → counted_all o front ≡ Some c → counted_next (Some c) t ≡ None → counted_all o (front ++ t ∷ back) ≡ None
+pub passed_none : (o : Option Counts) (front back : List Tagged) (t : Tagged) (c : Counts) → counted_all o front ≡ Some c
+    → counted_next (Some c) t ≡ None → counted_all o (front ++ t ∷ back) ≡ None
 passed_none o front back t c few passes =
-    counted_all-append o front (t ∷ back) ∙ ap (λ (d : Option Counts). counted_all (counted_next d t) back) few ∙ ap (λ (d : Option Counts). counted_all d back) passes ∙ counted_all-none back
+    counted_all-append o front (t ∷ back) ∙ ap (λ (d : Option Counts). counted_all (counted_next d t) back) few
+    ∙ ap (λ (d : Option Counts). counted_all d back) passes ∙ counted_all-none back
 
 pub passes_none : (text : List Tagged) (c : Counts) (rest : List Token) (h : Halt) → Passes text c rest h → counted_all (Some c) text ≡ None
 passes_none text c rest h p = ap (counted_all (Some c)) p.parts ∙ passed_none (Some c) p.front p.back p.at p.counts p.few p.passes
 
-text_ends : (tree : List Declaration) (text : List Tagged) (counts : Counts) (a : Answer (List Declaration)) → counted_all (Some none_yet) text ≡ Some counts → Ends (most_levels < most_levels) none_yet tree text [] a → value_of a ≡ Ok tree
+text_ends : (tree : List Declaration) (text : List Tagged) (counts : Counts) (a : Answer (List Declaration))
+    → counted_all (Some none_yet) text ≡ Some counts → Ends (most_levels < most_levels) none_yet tree text [] a → value_of a ≡ Ok tree
 text_ends tree text counts (Ok p) few e = ap (λ (q : List Declaration × At). value_of (Ok q)) e.0
 text_ends tree text counts (Err h) few (inl e) = absurd (omega (arith, e.1))
 text_ends tree text counts (Err h) few (inr p) = let e = passes_none text none_yet [] h p in absurd cc
@@ -143,22 +154,30 @@ text_ends tree text counts (Err h) few (inr p) = let e = passes_none text none_y
 pub only : (tokens : List Token) (tree : List Declaration) → Text tokens tree → program_of tokens ≡ Ok tree
 unfolding program_of
 only tokens tree t =
-    subst (λ (l : List Token). value_of (reading l) ≡ Ok tree) (sym t.tokens_are) (text_ends tree t.text t.counts (reading (untagged t.text)) t.few (program_ends most_levels t.text tree t.program))
+    subst (λ (l : List Token). value_of (reading l) ≡ Ok tree) (sym t.tokens_are)
+    (text_ends tree t.text t.counts (reading (untagged t.text)) t.few (program_ends most_levels t.text tree t.program))
 
 -- ---- faults
 
 -- where the reading of a program stops, it passes a limit
-limit_only : (m : ℕ) (text : List Tagged) (tree : List Declaration) (a : Answer (List Declaration)) (h : Halt) → a ≡ Err h → Ends (most_levels < m) none_yet tree text [] a → ((h.kind ≡ TooDeep) × (most_levels < m)) ⊎ Passes text none_yet [] h
+limit_only : (m : ℕ) (text : List Tagged) (tree : List Declaration) (a : Answer (List Declaration)) (h : Halt) → a ≡ Err h
+    → Ends (most_levels < m) none_yet tree text [] a → ((h.kind ≡ TooDeep) × (most_levels < m)) ⊎ Passes text none_yet [] h
 limit_only m text tree (Ok p) h e ends = absurd cc
-limit_only m text tree (Err k) h e ends = let same : k ≡ h = err_is k h e in subst (λ (k : Halt). ((k.kind ≡ TooDeep) × (most_levels < m)) ⊎ Passes text none_yet [] k) same ends
+limit_only m text tree (Err k) h e ends =
+    let same : k ≡ h = err_is k h e in subst (λ (k : Halt). ((k.kind ≡ TooDeep) × (most_levels < m)) ⊎ Passes text none_yet [] k) same ends
 
-module _ (tokens : List Token) (h : Halt) (f : Failed (whole most_levels) (Program most_levels) (Program (suc most_levels)) (start tokens) h) where
-  again_limit : (m : ℕ) (text : List Tagged) (tree : List Declaration) (more : List Token) → Program m text tree → untagged text ≡ untagged f.text ++ more → head more ≡ head f.last → ((h.kind ≡ TooDeep) × (most_levels < m)) ⊎ Passes text none_yet [] (record { kind = h.kind; remaining = length more })
+module _ (tokens : List Token) (h : Halt)
+    (f : Failed (whole most_levels) (Program most_levels) (Program (suc most_levels)) (start tokens) h) where
+  again_limit : (m : ℕ) (text : List Tagged) (tree : List Declaration) (more : List Token) → Program m text tree
+      → untagged text ≡ untagged f.text ++ more → head more ≡ head f.last
+      → ((h.kind ≡ TooDeep) × (most_levels < m)) ⊎ Passes text none_yet [] (record { kind = h.kind; remaining = length more })
   again_limit m text tree more p e same =
-      let is : reading (untagged text) ≡ Err (record { kind = h.kind; remaining = length more }) = ap reading (e ∙ sym (on-untagged f.text more)) ∙ f.again more same in
+      let is : reading (untagged text) ≡ Err (record { kind = h.kind; remaining = length more }) =
+      ap reading (e ∙ sym (on-untagged f.text more)) ∙ f.again more same in
       limit_only m text tree (reading (untagged text)) (record { kind = h.kind; remaining = length more }) is (program_ends m text tree p)
 
-  not_limit : (m : ℕ) (text : List Tagged) (remaining : ℕ) → h.kind ≡ Unexpected → ((h.kind ≡ TooDeep) × (most_levels < m)) ⊎ Passes text none_yet [] (record { kind = h.kind; remaining = remaining }) → ⊥
+  not_limit : (m : ℕ) (text : List Tagged) (remaining : ℕ) → h.kind ≡ Unexpected
+      → ((h.kind ≡ TooDeep) × (most_levels < m)) ⊎ Passes text none_yet [] (record { kind = h.kind; remaining = remaining }) → ⊥
   not_limit m text remaining is (inl p) = let e = p.0 in cc
   not_limit m text remaining is (inr p) = not_kind p.kind
     where
@@ -166,7 +185,8 @@ module _ (tokens : List Token) (h : Halt) (f : Failed (whole most_levels) (Progr
       not_kind (inl e) = cc
       not_kind (inr e) = cc
 
-  not_deep : (text : List Tagged) (remaining : ℕ) → h.kind ≡ TooDeep → ((h.kind ≡ TooDeep) × (most_levels < most_levels)) ⊎ Passes text none_yet [] (record { kind = h.kind; remaining = remaining }) → ⊥
+  not_deep : (text : List Tagged) (remaining : ℕ) → h.kind ≡ TooDeep
+      → ((h.kind ≡ TooDeep) × (most_levels < most_levels)) ⊎ Passes text none_yet [] (record { kind = h.kind; remaining = remaining }) → ⊥
   not_deep text remaining is (inl p) = omega (arith, p.1)
   not_deep text remaining is (inr p) = not_kind p.kind
     where
@@ -174,15 +194,29 @@ module _ (tokens : List Token) (h : Halt) (f : Failed (whole most_levels) (Progr
       not_kind (inl e) = cc
       not_kind (inr e) = cc
 
-  deeper : GoesOn (Program (suc most_levels)) f.text (head f.last) (λ t. fits t.token ≡ true) → GoesOn AnyProgram f.text (head f.last) (λ t. fits t.token ≡ true)
-  deeper g = record { next = g.next; more = g.more; value = g.value; ahead_is = g.ahead_is; rule = record { which = suc most_levels; it = g.rule }; holds = g.holds }
+  deeper : GoesOn (Program (suc most_levels)) f.text (head f.last) (λ t. fits t.token ≡ true)
+      → GoesOn AnyProgram f.text (head f.last) (λ t. fits t.token ≡ true)
+  deeper g =
+      record {
+        next =
+            g.next;
+        more =
+            g.more;
+        value = g.value;
+        ahead_is = g.ahead_is;
+        rule = record { which = suc most_levels; it = g.rule };
+        holds = g.holds;
+      }
 
-  wrong_is : (kind : Kind) → h.kind ≡ kind → Reaches (Program most_levels) (Program (suc most_levels)) f.text f.counts (head f.last) kind → Wrong kind f.text f.counts (head f.last)
+  wrong_is : (kind : Kind) → h.kind ≡ kind → Reaches (Program most_levels) (Program (suc most_levels)) f.text f.counts (head f.last) kind
+      → Wrong kind f.text f.counts (head f.last)
   wrong_is NotAscii is r = r
   wrong_is BadToken is r = r
-  wrong_is Unexpected is r = (r, λ text tree more p e same. not_limit p.which text (length more) is (again_limit p.which text tree more p.it e same))
+  wrong_is Unexpected is r =
+      (r, λ text tree more p e same. not_limit p.which text (length more) is (again_limit p.which text tree more p.it e same))
   wrong_is NumberTooBig is r = r
-  wrong_is TooDeep is r = (deeper r, λ text tree more p e same. not_deep text (length more) is (again_limit most_levels text tree more p e same))
+  wrong_is TooDeep is r =
+      (deeper r, λ text tree more p e same. not_deep text (length more) is (again_limit most_levels text tree more p e same))
   wrong_is TooMany is r = r
 
   halt_at : IsHalt tokens h

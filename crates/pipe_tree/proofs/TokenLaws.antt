@@ -42,7 +42,8 @@ same_mark m true e = refl
 same_mark m false e = absurd (same_false mark_type.the_type m m e refl)
 
 pub parses_mark : (n : ℕ) (m : Punct) (role : Role) → Parses n (mark m role) Any (λ _. g.mark m role)
-parses_mark n m role = parses_expect (is_mark_at m) (token.Punct m) role refl (same_mark m (sameb mark_type.the_type m m) refl) (mark_only m) n
+parses_mark n m role =
+    parses_expect (is_mark_at m) (token.Punct m) role refl (same_mark m (sameb mark_type.the_type m m) refl) (mark_only m) n
 
 word_only : (w : Keyword) (h : Option Token) → is_word_at w h ≡ true → h ≡ Some (token.Keyword w)
 word_only w (Some (token.Keyword k)) e = ap (λ (q : Keyword). Some (token.Keyword q)) (same_true word_type.the_type (search) k w e)
@@ -54,7 +55,8 @@ same_word w true e = refl
 same_word w false e = absurd (same_false word_type.the_type w w e refl)
 
 pub parses_word : (n : ℕ) (w : Keyword) (role : Role) → Parses n (word w role) Any (λ _. g.word w role)
-parses_word n w role = parses_expect (is_word_at w) (token.Keyword w) role refl (same_word w (sameb word_type.the_type w w) refl) (word_only w) n
+parses_word n w role =
+    parses_expect (is_word_at w) (token.Keyword w) role refl (same_word w (sameb word_type.the_type w w) refl) (word_only w) n
 
 -- ---- tokens that mean something
 
@@ -72,24 +74,46 @@ module _ {X : Type 0} (meaning : Option Token → Option X) (role : Role)
     means = e ∙ ap (λ (z : X). Some z) (sym p.second.value);
   }
 
-  meant_on : (s : At) (t : Token) (x : X) → head s.rest ≡ Some t → meaning (Some t) ≡ Some x → Sound (begin role >>= λ _. gives x) (Means meaning role) (Means meaning role) s ((begin role >>= λ _. gives x) s)
+  meant_on : (s : At) (t : Token) (x : X) → head s.rest ≡ Some t → meaning (Some t) ≡ Some x
+      → Sound (begin role >>= λ _. gives x) (Means meaning role) (Means meaning role) s ((begin role >>= λ _. gives x) s)
   meant_on s t x ahead e =
-      widen (begin role >>= λ _. gives x) (Then (token_rule t role) (λ _. Gives x)) (Then (token_rule t role) (λ _. Gives x)) (Means meaning role) (Means meaning role) s ((begin role >>= λ _. gives x) s) (meant_rule t x e) (meant_rule t x e)
-      (then_at (begin role) (λ _. gives x) (token_rule t role) (token_rule t role) (λ _. Gives x) (λ _. Gives x) s (begin role s) (λ text y p. p)
-      (λ _. (parses_gives 0 x Any).has) (λ _. (parses_gives 0 x Any).has) (begin_sound t role (good t x e) s ahead) (λ b reads. (parses_gives 0 x Any).sound b.1))
+      widen (begin role >>= λ _. gives x) (Then (token_rule t role) (λ _. Gives x)) (Then (token_rule t role) (λ _. Gives x))
+      (Means meaning role) (Means meaning role) s ((begin role >>= λ _. gives x) s) (meant_rule t x e) (meant_rule t x e)
+      (then_at (begin role) (λ _. gives x) (token_rule t role) (token_rule t role) (λ _. Gives x) (λ _. Gives x) s (begin role s)
+      (λ text y p. p)
+      (λ _. (parses_gives 0 x Any).has) (λ _. (parses_gives 0 x Any).has) (begin_sound t role (good t x e) s ahead)
+      (λ b reads. (parses_gives 0 x Any).sound b.1))
 
-  meant_at : (s : At) (h : Option Token) → head s.rest ≡ h → (o : Option X) → meaning h ≡ o → Sound (means meaning role) (Means meaning role) (Means meaning role) s (meant role o s)
+  meant_at : (s : At) (h : Option Token) → head s.rest ≡ h → (o : Option X) → meaning h ≡ o
+      → Sound (means meaning role) (Means meaning role) (Means meaning role) s (meant role o s)
   meant_at s h ahead None e =
-      retarget refuse (means meaning role) (Means meaning role) (Means meaning role) s (refuse s) (λ s' same. ap (λ (o : Option X). meant role o s') (ap meaning (same ∙ ahead) ∙ e)) (refuse_sound (Means meaning role) (Means meaning role) meant_has s)
+      retarget refuse (means meaning role) (Means meaning role) (Means meaning role) s (refuse s)
+      (λ s' same. ap (λ (o : Option X). meant role o s') (ap meaning (same ∙ ahead) ∙ e))
+      (refuse_sound (Means meaning role) (Means meaning role) meant_has s)
   meant_at s None ahead (Some x) e = absurd (let none = end in cc)
   meant_at s (Some t) ahead (Some x) e =
-      retarget (begin role >>= λ _. gives x) (means meaning role) (Means meaning role) (Means meaning role) s ((begin role >>= λ _. gives x) s) (λ s' same. ap (λ (o : Option X). meant role o s') (ap meaning (same ∙ ahead) ∙ e)) (meant_on s t x ahead e)
+      retarget (begin role >>= λ _. gives x) (means meaning role) (Means meaning role) (Means meaning role) s
+      ((begin role >>= λ _. gives x) s) (λ s' same. ap (λ (o : Option X). meant role o s') (ap meaning (same ∙ ahead) ∙ e))
+      (meant_on s t x ahead e)
 
-  meant_ends : (deep : Type 0) (c : Counts) (t : Token) (x : X) (rest : List Token) → meaning (Some t) ≡ Some x → Ends deep c x (tagged t role ∷ []) rest (means meaning role (state c (t ∷ rest)))
+  meant_ends : (deep : Type 0) (c : Counts) (t : Token) (x : X) (rest : List Token) → meaning (Some t) ≡ Some x
+      → Ends deep c x (tagged t role ∷ []) rest (means meaning role (state c (t ∷ rest)))
   meant_ends deep c t x rest e =
       subst (λ (o : Option X). Ends deep c x (tagged t role ∷ []) rest (meant role o (state c (t ∷ rest)))) (sym e)
-      ((then_all deep (begin role) (λ _. gives x) Any Any (token_rule t role) (λ _. Gives x) (begin_all t role (good t x e) deep) (λ _. record { read_all = λ d text2 rest2 y p u. rw (p.empty, p.value) (refl, refl) }) (λ _ text rest y h u. tt)).read_all c (tagged t role ∷ []) rest x
-      (record { front = tagged t role ∷ []; back = []; value = tt; parts = refl; first = record { text_is = refl; value = refl }; second = record { empty = refl; value = refl } }) tt)
+      ((then_all deep (begin role) (λ _. gives x) Any Any (token_rule t role) (λ _. Gives x) (begin_all t role (good t x e) deep)
+      (λ _. record { read_all = λ d text2 rest2 y p u. rw (p.empty, p.value) (refl, refl) }) (λ _ text rest y h u. tt)).read_all c
+      (tagged t role ∷ []) rest x
+      (record {
+        front =
+            tagged t role ∷ [];
+        back =
+            [];
+        value =
+            tt;
+        parts = refl;
+        first = record { text_is = refl; value = refl };
+        second = record { empty = refl; value = refl };
+      }) tt)
 
   pub parses_means : (n : ℕ) → Parses n (means meaning role) Any (λ _. Means meaning role)
   parses_means n = record {
@@ -98,7 +122,8 @@ module _ {X : Type 0} (meaning : Option Token → Option X) (role : Role)
     has = meant_has;
     all = λ m. record {
       read_all = λ c text rest x p h.
-          subst (λ (l : List Tagged). Ends (n < m) c x l rest (means meaning role (state c (on l rest)))) (sym p.text_is) (meant_ends (n < m) c p.token x rest p.means);
+          subst (λ (l : List Tagged). Ends (n < m) c x l rest (means meaning role (state c (on l rest)))) (sym p.text_is)
+          (meant_ends (n < m) c p.token x rest p.means);
     };
   }
 
@@ -141,7 +166,13 @@ parses_fold n = parses_means fold_at roles.Plain fold_good refl (token.Keyword w
 
 module _ (role : Role) where
   int_has : HasText (g.int role)
-  int_has = record { text = tagged (token.Int 0) role ∷ []; value = 0; rule = inl (record { which = 0; it = record { text_is = refl; value = refl } }) }
+  int_has =
+      record {
+        text =
+            tagged (token.Int 0) role ∷ [];
+        value = 0;
+        rule = inl (record { which = 0; it = record { text_is = refl; value = refl } });
+      }
 
   int_rule : (k : ℕ) → Within (Then (token_rule (token.Int k) role) (λ _. Gives k)) (g.int role)
   int_rule k text y p = inl (record {
@@ -153,7 +184,8 @@ module _ (role : Role) where
   })
 
   -- the number ahead is too big
-  big_at : (s : At) (t : Token) (x : ℕ) → head s.rest ≡ Some t → is_number t ≡ true → fits t ≡ false → g.int role (tagged t role ∷ []) x → Sound (stop NumberTooBig) (g.int role) (g.int role) s (stop NumberTooBig s)
+  big_at : (s : At) (t : Token) (x : ℕ) → head s.rest ≡ Some t → is_number t ≡ true → fits t ≡ false → g.int role (tagged t role ∷ []) x
+      → Sound (stop NumberTooBig) (g.int role) (g.int role) s (stop NumberTooBig s)
   big_at s t x ahead number big rule = record {
     text = [];
     last = s.rest;
@@ -168,15 +200,28 @@ module _ (role : Role) where
     reaches = record { next = tagged t role; more = []; value = x; ahead_is = ahead; rule = rule; holds = (number, big) };
   }
 
-  fits_at : (s : At) (k : ℕ) → head s.rest ≡ Some (token.Int k) → nat_le k 2147483647 ≡ true → Sound (begin role >>= λ _. gives k) (g.int role) (g.int role) s ((begin role >>= λ _. gives k) s)
+  fits_at : (s : At) (k : ℕ) → head s.rest ≡ Some (token.Int k) → nat_le k 2147483647 ≡ true
+      → Sound (begin role >>= λ _. gives k) (g.int role) (g.int role) s ((begin role >>= λ _. gives k) s)
   fits_at s k ahead e =
-      widen (begin role >>= λ _. gives k) (Then (token_rule (token.Int k) role) (λ _. Gives k)) (Then (token_rule (token.Int k) role) (λ _. Gives k)) (g.int role) (g.int role) s ((begin role >>= λ _. gives k) s) (int_rule k) (int_rule k)
-      (then_at (begin role) (λ _. gives k) (token_rule (token.Int k) role) (token_rule (token.Int k) role) (λ _. Gives k) (λ _. Gives k) s (begin role s) (λ text y p. p)
-      (λ _. (parses_gives 0 k Any).has) (λ _. (parses_gives 0 k Any).has) (begin_sound (token.Int k) role e s ahead) (λ b reads. (parses_gives 0 k Any).sound b.1))
+      widen (begin role >>= λ _. gives k) (Then (token_rule (token.Int k) role) (λ _. Gives k))
+      (Then (token_rule (token.Int k) role) (λ _. Gives k)) (g.int role) (g.int role) s ((begin role >>= λ _. gives k) s) (int_rule k)
+      (int_rule k)
+      (then_at (begin role) (λ _. gives k) (token_rule (token.Int k) role) (token_rule (token.Int k) role) (λ _. Gives k) (λ _. Gives k) s
+      (begin role s) (λ text y p. p)
+      (λ _. (parses_gives 0 k Any).has) (λ _. (parses_gives 0 k Any).has) (begin_sound (token.Int k) role e s ahead)
+      (λ b reads. (parses_gives 0 k Any).sound b.1))
 
-  int_choice : (s : At) (k : ℕ) → head s.rest ≡ Some (token.Int k) → (b : Bool) → nat_le k 2147483647 ≡ b → Sound (int_by role (Some (token.Int k))) (g.int role) (g.int role) s ((if b then (begin role >>= λ _. gives k) else stop NumberTooBig) s)
-  int_choice s k ahead true e = retarget (begin role >>= λ _. gives k) (int_by role (Some (token.Int k))) (g.int role) (g.int role) s ((begin role >>= λ _. gives k) s) (λ s' same. ap (λ (b : Bool). (if b then (begin role >>= λ _. gives k) else stop NumberTooBig) s') e) (fits_at s k ahead e)
-  int_choice s k ahead false e = retarget (stop NumberTooBig) (int_by role (Some (token.Int k))) (g.int role) (g.int role) s (stop NumberTooBig s) (λ s' same. ap (λ (b : Bool). (if b then (begin role >>= λ _. gives k) else stop NumberTooBig) s') e) (big_at s (token.Int k) k ahead refl e (inl (record { which = k; it = record { text_is = refl; value = refl } })))
+  int_choice : (s : At) (k : ℕ) → head s.rest ≡ Some (token.Int k) → (b : Bool) → nat_le k 2147483647 ≡ b
+      → Sound (int_by role (Some (token.Int k))) (g.int role) (g.int role) s
+      ((if b then (begin role >>= λ _. gives k) else stop NumberTooBig) s)
+  int_choice s k ahead true e =
+      retarget (begin role >>= λ _. gives k) (int_by role (Some (token.Int k))) (g.int role) (g.int role) s
+      ((begin role >>= λ _. gives k) s)
+      (λ s' same. ap (λ (b : Bool). (if b then (begin role >>= λ _. gives k) else stop NumberTooBig) s') e) (fits_at s k ahead e)
+  int_choice s k ahead false e =
+      retarget (stop NumberTooBig) (int_by role (Some (token.Int k))) (g.int role) (g.int role) s (stop NumberTooBig s)
+      (λ s' same. ap (λ (b : Bool). (if b then (begin role >>= λ _. gives k) else stop NumberTooBig) s') e)
+      (big_at s (token.Int k) k ahead refl e (inl (record { which = k; it = record { text_is = refl; value = refl } })))
 
   int_on : (s : At) (h : Option Token) → head s.rest ≡ h → Sound (int_by role h) (g.int role) (g.int role) s (int_by role h s)
   int_on s (Some (token.Int k)) ahead = int_choice s k ahead (nat_le k 2147483647) refl
@@ -185,18 +230,50 @@ module _ (role : Role) where
   int_on s (Some t) ahead = refuse_sound (g.int role) (g.int role) int_has s
 
   int_sound : (s : At) → Sound (int role) (g.int role) (g.int role) s (int role s)
-  int_sound s = retarget (int_by role (head s.rest)) (int role) (g.int role) (g.int role) s (int_by role (head s.rest) s) (λ s' same. ap (λ (h : Option Token). int_by role h s') same) (int_on s (head s.rest) refl)
+  int_sound s =
+      retarget (int_by role (head s.rest)) (int role) (g.int role) (g.int role) s (int_by role (head s.rest) s)
+      (λ s' same. ap (λ (h : Option Token). int_by role h s') same) (int_on s (head s.rest) refl)
 
-  big_ends : (deep : Type 0) (c : Counts) (t : Token) (x : ℕ) (rest : List Token) → fits t ≡ false → Ends deep c x (tagged t role ∷ []) rest (stop NumberTooBig (state c (t ∷ rest)))
-  big_ends deep c t x rest big = inr (record { front = []; at = tagged t role; back = []; counts = c; parts = refl; remaining = refl; few = refl; passes = not_counted t role c big; kind = inr refl })
+  big_ends : (deep : Type 0) (c : Counts) (t : Token) (x : ℕ) (rest : List Token) → fits t ≡ false
+      → Ends deep c x (tagged t role ∷ []) rest (stop NumberTooBig (state c (t ∷ rest)))
+  big_ends deep c t x rest big =
+      inr (record {
+        front =
+            [];
+        at =
+            tagged t role;
+        back =
+            [];
+        counts = c;
+        parts = refl;
+        remaining = refl;
+        few = refl;
+        passes = not_counted t role c big;
+        kind = inr refl;
+      })
 
-  int_ends : (deep : Type 0) (c : Counts) (k : ℕ) (rest : List Token) (b : Bool) → nat_le k 2147483647 ≡ b → Ends deep c k (tagged (token.Int k) role ∷ []) rest ((if b then (begin role >>= λ _. gives k) else stop NumberTooBig) (state c (token.Int k ∷ rest)))
+  int_ends : (deep : Type 0) (c : Counts) (k : ℕ) (rest : List Token) (b : Bool) → nat_le k 2147483647 ≡ b
+      → Ends deep c k (tagged (token.Int k) role ∷ []) rest
+      ((if b then (begin role >>= λ _. gives k) else stop NumberTooBig) (state c (token.Int k ∷ rest)))
   int_ends deep c k rest false e = big_ends deep c (token.Int k) k rest e
   int_ends deep c k rest true e =
-      (then_all deep (begin role) (λ _. gives k) Any Any (token_rule (token.Int k) role) (λ _. Gives k) (begin_all (token.Int k) role e deep) (λ _. record { read_all = λ d text2 rest2 y p u. rw (p.empty, p.value) (refl, refl) }) (λ _ text rest y h u. tt)).read_all c (tagged (token.Int k) role ∷ []) rest k
-      (record { front = tagged (token.Int k) role ∷ []; back = []; value = tt; parts = refl; first = record { text_is = refl; value = refl }; second = record { empty = refl; value = refl } }) tt
+      (then_all deep (begin role) (λ _. gives k) Any Any (token_rule (token.Int k) role) (λ _. Gives k)
+      (begin_all (token.Int k) role e deep) (λ _. record { read_all = λ d text2 rest2 y p u. rw (p.empty, p.value) (refl, refl) })
+      (λ _ text rest y h u. tt)).read_all c (tagged (token.Int k) role ∷ []) rest k
+      (record {
+        front =
+            tagged (token.Int k) role ∷ [];
+        back =
+            [];
+        value =
+            tt;
+        parts = refl;
+        first = record { text_is = refl; value = refl };
+        second = record { empty = refl; value = refl };
+      }) tt
 
-  int_all : (deep : Type 0) (c : Counts) (text : List Tagged) (rest : List Token) (x : ℕ) → g.int role text x → Any (head rest) → Ends deep c x text rest (int role (state c (on text rest)))
+  int_all : (deep : Type 0) (c : Counts) (text : List Tagged) (rest : List Token) (x : ℕ) → g.int role text x → Any (head rest)
+      → Ends deep c x text rest (int role (state c (on text rest)))
   int_all deep c text rest x (inl p) u = rw (p.it.text_is, p.it.value) (int_ends deep c p.which rest (nat_le p.which 2147483647) refl)
   int_all deep c text rest x (inr p) u = rw p.text_is (big_ends deep c token.TooBig x rest refl)
 

@@ -52,7 +52,8 @@ undivided x m v e d =
     ap (λ (z : ℤ). floor_div (z *ℤ v +ℤ x.add) x.div) e ∙ ap (λ (z : ℤ). floor_div (pos m *ℤ v +ℤ x.add) z) d ∙ by_one (pos m *ℤ v +ℤ x.add)
 
 -- it takes columns side by side to columns at steps of one length
-pub columns_step : (x : Scale) (m : ℕ) (v : ℤ) (k : ℕ) → x.mul ≡ pos m → x.div ≡ pos 1 → index_at x (v +ℤ pos k) ≡ index_at x v +ℤ pos (k * m)
+pub columns_step : (x : Scale) (m : ℕ) (v : ℤ) (k : ℕ) → x.mul ≡ pos m → x.div ≡ pos 1
+    → index_at x (v +ℤ pos k) ≡ index_at x v +ℤ pos (k * m)
 columns_step x m v k e d =
     undivided x m (v +ℤ pos k) e d ∙ ap (λ (z : ℤ). z +ℤ x.add) (times_further m v k) ∙ further (pos m *ℤ v) x.add (k * m)
     ∙ ap (λ (z : ℤ). z +ℤ pos (k * m)) (sym (undivided x m v e d))

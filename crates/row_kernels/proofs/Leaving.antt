@@ -14,15 +14,18 @@ one_more v m l some e below =
     let above : pos 0 <ℤ pos m = omega (arith, ints) in
     let f = floor_splits v (pos m) above in
     let split : v +ℤ pos 1 ≡ floor_div v (pos m) *ℤ pos m +ℤ pos (l + 1) = omega (arith, ints, f.split) in
-    (floor_only (v +ℤ pos 1) (pos m) (floor_div v (pos m)) (pos (l + 1)) above (record { split = split; least = omega (arith, ints); below = omega (arith, ints) })).1
+    (floor_only (v +ℤ pos 1) (pos m) (floor_div v (pos m)) (pos (l + 1)) above
+    (record { split = split; least = omega (arith, ints); below = omega (arith, ints) })).1
 
 -- and else nothing
 pub none_left : (v : ℤ) (m l : ℕ) → 0 < m → pos l ≡ floor_rem v (pos m) → l + 1 ≡ m → pos 0 ≡ floor_rem (v +ℤ pos 1) (pos m)
 none_left v m l some e last =
     let above : pos 0 <ℤ pos m = omega (arith, ints) in
     let f = floor_splits v (pos m) above in
-    let split : v +ℤ pos 1 ≡ suc_ℤ (floor_div v (pos m)) *ℤ pos m +ℤ pos 0 = omega (arith, ints, f.split, suc_ℤ-*ℤ (floor_div v (pos m)) (pos m)) in
-    (floor_only (v +ℤ pos 1) (pos m) (suc_ℤ (floor_div v (pos m))) (pos 0) above (record { split = split; least = omega (arith, ints); below = omega (arith, ints) })).1
+    let split : v +ℤ pos 1 ≡ suc_ℤ (floor_div v (pos m)) *ℤ pos m +ℤ pos 0 =
+    omega (arith, ints, f.split, suc_ℤ-*ℤ (floor_div v (pos m)) (pos m)) in
+    (floor_only (v +ℤ pos 1) (pos m) (suc_ℤ (floor_div v (pos m))) (pos 0) above
+    (record { split = split; least = omega (arith, ints); below = omega (arith, ints) })).1
 
 -- ---- what is taken where a rest is left
 

@@ -22,7 +22,9 @@ gap_below s v h =
 -- the place of a point is one of the places of the values
 pub place_below : (a : Area) (r c : ℤ) → HoldsPoint a r c → place_of a r c < point_count a
 place_below a r c h =
-    let split = mul-add-lt (int_gap a.rows.lo r) (len_of a.cols) (int_gap a.cols.lo c) (len_of a.rows) (gap_below a.rows r h.0) (gap_below a.cols c h.1) in
+    let split =
+    mul-add-lt (int_gap a.rows.lo r) (len_of a.cols) (int_gap a.cols.lo c) (len_of a.rows) (gap_below a.rows r h.0)
+    (gap_below a.cols c h.1) in
     omega arith
 
 -- the places of a row follow one another
@@ -33,7 +35,8 @@ place_along a r c k low =
     omega arith
 
 -- the places at the columns of an index that does not divide lie at steps of one length
-pub place_steps : (a : Area) (r : ℤ) (x : Scale) (c : ℤ) (m n place : ℕ) → x.mul ≡ pos m → x.div ≡ pos 1 → place ≡ place_of a r (index_at x c) → EachPlace n (λ k. HoldsPoint a r (index_at x (c +ℤ pos k)))
+pub place_steps : (a : Area) (r : ℤ) (x : Scale) (c : ℤ) (m n place : ℕ) → x.mul ≡ pos m → x.div ≡ pos 1
+    → place ≡ place_of a r (index_at x c) → EachPlace n (λ k. HoldsPoint a r (index_at x (c +ℤ pos k)))
     → (k : ℕ) → k < n → place + k * m ≡ place_of a r (index_at x (c +ℤ pos k))
 place_steps a r x c m n place e d is each k l =
     let some : 0 < n = omega arith in

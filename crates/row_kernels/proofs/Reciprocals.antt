@@ -8,14 +8,18 @@ below_suc a b h = omega arith
 
 -- the quotient is between two multiples
 pub quotient_is : (x p q : ℕ) → 0 < p → q * p ≤ x → x < suc q * p → x / p ≡ q
-quotient_is x p q pos low high = le_antisymm (below_suc (x / p) q ((div-lt_iff_lt-mul {k = p} {x = x} {y = suc q} pos).1 high)) ((le-div_iff_mul-le {k = p} {x = q} {y = x} pos).1 low)
+quotient_is x p q pos low high =
+    le_antisymm (below_suc (x / p) q ((div-lt_iff_lt-mul {k = p} {x = x} {y = suc q} pos).1 high))
+    ((le-div_iff_mul-le {k = p} {x = q} {y = x} pos).1 low)
 
 -- n divided by d is n times m, cut by p, where m * d lies above p by e and n * e stays below p
 pub by_product : (n d m e p : ℕ) → 0 < d → 0 < p → m * d ≡ p + e → n * e < p → (n * m) / p ≡ n / d
 by_product n d m e p dpos ppos is small =
     let up : p ≤ p + e = omega arith in
     let turn : n / d * (m * d) ≡ n / d * d * m = ap (λ (x : ℕ). n / d * x) (mul_comm m d) ∙ sym (mul_assoc (n / d) d m) in
-    let low : n / d * p ≤ n * m = le_trans (mul-le-mul_left (n / d) up) (le_trans (le_of_eq (ap (λ (x : ℕ). n / d * x) (sym is) ∙ turn)) (mul-le-mul_right m (div-mul-le_self n d))) in
+    let low : n / d * p ≤ n * m =
+    le_trans (mul-le-mul_left (n / d) up)
+    (le_trans (le_of_eq (ap (λ (x : ℕ). n / d * x) (sym is) ∙ turn)) (mul-le-mul_right m (div-mul-le_self n d))) in
     let parts : n / d * d + n % d ≡ n = div-add-mod' n d in
     let less : n % d < d = mod-lt n dpos in
     let next : suc (n / d) * d ≡ n / d * d + d = suc-mul (n / d) d in
@@ -48,20 +52,21 @@ module _ (d k f : ℕ) (above : k < d) (below : d ≤ 2 * k) (few : k < 21474836
       by_product n d f (d - 4294967296 * k % d) (4294967296 * k) positive (omega arith) over (omega arith)
 
 -- as it is computed, from the bits of the number below the divisor
-module _ (d b e : ℕ) (some : 2 ≤ d) (most : d < 2147483648) (few : b < 32) (low : 2 ^ b ≤ d - 1) (high : d - 1 < 2 * 2 ^ b) (same : e ≡ d) where
-  above : 2 ^ b < d
-  above = omega arith
+module _ (d b e : ℕ) (some : 2 ≤ d) (most : d < 2147483648) (few : b < 32) (low : 2 ^ b ≤ d - 1) (high : d - 1 < 2 * 2 ^ b) (same : e ≡ d)
+  where
+    above : 2 ^ b < d
+    above = omega arith
 
-  below : d ≤ 2 * 2 ^ b
-  below = omega arith
+    below : d ≤ 2 * 2 ^ b
+    below = omega arith
 
-  factor_is : 1 * 2 ^ (32 + b) % 18446744073709551616 / e + 1 ≡ 4294967296 * 2 ^ b / d + 1
-  factor_is = λ i. (one_shl (32 + b) 64 (omega arith) ∙ pow-add 2 32 b) i / same i + 1
+    factor_is : 1 * 2 ^ (32 + b) % 18446744073709551616 / e + 1 ≡ 4294967296 * 2 ^ b / d + 1
+    factor_is = λ i. (one_shl (32 + b) 64 (omega arith) ∙ pow-add 2 32 b) i / same i + 1
 
-  pub computed_fits : 1 * 2 ^ (32 + b) % 18446744073709551616 / e + 1 < 4294967296
-  computed_fits = factor_fits d (2 ^ b) _ above below (omega arith) factor_is
+    pub computed_fits : 1 * 2 ^ (32 + b) % 18446744073709551616 / e + 1 < 4294967296
+    computed_fits = factor_fits d (2 ^ b) _ above below (omega arith) factor_is
 
-  pub computed_divides : IsReciprocal d (1 * 2 ^ (32 + b) % 18446744073709551616 / e + 1) (32 + b)
-  computed_divides n h =
-      ap (λ (p : ℕ). n * (1 * 2 ^ (32 + b) % 18446744073709551616 / e + 1) / p) (pow-add 2 32 b)
-      ∙ factor_divides d (2 ^ b) _ above below (omega arith) factor_is n h
+    pub computed_divides : IsReciprocal d (1 * 2 ^ (32 + b) % 18446744073709551616 / e + 1) (32 + b)
+    computed_divides n h =
+        ap (λ (p : ℕ). n * (1 * 2 ^ (32 + b) % 18446744073709551616 / e + 1) / p) (pow-add 2 32 b)
+        ∙ factor_divides d (2 ^ b) _ above below (omega arith) factor_is n h

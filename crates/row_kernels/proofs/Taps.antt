@@ -16,7 +16,9 @@ pub wrapped_three : (a b c : ℤ) → wrapped (wrapped (wrapped a +ℤ wrapped b
 wrapped_three a b c = ap (λ (z : ℤ). wrapped (z +ℤ wrapped c)) (wrapped_two a b) ∙ wrapped_two (a +ℤ b) c
 
 -- three stencil
-pub three_taps : (f g h : ℤ) (line : List ℤ) (k : ℕ) → wrapped (wrapped (wrapped (f *ℤ at line k) +ℤ wrapped (g *ℤ at line (k + 1))) +ℤ wrapped (h *ℤ at line (k + 2))) ≡ wrapped (tap_sum (f ∷ g ∷ h ∷ []) line k)
+pub three_taps : (f g h : ℤ) (line : List ℤ) (k : ℕ)
+    → wrapped (wrapped (wrapped (f *ℤ at line k) +ℤ wrapped (g *ℤ at line (k + 1))) +ℤ wrapped (h *ℤ at line (k + 2)))
+    ≡ wrapped (tap_sum (f ∷ g ∷ h ∷ []) line k)
 three_taps f g h line k =
     wrapped_three (f *ℤ at line k) (g *ℤ at line (k + 1)) (h *ℤ at line (k + 2))
     ∙ λ i. wrapped (sym (+ℤ_idl (f *ℤ at line (sym (add-zero k) i))) i +ℤ g *ℤ at line (k + 1) +ℤ h *ℤ at line (k + 2))
@@ -38,7 +40,8 @@ tap_of_zero s x y e = e ∙ ap wrapped (sym (ap (λ (z : ℤ). s +ℤ z) (zero-*
 pub tap_of_one : (s x y t : ℤ) → x ≡ wrapped s → t ≡ wrapped (x +ℤ y) → t ≡ wrapped (s +ℤ pos 1 *ℤ y)
 unfolding one
 tap_of_one s x y t e h =
-    h ∙ ap (λ (z : ℤ). wrapped (z +ℤ y)) e ∙ int_wrap-add_left w32 s y ∙ ap (λ (z : ℤ). wrapped (s +ℤ z)) (sym (*ℤ_comm (pos 1) y ∙ *ℤ-one y))
+    h ∙ ap (λ (z : ℤ). wrapped (z +ℤ y)) e ∙ int_wrap-add_left w32 s y
+    ∙ ap (λ (z : ℤ). wrapped (s +ℤ z)) (sym (*ℤ_comm (pos 1) y ∙ *ℤ-one y))
 
 pub tap_of_other : (s x p t : ℤ) → x ≡ wrapped s → t ≡ wrapped (x +ℤ wrapped p) → t ≡ wrapped (s +ℤ p)
 tap_of_other s x p t e h = h ∙ ap (λ (z : ℤ). wrapped (z +ℤ wrapped p)) e ∙ wrapped_two s p

@@ -3,7 +3,8 @@ use Rattle.std.proofs.Common.{arith, ℕ, ℤ, ◌≡◌, ◌≢◌, ◌+◌, �
 use Rattle.row_kernels.specs.Rows.{EachPlace, at}
 
 -- a row that is right below k stays so, and is right at k once the number is written there
-pub EachPlace-more : (f : ℕ → ℤ) (out : List ℤ) (k : ℕ) (v : ℤ) → k < length out → v ≡ f k → EachPlace k (λ j. at out j ≡ f j) → EachPlace (k + 1) (λ j. at (slice_set out k v) j ≡ f j)
+pub EachPlace-more : (f : ℕ → ℤ) (out : List ℤ) (k : ℕ) (v : ℤ) → k < length out → v ≡ f k → EachPlace k (λ j. at out j ≡ f j)
+    → EachPlace (k + 1) (λ j. at (slice_set out k v) j ≡ f j)
 EachPlace-more f out k v lt e below =
     below_more (λ j. at (slice_set out k v) j ≡ f j) k
     (λ j h. let ne : j ≢ k = omega arith in rw get_or-set_other (below j h))

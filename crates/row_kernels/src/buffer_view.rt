@@ -84,7 +84,8 @@ impl<'a> BufferView<'a> {
     /// Writes the values along a row, from a column on.
     pub fn read_row(&self, row: i32, first: i32, out: &mut [i32])
         requires { EachPlace (length out.old) (λ k. HoldsPoint self.now.area row (first +ℤ pos k)) }
-        ensures { EachPlace (length out.old) (λ k. at out.new k ≡ at self.now.values.now (place_of self.now.area row (first +ℤ pos k))) }
+        ensures { EachPlace (length out.old) (λ k. at out.new k
+            ≡ at self.now.values.now (place_of self.now.area row (first +ℤ pos k))) }
     {
         out.copy_from_slice(self.slice(row, first, out.len()));
     }
@@ -93,7 +94,8 @@ impl<'a> BufferView<'a> {
     pub fn slice(&self, row: i32, first: i32, count: usize) -> &'a [i32]
         requires { EachPlace count (λ k. HoldsPoint self.now.area row (first +ℤ pos k)) }
         ensures count { length result.now ≡ count }
-        ensures values { EachPlace count (λ k. at result.now k ≡ at self.now.values.now (place_of self.now.area row (first +ℤ pos k))) }
+        ensures values { EachPlace count (λ k. at result.now k
+            ≡ at self.now.values.now (place_of self.now.area row (first +ℤ pos k))) }
     {
         if count == 0 {
             return &[];
@@ -104,8 +106,11 @@ impl<'a> BufferView<'a> {
     /// Writes the values along a row, at the columns that an index takes at the columns of some points.
     pub fn gather(&self, row: i32, col: &Index, points: &RowSpan, out: &mut [i32])
         requires fits { length out.old ≡ points.now.len }
-        requires there { EachPlace (length out.old) (λ k. HoldsPoint self.now.area row (index_at col.now (points.now.col +ℤ pos k))) }
-        ensures { EachPlace (length out.old) (λ k. at out.new k ≡ at self.now.values.now (place_of self.now.area row (index_at col.now (points.now.col +ℤ pos k)))) }
+        requires there { EachPlace (length out.old)
+            (λ k. HoldsPoint self.now.area row (index_at col.now (points.now.col +ℤ pos k))) }
+        ensures { EachPlace (length out.old) (λ k. at out.new k
+            ≡ at self.now.values.now
+            (place_of self.now.area row (index_at col.now (points.now.col +ℤ pos k)))) }
     {
         if col.div() == 1 && !out.is_empty() {
             self.step(row, col, points, out);
@@ -118,8 +123,11 @@ impl<'a> BufferView<'a> {
     fn step(&self, row: i32, col: &Index, points: &RowSpan, out: &mut [i32])
         requires div { col.now.div ≡ pos 1 }
         requires some { 0 < length out.old }
-        requires there { EachPlace (length out.old) (λ k. HoldsPoint self.now.area row (index_at col.now (points.now.col +ℤ pos k))) }
-        ensures { EachPlace (length out.old) (λ k. at out.new k ≡ at self.now.values.now (place_of self.now.area row (index_at col.now (points.now.col +ℤ pos k)))) }
+        requires there { EachPlace (length out.old)
+            (λ k. HoldsPoint self.now.area row (index_at col.now (points.now.col +ℤ pos k))) }
+        ensures { EachPlace (length out.old) (λ k. at out.new k
+            ≡ at self.now.values.now
+            (place_of self.now.area row (index_at col.now (points.now.col +ℤ pos k)))) }
     {
         let place = self.place(row, points.col_at(col));
         take_every(self.values, place, step_of(col), out);
@@ -128,8 +136,11 @@ impl<'a> BufferView<'a> {
     // The same of any index, each place looked up.
     fn look_up(&self, row: i32, col: &Index, points: &RowSpan, out: &mut [i32])
         requires fits { length out.old ≡ points.now.len }
-        requires there { EachPlace (length out.old) (λ k. HoldsPoint self.now.area row (index_at col.now (points.now.col +ℤ pos k))) }
-        ensures { EachPlace (length out.old) (λ k. at out.new k ≡ at self.now.values.now (place_of self.now.area row (index_at col.now (points.now.col +ℤ pos k)))) }
+        requires there { EachPlace (length out.old)
+            (λ k. HoldsPoint self.now.area row (index_at col.now (points.now.col +ℤ pos k))) }
+        ensures { EachPlace (length out.old) (λ k. at out.new k
+            ≡ at self.now.values.now
+            (place_of self.now.area row (index_at col.now (points.now.col +ℤ pos k)))) }
     {
         for k in 0..out.len() {
             out[k] = self.sample(row, col.at(points.column(k)));

@@ -123,7 +123,8 @@ fn next_left(left: u32, modulus: u32) -> u32
     requires modulus { IsDivisor modulus }
     requires below { left < modulus }
     ensures below { result < modulus }
-    ensures next { (v : ℤ) → pos left ≡ floor_rem v (pos modulus) → pos result ≡ floor_rem (v +ℤ pos 1) (pos modulus) }
+    ensures next { (v : ℤ) → pos left ≡ floor_rem v (pos modulus)
+        → pos result ≡ floor_rem (v +ℤ pos 1) (pos modulus) }
 {
     if left + 1 == modulus { 0 } else { left + 1 }
 }
@@ -132,7 +133,9 @@ fn next_left(left: u32, modulus: u32) -> u32
 fn take_leaving(out: &mut [i32], other: &[i32], modulus: u32, rest: u32, points: &RowSpan)
     requires other { length other.now ≡ length out.old }
     requires modulus { IsDivisor modulus }
-    ensures { EachPlace (length out.old) (λ k. at out.new k ≡ (if int_eq (floor_rem (points.now.col +ℤ pos k) (pos modulus)) (pos rest) then at other.now k else at out.old k)) }
+    ensures { EachPlace (length out.old) (λ k. at out.new k
+        ≡ (if int_eq (floor_rem (points.now.col +ℤ pos k) (pos modulus)) (pos rest)
+        then at other.now k else at out.old k)) }
 {
     let mut left = left_of(points.col, modulus);
     for k in 0..out.len() {
@@ -146,7 +149,9 @@ fn take_passed(out: &mut [i32], other: &[i32], tests: &[Test], points: &RowSpan)
     requires other { length other.now ≡ length out.old }
     requires tests { All (λ t. IsTest (test_view t)) tests.now }
     requires fits { length out.old ≡ points.now.len }
-    ensures { EachPlace (length out.old) (λ k. at out.new k ≡ (if all_passed (map test_view tests.now) points.now.row (points.now.col +ℤ pos k) then at other.now k else at out.old k)) }
+    ensures { EachPlace (length out.old) (λ k. at out.new k
+        ≡ (if all_passed (map test_view tests.now) points.now.row (points.now.col +ℤ pos k)
+        then at other.now k else at out.old k)) }
 {
     for k in 0..out.len() {
         if all_pass(tests, points.row, points.column(k)) {
@@ -160,9 +165,12 @@ pub fn take_where(out: &mut [i32], other: &[i32], tests: &[Test], passed: RowMas
     requires other { length other.now ≡ length out.old }
     requires tests { All (λ t. IsTest (test_view t)) tests.now }
     requires fits { length out.old ≡ points.now.len }
-    requires bounds { EachPlace (length out.old) (λ k. BoundsHold (map test_view tests.now) points.now.row (points.now.col +ℤ pos k)) }
+    requires bounds { EachPlace (length out.old)
+        (λ k. BoundsHold (map test_view tests.now) points.now.row (points.now.col +ℤ pos k)) }
     requires passed { HoldsWhere passed (map test_view tests.now) points.now.row }
-    ensures { EachPlace (length out.old) (λ k. at out.new k ≡ (if all_passed (map test_view tests.now) points.now.row (points.now.col +ℤ pos k) then at other.now k else at out.old k)) }
+    ensures { EachPlace (length out.old) (λ k. at out.new k
+        ≡ (if all_passed (map test_view tests.now) points.now.row (points.now.col +ℤ pos k)
+        then at other.now k else at out.old k)) }
 {
     match passed {
         RowMask::Leaving(modulus, rest) => take_leaving(out, other, modulus, rest, points),

@@ -39,7 +39,8 @@ pub fn count_up(out: &mut [i32], first: i32)
 /// Adds the other row.
 pub fn add(out: &mut [i32], other: &[i32])
     requires { length other.now ≡ length out.old }
-    ensures { EachPlace (length out.old) (λ k. at out.new k ≡ wrapped (at out.old k +ℤ at other.now k)) }
+    ensures { EachPlace (length out.old)
+        (λ k. at out.new k ≡ wrapped (at out.old k +ℤ at other.now k)) }
 {
     for k in 0..out.len() {
         out[k] = wrapping_add(out[k], other[k]);
@@ -49,7 +50,8 @@ pub fn add(out: &mut [i32], other: &[i32])
 /// Subtracts the other row.
 pub fn subtract(out: &mut [i32], other: &[i32])
     requires { length other.now ≡ length out.old }
-    ensures { EachPlace (length out.old) (λ k. at out.new k ≡ wrapped (at out.old k -ℤ at other.now k)) }
+    ensures { EachPlace (length out.old)
+        (λ k. at out.new k ≡ wrapped (at out.old k -ℤ at other.now k)) }
 {
     for k in 0..out.len() {
         out[k] = wrapping_sub(out[k], other[k]);
@@ -59,7 +61,8 @@ pub fn subtract(out: &mut [i32], other: &[i32])
 /// Multiplies by the other row.
 pub fn multiply(out: &mut [i32], other: &[i32])
     requires { length other.now ≡ length out.old }
-    ensures { EachPlace (length out.old) (λ k. at out.new k ≡ wrapped (at out.old k *ℤ at other.now k)) }
+    ensures { EachPlace (length out.old)
+        (λ k. at out.new k ≡ wrapped (at out.old k *ℤ at other.now k)) }
 {
     for k in 0..out.len() {
         out[k] = wrapping_mul(out[k], other[k]);
@@ -69,7 +72,8 @@ pub fn multiply(out: &mut [i32], other: &[i32])
 /// Keeps the lesser number of the two rows.
 pub fn least(out: &mut [i32], other: &[i32])
     requires { length other.now ≡ length out.old }
-    ensures { EachPlace (length out.old) (λ k. at out.new k ≡ int_min (at out.old k) (at other.now k)) }
+    ensures { EachPlace (length out.old)
+        (λ k. at out.new k ≡ int_min (at out.old k) (at other.now k)) }
 {
     for k in 0..out.len() {
         out[k] = out[k].min(other[k]);
@@ -79,7 +83,8 @@ pub fn least(out: &mut [i32], other: &[i32])
 /// Keeps the greater number of the two rows.
 pub fn greatest(out: &mut [i32], other: &[i32])
     requires { length other.now ≡ length out.old }
-    ensures { EachPlace (length out.old) (λ k. at out.new k ≡ int_max (at out.old k) (at other.now k)) }
+    ensures { EachPlace (length out.old)
+        (λ k. at out.new k ≡ int_max (at out.old k) (at other.now k)) }
 {
     for k in 0..out.len() {
         out[k] = out[k].max(other[k]);
@@ -97,7 +102,8 @@ pub fn negate(out: &mut [i32])
 
 /// Each number becomes its absolute value.
 pub fn make_absolute(out: &mut [i32])
-    ensures { EachPlace (length out.old) (λ k. at out.new k ≡ wrapped (pos (unsigned_abs (at out.old k)))) }
+    ensures { EachPlace (length out.old)
+        (λ k. at out.new k ≡ wrapped (pos (unsigned_abs (at out.old k)))) }
 {
     for k in 0..out.len() {
         out[k] = wrapping_abs(out[k]);
@@ -106,7 +112,8 @@ pub fn make_absolute(out: &mut [i32])
 
 /// Divides each number, rounded down.
 fn divide(out: &mut [i32], reciprocal: Reciprocal)
-    ensures { EachPlace (length out.old) (λ k. at out.new k ≡ floor_div (at out.old k) (pos reciprocal.divisor)) }
+    ensures { EachPlace (length out.old)
+        (λ k. at out.new k ≡ floor_div (at out.old k) (pos reciprocal.divisor)) }
 {
     for k in 0..out.len() {
         out[k] = reciprocal.floor_quotient(out[k]);
@@ -116,7 +123,8 @@ fn divide(out: &mut [i32], reciprocal: Reciprocal)
 /// Divides each number by a number of a text, rounded down.
 pub fn divide_by(out: &mut [i32], number: u32)
     requires { IsDivisor number }
-    ensures { EachPlace (length out.old) (λ k. at out.new k ≡ floor_div (at out.old k) (pos number)) }
+    ensures { EachPlace (length out.old)
+        (λ k. at out.new k ≡ floor_div (at out.old k) (pos number)) }
 {
     if number == 1 {
         return;
@@ -131,7 +139,8 @@ pub fn divide_by(out: &mut [i32], number: u32)
 
 /// Each number becomes what its division, rounded down, leaves.
 fn leave_rests(out: &mut [i32], reciprocal: Reciprocal)
-    ensures { EachPlace (length out.old) (λ k. at out.new k ≡ floor_rem (at out.old k) (pos reciprocal.divisor)) }
+    ensures { EachPlace (length out.old)
+        (λ k. at out.new k ≡ floor_rem (at out.old k) (pos reciprocal.divisor)) }
 {
     for k in 0..out.len() {
         out[k] = reciprocal.floor_rest(out[k]);
@@ -153,7 +162,8 @@ pub fn leave_remainder(out: &mut [i32], divisor: i32)
 /// Multiplies each number with a power of two.
 pub fn shift_left(out: &mut [i32], count: u32)
     requires { count < 32 }
-    ensures { EachPlace (length out.old) (λ k. at out.new k ≡ wrapped (at out.old k *ℤ pos (2 ^ count))) }
+    ensures { EachPlace (length out.old)
+        (λ k. at out.new k ≡ wrapped (at out.old k *ℤ pos (2 ^ count))) }
 {
     for k in 0..out.len() {
         out[k] = wrapping_shl(out[k], count);
@@ -163,7 +173,8 @@ pub fn shift_left(out: &mut [i32], count: u32)
 /// Divides each number by a power of two, rounded down.
 pub fn shift_right(out: &mut [i32], count: u32)
     requires { count < 32 }
-    ensures { EachPlace (length out.old) (λ k. at out.new k ≡ floor_div (at out.old k) (pos (2 ^ count))) }
+    ensures { EachPlace (length out.old)
+        (λ k. at out.new k ≡ floor_div (at out.old k) (pos (2 ^ count))) }
 {
     for k in 0..out.len() {
         out[k] = shr(out[k], count);
@@ -174,7 +185,8 @@ pub fn shift_right(out: &mut [i32], count: u32)
 pub fn cut(out: &mut [i32], low: &[i32], high: &[i32])
     requires low { length low.now ≡ length out.old }
     requires high { length high.now ≡ length out.old }
-    ensures { EachPlace (length out.old) (λ k. at out.new k ≡ clamped (at out.old k) (at low.now k) (at high.now k)) }
+    ensures { EachPlace (length out.old)
+        (λ k. at out.new k ≡ clamped (at out.old k) (at low.now k) (at high.now k)) }
 {
     greatest(out, low);
     least(out, high);
@@ -183,7 +195,8 @@ pub fn cut(out: &mut [i32], low: &[i32], high: &[i32])
 /// Adds the other row, a number of times.
 pub fn add_scaled(out: &mut [i32], other: &[i32], factor: i32)
     requires { length other.now ≡ length out.old }
-    ensures { EachPlace (length out.old) (λ k. at out.new k ≡ wrapped (at out.old k +ℤ wrapped (factor *ℤ at other.now k))) }
+    ensures { EachPlace (length out.old)
+        (λ k. at out.new k ≡ wrapped (at out.old k +ℤ wrapped (factor *ℤ at other.now k))) }
 {
     for k in 0..out.len() {
         out[k] = wrapping_add(out[k], wrapping_mul(factor, other[k]));
@@ -195,7 +208,8 @@ pub fn keep_at_most(out: &mut [i32], a: &[i32], b: &[i32], other: &[i32])
     requires a { length a.now ≡ length out.old }
     requires b { length b.now ≡ length out.old }
     requires other { length other.now ≡ length out.old }
-    ensures { EachPlace (length out.old) (λ k. at out.new k ≡ (if int_le (at a.now k) (at b.now k) then at out.old k else at other.now k)) }
+    ensures { EachPlace (length out.old) (λ k. at out.new k
+        ≡ (if int_le (at a.now k) (at b.now k) then at out.old k else at other.now k)) }
 {
     for k in 0..out.len() {
         out[k] = if a[k] <= b[k] { out[k] } else { other[k] };
@@ -207,7 +221,8 @@ pub fn keep_equal(out: &mut [i32], a: &[i32], b: &[i32], other: &[i32])
     requires a { length a.now ≡ length out.old }
     requires b { length b.now ≡ length out.old }
     requires other { length other.now ≡ length out.old }
-    ensures { EachPlace (length out.old) (λ k. at out.new k ≡ (if int_eq (at a.now k) (at b.now k) then at out.old k else at other.now k)) }
+    ensures { EachPlace (length out.old) (λ k. at out.new k
+        ≡ (if int_eq (at a.now k) (at b.now k) then at out.old k else at other.now k)) }
 {
     for k in 0..out.len() {
         out[k] = if a[k] == b[k] { out[k] } else { other[k] };
@@ -219,7 +234,9 @@ pub fn keep_related(out: &mut [i32], a: &[i32], relation: Relation, b: &[i32], o
     requires a { length a.now ≡ length out.old }
     requires b { length b.now ≡ length out.old }
     requires other { length other.now ≡ length out.old }
-    ensures { EachPlace (length out.old) (λ k. at out.new k ≡ (if is_related relation (at a.now k) (at b.now k) then at out.old k else at other.now k)) }
+    ensures { EachPlace (length out.old) (λ k. at out.new k
+        ≡ (if is_related relation (at a.now k) (at b.now k) then at out.old k
+        else at other.now k)) }
 {
     match relation {
         Relation::AtMost => keep_at_most(out, a, b, other),

@@ -12,7 +12,8 @@ use domains::{BinaryOp, LiteralOp};
 /// Joins a row with the row of the right operands.
 pub fn combine(op: BinaryOp, out: &mut [i32], right: &[i32])
     requires { length right.now ≡ length out.old }
-    ensures { EachPlace (length out.old) (λ k. at out.new k ≡ binary_value op (at out.old k) (at right.now k)) }
+    ensures { EachPlace (length out.old)
+        (λ k. at out.new k ≡ binary_value op (at out.old k) (at right.now k)) }
 {
     match op {
         BinaryOp::Add => kernels::add(out, right),
@@ -25,7 +26,8 @@ pub fn combine(op: BinaryOp, out: &mut [i32], right: &[i32])
 
 /// Joins a row with one number, the right operand of each.
 pub fn combine_number(op: BinaryOp, out: &mut [i32], number: i32)
-    ensures { EachPlace (length out.old) (λ k. at out.new k ≡ binary_value op (at out.old k) number) }
+    ensures { EachPlace (length out.old)
+        (λ k. at out.new k ≡ binary_value op (at out.old k) number) }
 {
     match op {
         BinaryOp::Add => constants::add_number(out, number),
@@ -39,7 +41,8 @@ pub fn combine_number(op: BinaryOp, out: &mut [i32], number: i32)
 /// Joins a row with a number of the text.
 pub fn combine_literal(op: LiteralOp, out: &mut [i32], number: u32)
     requires { IsLiteral op number }
-    ensures { EachPlace (length out.old) (λ k. at out.new k ≡ literal_value op (at out.old k) number) }
+    ensures { EachPlace (length out.old)
+        (λ k. at out.new k ≡ literal_value op (at out.old k) number) }
 {
     match op {
         LiteralOp::Div => kernels::divide_by(out, number),

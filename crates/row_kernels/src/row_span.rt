@@ -137,7 +137,8 @@ impl RowSpan {
     /// The columns of the points.
     pub fn columns(&self) -> Option<Span>
         requires { 0 < self.now.len }
-        ensures { result ≡ Some (record { lo = self.now.col; hi = self.now.col +ℤ pos self.now.len -ℤ pos 1 }) }
+        ensures { result
+            ≡ Some (record { lo = self.now.col; hi = self.now.col +ℤ pos self.now.len -ℤ pos 1 }) }
     {
         Span::new(self.col, self.column(self.len - 1))
     }

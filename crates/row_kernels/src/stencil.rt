@@ -12,7 +12,8 @@ use crate::stencil3x3::Triple;
 // Adds the products of a factor and the samples of a line.
 fn add_tap(out: &mut [i32], line: &[i32], factor: i32)
     requires { length line.now ≡ length out.old }
-    ensures { EachPlace (length out.old) (λ k. (s : ℤ) → at out.old k ≡ wrapped s → at out.new k ≡ wrapped (s +ℤ factor *ℤ at line.now k)) }
+    ensures { EachPlace (length out.old) (λ k. (s : ℤ) → at out.old k ≡ wrapped s
+        → at out.new k ≡ wrapped (s +ℤ factor *ℤ at line.now k)) }
 {
     match factor {
         0 => {}
@@ -24,7 +25,8 @@ fn add_tap(out: &mut [i32], line: &[i32], factor: i32)
 // Adds the products of factors and the samples of a line, a factor at a time.
 fn add_each_tap(out: &mut [i32], line: &[i32], factors: &[i32])
     requires { length line.now + 1 ≡ length out.old + length factors.now }
-    ensures { EachPlace (length out.old) (λ k. (s : ℤ) → at out.old k ≡ wrapped s → at out.new k ≡ wrapped (s +ℤ tap_sum factors.now line.now k)) }
+    ensures { EachPlace (length out.old) (λ k. (s : ℤ) → at out.old k ≡ wrapped s
+        → at out.new k ≡ wrapped (s +ℤ tap_sum factors.now line.now k)) }
 {
     for b in 0..factors.len() {
         add_tap(out, &line[b..b + out.len()], factors[b]);
@@ -34,7 +36,8 @@ fn add_each_tap(out: &mut [i32], line: &[i32], factors: &[i32])
 /// Adds the products of factors and the samples of a line, which begins with those of the first factor.
 pub fn add_taps(out: &mut [i32], line: &[i32], factors: &[i32])
     requires { length line.now + 1 ≡ length out.old + length factors.now }
-    ensures { EachPlace (length out.old) (λ k. (s : ℤ) → at out.old k ≡ wrapped s → at out.new k ≡ wrapped (s +ℤ tap_sum factors.now line.now k)) }
+    ensures { EachPlace (length out.old) (λ k. (s : ℤ) → at out.old k ≡ wrapped s
+        → at out.new k ≡ wrapped (s +ℤ tap_sum factors.now line.now k)) }
 {
     match Triple::of(factors) {
         Some(triple) => triple.add_sums(out, line),

@@ -58,7 +58,8 @@ impl Triple {
     /// Adds at each place the factors times the numbers from there on.
     pub fn add_sums(self, out: &mut [i32], line: &[i32])
         requires { length line.now ≡ length out.old + 2 }
-        ensures { EachPlace (length out.old) (λ k. at out.new k ≡ wrapped (at out.old k +ℤ wrapped (tap_sum self line.now k))) }
+        ensures { EachPlace (length out.old)
+            (λ k. at out.new k ≡ wrapped (at out.old k +ℤ wrapped (tap_sum self line.now k))) }
     {
         for k in 0..out.len() {
             out[k] = wrapping_add(out[k], self.sum(line, k));
@@ -105,7 +106,10 @@ impl Kernel3x3 {
         requires top { k + 2 < length top.now }
         requires middle { k + 2 < length middle.now }
         requires bottom { k + 2 < length bottom.now }
-        ensures { result ≡ wrapped (tap_sum (factors self.now 0) top.now k +ℤ tap_sum (factors self.now 1) middle.now k +ℤ tap_sum (factors self.now 2) bottom.now k) }
+        ensures { result
+            ≡ wrapped (tap_sum (factors self.now 0) top.now k
+            +ℤ tap_sum (factors self.now 1) middle.now k
+            +ℤ tap_sum (factors self.now 2) bottom.now k) }
     {
         let sum = wrapping_add(self.top.sum(top, k), self.middle.sum(middle, k));
         wrapping_add(sum, self.bottom.sum(bottom, k))
@@ -116,7 +120,9 @@ impl Kernel3x3 {
         requires top { length top.now ≡ length out.old + 2 }
         requires middle { length middle.now ≡ length out.old + 2 }
         requires bottom { length bottom.now ≡ length out.old + 2 }
-        ensures { EachPlace (length out.old) (λ k. at out.new k ≡ wrapped (tap_sum (factors self 0) top.now k +ℤ tap_sum (factors self 1) middle.now k +ℤ tap_sum (factors self 2) bottom.now k)) }
+        ensures { EachPlace (length out.old) (λ k. at out.new k
+            ≡ wrapped (tap_sum (factors self 0) top.now k +ℤ tap_sum (factors self 1) middle.now k
+            +ℤ tap_sum (factors self 2) bottom.now k)) }
     {
         for k in 0..out.len() {
             out[k] = self.sum(top, middle, bottom, k);

@@ -33,10 +33,12 @@ pub fn read_whole<R: Source>(
     reader: &mut R,
     limit: usize,
 ) -> Result<Vec<u8>, SourceFault>
-    ensures whole { IfOk result (λ bytes. IfSome (R.remaining reader.old) (λ all. bytes.items ≡ all)) }
+    ensures whole { IfOk result
+        (λ bytes. IfSome (R.remaining reader.old) (λ all. bytes.items ≡ all)) }
     ensures end { OnOk result (IsAtEnd (R.remaining reader.new)) }
     ensures within { IfOk result (λ bytes. vec_len bytes ≤ limit) }
-    ensures too_long { IsErrOf result SourceFault.TooLong → IfSome (R.remaining reader.old) (λ all. limit < length all) }
+    ensures too_long { IsErrOf result SourceFault.TooLong
+        → IfSome (R.remaining reader.old) (λ all. limit < length all) }
     ensures failed { CountsWholeRead result (R.failures reader.old) (R.failures reader.new) }
 {
     let mut piece = [0u8; PIECE];
@@ -59,7 +61,8 @@ pub fn read_whole<R: Source>(
 /// Writes all of the bytes, in as many calls as the writer needs.
 pub fn write_whole<W: Sink>(writer: &mut W, bytes: &[u8]) -> Result<(), WriteFailed>
     ensures ok { OnOk result (Appends (W.contents writer.old) (W.contents writer.new) bytes.now) }
-    ensures part { OnErr result (AppendsPart (W.contents writer.old) (W.contents writer.new) bytes.now) }
+    ensures part { OnErr result
+        (AppendsPart (W.contents writer.old) (W.contents writer.new) bytes.now) }
     ensures failed { CountsFailure result (W.failures writer.old) (W.failures writer.new) }
 {
     let mut done = 0;

@@ -43,10 +43,14 @@ cut_holds P domain None r c cut h = absurd h
 cut_holds P domain (Some box) r c cut h = ((cut r c).0 h).1
 
 -- a case with the box of its tests is ready where its reads are there
-case_ready : (has : ℕ → ℤ → ℤ → Type 0) (domain : Area) (p : JobCase) (r c : ℤ) → p.box ≡ box_of domain p.tests → HoldsPoint domain r c → CaseReads has p r c → IsReady has p r c
+case_ready : (has : ℕ → ℤ → ℤ → Type 0) (domain : Area) (p : JobCase) (r c : ℤ) → p.box ≡ box_of domain p.tests → HoldsPoint domain r c
+    → CaseReads has p r c → IsReady has p r c
 case_ready has domain p r c is inside reads = record {
-  passed = λ e. let there = passed_in_box domain p.tests r c inside e in subst (λ (o : Option Area). InBox o r c) (sym (is ∙ there.1)) there.2;
-  bounds = λ h. cut_holds (BoundsHold p.tests) domain p.box r c (subst (IsCut (BoundsHold p.tests) domain) (sym is) (box_is_cut domain p.tests)) h;
+  passed =
+      λ e. let there = passed_in_box domain p.tests r c inside e in subst (λ (o : Option Area). InBox o r c) (sym (is ∙ there.1)) there.2;
+  bounds =
+      λ h. cut_holds (BoundsHold p.tests) domain p.box r c (subst (IsCut (BoundsHold p.tests) domain) (sym is) (box_is_cut domain p.tests))
+      h;
   reads = λ h. let there = in_some p.box r c h in reads there.0 there.1 there.2;
 }
 
@@ -63,28 +67,35 @@ pub record IsLaid (area : Area) (row col : ℤ) (rows cols : ℕ) : Type 0 where
 
 -- a case is ready at each of so many rows and columns from a point on, and there is room for it
 abbrev pub IsReadyOver : (ℕ → ℤ → ℤ → Type 0) → ℤ → ℤ → ℕ → ℕ → ℕ → JobCase → Type 0
-IsReadyOver has row col rows cols room p = ((i k : ℕ) → i < rows → k < cols → IsReady has p (row +ℤ pos i) (col +ℤ pos k)) × IsRoomy cols room p
+IsReadyOver has row col rows cols room p =
+    ((i k : ℕ) → i < rows → k < cols → IsReady has p (row +ℤ pos i) (col +ℤ pos k)) × IsRoomy cols room p
 
-module _ (has : ℕ → ℤ → ℤ → Type 0) (area : Area) (ps : List JobCase) (o : Option Formula) (row col : ℤ) (rows cols room : ℕ) (laid : IsLaid area row col rows cols) where
+module _ (has : ℕ → ℤ → ℤ → Type 0) (area : Area) (ps : List JobCase) (o : Option Formula) (row col : ℤ) (rows cols room : ℕ)
+    (laid : IsLaid area row col rows cols) where
   inside : (i k : ℕ) → i < rows → k < cols → HoldsPoint area (row +ℤ pos i) (col +ℤ pos k)
   inside i k li lk = (
     holds_from area.rows row rows i laid.top laid.height laid.near_rows li,
     holds_from area.cols col cols k laid.left laid.width laid.near_cols lk,
   )
 
-  pub cases_ready : All (λ p. All IsTest p.tests) ps → All IsFormula (formulas_of (function ps o)) → AreBoxedAround area (function ps o) → ((r c : ℤ) → HoldsPoint area r c → BodyReads has (function ps o) r c) → HasFunctionRoom (len_of area.cols) room ps o
+  pub cases_ready : All (λ p. All IsTest p.tests) ps → All IsFormula (formulas_of (function ps o)) → AreBoxedAround area (function ps o)
+      → ((r c : ℤ) → HoldsPoint area r c → BodyReads has (function ps o) r c) → HasFunctionRoom (len_of area.cols) room ps o
       → All (IsReadyOver has row col rows cols room) ps
   cases_ready tests formulas boxed reads is =
       let fits : HasFunctionRoom cols room ps o = subst (λ (n : ℕ). HasFunctionRoom n room ps o) (sym laid.width) is in
-      let each : All (λ p. IsFormula p.formula) ps = All-from_map IsFormula (λ p. p.formula) ps (All-left IsFormula (map (λ p. p.formula) ps) (other_formula o) formulas) in
+      let each : All (λ p. IsFormula p.formula) ps =
+      All-from_map IsFormula (λ p. p.formula) ps (All-left IsFormula (map (λ p. p.formula) ps) (other_formula o) formulas) in
       λ n d l. (
-        (λ i k li lk. case_ready has boxed.0 (slice_index_or ps n d) (row +ℤ pos i) (col +ℤ pos k) (boxed.2 n d l) (boxed.1 (row +ℤ pos i) (col +ℤ pos k) (inside i k li lk)) ((reads (row +ℤ pos i) (col +ℤ pos k) (inside i k li lk)).0 n d l)),
+        (λ i k li lk. case_ready has boxed.0 (slice_index_or ps n d) (row +ℤ pos i) (col +ℤ pos k) (boxed.2 n d l)
+            (boxed.1 (row +ℤ pos i) (col +ℤ pos k) (inside i k li lk)) ((reads (row +ℤ pos i) (col +ℤ pos k) (inside i k li lk)).0 n d l)),
         record { formula = each n d l; tests = tests n d l; row = fits.row; operands = fits.operands n d l },
       )
 
   -- what holds elsewhere is there at each point, and there is room for it
-  pub other_ready : All IsFormula (formulas_of (function ps o)) → ((r c : ℤ) → HoldsPoint area r c → BodyReads has (function ps o) r c) → HasFunctionRoom (len_of area.cols) room ps o
-      → ForSome o (λ f. ((i k : ℕ) → i < rows → k < cols → EachRead has f (row +ℤ pos i) (col +ℤ pos k)) × IsFormula f × HasRoom f cols room)
+  pub other_ready : All IsFormula (formulas_of (function ps o)) → ((r c : ℤ) → HoldsPoint area r c → BodyReads has (function ps o) r c)
+      → HasFunctionRoom (len_of area.cols) room ps o
+      → ForSome o
+      (λ f. ((i k : ℕ) → i < rows → k < cols → EachRead has f (row +ℤ pos i) (col +ℤ pos k)) × IsFormula f × HasRoom f cols room)
   other_ready formulas reads is = λ f there.
       let fits : HasFunctionRoom cols room ps o = subst (λ (n : ℕ). HasFunctionRoom n room ps o) (sym laid.width) is in (
         (λ i k li lk. (reads (row +ℤ pos i) (col +ℤ pos k) (inside i k li lk)).1 f there),
@@ -93,7 +104,8 @@ module _ (has : ℕ → ℤ → ℤ → Type 0) (area : Area) (ps : List JobCase
       )
 
 -- numbers that are right at each row and column are the values on it
-pub raster_from : (area : Area) (f : ℤ → ℤ → ℤ) (row col : ℤ) (rows cols : ℕ) (xs : List ℤ) → IsLaid area row col rows cols → length xs ≡ point_count area
+pub raster_from : (area : Area) (f : ℤ → ℤ → ℤ) (row col : ℤ) (rows cols : ℕ) (xs : List ℤ) → IsLaid area row col rows cols
+    → length xs ≡ point_count area
     → ((i : ℕ) → i < rows → EachPlace cols (λ k. at xs (i * cols + k) ≡ f (row +ℤ pos i) (col +ℤ pos k)))
     → xs ≡ raster area f
 raster_from area f row col rows cols xs laid len right = raster_of area f xs len (λ i k li lk.

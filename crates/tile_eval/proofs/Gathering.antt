@@ -23,7 +23,8 @@ odd_positive zero h = absurd (cc)
 odd_positive (suc n) h = omega arith
 
 -- the rows of a kernel have its width
-pub row_width : (kernel : List (List ℤ)) (a : ℕ) → IsKernel kernel → a < length kernel → length (factors kernel a) ≡ length (factors kernel 0)
+pub row_width : (kernel : List (List ℤ)) (a : ℕ) → IsKernel kernel → a < length kernel
+    → length (factors kernel a) ≡ length (factors kernel 0)
 row_width kernel a is l = width_is (length (factors kernel 0)) kernel a l is.one_width
 
 pub row_positive : (kernel : List (List ℤ)) (a : ℕ) → IsKernel kernel → a < length kernel → 0 < length (factors kernel a)
@@ -54,12 +55,14 @@ module _ (has : ℕ → ℤ → ℤ → Type 0) (r c : ℤ) (n : ℕ) where
   first : (x : Read) → Along (x ∷ []) → (k : ℕ) → k < n → EachTaken has x r (c +ℤ pos k)
   first x h k l = All-head (λ y. EachTaken has y r (c +ℤ pos k)) x [] (h k l)
 
-  under_kernel : (g : ℕ) (kernel : List (List ℤ)) → 0 < n → IsKernel kernel → Along (window g kernel ∷ []) → KernelWithin (has g) kernel r c n
+  under_kernel : (g : ℕ) (kernel : List (List ℤ)) → 0 < n → IsKernel kernel → Along (window g kernel ∷ [])
+      → KernelWithin (has g) kernel r c n
   under_kernel g kernel some is h a j la lj = by (cases_lt j n)
     where
       at_tap : (k b : ℕ) → k < n → b < length (factors kernel a) → k + b ≡ j → has g (kernel_row kernel r a) (kernel_column kernel c j)
       at_tap k b lk lb e =
-          subst (λ (v : ℤ). has g (kernel_row kernel r a) v) (sym (under_shifted c (length (factors kernel 0)) k b) ∙ ap (λ (i : ℕ). under c (length (factors kernel 0)) i) e)
+          subst (λ (v : ℤ). has g (kernel_row kernel r a) v)
+          (sym (under_shifted c (length (factors kernel 0)) k b) ∙ ap (λ (i : ℕ). under c (length (factors kernel 0)) i) e)
           (first (window g kernel) h k lk a b la lb)
 
       by : (j < n) ⊎ (n ≤ j) → has g (kernel_row kernel r a) (kernel_column kernel c j)
@@ -71,7 +74,8 @@ module _ (has : ℕ → ℤ → ℤ → Type 0) (r c : ℤ) (n : ℕ) where
   reads_along (coordinate x) some is h = tt
   reads_along (read g i j) some is h = first (point g i j) h
   reads_along (neg a) some is h = reads_along a some is h
-  reads_along (binary op a b) some is h = (reads_along a some is.0 (front (reads_in a) (reads_in b) h), reads_along b some is.1 (back (reads_in a) (reads_in b) h))
+  reads_along (binary op a b) some is h =
+      (reads_along a some is.0 (front (reads_in a) (reads_in b) h), reads_along b some is.1 (back (reads_in a) (reads_in b) h))
   reads_along (literal op a m) some is h = reads_along a some is.1 h
   reads_along (abs a) some is h = reads_along a some is h
   reads_along (clamp a low high) some is h =

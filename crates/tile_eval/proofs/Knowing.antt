@@ -26,7 +26,8 @@ use Rattle.tile_eval.proofs.Rasters.{raster_len, raster_at, raster_same}
 -- ---- the values of a stage
 
 -- the values of a stage that is there
-pub stage_values_is : (job : Pipeline) (g : ℕ) (s : Stage) → slice_get job.stages g ≡ Some s → stage_values job g ≡ values_on job g s.domain s.body
+pub stage_values_is : (job : Pipeline) (g : ℕ) (s : Stage) → slice_get job.stages g ≡ Some s
+    → stage_values job g ≡ values_on job g s.domain s.body
 stage_values_is job g s there = ap (λ (o : Option Stage). option_map_or (λ t. values_on job g t.domain t.body) o []) there
 
 -- the values of a stage that has some
@@ -36,8 +37,10 @@ values_on_is job g domain (function cases otherwise) is = refl
 values_on_is job g domain (accumulator fold bins value bin) is = absurd is
 
 -- a stage that has values has one at each point of its domain
-pub values_long : (job : Pipeline) (g : ℕ) (s : Stage) → slice_get job.stages g ≡ Some s → IsValued s.body → length (stage_values job g) ≡ point_count s.domain
-values_long job g s there valued = ap length (stage_values_is job g s there ∙ values_on_is job g s.domain s.body valued) ∙ raster_len s.domain (value job g)
+pub values_long : (job : Pipeline) (g : ℕ) (s : Stage) → slice_get job.stages g ≡ Some s → IsValued s.body
+    → length (stage_values job g) ≡ point_count s.domain
+values_long job g s there valued =
+    ap length (stage_values_is job g s there ∙ values_on_is job g s.domain s.body valued) ∙ raster_len s.domain (value job g)
 
 -- ---- one stage
 
@@ -52,11 +55,13 @@ domain_valued domain (plane n) is = refl
 domain_valued domain (function cases otherwise) is = refl
 domain_valued domain (accumulator fold bins value bin) is = absurd is
 
-pub whole_valued : (job : Pipeline) (g : ℕ) (s : Stage) (whole : Buffer) → slice_get job.stages g ≡ Some s → IsWholeOf job g whole → IsValued s.body × (whole.area ≡ s.domain)
+pub whole_valued : (job : Pipeline) (g : ℕ) (s : Stage) (whole : Buffer) → slice_get job.stages g ≡ Some s → IsWholeOf job g whole
+    → IsValued s.body × (whole.area ≡ s.domain)
 whole_valued job g s whole there h = valued_domain s.domain whole.area s.body (sym (ap stage_area there) ∙ h.0)
 
 -- the values are those of the stage of this number
-pub whole_is : (job : Pipeline) (g : ℕ) (s : Stage) (whole : Buffer) → slice_get job.stages g ≡ Some s → IsWholeOf job g whole → (whole.area ≡ s.domain) × (whole.values.items ≡ raster s.domain (value job g))
+pub whole_is : (job : Pipeline) (g : ℕ) (s : Stage) (whole : Buffer) → slice_get job.stages g ≡ Some s → IsWholeOf job g whole
+    → (whole.area ≡ s.domain) × (whole.values.items ≡ raster s.domain (value job g))
 whole_is job g s whole there h =
     let own = whole_valued job g s whole there h in
     (own.1, h.1 ∙ stage_values_is job g s there ∙ values_on_is job g s.domain s.body own.0)
@@ -72,7 +77,8 @@ module _ (job : Pipeline) (buffers : List (Option Buffer)) (right : AreTrue job 
       record { whole = found.0; there = found.1; within = subst (λ a. HoldsPoint a r c) (sym is.0) x.within }
 
   -- and its sample is the value of the job
-  pub sample_there : (g : ℕ) → AreKnownOf job buffers g → (r c : ℤ) → IsReadable job.stages g r c → sample_in (slice_get buffers g) r c ≡ value job g r c
+  pub sample_there : (g : ℕ) → AreKnownOf job buffers g → (r c : ℤ) → IsReadable job.stages g r c
+      → sample_in (slice_get buffers g) r c ≡ value job g r c
   sample_there g known r c x =
       let found = known x.stage x.there x.valued in
       let is = whole_is job g x.stage found.0 x.there (right g found.0 found.1) in
@@ -83,13 +89,16 @@ module _ (job : Pipeline) (buffers : List (Option Buffer)) (right : AreTrue job 
 
 -- ---- what a stage reads
 
-module _ (job : Pipeline) (h : IsJob job) (P : ℕ → ℤ → ℤ → Type 0) (Q : ℕ → Type 0) (each : (g : ℕ) → Q g → (r c : ℤ) → IsReadable job.stages g r c → P g r c) where
+module _ (job : Pipeline) (h : IsJob job) (P : ℕ → ℤ → ℤ → Type 0) (Q : ℕ → Type 0)
+    (each : (g : ℕ) → Q g → (r c : ℤ) → IsReadable job.stages g r c → P g r c) where
   taken_known : (r c : ℤ) (x : Read) → Q (stage_read x) → EachTaken (IsReadable job.stages) x r c → EachTaken P x r c
   taken_known r c (point g i j) known there = each g known (index_at i r) (index_at j c) there
-  taken_known r c (window g kernel) known there = λ a b la lb. each g known (kernel_row kernel r a) (kernel_column kernel c b) (there a b la lb)
+  taken_known r c (window g kernel) known there =
+      λ a b la lb. each g known (kernel_row kernel r a) (kernel_column kernel c b) (there a b la lb)
 
   -- what holds of all points of some stages holds of all that is read, where no other stage is
-  pub reads_known : (g : ℕ) (s : Stage) → slice_get job.stages g ≡ Some s → All (λ y. Q (stage_read y)) (reads_of s.body) → (r c : ℤ) → HoldsPoint s.domain r c → BodyReads P s.body r c
+  pub reads_known : (g : ℕ) (s : Stage) → slice_get job.stages g ≡ Some s → All (λ y. Q (stage_read y)) (reads_of s.body) → (r c : ℤ)
+      → HoldsPoint s.domain r c → BodyReads P s.body r c
   reads_known g s there known r c inside =
       BodyReads-both (IsReadable job.stages) P (λ y. Q (stage_read y)) s.body r c (taken_known r c) known
       ((h.stages g s there).reads r c inside)
@@ -98,7 +107,8 @@ module _ (job : Pipeline) (h : IsJob job) (P : ℕ → ℤ → ℤ → Type 0) (
 
 module _ (job : Pipeline) (h : IsJob job) (g : ℕ) (s : Stage) (there : slice_get job.stages g ≡ Some s) where
   -- a function of the samples of what is known has the values of the job
-  pub functions_known : (buffers : List (Option Buffer)) → AreTrue job buffers → HasInputs job buffers g → (cases : List JobCase) (otherwise : Option Formula) → s.body ≡ function cases otherwise
+  pub functions_known : (buffers : List (Option Buffer)) → AreTrue job buffers → HasInputs job buffers g
+      → (cases : List JobCase) (otherwise : Option Formula) → s.body ≡ function cases otherwise
       → raster s.domain (function_value (λ k r c. sample_in (slice_get buffers k) r c) cases otherwise) ≡ values_on job g s.domain s.body
   functions_known buffers right inputs cases otherwise is =
       let env : Valuation = λ k r c. sample_in (slice_get buffers k) r c in
@@ -106,12 +116,14 @@ module _ (job : Pipeline) (h : IsJob job) (g : ℕ) (s : Stage) (there : slice_g
       raster_same s.domain (function_value env cases otherwise) (value job g) (λ r c inside.
       ap (λ (b : Body). body_value job.picture env b r c) (sym is)
       ∙ body_value-agrees_there job.picture env (value job) s.domain s.body r c (h.stages g s there).boxes inside
-      (reads_known job h (SameAt env (value job)) (AreKnownOf job buffers) (sample_there job buffers right) g s there (inputs s there) r c inside)
+      (reads_known job h (SameAt env (value job)) (AreKnownOf job buffers) (sample_there job buffers right) g s there (inputs s there) r c
+      inside)
       ∙ sym (value_solves job (ranked_is job h) g s there valued r c inside))
       ∙ ap (values_on job g s.domain) (sym is)
 
   -- and so has a plane
-  pub planes_known : (n : ℕ) → s.body ≡ plane n → raster (picture_area job.picture) (sample_at job.picture n) ≡ values_on job g s.domain s.body
+  pub planes_known : (n : ℕ) → s.body ≡ plane n
+      → raster (picture_area job.picture) (sample_at job.picture n) ≡ values_on job g s.domain s.body
   planes_known n is =
       let valued : IsValued s.body = subst IsValued (sym is) tt in
       ap (λ (a : Area). raster a (sample_at job.picture n)) (sym (plane_domain n is))
@@ -126,7 +138,8 @@ module _ (job : Pipeline) (h : IsJob job) (g : ℕ) (s : Stage) (there : slice_g
 -- ---- what is kept
 
 -- what was computed for stage g is kept
-pub kept_values : (job : Pipeline) (g : ℕ) (s : Stage) (whole : Buffer) → slice_get job.stages g ≡ Some s → IsValued s.body → whole.area ≡ s.domain → whole.values.items ≡ stage_values job g → IsKept job g (Some whole)
+pub kept_values : (job : Pipeline) (g : ℕ) (s : Stage) (whole : Buffer) → slice_get job.stages g ≡ Some s → IsValued s.body
+    → whole.area ≡ s.domain → whole.values.items ≡ stage_values job g → IsKept job g (Some whole)
 kept_values job g s whole there valued area values = record {
   right = λ other is. subst (IsWholeOf job g) (same_Some whole other is)
       (ap stage_area there ∙ domain_valued s.domain s.body valued ∙ ap Some (sym area), values);
@@ -199,7 +212,8 @@ module _ (job : Pipeline) (g : ℕ) (old : List (Option Buffer)) (whole : Buffer
       serves (accumulator fold bins value bin) valued = absurd valued
 
 -- a stage that is known is served
-pub known_serves : (job : Pipeline) (g : ℕ) (buffers : List (Option Buffer)) (whole : Buffer) → AreTrue job buffers → slice_get buffers g ≡ Some (Some whole) → IsServed job buffers g
+pub known_serves : (job : Pipeline) (g : ℕ) (buffers : List (Option Buffer)) (whole : Buffer) → AreTrue job buffers
+    → slice_get buffers g ≡ Some (Some whole) → IsServed job buffers g
 known_serves job g buffers whole right found s there = serves s.body (whole_valued job g s whole there (right g whole found)).0
   where
     serves : (b : Body) → IsValued b → BodyServed job buffers g b
@@ -207,15 +221,18 @@ known_serves job g buffers whole right found s there = serves s.body (whole_valu
     serves (function cases otherwise) valued = (whole, found)
     serves (accumulator fold bins value bin) valued = absurd valued
 
-pub some_serves : (job : Pipeline) (g : ℕ) (buffers : List (Option Buffer)) (found : Option (Bor Buffer)) → AreTrue job buffers → is_some found ≡ true → IfSome found (λ whole. slice_get buffers g ≡ Some (Some whole.now)) → IsServed job buffers g
+pub some_serves : (job : Pipeline) (g : ℕ) (buffers : List (Option Buffer)) (found : Option (Bor Buffer)) → AreTrue job buffers
+    → is_some found ≡ true → IfSome found (λ whole. slice_get buffers g ≡ Some (Some whole.now)) → IsServed job buffers g
 some_serves job g buffers None right some there = absurd (true≢false (sym some))
 some_serves job g buffers (Some whole) right some there = known_serves job g buffers whole.now right there
 
 -- where nothing is kept of a stage, what it reads serves for it
-pub inputs_serve : (job : Pipeline) (g : ℕ) (buffers : List (Option Buffer)) → HasInputs job buffers g → IsKept job g None → IsServed job buffers g
+pub inputs_serve : (job : Pipeline) (g : ℕ) (buffers : List (Option Buffer)) → HasInputs job buffers g → IsKept job g None
+    → IsServed job buffers g
 inputs_serve job g buffers inputs kept s there = serves s.body (inputs s there) (kept.valued s there)
   where
-    serves : (b : Body) → All (λ x. AreKnownOf job buffers (stage_read x)) (reads_of b) → (IsValued b → (whole : Buffer) × (None ≡ Some whole)) → BodyServed job buffers g b
+    serves : (b : Body) → All (λ x. AreKnownOf job buffers (stage_read x)) (reads_of b)
+        → (IsValued b → (whole : Buffer) × (None ≡ Some whole)) → BodyServed job buffers g b
     serves (plane n) reads none = let found = none tt in absurd (none-some found.0 found.1)
     serves (function cases otherwise) reads none = let found = none tt in absurd (none-some found.0 found.1)
     serves (accumulator fold bins value bin) reads none = reads
@@ -243,7 +260,8 @@ served_known job g buffers served s there = known s.body (served s there)
 -- ---- the values of what is served
 
 -- a stage that is not known has no values
-pub no_values : (job : Pipeline) (g : ℕ) (buffers : List (Option Buffer)) → IsServed job buffers g → ((whole : Buffer) → slice_get buffers g ≡ Some (Some whole) → ⊥) → [] ≡ stage_values job g
+pub no_values : (job : Pipeline) (g : ℕ) (buffers : List (Option Buffer)) → IsServed job buffers g
+    → ((whole : Buffer) → slice_get buffers g ≡ Some (Some whole) → ⊥) → [] ≡ stage_values job g
 no_values job g buffers served none = by (slice_get job.stages g) refl
   where
     by_body : (s : Stage) (b : Body) → BodyServed job buffers g b → [] ≡ values_on job g s.domain b

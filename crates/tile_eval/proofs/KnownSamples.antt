@@ -8,16 +8,20 @@ use Rattle.row_kernels.specs.Rows.{at}
 use Rattle.tile_eval.specs.Buffer.{place_of, sample_in, IsKnownAt}
 use Rattle.tile_eval.specs.declared.buffers.Buffer.{Buffer}
 
-same_whole : (buffers : List (Option Buffer)) (g : ℕ) (a b : Buffer) → slice_get buffers g ≡ Some (Some a) → slice_get buffers g ≡ Some (Some b) → a ≡ b
+same_whole : (buffers : List (Option Buffer)) (g : ℕ) (a b : Buffer) → slice_get buffers g ≡ Some (Some a)
+    → slice_get buffers g ≡ Some (Some b) → a ≡ b
 same_whole buffers g a b e f = ap (λ (o : Option (Option Buffer)). option_map_or (λ q. unwrap_or q b) o b) (sym e ∙ f)
 
 -- a point at which a stage is known lies in what is known of it
-pub known_within : (buffers : List (Option Buffer)) (g : ℕ) (whole : Buffer) (area : Area) (r c : ℤ) → slice_get buffers g ≡ Some (Some whole) → area ≡ whole.area → IsKnownAt buffers g r c → HoldsPoint area r c
+pub known_within : (buffers : List (Option Buffer)) (g : ℕ) (whole : Buffer) (area : Area) (r c : ℤ)
+    → slice_get buffers g ≡ Some (Some whole) → area ≡ whole.area → IsKnownAt buffers g r c → HoldsPoint area r c
 known_within buffers g whole area r c there is known =
-    subst (λ (a : Area). HoldsPoint a r c) (sym is) (subst (λ (w : Buffer). HoldsPoint w.area r c) (same_whole buffers g known.whole whole known.there there) known.within)
+    subst (λ (a : Area). HoldsPoint a r c) (sym is)
+    (subst (λ (w : Buffer). HoldsPoint w.area r c) (same_whole buffers g known.whole whole known.there there) known.within)
 
 -- and its value stands at the point's place
-pub known_sample : (buffers : List (Option Buffer)) (g : ℕ) (whole : Buffer) (area : Area) (values : List ℤ) (r c v : ℤ) → slice_get buffers g ≡ Some (Some whole) → area ≡ whole.area → values ≡ whole.values.items
+pub known_sample : (buffers : List (Option Buffer)) (g : ℕ) (whole : Buffer) (area : Area) (values : List ℤ) (r c v : ℤ)
+    → slice_get buffers g ≡ Some (Some whole) → area ≡ whole.area → values ≡ whole.values.items
     → v ≡ at values (place_of area r c) → v ≡ sample_in (slice_get buffers g) r c
 known_sample buffers g whole area values r c v there is same e =
     e

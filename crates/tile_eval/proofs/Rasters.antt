@@ -117,13 +117,15 @@ raster_len area f = length-grid f area.rows.lo area.cols.lo (len_of area.rows) (
 
 -- numbers that are those of f at each row and column are its values
 pub raster_of : (area : Area) (f : ℤ → ℤ → ℤ) (xs : List ℤ) → length xs ≡ point_count area
-    → ((i k : ℕ) → i < len_of area.rows → k < len_of area.cols → at xs (i * len_of area.cols + k) ≡ f (area.rows.lo +ℤ pos i) (area.cols.lo +ℤ pos k))
+    → ((i k : ℕ) → i < len_of area.rows → k < len_of area.cols
+    → at xs (i * len_of area.cols + k) ≡ f (area.rows.lo +ℤ pos i) (area.cols.lo +ℤ pos k))
     → xs ≡ raster area f
 raster_of area f xs len each = grid_of f area.rows.lo area.cols.lo (len_of area.rows) (len_of area.cols) xs len each
 
 pub raster_at : (area : Area) (f : ℤ → ℤ → ℤ) (r c : ℤ) → HoldsPoint area r c → at (raster area f) (place_of area r c) ≡ f r c
 raster_at area f r c h =
-    at_pair f area.rows.lo area.cols.lo (len_of area.rows) (len_of area.cols) (int_gap area.rows.lo r) (int_gap area.cols.lo c) (held_below area.rows r h.0) (held_below area.cols c h.1)
+    at_pair f area.rows.lo area.cols.lo (len_of area.rows) (len_of area.cols) (int_gap area.rows.lo r) (int_gap area.cols.lo c)
+    (held_below area.rows r h.0) (held_below area.cols c h.1)
     ∙ (λ i. f (gap_is area.rows.lo r h.0.0 i) (gap_is area.cols.lo c h.1.0 i))
 
 pub raster_same : (area : Area) (f g : ℤ → ℤ → ℤ) → ((r c : ℤ) → HoldsPoint area r c → f r c ≡ g r c) → raster area f ≡ raster area g

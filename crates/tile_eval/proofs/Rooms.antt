@@ -19,14 +19,16 @@ use Rattle.tile_eval.specs.inside.Cases.{HasFunctionRoom}
 abbrev pub EnoughFrom : ℕ → (ℕ → Type 0) → Type 0
 EnoughFrom least enough = (m : ℕ) → least ≤ m ↔ enough m
 
-pub least_counted : (enough : ℕ → Type 0) (least : ℕ) (found : Option ℕ) → EnoughFrom least enough → IsLeast enough found → IsCounted found least
+pub least_counted : (enough : ℕ → Type 0) (least : ℕ) (found : Option ℕ) → EnoughFrom least enough → IsLeast enough found
+    → IsCounted found least
 least_counted enough least None from is = is.none least ((from least).0 (omega arith))
 least_counted enough least (Some n) from is =
     let low : n ≤ least = is.least least ((from least).0 (omega arith)) in
     let high : least ≤ n = (from n).1 is.some in
     omega arith
 
-pub counted_least : (enough : ℕ → Type 0) (least : ℕ) (found : Option ℕ) → EnoughFrom least enough → IsCounted found least → IsLeast enough found
+pub counted_least : (enough : ℕ → Type 0) (least : ℕ) (found : Option ℕ) → EnoughFrom least enough → IsCounted found least
+    → IsLeast enough found
 counted_least enough least None from is = record {
   some = tt;
   least = tt;
@@ -60,8 +62,12 @@ enough_room (neg a) n m h = enough_room a n m h
 enough_room (binary op a b) n m h = (enough_room a n m (omega arith), omega arith, enough_room b n (m - n) (omega arith))
 enough_room (literal op a i) n m h = enough_room a n m h
 enough_room (abs a) n m h = enough_room a n m h
-enough_room (clamp a low high) n m h =
-    (enough_room a n m (omega arith), omega arith, enough_room low n (m - (n + n)) (omega arith), enough_room high n (m - (n + n)) (omega arith))
+enough_room (clamp a low high) n m h = (
+  enough_room a n m (omega arith),
+  omega arith,
+  enough_room low n (m - (n + n)) (omega arith),
+  enough_room high n (m - (n + n)) (omega arith),
+)
 enough_room (select a relation b x y) n m h = (
   enough_room x n m (omega arith),
   omega arith,
@@ -84,7 +90,13 @@ least_room (clamp a low high) n m h =
     let fits = h.1 in omega (arith, least_room a n m h.0, least_room low n (m - (n + n)) h.2, least_room high n (m - (n + n)) h.3)
 least_room (select a relation b x y) n m h =
     let fits = h.1 in
-    omega (arith, least_room x n m h.0, least_room a n (m - (n + n + n)) h.2, least_room b n (m - (n + n + n)) h.3, least_room y n (m - (n + n + n)) h.4)
+    omega (
+      arith,
+      least_room x n m h.0,
+      least_room a n (m - (n + n + n)) h.2,
+      least_room b n (m - (n + n + n)) h.3,
+      least_room y n (m - (n + n + n)) h.4,
+    )
 least_room (stencil g divisor kernel) n m h = h
 
 pub room_from : (f : Formula) (n : ℕ) → EnoughFrom (room_of f n) (HasRoom f n)
@@ -116,7 +128,8 @@ cases_room_next (x ∷ xs) (suc i) p n l e = omega (arith, cases_room_next xs i 
 pub cases_from : (ps : List KeptCase) (n : ℕ) → EnoughFrom (cases_room_of ps n) (EachHasRoom ps n)
 cases_from [] n m = ((λ h. All-nil (λ (p : KeptCase). HasRoom (formula_view p.formula) n m)), (λ h. omega arith))
 cases_from (p ∷ ps) n m = (
-  (λ h. All-cons (λ (q : KeptCase). HasRoom (formula_view q.formula) n m) p ps (enough_room (formula_view p.formula) n m (omega arith)) ((cases_from ps n m).0 (omega arith))),
+  (λ h. All-cons (λ (q : KeptCase). HasRoom (formula_view q.formula) n m) p ps (enough_room (formula_view p.formula) n m (omega arith))
+      ((cases_from ps n m).0 (omega arith))),
   (λ h.
       let first = least_room (formula_view p.formula) n m (All-head (λ (q : KeptCase). HasRoom (formula_view q.formula) n m) p ps h) in
       let rest = (cases_from ps n m).1 (All-tail (λ (q : KeptCase). HasRoom (formula_view q.formula) n m) p ps h) in
@@ -136,7 +149,8 @@ other_from (Some g) n m = (
   (λ h. least_room g n m (h g refl)),
 )
 
-pub function_from : (ps : List KeptCase) (o : Option Formula) (n : ℕ) → EnoughFrom (max (n * 1 + cases_room_of ps n) (other_room_of o n)) (λ m. HasFunctionRoom n m (map case_view ps) o)
+pub function_from : (ps : List KeptCase) (o : Option Formula) (n : ℕ)
+    → EnoughFrom (max (n * 1 + cases_room_of ps n) (other_room_of o n)) (λ m. HasFunctionRoom n m (map case_view ps) o)
 function_from ps o n m = (
   (λ h. record {
     row = omega arith;

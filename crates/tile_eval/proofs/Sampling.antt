@@ -17,7 +17,8 @@ use Rattle.tile_eval.specs.Buffer.{raster}
 use Rattle.tile_eval.proofs.Rasters.{raster_of}
 
 -- a plane that is looked up
-pub plane_found : (planes : List (Vec ℕ)) (n : ℕ) (v : Vec ℕ) (p : Image) → samples_of planes ≡ p.planes → n < length p.planes → v ≡ get_or planes n v → v.items ≡ slice_index_or p.planes n []
+pub plane_found : (planes : List (Vec ℕ)) (n : ℕ) (v : Vec ℕ) (p : Image) → samples_of planes ≡ p.planes → n < length p.planes
+    → v ≡ get_or planes n v → v.items ≡ slice_index_or p.planes n []
 plane_found planes n v p e h is =
     ap (λ (plane : Vec ℕ). plane.items) is
     ∙ sym (get_or-map (λ (plane : Vec ℕ). plane.items) planes n v)
@@ -46,7 +47,8 @@ plane_raster p n values image h e = raster_of (picture_area p) (sample_at p n) v
         ∙ (image.planes n [] h).whole
         ∙ (λ i. sym (side p.rows) i * sym (side p.cols) i)
 
-    each : (a k : ℕ) → a < len_of (picture_area p).rows → k < len_of (picture_area p).cols → at values (a * len_of (picture_area p).cols + k) ≡ sample_at p n (pos 0 +ℤ pos a) (pos 0 +ℤ pos k)
+    each : (a k : ℕ) → a < len_of (picture_area p).rows → k < len_of (picture_area p).cols
+        → at values (a * len_of (picture_area p).cols + k) ≡ sample_at p n (pos 0 +ℤ pos a) (pos 0 +ℤ pos k)
     each a k r c =
         ap (λ (zs : List ℤ). at zs (a * len_of (picture_area p).cols + k)) e
         ∙ get_or-map (λ (sample : ℕ). pos sample) samples (a * len_of (picture_area p).cols + k) 0

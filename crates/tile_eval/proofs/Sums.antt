@@ -17,27 +17,34 @@ pub under_shifted : (v : ℤ) (n k b : ℕ) → under v n (k + b) ≡ under (v +
 under_shifted v n k b = omega (arith, ints)
 
 -- a line under row a of a kernel gives what the row adds
-pub row_sum_is : (kernel : List (List ℤ)) (f : ℤ → ℤ → ℤ) (r c : ℤ) (a k : ℕ) (line : List ℤ) → IsUnder kernel f r c a line → k + length (factors kernel a) ≤ length line
+pub row_sum_is : (kernel : List (List ℤ)) (f : ℤ → ℤ → ℤ) (r c : ℤ) (a k : ℕ) (line : List ℤ) → IsUnder kernel f r c a line
+    → k + length (factors kernel a) ≤ length line
     → tap_sum (factors kernel a) line k ≡ row_sum kernel f r (c +ℤ pos k) a
 row_sum_is kernel f r c a k line under h = sum_below-agrees (length (factors kernel a)) _ _ (λ b l.
-    ap (λ (z : ℤ). at (factors kernel a) b *ℤ z) (under (k + b) (omega arith) ∙ ap (f (kernel_row kernel r a)) (under_shifted c (length (factors kernel 0)) k b)))
+    ap (λ (z : ℤ). at (factors kernel a) b *ℤ z)
+    (under (k + b) (omega arith) ∙ ap (f (kernel_row kernel r a)) (under_shifted c (length (factors kernel 0)) k b)))
 
 -- one more row: t is what adding it leaves
-pub row_more : (kernel : List (List ℤ)) (f : ℤ → ℤ → ℤ) (r c : ℤ) (a k n : ℕ) (stencil line : List ℤ) (s t : ℤ) → stencil ≡ factors kernel a → IsUnder kernel f r c a line
-    → length line ≡ n + length stencil - 1 → k < n → t ≡ wrapped (s +ℤ tap_sum stencil line k) → t ≡ wrapped (s +ℤ row_sum kernel f r (c +ℤ pos k) a)
+pub row_more : (kernel : List (List ℤ)) (f : ℤ → ℤ → ℤ) (r c : ℤ) (a k n : ℕ) (stencil line : List ℤ) (s t : ℤ) → stencil ≡ factors kernel a
+    → IsUnder kernel f r c a line
+    → length line ≡ n + length stencil - 1 → k < n → t ≡ wrapped (s +ℤ tap_sum stencil line k)
+    → t ≡ wrapped (s +ℤ row_sum kernel f r (c +ℤ pos k) a)
 row_more kernel f r c a k n stencil line s t e under len lt h =
     let same : length stencil ≡ length (factors kernel a) = ap length e in
     h ∙ ap (λ (z : ℤ). wrapped (s +ℤ z)) (ap (λ (ts : List ℤ). tap_sum ts line k) e ∙ row_sum_is kernel f r c a k line under (omega arith))
 
 -- all three rows
-pub square_sum : (kernel : List (List ℤ)) (f : ℤ → ℤ → ℤ) (r c : ℤ) (k : ℕ) (x y z : List ℤ) → Is3x3 kernel → IsUnder kernel f r c 0 x → IsUnder kernel f r c 1 y → IsUnder kernel f r c 2 z
+pub square_sum : (kernel : List (List ℤ)) (f : ℤ → ℤ → ℤ) (r c : ℤ) (k : ℕ) (x y z : List ℤ) → Is3x3 kernel → IsUnder kernel f r c 0 x
+    → IsUnder kernel f r c 1 y → IsUnder kernel f r c 2 z
     → k + 3 ≤ length x → k + 3 ≤ length y → k + 3 ≤ length z
-    → tap_sum (factors kernel 0) x k +ℤ tap_sum (factors kernel 1) y k +ℤ tap_sum (factors kernel 2) z k ≡ weighted_sum kernel f r (c +ℤ pos k)
+    → tap_sum (factors kernel 0) x k +ℤ tap_sum (factors kernel 1) y k +ℤ tap_sum (factors kernel 2) z k
+    ≡ weighted_sum kernel f r (c +ℤ pos k)
 square_sum kernel f r c k x y z square u v w p q s =
     (λ i. sym (+ℤ_idl (row 0 x u (lit< tt) p i)) i +ℤ row 1 y v (lit< tt) q i +ℤ row 2 z w (lit< tt) s i)
     ∙ ap (λ (n : ℕ). sum_below n (row_sum kernel f r (c +ℤ pos k))) (sym square.height)
   where
-    row : (a : ℕ) (line : List ℤ) → IsUnder kernel f r c a line → a < 3 → k + 3 ≤ length line → tap_sum (factors kernel a) line k ≡ row_sum kernel f r (c +ℤ pos k) a
+    row : (a : ℕ) (line : List ℤ) → IsUnder kernel f r c a line → a < 3 → k + 3 ≤ length line
+        → tap_sum (factors kernel a) line k ≡ row_sum kernel f r (c +ℤ pos k) a
     row a line under lt h = row_sum_is kernel f r c a k line under (rw (square.width a lt) h)
 
 -- a place of a line, as it is asked for
@@ -51,10 +58,12 @@ there_under has kernel r c row col a k row_fits col_fits row_is col_is h =
     (subst (λ (z : ℤ). has (kernel_row kernel r a) z) (sym first) h)
 
 -- a line that was asked for there is the line under the row of the kernel
-pub line_under : (f : ℤ → ℤ → ℤ) (kernel : List (List ℤ)) (r c row col : ℤ) (a n : ℕ) (line : List ℤ) → FitsSigned w32 row → FitsSigned w32 col
+pub line_under : (f : ℤ → ℤ → ℤ) (kernel : List (List ℤ)) (r c row col : ℤ) (a n : ℕ) (line : List ℤ) → FitsSigned w32 row
+    → FitsSigned w32 col
     → row ≡ kernel_row kernel r a → col ≡ kernel_column kernel c 0 → length line ≡ n
     → ((k : ℕ) → k < n → at line k ≡ f (to_z w32 (of_z w32 row)) (to_z w32 (of_z w32 col) +ℤ pos k)) → IsUnder kernel f r c a line
 line_under f kernel r c row col a n line row_fits col_fits row_is col_is len h = λ k l.
     h k (subst (λ (m : ℕ). k < m) len l)
     ∙ ap (λ (z : ℤ). f z (to_z w32 (of_z w32 col) +ℤ pos k)) (to_z-of_z w32 _ row_fits ∙ row_is)
-    ∙ ap (f (kernel_row kernel r a)) (ap (λ (z : ℤ). z +ℤ pos k) (to_z-of_z w32 _ col_fits ∙ col_is) ∙ under_first c (length (factors kernel 0)) k)
+    ∙ ap (f (kernel_row kernel r a))
+    (ap (λ (z : ℤ). z +ℤ pos k) (to_z-of_z w32 _ col_fits ∙ col_is) ∙ under_first c (length (factors kernel 0)) k)

@@ -18,7 +18,8 @@ pub tile_in_domain : (job : Pipeline) (g i j : ℕ) (s : Stage) (area : Area) �
 tile_in_domain job g i j s area h r c inside =
     tile_inside (grid_of job s) i j r c (subst (λ (a : Area). HoldsPoint a r c) h.is inside)
 
-module _ (job : Pipeline) (g i j : ℕ) (area : Area) (tile : IsFunctionTile job g i j area) (buffers : List (Option Buffer)) (right : AreTrue job buffers) where
+module _ (job : Pipeline) (g i j : ℕ) (area : Area) (tile : IsFunctionTile job g i j area) (buffers : List (Option Buffer))
+    (right : AreTrue job buffers) where
   -- where a function is known, its tiles lie in what is known of it
   pub tile_known : (whole : Buffer) → slice_get buffers g ≡ Some (Some whole) → IsSubarea area whole.area
   tile_known whole found =
@@ -26,7 +27,8 @@ module _ (job : Pipeline) (g i j : ℕ) (area : Area) (tile : IsFunctionTile job
       (tile_in_domain job g i j tile.stage area tile.tile)
 
   -- and have its values
-  pub tile_true : (whole : Buffer) → slice_get buffers g ≡ Some (Some whole) → (numbers : List ℤ) → numbers ≡ raster area (buffer_value whole) → IsTrueTile job g i j numbers
+  pub tile_true : (whole : Buffer) → slice_get buffers g ≡ Some (Some whole) → (numbers : List ℤ)
+      → numbers ≡ raster area (buffer_value whole) → IsTrueTile job g i j numbers
   tile_true whole found numbers is =
       let own = whole_is job g tile.stage whole tile.tile.there (right g whole found) in
       record {

@@ -36,5 +36,6 @@ HasRoom (literal op a m) n room = HasRoom a n room
 HasRoom (abs a) n room = HasRoom a n room
 HasRoom (clamp a low high) n room = HasRoom a n room × (n + n ≤ room) × HasRoom low n (room - (n + n)) × HasRoom high n (room - (n + n))
 HasRoom (select a relation b first second) n room =
-    HasRoom first n room × (n + n + n ≤ room) × HasRoom a n (room - (n + n + n)) × HasRoom b n (room - (n + n + n)) × HasRoom second n (room - (n + n + n))
+    HasRoom first n room × (n + n + n ≤ room) × HasRoom a n (room - (n + n + n)) × HasRoom b n (room - (n + n + n))
+    × HasRoom second n (room - (n + n + n))
 HasRoom (stencil g divisor kernel) n room = n + 14 ≤ room

@@ -28,9 +28,19 @@ pub fn function_area<S: RowSource>(
     requires some { 0 < points.now.len }
     requires row_most { (points.now.row +ℤ pos rows) ≤ℤ pos 16385 }
     requires len { length out.old ≡ rows * points.now.len }
-    requires cases { All (λ p. ((i k : ℕ) → i < rows → k < points.now.len → IsReady (S.has source.now) (case_view p) (points.now.row +ℤ pos i) (points.now.col +ℤ pos k)) × IsRoomy points.now.len (length temps.old) (case_view p)) function.now.cases.items }
-    requires other { ForSome (option_map formula_view function.now.otherwise) (λ f. ((i k : ℕ) → i < rows → k < points.now.len → EachRead (S.has source.now) f (points.now.row +ℤ pos i) (points.now.col +ℤ pos k)) × IsFormula f × HasRoom f points.now.len (length temps.old)) }
-    ensures { (i : ℕ) → i < rows → EachPlace points.now.len (λ k. at out.new (i * points.now.len + k) ≡ function_value (S.samples source.now) (map case_view function.now.cases.items) (option_map formula_view function.now.otherwise) (points.now.row +ℤ pos i) (points.now.col +ℤ pos k)) }
+    requires cases { All (λ p. ((i k : ℕ) → i < rows → k < points.now.len
+        → IsReady (S.has source.now) (case_view p) (points.now.row +ℤ pos i)
+        (points.now.col +ℤ pos k)) × IsRoomy points.now.len (length temps.old) (case_view p))
+        function.now.cases.items }
+    requires other { ForSome (option_map formula_view function.now.otherwise)
+        (λ f. ((i k : ℕ) → i < rows → k < points.now.len
+        → EachRead (S.has source.now) f (points.now.row +ℤ pos i) (points.now.col +ℤ pos k))
+        × IsFormula f × HasRoom f points.now.len (length temps.old)) }
+    ensures { (i : ℕ) → i < rows
+        → EachPlace points.now.len (λ k. at out.new (i * points.now.len + k)
+        ≡ function_value (S.samples source.now) (map case_view function.now.cases.items)
+        (option_map formula_view function.now.otherwise) (points.now.row +ℤ pos i)
+        (points.now.col +ℤ pos k)) }
 {
     for i in 0..rows {
         let from = i * points.len;

@@ -22,8 +22,10 @@ impl Buffer {
 impl StageBuffers {
     /// The values of a stage, if they are known.
     pub(crate) fn whole(&self, stage: usize) -> Option<&Buffer>
-        ensures some { IfSome result (λ whole. slice_get self.now.buffers.items stage ≡ Some (Some whole.now)) }
-        ensures none { IfNone result ((whole : Buffer) → slice_get self.now.buffers.items stage ≢ Some (Some whole)) }
+        ensures some { IfSome result
+            (λ whole. slice_get self.now.buffers.items stage ≡ Some (Some whole.now)) }
+        ensures none { IfNone result
+            ((whole : Buffer) → slice_get self.now.buffers.items stage ≢ Some (Some whole)) }
     {
         self.buffers.get(stage)?.as_ref()
     }

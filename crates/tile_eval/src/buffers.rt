@@ -49,8 +49,10 @@ impl StageBuffers {
 
     /// Takes the values of a stage out, if they are known.
     pub fn take(&mut self, stage: usize) -> Option<Buffer>
-        ensures some { IfSome result (λ whole. slice_get self.old.buffers.items stage ≡ Some (Some whole)) }
-        ensures none { IfNone result ((whole : Buffer) → slice_get self.old.buffers.items stage ≢ Some (Some whole)) }
+        ensures some { IfSome result
+            (λ whole. slice_get self.old.buffers.items stage ≡ Some (Some whole)) }
+        ensures none { IfNone result
+            ((whole : Buffer) → slice_get self.old.buffers.items stage ≢ Some (Some whole)) }
         ensures rest { self.new.buffers.items ≡ slice_set self.old.buffers.items stage None }
     {
         self.buffers.get_mut(stage)?.take()

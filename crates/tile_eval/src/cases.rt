@@ -23,8 +23,10 @@ use row_kernels::{RowMask, RowSpan, fill, take_where, where_passed};
 fn overlap(area: &Area, points: &RowSpan) -> Option<(usize, usize)>
     requires { 0 < points.now.len }
     ensures some { IfSome result (λ p. (p.0 < p.1) × (p.1 ≤ points.now.len)) }
-    ensures inside { IfSome result (λ p. (k : ℕ) → k < points.now.len → HoldsPoint area.now points.now.row (points.now.col +ℤ pos k) ↔ ((p.0 ≤ k) × (k < p.1))) }
-    ensures none { IfNone result ((k : ℕ) → k < points.now.len → ¬ (HoldsPoint area.now points.now.row (points.now.col +ℤ pos k))) }
+    ensures inside { IfSome result (λ p. (k : ℕ) → k < points.now.len
+        → HoldsPoint area.now points.now.row (points.now.col +ℤ pos k) ↔ ((p.0 ≤ k) × (k < p.1))) }
+    ensures none { IfNone result ((k : ℕ) → k < points.now.len
+        → ¬ (HoldsPoint area.now points.now.row (points.now.col +ℤ pos k))) }
 {
     if !area.rows.holds(points.row) {
         return None;
@@ -44,10 +46,15 @@ fn part_row<S: RowSource>(
 )
     requires some { 0 < length out.old }
     requires fits { length out.old ≡ points.now.len }
-    requires inside { EachPlace (length out.old) (λ k. InBox (case_view case.now).box points.now.row (points.now.col +ℤ pos k)) }
-    requires ready { EachPlace (length out.old) (λ k. IsReady (S.has source.now) (case_view case.now) points.now.row (points.now.col +ℤ pos k)) }
+    requires inside { EachPlace (length out.old)
+        (λ k. InBox (case_view case.now).box points.now.row (points.now.col +ℤ pos k)) }
+    requires ready { EachPlace (length out.old) (λ k. IsReady (S.has source.now)
+        (case_view case.now) points.now.row (points.now.col +ℤ pos k)) }
     requires roomy { IsRoomy (length out.old) (length temps.old) (case_view case.now) }
-    ensures { EachPlace (length out.old) (λ k. at out.new k ≡ (if all_passed (case_view case.now).tests points.now.row (points.now.col +ℤ pos k) then formula_value (S.samples source.now) (case_view case.now).formula points.now.row (points.now.col +ℤ pos k) else at out.old k)) }
+    ensures { EachPlace (length out.old) (λ k. at out.new k
+        ≡ (if all_passed (case_view case.now).tests points.now.row (points.now.col +ℤ pos k)
+        then formula_value (S.samples source.now) (case_view case.now).formula points.now.row
+        (points.now.col +ℤ pos k) else at out.old k)) }
 {
     match where_passed(case.tests(), points) {
         RowMask::Nowhere => {}
@@ -70,8 +77,13 @@ pub fn case_row<S: RowSource>(
 )
     requires fits { length out.old ≡ points.now.len }
     requires some { 0 < length out.old }
-    requires case { EachPlace (length out.old) (λ k. IsReady (S.has source.now) (case_view case.now) points.now.row (points.now.col +ℤ pos k)) × IsRoomy (length out.old) (length temps.old) (case_view case.now) }
-    ensures { EachPlace (length out.old) (λ k. at out.new k ≡ (if all_passed (case_view case.now).tests points.now.row (points.now.col +ℤ pos k) then formula_value (S.samples source.now) (case_view case.now).formula points.now.row (points.now.col +ℤ pos k) else at out.old k)) }
+    requires case { EachPlace (length out.old) (λ k. IsReady (S.has source.now) (case_view case.now)
+        points.now.row (points.now.col +ℤ pos k))
+        × IsRoomy (length out.old) (length temps.old) (case_view case.now) }
+    ensures { EachPlace (length out.old) (λ k. at out.new k
+        ≡ (if all_passed (case_view case.now).tests points.now.row (points.now.col +ℤ pos k)
+        then formula_value (S.samples source.now) (case_view case.now).formula points.now.row
+        (points.now.col +ℤ pos k) else at out.old k)) }
 {
     let Some(area) = case.area() else {
         return;
@@ -97,8 +109,14 @@ fn other_row<S: RowSource>(
 )
     requires some { 0 < length out.old }
     requires fits { length out.old ≡ points.now.len }
-    requires other { ForSome (option_map formula_view otherwise.now) (λ f. EachPlace (length out.old) (λ k. EachRead (S.has source.now) f points.now.row (points.now.col +ℤ pos k)) × IsFormula f × HasRoom f (length out.old) (length temps.old)) }
-    ensures { EachPlace (length out.old) (λ k. at out.new k ≡ option_map_or (λ f. formula_value (S.samples source.now) f points.now.row (points.now.col +ℤ pos k)) (option_map formula_view otherwise.now) (pos 0)) }
+    requires other { ForSome (option_map formula_view otherwise.now)
+        (λ f. EachPlace (length out.old)
+        (λ k. EachRead (S.has source.now) f points.now.row (points.now.col +ℤ pos k))
+        × IsFormula f × HasRoom f (length out.old) (length temps.old)) }
+    ensures { EachPlace (length out.old) (λ k. at out.new k
+        ≡ option_map_or
+        (λ f. formula_value (S.samples source.now) f points.now.row (points.now.col +ℤ pos k))
+        (option_map formula_view otherwise.now) (pos 0)) }
 {
     match otherwise {
         Some(formula) => row(source, formula, points, out, temps),
@@ -117,9 +135,16 @@ pub fn cases_row<S: RowSource>(
 )
     requires some { 0 < length out.old }
     requires fits { length out.old ≡ points.now.len }
-    requires cases { All (λ p. EachPlace (length out.old) (λ k. IsReady (S.has source.now) (case_view p) points.now.row (points.now.col +ℤ pos k)) × IsRoomy (length out.old) (length temps.old) (case_view p)) cases.now }
-    requires other { ForSome (option_map formula_view otherwise.now) (λ f. EachPlace (length out.old) (λ k. EachRead (S.has source.now) f points.now.row (points.now.col +ℤ pos k)) × IsFormula f × HasRoom f (length out.old) (length temps.old)) }
-    ensures { EachPlace (length out.old) (λ k. at out.new k ≡ function_value (S.samples source.now) (map case_view cases.now) (option_map formula_view otherwise.now) points.now.row (points.now.col +ℤ pos k)) }
+    requires cases { All (λ p. EachPlace (length out.old)
+        (λ k. IsReady (S.has source.now) (case_view p) points.now.row (points.now.col +ℤ pos k))
+        × IsRoomy (length out.old) (length temps.old) (case_view p)) cases.now }
+    requires other { ForSome (option_map formula_view otherwise.now)
+        (λ f. EachPlace (length out.old)
+        (λ k. EachRead (S.has source.now) f points.now.row (points.now.col +ℤ pos k))
+        × IsFormula f × HasRoom f (length out.old) (length temps.old)) }
+    ensures { EachPlace (length out.old) (λ k. at out.new k
+        ≡ function_value (S.samples source.now) (map case_view cases.now)
+        (option_map formula_view otherwise.now) points.now.row (points.now.col +ℤ pos k)) }
 {
     other_row(source, otherwise, points, out, temps);
     for i in (0..cases.len()).rev() {

@@ -33,12 +33,21 @@ fn fill_area<S: RowSource>(
     requires rows { InDomainRange area.now.rows }
     requires cols { InDomainRange area.now.cols }
     requires tests { All (λ p. All IsTest p.tests) (map case_view function.now.cases.items) }
-    requires formulas { All IsFormula (formulas_of (by_cases (map case_view function.now.cases.items) (option_map formula_view function.now.otherwise))) }
-    requires boxes { AreBoxedAround area.now (by_cases (map case_view function.now.cases.items) (option_map formula_view function.now.otherwise)) }
-    requires reads { (r c : ℤ) → HoldsPoint area.now r c → BodyReads (S.has source.now) (by_cases (map case_view function.now.cases.items) (option_map formula_view function.now.otherwise)) r c }
+    requires formulas { All IsFormula (formulas_of (by_cases
+        (map case_view function.now.cases.items)
+        (option_map formula_view function.now.otherwise))) }
+    requires boxes { AreBoxedAround area.now (by_cases (map case_view function.now.cases.items)
+        (option_map formula_view function.now.otherwise)) }
+    requires reads { (r c : ℤ) → HoldsPoint area.now r c
+        → BodyReads (S.has source.now) (by_cases (map case_view function.now.cases.items)
+        (option_map formula_view function.now.otherwise)) r c }
     requires len { length out.old ≡ point_count area.now }
-    requires room { HasFunctionRoom (len_of area.now.cols) (length temps.old) (map case_view function.now.cases.items) (option_map formula_view function.now.otherwise) }
-    ensures { out.new ≡ raster area.now (function_value (S.samples source.now) (map case_view function.now.cases.items) (option_map formula_view function.now.otherwise)) }
+    requires room { HasFunctionRoom (len_of area.now.cols) (length temps.old)
+        (map case_view function.now.cases.items) (option_map formula_view function.now.otherwise) }
+    ensures { out.new
+        ≡ raster area.now (function_value (S.samples source.now)
+        (map case_view function.now.cases.items)
+        (option_map formula_view function.now.otherwise)) }
 {
     let first = RowSpan::top(area);
     let rows = area.rows.len() as usize;
@@ -57,10 +66,18 @@ pub fn area_into<S: RowSource>(
     requires rows { InDomainRange area.now.rows }
     requires cols { InDomainRange area.now.cols }
     requires tests { All (λ p. All IsTest p.tests) (map case_view function.now.cases.items) }
-    requires formulas { All IsFormula (formulas_of (by_cases (map case_view function.now.cases.items) (option_map formula_view function.now.otherwise))) }
-    requires boxes { AreBoxedAround area.now (by_cases (map case_view function.now.cases.items) (option_map formula_view function.now.otherwise)) }
-    requires reads { (r c : ℤ) → HoldsPoint area.now r c → BodyReads (S.has source.now) (by_cases (map case_view function.now.cases.items) (option_map formula_view function.now.otherwise)) r c }
-    ensures { OnOk result (values.new.items ≡ raster area.now (function_value (S.samples source.now) (map case_view function.now.cases.items) (option_map formula_view function.now.otherwise))) }
+    requires formulas { All IsFormula (formulas_of (by_cases
+        (map case_view function.now.cases.items)
+        (option_map formula_view function.now.otherwise))) }
+    requires boxes { AreBoxedAround area.now (by_cases (map case_view function.now.cases.items)
+        (option_map formula_view function.now.otherwise)) }
+    requires reads { (r c : ℤ) → HoldsPoint area.now r c
+        → BodyReads (S.has source.now) (by_cases (map case_view function.now.cases.items)
+        (option_map formula_view function.now.otherwise)) r c }
+    ensures { OnOk result (values.new.items
+        ≡ raster area.now (function_value (S.samples source.now)
+        (map case_view function.now.cases.items)
+        (option_map formula_view function.now.otherwise))) }
 {
     let cols = area.cols.len() as usize;
     let room = function_room(function, cols).ok_or(AllocError)?;
@@ -80,10 +97,18 @@ pub fn function_values<S: RowSource>(
     requires rows { InDomainRange domain.now.rows }
     requires cols { InDomainRange domain.now.cols }
     requires tests { All (λ p. All IsTest p.tests) (map case_view function.now.cases.items) }
-    requires formulas { All IsFormula (formulas_of (by_cases (map case_view function.now.cases.items) (option_map formula_view function.now.otherwise))) }
-    requires boxes { AreBoxed domain.now (by_cases (map case_view function.now.cases.items) (option_map formula_view function.now.otherwise)) }
-    requires reads { (r c : ℤ) → HoldsPoint domain.now r c → BodyReads (S.has source.now) (by_cases (map case_view function.now.cases.items) (option_map formula_view function.now.otherwise)) r c }
-    ensures { IfOk result (λ values. values.items ≡ raster domain.now (function_value (S.samples source.now) (map case_view function.now.cases.items) (option_map formula_view function.now.otherwise))) }
+    requires formulas { All IsFormula (formulas_of (by_cases
+        (map case_view function.now.cases.items)
+        (option_map formula_view function.now.otherwise))) }
+    requires boxes { AreBoxed domain.now (by_cases (map case_view function.now.cases.items)
+        (option_map formula_view function.now.otherwise)) }
+    requires reads { (r c : ℤ) → HoldsPoint domain.now r c
+        → BodyReads (S.has source.now) (by_cases (map case_view function.now.cases.items)
+        (option_map formula_view function.now.otherwise)) r c }
+    ensures { IfOk result (λ values. values.items
+        ≡ raster domain.now (function_value (S.samples source.now)
+        (map case_view function.now.cases.items)
+        (option_map formula_view function.now.otherwise))) }
 {
     let mut values = Vec::new(alloc);
     let mut temps = Vec::new(alloc);

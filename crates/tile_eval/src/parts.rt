@@ -24,7 +24,9 @@ impl Buffer {
     fn line(&self, area: &Area, place: u32) -> &[i32]
         requires within { IsSubarea area.now self.now.area }
         requires row { place < len_of area.now.rows }
-        ensures { result.now ≡ map (buffer_value self.now (area.now.rows.lo +ℤ pos place)) (numbers_of area.now.cols) }
+        ensures { result.now
+            ≡ map (buffer_value self.now (area.now.rows.lo +ℤ pos place))
+            (numbers_of area.now.cols) }
     {
         let row = number_at(&area.rows, place);
         self.view()

@@ -23,7 +23,8 @@ fn widened(alloc: Global, samples: &[u16]) -> Result<Vec<i32>, AllocError>
 #[tactic(auto, using(crate::proofs::Sampling::plane_found, crate::proofs::Sampling::plane_raster))]
 pub fn plane_values(alloc: Global, picture: &Picture, plane: usize) -> Result<Vec<i32>, AllocError>
     requires { plane < length picture.now.planes }
-    ensures { IfOk result (λ values. values.items ≡ raster (picture_area picture.now) (sample_at picture.now plane)) }
+    ensures { IfOk result
+        (λ values. values.items ≡ raster (picture_area picture.now) (sample_at picture.now plane)) }
 {
     widened(alloc, picture.planes()[plane].as_slice())
 }

@@ -30,8 +30,11 @@ pub fn read_row<S: RowSource>(
     out: &mut [i32],
 )
     requires fits { length out.old ≡ points.now.len }
-    requires reads { EachPlace (length out.old) (λ k. S.has source.now stage (index_at row.now points.now.row) (index_at col.now (points.now.col +ℤ pos k))) }
-    ensures { EachPlace (length out.old) (λ k. at out.new k ≡ S.samples source.now stage (index_at row.now points.now.row) (index_at col.now (points.now.col +ℤ pos k))) }
+    requires reads { EachPlace (length out.old) (λ k. S.has source.now stage
+        (index_at row.now points.now.row) (index_at col.now (points.now.col +ℤ pos k))) }
+    ensures { EachPlace (length out.old) (λ k. at out.new k
+        ≡ S.samples source.now stage (index_at row.now points.now.row)
+        (index_at col.now (points.now.col +ℤ pos k))) }
 {
     let own = points.row_at(row);
     if only_adds(col) {
@@ -51,8 +54,12 @@ fn shifted<'a, S: RowSource>(
 ) -> Option<&'a [i32]>
     requires mul { col.now.mul ≡ pos 1 }
     requires div { col.now.div ≡ pos 1 }
-    requires reads { EachPlace points.now.len (λ k. S.has source.now stage (index_at row.now points.now.row) (index_at col.now (points.now.col +ℤ pos k))) }
-    ensures { IfSome result (λ line. (length line.now ≡ points.now.len) × EachPlace points.now.len (λ k. at line.now k ≡ S.samples source.now stage (index_at row.now points.now.row) (index_at col.now (points.now.col +ℤ pos k)))) }
+    requires reads { EachPlace points.now.len (λ k. S.has source.now stage
+        (index_at row.now points.now.row) (index_at col.now (points.now.col +ℤ pos k))) }
+    ensures { IfSome result (λ line. (length line.now ≡ points.now.len)
+        × EachPlace points.now.len (λ k. at line.now k
+        ≡ S.samples source.now stage (index_at row.now points.now.row)
+        (index_at col.now (points.now.col +ℤ pos k)))) }
 {
     let row = points.row_at(row);
     let first = points.col_at(col);
@@ -65,8 +72,12 @@ pub fn given_row<'a, S: RowSource>(
     formula: &Formula,
     points: &RowSpan,
 ) -> Option<&'a [i32]>
-    requires { ReadsWithin (S.has source.now) (formula_view formula.now) points.now.row points.now.col points.now.len }
-    ensures { IfSome result (λ line. (length line.now ≡ points.now.len) × EachPlace points.now.len (λ k. at line.now k ≡ formula_value (S.samples source.now) (formula_view formula.now) points.now.row (points.now.col +ℤ pos k))) }
+    requires { ReadsWithin (S.has source.now) (formula_view formula.now) points.now.row
+        points.now.col points.now.len }
+    ensures { IfSome result (λ line. (length line.now ≡ points.now.len)
+        × EachPlace points.now.len (λ k. at line.now k
+        ≡ formula_value (S.samples source.now) (formula_view formula.now) points.now.row
+        (points.now.col +ℤ pos k))) }
 {
     match formula {
         Formula::Read(stage, row, col) if only_adds(col) => {

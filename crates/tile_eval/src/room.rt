@@ -51,7 +51,8 @@ pub fn formula_room(formula: &Formula, n: usize) -> Option<usize>
 
 // The least room for the operands of each of some cases.
 fn cases_room(cases: &[JobCase], n: usize) -> Option<usize>
-    ensures { IsLeast (λ room. All (λ p. HasRoom (formula_view p.formula) n room) cases.now) result }
+    ensures { IsLeast (λ room. All (λ p. HasRoom (formula_view p.formula) n room) cases.now)
+        result }
 {
     let mut room = Some(0);
     for case in cases {
@@ -62,7 +63,8 @@ fn cases_room(cases: &[JobCase], n: usize) -> Option<usize>
 
 // The least room for what stands where no case holds.
 fn other_room(otherwise: &Option<Formula>, n: usize) -> Option<usize>
-    ensures { IsLeast (λ room. ForSome (option_map formula_view otherwise.now) (λ f. HasRoom f n room)) result }
+    ensures { IsLeast
+        (λ room. ForSome (option_map formula_view otherwise.now) (λ f. HasRoom f n room)) result }
 {
     match otherwise {
         Some(formula) => formula_room(formula, n),
@@ -73,7 +75,8 @@ fn other_room(otherwise: &Option<Formula>, n: usize) -> Option<usize>
 /// The least room for what a function needs at `n` points, if that many numbers can be counted: for one row beside the
 /// operands of each case, and for those of what stands where no case holds.
 pub fn function_room(function: &Function, n: usize) -> Option<usize>
-    ensures { IsLeast (λ room. HasFunctionRoom n room (map case_view function.now.cases.items) (option_map formula_view function.now.otherwise)) result }
+    ensures { IsLeast (λ room. HasFunctionRoom n room (map case_view function.now.cases.items)
+        (option_map formula_view function.now.otherwise)) result }
 {
     let cases = with_rows(1, n, cases_room(function.cases(), n));
     greater(cases, other_room(function.otherwise(), n))

@@ -20,7 +20,8 @@ use row_kernels::{
 
 // The number that a formula is all along a row of points, if it is one.
 fn number_along(formula: &Formula, points: &RowSpan) -> Option<i32>
-    ensures { IfSome result (λ number. (env : Valuation) (c : ℤ) → formula_value env (formula_view formula.now) points.now.row c ≡ number) }
+    ensures { IfSome result (λ number. (env : Valuation) (c : ℤ)
+        → formula_value env (formula_view formula.now) points.now.row c ≡ number) }
 {
     match formula {
         Formula::Number(number) => Some(*number),
@@ -40,10 +41,13 @@ fn operand<'a, S: RowSource>(
 ) -> &'a [i32]
     requires fits { length own.old ≡ points.now.len }
     requires formula { IsFormula (formula_view formula.now) }
-    requires reads { ReadsWithin (S.has source.now) (formula_view formula.now) points.now.row points.now.col (length own.old) }
+    requires reads { ReadsWithin (S.has source.now) (formula_view formula.now) points.now.row
+        points.now.col (length own.old) }
     requires room { HasRoom (formula_view formula.now) (length own.old) (length temps.old) }
     ensures count { length result.now ≡ length own.old }
-    ensures values { EachPlace (length own.old) (λ k. at result.now k ≡ formula_value (S.samples source.now) (formula_view formula.now) points.now.row (points.now.col +ℤ pos k)) }
+    ensures values { EachPlace (length own.old) (λ k. at result.now k
+        ≡ formula_value (S.samples source.now) (formula_view formula.now) points.now.row
+        (points.now.col +ℤ pos k)) }
 {
     if let Some(line) = given_row(source, formula, points) {
         return line;
@@ -64,10 +68,14 @@ fn join_right<S: RowSource>(
 )
     requires fits { length out.old ≡ points.now.len }
     requires formula { IsFormula (formula_view right.now) }
-    requires reads { ReadsWithin (S.has source.now) (formula_view right.now) points.now.row points.now.col (length out.old) }
+    requires reads { ReadsWithin (S.has source.now) (formula_view right.now) points.now.row
+        points.now.col (length out.old) }
     requires own { length out.old ≤ length temps.old }
-    requires room { HasRoom (formula_view right.now) (length out.old) (length temps.old - length out.old) }
-    ensures { EachPlace (length out.old) (λ k. at out.new k ≡ binary_value op (at out.old k) (formula_value (S.samples source.now) (formula_view right.now) points.now.row (points.now.col +ℤ pos k))) }
+    requires room { HasRoom (formula_view right.now) (length out.old)
+        (length temps.old - length out.old) }
+    ensures { EachPlace (length out.old) (λ k. at out.new k
+        ≡ binary_value op (at out.old k) (formula_value (S.samples source.now)
+        (formula_view right.now) points.now.row (points.now.col +ℤ pos k))) }
 {
     if let Some(number) = number_along(right, points) {
         combine_number(op, out, number);
@@ -88,9 +96,12 @@ pub fn row<S: RowSource>(
 )
     requires fits { length out.old ≡ points.now.len }
     requires formula { IsFormula (formula_view formula.now) }
-    requires reads { ReadsWithin (S.has source.now) (formula_view formula.now) points.now.row points.now.col (length out.old) }
+    requires reads { ReadsWithin (S.has source.now) (formula_view formula.now) points.now.row
+        points.now.col (length out.old) }
     requires room { HasRoom (formula_view formula.now) (length out.old) (length temps.old) }
-    ensures { EachPlace (length out.old) (λ k. at out.new k ≡ formula_value (S.samples source.now) (formula_view formula.now) points.now.row (points.now.col +ℤ pos k)) }
+    ensures { EachPlace (length out.old) (λ k. at out.new k
+        ≡ formula_value (S.samples source.now) (formula_view formula.now) points.now.row
+        (points.now.col +ℤ pos k)) }
 {
     match formula {
         Formula::Number(number) => fill(out, *number),

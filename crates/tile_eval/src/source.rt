@@ -18,18 +18,22 @@ pub trait RowSource {
     /// Writes the samples of a stage along a row, from a column on.
     fn read_row(&self, stage: usize, row: i32, first: i32, out: &mut [i32])
         requires { EachPlace (length out.old) (λ k. has self.now stage row (first +ℤ pos k)) }
-        ensures { EachPlace (length out.old) (λ k. at out.new k ≡ samples self.now stage row (first +ℤ pos k)) };
+        ensures { EachPlace (length out.old)
+            (λ k. at out.new k ≡ samples self.now stage row (first +ℤ pos k)) };
 
     /// The samples of a stage along a row, from a column on, where they lie side by side in memory.
     fn borrow_row(&self, stage: usize, row: i32, first: i32, count: usize) -> Option<&[i32]>
         requires { EachPlace count (λ k. has self.now stage row (first +ℤ pos k)) }
-        ensures { IfSome result (λ line. (length line.now ≡ count) × EachPlace count (λ k. at line.now k ≡ samples self.now stage row (first +ℤ pos k))) };
+        ensures { IfSome result (λ line. (length line.now ≡ count)
+            × EachPlace count (λ k. at line.now k ≡ samples self.now stage row (first +ℤ pos k))) };
 
     /// Writes the samples of a stage along a row, at the columns that an index takes at the columns of some points.
     fn gather(&self, stage: usize, row: i32, col: &Index, points: &RowSpan, out: &mut [i32])
         requires fits { length out.old ≡ points.now.len }
-        requires there { EachPlace (length out.old) (λ k. has self.now stage row (index_at col.now (points.now.col +ℤ pos k))) }
-        ensures { EachPlace (length out.old) (λ k. at out.new k ≡ samples self.now stage row (index_at col.now (points.now.col +ℤ pos k))) }
+        requires there { EachPlace (length out.old)
+            (λ k. has self.now stage row (index_at col.now (points.now.col +ℤ pos k))) }
+        ensures { EachPlace (length out.old) (λ k. at out.new k
+            ≡ samples self.now stage row (index_at col.now (points.now.col +ℤ pos k))) }
     {
         for k in 0..out.len() {
             out[k] = self.sample(stage, row, col.at(points.column(k)));

@@ -40,7 +40,8 @@ impl StageBuffers {
     pub(crate) fn learn(&mut self, alloc: Global, job: &Job, stage: usize) -> Result<(), AllocError>
         requires places { length self.old.buffers.items ≡ length (pipeline_in job.now).stages }
         requires right { AreTrue (pipeline_in job.now) self.old.buffers.items }
-        ensures places { OnOk result (length self.new.buffers.items ≡ length (pipeline_in job.now).stages) }
+        ensures places { OnOk result
+            (length self.new.buffers.items ≡ length (pipeline_in job.now).stages) }
         ensures right { OnOk result (AreTrue (pipeline_in job.now) self.new.buffers.items) }
         ensures more { OnOk result (KnowsMore self.old.buffers.items self.new.buffers.items) }
         ensures served { OnOk result (IsServed (pipeline_in job.now) self.new.buffers.items stage) }
@@ -60,10 +61,12 @@ impl StageBuffers {
     fn learn_reads(&mut self, alloc: Global, job: &Job, stage: usize) -> Result<(), AllocError>
         requires places { length self.old.buffers.items ≡ length (pipeline_in job.now).stages }
         requires right { AreTrue (pipeline_in job.now) self.old.buffers.items }
-        ensures places { OnOk result (length self.new.buffers.items ≡ length (pipeline_in job.now).stages) }
+        ensures places { OnOk result
+            (length self.new.buffers.items ≡ length (pipeline_in job.now).stages) }
         ensures right { OnOk result (AreTrue (pipeline_in job.now) self.new.buffers.items) }
         ensures more { OnOk result (KnowsMore self.old.buffers.items self.new.buffers.items) }
-        ensures inputs { OnOk result (HasInputs (pipeline_in job.now) self.new.buffers.items stage) }
+        ensures inputs { OnOk result
+            (HasInputs (pipeline_in job.now) self.new.buffers.items stage) }
     {
         let Some(reads) = job.reads(alloc, stage)? else {
             return Ok(());

@@ -24,8 +24,10 @@ pub fn kernel_line<S: RowSource>(
 )
     requires kernel { IsKernel kernel.now }
     requires a { a < length kernel.now }
-    requires reads { EachPlace (length line.old) (λ j. S.has source.now stage (kernel_row kernel.now points.now.row a) (kernel_column kernel.now points.now.col j)) }
-    ensures { IsUnder kernel.now (S.samples source.now stage) points.now.row points.now.col a line.new }
+    requires reads { EachPlace (length line.old) (λ j. S.has source.now stage
+        (kernel_row kernel.now points.now.row a) (kernel_column kernel.now points.now.col j)) }
+    ensures { IsUnder kernel.now (S.samples source.now stage) points.now.row points.now.col a
+        line.new }
 {
     let rows = kernel.rows();
     let row = points.row_under(rows.len(), a);
@@ -44,8 +46,11 @@ fn borrowed_line<'a, S: RowSource>(
 ) -> Option<&'a [i32]>
     requires kernel { IsKernel kernel.now }
     requires a { a < length kernel.now }
-    requires reads { EachPlace count (λ j. S.has source.now stage (kernel_row kernel.now points.now.row a) (kernel_column kernel.now points.now.col j)) }
-    ensures { IfSome result (λ line. (length line.now ≡ count) × IsUnder kernel.now (S.samples source.now stage) points.now.row points.now.col a line.now) }
+    requires reads { EachPlace count (λ j. S.has source.now stage
+        (kernel_row kernel.now points.now.row a) (kernel_column kernel.now points.now.col j)) }
+    ensures { IfSome result (λ line. (length line.now ≡ count)
+        × IsUnder kernel.now (S.samples source.now stage) points.now.row points.now.col a
+        line.now) }
 {
     let rows = kernel.rows();
     let row = points.row_under(rows.len(), a);
@@ -65,9 +70,14 @@ fn add_kernel_row<S: RowSource>(
 )
     requires kernel { IsKernel kernel.now }
     requires a { a < length kernel.now }
-    requires reads { KernelWithin (S.has source.now stage) kernel.now points.now.row points.now.col (length out.old) }
+    requires reads { KernelWithin (S.has source.now stage) kernel.now points.now.row points.now.col
+        (length out.old) }
     requires room { length out.old + 14 ≤ length temps.old }
-    ensures { EachPlace (length out.old) (λ k. (s : ℤ) → at out.old k ≡ wrapped s → at out.new k ≡ wrapped (s +ℤ row_sum kernel.now (S.samples source.now stage) points.now.row (points.now.col +ℤ pos k) a)) }
+    ensures { EachPlace (length out.old) (λ k. (s : ℤ) → at out.old k ≡ wrapped s
+        → at out.new k
+        ≡ wrapped (s
+        +ℤ row_sum kernel.now (S.samples source.now stage) points.now.row
+        (points.now.col +ℤ pos k) a)) }
 {
     let factors = kernel.rows()[a].factors();
     let count = out.len() + factors.len() - 1;
@@ -91,9 +101,12 @@ fn sums_by_rows<S: RowSource>(
     temps: &mut [i32],
 )
     requires kernel { IsKernel kernel.now }
-    requires reads { KernelWithin (S.has source.now stage) kernel.now points.now.row points.now.col (length out.old) }
+    requires reads { KernelWithin (S.has source.now stage) kernel.now points.now.row points.now.col
+        (length out.old) }
     requires room { length out.old + 14 ≤ length temps.old }
-    ensures { EachPlace (length out.old) (λ k. at out.new k ≡ wrapped (weighted_sum kernel.now (S.samples source.now stage) points.now.row (points.now.col +ℤ pos k))) }
+    ensures { EachPlace (length out.old) (λ k. at out.new k
+        ≡ wrapped (weighted_sum kernel.now (S.samples source.now stage) points.now.row
+        (points.now.col +ℤ pos k))) }
 {
     fill(out, 0);
     for a in 0..kernel.rows().len() {
@@ -111,8 +124,12 @@ fn sums_at_once<S: RowSource>(
     out: &mut [i32],
 ) -> bool
     requires kernel { IsKernel kernel.now }
-    requires reads { KernelWithin (S.has source.now stage) kernel.now points.now.row points.now.col (length out.old) }
-    ensures { IsTrue result → EachPlace (length out.old) (λ k. at out.new k ≡ wrapped (weighted_sum kernel.now (S.samples source.now stage) points.now.row (points.now.col +ℤ pos k))) }
+    requires reads { KernelWithin (S.has source.now stage) kernel.now points.now.row points.now.col
+        (length out.old) }
+    ensures { IsTrue result
+        → EachPlace (length out.old) (λ k. at out.new k
+        ≡ wrapped (weighted_sum kernel.now (S.samples source.now stage) points.now.row
+        (points.now.col +ℤ pos k))) }
 {
     let Some(square) = Kernel3x3::of(kernel) else {
         return false;
@@ -142,9 +159,12 @@ pub fn stencil_row<S: RowSource>(
 )
     requires divisor { IsDivisor divisor }
     requires kernel { IsKernel kernel.now }
-    requires reads { KernelWithin (S.has source.now stage) kernel.now points.now.row points.now.col (length out.old) }
+    requires reads { KernelWithin (S.has source.now stage) kernel.now points.now.row points.now.col
+        (length out.old) }
     requires room { length out.old + 14 ≤ length temps.old }
-    ensures { EachPlace (length out.old) (λ k. at out.new k ≡ floor_div (wrapped (weighted_sum kernel.now (S.samples source.now stage) points.now.row (points.now.col +ℤ pos k))) (pos divisor)) }
+    ensures { EachPlace (length out.old) (λ k. at out.new k
+        ≡ floor_div (wrapped (weighted_sum kernel.now (S.samples source.now stage) points.now.row
+        (points.now.col +ℤ pos k))) (pos divisor)) }
 {
     if !sums_at_once(source, stage, kernel, points, out) {
         sums_by_rows(source, stage, kernel, points, out, temps);

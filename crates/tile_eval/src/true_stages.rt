@@ -28,7 +28,8 @@ impl<'a> TrueStages<'a> {
     /// Fails only where memory is refused.
     pub fn of(alloc: Global, job: &'a Job, stages: &[usize]) -> Result<TrueStages<'a>, AllocError>
         ensures job { IfOk result (λ found. found.job.now ≡ job.now) }
-        ensures served { IfOk result (λ found. All (IsServed (pipeline_in job.now) found.known.buffers.items) stages.now) }
+        ensures served { IfOk result
+            (λ found. All (IsServed (pipeline_in job.now) found.known.buffers.items) stages.now) }
     {
         let mut known = StageBuffers::none(alloc, job.stages().len())?;
         for stage in stages {
@@ -60,7 +61,8 @@ impl<'a> TrueStages<'a> {
     /// Fails only where memory is refused.
     pub fn values(&self, alloc: Global, stage: usize) -> Result<Vec<i32>, AllocError>
         requires { IsServed (pipeline_in self.now.job.now) self.now.known.buffers.items stage }
-        ensures { IfOk result (λ values. values.items ≡ stage_values (pipeline_in self.now.job.now) stage) }
+        ensures { IfOk result
+            (λ values. values.items ≡ stage_values (pipeline_in self.now.job.now) stage) }
     {
         match self.known.whole(stage) {
             Some(whole) => whole.values.to_vec(alloc),
@@ -82,8 +84,10 @@ impl<'a> TrueStages<'a> {
         col: u32,
     ) -> Result<Option<Vec<i32>>, AllocError>
         requires { IsServed (pipeline_in self.now.job.now) self.now.known.buffers.items stage }
-        ensures some { IfOk result (λ found. IfSome found (λ values. IsTrueTile (pipeline_in self.now.job.now) stage row col values.items)) }
-        ensures none { IfOk result (λ found. IfNone found ((values : List ℤ) → ¬ (IsTrueTile (pipeline_in self.now.job.now) stage row col values))) }
+        ensures some { IfOk result (λ found. IfSome found
+            (λ values. IsTrueTile (pipeline_in self.now.job.now) stage row col values.items)) }
+        ensures none { IfOk result (λ found. IfNone found ((values : List ℤ)
+            → ¬ (IsTrueTile (pipeline_in self.now.job.now) stage row col values))) }
     {
         let Some(area) = function_tile(self.job, stage, row, col) else {
             return Ok(None);
@@ -98,7 +102,8 @@ impl<'a> TrueStages<'a> {
 // The area of a function's tile; none of other stages.
 fn function_tile(job: &Job, stage: usize, row: u32, col: u32) -> Option<Area>
     ensures some { IfSome result (IsFunctionTile (pipeline_in job.now) stage row col) }
-    ensures none { IfNone result ((area : Area) → ¬ (IsFunctionTile (pipeline_in job.now) stage row col area)) }
+    ensures none { IfNone result
+        ((area : Area) → ¬ (IsFunctionTile (pipeline_in job.now) stage row col area)) }
 {
     let found = job.stage(stage)?;
     match found.body() {
@@ -120,8 +125,10 @@ pub fn true_tile(
     row: u32,
     col: u32,
 ) -> Result<Option<Vec<i32>>, AllocError>
-    ensures some { IfOk result (λ found. IfSome found (λ values. IsTrueTile (pipeline_in job.now) stage row col values.items)) }
-    ensures none { IfOk result (λ found. IfNone found ((values : List ℤ) → ¬ (IsTrueTile (pipeline_in job.now) stage row col values))) }
+    ensures some { IfOk result (λ found. IfSome found
+        (λ values. IsTrueTile (pipeline_in job.now) stage row col values.items)) }
+    ensures none { IfOk result (λ found. IfNone found
+        ((values : List ℤ) → ¬ (IsTrueTile (pipeline_in job.now) stage row col values))) }
 {
     TrueStages::of(alloc, job, &[stage])?.tile(alloc, stage, row, col)
 }
@@ -148,7 +155,8 @@ pub fn plain(alloc: Global, job: &Job, stage: usize) -> Result<Vec<i32>, AllocEr
 ///
 /// Fails only where memory is refused.
 pub fn plain_all(alloc: Global, job: &Job, stages: &[usize]) -> Result<Vec<Vec<i32>>, AllocError>
-    ensures { IfOk result (λ all. map (λ values. values.items) all.items ≡ map (stage_values (pipeline_in job.now)) stages.now) }
+    ensures { IfOk result (λ all. map (λ values. values.items) all.items
+        ≡ map (stage_values (pipeline_in job.now)) stages.now) }
 {
     let known = TrueStages::of(alloc, job, stages)?;
     let mut all = Vec::with_capacity(alloc, stages.len())?;

@@ -53,11 +53,17 @@ body_back OfTile len bytes is fits =
     let count : length bytes / 4 ≡ len = omega arith in
     let whole : length bytes ≡ (length bytes / 4) * 4 = omega arith in
     let both = numbers_back w32 (2 ^ 32) signed32 (length bytes / 4) bytes whole fits in
-    let n : length (first_numbers w32 (length bytes / 4) bytes) ≡ len = count_of_numbers w32 (length bytes / 4) bytes ∙ count in
-    (ap (λ (k : ℕ). 0 ∷ (to_be_bytes w32 k ++ flat_map (number_bytes w32) (first_numbers w32 (length bytes / 4) bytes))) n ∙ ap (λ (l : List ℕ). 0 ∷ (to_be_bytes w32 len ++ l)) both.0, both.1)
+    let n : length (first_numbers w32 (length bytes / 4) bytes) ≡ len = count_of_numbers w32 (length bytes / 4) bytes ∙ count in (
+      ap (λ (k : ℕ). 0 ∷ (to_be_bytes w32 k ++ flat_map (number_bytes w32) (first_numbers w32 (length bytes / 4) bytes))) n
+          ∙ ap (λ (l : List ℕ). 0 ∷ (to_be_bytes w32 len ++ l)) both.0,
+      both.1,
+    )
 body_back OfPartial len bytes is fits =
     let count : length bytes / 8 ≡ len = omega arith in
     let whole : length bytes ≡ (length bytes / 8) * 8 = omega arith in
     let both = numbers_back w64 (2 ^ 64) signed64 (length bytes / 8) bytes whole fits in
-    let n : length (first_numbers w64 (length bytes / 8) bytes) ≡ len = count_of_numbers w64 (length bytes / 8) bytes ∙ count in
-    (ap (λ (k : ℕ). 1 ∷ (to_be_bytes w32 k ++ flat_map (number_bytes w64) (first_numbers w64 (length bytes / 8) bytes))) n ∙ ap (λ (l : List ℕ). 1 ∷ (to_be_bytes w32 len ++ l)) both.0, both.1)
+    let n : length (first_numbers w64 (length bytes / 8) bytes) ≡ len = count_of_numbers w64 (length bytes / 8) bytes ∙ count in (
+      ap (λ (k : ℕ). 1 ∷ (to_be_bytes w32 k ++ flat_map (number_bytes w64) (first_numbers w64 (length bytes / 8) bytes))) n
+          ∙ ap (λ (l : List ℕ). 1 ∷ (to_be_bytes w32 len ++ l)) both.0,
+      both.1,
+    )

@@ -91,7 +91,8 @@ signed64 = record {
   bits_below = λ z f. below_64 z f;
 }
 
-number_back : (w : Width) (limit : ℕ) → IsSigned w limit → (bytes : List ℕ) → byte_len w ≤ length bytes → AreBytes bytes → number_bytes w (number_in w bytes) ≡ take (byte_len w) bytes
+number_back : (w : Width) (limit : ℕ) → IsSigned w limit → (bytes : List ℕ) → byte_len w ≤ length bytes → AreBytes bytes
+    → number_bytes w (number_in w bytes) ≡ take (byte_len w) bytes
 number_back w limit s bytes long fits =
     let front = AreBytes-take (byte_len w) bytes fits in
     let below = s.wide.below (take (byte_len w) bytes) front in
@@ -108,7 +109,8 @@ numbers_back w limit s zero bytes is fits = (sym (nil_of bytes (omega arith)), t
     nil_of (x ∷ xs) e = absurd (omega arith)
 numbers_back w limit s (suc n) bytes is fits =
     let long : byte_len w ≤ length bytes = longer n (byte_len w) (length bytes) is in
-    let rest : length (drop (byte_len w) bytes) ≡ n * byte_len w = length-drop (byte_len w) bytes ∙ shorter n (byte_len w) (length bytes) is in
+    let rest : length (drop (byte_len w) bytes) ≡ n * byte_len w =
+    length-drop (byte_len w) bytes ∙ shorter n (byte_len w) (length bytes) is in
     let others = numbers_back w limit s n (drop (byte_len w) bytes) rest (AreBytes-drop (byte_len w) bytes fits) in
     let front = number_back w limit s bytes long fits in
     let below = s.wide.below (take (byte_len w) bytes) (AreBytes-take (byte_len w) bytes fits) in
@@ -121,7 +123,8 @@ numbers_back w limit s (suc n) bytes is fits =
     shorter n k l e = omega (arith, suc_mul n k)
 
 pub numbers_again : (w : Width) (limit : ℕ) → IsSigned w limit → (numbers : List ℤ) → AllByRecursion (FitsSigned w) numbers
-    → (first_numbers w (length numbers) (flat_map (number_bytes w) numbers) ≡ numbers) × (length (flat_map (number_bytes w) numbers) ≡ length numbers * byte_len w)
+    → (first_numbers w (length numbers) (flat_map (number_bytes w) numbers) ≡ numbers)
+    × (length (flat_map (number_bytes w) numbers) ≡ length numbers * byte_len w)
 unfolding first_numbers
 numbers_again w limit s [] fits = (refl, omega arith)
 numbers_again w limit s (z ∷ zs) fits =

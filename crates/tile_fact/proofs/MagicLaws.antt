@@ -17,13 +17,15 @@ not_eqb a b other = elim (eqb_tells a b) [ inl same ↦ absurd (other same.1) | 
 pub magic_step : (wanted bytes : List ℕ) (at : ℕ) → at < length wanted → at < length bytes → get_or bytes at 0 ≡ get_or wanted at 0
     → magic_read at (drop at wanted) (drop at bytes) ≡ magic_read (at + 1) (drop (at + 1) wanted) (drop (at + 1) bytes)
 unfolding magic_read
-magic_step wanted bytes at in_wanted in_bytes same = rw (cons_at wanted at in_wanted, cons_at bytes at in_bytes, same, same_eqb (get_or wanted at 0)) refl
+magic_step wanted bytes at in_wanted in_bytes same =
+    rw (cons_at wanted at in_wanted, cons_at bytes at in_bytes, same, same_eqb (get_or wanted at 0)) refl
 
 pub magic_differs : (wanted bytes : List ℕ) (at : ℕ) → at < length wanted → at < length bytes → get_or bytes at 0 ≢ get_or wanted at 0
     → magic_read at (drop at wanted) (drop at bytes) ≡ Err (BadMagic at)
 unfolding magic_read
 magic_differs wanted bytes at in_wanted in_bytes other = rw (cons_at wanted at in_wanted, cons_at bytes at in_bytes, not_eqb _ _ other) refl
 
-pub magic_ends : (wanted bytes : List ℕ) (at : ℕ) → at < length wanted → at ≡ length bytes → magic_read at (drop at wanted) (drop at bytes) ≡ Err (Cut at)
+pub magic_ends : (wanted bytes : List ℕ) (at : ℕ) → at < length wanted → at ≡ length bytes
+    → magic_read at (drop at wanted) (drop at bytes) ≡ Err (Cut at)
 unfolding magic_read
 magic_ends wanted bytes at in_wanted end = rw (cons_at wanted at in_wanted, drop_all at bytes (omega arith)) refl

@@ -34,7 +34,8 @@ bin_end bytes short =
 
 -- ---- comparing number by number
 
-pub unequal_first : (x y : ℤ) (xs ys us vs : List ℤ) (r : Ordering) → r ≡ int_cmp x y → r ≢ Equal → us ≡ x ∷ xs → vs ≡ y ∷ ys → r ≡ slice_cmp int_cmp us vs
+pub unequal_first : (x y : ℤ) (xs ys us vs : List ℤ) (r : Ordering) → r ≡ int_cmp x y → r ≢ Equal → us ≡ x ∷ xs → vs ≡ y ∷ ys
+    → r ≡ slice_cmp int_cmp us vs
 unequal_first x y xs ys us vs r is not p q = rw (p, q) (is ∙ sym (decided (int_cmp x y) (slice_cmp int_cmp xs ys) (λ e. not (is ∙ e))))
   where
     decided : (a b : Ordering) → a ≢ Equal → ordering_then a b ≡ a
@@ -42,7 +43,8 @@ unequal_first x y xs ys us vs r is not p q = rw (p, q) (is ∙ sym (decided (int
     decided Equal b n = absurd (n refl)
     decided Greater b n = refl
 
-pub equal_first : (x y : ℤ) (xs ys us vs : List ℤ) → int_cmp x y ≡ Equal → us ≡ x ∷ xs → vs ≡ y ∷ ys → slice_cmp int_cmp xs ys ≡ slice_cmp int_cmp us vs
+pub equal_first : (x y : ℤ) (xs ys us vs : List ℤ) → int_cmp x y ≡ Equal → us ≡ x ∷ xs → vs ≡ y ∷ ys
+    → slice_cmp int_cmp xs ys ≡ slice_cmp int_cmp us vs
 equal_first x y xs ys us vs e p q = rw (p, q, e) refl
 
 pub longer_first : (x : ℤ) (xs us vs : List ℤ) → us ≡ x ∷ xs → vs ≡ [] → slice_cmp int_cmp us vs ≡ Greater
@@ -56,15 +58,19 @@ both_end us vs p q = rw (p, q) refl
 
 -- ---- one number more
 
-pub sample_more : (front all pushed : List ℤ) (rest behind : List ℕ) (x : ℤ) → 4 ≤ length rest → front ++ numbers_in w32 rest ≡ all → pushed ≡ front ++ x ∷ []
+pub sample_more : (front all pushed : List ℤ) (rest behind : List ℕ) (x : ℤ) → 4 ≤ length rest → front ++ numbers_in w32 rest ≡ all
+    → pushed ≡ front ++ x ∷ []
     → x ≡ number_in w32 rest → behind ≡ drop 4 rest → pushed ++ numbers_in w32 behind ≡ all
 sample_more front all pushed rest behind x long so_far push is cut =
-    rw (push, is, cut) (append_assoc front (number_in w32 rest ∷ []) (numbers_in w32 (drop 4 rest)) ∙ ap (λ (l : List ℤ). front ++ l) (sym (sample_step rest long)) ∙ so_far)
+    rw (push, is, cut) (append_assoc front (number_in w32 rest ∷ []) (numbers_in w32 (drop 4 rest))
+    ∙ ap (λ (l : List ℤ). front ++ l) (sym (sample_step rest long)) ∙ so_far)
 
-pub bin_more : (front all pushed : List ℤ) (rest behind : List ℕ) (x : ℤ) → 8 ≤ length rest → front ++ numbers_in w64 rest ≡ all → pushed ≡ front ++ x ∷ []
+pub bin_more : (front all pushed : List ℤ) (rest behind : List ℕ) (x : ℤ) → 8 ≤ length rest → front ++ numbers_in w64 rest ≡ all
+    → pushed ≡ front ++ x ∷ []
     → x ≡ number_in w64 rest → behind ≡ drop 8 rest → pushed ++ numbers_in w64 behind ≡ all
 bin_more front all pushed rest behind x long so_far push is cut =
-    rw (push, is, cut) (append_assoc front (number_in w64 rest ∷ []) (numbers_in w64 (drop 8 rest)) ∙ ap (λ (l : List ℤ). front ++ l) (sym (bin_step rest long)) ∙ so_far)
+    rw (push, is, cut) (append_assoc front (number_in w64 rest ∷ []) (numbers_in w64 (drop 8 rest))
+    ∙ ap (λ (l : List ℤ). front ++ l) (sym (bin_step rest long)) ∙ so_far)
 
 pub none_more : (front rest all : List ℤ) → front ++ rest ≡ all → rest ≡ [] → front ≡ all
 none_more front rest all so_far end = sym (append-nil front) ∙ ap (λ (l : List ℤ). front ++ l) (sym end) ∙ so_far

@@ -45,7 +45,8 @@ one_fact a b k n i = record { key = k i; body = n i }
 
 pub same_fact : (a b : Fact) → fact_cmp a b ≡ Equal → a ≡ b
 unfolding fact_cmp
-same_fact a b h = let both = tied (key_cmp a.key b.key) (body_cmp a.body b.body) h in one_fact a b (same_key _ _ both.0) (same_body _ _ both.1)
+same_fact a b h =
+    let both = tied (key_cmp a.key b.key) (body_cmp a.body b.body) h in one_fact a b (same_key _ _ both.0) (same_body _ _ both.1)
 
 pub equal_facts : (a b : Fact) → (fact_cmp a b ≡ Equal) ↔ (a ≡ b)
 equal_facts a b = (same_fact a b, λ h. ap (λ f. fact_cmp f b) h ∙ not_less (fact_cmp b b) (fact_order.antisymm b b))

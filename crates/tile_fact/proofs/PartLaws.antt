@@ -7,7 +7,8 @@ use Rattle.tile_fact.specs.declared.fault.FactFault.TheVariants.{Cut}
 use Rattle.tile_fact.specs.Reading.{◌>>=◌, part_read}
 
 -- the value of a step that did not fail
-pub bind_ok : {A B : Type 0} (r : Result A FactFault) (f : A → Result B FactFault) (y : B) → (r >>= f) ≡ Ok y → (x : A) × (r ≡ Ok x) × (f x ≡ Ok y)
+pub bind_ok : {A B : Type 0} (r : Result A FactFault) (f : A → Result B FactFault) (y : B) → (r >>= f) ≡ Ok y
+    → (x : A) × (r ≡ Ok x) × (f x ≡ Ok y)
 bind_ok (Ok x) f y e = (x, refl, e)
 bind_ok (Err d) f y e = absurd cc
 
@@ -31,7 +32,11 @@ part_takes total len bytes part rest e =
     let long : len ≤ length bytes = ltb-false _ _ g.0 in
     let part-is : take len bytes ≡ part = ap (λ (p : List ℕ × List ℕ). p.0) g.1 in
     let rest-is : drop len bytes ≡ rest = ap (λ (p : List ℕ × List ℕ). p.1) g.1 in
-    record { whole = rw (← part-is, ← rest-is) (sym (take-append-drop len bytes)); len_is = rw (← part-is) (omega (arith, length-take len bytes)) }
+    record {
+      whole =
+          rw (← part-is, ← rest-is) (sym (take-append-drop len bytes));
+      len_is = rw (← part-is) (omega (arith, length-take len bytes));
+    }
 
 pub part_again : (total len : ℕ) (part rest : List ℕ) → length part ≡ len → part_read total len (part ++ rest) ≡ Ok (part, rest)
 unfolding part_read

@@ -11,18 +11,23 @@ use Rattle.tile_fact.specs.Numbers.{kind_byte, bytes_each, most, first_numbers, 
 use Rattle.tile_fact.specs.Reading.{part_read, count_read, kind_read, length_read}
 use Rattle.tile_fact.proofs.PartLaws.{Part, bind_ok, part_takes}
 
-pub count_takes : (total : ℕ) (bytes : List ℕ) (n : ℕ) (rest : List ℕ) → count_read total bytes ≡ Ok (n, rest) → (part : List ℕ) × Part bytes 4 part rest × (n ≡ from_be_bytes w32 part)
+pub count_takes : (total : ℕ) (bytes : List ℕ) (n : ℕ) (rest : List ℕ) → count_read total bytes ≡ Ok (n, rest)
+    → (part : List ℕ) × Part bytes 4 part rest × (n ≡ from_be_bytes w32 part)
 unfolding count_read
 count_takes total bytes n rest e =
     let b = bind_ok (part_read total 4 bytes) (λ part. Ok (from_be_bytes w32 part.0, part.1)) (n, rest) e in
     let same : ◌≡◌ {A = ℕ × List ℕ} (from_be_bytes w32 b.0.0, b.0.1) (n, rest) = ok_same _ _ b.2 in
-    let rest-is : b.0.1 ≡ rest = ap (λ (p : ℕ × List ℕ). p.1) same in
-    (b.0.0, subst (λ (r : List ℕ). Part bytes 4 b.0.0 r) rest-is (part_takes total 4 bytes b.0.0 b.0.1 b.1), sym (ap (λ (p : ℕ × List ℕ). p.0) same))
+    let rest-is : b.0.1 ≡ rest = ap (λ (p : ℕ × List ℕ). p.1) same in (
+      b.0.0,
+      subst (λ (r : List ℕ). Part bytes 4 b.0.0 r) rest-is (part_takes total 4 bytes b.0.0 b.0.1 b.1),
+      sym (ap (λ (p : ℕ × List ℕ). p.0) same),
+    )
   where
     ok_same : (x y : ℕ × List ℕ) → (let r : Result (ℕ × List ℕ) FactFault = Ok x in r) ≡ Ok y → x ≡ y
     ok_same x y h = cc
 
-pub kind_takes : (total : ℕ) (bytes : List ℕ) (kind : Kind) (rest : List ℕ) → kind_read total bytes ≡ Ok (kind, rest) → bytes ≡ kind_byte kind ∷ rest
+pub kind_takes : (total : ℕ) (bytes : List ℕ) (kind : Kind) (rest : List ℕ) → kind_read total bytes ≡ Ok (kind, rest)
+    → bytes ≡ kind_byte kind ∷ rest
 unfolding kind_read
 kind_takes total [] kind rest e = absurd cc
 kind_takes total (zero ∷ bytes) kind rest e =
@@ -35,10 +40,13 @@ guard_len : (b : Bool) (d : FactFault) (x y : ℕ × List ℕ) → cond b (Err d
 guard_len true d x y e = absurd cc
 guard_len false d x y e = (refl, cc)
 
-pub length_takes : (total : ℕ) (kind : Kind) (bytes : List ℕ) (n : ℕ) (rest : List ℕ) → length_read total kind bytes ≡ Ok (n, rest) → (count_read total bytes ≡ Ok (n, rest)) × (n ≤ most kind)
+pub length_takes : (total : ℕ) (kind : Kind) (bytes : List ℕ) (n : ℕ) (rest : List ℕ) → length_read total kind bytes ≡ Ok (n, rest)
+    → (count_read total bytes ≡ Ok (n, rest)) × (n ≤ most kind)
 unfolding length_read
 length_takes total kind bytes n rest e =
-    let b = bind_ok (count_read total bytes) (λ len. cond (ltb (most kind) len.0) (Err (TooLong (total - length bytes))) (Ok len)) (n, rest) e in
+    let b =
+    bind_ok (count_read total bytes) (λ len. cond (ltb (most kind) len.0) (Err (TooLong (total - length bytes))) (Ok len)) (n, rest)
+    e in
     let g = guard_len (ltb (most kind) b.0.0) (TooLong (total - length bytes)) b.0 (n, rest) b.2 in
     let fits : b.0.0 ≤ most kind = ltb-false _ _ g.0 in
     (b.1 ∙ ap (λ (x : ℕ × List ℕ). Ok x) g.1, subst (λ (x : ℕ × List ℕ). x.0 ≤ most kind) g.1 fits)
@@ -48,7 +56,8 @@ unfolding first_numbers
 count_of_numbers w zero bytes = refl
 count_of_numbers w (suc n) bytes = ap suc (count_of_numbers w n _)
 
-pub body_within : (kind : Kind) (bytes : List ℕ) (len : ℕ) → length bytes ≡ len * bytes_each kind → len ≤ most kind → IsWithin (body_in kind bytes)
+pub body_within : (kind : Kind) (bytes : List ℕ) (len : ℕ) → length bytes ≡ len * bytes_each kind → len ≤ most kind
+    → IsWithin (body_in kind bytes)
 body_within OfTile bytes len is fits = omega (arith, count_of_numbers w32 (length bytes / 4) bytes)
 body_within OfPartial bytes len is fits = omega (arith, count_of_numbers w64 (length bytes / 8) bytes)
 
@@ -59,9 +68,11 @@ most_bytes OfPartial len fits = omega arith
 pub part_shorter : (bytes : List ℕ) (len : ℕ) (part rest : List ℕ) → Part bytes len part rest → length rest ≤ length bytes
 part_shorter bytes len part rest p = omega (arith, ap length p.whole, length-append part rest)
 
-pub kind_shorter : (total : ℕ) (bytes : List ℕ) (kind : Kind) (rest : List ℕ) → kind_read total bytes ≡ Ok (kind, rest) → length rest ≤ length bytes
+pub kind_shorter : (total : ℕ) (bytes : List ℕ) (kind : Kind) (rest : List ℕ) → kind_read total bytes ≡ Ok (kind, rest)
+    → length rest ≤ length bytes
 kind_shorter total bytes kind rest e = omega (arith, ap length (kind_takes total bytes kind rest e))
 
-pub length_shorter : (total : ℕ) (kind : Kind) (bytes : List ℕ) (n : ℕ) (rest : List ℕ) → length_read total kind bytes ≡ Ok (n, rest) → length rest ≤ length bytes
+pub length_shorter : (total : ℕ) (kind : Kind) (bytes : List ℕ) (n : ℕ) (rest : List ℕ) → length_read total kind bytes ≡ Ok (n, rest)
+    → length rest ≤ length bytes
 length_shorter total kind bytes n rest e =
     let c = count_takes total bytes n rest (length_takes total kind bytes n rest e).0 in part_shorter bytes 4 c.0 rest c.1

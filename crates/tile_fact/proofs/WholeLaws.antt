@@ -29,19 +29,25 @@ one_step : (n total : ℕ) (last : Option Fact) (fact : Fact) (behind : List ℕ
 unfolding records_read
 one_step n total last fact behind is above = rw (record_again total fact behind is, above) refl
 
-first_front : (fact : Fact) (facts : List Fact) (r : Result (List Fact × List ℕ) FactFault) → with_first fact (with_front facts r) ≡ with_front (fact ∷ facts) r
+first_front : (fact : Fact) (facts : List Fact) (r : Result (List Fact × List ℕ) FactFault)
+    → with_first fact (with_front facts r) ≡ with_front (fact ∷ facts) r
 first_front fact facts (Ok x) = refl
 first_front fact facts (Err e) = refl
 
-pub records_again : (facts : List Fact) (last : Option Fact) (total k : ℕ) (rest : List ℕ) → AllByRecursion IsFact facts → RisesAbove last facts
-    → records_read (length facts + k) total last (flat_map fact_record facts ++ rest) ≡ with_front facts (records_read k total (last_after last facts) rest)
-records_again [] last total k rest each rise = ap (λ (n : ℕ). records_read n total last rest) (omega arith) ∙ sym (starts (records_read k total last rest))
+pub records_again : (facts : List Fact) (last : Option Fact) (total k : ℕ) (rest : List ℕ) → AllByRecursion IsFact facts
+    → RisesAbove last facts
+    → records_read (length facts + k) total last (flat_map fact_record facts ++ rest)
+    ≡ with_front facts (records_read k total (last_after last facts) rest)
+records_again [] last total k rest each rise =
+    ap (λ (n : ℕ). records_read n total last rest) (omega arith) ∙ sym (starts (records_read k total last rest))
 records_again (fact ∷ facts) last total k rest each rise =
     let n : suc (length facts) + k ≡ suc (length facts + k) = omega arith in
     let behind = flat_map fact_record facts ++ rest in
     let parts : flat_map fact_record (fact ∷ facts) ++ rest ≡ fact_record fact ++ behind =
-    ap (λ (l : List ℕ). l ++ rest) (flat_map-cons fact_record fact facts) ∙ append_assoc (fact_record fact) (flat_map fact_record facts) rest in
-    ap (λ (m : ℕ). records_read m total last (flat_map fact_record (fact ∷ facts) ++ rest)) n ∙ ap (records_read (suc (length facts + k)) total last) parts
+    ap (λ (l : List ℕ). l ++ rest) (flat_map-cons fact_record fact facts)
+    ∙ append_assoc (fact_record fact) (flat_map fact_record facts) rest in
+    ap (λ (m : ℕ). records_read m total last (flat_map fact_record (fact ∷ facts) ++ rest)) n
+    ∙ ap (records_read (suc (length facts + k)) total last) parts
     ∙ one_step (length facts + k) total last fact behind each.0 (is_above_of last fact rise.0)
     ∙ ap (with_first fact) (records_again facts (Some fact) total k rest each.1 rise.1)
     ∙ first_front fact facts (records_read k total (last_after (Some fact) facts) rest)
@@ -62,7 +68,8 @@ head_again n rest lt = count_again _ n rest lt
 pub file_again : (bytes : List ℕ) (facts : List Fact) → IsFactFile bytes facts → file_read bytes ≡ Ok facts
 unfolding file_read
 file_again bytes facts is =
-    ap file_read is.spelled ∙ rw (head_again (length facts) (flat_map fact_record facts) is.facts_are.count) (body_again _ facts is.facts_are)
+    ap file_read is.spelled
+    ∙ rw (head_again (length facts) (flat_map fact_record facts) is.facts_are.count) (body_again _ facts is.facts_are)
 
 -- ---- the magic
 
@@ -72,7 +79,8 @@ magic_ok at [] bytes rest h = cc
 magic_ok at (w ∷ ws) [] rest h = absurd cc
 magic_ok at (w ∷ ws) (b ∷ bs) rest h = elim (eqb_tells b w) [
   | inl (is, same) ↦
-      let more : magic_read (at + 1) ws bs ≡ Ok rest = ap (λ (t : Bool). cond t (magic_read (at + 1) ws bs) (Err (BadMagic at))) (sym is) ∙ h in
+      let more : magic_read (at + 1) ws bs ≡ Ok rest =
+      ap (λ (t : Bool). cond t (magic_read (at + 1) ws bs) (Err (BadMagic at))) (sym is) ∙ h in
       ap (λ (l : List ℕ). b ∷ l) (magic_ok (at + 1) ws bs rest more) ∙ ap (λ (c : ℕ). c ∷ (ws ++ rest)) same
   | inr (isnt, differs) ↦
       absurd (never at rest (ap (λ (t : Bool). cond t (magic_read (at + 1) ws bs) (Err (BadMagic at))) (sym isnt) ∙ h))
@@ -84,15 +92,27 @@ magic_ok at (w ∷ ws) (b ∷ bs) rest h = elim (eqb_tells b w) [
 -- the first byte that differs, or the end before the last
 abbrev MagicFault : ℕ → List ℕ → List ℕ → FactFault → Type 0
 MagicFault at wanted bytes e =
-    ((i : ℕ) × (i < length wanted) × (i < length bytes) × (take i bytes ≡ take i wanted) × (get_or bytes i 0 ≢ get_or wanted i 0) × (e ≡ BadMagic (at + i)))
+    ((i : ℕ) × (i < length wanted) × (i < length bytes) × (take i bytes ≡ take i wanted) × (get_or bytes i 0 ≢ get_or wanted i 0)
+    × (e ≡ BadMagic (at + i)))
     ⊎ ((length bytes < length wanted) × (bytes ≡ take (length bytes) wanted) × (e ≡ Cut (at + length bytes)))
 
 magic_next : (at b w : ℕ) (ws bs : List ℕ) (e : FactFault) → b ≡ w → MagicFault (at + 1) ws bs e → MagicFault at (w ∷ ws) (b ∷ bs) e
 magic_next at b w ws bs e same f = elim f [
   | inl (i, in_wanted, in_bytes, front, differs, is) ↦
-      inl (suc i, omega arith, omega arith, ap (λ (l : List ℕ). b ∷ l) front ∙ ap (λ (c : ℕ). c ∷ take i ws) same, differs, is ∙ ap (λ (n : ℕ). BadMagic n) (omega arith))
+      inl (
+        suc i,
+        omega arith,
+        omega arith,
+        ap (λ (l : List ℕ). b ∷ l) front ∙ ap (λ (c : ℕ). c ∷ take i ws) same,
+        differs,
+        is ∙ ap (λ (n : ℕ). BadMagic n) (omega arith),
+      )
   | inr (short, front, is) ↦
-      inr (omega arith, ap (λ (l : List ℕ). b ∷ l) front ∙ ap (λ (c : ℕ). c ∷ take (length bs) ws) same, is ∙ ap (λ (n : ℕ). Cut n) (omega arith))
+      inr (
+        omega arith,
+        ap (λ (l : List ℕ). b ∷ l) front ∙ ap (λ (c : ℕ). c ∷ take (length bs) ws) same,
+        is ∙ ap (λ (n : ℕ). Cut n) (omega arith),
+      )
 ]
 
 magic_err : (at : ℕ) (wanted bytes : List ℕ) (e : FactFault) → magic_read at wanted bytes ≡ Err e → MagicFault at wanted bytes e
@@ -103,9 +123,18 @@ magic_err at (w ∷ ws) [] e h =
     inr (omega arith, refl, is ∙ ap (λ (n : ℕ). Cut n) (omega arith))
 magic_err at (w ∷ ws) (b ∷ bs) e h = elim (eqb_tells b w) [
   | inl (is, same) ↦
-      magic_next at b w ws bs e same (magic_err (at + 1) ws bs e (ap (λ (t : Bool). cond t (magic_read (at + 1) ws bs) (Err (BadMagic at))) (sym is) ∙ h))
+      magic_next at b w ws bs e same
+      (magic_err (at + 1) ws bs e (ap (λ (t : Bool). cond t (magic_read (at + 1) ws bs) (Err (BadMagic at))) (sym is) ∙ h))
   | inr (isnt, differs) ↦
-      inl (0, omega arith, omega arith, refl, differs, fault at e (ap (λ (t : Bool). cond t (magic_read (at + 1) ws bs) (Err (BadMagic at))) (sym isnt) ∙ h) ∙ ap (λ (n : ℕ). BadMagic n) (omega arith))
+      inl (
+        0,
+        omega arith,
+        omega arith,
+        refl,
+        differs,
+        fault at e (ap (λ (t : Bool). cond t (magic_read (at + 1) ws bs) (Err (BadMagic at))) (sym isnt) ∙ h)
+            ∙ ap (λ (n : ℕ). BadMagic n) (omega arith),
+      )
 ]
   where
     fault : (at : ℕ) (e : FactFault) → (let r : Result (List ℕ) FactFault = Err (BadMagic at) in r) ≡ Err e → e ≡ BadMagic at
@@ -123,13 +152,15 @@ magic_fault bytes e f = elim f [
       (refl, inl (record { short = omega arith; front = take_all 4 bytes (omega arith) ∙ front }))
 ]
 
-count_fault : (bytes behind : List ℕ) (e : FactFault) → bytes ≡ magic ++ behind → (length behind < 4) × (e ≡ Cut (length bytes)) → IsFault bytes e
+count_fault : (bytes behind : List ℕ) (e : FactFault) → bytes ≡ magic ++ behind → (length behind < 4) × (e ≡ Cut (length bytes))
+    → IsFault bytes e
 count_fault bytes behind e whole f =
     let long : 4 ≤ length bytes = omega (arith, ap length whole) in
     subst (λ (d : FactFault). IsFault bytes d) (sym f.1)
     (refl, inl (record { short = omega (arith, ap length whole); front = ap (take 4) whole ∙ sym (take_all (length bytes) magic long) }))
 
-head_has : (bytes behind : List ℕ) (n : ℕ) (rest : List ℕ) → bytes ≡ magic ++ behind → (behind ≡ to_be_bytes w32 n ++ rest) × (n < 2 ^ 32) × AreBytes rest
+head_has : (bytes behind : List ℕ) (n : ℕ) (rest : List ℕ) → bytes ≡ magic ++ behind
+    → (behind ≡ to_be_bytes w32 n ++ rest) × (n < 2 ^ 32) × AreBytes rest
     → HasRecords bytes n [] (length bytes - length rest) rest
 head_has bytes behind n rest whole f =
     let all : bytes ≡ magic ++ (to_be_bytes w32 n ++ rest) = whole ∙ ap (λ (l : List ℕ). magic ++ l) f.0 in
@@ -141,7 +172,8 @@ FileView bytes (Err e) = IsFault bytes e
 
 -- ---- the end
 
-end_view : (bytes : List ℕ) (count : ℕ) (facts : List Fact) (at : ℕ) (rest : List ℕ) → HasRecords bytes count facts at rest → length facts ≡ count → FileView bytes (end_read (length bytes) facts rest)
+end_view : (bytes : List ℕ) (count : ℕ) (facts : List Fact) (at : ℕ) (rest : List ℕ) → HasRecords bytes count facts at rest
+    → length facts ≡ count → FileView bytes (end_read (length bytes) facts rest)
 unfolding end_read
 end_view bytes count facts at [] h all = record {
   facts_are = record { count = subst (λ (n : ℕ). n < 2 ^ 32) (sym all) h.count_fits; each = h.each; rise = h.rise };
@@ -151,19 +183,24 @@ end_view bytes count facts at [] h all = record {
 end_view bytes count facts at (byte ∷ rest) h all =
     let place : length bytes - length (byte ∷ rest) ≡ at = omega (arith, h.place) in
     subst (λ (r : Result (List Fact) FactFault). FileView bytes r) (sym (ends_late (length bytes) facts (byte ∷ rest) (omega arith)))
-    (subst (λ (i : ℕ). IsFault bytes (TrailingBytes i)) (sym place) (record { count = count; facts = facts; rest = byte ∷ rest; has = h; all = all; some = omega arith }))
+    (subst (λ (i : ℕ). IsFault bytes (TrailingBytes i)) (sym place)
+    (record { count = count; facts = facts; rest = byte ∷ rest; has = h; all = all; some = omega arith }))
 
 -- ---- the whole
 
-after_records : (bytes : List ℕ) (count : ℕ) (r : Result (List Fact × List ℕ) FactFault) → View bytes count [] r → FileView bytes (r >>= λ x. end_read (length bytes) x.0 x.1)
+after_records : (bytes : List ℕ) (count : ℕ) (r : Result (List Fact × List ℕ) FactFault) → View bytes count [] r
+    → FileView bytes (r >>= λ x. end_read (length bytes) x.0 x.1)
 after_records bytes count (Ok x) v = end_view bytes count x.0 v.0 x.1 v.1 v.2
 after_records bytes count (Err e) v = v
 
-after_head : (bytes : List ℕ) (count : ℕ) (rest : List ℕ) → HasRecords bytes count [] (length bytes - length rest) rest → AreBytes rest → FileView bytes (body_read (length bytes) count rest)
+after_head : (bytes : List ℕ) (count : ℕ) (rest : List ℕ) → HasRecords bytes count [] (length bytes - length rest) rest → AreBytes rest
+    → FileView bytes (body_read (length bytes) count rest)
 unfolding body_read
-after_head bytes count rest h fits = after_records bytes count (records_read count (length bytes) None rest) (records_view count bytes count [] _ rest h fits (omega arith))
+after_head bytes count rest h fits =
+    after_records bytes count (records_read count (length bytes) None rest) (records_view count bytes count [] _ rest h fits (omega arith))
 
-by_count : (bytes behind : List ℕ) → bytes ≡ magic ++ behind → AreBytes behind → (r : Result (ℕ × List ℕ) FactFault) → count_read (length bytes) behind ≡ r
+by_count : (bytes behind : List ℕ) → bytes ≡ magic ++ behind → AreBytes behind → (r : Result (ℕ × List ℕ) FactFault)
+    → count_read (length bytes) behind ≡ r
     → FileView bytes (r >>= λ head. body_read (length bytes) head.0 head.1)
 by_count bytes behind whole fits (Ok x) is =
     let c = count_whole (length bytes) behind x.0 x.1 fits is in
@@ -174,7 +211,8 @@ by_magic : (bytes : List ℕ) → AreBytes bytes → (r : Result (List ℕ) Fact
     → FileView bytes ((r >>= λ behind. count_read (length bytes) behind) >>= λ head. body_read (length bytes) head.0 head.1)
 by_magic bytes fits (Ok behind) is =
     let whole = magic_ok 0 magic bytes behind is in
-    by_count bytes behind whole (behind_bytes magic behind (subst (λ (l : List ℕ). AreBytes l) whole fits)) (count_read (length bytes) behind) refl
+    by_count bytes behind whole (behind_bytes magic behind (subst (λ (l : List ℕ). AreBytes l) whole fits))
+    (count_read (length bytes) behind) refl
 by_magic bytes fits (Err e) is = magic_fault bytes e (magic_err 0 magic bytes e is)
 
 pub file_view : (bytes : List ℕ) → AreBytes bytes → FileView bytes (file_read bytes)
@@ -193,7 +231,8 @@ same_facts bytes facts others e is = same_ok facts others (sym e ∙ file_again 
     same_ok a b h = cc
 
 pub is_memory : (bytes : List ℕ) (facts : List Fact) (e : FactFault) → Fails e (file_read bytes) → IsFactFile bytes facts → e ≡ Memory
-is_memory bytes facts e f is = elim f [ inl failed ↦ absurd (not_both facts e (sym (file_again bytes facts is) ∙ failed)) | inr (memory, read) ↦ memory ]
+is_memory bytes facts e f is =
+    elim f [ inl failed ↦ absurd (not_both facts e (sym (file_again bytes facts is) ∙ failed)) | inr (memory, read) ↦ memory ]
   where
     not_both : (a : List Fact) (e : FactFault) → (let r : Result (List Fact) FactFault = Ok a in r) ≡ Err e → ⊥
     not_both a e h = cc
@@ -205,5 +244,6 @@ memory_fault bytes (Err e) v read = absurd read
 pub is_fault : (bytes : List ℕ) (e : FactFault) → AreBytes bytes → Fails e (file_read bytes) → IsFault bytes e
 is_fault bytes e fits f = elim f [
   | inl failed ↦ subst (λ (r : Result (List Fact) FactFault). FileView bytes r) failed (file_view bytes fits)
-  | inr (memory, read) ↦ subst (λ (d : FactFault). IsFault bytes d) (sym memory) (memory_fault bytes (file_read bytes) (file_view bytes fits) read)
+  | inr (memory, read) ↦ subst (λ (d : FactFault). IsFault bytes d) (sym memory)
+      (memory_fault bytes (file_read bytes) (file_view bytes fits) read)
 ]

@@ -45,7 +45,8 @@ pub record AwaitsRecord (bytes : List ℕ) (at : ℕ) (rest : List ℕ) : Type 0
 abbrev pub IsCutBody : Kind → List ℕ → Type 0
 IsCutBody kind body =
     (length body < 4)
-    ⊎ ((len : ℕ) × (numbers : List ℕ) × (body ≡ to_be_bytes w32 len ++ numbers) × (len ≤ most kind) × (length numbers < len * bytes_each kind))
+    ⊎ ((len : ℕ) × (numbers : List ℕ) × (body ≡ to_be_bytes w32 len ++ numbers) × (len ≤ most kind)
+    × (length numbers < len * bytes_each kind))
 
 -- the key has 74 bytes; it is cut, or no kind is behind it, or what is behind the kind is cut
 abbrev pub IsCutRecord : List ℕ → Type 0

@@ -62,7 +62,8 @@ pub fn decode(alloc: Global, bytes: &[u8]) -> Result<FactFile, FactFault>
     ensures found { IfOk result (λ file. IsFactFile bytes.now file.facts) }
 
     // The file of some facts is read as these alone, unless memory runs out.
-    ensures only { (facts : List Fact) → IsFactFile bytes.now facts → IsReadAs (λ file. file.facts) result facts }
+    ensures only { (facts : List Fact) → IsFactFile bytes.now facts
+        → IsReadAs (λ file. file.facts) result facts }
 
     // A fault is the first one of the bytes, at its place; memory is refused only for a fact file.
     ensures fault { IfErr result (IsFault bytes.now) }
@@ -139,7 +140,8 @@ fn check_records(total: usize, count: u32, bytes: &[u8]) -> Result<(), FactFault
 
 // Whether a record is above the last one before it, if there is one.
 fn is_above(last: &Option<Record<'_>>, next: &Record<'_>) -> bool
-    ensures { result ≡ is_above (option_map (λ r. fact_of r.label.key r.label.kind r.numbers.now) last.now)
+    ensures { result
+        ≡ is_above (option_map (λ r. fact_of r.label.key r.label.kind r.numbers.now) last.now)
         (fact_of next.now.label.key next.now.label.kind next.now.numbers.now) }
 {
     match last {

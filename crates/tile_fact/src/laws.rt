@@ -25,14 +25,17 @@ pub fn order_of_facts(a: &Fact, b: &Fact) -> Ordering
 
 /// No bytes are the files of two lists of facts.
 pub fn one_list()
-    ensures { (bytes : List ℕ) (facts others : List Fact) → IsFactFile bytes facts → IsFactFile bytes others → facts ≡ others }
+    ensures { (bytes : List ℕ) (facts others : List Fact) → IsFactFile bytes facts
+        → IsFactFile bytes others → facts ≡ others }
 {}
 
 /// Facts that rise have a file, and no other bytes are it; and no two lists of facts have one file.
 pub fn one_spelling()
     ensures spelled { (facts : List Fact) → AreFacts facts → IsFactFile (fact_file facts) facts }
-    ensures alone { (a b : List ℕ) (facts : List Fact) → IsFactFile a facts → IsFactFile b facts → a ≡ b }
-    ensures apart { (facts others : List Fact) → AreFacts facts → AreFacts others → fact_file facts ≡ fact_file others → facts ≡ others }
+    ensures alone { (a b : List ℕ) (facts : List Fact) → IsFactFile a facts → IsFactFile b facts
+        → a ≡ b }
+    ensures apart { (facts others : List Fact) → AreFacts facts → AreFacts others
+        → fact_file facts ≡ fact_file others → facts ≡ others }
 {}
 
 /// Each fact can stand in a file: what it is made of fits its fields, and it has no more numbers than a fact may have. It is a law

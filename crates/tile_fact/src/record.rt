@@ -36,7 +36,8 @@ impl<'a> Record<'a> {
     /// The order of the facts that the records spell.
     #[tactic(auto, unfolding(crate::specs::Order::fact_cmp))]
     pub fn compare(&self, other: &Record<'_>) -> Ordering
-        ensures { result ≡ fact_cmp (fact_of self.now.label.key self.now.label.kind self.now.numbers.now)
+        ensures { result
+            ≡ fact_cmp (fact_of self.now.label.key self.now.label.kind self.now.numbers.now)
             (fact_of other.now.label.key other.now.label.kind other.now.numbers.now) }
     {
         match self.label.key.cmp(&other.label.key) {
@@ -55,7 +56,8 @@ impl<'a> Record<'a> {
     /// The fact that the record spells.
     pub fn to_fact(&self, alloc: Global) -> Result<Fact, AllocError>
         requires { IsWithin (body_in self.now.label.kind self.now.numbers.now) }
-        ensures { IfOk result (λ fact. fact ≡ fact_of self.now.label.key self.now.label.kind self.now.numbers.now) }
+        ensures { IfOk result
+            (λ fact. fact ≡ fact_of self.now.label.key self.now.label.kind self.now.numbers.now) }
     {
         let body = match self.label.kind {
             Kind::OfTile => Body::Tile(Samples::new(samples_in(alloc, self.numbers)?)?),

@@ -50,7 +50,8 @@ fn put_key(bytes: &mut Vec<u8>, key: &Key) -> Result<(), AllocError>
 // The body of a tile.
 fn put_samples(bytes: &mut Vec<u8>, samples: &[i32]) -> Result<(), AllocError>
     requires { length samples.now < 2 ^ 32 }
-    ensures { OnOk result (bytes.new.items ≡ bytes.old.items ++ body_bytes (Body.Tile samples.now)) }
+    ensures { OnOk result
+        (bytes.new.items ≡ bytes.old.items ++ body_bytes (Body.Tile samples.now)) }
 {
     bytes.push(0)?;
     bytes.extend_from_slice(&(samples.len() as u32).to_be_bytes())?;
@@ -64,7 +65,8 @@ fn put_samples(bytes: &mut Vec<u8>, samples: &[i32]) -> Result<(), AllocError>
 // The body of a partial.
 fn put_bins(bytes: &mut Vec<u8>, bins: &[i64]) -> Result<(), AllocError>
     requires { length bins.now < 2 ^ 32 }
-    ensures { OnOk result (bytes.new.items ≡ bytes.old.items ++ body_bytes (Body.Partial bins.now)) }
+    ensures { OnOk result
+        (bytes.new.items ≡ bytes.old.items ++ body_bytes (Body.Partial bins.now)) }
 {
     bytes.push(1)?;
     bytes.extend_from_slice(&(bins.len() as u32).to_be_bytes())?;

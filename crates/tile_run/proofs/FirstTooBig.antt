@@ -154,7 +154,8 @@ pub none_too_big : (job : Pipeline) (inlining : List Bool) (wants : ℕ → Bool
     → (g : ℕ) (s : Stage) → slice_get job.stages g ≡ Some s → has_tiles s.body ≡ true → wants g ≡ true
     → (i j : ℕ) → HasTile (grid_of job s) i j → scratch (target_over job inlining g (tile_area (grid_of job s) i j)) ≤ most_scratch
 none_too_big job inlining wants none g s there has is i j tile =
-    small_fits job inlining g s there has i j tile (none_found (lacks_room job inlining) (tiles_in_order job wants) none (tile_of_stage g (i, j))
+    small_fits job inlining g s there has i j tile
+    (none_found (lacks_room job inlining) (tiles_in_order job wants) none (tile_of_stage g (i, j))
     (in_work job inlining g s there wants has is i j tile))
 
 has_some : (b : Body) → is_function_body b ≡ true → has_tiles b ≡ true

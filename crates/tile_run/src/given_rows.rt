@@ -20,8 +20,10 @@ pub fn read_given_row<K: Known>(
     first: i32,
     out: &mut [i32],
 )
-    requires { IsGivenLine (pipeline_in job.now) (K.given known.now) stage row first (length out.old) }
-    ensures { EachPlace (length out.old) (λ k. at out.new k ≡ given_at (pipeline_in job.now) (K.given known.now) stage row (first +ℤ pos k)) }
+    requires { IsGivenLine (pipeline_in job.now) (K.given known.now) stage row first
+        (length out.old) }
+    ensures { EachPlace (length out.old) (λ k. at out.new k
+        ≡ given_at (pipeline_in job.now) (K.given known.now) stage row (first +ℤ pos k)) }
 {
     if let Some(domain) = job.domain(stage) {
         let tiles = TilesOfStage {

@@ -16,16 +16,26 @@ ghost use Rattle.tile_run.specs.Runs.{is_missing, first_missing};
 
 /// A local value is what its stage makes of what it reads: samples of planes, numbers that are given, and local values.
 pub fn local_values_unroll()
-    ensures { (job : Pipeline) (inlining : List Bool) (given : KnownTiles) (g : ℕ) (r c : ℤ) → IsRanked job.stages → local_value job inlining given g r c ≡ stage_value job (read_from job inlining given (local_value job inlining given)) (slice_get job.stages g) r c }
+    ensures { (job : Pipeline) (inlining : List Bool) (given : KnownTiles) (g : ℕ) (r c : ℤ)
+        → IsRanked job.stages
+        → local_value job inlining given g r c
+        ≡ stage_value job (read_from job inlining given (local_value job inlining given))
+        (slice_get job.stages g) r c }
 {}
 
 /// Where what is given is true, local values are the values of the job: over boxes of stages at each point of which all that is read
 /// is at hand.
 pub fn true_tiles_give_values()
-    ensures { (job : Pipeline) (inlining : List Bool) (given : KnownTiles) (boxes : ℕ → Option Area) (g : ℕ) (r c : ℤ) → IsJob job → AreTrue job given → IsClosed job inlining given (λ h. InBox (boxes h)) → InBox (boxes g) r c → local_value job inlining given g r c ≡ value job g r c }
+    ensures { (job : Pipeline) (inlining : List Bool) (given : KnownTiles) (boxes : ℕ → Option Area)
+        (g : ℕ) (r c : ℤ) → IsJob job → AreTrue job given
+        → IsClosed job inlining given (λ h. InBox (boxes h)) → InBox (boxes g) r c
+        → local_value job inlining given g r c ≡ value job g r c }
 {}
 
 /// Of the tiles that a target needs, the first that is not given has the least key of those that are not.
 pub fn first_missing_is_least()
-    ensures { (program : List ℕ) (t : Target) (given : KnownTiles) (key other : Key) → first_missing given (needed_keys program t) ≡ Some key → Contains (needed_keys program t) other → is_missing given other ≡ true → (other ≡ key) ⊎ IsKeyBefore key other }
+    ensures { (program : List ℕ) (t : Target) (given : KnownTiles) (key other : Key)
+        → first_missing given (needed_keys program t) ≡ Some key
+        → Contains (needed_keys program t) other → is_missing given other ≡ true
+        → (other ≡ key) ⊎ IsKeyBefore key other }
 {}

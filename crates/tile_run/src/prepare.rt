@@ -18,7 +18,8 @@ use tile_eval::StageBuffers;
 
 // The steps before the last.
 fn inner_of(steps: &[Step]) -> &[Step]
-    ensures { (inner : List (ℕ × Area)) (last : ℕ × Area) → map step_view steps.now ≡ inner ++ last ∷ [] → map step_view result.now ≡ inner }
+    ensures { (inner : List (ℕ × Area)) (last : ℕ × Area)
+        → map step_view steps.now ≡ inner ++ last ∷ [] → map step_view result.now ≡ inner }
 {
     match steps.split_last() {
         Some((_, inner)) => inner,
@@ -35,7 +36,11 @@ impl<K: Known> TileJob<'_, K> {
     pub fn prepare(&self, alloc: Global, scratch: &mut Scratch) -> Result<StageBuffers, AllocError>
         requires layout { IsSomeLayout (pipeline_in self.now.job.now) self.now.layout.now }
         requires needs { NeedsGiven (K.given self.now.known.now) self.now.layout.now.needs }
-        ensures { IfOk result (λ boxes. (g i j : ℕ) → IsTileLayout (pipeline_in self.now.job.now) self.now.layout.now.inlining g i j self.now.layout.now → IsPreparedOn (pipeline_in self.now.job.now) self.now.layout.now.inlining (K.given self.now.known.now) boxes g i j) }
+        ensures { IfOk result (λ boxes. (g i j : ℕ)
+            → IsTileLayout (pipeline_in self.now.job.now) self.now.layout.now.inlining g i j
+            self.now.layout.now
+            → IsPreparedOn (pipeline_in self.now.job.now) self.now.layout.now.inlining
+            (K.given self.now.known.now) boxes g i j) }
     {
         let mut boxes = StageBuffers::none(alloc, self.job.stages().len())?;
         self.run_steps(alloc, &mut boxes, inner_of(self.layout.steps()), scratch)?;

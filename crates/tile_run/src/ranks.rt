@@ -39,9 +39,11 @@ struct StageRun<'a> {
 impl StageRun<'_> {
     // The layout of a tile.
     fn layout(&self, alloc: Global, row: u32, col: u32) -> Result<Layout<'_>, AllocError>
-        requires ready { IsStageReady (pipeline_in self.now.job.now) self.now.schedule.now.inlining self.now.stored.now.stages.items self.now.stage self.now.grid }
+        requires ready { IsStageReady (pipeline_in self.now.job.now) self.now.schedule.now.inlining
+            self.now.stored.now.stages.items self.now.stage self.now.grid }
         requires tile { HasTile self.now.grid row col }
-        ensures { IfOk result (IsTileLayout (pipeline_in self.now.job.now) self.now.schedule.now.inlining self.now.stage row col) }
+        ensures { IfOk result (IsTileLayout (pipeline_in self.now.job.now)
+            self.now.schedule.now.inlining self.now.stage row col) }
     {
         match Layout::of(alloc, self.job, self.schedule, self.stage, row, col) {
             Ok(layout) => Ok(layout),
@@ -58,9 +60,11 @@ impl StageRun<'_> {
         col: u32,
         scratch: &mut Scratch,
     ) -> Result<Vec<i32>, AllocError>
-        requires ready { IsStageReady (pipeline_in self.now.job.now) self.now.schedule.now.inlining self.now.stored.now.stages.items self.now.stage self.now.grid }
+        requires ready { IsStageReady (pipeline_in self.now.job.now) self.now.schedule.now.inlining
+            self.now.stored.now.stages.items self.now.stage self.now.grid }
         requires tile { HasTile self.now.grid row col }
-        ensures { IfOk result (λ values. values.items ≡ tile_values (pipeline_in self.now.job.now) self.now.stage self.now.grid row col) }
+        ensures { IfOk result (λ values. values.items
+            ≡ tile_values (pipeline_in self.now.job.now) self.now.stage self.now.grid row col) }
     {
         let layout = self.layout(alloc, row, col)?;
         let tile = TileJob {
@@ -73,9 +77,12 @@ impl StageRun<'_> {
 
     // Those of a row of tiles.
     fn row(&self, alloc: Global, row: u32, scratch: &mut Scratch) -> Result<TileRow, AllocError>
-        requires ready { IsStageReady (pipeline_in self.now.job.now) self.now.schedule.now.inlining self.now.stored.now.stages.items self.now.stage self.now.grid }
+        requires ready { IsStageReady (pipeline_in self.now.job.now) self.now.schedule.now.inlining
+            self.now.stored.now.stages.items self.now.stage self.now.grid }
         requires row { row < tile_rows self.now.grid }
-        ensures { IfOk result (λ tiles. row_numbers tiles ≡ row_values (pipeline_in self.now.job.now) self.now.stage self.now.grid row (tile_cols self.now.grid)) }
+        ensures { IfOk result (λ tiles. row_numbers tiles
+            ≡ row_values (pipeline_in self.now.job.now) self.now.stage self.now.grid row
+            (tile_cols self.now.grid)) }
     {
         let mut tiles = Vec::new(alloc);
         for col in 0..self.grid.tile_cols() {
@@ -86,8 +93,11 @@ impl StageRun<'_> {
 
     // Those of all tiles.
     fn tiles(&self, alloc: Global, scratch: &mut Scratch) -> Result<Tiles, AllocError>
-        requires ready { IsStageReady (pipeline_in self.now.job.now) self.now.schedule.now.inlining self.now.stored.now.stages.items self.now.stage self.now.grid }
-        ensures { IfOk result (λ tiles. map row_numbers tiles.rows.items ≡ grid_values (pipeline_in self.now.job.now) self.now.stage self.now.grid (tile_rows self.now.grid)) }
+        requires ready { IsStageReady (pipeline_in self.now.job.now) self.now.schedule.now.inlining
+            self.now.stored.now.stages.items self.now.stage self.now.grid }
+        ensures { IfOk result (λ tiles. map row_numbers tiles.rows.items
+            ≡ grid_values (pipeline_in self.now.job.now) self.now.stage self.now.grid
+            (tile_rows self.now.grid)) }
     {
         let mut rows = Vec::new(alloc);
         for row in 0..self.grid.tile_rows() {
@@ -101,7 +111,8 @@ impl Stored {
     // Of so many stages none is stored.
     fn none(alloc: Global, count: usize) -> Result<Stored, AllocError>
         ensures length { IfOk result (λ stored. length stored.stages.items ≡ count) }
-        ensures none { IfOk result (λ stored. (g i j : ℕ) → stored_tiles stored.stages.items g i j ≡ None) }
+        ensures none { IfOk result
+            (λ stored. (g i j : ℕ) → stored_tiles stored.stages.items g i j ≡ None) }
     {
         let mut stages = Vec::new(alloc);
         for _ in 0..count {
@@ -122,7 +133,8 @@ impl Stored {
         scratch: &mut Scratch,
     ) -> Result<Tiles, AllocError>
         requires fit { StoredFit (pipeline_in job.now) schedule.now.inlining }
-        requires lower { AreStored (pipeline_in job.now) schedule.now.inlining (rank_of (pipeline_in job.now).stages stage) self.now.stages.items }
+        requires lower { AreStored (pipeline_in job.now) schedule.now.inlining
+            (rank_of (pipeline_in job.now).stages stage) self.now.stages.items }
         ensures { IfOk result (AreTilesOf (pipeline_in job.now) schedule.now.inlining stage) }
     {
         match job.stage(stage) {
@@ -153,8 +165,10 @@ impl Stored {
         scratch: &mut Scratch,
     ) -> Result<(), AllocError>
         requires fit { StoredFit (pipeline_in job.now) schedule.now.inlining }
-        requires lower { AreStored (pipeline_in job.now) schedule.now.inlining rank self.old.stages.items }
-        ensures { IfOk result (λ done. AreStored (pipeline_in job.now) schedule.now.inlining (rank + 1) self.new.stages.items) }
+        requires lower { AreStored (pipeline_in job.now) schedule.now.inlining rank
+            self.old.stages.items }
+        ensures { IfOk result (λ done. AreStored (pipeline_in job.now) schedule.now.inlining
+            (rank + 1) self.new.stages.items) }
     {
         for number in 0..job.stages().len() {
             if job.rank(number) == Some(rank) {
@@ -172,7 +186,8 @@ impl Stored {
         rank: usize,
     ) -> Result<Stored, AllocError>
         requires fit { StoredFit (pipeline_in job.now) schedule.now.inlining }
-        ensures { IfOk result (λ stored. AreStored (pipeline_in job.now) schedule.now.inlining (rank + 1) stored.stages.items) }
+        ensures { IfOk result (λ stored. AreStored (pipeline_in job.now) schedule.now.inlining
+            (rank + 1) stored.stages.items) }
     {
         let mut stored = Stored::none(alloc, job.stages().len())?;
         let mut scratch = Scratch::new(alloc);
@@ -186,8 +201,11 @@ impl Stored {
 
 // Whether a stage is a function that is not inlined.
 fn is_stored(schedule: &Schedule, number: usize, stage: &Stage) -> bool
-    ensures stored { result ≡ true → is_function_body (stage_view stage.now).body ≡ true × is_inlined schedule.now.inlining number ≡ false }
-    ensures other { result ≡ false → is_function_body (stage_view stage.now).body ≡ true → is_inlined schedule.now.inlining number ≡ true }
+    ensures stored { result ≡ true
+        → is_function_body (stage_view stage.now).body ≡ true
+        × is_inlined schedule.now.inlining number ≡ false }
+    ensures other { result ≡ false → is_function_body (stage_view stage.now).body ≡ true
+        → is_inlined schedule.now.inlining number ≡ true }
 {
     stage.kind() == StageKind::Function && !schedule.inlined(number)
 }
@@ -205,10 +223,14 @@ pub fn run_all(
     schedule: &Schedule,
 ) -> Result<Stored, RunFault>
     requires schedule { IsScheduleOf (pipeline_in job.now) schedule.now }
-    ensures all { IfOk result (λ stored. GivesAllTiles (pipeline_in job.now) schedule.now.inlining (stored_tiles stored.stages.items)) }
-    ensures values { IfOk result (λ stored. AreTrue (pipeline_in job.now) (stored_tiles stored.stages.items)) }
-    ensures fits { IfOk result (λ stored. first_too_big (pipeline_in job.now) schedule.now.inlining (is_stored_function (pipeline_in job.now) schedule.now.inlining) ≡ None) }
-    ensures fault { IfErr result (IsRunFault (program_id_in job.now) (pipeline_in job.now) schedule.now.inlining (is_stored_function (pipeline_in job.now) schedule.now.inlining)) }
+    ensures all { IfOk result (λ stored. GivesAllTiles (pipeline_in job.now) schedule.now.inlining
+        (stored_tiles stored.stages.items)) }
+    ensures values { IfOk result
+        (λ stored. AreTrue (pipeline_in job.now) (stored_tiles stored.stages.items)) }
+    ensures fits { IfOk result (λ stored. first_too_big (pipeline_in job.now) schedule.now.inlining
+        (is_stored_function (pipeline_in job.now) schedule.now.inlining) ≡ None) }
+    ensures fault { IfErr result (IsRunFault (program_id_in job.now) (pipeline_in job.now)
+        schedule.now.inlining (is_stored_function (pipeline_in job.now) schedule.now.inlining)) }
 {
     if let Some(key) = first_too_big(alloc, job, schedule, Work::Functions)? {
         return Err(RunFault::ScratchTooBig(key));

@@ -55,7 +55,9 @@ impl StageTiles<'_> {
     // Whether a tile takes too much scratch memory.
     fn is_too_big(&self, alloc: Global, row: u32, col: u32) -> Result<bool, AllocError>
         requires tile { HasTile self.now.grid row col }
-        ensures { IfOk result (λ big. big ≡ lacks_room (pipeline_in self.now.job.now) self.now.schedule.now.inlining (tile_of_stage self.now.stage (row, col))) }
+        ensures { IfOk result (λ big. big
+            ≡ lacks_room (pipeline_in self.now.job.now) self.now.schedule.now.inlining
+            (tile_of_stage self.now.stage (row, col))) }
     {
         let Some(area) = self.grid.tile(row, col) else {
             return Ok(false);
@@ -67,7 +69,9 @@ impl StageTiles<'_> {
     // The first tile of a row that does.
     fn first_in_row(&self, alloc: Global, row: u32) -> Result<Option<(u32, u32)>, AllocError>
         requires row { row < tile_rows self.now.grid }
-        ensures { IfOk result (λ found. found ≡ find (λ t. lacks_room (pipeline_in self.now.job.now) self.now.schedule.now.inlining (tile_of_stage self.now.stage t)) (row_tiles self.now.grid row)) }
+        ensures { IfOk result (λ found. found
+            ≡ find (λ t. lacks_room (pipeline_in self.now.job.now) self.now.schedule.now.inlining
+            (tile_of_stage self.now.stage t)) (row_tiles self.now.grid row)) }
     {
         for col in 0..self.grid.tile_cols() {
             if self.is_too_big(alloc, row, col)? {
@@ -79,7 +83,9 @@ impl StageTiles<'_> {
 
     // The first tile that does.
     fn first(&self, alloc: Global) -> Result<Option<(u32, u32)>, AllocError>
-        ensures { IfOk result (λ found. found ≡ find (λ t. lacks_room (pipeline_in self.now.job.now) self.now.schedule.now.inlining (tile_of_stage self.now.stage t)) (tiles_of self.now.grid)) }
+        ensures { IfOk result (λ found. found
+            ≡ find (λ t. lacks_room (pipeline_in self.now.job.now) self.now.schedule.now.inlining
+            (tile_of_stage self.now.stage t)) (tiles_of self.now.grid)) }
     {
         for row in 0..self.grid.tile_rows() {
             let found = self.first_in_row(alloc, row)?;
@@ -94,7 +100,8 @@ impl StageTiles<'_> {
 // The key of a tile.
 fn key_at(job: &Job, stage: usize, row: u32, col: u32) -> Key
     requires { stage < 65536 }
-    ensures { result ≡ key_of (program_id_in job.now) (pipeline_in job.now) (tile_of_stage stage (row, col)) }
+    ensures { result
+        ≡ key_of (program_id_in job.now) (pipeline_in job.now) (tile_of_stage stage (row, col)) }
 {
     Key {
         program: job.program_id(),
@@ -112,7 +119,10 @@ fn first_of_stage(
     schedule: &Schedule,
     stage: usize,
 ) -> Result<Option<Key>, AllocError>
-    ensures { IfOk result (λ found. found ≡ option_map (key_of (program_id_in job.now) (pipeline_in job.now)) (find (lacks_room (pipeline_in job.now) schedule.now.inlining) (tiles (pipeline_in job.now) stage))) }
+    ensures { IfOk result (λ found. found
+        ≡ option_map (key_of (program_id_in job.now) (pipeline_in job.now))
+        (find (lacks_room (pipeline_in job.now) schedule.now.inlining)
+        (tiles (pipeline_in job.now) stage))) }
 {
     let Some(grid) = job.grid(stage) else {
         return Ok(None);
@@ -137,7 +147,11 @@ fn first_among(
     work: Work,
     order: &[usize],
 ) -> Result<Option<Key>, AllocError>
-    ensures { IfOk result (λ found. found ≡ option_map (key_of (program_id_in job.now) (pipeline_in job.now)) (find (lacks_room (pipeline_in job.now) schedule.now.inlining) (flat_map (tiles (pipeline_in job.now)) (filter (wanted_by (pipeline_in job.now) schedule.now.inlining work) order.now)))) }
+    ensures { IfOk result (λ found. found
+        ≡ option_map (key_of (program_id_in job.now) (pipeline_in job.now))
+        (find (lacks_room (pipeline_in job.now) schedule.now.inlining)
+        (flat_map (tiles (pipeline_in job.now)) (filter
+        (wanted_by (pipeline_in job.now) schedule.now.inlining work) order.now)))) }
 {
     for number in order {
         if is_wanted(job, schedule, work, *number) {
@@ -163,7 +177,10 @@ pub fn first_too_big(
     work: Work,
 ) -> Result<Option<Key>, AllocError>
     requires schedule { IsScheduleOf (pipeline_in job.now) schedule.now }
-    ensures { IfOk result (λ found. found ≡ option_map (key_of (program_id_in job.now) (pipeline_in job.now)) (first_too_big (pipeline_in job.now) schedule.now.inlining (wanted_by (pipeline_in job.now) schedule.now.inlining work))) }
+    ensures { IfOk result (λ found. found
+        ≡ option_map (key_of (program_id_in job.now) (pipeline_in job.now))
+        (first_too_big (pipeline_in job.now) schedule.now.inlining
+        (wanted_by (pipeline_in job.now) schedule.now.inlining work))) }
 {
     if schedule.fits() {
         return Ok(None);

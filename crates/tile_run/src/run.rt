@@ -44,7 +44,8 @@ pub fn first_missing<K: Known>(needs: &[Key], known: &K) -> Option<Key>
 
 // The last step.
 fn last_of(steps: &[Step]) -> Option<&Step>
-    ensures some { IfSome result (λ step. (inner : List (ℕ × Area)) (last : ℕ × Area) → map step_view steps.now ≡ inner ++ last ∷ [] → step_view step.now ≡ last) }
+    ensures some { IfSome result (λ step. (inner : List (ℕ × Area)) (last : ℕ × Area)
+        → map step_view steps.now ≡ inner ++ last ∷ [] → step_view step.now ≡ last) }
     ensures none { IfNone result (steps.now ≡ []) }
 {
     match steps.split_last() {
@@ -64,8 +65,11 @@ impl<K: Known> TileJob<'_, K> {
     ) -> Result<Vec<i32>, AllocError>
         requires function { is_function (pipeline_in self.now.job.now) step.now.stage ≡ true }
         requires area { IsArea step.now.area }
-        requires prepared { IsPrepared (pipeline_in self.now.job.now) self.now.layout.now.inlining (K.given self.now.known.now) boxes.now step.now.stage step.now.area }
-        ensures { IfOk result (λ values. values.items ≡ raster step.now.area (local_value (pipeline_in self.now.job.now) self.now.layout.now.inlining (K.given self.now.known.now) step.now.stage)) }
+        requires prepared { IsPrepared (pipeline_in self.now.job.now) self.now.layout.now.inlining
+            (K.given self.now.known.now) boxes.now step.now.stage step.now.area }
+        ensures { IfOk result (λ values. values.items
+            ≡ raster step.now.area (local_value (pipeline_in self.now.job.now)
+            self.now.layout.now.inlining (K.given self.now.known.now) step.now.stage)) }
     {
         let mut values = Vec::new(alloc);
         if let Some(function) = function_of(self.job, step.stage) {
@@ -84,7 +88,10 @@ impl<K: Known> TileJob<'_, K> {
     pub(crate) fn run(&self, alloc: Global, scratch: &mut Scratch) -> Result<Vec<i32>, AllocError>
         requires layout { IsFunctionLayout (pipeline_in self.now.job.now) self.now.layout.now }
         requires needs { NeedsGiven (K.given self.now.known.now) self.now.layout.now.needs }
-        ensures { IfOk result (λ values. (inlining : List Bool) (g i j : ℕ) → IsTileLayout (pipeline_in self.now.job.now) inlining g i j self.now.layout.now → AreLocalOn (pipeline_in self.now.job.now) inlining (K.given self.now.known.now) g i j values.items) }
+        ensures { IfOk result (λ values. (inlining : List Bool) (g i j : ℕ)
+            → IsTileLayout (pipeline_in self.now.job.now) inlining g i j self.now.layout.now
+            → AreLocalOn (pipeline_in self.now.job.now) inlining (K.given self.now.known.now) g i j
+            values.items) }
     {
         let Some(last) = last_of(self.layout.steps()) else {
             return Ok(Vec::new(alloc));
@@ -111,9 +118,15 @@ pub fn run_tile<K: Known>(
 ) -> Result<Vec<i32>, EvalFault>
     requires whole { AreWhole (pipeline_in job.now) (K.given known.now) }
     requires plan { IsFunctionPlan (program_id_in job.now) (pipeline_in job.now) plan.now }
-    ensures values { IfOk result (λ values. (inlining : List Bool) (g i j : ℕ) → IsTilePlan (program_id_in job.now) (pipeline_in job.now) inlining g i j plan.now → AreLocalOn (pipeline_in job.now) inlining (K.given known.now) g i j values.items) }
-    ensures right { AreTrue (pipeline_in job.now) (K.given known.now) → IfOk result (λ values. (inlining : List Bool) (g i j : ℕ) → IsTilePlan (program_id_in job.now) (pipeline_in job.now) inlining g i j plan.now → AreValuesOn (pipeline_in job.now) g i j values.items) }
-    ensures given { IfOk result (λ values. first_missing (K.given known.now) plan.now.needs ≡ None) }
+    ensures values { IfOk result (λ values. (inlining : List Bool) (g i j : ℕ)
+        → IsTilePlan (program_id_in job.now) (pipeline_in job.now) inlining g i j plan.now
+        → AreLocalOn (pipeline_in job.now) inlining (K.given known.now) g i j values.items) }
+    ensures right { AreTrue (pipeline_in job.now) (K.given known.now)
+        → IfOk result (λ values. (inlining : List Bool) (g i j : ℕ)
+        → IsTilePlan (program_id_in job.now) (pipeline_in job.now) inlining g i j plan.now
+        → AreValuesOn (pipeline_in job.now) g i j values.items) }
+    ensures given { IfOk result
+        (λ values. first_missing (K.given known.now) plan.now.needs ≡ None) }
     ensures fault { IfErr result (IsEvalFault (K.given known.now) plan.now.needs) }
 {
     if let Some(key) = first_missing(plan.needs(), known) {

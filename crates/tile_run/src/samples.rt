@@ -15,7 +15,8 @@ use row_kernels::{RowSpan, step_of};
 // Takes the samples from a place on.
 fn widen(samples: &[u16], place: usize, out: &mut [i32])
     requires { place + length out.old ≤ length samples.now }
-    ensures { EachPlace (length out.old) (λ k. at out.new k ≡ pos (slice_index samples.now (place + k))) }
+    ensures { EachPlace (length out.old)
+        (λ k. at out.new k ≡ pos (slice_index samples.now (place + k))) }
 {
     for k in 0..out.len() {
         out[k] = i32::from(samples[place + k]);
@@ -25,7 +26,8 @@ fn widen(samples: &[u16], place: usize, out: &mut [i32])
 // Takes the samples from a place on, at steps of one length.
 fn widen_every(samples: &[u16], place: usize, step: usize, out: &mut [i32])
     requires { EachPlace (length out.old) (λ k. place + k * step < length samples.now) }
-    ensures { EachPlace (length out.old) (λ k. at out.new k ≡ pos (slice_index samples.now (place + k * step))) }
+    ensures { EachPlace (length out.old)
+        (λ k. at out.new k ≡ pos (slice_index samples.now (place + k * step))) }
 {
     for k in 0..out.len() {
         out[k] = i32::from(samples[place + k * step]);
@@ -55,8 +57,10 @@ fn plane_of(picture: &Picture, plane: usize) -> &[u16]
 /// The samples of a plane along a row, from a column on.
 pub(crate) fn plane_row(picture: &Picture, plane: usize, row: i32, first: i32, out: &mut [i32])
     requires plane { plane < length picture.now.planes }
-    requires there { EachPlace (length out.old) (λ k. HoldsPoint (picture_area picture.now) row (first +ℤ pos k)) }
-    ensures { EachPlace (length out.old) (λ k. at out.new k ≡ sample_at picture.now plane row (first +ℤ pos k)) }
+    requires there { EachPlace (length out.old)
+        (λ k. HoldsPoint (picture_area picture.now) row (first +ℤ pos k)) }
+    ensures { EachPlace (length out.old)
+        (λ k. at out.new k ≡ sample_at picture.now plane row (first +ℤ pos k)) }
 {
     if !out.is_empty() {
         widen(plane_of(picture, plane), place_in(picture, row, first), out);
@@ -74,8 +78,10 @@ pub(crate) fn plane_gather(
 )
     requires plane { plane < length picture.now.planes }
     requires fits { length out.old ≡ points.now.len }
-    requires there { EachPlace (length out.old) (λ k. HoldsPoint (picture_area picture.now) row (index_at col.now (points.now.col +ℤ pos k))) }
-    ensures { EachPlace (length out.old) (λ k. at out.new k ≡ sample_at picture.now plane row (index_at col.now (points.now.col +ℤ pos k))) }
+    requires there { EachPlace (length out.old) (λ k. HoldsPoint (picture_area picture.now) row
+        (index_at col.now (points.now.col +ℤ pos k))) }
+    ensures { EachPlace (length out.old) (λ k. at out.new k
+        ≡ sample_at picture.now plane row (index_at col.now (points.now.col +ℤ pos k))) }
 {
     if col.div() == 1 && !out.is_empty() {
         plane_steps(picture, plane, row, col, points, out);
@@ -96,8 +102,10 @@ fn plane_steps(
     requires plane { plane < length picture.now.planes }
     requires div { col.now.div ≡ pos 1 }
     requires some { 0 < length out.old }
-    requires there { EachPlace (length out.old) (λ k. HoldsPoint (picture_area picture.now) row (index_at col.now (points.now.col +ℤ pos k))) }
-    ensures { EachPlace (length out.old) (λ k. at out.new k ≡ sample_at picture.now plane row (index_at col.now (points.now.col +ℤ pos k))) }
+    requires there { EachPlace (length out.old) (λ k. HoldsPoint (picture_area picture.now) row
+        (index_at col.now (points.now.col +ℤ pos k))) }
+    ensures { EachPlace (length out.old) (λ k. at out.new k
+        ≡ sample_at picture.now plane row (index_at col.now (points.now.col +ℤ pos k))) }
 {
     let place = place_in(picture, row, points.col_at(col));
     widen_every(plane_of(picture, plane), place, step_of(col), out);
@@ -114,8 +122,10 @@ fn plane_samples(
 )
     requires plane { plane < length picture.now.planes }
     requires fits { length out.old ≡ points.now.len }
-    requires there { EachPlace (length out.old) (λ k. HoldsPoint (picture_area picture.now) row (index_at col.now (points.now.col +ℤ pos k))) }
-    ensures { EachPlace (length out.old) (λ k. at out.new k ≡ sample_at picture.now plane row (index_at col.now (points.now.col +ℤ pos k))) }
+    requires there { EachPlace (length out.old) (λ k. HoldsPoint (picture_area picture.now) row
+        (index_at col.now (points.now.col +ℤ pos k))) }
+    ensures { EachPlace (length out.old) (λ k. at out.new k
+        ≡ sample_at picture.now plane row (index_at col.now (points.now.col +ℤ pos k))) }
 {
     for k in 0..out.len() {
         out[k] = plane_sample(picture, plane, row, col.at(points.column(k)));

@@ -24,7 +24,8 @@ use tile_eval::{Buffer, StageBuffers};
 
 /// The function of this number.
 pub(crate) fn function_of(job: &Job, number: usize) -> Option<&Function>
-    ensures some { IfSome result (λ function. IsFunctionAt (pipeline_in job.now) number (map case_view function.now.cases.items) (option_map formula_view function.now.otherwise)) }
+    ensures some { IfSome result (λ function. IsFunctionAt (pipeline_in job.now) number
+        (map case_view function.now.cases.items) (option_map formula_view function.now.otherwise)) }
     ensures none { IfNone result (is_function (pipeline_in job.now) number ≡ false) }
 {
     match job.stage(number)?.body() {
@@ -45,15 +46,22 @@ impl<K: Known> TileJob<'_, K> {
         area: &Area,
         scratch: &mut Scratch,
     ) -> Result<(), AllocError>
-        requires function { IsFunctionAt (pipeline_in self.now.job.now) number (map case_view function.now.cases.items) (option_map formula_view function.now.otherwise) }
+        requires function { IsFunctionAt (pipeline_in self.now.job.now) number
+            (map case_view function.now.cases.items)
+            (option_map formula_view function.now.otherwise) }
         requires area { IsArea area.now }
         requires room { number < length boxes.old.buffers.items }
-        requires local { AreLocal (pipeline_in self.now.job.now) self.now.layout.now.inlining (K.given self.now.known.now) boxes.old.buffers.items }
-        requires ready { IsReadyOver (pipeline_in self.now.job.now) self.now.layout.now.inlining (K.given self.now.known.now) boxes.old.buffers.items number area.now }
+        requires local { AreLocal (pipeline_in self.now.job.now) self.now.layout.now.inlining
+            (K.given self.now.known.now) boxes.old.buffers.items }
+        requires ready { IsReadyOver (pipeline_in self.now.job.now) self.now.layout.now.inlining
+            (K.given self.now.known.now) boxes.old.buffers.items number area.now }
         ensures room { length boxes.new.buffers.items ≡ length boxes.old.buffers.items }
-        ensures local { OnOk result (AreLocal (pipeline_in self.now.job.now) self.now.layout.now.inlining (K.given self.now.known.now) boxes.new.buffers.items) }
-        ensures computed { OnOk result ((r c : ℤ) → HoldsPoint area.now r c → IsKnownAt boxes.new.buffers.items number r c) }
-        ensures others { (g : ℕ) → g ≢ number → slice_get boxes.new.buffers.items g ≡ slice_get boxes.old.buffers.items g }
+        ensures local { OnOk result (AreLocal (pipeline_in self.now.job.now)
+            self.now.layout.now.inlining (K.given self.now.known.now) boxes.new.buffers.items) }
+        ensures computed { OnOk result
+            ((r c : ℤ) → HoldsPoint area.now r c → IsKnownAt boxes.new.buffers.items number r c) }
+        ensures others { (g : ℕ) → g ≢ number
+            → slice_get boxes.new.buffers.items g ≡ slice_get boxes.old.buffers.items g }
     {
         let mut values = scratch.spare(alloc);
         let inputs = TileInputs {
@@ -74,14 +82,19 @@ impl<K: Known> TileJob<'_, K> {
         place: usize,
         scratch: &mut Scratch,
     ) -> Result<(), AllocError>
-        requires room { length boxes.old.buffers.items ≡ length (pipeline_in self.now.job.now).stages }
+        requires room { length boxes.old.buffers.items
+            ≡ length (pipeline_in self.now.job.now).stages }
         requires there { place < length steps.now }
-        requires runnable { AreRunnable (pipeline_in self.now.job.now) self.now.layout.now.inlining (K.given self.now.known.now) (map step_view steps.now) }
-        requires local { AreLocal (pipeline_in self.now.job.now) self.now.layout.now.inlining (K.given self.now.known.now) boxes.old.buffers.items }
+        requires runnable { AreRunnable (pipeline_in self.now.job.now) self.now.layout.now.inlining
+            (K.given self.now.known.now) (map step_view steps.now) }
+        requires local { AreLocal (pipeline_in self.now.job.now) self.now.layout.now.inlining
+            (K.given self.now.known.now) boxes.old.buffers.items }
         requires before { AreComputed (map step_view steps.now) place boxes.old.buffers.items }
         ensures room { length boxes.new.buffers.items ≡ length boxes.old.buffers.items }
-        ensures local { OnOk result (AreLocal (pipeline_in self.now.job.now) self.now.layout.now.inlining (K.given self.now.known.now) boxes.new.buffers.items) }
-        ensures computed { OnOk result (AreComputed (map step_view steps.now) (place + 1) boxes.new.buffers.items) }
+        ensures local { OnOk result (AreLocal (pipeline_in self.now.job.now)
+            self.now.layout.now.inlining (K.given self.now.known.now) boxes.new.buffers.items) }
+        ensures computed { OnOk result
+            (AreComputed (map step_view steps.now) (place + 1) boxes.new.buffers.items) }
     {
         let step = steps[place];
         match function_of(self.job, step.stage) {
@@ -98,11 +111,16 @@ impl<K: Known> TileJob<'_, K> {
         steps: &[Step],
         scratch: &mut Scratch,
     ) -> Result<(), AllocError>
-        requires room { length boxes.old.buffers.items ≡ length (pipeline_in self.now.job.now).stages }
-        requires runnable { AreRunnable (pipeline_in self.now.job.now) self.now.layout.now.inlining (K.given self.now.known.now) (map step_view steps.now) }
-        requires local { AreLocal (pipeline_in self.now.job.now) self.now.layout.now.inlining (K.given self.now.known.now) boxes.old.buffers.items }
-        ensures local { OnOk result (AreLocal (pipeline_in self.now.job.now) self.now.layout.now.inlining (K.given self.now.known.now) boxes.new.buffers.items) }
-        ensures computed { OnOk result (AreComputed (map step_view steps.now) (length steps.now) boxes.new.buffers.items) }
+        requires room { length boxes.old.buffers.items
+            ≡ length (pipeline_in self.now.job.now).stages }
+        requires runnable { AreRunnable (pipeline_in self.now.job.now) self.now.layout.now.inlining
+            (K.given self.now.known.now) (map step_view steps.now) }
+        requires local { AreLocal (pipeline_in self.now.job.now) self.now.layout.now.inlining
+            (K.given self.now.known.now) boxes.old.buffers.items }
+        ensures local { OnOk result (AreLocal (pipeline_in self.now.job.now)
+            self.now.layout.now.inlining (K.given self.now.known.now) boxes.new.buffers.items) }
+        ensures computed { OnOk result
+            (AreComputed (map step_view steps.now) (length steps.now) boxes.new.buffers.items) }
     {
         for place in 0..steps.len() {
             self.run_step(alloc, boxes, steps, place, scratch)?;

@@ -40,10 +40,16 @@ impl<K: Known> TileInputs<'_, K> {
         values: &mut Vec<i32>,
         temps: &mut Vec<i32>,
     ) -> Result<(), AllocError>
-        requires function { IsFunctionAt (pipeline_in self.now.tile.job.now) number (map case_view function.now.cases.items) (option_map formula_view function.now.otherwise) }
+        requires function { IsFunctionAt (pipeline_in self.now.tile.job.now) number
+            (map case_view function.now.cases.items)
+            (option_map formula_view function.now.otherwise) }
         requires area { IsArea area.now }
-        requires prepared { IsPrepared (pipeline_in self.now.tile.job.now) self.now.tile.layout.now.inlining (K.given self.now.tile.known.now) self.now.boxes.now number area.now }
-        ensures { OnOk result (values.new.items ≡ raster area.now (local_value (pipeline_in self.now.tile.job.now) self.now.tile.layout.now.inlining (K.given self.now.tile.known.now) number)) }
+        requires prepared { IsPrepared (pipeline_in self.now.tile.job.now)
+            self.now.tile.layout.now.inlining (K.given self.now.tile.known.now) self.now.boxes.now
+            number area.now }
+        ensures { OnOk result (values.new.items
+            ≡ raster area.now (local_value (pipeline_in self.now.tile.job.now)
+            self.now.tile.layout.now.inlining (K.given self.now.tile.known.now) number)) }
     {
         area_into(self, function, area, values, temps)
     }

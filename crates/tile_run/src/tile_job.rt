@@ -33,7 +33,8 @@ impl<'a, K: Known> Copy for TileJob<'a, K> {}
 impl<'a, K: Known> TileJob<'a, K> {
     // The tiles of a stored stage.
     pub(crate) fn given(&self, number: usize, stage: &Stage) -> TilesOfStage<'a, K>
-        requires { slice_get (pipeline_in self.now.job.now).stages number ≡ Some (stage_view stage.now) }
+        requires { slice_get (pipeline_in self.now.job.now).stages number
+            ≡ Some (stage_view stage.now) }
         ensures known { result.known.now ≡ self.now.known.now }
         ensures stage { result.stage ≡ number }
         ensures grid { result.grid ≡ grid_of (pipeline_in self.now.job.now) (stage_view stage.now) }

@@ -43,7 +43,8 @@ fn taken(span: &Span, col: &Index, points: &RowSpan) -> usize
     requires some { 0 < points.now.len }
     ensures some { 0 < result }
     ensures most { result ≤ points.now.len }
-    ensures within { EachPlace result (λ k. Holds span.now (index_at col.now (points.now.col +ℤ pos k))) }
+    ensures within { EachPlace result
+        (λ k. Holds span.now (index_at col.now (points.now.col +ℤ pos k))) }
 {
     let mut held = 1;
     let mut end = points.len;
@@ -62,8 +63,10 @@ fn taken(span: &Span, col: &Index, points: &RowSpan) -> usize
 fn slice_of<'a>(block: &BufferView<'a>, row: i32, first: i32, count: usize) -> Option<&'a [i32]>
     requires { HoldsPoint block.now.area row first }
     ensures count { IfSome result (λ line. length line.now ≡ count) }
-    ensures held { IfSome result (λ line. EachPlace count (λ k. HoldsPoint block.now.area row (first +ℤ pos k))) }
-    ensures values { IfSome result (λ line. EachPlace count (λ k. at line.now k ≡ at block.now.values.now (place_of block.now.area row (first +ℤ pos k)))) }
+    ensures held { IfSome result
+        (λ line. EachPlace count (λ k. HoldsPoint block.now.area row (first +ℤ pos k))) }
+    ensures values { IfSome result (λ line. EachPlace count (λ k. at line.now k
+        ≡ at block.now.values.now (place_of block.now.area row (first +ℤ pos k)))) }
 {
     if count == 0 || reach(block.columns(), first, count) < count {
         return None;
@@ -74,8 +77,10 @@ fn slice_of<'a>(block: &BufferView<'a>, row: i32, first: i32, count: usize) -> O
 impl<'a, K: Known> TilesOfStage<'a, K> {
     // The tile in which a point lies, if it is given.
     fn block(&self, row: i32, col: i32) -> Option<BufferView<'a>>
-        ensures some { IfSome result (IsTileAbout (K.given self.now.known.now) self.now.stage self.now.grid row col) }
-        ensures none { IfNone result (¬ (IsGivenAt (K.given self.now.known.now) self.now.stage self.now.grid row col)) }
+        ensures some { IfSome result
+            (IsTileAbout (K.given self.now.known.now) self.now.stage self.now.grid row col) }
+        ensures none { IfNone result
+            (¬ (IsGivenAt (K.given self.now.known.now) self.now.stage self.now.grid row col)) }
     {
         let (i, j) = self.grid.tile_of(row, col)?;
         let area = self.grid.tile(i, j)?;
@@ -86,10 +91,13 @@ impl<'a, K: Known> TilesOfStage<'a, K> {
     // Writes the numbers along a row as far as the tile of its first point goes, and tells how many these are.
     fn part(&self, row: i32, first: i32, out: &mut [i32]) -> usize
         requires some { 0 < length out.old }
-        requires there { EachPlace (length out.old) (λ k. IsGivenAt (K.given self.now.known.now) self.now.stage self.now.grid row (first +ℤ pos k)) }
+        requires there { EachPlace (length out.old) (λ k. IsGivenAt (K.given self.now.known.now)
+            self.now.stage self.now.grid row (first +ℤ pos k)) }
         ensures some { 0 < result }
         ensures most { result ≤ length out.old }
-        ensures numbers { EachPlace result (λ k. at out.new k ≡ number_at (K.given self.now.known.now) self.now.stage self.now.grid row (first +ℤ pos k)) }
+        ensures numbers { EachPlace result (λ k. at out.new k
+            ≡ number_at (K.given self.now.known.now) self.now.stage self.now.grid row
+            (first +ℤ pos k)) }
     {
         match self.block(row, first) {
             Some(block) => {
@@ -103,8 +111,11 @@ impl<'a, K: Known> TilesOfStage<'a, K> {
 
     /// Writes the numbers along a row, from a column on.
     pub(crate) fn read_row(&self, row: i32, first: i32, out: &mut [i32])
-        requires { EachPlace (length out.old) (λ k. IsGivenAt (K.given self.now.known.now) self.now.stage self.now.grid row (first +ℤ pos k)) }
-        ensures { EachPlace (length out.old) (λ k. at out.new k ≡ number_at (K.given self.now.known.now) self.now.stage self.now.grid row (first +ℤ pos k)) }
+        requires { EachPlace (length out.old) (λ k. IsGivenAt (K.given self.now.known.now)
+            self.now.stage self.now.grid row (first +ℤ pos k)) }
+        ensures { EachPlace (length out.old) (λ k. at out.new k
+            ≡ number_at (K.given self.now.known.now) self.now.stage self.now.grid row
+            (first +ℤ pos k)) }
     {
         let mut done = 0;
         while done < out.len() {
@@ -117,10 +128,13 @@ impl<'a, K: Known> TilesOfStage<'a, K> {
     fn pick_part(&self, row: i32, col: &Index, points: &RowSpan, out: &mut [i32]) -> usize
         requires some { 0 < length out.old }
         requires fits { length out.old ≡ points.now.len }
-        requires there { EachPlace (length out.old) (λ k. IsGivenAt (K.given self.now.known.now) self.now.stage self.now.grid row (index_at col.now (points.now.col +ℤ pos k))) }
+        requires there { EachPlace (length out.old) (λ k. IsGivenAt (K.given self.now.known.now)
+            self.now.stage self.now.grid row (index_at col.now (points.now.col +ℤ pos k))) }
         ensures some { 0 < result }
         ensures most { result ≤ length out.old }
-        ensures numbers { EachPlace result (λ k. at out.new k ≡ number_at (K.given self.now.known.now) self.now.stage self.now.grid row (index_at col.now (points.now.col +ℤ pos k))) }
+        ensures numbers { EachPlace result (λ k. at out.new k
+            ≡ number_at (K.given self.now.known.now) self.now.stage self.now.grid row
+            (index_at col.now (points.now.col +ℤ pos k))) }
     {
         match self.block(row, points.col_at(col)) {
             Some(block) => {
@@ -135,8 +149,11 @@ impl<'a, K: Known> TilesOfStage<'a, K> {
     /// Writes the numbers along a row, at the columns that an index takes at the columns of some points.
     pub(crate) fn gather(&self, row: i32, col: &Index, points: &RowSpan, out: &mut [i32])
         requires fits { length out.old ≡ points.now.len }
-        requires there { EachPlace (length out.old) (λ k. IsGivenAt (K.given self.now.known.now) self.now.stage self.now.grid row (index_at col.now (points.now.col +ℤ pos k))) }
-        ensures { EachPlace (length out.old) (λ k. at out.new k ≡ number_at (K.given self.now.known.now) self.now.stage self.now.grid row (index_at col.now (points.now.col +ℤ pos k))) }
+        requires there { EachPlace (length out.old) (λ k. IsGivenAt (K.given self.now.known.now)
+            self.now.stage self.now.grid row (index_at col.now (points.now.col +ℤ pos k))) }
+        ensures { EachPlace (length out.old) (λ k. at out.new k
+            ≡ number_at (K.given self.now.known.now) self.now.stage self.now.grid row
+            (index_at col.now (points.now.col +ℤ pos k))) }
     {
         let mut done = 0;
         while done < out.len() {
@@ -146,8 +163,12 @@ impl<'a, K: Known> TilesOfStage<'a, K> {
 
     /// The numbers along a row, from a column on, where one tile has them all.
     pub(crate) fn borrow_row(&self, row: i32, first: i32, count: usize) -> Option<&'a [i32]>
-        requires { EachPlace count (λ k. IsGivenAt (K.given self.now.known.now) self.now.stage self.now.grid row (first +ℤ pos k)) }
-        ensures { IfSome result (λ line. (length line.now ≡ count) × EachPlace count (λ k. at line.now k ≡ number_at (K.given self.now.known.now) self.now.stage self.now.grid row (first +ℤ pos k))) }
+        requires { EachPlace count (λ k. IsGivenAt (K.given self.now.known.now) self.now.stage
+            self.now.grid row (first +ℤ pos k)) }
+        ensures { IfSome result (λ line. (length line.now ≡ count)
+            × EachPlace count (λ k. at line.now k
+            ≡ number_at (K.given self.now.known.now) self.now.stage self.now.grid row
+            (first +ℤ pos k))) }
     {
         match self.block(row, first) {
             Some(block) => slice_of(&block, row, first, count),
@@ -158,7 +179,8 @@ impl<'a, K: Known> TilesOfStage<'a, K> {
     /// The number of a point.
     pub(crate) fn sample(&self, row: i32, col: i32) -> i32
         requires { IsGivenAt (K.given self.now.known.now) self.now.stage self.now.grid row col }
-        ensures { result ≡ number_at (K.given self.now.known.now) self.now.stage self.now.grid row col }
+        ensures { result
+            ≡ number_at (K.given self.now.known.now) self.now.stage self.now.grid row col }
     {
         match self.block(row, col) {
             Some(block) => block.sample(row, col),

@@ -33,6 +33,7 @@ IsParamRefusal ss given _ = ⊥
 
 -- how a fault of binding is told by the names of these parameters and stages
 abbrev pub TellsBind : List Symbol → List Symbol → BindFault → StreamFault → Type 0
-TellsBind params stages fault (faults.Bind line) = (line.fault ≡ fault) × (fault ≢ binding.Memory) × (line.blamed ≡ blamed params stages fault)
+TellsBind params stages fault (faults.Bind line) =
+    (line.fault ≡ fault) × (fault ≢ binding.Memory) × (line.blamed ≡ blamed params stages fault)
 TellsBind params stages fault faults.Memory = Unit {0}
 TellsBind params stages fault _ = ⊥

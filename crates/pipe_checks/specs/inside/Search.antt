@@ -81,7 +81,8 @@ pub record IsWayBack (g : List Links) (start : ℕ) (far : List (Option ℕ)) (l
   pub last : slice_index c (length c - 1) ≡ start
   pub reads : (i : ℕ) → i + 1 < length c → Reads g (slice_index c i) (slice_index c (i + 1))
   pub at : (i : ℕ) → i + 1 < length c → slice_get far (slice_index c (i + 1)) ≡ Some (Some (left - i))
-  pub least : (i u : ℕ) → i + 1 < length c → Reads g (slice_index c i) u → slice_get far u ≡ Some (Some (left - i)) → slice_index c (i + 1) ≤ u
+  pub least : (i u : ℕ) → i + 1 < length c → Reads g (slice_index c i) u → slice_get far u ≡ Some (Some (left - i))
+      → slice_index c (i + 1) ≤ u
 
 -- ---- a whole program
 

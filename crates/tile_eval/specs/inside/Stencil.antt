@@ -5,7 +5,8 @@ use Rattle.row_kernels.specs.Rows.{EachPlace, at}
 
 -- what row a of a kernel adds at a point
 abbrev pub row_sum : List (List ℤ) → (ℤ → ℤ → ℤ) → ℤ → ℤ → ℕ → ℤ
-row_sum kernel f r c a = sum_below (length (factors kernel a)) (λ b. at (factors kernel a) b *ℤ f (kernel_row kernel r a) (kernel_column kernel c b))
+row_sum kernel f r c a =
+    sum_below (length (factors kernel a)) (λ b. at (factors kernel a) b *ℤ f (kernel_row kernel r a) (kernel_column kernel c b))
 
 -- the numbers of the line are the samples under row a of a kernel about the points of row r from column c on
 abbrev pub IsUnder : List (List ℤ) → (ℤ → ℤ → ℤ) → ℤ → ℤ → ℕ → List ℤ → Type 0

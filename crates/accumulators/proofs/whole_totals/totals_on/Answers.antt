@@ -23,7 +23,8 @@ gather-requires-clause-rows c =
     let buffers = c.known.result.now.buffers.items in
     let served = subst (λ (k : StageBuffers). IsServed job k.buffers.items c.args.stage) (sym c.known.ensures.known) c.requires.served in
     let inputs = accumulator_inputs job buffers c.args.stage s c.in-Accumulator.accumulator there is served in
-    (part_near job buffers c.args.stage s c.args.area.now c.args.stages.now.job.now.well there c.known.ensures.right c.requires.part inputs).0
+    (part_near job buffers c.args.stage s c.args.area.now c.args.stages.now.job.now.well there c.known.ensures.right c.requires.part
+    inputs).0
 
 pub gather-requires-clause-cols : goal.gather-requires-clause-cols
 gather-requires-clause-cols c =
@@ -35,7 +36,8 @@ gather-requires-clause-cols c =
     let buffers = c.known.result.now.buffers.items in
     let served = subst (λ (k : StageBuffers). IsServed job k.buffers.items c.args.stage) (sym c.known.ensures.known) c.requires.served in
     let inputs = accumulator_inputs job buffers c.args.stage s c.in-Accumulator.accumulator there is served in
-    (part_near job buffers c.args.stage s c.args.area.now c.args.stages.now.job.now.well there c.known.ensures.right c.requires.part inputs).1
+    (part_near job buffers c.args.stage s c.args.area.now c.args.stages.now.job.now.well there c.known.ensures.right c.requires.part
+    inputs).1
 
 pub gather-requires-clause-formulas : goal.gather-requires-clause-formulas
 gather-requires-clause-formulas c =
@@ -57,7 +59,8 @@ gather-requires-clause-reads c = λ r k inside.
     let served = subst (λ (k : StageBuffers). IsServed job k.buffers.items c.args.stage) (sym c.known.ensures.known) c.requires.served in
     let inputs = accumulator_inputs job buffers c.args.stage s c.in-Accumulator.accumulator there is served in
     subst (λ (b : Body). BodyReads (IsKnownAt buffers) b r k) is
-    (part_reads job buffers c.args.stage s c.args.area.now c.args.stages.now.job.now.well there c.known.ensures.right c.requires.part inputs r k
+    (part_reads job buffers c.args.stage s c.args.area.now c.args.stages.now.job.now.well there c.known.ensures.right c.requires.part inputs
+    r k
     inside)
 
 pub returns-in-Accumulator : goal.returns-in-Accumulator
@@ -73,5 +76,6 @@ returns-in-Accumulator c =
     let env : Valuation = λ h i j. sample_in (slice_get buffers h) i j in
     IfOk-weaker c.gather.result _ (λ (bins : Vec ℤ). bins.items ≡ totals_over job c.args.area.now c.args.stage) (λ bins e.
     e ∙ ap (body_totals env c.args.area.now) (sym is)
-    ∙ part_totals job buffers c.args.stage s c.args.area.now c.args.stages.now.job.now.well there c.known.ensures.right c.requires.part inputs)
+    ∙ part_totals job buffers c.args.stage s c.args.area.now c.args.stages.now.job.now.well there c.known.ensures.right c.requires.part
+    inputs)
     c.gather.ensures

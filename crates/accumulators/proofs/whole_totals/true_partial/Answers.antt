@@ -13,5 +13,6 @@ partial_of-requires c =
 pub returns-clause-none : goal.returns-clause-none
 returns-clause-none c =
     subst
-    (λ j. IfOk c.partial_of.result (λ found. IfNone found ((bins : List ℤ) → ¬ (IsTruePartial (pipeline_in j) c.args.stage c.args.row c.args.col bins))))
+    (λ j. IfOk c.partial_of.result
+    (λ found. IfNone found ((bins : List ℤ) → ¬ (IsTruePartial (pipeline_in j) c.args.stage c.args.row c.args.col bins))))
     c.in_ok-stages.ensures.job c.partial_of.ensures.none

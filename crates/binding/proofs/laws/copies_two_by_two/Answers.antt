@@ -39,7 +39,8 @@ each_at P (y ∷ ys) each (suc k) x is = each_at P ys each.1 k x is
 at_some : {X : Type 0} (P : X → Type 0) (x y : X) → Some x ≡ Some y → P x → P y
 at_some P x y is p = let same : x ≡ y = cc in subst P same p
 
-new_at : (place : ℕ) (d : Symbol) → slice_get (declared_names copying) place ≡ Some d → number_of (take place (declared_names copying)) d.name ≡ None
+new_at : (place : ℕ) (d : Symbol) → slice_get (declared_names copying) place ≡ Some d
+    → number_of (take place (declared_names copying)) d.name ≡ None
 new_at zero = λ d is. refl
 new_at (suc zero) = λ d is. at_some (λ (e : Symbol). number_of (take 1 (declared_names copying)) e.name ≡ None) _ d is refl
 new_at (suc (suc zero)) = λ d is. at_some (λ (e : Symbol). number_of (take 2 (declared_names copying)) e.name ≡ None) _ d is refl
@@ -50,9 +51,11 @@ declared_once : (k : ℕ) → DeclaresAgain (declared_names copying) k → ⊥
 declared_once k x = false≢true (subst (λ (o : Option ℕ). IsTrue (is_some o)) (new_at x.place x.again x.there) x.before)
 
 variables_are_new : (k : ℕ) (d : Declaration) → slice_get copying k ≡ Some d → varies_again (declared_names copying) (locals_of d) ≡ false
-variables_are_new = each_at (λ d. varies_again (declared_names copying) (locals_of d) ≡ false) copying (refl, (refl, (refl, (refl, (refl, tt)))))
+variables_are_new =
+    each_at (λ d. varies_again (declared_names copying) (locals_of d) ≡ false) copying (refl, (refl, (refl, (refl, (refl, tt)))))
 
-twice_is_none : (k : ℕ) (d : Declaration) → varies_again (declared_names copying) (locals_of d) ≡ false → IsTwice (declared_names copying) k d → ⊥
+twice_is_none : (k : ℕ) (d : Declaration) → varies_again (declared_names copying) (locals_of d) ≡ false
+    → IsTwice (declared_names copying) k d → ⊥
 twice_is_none k d new (inl again) = declared_once k again
 twice_is_none k d new (inr varies) = false≢true (subst IsTrue new varies)
 

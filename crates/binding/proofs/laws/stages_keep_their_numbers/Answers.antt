@@ -18,25 +18,30 @@ map_both : {X Y : Type 0} (f : X → Y) (xs ys : List X) → map f (xs ++ ys) �
 map_both f [] ys = refl
 map_both {X} {Y} f (x ∷ xs) ys = ap (λ (zs : List Y). f x ∷ zs) (map_both f xs ys)
 
-plane_names : (p : Program) (n : ℕ) (i : Image) (xs : Names) → map (λ s. s.name) (map (plane_stage p i) (names_in xs)) ≡ map (λ d. d.name) (filter (λ d. not (is_param d.kind)) (names_of n xs))
+plane_names : (p : Program) (n : ℕ) (i : Image) (xs : Names)
+    → map (λ s. s.name) (map (plane_stage p i) (names_in xs)) ≡ map (λ d. d.name) (filter (λ d. not (is_param d.kind)) (names_of n xs))
 plane_names p n i (One x) = refl
 plane_names p n i (Three x y z) = refl
 
-one_item : (p : Program) (n : ℕ) (d : Declaration) → map (λ s. s.name) (item_stages p d) ≡ map (λ d. d.name) (filter (λ d. not (is_param d.kind)) (item_names n d))
+one_item : (p : Program) (n : ℕ) (d : Declaration)
+    → map (λ s. s.name) (item_stages p d) ≡ map (λ d. d.name) (filter (λ d. not (is_param d.kind)) (item_names n d))
 one_item p n (tree.param x) = refl
 one_item p n (tree.image i) = plane_names p n i i.names
 one_item p n (tree.function f) = refl
 one_item p n (tree.accumulator a) = refl
 one_item p n (tree.output o) = refl
 
-from : (p : Program) (n : ℕ) (ds : List Declaration) → map (λ s. s.name) (flat_map (item_stages p) ds) ≡ map (λ d. d.name) (filter (λ d. not (is_param d.kind)) (names_from n ds))
+from : (p : Program) (n : ℕ) (ds : List Declaration)
+    → map (λ s. s.name) (flat_map (item_stages p) ds) ≡ map (λ d. d.name) (filter (λ d. not (is_param d.kind)) (names_from n ds))
 from p n [] = refl
 from p n (d ∷ ds) =
     map_both (λ (s : Stage). s.name) (item_stages p d) (flat_map (item_stages p) ds)
     ∙ ap (λ (xs : List (List ℕ)). xs ++ map (λ s. s.name) (flat_map (item_stages p) ds)) (one_item p n d)
     ∙ ap (λ (xs : List (List ℕ)). map (λ d. d.name) (filter (λ d. not (is_param d.kind)) (item_names n d)) ++ xs) (from p (n + 1) ds)
-    ∙ sym (map_both (λ (d : Symbol). d.name) (filter (λ d. not (is_param d.kind)) (item_names n d)) (filter (λ d. not (is_param d.kind)) (names_from (n + 1) ds)))
-    ∙ ap (λ (xs : List Symbol). map (λ d. d.name) xs) (sym (filter-append (λ (d : Symbol). not (is_param d.kind)) (item_names n d) (names_from (n + 1) ds)))
+    ∙ sym (map_both (λ (d : Symbol). d.name) (filter (λ d. not (is_param d.kind)) (item_names n d))
+    (filter (λ d. not (is_param d.kind)) (names_from (n + 1) ds)))
+    ∙ ap (λ (xs : List Symbol). map (λ d. d.name) xs)
+    (sym (filter-append (λ (d : Symbol). not (is_param d.kind)) (item_names n d) (names_from (n + 1) ds)))
 
 pub returns : goal.returns
 returns c = λ p items. from p 0 items

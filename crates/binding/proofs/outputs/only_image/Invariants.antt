@@ -6,4 +6,6 @@ use Rattle.binding.specs.Binding.{item_images}
 use Rattle.binding.proofs.outputs.only_image.Given as goal
 
 abbrev pub invariant-loop-item : goal.invariant-loop-item
-invariant-loop-item l = option_map_or (λ i. i.now ∷ []) l.found [] ++ flat_map item_images (declarations (drop l.item-index l.items)) ≡ flat_map item_images (declarations l.items)
+invariant-loop-item l =
+    option_map_or (λ i. i.now ∷ []) l.found [] ++ flat_map item_images (declarations (drop l.item-index l.items))
+    ≡ flat_map item_images (declarations l.items)

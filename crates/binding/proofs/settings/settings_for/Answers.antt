@@ -12,7 +12,8 @@ loop-setting-preserved c =
     let given = c.args.params.now in
     let n = c.loop-setting.setting-index in
     let x = c.setting-item.result in
-    let there = here_is c.settings-setting-items.result.now given n _ c.settings-setting-items.ensures c.loop-setting-test.true c.setting-item.is in
+    let there =
+    here_is c.settings-setting-items.result.now given n _ c.settings-setting-items.ensures c.loop-setting-test.true c.setting-item.is in
     let value = ap (λ (v : Option ℤ). let s : Setting = record { name = x.name; value = v } in s) c.settle.ensures.value in
     let next : suc n ≡ n + 1 = omega arith in (
       c.in_ok-push.ensures.items
@@ -20,5 +21,6 @@ loop-setting-preserved c =
           ∙ (ap (λ (s : Setting). settings_for image picture (take n given) ++ s ∷ []) value
           ∙ (sym (settings_more image picture given n x there)
           ∙ ap (λ (k : ℕ). settings_for image picture (take k given)) next))),
-      subst AreSmall (sym c.in_ok-push.ensures.items) (small_more c.loop-setting.settings.items _ c.loop-setting.invariant.1 c.settle.ensures.small),
+      subst AreSmall (sym c.in_ok-push.ensures.items)
+          (small_more c.loop-setting.settings.items _ c.loop-setting.invariant.1 c.settle.ensures.small),
     )

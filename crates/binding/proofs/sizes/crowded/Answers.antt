@@ -14,9 +14,18 @@ returns-then-tile_count-gt-MOST_TILES-clause-some c =
     let n = c.loop-number.number in
     let more = c.if-tile_count-gt-MOST_TILES.true in
     let there : slice_get (map stage_view stages) n ≡ Some (stage_view c.stage-item.result) =
-    slice_get-map stage_view stages n ∙ ap (option_map stage_view) (here_is c.deref-stage-items.result.now stages n _ c.deref-stage-items.ensures.value c.loop-number-test.true c.stage-item.is) in
+    slice_get-map stage_view stages n
+    ∙ ap (option_map stage_view)
+    (here_is c.deref-stage-items.result.now stages n _ c.deref-stage-items.ensures.value c.loop-number-test.true c.stage-item.is) in
     let many : 65536 < c.tile_count.result = omega arith in
-    record { stage = stage_view c.stage-item.result; there = there; crowded = subst (λ k. 65536 < k) c.tile_count.ensures many; first = c.loop-number.invariant }
+    record {
+      stage =
+          stage_view c.stage-item.result;
+      there =
+          there;
+      crowded = subst (λ k. 65536 < k) c.tile_count.ensures many;
+      first = c.loop-number.invariant;
+    }
 
 pub loop-number-preserved : goal.loop-number-preserved
 loop-number-preserved c =
@@ -24,7 +33,10 @@ loop-number-preserved c =
     let n = c.loop-number.number in
     let less = c.if-tile_count-gt-MOST_TILES.false in
     let there : slice_get (map stage_view stages) n ≡ Some (stage_view c.stage-item.result) =
-    slice_get-map stage_view stages n ∙ ap (option_map stage_view) (here_is c.deref-stage-items.result.now stages n _ c.deref-stage-items.ensures.value c.loop-number-test.true c.stage-item.is) in
+    slice_get-map stage_view stages n
+    ∙ ap (option_map stage_view)
+    (here_is c.deref-stage-items.result.now stages n _ c.deref-stage-items.ensures.value c.loop-number-test.true c.stage-item.is) in
     let few : c.tile_count.result ≤ 65536 = omega arith in
-    all_more (λ k s. tile_count (pipeline_of c.args.pipeline.now) s ≤ 65536) (map stage_view stages) n (stage_view c.stage-item.result) there
+    all_more (λ k s. tile_count (pipeline_of c.args.pipeline.now) s ≤ 65536) (map stage_view stages) n (stage_view c.stage-item.result)
+    there
     (subst (λ k. k ≤ 65536) c.tile_count.ensures few) c.loop-number.invariant

@@ -8,5 +8,7 @@ use Rattle.binding.proofs.sizes.shapes_fit.Goals as goal
 pub returns-in-Some : goal.returns-in-Some
 returns-in-Some c =
     let seen = output_view c.in-Some.output in
-    let there : option_map output_view c.args.pipeline.now.output ≡ Some seen = ap (option_map output_view) c.in-Some.is in
-    ((λ t x e. subst (IsShaped (pipeline_of c.args.pipeline.now)) (same_Some seen x (sym there ∙ e)) (c.is_shaped.ensures.0 t)), (λ h. c.is_shaped.ensures.1 (h seen there)))
+    let there : option_map output_view c.args.pipeline.now.output ≡ Some seen = ap (option_map output_view) c.in-Some.is in (
+      (λ t x e. subst (IsShaped (pipeline_of c.args.pipeline.now)) (same_Some seen x (sym there ∙ e)) (c.is_shaped.ensures.0 t)),
+      (λ h. c.is_shaped.ensures.1 (h seen there)),
+    )

@@ -12,7 +12,9 @@ returns-clause-shape c =
     let cols = c.in_ok-arg-2.ensures.shape c.number-2.ensures.local ∙ ap₂ with_rule rows c.number-2.ensures.rule in
     let percent = c.in_ok-arg-3.ensures.shape c.number-3.ensures.local ∙ ap₂ with_rule cols c.number-3.ensures.rule in
     let stored = c.in_ok-arg-4.ensures.shape c.flag.ensures.local ∙ ap₂ with_rule percent c.flag.ensures.rule in
-    IfOk-weaker c.arg-5.result _ _ (λ r h. ap (λ (a : App). a.top) (h.shape c.parameters.ensures.local ∙ ap₂ with_rule stored c.parameters.ensures.rule)) c.arg-5.ensures
+    IfOk-weaker c.arg-5.result _ _
+    (λ r h. ap (λ (a : App). a.top) (h.shape c.parameters.ensures.local ∙ ap₂ with_rule stored c.parameters.ensures.rule))
+    c.arg-5.ensures
 
 pub returns-clause-local : goal.returns-clause-local
 returns-clause-local c =

@@ -8,8 +8,11 @@ pub returns : goal.returns
 returns c =
     let nameless = ap app_of_fields c.no_binary_name.ensures ∙ ap (on_top (λ s. record s { no_binary_name = true })) c.new.ensures.app in
     let flagless = ap app_of_fields c.disable_help_flag.ensures ∙ ap (on_top (λ s. record s { disable_help_flag = true })) nameless in
-    let helpless = ap app_of_fields c.disable_help_subcommand.ensures ∙ ap (on_top (λ s. record s { disable_help_subcommand = true })) flagless in
+    let helpless =
+    ap app_of_fields c.disable_help_subcommand.ensures ∙ ap (on_top (λ s. record s { disable_help_subcommand = true })) flagless in
     let empty = ap app_of_fields c.subcommand_required.ensures ∙ ap (on_top (λ s. record s { subcommand_required = true })) helpless in
     let eval = c.in_ok-subcommand.ensures.shape c.in_ok-command.ensures.local ∙ ap₂ with_subcommand empty c.in_ok-command.ensures.shape in
-    let check = c.in_ok-subcommand-2.ensures.shape c.in_ok-command-2.ensures.local ∙ ap₂ with_subcommand eval c.in_ok-command-2.ensures.shape in
-    IfOk-weaker c.subcommand-3.result _ _ (λ r h. h.shape c.in_ok-command-3.ensures.local ∙ ap₂ with_subcommand check c.in_ok-command-3.ensures.shape) c.subcommand-3.ensures
+    let check =
+    c.in_ok-subcommand-2.ensures.shape c.in_ok-command-2.ensures.local ∙ ap₂ with_subcommand eval c.in_ok-command-2.ensures.shape in
+    IfOk-weaker c.subcommand-3.result _ _
+    (λ r h. h.shape c.in_ok-command-3.ensures.local ∙ ap₂ with_subcommand check c.in_ok-command-3.ensures.shape) c.subcommand-3.ensures

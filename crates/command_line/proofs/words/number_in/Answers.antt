@@ -7,8 +7,10 @@ use Rattle.command_line.proofs.words.number_in.Goals as goal
 
 pub returns-clause-some : goal.returns-clause-some
 returns-clause-some c =
-    subst (λ (text : Option (List ℕ)). IfSome c.number_of.result (IsChosen text c.args.usual)) (c.get_str.ensures ∙ first_value-rows (found_of c.args.given.now) c.args.name.now) c.number_of.ensures.some
+    subst (λ (text : Option (List ℕ)). IfSome c.number_of.result (IsChosen text c.args.usual))
+    (c.get_str.ensures ∙ first_value-rows (found_of c.args.given.now) c.args.name.now) c.number_of.ensures.some
 
 pub returns-clause-none : goal.returns-clause-none
 returns-clause-none c =
-    subst (λ (text : Option (List ℕ)). IfNone c.number_of.result ((n : ℕ) → ¬ IsChosen text c.args.usual n)) (c.get_str.ensures ∙ first_value-rows (found_of c.args.given.now) c.args.name.now) c.number_of.ensures.none
+    subst (λ (text : Option (List ℕ)). IfNone c.number_of.result ((n : ℕ) → ¬ IsChosen text c.args.usual n))
+    (c.get_str.ensures ∙ first_value-rows (found_of c.args.given.now) c.args.name.now) c.number_of.ensures.none

@@ -5,4 +5,6 @@ use Rattle.commands.proofs.answer.answer.Goals as goal
 
 pub unreachable-requires : goal.unreachable-requires
 unreachable-requires g c =
-    never_too_big (program_id_in c.args.job.now) (pipeline_in c.args.job.now) c.args.schedule.now Accumulators _ c.in-Err-ScratchTooBig.field-0 c.requires.schedule c.requires.fit c.in-Err-ScratchTooBig.field-0-is c.in-Err-ScratchTooBig.ensures.fault
+    never_too_big (program_id_in c.args.job.now) (pipeline_in c.args.job.now) c.args.schedule.now Accumulators _
+    c.in-Err-ScratchTooBig.field-0 c.requires.schedule c.requires.fit c.in-Err-ScratchTooBig.field-0-is
+    c.in-Err-ScratchTooBig.ensures.fault

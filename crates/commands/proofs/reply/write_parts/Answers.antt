@@ -12,9 +12,11 @@ returns-in_err-write_picture-clause-part g c =
 pub returns-clause-ok : goal.returns-clause-ok
 returns-clause-ok g c =
     let reply = c.args.reply.now in
-    all_behind c.write_whole.result _ _ _ (option_map_or spelling reply.picture []) reply.lines.items c.as_slice.result.now c.as_slice.ensures.value c.in_ok-write_picture.ensures.ok c.write_whole.ensures.ok
+    all_behind c.write_whole.result _ _ _ (option_map_or spelling reply.picture []) reply.lines.items c.as_slice.result.now
+    c.as_slice.ensures.value c.in_ok-write_picture.ensures.ok c.write_whole.ensures.ok
 
 pub returns-clause-part : goal.returns-clause-part
 returns-clause-part g c =
     let reply = c.args.reply.now in
-    cut_behind c.write_whole.result _ _ _ (option_map_or spelling reply.picture []) reply.lines.items c.as_slice.result.now c.as_slice.ensures.value c.in_ok-write_picture.ensures.ok c.write_whole.ensures.part
+    cut_behind c.write_whole.result _ _ _ (option_map_or spelling reply.picture []) reply.lines.items c.as_slice.result.now
+    c.as_slice.ensures.value c.in_ok-write_picture.ensures.ok c.write_whole.ensures.part

@@ -5,4 +5,5 @@ use Rattle.commands.proofs.stage_lines.put_stages.Goals as goal
 
 pub loop-number-preserved : goal.loop-number-preserved
 loop-number-preserved c =
-    put_more (stage_line_at (pipeline_in c.args.job.now)) c.loop-number.number c.args.lines.now.items c.loop-number.lines.items c.put_stage.new.lines.items c.loop-number.invariant c.in_ok-put_stage.ensures
+    put_more (stage_line_at (pipeline_in c.args.job.now)) c.loop-number.number c.args.lines.now.items c.loop-number.lines.items
+    c.put_stage.new.lines.items c.loop-number.invariant c.in_ok-put_stage.ensures

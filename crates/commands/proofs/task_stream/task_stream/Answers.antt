@@ -9,11 +9,16 @@ returns-in_err-reply-clause-written g c =
     let known = g.R.Source.remaining c.args.reader.now in
     let read = c.in_ok-input.ensures in
     let p = err_from_is_err_and c.from_residual-in_err-reply.result c.from_residual-in_err-reply.ensures.1 in
-    rw (p.1, p.2) (input_fault (Unit {0}) (saying_of c.args.task c.args.options.now.stored c.args.options.now.percent) known c.in_ok-input.input.items c.args.parameters.now c.args.options.now.sides c.in_err-reply.field-0.0 (g.W.Sink.contents c.args.writer.now) read.whole read.within c.in_err-reply.ensures.fault)
+    rw (p.1, p.2) (input_fault (Unit {0}) (saying_of c.args.task c.args.options.now.stored c.args.options.now.percent) known
+    c.in_ok-input.input.items c.args.parameters.now c.args.options.now.sides c.in_err-reply.field-0.0
+    (g.W.Sink.contents c.args.writer.now) read.whole read.within c.in_err-reply.ensures.fault)
 
 pub returns-clause-written : goal.returns-clause-written
 returns-clause-written g c =
     let known = g.R.Source.remaining c.args.reader.now in
     let read = c.in_ok-input.ensures in
     let written = c.write_reply.ensures in
-    said_written (Unit {0}) (saying_of c.args.task c.args.options.now.stored c.args.options.now.percent) known c.in_ok-input.input.items c.args.parameters.now c.args.options.now.sides (reply_bytes c.in_ok-reply.reply) c.write_reply.result (g.W.Sink.contents c.args.writer.now) (g.W.Sink.contents c.write_reply.new.writer) read.whole read.within c.in_ok-reply.ensures.said written.ok written.part written.fault
+    said_written (Unit {0}) (saying_of c.args.task c.args.options.now.stored c.args.options.now.percent) known c.in_ok-input.input.items
+    c.args.parameters.now c.args.options.now.sides (reply_bytes c.in_ok-reply.reply) c.write_reply.result
+    (g.W.Sink.contents c.args.writer.now) (g.W.Sink.contents c.write_reply.new.writer) read.whole read.within c.in_ok-reply.ensures.said
+    written.ok written.part written.fault

@@ -5,7 +5,8 @@ use Rattle.domains.proofs.grid.push_row.Goals as goal
 
 pub loop-j-preserved : goal.loop-j-preserved
 loop-j-preserved c =
-    c.in_ok-push.ensures.items ∙ row_more c.args.tiles.now.items c.loop-j.tiles.items c.args.i c.args.cols.0 c.loop-j.j (omega arith) c.loop-j.invariant
+    c.in_ok-push.ensures.items
+    ∙ row_more c.args.tiles.now.items c.loop-j.tiles.items c.args.i c.args.cols.0 c.loop-j.j (omega arith) c.loop-j.invariant
 
 pub returns : goal.returns
 returns c =

@@ -19,5 +19,8 @@ between-requires c =
 pub returns-clause-some : goal.returns-clause-some
 returns-clause-some c =
     let there : c.args.i < part_count c.args.span.now c.args.side = subst (λ n. c.args.i < n) c.count.ensures.number c.if-i-count.false in
-    let starts = starts_within c.args.span.now c.args.side c.args.i c.lo.ensures.within c.requires.least there in
-    (there, ends_from _ (part_of c.args.span.now c.args.side c.args.i) _ _ c.between.ensures (omega (arith, ints)) (omega (arith, ints, clamps)))
+    let starts = starts_within c.args.span.now c.args.side c.args.i c.lo.ensures.within c.requires.least there in (
+      there,
+      ends_from _ (part_of c.args.span.now c.args.side c.args.i) _ _ c.between.ensures (omega (arith, ints))
+          (omega (arith, ints, clamps)),
+    )

@@ -10,13 +10,16 @@ use Rattle.fact_audit.proofs.Judging.{by_job}
 use Rattle.fact_audit.proofs.single.audit.Goals as goal
 
 pub returns-in_default : goal.returns-in_default
-returns-in_default c = λ i at. c.in_default.ensures.none i (subst (λ (key : Key). StandsAt c.args.catalog.now (ids_in key) i) (sym c.key.ensures) at)
+returns-in_default c =
+    λ i at. c.in_default.ensures.none i (subst (λ (key : Key). StandsAt c.args.catalog.now (ids_in key) i) (sym c.key.ensures) at)
 
 pub verdict_by-requires : goal.verdict_by-requires
 verdict_by-requires c =
     let known = c.in_ok-stages.stages.known.buffers.items in
-    subst (λ (g : ℕ). IsServed (pipeline_in c.in_ok-stages.stages.job.now) known g) (c.from.ensures ∙ ap (λ (k : Key). k.stage) c.key-2.ensures)
-    (subst (λ (j : Job). IsServed (pipeline_in j) known c.from.result) (sym c.in_ok-stages.ensures.job) (c.in_ok-stages.ensures.served 0 0 (omega arith)))
+    subst (λ (g : ℕ). IsServed (pipeline_in c.in_ok-stages.stages.job.now) known g)
+    (c.from.ensures ∙ ap (λ (k : Key). k.stage) c.key-2.ensures)
+    (subst (λ (j : Job). IsServed (pipeline_in j) known c.from.result) (sym c.in_ok-stages.ensures.job)
+    (c.in_ok-stages.ensures.served 0 0 (omega arith)))
 
 pub returns : goal.returns
 returns c =

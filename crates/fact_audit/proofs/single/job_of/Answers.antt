@@ -4,4 +4,5 @@ use Rattle.catalog.specs.Entries.{StandsAt}
 use Rattle.fact_audit.proofs.single.job_of.Goals as goal
 
 pub returns-in-None-clause-none : goal.returns-in-None-clause-none
-returns-in-None-clause-none c = λ i at. c.in-None.ensures.none i (subst (λ (ids : Ids). StandsAt c.args.catalog.now ids i) (sym c.of_key.ensures) at)
+returns-in-None-clause-none c =
+    λ i at. c.in-None.ensures.none i (subst (λ (ids : Ids). StandsAt c.args.catalog.now ids i) (sym c.of_key.ensures) at)

@@ -15,7 +15,8 @@ returns-in-Tile c =
     let key = c.key.result.now in
     subst (λ (k : Key). IfOk told (λ is. IsTrue is ↔ BodyIsTrue job k c.args.fact.now.body)) c.key.ensures
     (subst (λ (b : Body). IfOk told (λ is. IsTrue is ↔ BodyIsTrue job key b)) (sym c.in-Tile.is ∙ c.body.ensures.body)
-    (subst (λ (xs : List ℤ). IfOk told (λ is. IsTrue is ↔ IsTrueTile job key.stage key.row key.col xs)) c.as_slice.ensures c.are_samples.ensures))
+    (subst (λ (xs : List ℤ). IfOk told (λ is. IsTrue is ↔ IsTrueTile job key.stage key.row key.col xs)) c.as_slice.ensures
+    c.are_samples.ensures))
 
 pub returns-in-Partial : goal.returns-in-Partial
 returns-in-Partial c =
@@ -24,4 +25,5 @@ returns-in-Partial c =
     let key = c.key.result.now in
     subst (λ (k : Key). IfOk told (λ is. IsTrue is ↔ BodyIsTrue job k c.args.fact.now.body)) c.key.ensures
     (subst (λ (b : Body). IfOk told (λ is. IsTrue is ↔ BodyIsTrue job key b)) (sym c.in-Partial.is ∙ c.body.ensures.body)
-    (subst (λ (xs : List ℤ). IfOk told (λ is. IsTrue is ↔ IsTruePartial job key.stage key.row key.col xs)) c.as_slice-in-Partial.ensures c.are_bins.ensures))
+    (subst (λ (xs : List ℤ). IfOk told (λ is. IsTrue is ↔ IsTruePartial job key.stage key.row key.col xs)) c.as_slice-in-Partial.ensures
+    c.are_bins.ensures))

@@ -29,4 +29,5 @@ returns-clause-fits c =
     let counted : length (map stage_view stages) ≡ length job.stages = ap length c.stages-number-end.ensures in
     let last : c.loop-number.number ≡ length job.stages = omega
     (arith, counted, length-map stages stage_view, c.loop-number-test.false, c.loop-number.auto.number-end) in
-    λ fits. all_fit job inlining (ap (λ n. all_stages_fit job inlining (range_with_len 0 n)) (sym last) ∙ sym c.loop-number.invariant.1 ∙ fits)
+    λ fits. all_fit job inlining
+    (ap (λ n. all_stages_fit job inlining (range_with_len 0 n)) (sym last) ∙ sym c.loop-number.invariant.1 ∙ fits)

@@ -30,12 +30,18 @@ tally-requires-clause-few c =
 pub returns-clause-cost : goal.returns-clause-cost
 returns-clause-cost c =
     cost_from (pipeline_in c.args.job.now) c.args.inlining.now c.args.number c.in-Some.grid c.in_ok-tally.field-0.points
-    (sym c.grid.ensures ∙ c.in-Some.is) (cc) (c.in_ok-tally.ensures.points ∙ ap (points_over (record { job = pipeline_in c.args.job.now; inlining = c.args.inlining.now; stage = c.args.number; region = c.in-Some.grid.area })) (c.deref.ensures.value ∙ c.in_ok-areas.ensures))
+    (sym c.grid.ensures ∙ c.in-Some.is) (cc) (c.in_ok-tally.ensures.points
+    ∙ ap (points_over (record
+    { job = pipeline_in c.args.job.now; inlining = c.args.inlining.now; stage = c.args.number; region = c.in-Some.grid.area }))
+    (c.deref.ensures.value ∙ c.in_ok-areas.ensures))
 
 pub returns-clause-fits : goal.returns-clause-fits
 returns-clause-fits c =
     fits_from (pipeline_in c.args.job.now) c.args.inlining.now c.args.number c.in-Some.grid c.in_ok-tally.field-0.fits
-    (sym c.grid.ensures ∙ c.in-Some.is) (cc) (c.in_ok-tally.ensures.fits ∙ ap (all_have_scratch (record { job = pipeline_in c.args.job.now; inlining = c.args.inlining.now; stage = c.args.number; region = c.in-Some.grid.area })) (c.deref.ensures.value ∙ c.in_ok-areas.ensures))
+    (sym c.grid.ensures ∙ c.in-Some.is) (cc) (c.in_ok-tally.ensures.fits
+    ∙ ap (all_have_scratch (record
+    { job = pipeline_in c.args.job.now; inlining = c.args.inlining.now; stage = c.args.number; region = c.in-Some.grid.area }))
+    (c.deref.ensures.value ∙ c.in_ok-areas.ensures))
 
 pub tally-requires-clause-alone : goal.tally-requires-clause-alone
 tally-requires-clause-alone c =

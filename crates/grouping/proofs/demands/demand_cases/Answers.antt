@@ -11,4 +11,6 @@ demand_case-requires-clause-formula c =
     let cases = c.args.cases.now in
     let n = c.loop-case.case-index in
     all_at IsFormula (map (λ p. p.formula) (map case_view cases)) n (case_view c.case-item.result).formula c.requires.formulas
-    (slice_get-map (λ p. p.formula) (map case_view cases) n ∙ ap (option_map (λ p. p.formula)) (slice_get-map case_view cases n ∙ ap (option_map case_view) (here_is cases cases n _ refl c.loop-case-test.true c.case-item.is)))
+    (slice_get-map (λ p. p.formula) (map case_view cases) n
+    ∙ ap (option_map (λ p. p.formula)) (slice_get-map case_view cases n
+    ∙ ap (option_map case_view) (here_is cases cases n _ refl c.loop-case-test.true c.case-item.is)))

@@ -21,8 +21,10 @@ next job percent c standings gs k low left = subst (Left job percent c standings
 next_is : (job : Pipeline) (percent : ℕ) (c : Grouping) (standings : List Standing) (gs : List ℕ) (k : ℕ) → k < length gs
     → Left job percent c standings (drop k gs) → (get_or gs k 0 < length job.stages) × IsFree job c.inlining (get_or gs k 0)
 next_is job percent c standings gs k low left =
-    let at = next job percent c standings gs k low left in
-    (All-head (λ g. g < length job.stages) (get_or gs k 0) (drop (suc k) gs) at.there, All-head (IsFree job c.inlining) (get_or gs k 0) (drop (suc k) gs) at.free)
+    let at = next job percent c standings gs k low left in (
+      All-head (λ g. g < length job.stages) (get_or gs k 0) (drop (suc k) gs) at.there,
+      All-head (IsFree job c.inlining) (get_or gs k 0) (drop (suc k) gs) at.free,
+    )
 
 done : (job : Pipeline) (percent : ℕ) (c d : Grouping) (standings after : List Standing) (gs : List ℕ) (k : ℕ) → k < length gs
     → Left job percent c standings (drop k gs)
@@ -41,8 +43,11 @@ loop-number-init c =
     let job = pipeline_in c.args.job.now in
     let grouping = c.in_ok-grouping.grouping in
     let order = c.deref-number-items.ensures.value ∙ c.reverse.ensures.items
-    ∙ ap reverse (c.in_ok-order.ensures ∙ ap in_order c.stages.ensures) in
-    (order, subst (Left job c.args.percent (grouping_of grouping) grouping.standings.items) (sym order) (all_left job c.args.percent (grouping_of grouping) grouping.standings.items c.in_ok-grouping.ensures.grouping c.in_ok-grouping.ensures.stand))
+    ∙ ap reverse (c.in_ok-order.ensures ∙ ap in_order c.stages.ensures) in (
+      order,
+      subst (Left job c.args.percent (grouping_of grouping) grouping.standings.items) (sym order) (all_left job c.args.percent
+          (grouping_of grouping) grouping.standings.items c.in_ok-grouping.ensures.grouping c.in_ok-grouping.ensures.stand),
+    )
 
 pub loop-number-preserved : goal.loop-number-preserved
 loop-number-preserved c =
@@ -50,7 +55,9 @@ loop-number-preserved c =
     let before = c.loop-number.grouping in (
       c.loop-number.invariant.0,
       done job c.args.percent (grouping_of before)
-          (grouping_of c.visit.new.self) before.standings.items c.visit.new.self.standings.items c.deref-number-items.result.now c.loop-number.number-index c.loop-number-test.true c.loop-number.invariant.1 c.in_ok-visit.ensures.grouping c.in_ok-visit.ensures.stand,
+          (grouping_of c.visit.new.self) before.standings.items c.visit.new.self.standings.items c.deref-number-items.result.now
+          c.loop-number.number-index c.loop-number-test.true c.loop-number.invariant.1 c.in_ok-visit.ensures.grouping
+          c.in_ok-visit.ensures.stand,
     )
 
 pub visit-requires-clause-stand : goal.visit-requires-clause-stand
@@ -76,11 +83,13 @@ returns-clause-inlining c =
     let job = pipeline_in c.args.job.now in
     let before = c.loop-number.grouping in
     inlining_at_last job c.args.percent (grouping_of before) before.standings.items
-    (none_left job c.args.percent (grouping_of before) before.standings.items c.deref-number-items.result.now c.loop-number.number-index c.loop-number-test.false c.loop-number.invariant.1)
+    (none_left job c.args.percent (grouping_of before) before.standings.items c.deref-number-items.result.now c.loop-number.number-index
+    c.loop-number-test.false c.loop-number.invariant.1)
 
 pub returns-clause-schedule : goal.returns-clause-schedule
 returns-clause-schedule c = c.loop-number.invariant.1.schedule
 
 pub returns-clause-fits : goal.returns-clause-fits
 returns-clause-fits c =
-    rooms_of (pipeline_in c.args.job.now) (grouping_of c.loop-number.grouping) c.loop-number.grouping.standings.items c.loop-number.invariant.1.stand
+    rooms_of (pipeline_in c.args.job.now) (grouping_of c.loop-number.grouping) c.loop-number.grouping.standings.items
+    c.loop-number.invariant.1.stand

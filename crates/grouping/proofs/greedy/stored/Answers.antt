@@ -8,4 +8,6 @@ use Rattle.grouping.proofs.greedy.stored.Goals as goal
 pub returns : goal.returns
 returns c =
     stands_at_first (pipeline_in c.args.job.now) c.args.number c.cost_at-points.result c.in_ok-no_scratch.field-0.items
-    (c.cost_at-points.ensures ∙ ap (λ (costs : List (Option ℕ)). option_map_or (λ n. n) (slice_index_or costs c.args.number None) 0) c.requires.costs) c.in_ok-no_scratch.ensures
+    (c.cost_at-points.ensures
+    ∙ ap (λ (costs : List (Option ℕ)). option_map_or (λ n. n) (slice_index_or costs c.args.number None) 0) c.requires.costs)
+    c.in_ok-no_scratch.ensures

@@ -6,4 +6,5 @@ use Rattle.inputs.proofs.accepted.accept.Goals as goal
 
 pub refusal-requires : goal.refusal-requires
 refusal-requires c =
-    subst (λ is. IsFault (declarations is) c.in-Err.fault) (sym (c.items.ensures ∙ ap items_of c.in-Err.ensures.back)) c.in-Err.ensures.fault
+    subst (λ is. IsFault (declarations is) c.in-Err.fault) (sym (c.items.ensures ∙ ap items_of c.in-Err.ensures.back))
+    c.in-Err.ensures.fault

@@ -9,4 +9,5 @@ returns-in_err-write_check_head g c =
 
 pub returns : goal.returns
 returns g c =
-    takes_then c.write_item.result (check_head c.args.fault.now) (item_text c.args.fault.now) _ _ _ _ _ _ c.in_ok-write_check_head.ensures c.write_item.ensures
+    takes_then c.write_item.result (check_head c.args.fault.now) (item_text c.args.fault.now) _ _ _ _ _ _ c.in_ok-write_check_head.ensures
+    c.write_item.ensures

@@ -12,4 +12,5 @@ returns-in_err-write_head g c =
 
 pub returns : goal.returns
 returns g c =
-    takes_then c.write_names.result (check_head (Cycle [])) (flat_map name_text c.args.names.now) _ _ _ _ _ _ c.in_ok-write_head.ensures c.write_names.ensures
+    takes_then c.write_names.result (check_head (Cycle [])) (flat_map name_text c.args.names.now) _ _ _ _ _ _ c.in_ok-write_head.ensures
+    c.write_names.ensures

@@ -6,4 +6,5 @@ use Rattle.inputs.proofs.check_lines.write_names.Given as goal
 
 abbrev pub invariant-loop-name : goal.invariant-loop-name
 invariant-loop-name g l =
-    TakesAll (flat_map name_text (take l.name-index l.names)) (g.W.Sink.contents l.initial.writer) (g.W.Sink.contents l.writer) (g.W.Sink.failures l.initial.writer) (g.W.Sink.failures l.writer)
+    TakesAll (flat_map name_text (take l.name-index l.names)) (g.W.Sink.contents l.initial.writer) (g.W.Sink.contents l.writer)
+    (g.W.Sink.failures l.initial.writer) (g.W.Sink.failures l.writer)

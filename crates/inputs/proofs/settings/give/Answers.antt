@@ -12,7 +12,8 @@ returns-in-Err-clause-fault c =
     let pair = c.loop-name-item.result in
     let there = here_is c.args.given.now c.loop-name.name-index pair (omega arith) c.loop-name-item.is in
     let why = not_settable ss c.as_str.result.now c.in-Err.fault c.set.result c.in-Err.is c.set.ensures.no_such c.set.ensures.twice in
-    told_refusal c.args.params.now ss c.args.given.now c.loop-name.name-index pair c.in-Err.fault c.refusal.result there c.loop-name.invariant
+    told_refusal c.args.params.now ss c.args.given.now c.loop-name.name-index pair c.in-Err.fault c.refusal.result there
+    c.loop-name.invariant
     (subst (λ n. IsNotSettable ss n c.in-Err.fault) c.as_str.ensures.value why) c.refusal.ensures
 
 pub loop-name-preserved : goal.loop-name-preserved

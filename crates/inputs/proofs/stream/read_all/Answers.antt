@@ -5,4 +5,5 @@ use Rattle.inputs.proofs.stream.read_all.Goals as goal
 
 pub returns-clause-fault : goal.returns-clause-fault
 returns-clause-fault c = λ given sides.
-    subst (λ (input : List ℕ). IfErr c.read_sections.result (IsFaultOf input given sides)) c.as_slice.ensures.value (c.read_sections.ensures.fault given sides)
+    subst (λ (input : List ℕ). IfErr c.read_sections.result (IsFaultOf input given sides)) c.as_slice.ensures.value
+    (c.read_sections.ensures.fault given sides)

@@ -6,8 +6,10 @@ use Rattle.inputs.proofs.telling.write_param.Goals as goal
 pub returns-in_err-write_param_head : goal.returns-in_err-write_param_head
 returns-in_err-write_param_head g c =
     takes_err c.from_residual.result _ _ _ _ _ c.from_residual.ensures.0
-    (part_front (param_head c.args.line.now.fault) (name_text (string_bytes c.args.line.now.name)) _ _ _ _ c.in_err-write_param_head.ensures)
+    (part_front (param_head c.args.line.now.fault) (name_text (string_bytes c.args.line.now.name)) _ _ _ _
+    c.in_err-write_param_head.ensures)
 
 pub returns : goal.returns
 returns g c =
-    takes_then c.write_given.result (param_head c.args.line.now.fault) (name_text (string_bytes c.args.line.now.name)) _ _ _ _ _ _ c.in_ok-write_param_head.ensures c.write_given.ensures
+    takes_then c.write_given.result (param_head c.args.line.now.fault) (name_text (string_bytes c.args.line.now.name)) _ _ _ _ _ _
+    c.in_ok-write_param_head.ensures c.write_given.ensures

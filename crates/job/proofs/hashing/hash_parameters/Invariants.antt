@@ -9,4 +9,5 @@ abbrev pub invariant-loop-parameter : goal.invariant-loop-parameter
 invariant-loop-parameter g l =
     (m : List ℕ) → g.D.Digest.holds l.fn.hasher m
     → (held : List ℕ) × g.D.Digest.holds l.hasher held
-    × (held ++ flat_map parameter_bytes (map parameter_view (drop l.parameter-index l.parameters)) ≡ m ++ flat_map parameter_bytes (map parameter_view l.parameters))
+    × (held ++ flat_map parameter_bytes (map parameter_view (drop l.parameter-index l.parameters))
+    ≡ m ++ flat_map parameter_bytes (map parameter_view l.parameters))

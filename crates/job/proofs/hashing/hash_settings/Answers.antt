@@ -15,9 +15,11 @@ returns g c = λ m held.
     let job = pipeline_of parts in
     let lent = c.as_slice-parameters.ensures.value in
     let counted = c.update-4.ensures _ (c.update-3.ensures _ (c.update-2.ensures _ (c.update.ensures m held))) in
-    together (g.D.Digest.holds c.hash_parameters.new.hasher) m (codes "PTI1") c.to_be_bytes.result c.to_be_bytes-2.result c.count_bytes.result
+    together (g.D.Digest.holds c.hash_parameters.new.hasher) m (codes "PTI1") c.to_be_bytes.result c.to_be_bytes-2.result
+    c.count_bytes.result
     (flat_map parameter_bytes (map parameter_view c.as_slice-parameters.result.now))
-    (to_be_bytes w32 job.sides.height) (to_be_bytes w32 job.sides.width) (to_be_bytes w16 (length job.params)) (flat_map parameter_bytes job.params)
+    (to_be_bytes w32 job.sides.height) (to_be_bytes w32 job.sides.width) (to_be_bytes w16 (length job.params))
+    (flat_map parameter_bytes job.params)
     (c.to_be_bytes.ensures ∙ ap (to_be_bytes w32) c.height.ensures.length)
     (c.to_be_bytes-2.ensures ∙ ap (to_be_bytes w32) c.width.ensures.length)
     (c.count_bytes.ensures ∙ ap (to_be_bytes w16) (ap length lent ∙ sym (length-map parts.params.items parameter_view)))

@@ -7,4 +7,5 @@ use Rattle.job.proofs.hashing.settings_bytes.Given as goal
 
 abbrev pub invariant-loop-parameter : goal.invariant-loop-parameter
 invariant-loop-parameter l =
-    l.bytes.items ++ flat_map parameter_bytes (map parameter_view (drop l.parameter-index l.parts.params.items)) ≡ settings_bytes (pipeline_of l.parts)
+    l.bytes.items ++ flat_map parameter_bytes (map parameter_view (drop l.parameter-index l.parts.params.items))
+    ≡ settings_bytes (pipeline_of l.parts)

@@ -3,10 +3,12 @@ use Rattle.job.proofs.SameInputs.{first_fits, others_fit, firsts}
 use Rattle.job.proofs.sameness.+same_parameters.Goals as goal
 
 pub same_parameter-requires-clause-first : goal.same_parameter-requires-clause-first
-same_parameter-requires-clause-first t c = first_fits c.args.a.now c.in-Some-Some.rest.now c.in-Some-Some.first.now c.in-Some-Some.ensures.cases.0 c.requires.first
+same_parameter-requires-clause-first t c =
+    first_fits c.args.a.now c.in-Some-Some.rest.now c.in-Some-Some.first.now c.in-Some-Some.ensures.cases.0 c.requires.first
 
 pub same_parameter-requires-clause-second : goal.same_parameter-requires-clause-second
-same_parameter-requires-clause-second t c = first_fits c.args.b.now c.in-Some-Some.others.now c.in-Some-Some.other.now c.in-Some-Some.ensures'.cases.0 c.requires.second
+same_parameter-requires-clause-second t c =
+    first_fits c.args.b.now c.in-Some-Some.others.now c.in-Some-Some.other.now c.in-Some-Some.ensures'.cases.0 c.requires.second
 
 pub same_parameters-requires : goal.same_parameters-requires
 same_parameters-requires t c = (
@@ -24,7 +26,8 @@ returns-then-same_parameter-clause-told t c = λ first second h.
     let one = first_fits c.args.a.now c.in-Some-Some.rest.now c.in-Some-Some.first.now e c.requires.first in
     let two = first_fits c.args.b.now c.in-Some-Some.others.now c.in-Some-Some.other.now f c.requires.second in
     c.same_parameters.ensures.told first second
-    (firsts c.args.a.now c.args.b.now c.in-Some-Some.rest.now c.in-Some-Some.others.now c.in-Some-Some.first.now c.in-Some-Some.other.now first second e f one two h).1
+    (firsts c.args.a.now c.args.b.now c.in-Some-Some.rest.now c.in-Some-Some.others.now c.in-Some-Some.first.now c.in-Some-Some.other.now
+    first second e f one two h).1
 
 pub returns-else-same_parameter-clause-told : goal.returns-else-same_parameter-clause-told
 returns-else-same_parameter-clause-told t c = λ first second h.
@@ -33,4 +36,5 @@ returns-else-same_parameter-clause-told t c = λ first second h.
     let one = first_fits c.args.a.now c.in-Some-Some.rest.now c.in-Some-Some.first.now e c.requires.first in
     let two = first_fits c.args.b.now c.in-Some-Some.others.now c.in-Some-Some.other.now f c.requires.second in
     c.same_parameter.ensures.1
-    (firsts c.args.a.now c.args.b.now c.in-Some-Some.rest.now c.in-Some-Some.others.now c.in-Some-Some.first.now c.in-Some-Some.other.now first second e f one two h).0
+    (firsts c.args.a.now c.args.b.now c.in-Some-Some.rest.now c.in-Some-Some.others.now c.in-Some-Some.first.now c.in-Some-Some.other.now
+    first second e f one two h).0

@@ -19,7 +19,8 @@ not_before : (x : ℕ) (ls : List Lease) (a b : Lease) (i j : ℕ) → AllPairs 
     → get_or ls i a ≡ a → get_or ls j b ≡ b → IsTrue (lasts x a) → IsTrue (lasts x b) → ⊥
 not_before x ls a b i j apart before inside at_a at_b in_a in_b =
     let there : get_or ls j a ≡ b = get_or_default ls j a b inside ∙ at_b in
-    let later : a.until ≤ b.from = subst (λ l. l.until ≤ b.from) at_a (subst (λ m. (get_or ls i a).until ≤ m.from) there (apart i j a before inside)) in
+    let later : a.until ≤ b.from =
+    subst (λ l. l.until ≤ b.from) at_a (subst (λ m. (get_or ls i a).until ≤ m.from) there (apart i j a before inside)) in
     let lasts_a = within x a in_a in
     let lasts_b = within x b in_b in
     omega arith
@@ -35,6 +36,7 @@ returns-clause-one_holder c = λ h t x q a b legal has_a has_b in_a in_b.
       | inl before ↦ absurd (not_before x ls a b has_a.0 has_b.0 apart before has_b.1 has_a.2 has_b.2 in_a in_b)
       | inr not_after ↦ elim (cases_lt has_b.0 has_a.0) [
         | inl before ↦ absurd (not_before x ls b a has_b.0 has_a.0 apart before has_a.1 has_b.2 has_a.2 in_b in_a)
-        | inr not_before' ↦ one_place ls has_a.0 a b has_a.1 has_a.2 (subst (λ i. get_or ls i b ≡ b) (let e : has_b.0 ≡ has_a.0 = omega arith in e) has_b.2)
+        | inr not_before' ↦ one_place ls has_a.0 a b has_a.1 has_a.2
+            (subst (λ i. get_or ls i b ≡ b) (let e : has_b.0 ≡ has_a.0 = omega arith in e) has_b.2)
       ]
     ]

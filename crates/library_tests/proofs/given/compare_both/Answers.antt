@@ -8,9 +8,17 @@ use Rattle.library_tests.proofs.given.compare_both.Goals as goal
 pub compare-requires : goal.compare-requires
 compare-requires g c =
     let tiles = stored_tiles c.in_ok-stored.stored.stages.items in
-    record { whole = subst (λ job. AreWhole (pipeline_in job) tiles) (sym c.new-scheduled.ensures) (whole (pipeline_in c.args.job.now) tiles c.in_ok-stored.ensures.values) }
+    record {
+      whole =
+          subst (λ job. AreWhole (pipeline_in job) tiles) (sym c.new-scheduled.ensures)
+          (whole (pipeline_in c.args.job.now) tiles c.in_ok-stored.ensures.values);
+    }
 
 pub compare-requires-2 : goal.compare-requires-2
 compare-requires-2 g c =
     let tiles = stored_tiles c.in_ok-stored.stored.stages.items in
-    record { whole = subst (λ job. AreWhole (pipeline_in job) tiles) (sym c.new-scheduled.ensures) (whole (pipeline_in c.args.job.now) tiles c.in_ok-stored.ensures.values) }
+    record {
+      whole =
+          subst (λ job. AreWhole (pipeline_in job) tiles) (sym c.new-scheduled.ensures)
+          (whole (pipeline_in c.args.job.now) tiles c.in_ok-stored.ensures.values);
+    }

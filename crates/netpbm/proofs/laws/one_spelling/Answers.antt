@@ -10,7 +10,8 @@ pub returns-clause-spelled : goal.returns-clause-spelled
 returns-clause-spelled c = spelling_is
 
 pub returns-clause-alone : goal.returns-clause-alone
-returns-clause-alone c = λ p q i h. same_value q p (sym (picture_complete (spelling p) q h) ∙ picture_complete (spelling p) p (spelling_is p i))
+returns-clause-alone c =
+    λ p q i h. same_value q p (sym (picture_complete (spelling p) q h) ∙ picture_complete (spelling p) p (spelling_is p i))
 
 pub returns-clause-apart : goal.returns-clause-apart
 returns-clause-apart c = λ p q i j e.

@@ -6,4 +6,5 @@ use Rattle.netpbm.proofs.plain.check_plain.Given as goal
 
 abbrev pub invariant-loop : goal.invariant-loop
 invariant-loop l =
-    (l.at ≤ length l.bytes) × (front : List ℕ) × (with_front front (samples_read (l.count - l.counter) l.bytes l.at l.max) ≡ samples_read l.count l.bytes l.start l.max)
+    (l.at ≤ length l.bytes) × (front : List ℕ)
+    × (with_front front (samples_read (l.count - l.counter) l.bytes l.at l.max) ≡ samples_read l.count l.bytes l.start l.max)

@@ -10,13 +10,19 @@ returns-in_err-sample c =
     let a = c.args in
     let p = err_from_is_err_and c.from_residual.result c.from_residual.ensures.1 in
     let total = samples_read a.count a.bytes.now a.start a.max in
-    rw (p.1, p.2) (inl (plain_fails a.bytes.now a.start a.max a.count _ (fails c.loop.samples.items a.bytes.now a.max a.count c.loop.counter c.loop.at _ total c.loop-test.true (sym c.in_err-sample.ensures.read) c.loop.invariant.3)))
+    rw (p.1, p.2) (inl (plain_fails a.bytes.now a.start a.max a.count _ (fails c.loop.samples.items a.bytes.now a.max a.count c.loop.counter
+    c.loop.at _ total c.loop-test.true (sym c.in_err-sample.ensures.read) c.loop.invariant.3)))
 
 pub loop-preserved : goal.loop-preserved
 loop-preserved c =
     let a = c.args in
-    let total = samples_read a.count a.bytes.now a.start a.max in
-    (search rules, search rules, search rules, rw c.push_reserved.ensures.items (goes_on c.loop.samples.items a.bytes.now a.max a.count c.loop.counter c.loop.at c.in_ok-sample.sample c.in_ok-sample.end total c.loop-test.true (sym c.in_ok-sample.ensures.read) c.loop.invariant.3))
+    let total = samples_read a.count a.bytes.now a.start a.max in (
+      search rules,
+      search rules,
+      search rules,
+      rw c.push_reserved.ensures.items (goes_on c.loop.samples.items a.bytes.now a.max a.count c.loop.counter c.loop.at
+          c.in_ok-sample.sample c.in_ok-sample.end total c.loop-test.true (sym c.in_ok-sample.ensures.read) c.loop.invariant.3),
+    )
 
 pub returns-in_err-end_at : goal.returns-in_err-end_at
 returns-in_err-end_at c =
@@ -24,7 +30,8 @@ returns-in_err-end_at c =
     let p = err_from_is_err_and c.from_residual-in_err-end_at.result c.from_residual-in_err-end_at.ensures.1 in
     let total = samples_read a.count a.bytes.now a.start a.max in
     let all = is_done c.loop.samples.items a.bytes.now a.max a.count c.loop.counter c.loop.at total c.loop-test.false c.loop.invariant.3 in
-    rw (p.1, p.2) (inl (plain_ends a.bytes.now a.start a.max a.count c.loop.at c.loop.samples.items all ∙ c.in_err-end_at.ensures.err c.loop.samples.items))
+    rw (p.1, p.2) (inl (plain_ends a.bytes.now a.start a.max a.count c.loop.at c.loop.samples.items all
+    ∙ c.in_err-end_at.ensures.err c.loop.samples.items))
 
 pub returns : goal.returns
 returns c =

@@ -8,7 +8,8 @@ use Rattle.netpbm.proofs.raw_raster.first_pair_above.Goals as goal
 pub returns-then-max-eq65535-clause-none : goal.returns-then-max-eq65535-clause-none
 returns-then-max-eq65535-clause-none c =
     let raster = c.args.raster.now in
-    none_big c.args.max _ (pairs_bounded c.args.max raster (λ k lt. omega (arith, c.type_inv.raster (2 * k), c.type_inv.raster (2 * k + 1))))
+    none_big c.args.max _
+    (pairs_bounded c.args.max raster (λ k lt. omega (arith, c.type_inv.raster (2 * k), c.type_inv.raster (2 * k + 1))))
 
 pub returns-then-from-max-clause-place : goal.returns-then-from-max-clause-place
 returns-then-from-max-clause-place c = big_pair c.args.max c.args.raster.now c.loop-i.i (search rules) c.loop-i.invariant (search rules)

@@ -9,4 +9,5 @@ returns-clause-samples c =
     let a = c.args in
     let width = c.sample_width-width.result in
     ap (λ n. decoded a.max (take (n * width) a.raster.now)) c.min-whole.ensures
-    ∙ ap (λ w. decoded a.max (take (min a.count (length a.raster.now / w) * w) a.raster.now)) c.sample_width-width.ensures ∙ decoded-take a.max a.count a.raster.now
+    ∙ ap (λ w. decoded a.max (take (min a.count (length a.raster.now / w) * w) a.raster.now)) c.sample_width-width.ensures
+    ∙ decoded-take a.max a.count a.raster.now

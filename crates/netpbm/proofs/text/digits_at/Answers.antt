@@ -7,5 +7,10 @@ use Rattle.netpbm.proofs.text.digits_at.Goals as goal
 
 pub loop-at-preserved : goal.loop-at-preserved
 loop-at-preserved c =
-    let digit = c.if-is_ascii_digit.true in
-    (search rules, search rules, grind (arith, common_steps), digit_step c.args.bytes.now c.loop-at.at c.loop-at.value c.min-value.result _ (search rules) (search rules) (search (rules, digit_value_digit)) c.loop-at.invariant.3)
+    let digit = c.if-is_ascii_digit.true in (
+      search rules,
+      search rules,
+      grind (arith, common_steps),
+      digit_step c.args.bytes.now c.loop-at.at c.loop-at.value c.min-value.result _ (search rules) (search rules)
+          (search (rules, digit_value_digit)) c.loop-at.invariant.3,
+    )

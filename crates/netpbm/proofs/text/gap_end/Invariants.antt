@@ -4,7 +4,8 @@ use Rattle.netpbm.specs.Scanning.{gap_len}
 use Rattle.netpbm.proofs.text.gap_end.Given as goal
 
 abbrev pub invariant-loop-at : goal.invariant-loop-at
-invariant-loop-at l = (l.at ≤ length l.bytes) × (l.at + gap_len l.in_comment (drop l.at l.bytes) ≡ l.start + gap_len false (drop l.start l.bytes))
+invariant-loop-at l =
+    (l.at ≤ length l.bytes) × (l.at + gap_len l.in_comment (drop l.at l.bytes) ≡ l.start + gap_len false (drop l.start l.bytes))
 
 abbrev pub decreases-loop-at : goal.decreases-loop-at
 decreases-loop-at l = length l.bytes - l.at

@@ -11,7 +11,8 @@ returns-then-number-lt10-clause-end t c = omega (arith, length_one_digit c.args.
 
 pub returns-then-number-lt10-clause-written : goal.returns-then-number-lt10-clause-written
 returns-then-number-lt10-clause-written t c =
-    c.put_byte.ensures.written ∙ one_digit c.args.number (48 + c.args.number % 10) (take c.args.start c.args.out.now) c.if-number-lt10.true (search rules)
+    c.put_byte.ensures.written
+    ∙ one_digit c.args.number (48 + c.args.number % 10) (take c.args.start c.args.out.now) c.if-number-lt10.true (search rules)
 
 pub put_number-at-requires : goal.put_number-at-requires
 put_number-at-requires t c = (omega arith, omega (arith, length_more_digits c.args.number c.if-number-lt10.false (search rules)))

@@ -5,7 +5,8 @@ use Rattle.netpbm.proofs.writing.hash_raw.Given as goal
 
 abbrev pub invariant-loop-done : goal.invariant-loop-done
 invariant-loop-done g l =
-    (l.done ≤ l.area) × ((message : List ℕ) → g.D.Digest.holds l.fn.hasher message → g.D.Digest.holds l.hasher (message ++ spelling_to l.done l.picture))
+    (l.done ≤ l.area)
+    × ((message : List ℕ) → g.D.Digest.holds l.fn.hasher message → g.D.Digest.holds l.hasher (message ++ spelling_to l.done l.picture))
 
 abbrev pub decreases-loop-done : goal.decreases-loop-done
 decreases-loop-done g l = l.area - l.done

@@ -13,8 +13,16 @@ put_samples-requires-2-clause-bounded c =
     let image = c.planes-planes.ensures.image in
     let each = subst (All (IsPlane area p.max)) (sym c.planes-planes.ensures.planes) image.planes in
     let long = three_long planes p.planes c.planes-planes.ensures.planes image.colours c.if-planes-eq1.false in
-    let red = subst (IsPlane area p.max) (sym c.deref-2.ensures.value) (plane_at area p.max planes 0 c.index-planes-0-2.result each (omega arith) c.index-planes-0-2.is) in
-    let green = subst (IsPlane area p.max) (sym c.deref-3.ensures.value) (plane_at area p.max planes 1 c.index-planes-1.result each (omega arith) c.index-planes-1.is) in
-    let blue = subst (IsPlane area p.max) (sym c.deref-4.ensures.value) (plane_at area p.max planes 2 c.index-planes-2.result each (omega arith) c.index-planes-2.is) in
-    let bounded = woven_bounded p.max c.args.start c.args.end area c.deref-2.result.now c.deref-3.result.now c.deref-4.result.now c.weave.new.out red green blue c.requires.order c.requires.within c.weave.ensures in
+    let red =
+    subst (IsPlane area p.max) (sym c.deref-2.ensures.value)
+    (plane_at area p.max planes 0 c.index-planes-0-2.result each (omega arith) c.index-planes-0-2.is) in
+    let green =
+    subst (IsPlane area p.max) (sym c.deref-3.ensures.value)
+    (plane_at area p.max planes 1 c.index-planes-1.result each (omega arith) c.index-planes-1.is) in
+    let blue =
+    subst (IsPlane area p.max) (sym c.deref-4.ensures.value)
+    (plane_at area p.max planes 2 c.index-planes-2.result each (omega arith) c.index-planes-2.is) in
+    let bounded =
+    woven_bounded p.max c.args.start c.args.end area c.deref-2.result.now c.deref-3.result.now c.deref-4.result.now c.weave.new.out red
+    green blue c.requires.order c.requires.within c.weave.ensures in
     subst (λ (m : ℕ). All (λ s. s ≤ m) (take (3 * (c.args.end - c.args.start)) c.weave.new.out)) (sym c.max-2.ensures.value) bounded

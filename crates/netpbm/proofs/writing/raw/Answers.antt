@@ -5,8 +5,11 @@ use Rattle.netpbm.proofs.writing.raw.Goals as goal
 
 pub loop-done-init : goal.loop-done-init
 loop-done-init c =
-    let front = take c.put_header-header_len.result c.put_header-header_len.new.out in
-    (omega arith, c.in_ok-extend_from_slice.ensures.items ∙ ap (λ (l : List ℕ). l ++ front) c.in_ok-bytes.ensures.items ∙ c.put_header-header_len.ensures.written ∙ spelling_none c.args.picture.now c.area-area.ensures.image)
+    let front = take c.put_header-header_len.result c.put_header-header_len.new.out in (
+      omega arith,
+      c.in_ok-extend_from_slice.ensures.items ∙ ap (λ (l : List ℕ). l ++ front) c.in_ok-bytes.ensures.items
+          ∙ c.put_header-header_len.ensures.written ∙ spelling_none c.args.picture.now c.area-area.ensures.image,
+    )
 
 pub loop-done-preserved : goal.loop-done-preserved
 loop-done-preserved c =
@@ -14,7 +17,8 @@ loop-done-preserved c =
     let done = c.loop-done.done in
     let piece = take c.put_pixels-len.result c.put_pixels-len.new.out in (
       search rules,
-      c.in_ok-extend_from_slice-2.ensures.items ∙ ap (λ (l : List ℕ). l ++ piece) c.loop-done.invariant.1 ∙ ap (λ (l : List ℕ). spelling_to done p ++ l) c.put_pixels-len.ensures.written
+      c.in_ok-extend_from_slice-2.ensures.items ∙ ap (λ (l : List ℕ). l ++ piece) c.loop-done.invariant.1
+          ∙ ap (λ (l : List ℕ). spelling_to done p ++ l) c.put_pixels-len.ensures.written
           ∙ spelling_more p done c.min-end.result c.area-area.ensures.image (search rules) (search rules),
     )
 

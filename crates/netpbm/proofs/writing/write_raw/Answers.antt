@@ -18,8 +18,12 @@ returns-in_err-write_whole-clause-part g c =
     on_err c.from_residual.result _ (AppendsPart-front _ _ (header p) (raw_raster p.max (interleaved p.planes)) (spelling p) part refl)
 
 pub loop-done-init : goal.loop-done-init
-loop-done-init g c =
-    (omega arith, subst (Appends _ _) (c.put_header-header_len.ensures.written ∙ spelling_none c.args.picture.now c.area-area.ensures.image) c.in_ok-write_whole.ensures.ok, search rules)
+loop-done-init g c = (
+  omega arith,
+  subst (Appends _ _) (c.put_header-header_len.ensures.written ∙ spelling_none c.args.picture.now c.area-area.ensures.image)
+      c.in_ok-write_whole.ensures.ok,
+  search rules,
+)
 
 pub returns-in_err-write_whole-2-clause-part : goal.returns-in_err-write_whole-2-clause-part
 returns-in_err-write_whole-2-clause-part g c =
@@ -28,7 +32,8 @@ returns-in_err-write_whole-2-clause-part g c =
     let end = c.min-end.result in
     let part = subst (AppendsPart _ _) c.put_pixels-len.ensures.written c.in_err-write_whole-2.ensures.part in
     on_err c.from_residual-in_err-write_whole-2.result _
-    (AppendsPart-next _ _ _ (spelling_to done p) (raw_raster p.max (pixels done end p.planes)) (raw_raster p.max (pixels end (p.rows * p.cols) p.planes)) (spelling p) c.loop-done.invariant.1 part
+    (AppendsPart-next _ _ _ (spelling_to done p) (raw_raster p.max (pixels done end p.planes))
+    (raw_raster p.max (pixels end (p.rows * p.cols) p.planes)) (spelling p) c.loop-done.invariant.1 part
     (spelling_parts p done end c.area-area.ensures.image (search rules) (search rules)))
 
 pub loop-done-preserved : goal.loop-done-preserved
@@ -41,4 +46,5 @@ loop-done-preserved g c =
     (search rules, subst (Appends _ _) more (Appends-trans _ _ _ _ _ c.loop-done.invariant.1 piece), search rules)
 
 pub returns-clause-ok : goal.returns-clause-ok
-returns-clause-ok g c = subst (Appends _ _) (spelling_all c.args.picture.now c.loop-done.done c.area-area.ensures.image (search rules)) c.loop-done.invariant.1
+returns-clause-ok g c =
+    subst (Appends _ _) (spelling_all c.args.picture.now c.loop-done.done c.area-area.ensures.image (search rules)) c.loop-done.invariant.1

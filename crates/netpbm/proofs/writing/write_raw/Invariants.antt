@@ -6,7 +6,8 @@ use Rattle.netpbm.proofs.writing.write_raw.Given as goal
 
 abbrev pub invariant-loop-done : goal.invariant-loop-done
 invariant-loop-done g l =
-    (l.done ≤ l.area) × Appends (g.W.Sink.contents l.fn.writer) (g.W.Sink.contents l.writer) (spelling_to l.done l.picture) × (g.W.Sink.failures l.writer ≡ g.W.Sink.failures l.fn.writer)
+    (l.done ≤ l.area) × Appends (g.W.Sink.contents l.fn.writer) (g.W.Sink.contents l.writer) (spelling_to l.done l.picture)
+    × (g.W.Sink.failures l.writer ≡ g.W.Sink.failures l.fn.writer)
 
 abbrev pub decreases-loop-done : goal.decreases-loop-done
 decreases-loop-done g l = l.area - l.done

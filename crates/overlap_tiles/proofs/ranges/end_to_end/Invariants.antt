@@ -8,6 +8,7 @@ use Rattle.overlap_tiles.proofs.ranges.end_to_end.Given as goal
 
 abbrev pub invariant-loop-step : goal.invariant-loop-step
 invariant-loop-step l =
-    (fold (λ a n. a + n) l.start (map (λ s. point_count s.1) (map step_view (drop l.step-index l.steps))) ≡ points_in (map step_view l.steps))
+    (fold (λ a n. a + n) l.start (map (λ s. point_count s.1) (map step_view (drop l.step-index l.steps)))
+    ≡ points_in (map step_view l.steps))
     × (l.ranges.items ++ end_to_end l.start (map (λ s. point_count s.1) (map step_view (drop l.step-index l.steps)))
     ≡ end_to_end 0 (map (λ s. point_count s.1) (map step_view l.steps)))

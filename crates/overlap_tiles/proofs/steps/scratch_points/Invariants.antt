@@ -7,4 +7,5 @@ use Rattle.overlap_tiles.proofs.steps.scratch_points.Given as goal
 
 abbrev pub invariant-loop-step : goal.invariant-loop-step
 invariant-loop-step l =
-    (fold (λ a n. a + n) l.total (map (λ s. point_count s.1) (map step_view (drop l.step-index l.steps))) ≡ points_in (map step_view l.steps)) × (l.total ≤ most_scratch)
+    (fold (λ a n. a + n) l.total (map (λ s. point_count s.1) (map step_view (drop l.step-index l.steps)))
+    ≡ points_in (map step_view l.steps)) × (l.total ≤ most_scratch)

@@ -11,5 +11,6 @@ returns-in_ok-add_tiles c =
     c.in_ok-add_tiles.ensures
     ∙ ap (λ (ks : List Key). c.args.keys.now.items ++ ks)
     (keys_are (program_id_in c.args.job.now) job c.args.named.now
-    (record { program = c.args.named.now.program; input = c.args.named.now.input; stage = _; row = 0; col = 0 }) c.args.stage c.in-Some.grid c.requires refl refl (omega arith)
+    (record { program = c.args.named.now.program; input = c.args.named.now.input; stage = _; row = 0; col = 0 }) c.args.stage c.in-Some.grid
+    c.requires refl refl (omega arith)
     (sym c.in-Some.ensures))

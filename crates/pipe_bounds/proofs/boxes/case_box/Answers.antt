@@ -11,9 +11,15 @@ returns-in_err-left c =
     let row = c.args.row.now in
     let tests = c.args.tests.now in
     let i = c.loop-test.test-index in
-    let before = subst (λ ts. IsLeft ss row c.args.domain.now tests c.loop-test.left ts) (next_of tests i c.test-item.result c.loop-test-test.true c.test-item.is) c.loop-test.invariant in
+    let before =
+    subst (λ ts. IsLeft ss row c.args.domain.now tests c.loop-test.left ts)
+    (next_of tests i c.test-item.result c.loop-test-test.true c.test-item.is) c.loop-test.invariant in
     subst (IsBox ss row c.args.domain.now tests) (sym c.from_residual.ensures)
-    (record { points = left_none ss row c.args.domain.now c.loop-test.left tests (drop (i + 1) tests) c.test-item.result before c.in_err-left.ensures; area = tt })
+    (record {
+      points =
+          left_none ss row c.args.domain.now c.loop-test.left tests (drop (i + 1) tests) c.test-item.result before c.in_err-left.ensures;
+      area = tt;
+    })
 
 pub loop-test-preserved : goal.loop-test-preserved
 loop-test-preserved c =
@@ -21,13 +27,18 @@ loop-test-preserved c =
     let row = c.args.row.now in
     let tests = c.args.tests.now in
     let i = c.loop-test.test-index in
-    let before = subst (λ ts. IsLeft ss row c.args.domain.now tests c.loop-test.left ts) (next_of tests i c.test-item.result c.loop-test-test.true c.test-item.is) c.loop-test.invariant in
-    left_more ss row c.args.domain.now c.loop-test.left c.in_ok-left.left tests (drop (i + 1) tests) c.test-item.result before c.in_ok-left.ensures
+    let before =
+    subst (λ ts. IsLeft ss row c.args.domain.now tests c.loop-test.left ts)
+    (next_of tests i c.test-item.result c.loop-test-test.true c.test-item.is) c.loop-test.invariant in
+    left_more ss row c.args.domain.now c.loop-test.left c.in_ok-left.left tests (drop (i + 1) tests) c.test-item.result before
+    c.in_ok-left.ensures
 
 pub returns : goal.returns
 returns c =
     let ss = c.args.params.now in
     let row = c.args.row.now in
     let tests = c.args.tests.now in
-    let all = subst (λ ts. IsLeft ss row c.args.domain.now tests c.loop-test.left ts) (drop_all c.loop-test.test-index tests c.loop-test-test.false) c.loop-test.invariant in
+    let all =
+    subst (λ ts. IsLeft ss row c.args.domain.now tests c.loop-test.left ts)
+    (drop_all c.loop-test.test-index tests c.loop-test-test.false) c.loop-test.invariant in
     record { points = λ r k. ((λ h. (all r k).0 (h, tt)), (λ h. ((all r k).1 h).0)); area = c.points.ensures.within }

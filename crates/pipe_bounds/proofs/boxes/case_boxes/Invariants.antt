@@ -7,5 +7,6 @@ use Rattle.pipe_bounds.proofs.boxes.case_boxes.Given as goal
 abbrev pub invariant-loop-case : goal.invariant-loop-case
 invariant-loop-case l = record {
   each : length l.boxes.items ≡ l.case-index;
-  box : (n : ℕ) (b : Branch) (o : Option Area) → slice_get (branches l.cases) n ≡ Some b → slice_get l.boxes.items n ≡ Some o → IsBox l.params l.row l.domain b.condition o;
+  box : (n : ℕ) (b : Branch) (o : Option Area) → slice_get (branches l.cases) n ≡ Some b → slice_get l.boxes.items n ≡ Some o
+      → IsBox l.params l.row l.domain b.condition o;
 }

@@ -10,13 +10,19 @@ use Rattle.pipe_bounds.proofs.boxes.cut.Goals as goal
 pub returns-in_ok-rows-in-Compare : goal.returns-in_ok-rows-in-Compare
 returns-in_ok-rows-in-Compare c =
     let same : to_z w128 (of_z w128 c.affine_value-bound.result) ≡ affine_value c.args.params.now c.in-Compare.bound = search rules in
-    subst (λ (t : Test). IsCutArea (BoundHolds c.args.params.now c.args.row.now t) c.args.area.now (Some (record { rows = c.in_ok-rows-in-Compare.rows; cols = c.args.area.now.cols }))) (sym c.in-Compare.is)
-    (rows_cut c.args.params.now c.args.row.now c.in-Compare.name c.in-Compare.relation c.in-Compare.bound c.args.area.now c.in_ok-rows-in-Compare.rows (sym c.is_same.ensures ∙ c.if-is_same.true)
-    (subst (λ z. IsCut (λ v. Meets c.in-Compare.relation v z) c.args.area.now.rows (Some c.in_ok-rows-in-Compare.rows)) same c.in_ok-rows-in-Compare.ensures))
+    subst (λ (t : Test). IsCutArea (BoundHolds c.args.params.now c.args.row.now t) c.args.area.now
+    (Some (record { rows = c.in_ok-rows-in-Compare.rows; cols = c.args.area.now.cols }))) (sym c.in-Compare.is)
+    (rows_cut c.args.params.now c.args.row.now c.in-Compare.name c.in-Compare.relation c.in-Compare.bound c.args.area.now
+    c.in_ok-rows-in-Compare.rows (sym c.is_same.ensures ∙ c.if-is_same.true)
+    (subst (λ z. IsCut (λ v. Meets c.in-Compare.relation v z) c.args.area.now.rows (Some c.in_ok-rows-in-Compare.rows)) same
+    c.in_ok-rows-in-Compare.ensures))
 
 pub returns-in_ok-cols-in-Compare : goal.returns-in_ok-cols-in-Compare
 returns-in_ok-cols-in-Compare c =
     let same : to_z w128 (of_z w128 c.affine_value-bound.result) ≡ affine_value c.args.params.now c.in-Compare.bound = search rules in
-    subst (λ (t : Test). IsCutArea (BoundHolds c.args.params.now c.args.row.now t) c.args.area.now (Some (record { rows = c.args.area.now.rows; cols = c.in_ok-cols-in-Compare.cols }))) (sym c.in-Compare.is)
-    (columns_cut c.args.params.now c.args.row.now c.in-Compare.name c.in-Compare.relation c.in-Compare.bound c.args.area.now c.in_ok-cols-in-Compare.cols (sym c.is_same.ensures ∙ c.if-is_same.false)
-    (subst (λ z. IsCut (λ v. Meets c.in-Compare.relation v z) c.args.area.now.cols (Some c.in_ok-cols-in-Compare.cols)) same c.in_ok-cols-in-Compare.ensures))
+    subst (λ (t : Test). IsCutArea (BoundHolds c.args.params.now c.args.row.now t) c.args.area.now
+    (Some (record { rows = c.args.area.now.rows; cols = c.in_ok-cols-in-Compare.cols }))) (sym c.in-Compare.is)
+    (columns_cut c.args.params.now c.args.row.now c.in-Compare.name c.in-Compare.relation c.in-Compare.bound c.args.area.now
+    c.in_ok-cols-in-Compare.cols (sym c.is_same.ensures ∙ c.if-is_same.false)
+    (subst (λ z. IsCut (λ v. Meets c.in-Compare.relation v z) c.args.area.now.cols (Some c.in_ok-cols-in-Compare.cols)) same
+    c.in_ok-cols-in-Compare.ensures))

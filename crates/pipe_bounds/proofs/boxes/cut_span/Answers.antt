@@ -15,7 +15,9 @@ returns-in-AtLeast c =
 pub returns-in_ok-at_most-in-Equals : goal.returns-in_ok-at_most-in-Equals
 returns-in_ok-at_most-in-Equals c =
     let same = to_z-of_z w128 c.args.bound c.ranges.bound in
-    let first = subst (λ z. IsCut (λ v. v ≤ℤ z) c.args.span.now (Some c.in_ok-at_most-in-Equals.field-0)) same c.in_ok-at_most-in-Equals.ensures in
-    let second = subst (λ z. IsCut (λ v. z ≤ℤ v) c.in_ok-at_most-in-Equals.field-0 c.at_least-in-Equals.result) same c.at_least-in-Equals.ensures in
+    let first =
+    subst (λ z. IsCut (λ v. v ≤ℤ z) c.args.span.now (Some c.in_ok-at_most-in-Equals.field-0)) same c.in_ok-at_most-in-Equals.ensures in
+    let second =
+    subst (λ z. IsCut (λ v. z ≤ℤ v) c.in_ok-at_most-in-Equals.field-0 c.at_least-in-Equals.result) same c.at_least-in-Equals.ensures in
     subst (λ (x : Relation). IsCut (λ v. Meets x v c.args.bound) c.args.span.now c.at_least-in-Equals.result) (sym c.in-Equals.is)
     (cut_twice c.args.bound c.args.span.now c.in_ok-at_most-in-Equals.field-0 c.at_least-in-Equals.result first second)

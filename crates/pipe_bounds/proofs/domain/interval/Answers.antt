@@ -3,4 +3,5 @@ use Rattle.std.proofs.lemmas.Int.{ints}
 use Rattle.pipe_bounds.proofs.domain.interval.Goals as goal
 
 pub returns : goal.returns
-returns c = record { lo = search rules; hi = search rules; ordered = omega (arith, ints); least = omega (arith, ints); most = omega (arith, ints) }
+returns c =
+    record { lo = search rules; hi = search rules; ordered = omega (arith, ints); least = omega (arith, ints); most = omega (arith, ints) }

@@ -7,5 +7,6 @@ use Rattle.pipe_bounds.proofs.finding.bounds_of_stages.Given as goal
 abbrev pub invariant-loop-stage : goal.invariant-loop-stage
 invariant-loop-stage l = record {
   each : length l.found.items ≡ l.stage;
-  stage : (k : ℕ) (s : Symbol) (b : StageBounds) → slice_get l.stages k ≡ Some s → slice_get l.found.items k ≡ Some b → (d : Declaration) × (slice_get (declarations l.items) s.item ≡ Some d) × IsBoundsOf l.params d b;
+  stage : (k : ℕ) (s : Symbol) (b : StageBounds) → slice_get l.stages k ≡ Some s → slice_get l.found.items k ≡ Some b
+      → (d : Declaration) × (slice_get (declarations l.items) s.item ≡ Some d) × IsBoundsOf l.params d b;
 }

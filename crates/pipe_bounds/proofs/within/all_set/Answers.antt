@@ -9,7 +9,8 @@ use Rattle.pipe_bounds.proofs.within.all_set.Goals as goal
 pub loop-number-preserved : goal.loop-number-preserved
 loop-number-preserved c =
     all_more (λ k (s : Setting). (v : ℤ) × (s.value ≡ Some v)) c.args.params.now c.loop-number.number c.setting-item.result
-    (here_is c.settings-setting-items.result.now c.args.params.now c.loop-number.number _ c.settings-setting-items.ensures c.loop-number-test.true c.setting-item.is)
+    (here_is c.settings-setting-items.result.now c.args.params.now c.loop-number.number _ c.settings-setting-items.ensures
+    c.loop-number-test.true c.setting-item.is)
     (some_of c.setting-item.result.value c.if-is_none.ensures)
     c.loop-number.invariant
 

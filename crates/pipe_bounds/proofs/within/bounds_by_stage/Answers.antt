@@ -25,26 +25,35 @@ judge_reads-requires-clause-declared c =
 pub judge_reads-requires-clause-sound : goal.judge_reads-requires-clause-sound
 judge_reads-requires-clause-sound c =
     let items = ap declarations (c.items-items.ensures ∙ ap items_of c.tree.ensures.program) in
-    checked_sound (content (tree_in c.args.checked.now)) (declarations c.items-items.result.now) c.stages-stages.result.now items c.tree.ensures.checked.named.good
+    checked_sound (content (tree_in c.args.checked.now)) (declarations c.items-items.result.now) c.stages-stages.result.now items
+    c.tree.ensures.checked.named.good
 
 pub returns-in_err-judge_reads-clause-fault : goal.returns-in_err-judge_reads-clause-fault
 returns-in_err-judge_reads-clause-fault c =
     let items = ap declarations (c.items-items.ensures ∙ ap items_of c.tree.ensures.program) in
     let stages = c.stages-stages.ensures ∙ c.tree.ensures.checked.stages in
     let f = c.in_err-judge_reads.field-0.0 in
-    let first = subst (λ (xs : List StageBounds). (f ≡ Memory) ⊎ IsFirstStage c.args.params.now (declarations c.items-items.result.now) c.stages-stages.result.now (domains_in xs) f) c.deref.ensures.value c.in_err-judge_reads.ensures in
+    let first =
+    subst (λ (xs : List StageBounds). (f ≡ Memory)
+    ⊎ IsFirstStage c.args.params.now (declarations c.items-items.result.now) c.stages-stages.result.now (domains_in xs) f)
+    c.deref.ensures.value c.in_err-judge_reads.ensures in
     let p = err_from_is_err_and c.from_residual-in_err-judge_reads.result c.from_residual-in_err-judge_reads.ensures.1 in
-    rw (p.1, p.2) (departs c.args.params.now (content (tree_in c.args.checked.now)) (declarations c.items-items.result.now) c.stages-stages.result.now items stages c.in_ok-found.found.items c.in_ok-found.ensures f c.in_ok-all_set.ensures first)
+    rw (p.1, p.2) (departs c.args.params.now (content (tree_in c.args.checked.now)) (declarations c.items-items.result.now)
+    c.stages-stages.result.now items stages c.in_ok-found.found.items c.in_ok-found.ensures f c.in_ok-all_set.ensures first)
 
 pub returns-clause-ok : goal.returns-clause-ok
 returns-clause-ok c =
     let items = ap declarations (c.items-items.ensures ∙ ap items_of c.tree.ensures.program) in
     let stages = c.stages-stages.ensures ∙ c.tree.ensures.checked.stages in
-    let stays = subst (λ (xs : List StageBounds). AreInBounds c.args.params.now (declarations c.items-items.result.now) c.stages-stages.result.now (domains_in xs)) c.deref.ensures.value c.in_ok-judge_reads.ensures in
-    in_bounds c.args.params.now (content (tree_in c.args.checked.now)) (declarations c.items-items.result.now) c.stages-stages.result.now items stages c.in_ok-found.found.items c.in_ok-found.ensures c.in_ok-all_set.ensures stays
+    let stays =
+    subst (λ (xs : List StageBounds). AreInBounds c.args.params.now (declarations c.items-items.result.now) c.stages-stages.result.now
+    (domains_in xs)) c.deref.ensures.value c.in_ok-judge_reads.ensures in
+    in_bounds c.args.params.now (content (tree_in c.args.checked.now)) (declarations c.items-items.result.now) c.stages-stages.result.now
+    items stages c.in_ok-found.found.items c.in_ok-found.ensures c.in_ok-all_set.ensures stays
 
 pub returns-clause-found : goal.returns-clause-found
 returns-clause-found c =
     let items = ap declarations (c.items-items.ensures ∙ ap items_of c.tree.ensures.program) in
     let stages = c.stages-stages.ensures ∙ c.tree.ensures.checked.stages in
-    found_is c.args.params.now (content (tree_in c.args.checked.now)) (declarations c.items-items.result.now) c.stages-stages.result.now items stages c.in_ok-found.found.items c.in_ok-found.ensures
+    found_is c.args.params.now (content (tree_in c.args.checked.now)) (declarations c.items-items.result.now) c.stages-stages.result.now
+    items stages c.in_ok-found.found.items c.in_ok-found.ensures

@@ -22,10 +22,17 @@ item-requires-clause-near c =
     let k = c.loop-stage.stage in
     let s = c.index-stages-stage.result in
     let stage = here_is c.args.stages.now c.args.stages.now k s refl c.loop-stage-test.true c.index-stages-stage.is in
-    let item = declaration_at c.args.items.now s.item c.index-items-declared.result (omega (arith, c.requires.declared k s stage, length-map c.args.items.now declaration)) c.index-items-declared.is in
-    let found = here_is c.args.found.now c.args.found.now k c.index-found-stage.result refl (omega (arith, c.requires.found.each, c.loop-stage-test.true)) c.index-found-stage.is in
-    let here = bounds_here c.args.params.now ds c.args.stages.now c.args.found.now k s (declaration c.index-items-declared.result) c.index-found-stage.result c.requires.found stage item found in
-    subst InDomainRanges (sym c.domain.ensures) (near_domain c.args.params.now (declaration c.index-items-declared.result) c.index-found-stage.result.domain here.domain)
+    let item =
+    declaration_at c.args.items.now s.item c.index-items-declared.result
+    (omega (arith, c.requires.declared k s stage, length-map c.args.items.now declaration)) c.index-items-declared.is in
+    let found =
+    here_is c.args.found.now c.args.found.now k c.index-found-stage.result refl
+    (omega (arith, c.requires.found.each, c.loop-stage-test.true)) c.index-found-stage.is in
+    let here =
+    bounds_here c.args.params.now ds c.args.stages.now c.args.found.now k s (declaration c.index-items-declared.result)
+    c.index-found-stage.result c.requires.found stage item found in
+    subst InDomainRanges (sym c.domain.ensures)
+    (near_domain c.args.params.now (declaration c.index-items-declared.result) c.index-found-stage.result.domain here.domain)
 
 pub item-requires-clause-boxes : goal.item-requires-clause-boxes
 item-requires-clause-boxes c =
@@ -35,10 +42,17 @@ item-requires-clause-boxes c =
     let s = c.index-stages-stage.result in
     let b = c.index-found-stage.result in
     let stage = here_is c.args.stages.now c.args.stages.now k s refl c.loop-stage-test.true c.index-stages-stage.is in
-    let item = declaration_at c.args.items.now s.item c.index-items-declared.result (omega (arith, c.requires.declared k s stage, length-map c.args.items.now declaration)) c.index-items-declared.is in
-    let found = here_is c.args.found.now c.args.found.now k c.index-found-stage.result refl (omega (arith, c.requires.found.each, c.loop-stage-test.true)) c.index-found-stage.is in
-    let here = bounds_here ss (declarations c.args.items.now) c.args.stages.now c.args.found.now k s d c.index-found-stage.result c.requires.found stage item found in
-    subst (λ (os : List (Option Area)). HasBoxes ss d c.domain.result.now os) (sym c.boxes.ensures) (subst (λ (a : Area). HasBoxes ss d a b.boxes) (sym c.domain.ensures) here.boxes)
+    let item =
+    declaration_at c.args.items.now s.item c.index-items-declared.result
+    (omega (arith, c.requires.declared k s stage, length-map c.args.items.now declaration)) c.index-items-declared.is in
+    let found =
+    here_is c.args.found.now c.args.found.now k c.index-found-stage.result refl
+    (omega (arith, c.requires.found.each, c.loop-stage-test.true)) c.index-found-stage.is in
+    let here =
+    bounds_here ss (declarations c.args.items.now) c.args.stages.now c.args.found.now k s d c.index-found-stage.result c.requires.found
+    stage item found in
+    subst (λ (os : List (Option Area)). HasBoxes ss d c.domain.result.now os) (sym c.boxes.ensures)
+    (subst (λ (a : Area). HasBoxes ss d a b.boxes) (sym c.domain.ensures) here.boxes)
 
 pub returns-in_err-item : goal.returns-in_err-item
 returns-in_err-item c =
@@ -50,10 +64,16 @@ returns-in_err-item c =
     let a = c.domain.result.now in
     let f = c.in_err-item.field-0.0 in
     let stage = here_is c.args.stages.now c.args.stages.now k s refl c.loop-stage-test.true c.index-stages-stage.is in
-    let found = here_is c.args.found.now c.args.found.now k c.index-found-stage.result refl (omega (arith, c.requires.found.each, c.loop-stage-test.true)) c.index-found-stage.is in
+    let found =
+    here_is c.args.found.now c.args.found.now k c.index-found-stage.result refl
+    (omega (arith, c.requires.found.each, c.loop-stage-test.true)) c.index-found-stage.is in
     let area = domain_here c.args.found.now k c.index-found-stage.result a found c.domain.ensures in
-    let item = declaration_at c.args.items.now s.item c.index-items-declared.result (omega (arith, c.requires.declared k s stage, length-map c.args.items.now declaration)) c.index-items-declared.is in
-    let fault = subst (λ (o : Option Declaration). (f ≡ Memory) ⊎ IsFirstCase ss areas a (declared_cases c.args.stages.now o) k f) (sym item) c.in_err-item.ensures in
+    let item =
+    declaration_at c.args.items.now s.item c.index-items-declared.result
+    (omega (arith, c.requires.declared k s stage, length-map c.args.items.now declaration)) c.index-items-declared.is in
+    let fault =
+    subst (λ (o : Option Declaration). (f ≡ Memory) ⊎ IsFirstCase ss areas a (declared_cases c.args.stages.now o) k f) (sym item)
+    c.in_err-item.ensures in
     let p = err_from_is_err_and c.from_residual.result c.from_residual.ensures.1 in
     rw (p.1, p.2) (first_stage ss ds c.args.stages.now areas k s a f stage area c.loop-stage.invariant fault)
 
@@ -67,9 +87,13 @@ loop-stage-preserved c =
     let s = c.index-stages-stage.result in
     let a = c.domain.result.now in
     let stage = here_is stages stages k s refl c.loop-stage-test.true c.index-stages-stage.is in
-    let found = here_is c.args.found.now c.args.found.now k c.index-found-stage.result refl (omega (arith, c.requires.found.each, c.loop-stage-test.true)) c.index-found-stage.is in
+    let found =
+    here_is c.args.found.now c.args.found.now k c.index-found-stage.result refl
+    (omega (arith, c.requires.found.each, c.loop-stage-test.true)) c.index-found-stage.is in
     let area = domain_here c.args.found.now k c.index-found-stage.result a found c.domain.ensures in
-    let item = declaration_at c.args.items.now s.item c.index-items-declared.result (omega (arith, c.requires.declared k s stage, length-map c.args.items.now declaration)) c.index-items-declared.is in
+    let item =
+    declaration_at c.args.items.now s.item c.index-items-declared.result
+    (omega (arith, c.requires.declared k s stage, length-map c.args.items.now declaration)) c.index-items-declared.is in
     let stays = subst (λ (o : Option Declaration). StageStays ss areas a (declared_cases stages o)) (sym item) c.in_ok-item.ensures in
     all_more (λ i (y : Symbol). StaysAt ss ds stages areas i y) stages k s stage
     (λ domain has. subst (λ (x : Area). StageStays ss areas x (stage_cases ds stages s)) (same_Some a domain (sym area ∙ has)) stays)
@@ -77,4 +101,6 @@ loop-stage-preserved c =
 
 pub returns : goal.returns
 returns c =
-    all_of_them (λ k (s : Symbol). StaysAt c.args.params.now (declarations c.args.items.now) c.args.stages.now (domains_in c.args.found.now) k s) c.args.stages.now c.loop-stage.stage c.loop-stage-test.false c.loop-stage.invariant
+    all_of_them
+    (λ k (s : Symbol). StaysAt c.args.params.now (declarations c.args.items.now) c.args.stages.now (domains_in c.args.found.now) k s)
+    c.args.stages.now c.loop-stage.stage c.loop-stage-test.false c.loop-stage.invariant

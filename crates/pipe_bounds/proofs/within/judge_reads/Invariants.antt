@@ -7,4 +7,5 @@ use Rattle.pipe_bounds.proofs.within.judge_reads.Given as goal
 
 abbrev pub invariant-loop-stage : goal.invariant-loop-stage
 invariant-loop-stage l =
-    (k : ℕ) (s : Symbol) → k < l.stage → slice_get l.stages k ≡ Some s → StaysAt l.params (declarations l.items) l.stages (domains_in l.found) k s
+    (k : ℕ) (s : Symbol) → k < l.stage → slice_get l.stages k ≡ Some s
+    → StaysAt l.params (declarations l.items) l.stages (domains_in l.found) k s

@@ -7,7 +7,8 @@ use Rattle.pipe_checks.proofs.checked.judge_all.Goals as goal
 
 pub loop-number-preserved : goal.loop-number-preserved
 loop-number-preserved c =
-    all_more (λ k d. is_good c.args.declared.now d ≡ true) (declarations c.args.items.now) c.loop-number.number (declaration c.index-items-number.result)
+    all_more (λ k d. is_good c.args.declared.now d ≡ true) (declarations c.args.items.now) c.loop-number.number
+    (declaration c.index-items-number.result)
     (declaration_at c.args.items.now c.loop-number.number _ c.loop-number-test.true c.index-items-number.is)
     c.in_default.ensures.good
     c.loop-number.invariant

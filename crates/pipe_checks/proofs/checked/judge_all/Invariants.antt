@@ -4,4 +4,5 @@ use Rattle.pipe_checks.specs.Checking.{is_good}
 use Rattle.pipe_checks.proofs.checked.judge_all.Given as goal
 
 abbrev pub invariant-loop-number : goal.invariant-loop-number
-invariant-loop-number l = (k : ℕ) (d : Declaration) → k < l.number → slice_get (declarations l.items) k ≡ Some d → is_good l.declared d ≡ true
+invariant-loop-number l =
+    (k : ℕ) (d : Declaration) → k < l.number → slice_get (declarations l.items) k ≡ Some d → is_good l.declared d ≡ true

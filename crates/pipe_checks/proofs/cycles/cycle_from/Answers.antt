@@ -9,8 +9,12 @@ pub returns-in-Some-clause-some : goal.returns-in-Some-clause-some
 returns-in-Some-clause-some c =
     let g = c.args.graph.now in
     let same = sym (links_read g c.args.start _ c.requires c.index-graph-start.is) in
-    let least = subst (λ xs. (k : ℕ) → SomeAt xs c.index-graph-start.result.reads k → c.in-Some.left ≤ k) c.deref.ensures.value c.in-Some.ensures.least in
-    let back = subst (λ xs. IsWayBack g c.args.start xs c.in-Some.left c.in_ok-way_back-in-Some.field-0.items) c.deref-in-Some.ensures.value c.in_ok-way_back-in-Some.ensures in
+    let least =
+    subst (λ xs. (k : ℕ) → SomeAt xs c.index-graph-start.result.reads k → c.in-Some.left ≤ k) c.deref.ensures.value
+    c.in-Some.ensures.least in
+    let back =
+    subst (λ xs. IsWayBack g c.args.start xs c.in-Some.left c.in_ok-way_back-in-Some.field-0.items) c.deref-in-Some.ensures.value
+    c.in_ok-way_back-in-Some.ensures in
     shortest_from g c.args.start c.in-Some.left c.in_ok-far.far.items _ c.in_ok-far.ensures
     (subst (λ (l : Links). (k : ℕ) → SomeAt c.in_ok-far.far.items l.reads k → c.in-Some.left ≤ k) same least)
     back

@@ -6,7 +6,8 @@ use Rattle.pipe_checks.proofs.cycles.distances.Goals as goal
 
 pub loop-alloc-init : goal.loop-alloc-init
 loop-alloc-init c = (
-  known_at_first c.args.graph.now c.args.goal _ c.in_ok-far.far.items (search rules) c.requires c.in_ok-far.ensures.each c.in_ok-far.ensures.only,
+  known_at_first c.args.graph.now c.args.goal _ c.in_ok-far.far.items (search rules) c.requires c.in_ok-far.ensures.each
+      c.in_ok-far.ensures.only,
   omega (arith, room_at_first _ c.args.goal c.in_ok-far.far.items c.requires c.in_ok-far.ensures.each c.in_ok-far.ensures.only),
 )
 
@@ -34,4 +35,5 @@ returns c =
     let k = c.loop-alloc.steps in
     let room = c.loop-alloc.invariant.1 in
     all_known g c.args.goal k c.loop-alloc.far.items (omega (arith, room)) c.loop-alloc.invariant.0
-    (λ more. false≢true (sym c.loop-alloc-test.false ∙ c.reaches_more.ensures.1 (subst (λ xs. LeadsOn g xs k) (sym c.deref.ensures.value) more)))
+    (λ more. false≢true
+    (sym c.loop-alloc-test.false ∙ c.reaches_more.ensures.1 (subst (λ xs. LeadsOn g xs k) (sym c.deref.ensures.value) more)))

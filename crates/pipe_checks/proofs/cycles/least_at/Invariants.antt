@@ -5,5 +5,6 @@ use Rattle.pipe_checks.proofs.cycles.least_at.Given as goal
 abbrev pub invariant-loop-stage : goal.invariant-loop-stage
 invariant-loop-stage l =
     IfSome l.least (λ t. Contains l.stage-items t × (slice_get l.far t ≡ Some (Some l.steps)))
-    × IfSome l.least (λ t. (k : ℕ) → k < l.stage-index → slice_get l.far (get_or l.stage-items k 0) ≡ Some (Some l.steps) → t ≤ get_or l.stage-items k 0)
+    × IfSome l.least
+    (λ t. (k : ℕ) → k < l.stage-index → slice_get l.far (get_or l.stage-items k 0) ≡ Some (Some l.steps) → t ≤ get_or l.stage-items k 0)
     × IfNone l.least ((k : ℕ) → k < l.stage-index → slice_get l.far (get_or l.stage-items k 0) ≡ Some (Some l.steps) → ⊥)

@@ -6,5 +6,7 @@ use Rattle.pipe_checks.proofs.cycles.one_more.Goals as goal
 pub loop-stage-preserved : goal.loop-stage-preserved
 loop-stage-preserved c =
     let e = c.in_ok-push.ensures.items in
-    let more = pushed (IsStepAt c.args.graph.now c.args.far.now c.args.steps) c.loop-stage.next.items c.loop-stage.stage c.next_distance.result c.loop-stage.invariant.0 c.loop-stage.invariant.1 c.next_distance.ensures in
+    let more =
+    pushed (IsStepAt c.args.graph.now c.args.far.now c.args.steps) c.loop-stage.next.items c.loop-stage.stage c.next_distance.result
+    c.loop-stage.invariant.0 c.loop-stage.invariant.1 c.next_distance.ensures in
     (search rules, rw e more)

@@ -3,4 +3,5 @@ use Rattle.pipe_checks.specs.inside.Search.{IsStepAt}
 use Rattle.pipe_checks.proofs.cycles.one_more.Given as goal
 
 abbrev pub invariant-loop-stage : goal.invariant-loop-stage
-invariant-loop-stage l = (length l.next.items ≡ l.stage) × ((s : ℕ) (d : Option ℕ) → slice_get l.next.items s ≡ Some d → IsStepAt l.graph l.far l.steps s d)
+invariant-loop-stage l =
+    (length l.next.items ≡ l.stage) × ((s : ℕ) (d : Option ℕ) → slice_get l.next.items s ≡ Some d → IsStepAt l.graph l.far l.steps s d)

@@ -8,13 +8,15 @@ use Rattle.pipe_checks.proofs.cycles.shortest_cycle.Goals as goal
 pub returns-in-Some : goal.returns-in-Some
 returns-in-Some c =
     shortest_of_all c.args.graph.now c.loop-start.start c.in-Some.cycle.items
-    (subst (λ (o : Option (Vec ℕ)). IfSome o (λ v. IsShortestFrom c.args.graph.now c.loop-start.start v.items)) c.in-Some.is c.in_ok-cycle.ensures.some)
+    (subst (λ (o : Option (Vec ℕ)). IfSome o (λ v. IsShortestFrom c.args.graph.now c.loop-start.start v.items)) c.in-Some.is
+    c.in_ok-cycle.ensures.some)
     c.loop-start.invariant
 
 pub loop-start-preserved : goal.loop-start-preserved
 loop-start-preserved c =
     below_more _ _ c.loop-start.invariant
-    (subst (λ (o : Option (Vec ℕ)). IfNone o ((k : ℕ) → Way c.args.graph.now (suc k) c.loop-start.start c.loop-start.start → ⊥)) c.in_default.is c.in_ok-cycle.ensures.none)
+    (subst (λ (o : Option (Vec ℕ)). IfNone o ((k : ℕ) → Way c.args.graph.now (suc k) c.loop-start.start c.loop-start.start → ⊥))
+    c.in_default.is c.in_ok-cycle.ensures.none)
 
 pub unreachable-requires : goal.unreachable-requires
 unreachable-requires c = c.requires (acyclic_of c.args.graph.now c.loop-start.start (omega arith) c.loop-start.invariant)

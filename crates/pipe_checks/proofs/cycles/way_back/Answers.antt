@@ -17,7 +17,9 @@ loop-steps-preserved c =
     let is_next : IsNext g far c.loop-steps.at left next = record {
       read = subst (λ (l : Links). Contains l.reads next) links c.least_at-at.ensures.read;
       at = c.least_at-at.ensures.at;
-      least = subst (λ (l : Links). (u : ℕ) → Contains l.reads u → slice_get far u ≡ Some (Some left) → next ≤ u) links c.least_at-at.ensures.least;
+      least =
+          subst (λ (l : Links). (u : ℕ) → Contains l.reads u → slice_get far u ≡ Some (Some left) → next ≤ u) links
+          c.least_at-at.ensures.least;
     } in
     let less : c.loop-steps.steps ≡ left + 1 = omega arith in
     let under = subst (IsUnderWay g c.args.start far c.args.left c.loop-steps.way.items c.loop-steps.at) less c.loop-steps.invariant.0 in

@@ -4,4 +4,6 @@ use Rattle.pipe_checks.specs.Accesses.{branch_accesses}
 use Rattle.pipe_checks.proofs.graph.add_cases.Given as goal
 
 abbrev pub invariant-loop-case : goal.invariant-loop-case
-invariant-loop-case l = l.found.items ++ branch_accesses l.stages (branches (drop l.case-index l.cases)) ≡ l.initial.found.items ++ branch_accesses l.stages (branches l.cases)
+invariant-loop-case l =
+    l.found.items ++ branch_accesses l.stages (branches (drop l.case-index l.cases))
+    ≡ l.initial.found.items ++ branch_accesses l.stages (branches l.cases)

@@ -5,6 +5,7 @@ use Rattle.pipe_checks.proofs.ranks.rank_above.Given as goal
 
 abbrev pub invariant-loop-stage : goal.invariant-loop-stage
 invariant-loop-stage l =
-    (max l.greatest (greatest (map (known_rank l.ranks) (drop l.stage-index l.stage-items))) ≡ greatest (map (known_rank l.ranks) l.stage-items))
+    (max l.greatest (greatest (map (known_rank l.ranks) (drop l.stage-index l.stage-items)))
+    ≡ greatest (map (known_rank l.ranks) l.stage-items))
     × ((k : ℕ) → k < l.stage-index → slice_get l.ranks (get_or l.stage-items k 0) ≡ Some None → ⊥)
     × (l.greatest + 1 < 2 ^ 64)

@@ -12,7 +12,9 @@ pub loop-stage-init : goal.loop-stage-init
 loop-stage-init c = subst (AreRanked c.args.graph.now) (sym c.in_ok-ranks.ensures) (ranked_start c.args.graph.now _ (search rules))
 
 pub loop-stage-smaller : goal.loop-stage-smaller
-loop-stage-smaller c = ranked_fewer c.loop-stage.ranks.items c.in-Some.stage c.in-Some.rank (subst (λ xs. slice_get xs c.in-Some.stage ≡ Some None) c.deref.ensures.value c.in-Some.ensures.unknown)
+loop-stage-smaller c =
+    ranked_fewer c.loop-stage.ranks.items c.in-Some.stage c.in-Some.rank
+    (subst (λ xs. slice_get xs c.in-Some.stage ≡ Some None) c.deref.ensures.value c.in-Some.ensures.unknown)
 
 pub loop-stage-preserved : goal.loop-stage-preserved
 loop-stage-preserved c =
@@ -27,11 +29,13 @@ loop-stage-preserved c =
 
 pub returns-clause-some : goal.returns-clause-some
 returns-clause-some c =
-    ok_then _ c.all_of.ensures.all (λ (o : Option (Vec ℕ)) all. IfSome_then o all (λ (v : Vec ℕ) e. ranking_of c.args.graph.now c.loop-stage.ranks.items v.items c.loop-stage.invariant (e ∙ c.deref-2.ensures.value)))
+    ok_then _ c.all_of.ensures.all (λ (o : Option (Vec ℕ)) all. IfSome_then o all (λ (v : Vec ℕ) e. ranking_of c.args.graph.now
+    c.loop-stage.ranks.items v.items c.loop-stage.invariant (e ∙ c.deref-2.ensures.value)))
 
 pub returns-clause-none : goal.returns-clause-none
 returns-clause-none c =
     ok_then _ c.all_of.ensures.none (λ (o : Option (Vec ℕ)) none. none_then {Q = IsAcyclic c.args.graph.now → ⊥} o none (λ u acyclic.
     stuck_is_cyclic c.args.graph.now c.loop-stage.ranks.items c.loop-stage.invariant.each
-    (subst (λ xs. (s : ℕ) → slice_get xs s ≡ Some None → SomeUnranked xs (links_at c.args.graph.now s).reads) c.deref.ensures.value c.in_default.ensures.stuck)
+    (subst (λ xs. (s : ℕ) → slice_get xs s ≡ Some None → SomeUnranked xs (links_at c.args.graph.now s).reads) c.deref.ensures.value
+    c.in_default.ensures.stuck)
     u.0 (subst (λ xs. slice_get xs u.0 ≡ Some None) c.deref-2.ensures.value u.1) acyclic))

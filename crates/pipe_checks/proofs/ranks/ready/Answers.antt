@@ -11,8 +11,10 @@ pub loop-stage-preserved : goal.loop-stage-preserved
 loop-stage-preserved c =
     elim c.if-is_none.branch [
       | then-is_none+in_default w ↦ below_more _ _ c.loop-stage.invariant (λ none.
-          subst (λ l. SomeUnranked c.args.ranks.now l.reads) (sym (links_read _ _ _ c.loop-stage-test.true c.index-graph-stage.is)) w.in_default.ensures.unranked)
-      | else-is_none w ↦ below_more _ _ c.loop-stage.invariant (λ none. absurd (known_at c.args.ranks.now c.loop-stage.stage w.if-is_none.ensures none))
+          subst (λ l. SomeUnranked c.args.ranks.now l.reads) (sym (links_read _ _ _ c.loop-stage-test.true c.index-graph-stage.is))
+          w.in_default.ensures.unranked)
+      | else-is_none w ↦ below_more _ _ c.loop-stage.invariant
+          (λ none. absurd (known_at c.args.ranks.now c.loop-stage.stage w.if-is_none.ensures none))
     ]
 
 pub returns-clause-stuck : goal.returns-clause-stuck

@@ -16,9 +16,12 @@ returns-then-is_number-clause-first c =
     let declared = c.args.declared.now in
     first_twice_is names c.args.items.now c.loop-number.number _ c.loop-number-test.true c.index-items-number.is
     (elim c.then-is_number.branch [
-      | then-is_number-via-then-is_number w ↦ inl (is_again names declared.again c.loop-number.number c.requires.first (sym c.is_number.ensures ∙ w.if-is_number.true))
+      | then-is_number-via-then-is_number w ↦ inl
+          (is_again names declared.again c.loop-number.number c.requires.first (sym c.is_number.ensures ∙ w.if-is_number.true))
       | then-is_number-via-else-is_number+then-varies_again w ↦
-          inr (sym (w.varies_again.ensures ∙ ap (varies_again declared.table) w.locals_of.ensures ∙ varies_same names declared.table (locals_of (declaration c.index-items-number.result)) c.requires.known) ∙ w.if-varies_again.true)
+          inr (sym (w.varies_again.ensures ∙ ap (varies_again declared.table) w.locals_of.ensures
+          ∙ varies_same names declared.table (locals_of (declaration c.index-items-number.result)) c.requires.known)
+          ∙ w.if-varies_again.true)
     ])
     c.loop-number.invariant.0
 
@@ -41,7 +44,8 @@ loop-number-preserved c =
 
 pub returns-clause-none : goal.returns-clause-none
 returns-clause-none c =
-    all_of_them (λ k d. IsTwice (declared_names (declarations c.args.items.now)) k d → ⊥) (declarations c.args.items.now) c.loop-number.number
+    all_of_them (λ k d. IsTwice (declared_names (declarations c.args.items.now)) k d → ⊥) (declarations c.args.items.now)
+    c.loop-number.number
     (declarations_end c.args.items.now c.loop-number.number c.loop-number-test.false) c.loop-number.invariant.0
 
 pub returns-clause-same : goal.returns-clause-same

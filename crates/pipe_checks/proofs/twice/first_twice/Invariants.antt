@@ -6,5 +6,6 @@ use Rattle.pipe_checks.proofs.twice.first_twice.Given as goal
 
 abbrev pub invariant-loop-number : goal.invariant-loop-number
 invariant-loop-number l =
-    ((k : ℕ) (d : Declaration) → k < l.number → slice_get (declarations l.items) k ≡ Some d → IsTwice (declared_names (declarations l.items)) k d → ⊥)
+    ((k : ℕ) (d : Declaration) → k < l.number → slice_get (declarations l.items) k ≡ Some d
+    → IsTwice (declared_names (declarations l.items)) k d → ⊥)
     × ((k : ℕ) → k < l.number → l.declared.again ≡ Some k → ⊥)

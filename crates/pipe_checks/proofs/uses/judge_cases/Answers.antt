@@ -9,8 +9,12 @@ use Rattle.pipe_checks.proofs.uses.judge_cases.Goals as goal
 pub returns-in_err-judge_case : goal.returns-in_err-judge_case
 returns-in_err-judge_case c =
     let told = err_from_is_err_and c.from_residual.result c.from_residual.ensures.1 in
-    turn_fails c.args.names.now c.args.locals.now (λ (x : Case). branch_places (branch x)) (λ (xs : List Case). branches_places (branches xs)) (λ x xs. refl) c.args.cases.now c.loop-case.case-index _ c.loop-case-test.true c.case-item.is _ _ _ c.judge_case.ensures c.in_err-judge_case.was c.loop-case.invariant (told.1 ∙ ap Err told.2)
+    turn_fails c.args.names.now c.args.locals.now (λ (x : Case). branch_places (branch x))
+    (λ (xs : List Case). branches_places (branches xs)) (λ x xs. refl) c.args.cases.now c.loop-case.case-index _ c.loop-case-test.true
+    c.case-item.is _ _ _ c.judge_case.ensures c.in_err-judge_case.was c.loop-case.invariant (told.1 ∙ ap Err told.2)
 
 pub loop-case-preserved : goal.loop-case-preserved
 loop-case-preserved c =
-    turn_holds c.args.names.now c.args.locals.now (λ (x : Case). branch_places (branch x)) (λ (xs : List Case). branches_places (branches xs)) (λ x xs. refl) c.args.cases.now c.loop-case.case-index _ c.loop-case-test.true c.case-item.is _ c.judge_case.ensures c.in_ok-judge_case.was c.loop-case.invariant
+    turn_holds c.args.names.now c.args.locals.now (λ (x : Case). branch_places (branch x))
+    (λ (xs : List Case). branches_places (branches xs)) (λ x xs. refl) c.args.cases.now c.loop-case.case-index _ c.loop-case-test.true
+    c.case-item.is _ c.judge_case.ensures c.in_ok-judge_case.was c.loop-case.invariant

@@ -5,4 +5,6 @@ use Rattle.pipe_checks.specs.inside.Judging.{judged}
 use Rattle.pipe_checks.proofs.uses.judge_cases.Given as goal
 
 abbrev pub invariant-loop-case : goal.invariant-loop-case
-invariant-loop-case l = judged l.names l.locals (branches_places (branches (drop l.case-index l.cases))) ≡ judged l.names l.locals (branches_places (branches l.cases))
+invariant-loop-case l =
+    judged l.names l.locals (branches_places (branches (drop l.case-index l.cases)))
+    ≡ judged l.names l.locals (branches_places (branches l.cases))

@@ -7,8 +7,11 @@ use Rattle.pipe_checks.proofs.uses.judge_tests.Goals as goal
 pub returns-in_err-judge_test : goal.returns-in_err-judge_test
 returns-in_err-judge_test c =
     let told = err_from_is_err_and c.from_residual.result c.from_residual.ensures.1 in
-    turn_fails c.args.names.now c.args.locals.now test_places tests_places (λ t ts. refl) c.args.tests.now c.loop-test.test-index _ c.loop-test-test.true c.test-item.is _ _ _ c.judge_test.ensures c.in_err-judge_test.was c.loop-test.invariant (told.1 ∙ ap Err told.2)
+    turn_fails c.args.names.now c.args.locals.now test_places tests_places (λ t ts. refl) c.args.tests.now c.loop-test.test-index _
+    c.loop-test-test.true c.test-item.is _ _ _ c.judge_test.ensures c.in_err-judge_test.was c.loop-test.invariant
+    (told.1 ∙ ap Err told.2)
 
 pub loop-test-preserved : goal.loop-test-preserved
 loop-test-preserved c =
-    turn_holds c.args.names.now c.args.locals.now test_places tests_places (λ t ts. refl) c.args.tests.now c.loop-test.test-index _ c.loop-test-test.true c.test-item.is _ c.judge_test.ensures c.in_ok-judge_test.was c.loop-test.invariant
+    turn_holds c.args.names.now c.args.locals.now test_places tests_places (λ t ts. refl) c.args.tests.now c.loop-test.test-index _
+    c.loop-test-test.true c.test-item.is _ c.judge_test.ensures c.in_ok-judge_test.was c.loop-test.invariant

@@ -11,9 +11,12 @@ use Rattle.pipe_lang.proofs.items.cases.Goals as goal
 pub loop-parser-preserved : goal.loop-parser-preserved
 loop-parser-preserved c = record {
   reading =
-      let e : branches c.push.new.self.items ≡ branches c.loop-parser.cases.items ++ record { condition = c.in_ok-condition.condition; value = view c.in_ok-value.value } ∷ [] =
+      let e : branches c.push.new.self.items ≡ branches c.loop-parser.cases.items ++ record
+      { condition = c.in_ok-condition.condition; value = view c.in_ok-value.value } ∷ [] =
       rw c.in_ok-push.ensures.items (map_push _ c.loop-parser.cases.items _) in
-      rw e (case_step (cases_at most_levels (at c.args.parser.now)) (branches c.loop-parser.cases.items) (at c.loop-parser.parser) (at c.word.new.self) (at c.condition.new.parser) (at c.value.new.parser)
-      c.in_ok-condition.condition (view c.in_ok-value.value) (sym c.is_word.ensures ∙ c.loop-parser-test.true) c.in_ok-word.ensures.exact c.in_ok-condition.ensures.exact c.in_ok-value.ensures.exact c.loop-parser.invariant.reading);
+      rw e (case_step (cases_at most_levels (at c.args.parser.now)) (branches c.loop-parser.cases.items) (at c.loop-parser.parser)
+      (at c.word.new.self) (at c.condition.new.parser) (at c.value.new.parser)
+      c.in_ok-condition.condition (view c.in_ok-value.value) (sym c.is_word.ensures ∙ c.loop-parser-test.true) c.in_ok-word.ensures.exact
+      c.in_ok-condition.ensures.exact c.in_ok-value.ensures.exact c.loop-parser.invariant.reading);
   shorter = search rules;
 }

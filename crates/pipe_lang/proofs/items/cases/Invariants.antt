@@ -9,7 +9,8 @@ use Rattle.pipe_lang.proofs.items.cases.Given as goal
 
 abbrev pub invariant-loop-parser : goal.invariant-loop-parser
 invariant-loop-parser l = record {
-  reading : cases_at most_levels (at l.fn.parser) ≡ while (is_word_at words.Case) (a_case most_levels) (branches l.cases.items) (at l.parser);
+  reading : cases_at most_levels (at l.fn.parser)
+      ≡ while (is_word_at words.Case) (a_case most_levels) (branches l.cases.items) (at l.parser);
   shorter : length l.parser.rest.now ≤ length l.fn.parser.rest.now;
 }
 

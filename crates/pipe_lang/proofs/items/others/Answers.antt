@@ -11,8 +11,10 @@ use Rattle.pipe_lang.proofs.items.others.Goals as goal
 pub loop-parser-preserved : goal.loop-parser-preserved
 loop-parser-preserved c = record {
   reading =
-      let e : declarations c.push.new.self.items ≡ declarations c.loop-parser.items.items ++ declaration c.in_ok-item.item ∷ [] = rw c.in_ok-push.ensures.items (map_push _ c.loop-parser.items.items c.in_ok-item.item) in
-      rw e (item_step (others most_levels (declarations c.args.items.now.items) (at c.args.parser.now)) (declarations c.loop-parser.items.items) (at c.loop-parser.parser) (at c.item.new.parser) (declaration c.in_ok-item.item)
+      let e : declarations c.push.new.self.items ≡ declarations c.loop-parser.items.items ++ declaration c.in_ok-item.item ∷ [] =
+      rw c.in_ok-push.ensures.items (map_push _ c.loop-parser.items.items c.in_ok-item.item) in
+      rw e (item_step (others most_levels (declarations c.args.items.now.items) (at c.args.parser.now))
+      (declarations c.loop-parser.items.items) (at c.loop-parser.parser) (at c.item.new.parser) (declaration c.in_ok-item.item)
       (search rules) c.in_ok-item.ensures.exact c.loop-parser.invariant.reading);
   shorter = search rules;
 }

@@ -7,7 +7,8 @@ use Rattle.pipe_lang.proofs.items.others.Given as goal
 
 abbrev pub invariant-loop-parser : goal.invariant-loop-parser
 invariant-loop-parser l = record {
-  reading : others most_levels (declarations l.fn.items.items) (at l.fn.parser) ≡ others most_levels (declarations l.items.items) (at l.parser);
+  reading : others most_levels (declarations l.fn.items.items) (at l.fn.parser)
+      ≡ others most_levels (declarations l.items.items) (at l.parser);
   shorter : length l.parser.rest.now ≤ length l.fn.parser.rest.now;
 }
 

@@ -12,4 +12,5 @@ pub returns : goal.returns
 unfolding program_of
 returns c =
     reads_value c.whole.result (whole most_levels (start c.args.tokens.now)) (at c.whole.new.parser)
-    (subst (λ (s : At). Reads (λ items. (declarations items.items, at c.whole.new.parser)) c.whole.result (whole most_levels s)) c.new.ensures c.whole.ensures.exact)
+    (subst (λ (s : At). Reads (λ items. (declarations items.items, at c.whole.new.parser)) c.whole.result (whole most_levels s))
+    c.new.ensures c.whole.ensures.exact)

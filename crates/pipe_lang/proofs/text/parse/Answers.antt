@@ -13,14 +13,16 @@ pub new-requires : goal.new-requires
 new-requires c =
     let short : length c.args.text.now ≤ most_bytes = omega arith in
     keeps_limits c.args.text.now (declarations c.in-Ok.items.items)
-    (text_found c.args.text.now c.in_ok-lexed.lexed.tokens.items c.in_ok-lexed.lexed.starts.items (declarations c.in-Ok.items.items) short c.in_ok-lexed.ensures.longest
+    (text_found c.args.text.now c.in_ok-lexed.lexed.tokens.items c.in_ok-lexed.lexed.starts.items (declarations c.in-Ok.items.items) short
+    c.in_ok-lexed.ensures.longest
     (ap program_of (sym c.deref.ensures.value) ∙ c.in-Ok.ensures))
 
 pub returns-in-Ok-clause-found : goal.returns-in-Ok-clause-found
 returns-in-Ok-clause-found c =
     let short : length c.args.text.now ≤ most_bytes = omega arith in
     subst (IsText c.args.text.now) (ap declarations (sym c.new.ensures))
-    (text_found c.args.text.now c.in_ok-lexed.lexed.tokens.items c.in_ok-lexed.lexed.starts.items (declarations c.in-Ok.items.items) short c.in_ok-lexed.ensures.longest
+    (text_found c.args.text.now c.in_ok-lexed.lexed.tokens.items c.in_ok-lexed.lexed.starts.items (declarations c.in-Ok.items.items) short
+    c.in_ok-lexed.ensures.longest
     (ap program_of (sym c.deref.ensures.value) ∙ c.in-Ok.ensures))
 
 pub returns-in-Ok-clause-only : goal.returns-in-Ok-clause-only
@@ -29,8 +31,10 @@ returns-in-Ok-clause-only c = λ tree text. one_tree c.args.text.now (content c.
 pub returns-clause-fault : goal.returns-clause-fault
 returns-clause-fault c =
     let short : length c.args.text.now ≤ most_bytes = omega arith in
-    fault_answer c.args.text.now c.in_ok-lexed.lexed.tokens.items c.deref.result.now c.in_ok-lexed.lexed.starts.items c.deref-in-Err-Fault.result.now c.in-Err-Fault.halt c.offset_of-offset.result c.fault_at.result
-    short c.in_ok-lexed.ensures.longest c.deref.ensures.value c.deref-in-Err-Fault.ensures.value (rw c.in-Err-Fault.field-0-is at c.in-Err-Fault.ensures) c.offset_of-offset.ensures c.fault_at.ensures
+    fault_answer c.args.text.now c.in_ok-lexed.lexed.tokens.items c.deref.result.now c.in_ok-lexed.lexed.starts.items
+    c.deref-in-Err-Fault.result.now c.in-Err-Fault.halt c.offset_of-offset.result c.fault_at.result
+    short c.in_ok-lexed.ensures.longest c.deref.ensures.value c.deref-in-Err-Fault.ensures.value
+    (rw c.in-Err-Fault.field-0-is at c.in-Err-Fault.ensures) c.offset_of-offset.ensures c.fault_at.ensures
 
 pub returns-clause-only : goal.returns-clause-only
 returns-clause-only c = λ tree text. no_fault c.args.text.now tree c.fault_at.result text (returns-clause-fault c)

@@ -12,7 +12,11 @@ loop-k-preserved c =
     let cut : FitsSigned w32 c.clamp.result = search rules in
     let read : FitsSigned w32 (slice_index_or c.loop-k.out c.loop-k.k (pos 0)) = search rules in
     record {
-      done = EachPlace-more (λ j. clamped (at c.args.out.now j) (to_z w32 (of_z w32 c.args.low)) (to_z w32 (of_z w32 c.args.high))) c.loop-k.out c.loop-k.k _ lt
-          (to_z-of_z w32 _ cut ∙ c.clamp.ensures ∙ ap (λ (v : ℤ). clamped v (to_z w32 (of_z w32 c.args.low)) (to_z w32 (of_z w32 c.args.high))) (to_z-of_z w32 _ read ∙ c.loop-k.invariant.ahead c.loop-k.k here)) c.loop-k.invariant.done;
+      done =
+          EachPlace-more (λ j. clamped (at c.args.out.now j) (to_z w32 (of_z w32 c.args.low)) (to_z w32 (of_z w32 c.args.high)))
+          c.loop-k.out c.loop-k.k _ lt
+          (to_z-of_z w32 _ cut ∙ c.clamp.ensures
+          ∙ ap (λ (v : ℤ). clamped v (to_z w32 (of_z w32 c.args.low)) (to_z w32 (of_z w32 c.args.high)))
+          (to_z-of_z w32 _ read ∙ c.loop-k.invariant.ahead c.loop-k.k here)) c.loop-k.invariant.done;
       ahead = search rules;
     }

@@ -7,6 +7,7 @@ use Rattle.row_kernels.proofs.guards.take_passed.Given as goal
 
 abbrev pub invariant-loop-k : goal.invariant-loop-k
 invariant-loop-k l = record {
-  done : EachPlace l.k (λ k. at l.out k ≡ if all_passed (map test_view l.fn.tests) l.fn.points.row (l.fn.points.col +ℤ pos k) then at l.fn.other k else at l.initial.out k);
+  done : EachPlace l.k (λ k. at l.out k ≡ if all_passed (map test_view l.fn.tests) l.fn.points.row (l.fn.points.col +ℤ pos k)
+      then at l.fn.other k else at l.initial.out k);
   ahead : (k : ℕ) → l.k ≤ k → at l.out k ≡ at l.initial.out k;
 }

@@ -11,7 +11,8 @@ loop-b-preserved c = λ k h s e.
     let lt : k < length c.loop-b.out = omega arith in
     let factor : FitsSigned w32 (at c.args.factors.now c.loop-b.b) = search rules in
     let window : c.loop-b.b + length c.loop-b.out ≤ length c.args.line.now = omega arith in
-    tap_more s _ _ c.args.line.now c.args.factors.now k c.loop-b.b (length c.loop-b.out) lt window (to_z-of_z w32 _ factor) (c.add_tap.ensures k lt _ (c.loop-b.invariant k lt s e))
+    tap_more s _ _ c.args.line.now c.args.factors.now k c.loop-b.b (length c.loop-b.out) lt window (to_z-of_z w32 _ factor)
+    (c.add_tap.ensures k lt _ (c.loop-b.invariant k lt s e))
 
 pub returns : goal.returns
 returns c = λ k h s e.

@@ -5,7 +5,8 @@ use Rattle.streams.proofs.whole.write_whole.Given as goal
 
 abbrev pub invariant-loop-done : goal.invariant-loop-done
 invariant-loop-done g l =
-    (l.done ≤ length l.bytes) × Appends (g.W.Sink.contents l.initial.writer) (g.W.Sink.contents l.writer) (take l.done l.bytes) × (g.W.Sink.failures l.writer ≡ g.W.Sink.failures l.initial.writer)
+    (l.done ≤ length l.bytes) × Appends (g.W.Sink.contents l.initial.writer) (g.W.Sink.contents l.writer) (take l.done l.bytes)
+    × (g.W.Sink.failures l.writer ≡ g.W.Sink.failures l.initial.writer)
 
 abbrev pub decreases-loop-done : goal.decreases-loop-done
 decreases-loop-done g l = length l.bytes - l.done

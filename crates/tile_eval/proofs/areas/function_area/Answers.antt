@@ -16,39 +16,66 @@ pub cases_row-requires-clause-cases : goal.cases_row-requires-clause-cases
 cases_row-requires-clause-cases g c =
     let lt : c.loop-i.i < c.args.rows = omega arith in
     let len : length c.loop-i.out ≡ c.args.rows * c.args.points.now.len = c.loop-i.auto.out ∙ c.requires.len in
-    let whole : c.loop-i.i * c.args.points.now.len + c.args.points.now.len ≤ length c.loop-i.out = line_within c.loop-i.i c.args.rows c.args.points.now.len (length c.loop-i.out) lt len in
+    let whole : c.loop-i.i * c.args.points.now.len + c.args.points.now.len ≤ length c.loop-i.out =
+    line_within c.loop-i.i c.args.rows c.args.points.now.len (length c.loop-i.out) lt len in
     let cut = row_len (c.loop-i.i * c.args.points.now.len) c.args.points.now.len c.loop-i.out whole in
     let temps : length c.loop-i.temps ≡ length c.args.temps.now = search rules in
-    let P : KeptCase → Type 0 = λ p. ((i k : ℕ) → i < c.args.rows → k < c.args.points.now.len → IsReady (g.S.RowSource.has c.args.source.now) (case_view p) (c.args.points.now.row +ℤ pos i) (c.args.points.now.col +ℤ pos k)) × IsRoomy c.args.points.now.len (length c.args.temps.now) (case_view p) in
-    let Q : KeptCase → Type 0 = λ p. EachPlace c.args.points.now.len (λ k. IsReady (g.S.RowSource.has c.args.source.now) (case_view p) c.below-own.result.row (c.below-own.result.col +ℤ pos k)) × IsRoomy c.args.points.now.len (length c.args.temps.now) (case_view p) in
-    let step : (p : KeptCase) → P p → Q p = λ p h.
-    ((λ k l. same_place (IsReady (g.S.RowSource.has c.args.source.now) (case_view p)) (c.args.points.now.row +ℤ pos c.loop-i.i) c.args.points.now.col c.below-own.result.row c.below-own.result.col k c.below-own.ensures.row c.below-own.ensures.col (h.0 c.loop-i.i k lt l)), h.1) in
+    let P : KeptCase → Type 0 =
+    λ p. ((i k : ℕ) → i < c.args.rows → k < c.args.points.now.len
+    → IsReady (g.S.RowSource.has c.args.source.now) (case_view p) (c.args.points.now.row +ℤ pos i) (c.args.points.now.col +ℤ pos k))
+    × IsRoomy c.args.points.now.len (length c.args.temps.now) (case_view p) in
+    let Q : KeptCase → Type 0 =
+    λ p. EachPlace c.args.points.now.len
+    (λ k. IsReady (g.S.RowSource.has c.args.source.now) (case_view p) c.below-own.result.row (c.below-own.result.col +ℤ pos k))
+    × IsRoomy c.args.points.now.len (length c.args.temps.now) (case_view p) in
+    let step : (p : KeptCase) → P p → Q p = λ p h. (
+      (λ k l. same_place (IsReady (g.S.RowSource.has c.args.source.now) (case_view p)) (c.args.points.now.row +ℤ pos c.loop-i.i)
+          c.args.points.now.col c.below-own.result.row c.below-own.result.col k c.below-own.ensures.row c.below-own.ensures.col
+          (h.0 c.loop-i.i k lt l)),
+      h.1,
+    ) in
     rw cut (rw temps (subst (All Q) (sym c.cases.ensures) (All-weaker P Q step c.args.function.now.cases.items c.requires.cases)))
 
 pub cases_row-requires-clause-other : goal.cases_row-requires-clause-other
 cases_row-requires-clause-other g c =
     let lt : c.loop-i.i < c.args.rows = omega arith in
     let len : length c.loop-i.out ≡ c.args.rows * c.args.points.now.len = c.loop-i.auto.out ∙ c.requires.len in
-    let whole : c.loop-i.i * c.args.points.now.len + c.args.points.now.len ≤ length c.loop-i.out = line_within c.loop-i.i c.args.rows c.args.points.now.len (length c.loop-i.out) lt len in
+    let whole : c.loop-i.i * c.args.points.now.len + c.args.points.now.len ≤ length c.loop-i.out =
+    line_within c.loop-i.i c.args.rows c.args.points.now.len (length c.loop-i.out) lt len in
     let cut = row_len (c.loop-i.i * c.args.points.now.len) c.args.points.now.len c.loop-i.out whole in
     let temps : length c.loop-i.temps ≡ length c.args.temps.now = search rules in
     rw cut (rw temps (λ f is.
-    let other = c.requires.other f (sym (ap (option_map formula_view) c.otherwise.ensures) ∙ is) in
-    ((λ k l. same_place (EachRead (g.S.RowSource.has c.args.source.now) f) (c.args.points.now.row +ℤ pos c.loop-i.i) c.args.points.now.col c.below-own.result.row c.below-own.result.col k c.below-own.ensures.row c.below-own.ensures.col (other.0 c.loop-i.i k lt l)), other.1, other.2)))
+    let other = c.requires.other f (sym (ap (option_map formula_view) c.otherwise.ensures) ∙ is) in (
+      (λ k l. same_place (EachRead (g.S.RowSource.has c.args.source.now) f) (c.args.points.now.row +ℤ pos c.loop-i.i) c.args.points.now.col
+          c.below-own.result.row c.below-own.result.col k c.below-own.ensures.row c.below-own.ensures.col (other.0 c.loop-i.i k lt l)),
+      other.1,
+      other.2,
+    )))
 
 pub loop-i-preserved : goal.loop-i-preserved
 loop-i-preserved g c =
-    let f : ℕ → ℕ → ℤ = λ i k. function_value (g.S.RowSource.samples c.args.source.now) (map case_view c.args.function.now.cases.items) (option_map formula_view c.args.function.now.otherwise) (c.args.points.now.row +ℤ pos i) (c.args.points.now.col +ℤ pos k) in
+    let f : ℕ → ℕ → ℤ =
+    λ i k. function_value (g.S.RowSource.samples c.args.source.now) (map case_view c.args.function.now.cases.items)
+    (option_map formula_view c.args.function.now.otherwise) (c.args.points.now.row +ℤ pos i) (c.args.points.now.col +ℤ pos k) in
     let lt : c.loop-i.i < c.args.rows = omega arith in
     let len : length c.loop-i.out ≡ c.args.rows * c.args.points.now.len = c.loop-i.auto.out ∙ c.requires.len in
-    let whole : c.loop-i.i * c.args.points.now.len + c.args.points.now.len ≤ length c.loop-i.out = line_within c.loop-i.i c.args.rows c.args.points.now.len (length c.loop-i.out) lt len in
+    let whole : c.loop-i.i * c.args.points.now.len + c.args.points.now.len ≤ length c.loop-i.out =
+    line_within c.loop-i.i c.args.rows c.args.points.now.len (length c.loop-i.out) lt len in
     let from : c.loop-i.i * c.args.points.now.len ≤ length c.loop-i.out = omega arith in
     let cut = row_len (c.loop-i.i * c.args.points.now.len) c.args.points.now.len c.loop-i.out whole in
     let long : length c.cases_row.new.out ≡ c.args.points.now.len = c.cases_row.auto.out ∙ cut in
     rows_more f c.loop-i.i c.args.points.now.len c.loop-i.out c.cases_row.new.out from long c.loop-i.invariant
-    (λ k h. let within : k < length (take (c.loop-i.i * c.args.points.now.len + c.args.points.now.len - c.loop-i.i * c.args.points.now.len) (drop (c.loop-i.i * c.args.points.now.len) c.loop-i.out)) = rw cut h in
+    (λ k h. let within : k
+    < length (take (c.loop-i.i * c.args.points.now.len + c.args.points.now.len - c.loop-i.i * c.args.points.now.len)
+    (drop (c.loop-i.i * c.args.points.now.len) c.loop-i.out)) = rw cut h in
     c.cases_row.ensures k within
-    ∙ ap (λ (ps : List KeptCase). function_value (g.S.RowSource.samples c.args.source.now) (map case_view ps) (option_map formula_view c.otherwise.result.now) c.below-own.result.row (c.below-own.result.col +ℤ pos k)) c.cases.ensures
-    ∙ ap (λ (o : Option KeptFormula). function_value (g.S.RowSource.samples c.args.source.now) (map case_view c.args.function.now.cases.items) (option_map formula_view o) c.below-own.result.row (c.below-own.result.col +ℤ pos k)) c.otherwise.ensures
-    ∙ ap (λ (r : ℤ). function_value (g.S.RowSource.samples c.args.source.now) (map case_view c.args.function.now.cases.items) (option_map formula_view c.args.function.now.otherwise) r (c.below-own.result.col +ℤ pos k)) c.below-own.ensures.row
-    ∙ ap (λ (x : ℤ). function_value (g.S.RowSource.samples c.args.source.now) (map case_view c.args.function.now.cases.items) (option_map formula_view c.args.function.now.otherwise) (c.args.points.now.row +ℤ pos c.loop-i.i) (x +ℤ pos k)) c.below-own.ensures.col)
+    ∙ ap (λ (ps : List KeptCase). function_value (g.S.RowSource.samples c.args.source.now) (map case_view ps)
+    (option_map formula_view c.otherwise.result.now) c.below-own.result.row (c.below-own.result.col +ℤ pos k)) c.cases.ensures
+    ∙ ap (λ (o : Option KeptFormula). function_value (g.S.RowSource.samples c.args.source.now)
+    (map case_view c.args.function.now.cases.items) (option_map formula_view o) c.below-own.result.row
+    (c.below-own.result.col +ℤ pos k)) c.otherwise.ensures
+    ∙ ap (λ (r : ℤ). function_value (g.S.RowSource.samples c.args.source.now) (map case_view c.args.function.now.cases.items)
+    (option_map formula_view c.args.function.now.otherwise) r (c.below-own.result.col +ℤ pos k)) c.below-own.ensures.row
+    ∙ ap (λ (x : ℤ). function_value (g.S.RowSource.samples c.args.source.now) (map case_view c.args.function.now.cases.items)
+    (option_map formula_view c.args.function.now.otherwise) (c.args.points.now.row +ℤ pos c.loop-i.i) (x +ℤ pos k))
+    c.below-own.ensures.col)

@@ -7,4 +7,7 @@ use Rattle.tile_eval.proofs.areas.function_area.Given as goal
 
 abbrev pub invariant-loop-i : goal.invariant-loop-i
 invariant-loop-i g l =
-    (i : ℕ) → i < l.i → EachPlace l.fn.points.len (λ k. at l.out (i * l.fn.points.len + k) ≡ function_value (g.S.RowSource.samples l.fn.source) (map case_view l.fn.function.cases.items) (option_map formula_view l.fn.function.otherwise) (l.fn.points.row +ℤ pos i) (l.fn.points.col +ℤ pos k))
+    (i : ℕ) → i < l.i
+    → EachPlace l.fn.points.len (λ k. at l.out (i * l.fn.points.len + k)
+    ≡ function_value (g.S.RowSource.samples l.fn.source) (map case_view l.fn.function.cases.items)
+    (option_map formula_view l.fn.function.otherwise) (l.fn.points.row +ℤ pos i) (l.fn.points.col +ℤ pos k))

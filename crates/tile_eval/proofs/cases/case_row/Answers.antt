@@ -15,30 +15,37 @@ part_row-requires-clause-inside g c = λ k h.
     let from : ℕ = c.in-Some-overlap.from in
     let some = c.in-Some-overlap.ensures.some in
     let within : c.in-Some-overlap.to ≤ length c.args.out.now = rw c.requires.fits c.in-Some-overlap.ensures.some.1 in
-    let cut : k < c.in-Some-overlap.to - c.in-Some-overlap.from = subst (λ (n : ℕ). k < n) (cut_len c.in-Some-overlap.from c.in-Some-overlap.to c.args.out.now some.0 within) h in
+    let cut : k < c.in-Some-overlap.to - c.in-Some-overlap.from =
+    subst (λ (n : ℕ). k < n) (cut_len c.in-Some-overlap.from c.in-Some-overlap.to c.args.out.now some.0 within) h in
     let l : c.in-Some-overlap.from + k < length c.args.out.now = omega arith in
     let box : c.args.case.now.area ≡ Some c.in-Some.area = search rules in
     let short : c.in-Some-overlap.from + k < c.args.points.now.len = omega (arith, c.requires.fits) in
-    let held : HoldsPoint c.in-Some.area c.args.points.now.row (c.args.points.now.col +ℤ pos (c.in-Some-overlap.from + k)) = (c.in-Some-overlap.ensures.inside (c.in-Some-overlap.from + k) short).1 (omega arith, omega arith) in
+    let held : HoldsPoint c.in-Some.area c.args.points.now.row (c.args.points.now.col +ℤ pos (c.in-Some-overlap.from + k)) =
+    (c.in-Some-overlap.ensures.inside (c.in-Some-overlap.from + k) short).1 (omega arith, omega arith) in
     let sum : c.in-Some-overlap.from + k ≡ c.in-Some-overlap.from + k = omega arith in
     subst (λ (o : Option Area). InBox o c.part.result.row (c.part.result.col +ℤ pos k)) (sym box)
-    (to_after (HoldsPoint c.in-Some.area) c.args.points.now.row c.args.points.now.col c.part.result.row c.part.result.col c.in-Some-overlap.from k (c.in-Some-overlap.from + k) c.part.ensures.row c.part.ensures.col sum held)
+    (to_after (HoldsPoint c.in-Some.area) c.args.points.now.row c.args.points.now.col c.part.result.row c.part.result.col
+    c.in-Some-overlap.from k (c.in-Some-overlap.from + k) c.part.ensures.row c.part.ensures.col sum held)
 
 pub part_row-requires-clause-ready : goal.part_row-requires-clause-ready
 part_row-requires-clause-ready g c = λ k h.
     let some = c.in-Some-overlap.ensures.some in
     let within : c.in-Some-overlap.to ≤ length c.args.out.now = rw c.requires.fits c.in-Some-overlap.ensures.some.1 in
-    let cut : k < c.in-Some-overlap.to - c.in-Some-overlap.from = subst (λ (n : ℕ). k < n) (cut_len c.in-Some-overlap.from c.in-Some-overlap.to c.args.out.now some.0 within) h in
+    let cut : k < c.in-Some-overlap.to - c.in-Some-overlap.from =
+    subst (λ (n : ℕ). k < n) (cut_len c.in-Some-overlap.from c.in-Some-overlap.to c.args.out.now some.0 within) h in
     let l : c.in-Some-overlap.from + k < length c.args.out.now = omega arith in
     let sum : c.in-Some-overlap.from + k ≡ c.in-Some-overlap.from + k = omega arith in
-    to_after (IsReady (g.S.RowSource.has c.args.source.now) (case_view c.args.case.now)) c.args.points.now.row c.args.points.now.col c.part.result.row c.part.result.col c.in-Some-overlap.from k (c.in-Some-overlap.from + k) c.part.ensures.row c.part.ensures.col sum (c.requires.case.0 (c.in-Some-overlap.from + k) l)
+    to_after (IsReady (g.S.RowSource.has c.args.source.now) (case_view c.args.case.now)) c.args.points.now.row c.args.points.now.col
+    c.part.result.row c.part.result.col c.in-Some-overlap.from k (c.in-Some-overlap.from + k) c.part.ensures.row c.part.ensures.col sum
+    (c.requires.case.0 (c.in-Some-overlap.from + k) l)
 
 pub part_row-requires-clause-roomy : goal.part_row-requires-clause-roomy
 part_row-requires-clause-roomy g c =
     let some = c.in-Some-overlap.ensures.some in
     let within : c.in-Some-overlap.to ≤ length c.args.out.now = rw c.requires.fits c.in-Some-overlap.ensures.some.1 in
     let cut = cut_len c.in-Some-overlap.from c.in-Some-overlap.to c.args.out.now some.0 within in
-    let le : length (take (c.in-Some-overlap.to - c.in-Some-overlap.from) (drop c.in-Some-overlap.from c.args.out.now)) ≤ length c.args.out.now = omega arith in
+    let le : length (take (c.in-Some-overlap.to - c.in-Some-overlap.from) (drop c.in-Some-overlap.from c.args.out.now))
+    ≤ length c.args.out.now = omega arith in
     roomy_less (length c.args.out.now) _ (length c.args.temps.now) (case_view c.args.case.now) le c.requires.case.1
 
 pub returns-in-Some-overlap : goal.returns-in-Some-overlap
@@ -53,18 +60,28 @@ returns-in-Some-overlap g c = λ k h.
     (λ low high.
     let sum : c.in-Some-overlap.from + (k - c.in-Some-overlap.from) ≡ k = omega arith in
     let short : k - c.in-Some-overlap.from < c.in-Some-overlap.to - c.in-Some-overlap.from = omega arith in
-    let l : k - c.in-Some-overlap.from < length (take (c.in-Some-overlap.to - c.in-Some-overlap.from) (drop c.in-Some-overlap.from c.args.out.now)) = rw cut short in
-    from_after (λ r x. at c.part_row.new.out (k - c.in-Some-overlap.from) ≡ if all_passed (map test_view c.args.case.now.tests.items) r x then formula_value (g.S.RowSource.samples c.args.source.now) (formula_view c.args.case.now.formula) r x else at c.args.out.now k)
-    c.args.points.now.row c.args.points.now.col c.part.result.row c.part.result.col c.in-Some-overlap.from (k - c.in-Some-overlap.from) k c.part.ensures.row c.part.ensures.col sum
+    let l : k - c.in-Some-overlap.from
+    < length (take (c.in-Some-overlap.to - c.in-Some-overlap.from) (drop c.in-Some-overlap.from c.args.out.now)) = rw cut short in
+    from_after (λ r x. at c.part_row.new.out (k - c.in-Some-overlap.from) ≡ if all_passed (map test_view c.args.case.now.tests.items) r x
+    then formula_value (g.S.RowSource.samples c.args.source.now) (formula_view c.args.case.now.formula) r x else at c.args.out.now k)
+    c.args.points.now.row c.args.points.now.col c.part.result.row c.part.result.col c.in-Some-overlap.from (k - c.in-Some-overlap.from) k
+    c.part.ensures.row c.part.ensures.col sum
     (c.part_row.ensures (k - c.in-Some-overlap.from) l
-    ∙ ap (λ (z : ℤ). if all_passed (map test_view c.args.case.now.tests.items) c.part.result.row (c.part.result.col +ℤ pos (k - c.in-Some-overlap.from)) then formula_value (g.S.RowSource.samples c.args.source.now) (formula_view c.args.case.now.formula) c.part.result.row (c.part.result.col +ℤ pos (k - c.in-Some-overlap.from)) else z) (cut_at c.in-Some-overlap.from c.in-Some-overlap.to k c.args.out.now low high within)))
+    ∙ ap (λ (z : ℤ). if all_passed (map test_view c.args.case.now.tests.items) c.part.result.row
+    (c.part.result.col +ℤ pos (k - c.in-Some-overlap.from))
+    then formula_value (g.S.RowSource.samples c.args.source.now) (formula_view c.args.case.now.formula) c.part.result.row
+    (c.part.result.col +ℤ pos (k - c.in-Some-overlap.from)) else z)
+    (cut_at c.in-Some-overlap.from c.in-Some-overlap.to k c.args.out.now low high within)))
     (λ out passed.
     let few : k < c.args.points.now.len = omega (arith, c.requires.fits) in
-    let held : InBox (Some c.in-Some.area) c.args.points.now.row (c.args.points.now.col +ℤ pos k) = subst (λ (o : Option Area). InBox o c.args.points.now.row (c.args.points.now.col +ℤ pos k)) box ((c.requires.case.0 k h).passed passed) in
+    let held : InBox (Some c.in-Some.area) c.args.points.now.row (c.args.points.now.col +ℤ pos k) =
+    subst (λ (o : Option Area). InBox o c.args.points.now.row (c.args.points.now.col +ℤ pos k)) box
+    ((c.requires.case.0 k h).passed passed) in
     let both = (c.in-Some-overlap.ensures.inside k few).0 held in out both.0 both.1)
 
 pub returns-in_default-overlap : goal.returns-in_default-overlap
 returns-in_default-overlap g c = λ k h.
     let box : c.args.case.now.area ≡ Some c.in-Some.area = search rules in
     let few : k < c.args.points.now.len = omega (arith, c.requires.fits) in
-    no_test _ _ _ (λ passed. c.in_default-overlap.ensures.none k few (subst (λ (o : Option Area). InBox o c.args.points.now.row (c.args.points.now.col +ℤ pos k)) box ((c.requires.case.0 k h).passed passed)))
+    no_test _ _ _ (λ passed. c.in_default-overlap.ensures.none k few (subst
+    (λ (o : Option Area). InBox o c.args.points.now.row (c.args.points.now.col +ℤ pos k)) box ((c.requires.case.0 k h).passed passed)))

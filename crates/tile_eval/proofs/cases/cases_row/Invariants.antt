@@ -7,4 +7,6 @@ use Rattle.tile_eval.proofs.cases.cases_row.Given as goal
 
 abbrev pub invariant-loop-i : goal.invariant-loop-i
 invariant-loop-i g l =
-    EachPlace (length l.out) (λ k. at l.out k ≡ function_value (g.S.RowSource.samples l.fn.source) (map case_view (drop l.i l.fn.cases)) (option_map formula_view l.fn.otherwise) l.fn.points.row (l.fn.points.col +ℤ pos k))
+    EachPlace (length l.out) (λ k. at l.out k
+    ≡ function_value (g.S.RowSource.samples l.fn.source) (map case_view (drop l.i l.fn.cases)) (option_map formula_view l.fn.otherwise)
+    l.fn.points.row (l.fn.points.col +ℤ pos k))

@@ -11,26 +11,35 @@ use Rattle.tile_eval.proofs.cases.part_row.Goals as goal
 
 pub where_passed-requires : goal.where_passed-requires
 where_passed-requires g c =
-    subst (λ (ts : List KeptTest). All (λ t. IsTest (test_view t)) ts) (sym c.tests.ensures) (All-from_map IsTest test_view c.args.case.now.tests.items c.requires.roomy.tests)
+    subst (λ (ts : List KeptTest). All (λ t. IsTest (test_view t)) ts) (sym c.tests.ensures)
+    (All-from_map IsTest test_view c.args.case.now.tests.items c.requires.roomy.tests)
 
 pub row-requires-clause-reads : goal.row-requires-clause-reads
 row-requires-clause-reads g c =
-    subst (λ (f : KeptFormula). ReadsWithin (g.S.RowSource.has c.args.source.now) (formula_view f) c.args.points.now.row c.args.points.now.col (length c.args.out.now)) (sym c.formula.ensures)
-    (reads_along (g.S.RowSource.has c.args.source.now) c.args.points.now.row c.args.points.now.col (length c.args.out.now) (formula_view c.args.case.now.formula) c.requires.some c.requires.roomy.formula (λ k l. (c.requires.ready k l).reads (c.requires.inside k l)))
+    subst (λ (f : KeptFormula). ReadsWithin (g.S.RowSource.has c.args.source.now) (formula_view f) c.args.points.now.row
+    c.args.points.now.col (length c.args.out.now)) (sym c.formula.ensures)
+    (reads_along (g.S.RowSource.has c.args.source.now) c.args.points.now.row c.args.points.now.col (length c.args.out.now)
+    (formula_view c.args.case.now.formula) c.requires.some c.requires.roomy.formula
+    (λ k l. (c.requires.ready k l).reads (c.requires.inside k l)))
 
 pub row-requires-clause-room : goal.row-requires-clause-room
 row-requires-clause-room g c =
     let room : length c.args.temps.now - length c.args.out.now ≤ length c.args.temps.now = omega arith in
     let same : length c.args.out.now ≤ length c.args.out.now = omega arith in
     subst (λ (f : KeptFormula). HasRoom (formula_view f) (length c.args.out.now) (length c.args.temps.now)) (sym c.formula.ensures)
-    (room_less (formula_view c.args.case.now.formula) (length c.args.out.now) (length c.args.out.now) _ _ same room c.requires.roomy.operands)
+    (room_less (formula_view c.args.case.now.formula) (length c.args.out.now) (length c.args.out.now) _ _ same room
+    c.requires.roomy.operands)
 
 pub row-requires-in_default-clause-reads : goal.row-requires-in_default-clause-reads
 row-requires-in_default-clause-reads g c =
     let len : length c.split_at_mut-mine.result.0.now ≡ length c.args.out.now = search rules in
-    rw len (subst (λ (f : KeptFormula). ReadsWithin (g.S.RowSource.has c.args.source.now) (formula_view f) c.args.points.now.row c.args.points.now.col (length c.args.out.now)) (sym c.formula-in_default.ensures)
-    (reads_along (g.S.RowSource.has c.args.source.now) c.args.points.now.row c.args.points.now.col (length c.args.out.now) (formula_view c.args.case.now.formula) c.requires.some c.requires.roomy.formula (λ k l. (c.requires.ready k l).reads (c.requires.inside k l))))
+    rw len (subst (λ (f : KeptFormula). ReadsWithin (g.S.RowSource.has c.args.source.now) (formula_view f) c.args.points.now.row
+    c.args.points.now.col (length c.args.out.now)) (sym c.formula-in_default.ensures)
+    (reads_along (g.S.RowSource.has c.args.source.now) c.args.points.now.row c.args.points.now.col (length c.args.out.now)
+    (formula_view c.args.case.now.formula) c.requires.some c.requires.roomy.formula
+    (λ k l. (c.requires.ready k l).reads (c.requires.inside k l))))
 
 pub take_where-requires-clause-tests : goal.take_where-requires-clause-tests
 take_where-requires-clause-tests g c =
-    subst (λ (ts : List KeptTest). All (λ t. IsTest (test_view t)) ts) (sym c.tests-in_default.ensures) (All-from_map IsTest test_view c.args.case.now.tests.items c.requires.roomy.tests)
+    subst (λ (ts : List KeptTest). All (λ t. IsTest (test_view t)) ts) (sym c.tests-in_default.ensures)
+    (All-from_map IsTest test_view c.args.case.now.tests.items c.requires.roomy.tests)

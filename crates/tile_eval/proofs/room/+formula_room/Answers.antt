@@ -11,8 +11,10 @@ use Rattle.tile_eval.proofs.room.+formula_room.Goals as goal
 pub returns-in-Binary : goal.returns-in-Binary
 returns-in-Binary t c =
     let f = binary c.in-Binary.field-0 (formula_view c.in-Binary.a.value) (formula_view c.in-Binary.b.value) in
-    let left : IsCounted c.formula_room-in-Binary.result (room_of (formula_view c.in-Binary.a.value) c.args.n) = formula_counted (formula_view c.in-Binary.a.value) c.args.n c.formula_room-in-Binary.result (search rules) in
-    let right : IsCounted c.formula_room.result (room_of (formula_view c.in-Binary.b.value) c.args.n) = formula_counted (formula_view c.in-Binary.b.value) c.args.n c.formula_room.result (search rules) in
+    let left : IsCounted c.formula_room-in-Binary.result (room_of (formula_view c.in-Binary.a.value) c.args.n) =
+    formula_counted (formula_view c.in-Binary.a.value) c.args.n c.formula_room-in-Binary.result (search rules) in
+    let right : IsCounted c.formula_room.result (room_of (formula_view c.in-Binary.b.value) c.args.n) =
+    formula_counted (formula_view c.in-Binary.b.value) c.args.n c.formula_room.result (search rules) in
     subst (λ (f : KeptFormula). IsLeast (HasRoom (formula_view f) c.args.n) c.greater.result) (sym c.in-Binary.is)
     (counted_formula f c.args.n c.greater.result
     (c.greater.ensures _ _ left (c.with_rows-right.ensures _ right)))
@@ -20,9 +22,12 @@ returns-in-Binary t c =
 pub returns-in-Clamp : goal.returns-in-Clamp
 returns-in-Clamp t c =
     let f = clamp (formula_view c.in-Clamp.a.value) (formula_view c.in-Clamp.low.value) (formula_view c.in-Clamp.high.value) in
-    let low : IsCounted c.formula_room-in-Clamp.result (room_of (formula_view c.in-Clamp.low.value) c.args.n) = formula_counted (formula_view c.in-Clamp.low.value) c.args.n c.formula_room-in-Clamp.result (search rules) in
-    let high : IsCounted c.formula_room-in-Clamp-2.result (room_of (formula_view c.in-Clamp.high.value) c.args.n) = formula_counted (formula_view c.in-Clamp.high.value) c.args.n c.formula_room-in-Clamp-2.result (search rules) in
-    let value : IsCounted c.formula_room-in-Clamp-3.result (room_of (formula_view c.in-Clamp.a.value) c.args.n) = formula_counted (formula_view c.in-Clamp.a.value) c.args.n c.formula_room-in-Clamp-3.result (search rules) in
+    let low : IsCounted c.formula_room-in-Clamp.result (room_of (formula_view c.in-Clamp.low.value) c.args.n) =
+    formula_counted (formula_view c.in-Clamp.low.value) c.args.n c.formula_room-in-Clamp.result (search rules) in
+    let high : IsCounted c.formula_room-in-Clamp-2.result (room_of (formula_view c.in-Clamp.high.value) c.args.n) =
+    formula_counted (formula_view c.in-Clamp.high.value) c.args.n c.formula_room-in-Clamp-2.result (search rules) in
+    let value : IsCounted c.formula_room-in-Clamp-3.result (room_of (formula_view c.in-Clamp.a.value) c.args.n) =
+    formula_counted (formula_view c.in-Clamp.a.value) c.args.n c.formula_room-in-Clamp-3.result (search rules) in
     subst (λ (f : KeptFormula). IsLeast (HasRoom (formula_view f) c.args.n) c.greater-in-Clamp.result) (sym c.in-Clamp.is)
     (counted_formula f c.args.n c.greater-in-Clamp.result
     (c.greater-in-Clamp.ensures _ _ value
@@ -30,11 +35,17 @@ returns-in-Clamp t c =
 
 pub returns-in-Select : goal.returns-in-Select
 returns-in-Select t c =
-    let f = select (formula_view c.in-Select.a.value) c.in-Select.field-1 (formula_view c.in-Select.b.value) (formula_view c.in-Select.first.value) (formula_view c.in-Select.second.value) in
-    let left : IsCounted c.formula_room-in-Select.result (room_of (formula_view c.in-Select.a.value) c.args.n) = formula_counted (formula_view c.in-Select.a.value) c.args.n c.formula_room-in-Select.result (search rules) in
-    let right : IsCounted c.formula_room-in-Select-2.result (room_of (formula_view c.in-Select.b.value) c.args.n) = formula_counted (formula_view c.in-Select.b.value) c.args.n c.formula_room-in-Select-2.result (search rules) in
-    let other : IsCounted c.formula_room-in-Select-3.result (room_of (formula_view c.in-Select.second.value) c.args.n) = formula_counted (formula_view c.in-Select.second.value) c.args.n c.formula_room-in-Select-3.result (search rules) in
-    let taken : IsCounted c.formula_room-in-Select-4.result (room_of (formula_view c.in-Select.first.value) c.args.n) = formula_counted (formula_view c.in-Select.first.value) c.args.n c.formula_room-in-Select-4.result (search rules) in
+    let f =
+    select (formula_view c.in-Select.a.value) c.in-Select.field-1 (formula_view c.in-Select.b.value)
+    (formula_view c.in-Select.first.value) (formula_view c.in-Select.second.value) in
+    let left : IsCounted c.formula_room-in-Select.result (room_of (formula_view c.in-Select.a.value) c.args.n) =
+    formula_counted (formula_view c.in-Select.a.value) c.args.n c.formula_room-in-Select.result (search rules) in
+    let right : IsCounted c.formula_room-in-Select-2.result (room_of (formula_view c.in-Select.b.value) c.args.n) =
+    formula_counted (formula_view c.in-Select.b.value) c.args.n c.formula_room-in-Select-2.result (search rules) in
+    let other : IsCounted c.formula_room-in-Select-3.result (room_of (formula_view c.in-Select.second.value) c.args.n) =
+    formula_counted (formula_view c.in-Select.second.value) c.args.n c.formula_room-in-Select-3.result (search rules) in
+    let taken : IsCounted c.formula_room-in-Select-4.result (room_of (formula_view c.in-Select.first.value) c.args.n) =
+    formula_counted (formula_view c.in-Select.first.value) c.args.n c.formula_room-in-Select-4.result (search rules) in
     subst (λ (f : KeptFormula). IsLeast (HasRoom (formula_view f) c.args.n) c.greater-in-Select.result) (sym c.in-Select.is)
     (counted_formula f c.args.n c.greater-in-Select.result
     (c.greater-in-Select.ensures _ _ taken

@@ -8,12 +8,15 @@ use Rattle.tile_eval.proofs.room.cases_room.Goals as goal
 
 pub loop-case-preserved : goal.loop-case-preserved
 loop-case-preserved c =
-    let found : IsCounted c.formula_room.result (room_of (formula_view c.case-item.result.formula) c.args.n) = formula_counted (formula_view c.case-item.result.formula) c.args.n c.formula_room.result (search rules) in
-    rw add-one (subst (IsCounted c.greater-room.result) (sym (cases_room_next c.args.cases.now c.loop-case.case-index c.case-item.result c.args.n c.loop-case-test.true c.case-item.is))
+    let found : IsCounted c.formula_room.result (room_of (formula_view c.case-item.result.formula) c.args.n) =
+    formula_counted (formula_view c.case-item.result.formula) c.args.n c.formula_room.result (search rules) in
+    rw add-one (subst (IsCounted c.greater-room.result)
+    (sym (cases_room_next c.args.cases.now c.loop-case.case-index c.case-item.result c.args.n c.loop-case-test.true c.case-item.is))
     (c.greater-room.ensures _ _ c.loop-case.invariant found))
 
 pub returns : goal.returns
 returns c =
     let end : length c.args.cases.now ≤ c.loop-case.case-index = omega arith in
     counted_least _ (cases_room_of c.args.cases.now c.args.n) _ (cases_from c.args.cases.now c.args.n)
-    (subst (λ (ps : List KeptCase). IsCounted c.loop-case.room (cases_room_of ps c.args.n)) (take_all c.loop-case.case-index c.args.cases.now end) c.loop-case.invariant)
+    (subst (λ (ps : List KeptCase). IsCounted c.loop-case.room (cases_room_of ps c.args.n))
+    (take_all c.loop-case.case-index c.args.cases.now end) c.loop-case.invariant)

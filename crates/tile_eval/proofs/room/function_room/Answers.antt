@@ -14,8 +14,11 @@ returns c =
     let n = c.args.n in
     let ps = c.args.function.now.cases.items in
     let o = option_map formula_view c.args.function.now.otherwise in
-    let cases : IsLeast (EachHasRoom ps n) c.cases_room.result = subst (λ (ps : List KeptCase). IsLeast (EachHasRoom ps n) c.cases_room.result) c.cases.ensures c.cases_room.ensures in
+    let cases : IsLeast (EachHasRoom ps n) c.cases_room.result =
+    subst (λ (ps : List KeptCase). IsLeast (EachHasRoom ps n) c.cases_room.result) c.cases.ensures c.cases_room.ensures in
     let other : IsLeast (λ m. ForSome o (λ f. HasRoom f n m)) c.other_room.result =
-    subst (λ (o : Option KeptFormula). IsLeast (λ m. ForSome (option_map formula_view o) (λ f. HasRoom f n m)) c.other_room.result) c.otherwise.ensures c.other_room.ensures in
+    subst (λ (o : Option KeptFormula). IsLeast (λ m. ForSome (option_map formula_view o) (λ f. HasRoom f n m)) c.other_room.result)
+    c.otherwise.ensures c.other_room.ensures in
     counted_least _ _ _ (function_from ps o n)
-    (c.greater.ensures _ _ (c.with_rows-cases.ensures _ (least_counted _ _ _ (cases_from ps n) cases)) (least_counted _ _ _ (other_from o n) other))
+    (c.greater.ensures _ _ (c.with_rows-cases.ensures _ (least_counted _ _ _ (cases_from ps n) cases))
+    (least_counted _ _ _ (other_from o n) other))

@@ -10,5 +10,7 @@ use Rattle.tile_eval.proofs.room.other_room.Goals as goal
 
 pub returns-in-Some : goal.returns-in-Some
 returns-in-Some c =
-    subst (λ (o : Option KeptFormula). IsLeast (λ room. ForSome (option_map formula_view o) (λ f. HasRoom f c.args.n room)) c.formula_room.result) (sym c.in-Some.is)
-    (counted_least _ _ _ (other_from (Some (formula_view c.in-Some.formula)) c.args.n) (formula_counted (formula_view c.in-Some.formula) c.args.n c.formula_room.result c.formula_room.ensures))
+    subst (λ (o : Option KeptFormula). IsLeast (λ room. ForSome (option_map formula_view o) (λ f. HasRoom f c.args.n room))
+    c.formula_room.result) (sym c.in-Some.is)
+    (counted_least _ _ _ (other_from (Some (formula_view c.in-Some.formula)) c.args.n)
+    (formula_counted (formula_view c.in-Some.formula) c.args.n c.formula_room.result c.formula_room.ensures))

@@ -12,6 +12,9 @@ returns-in-Some-Some-Some g c = λ t k h.
     let middle = rw lines.is-1 at c.borrowed_line-middle.ensures in
     let bottom = rw lines.is-2 at c.borrowed_line-bottom.ensures in
     c.write_sums.ensures k h
-    ∙ ap (λ (ks : List (List ℤ)). wrapped (tap_sum (factors ks 0) lines.top.now k +ℤ tap_sum (factors ks 1) lines.middle.now k +ℤ tap_sum (factors ks 2) lines.bottom.now k)) c.in-Some.ensures.is
-    ∙ ap wrapped (square_sum c.args.kernel.now (g.S.RowSource.samples c.args.source.now c.args.stage) c.args.points.now.row c.args.points.now.col k lines.top.now lines.middle.now lines.bottom.now
+    ∙ ap (λ (ks : List (List ℤ)). wrapped
+    (tap_sum (factors ks 0) lines.top.now k +ℤ tap_sum (factors ks 1) lines.middle.now k +ℤ tap_sum (factors ks 2) lines.bottom.now k))
+    c.in-Some.ensures.is
+    ∙ ap wrapped (square_sum c.args.kernel.now (g.S.RowSource.samples c.args.source.now c.args.stage) c.args.points.now.row
+    c.args.points.now.col k lines.top.now lines.middle.now lines.bottom.now
     c.in-Some.ensures.square top.1 middle.1 bottom.1 (omega arith) (omega arith) (omega arith))

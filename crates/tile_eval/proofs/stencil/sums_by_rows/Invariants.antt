@@ -7,4 +7,6 @@ use Rattle.tile_eval.proofs.stencil.sums_by_rows.Given as goal
 abbrev pub invariant-loop-a : goal.invariant-loop-a
 invariant-loop-a g l =
     EachPlace (length l.out) (λ k. at l.out k ≡ wrapped (sum_below l.a (λ a. sum_below (length (factors l.fn.kernel a)) (λ b.
-    at (factors l.fn.kernel a) b *ℤ g.S.RowSource.samples l.fn.source l.fn.stage (kernel_row l.fn.kernel l.fn.points.row a) (kernel_column l.fn.kernel (l.fn.points.col +ℤ pos k) b)))))
+    at (factors l.fn.kernel a) b
+    *ℤ g.S.RowSource.samples l.fn.source l.fn.stage (kernel_row l.fn.kernel l.fn.points.row a)
+    (kernel_column l.fn.kernel (l.fn.points.col +ℤ pos k) b)))))

@@ -5,4 +5,5 @@ use Rattle.tile_eval.specs.Buffer.{stage_values}
 use Rattle.tile_eval.proofs.true_stages.plain_all.Given as goal
 
 abbrev pub invariant-loop-stage : goal.invariant-loop-stage
-invariant-loop-stage l = map (λ (values : Vec ℤ). values.items) l.all.items ≡ map (stage_values (pipeline_in l.job)) (take l.stage-index l.stages)
+invariant-loop-stage l =
+    map (λ (values : Vec ℤ). values.items) l.all.items ≡ map (stage_values (pipeline_in l.job)) (take l.stage-index l.stages)

@@ -11,5 +11,6 @@ tile-requires c =
 
 pub returns-clause-none : goal.returns-clause-none
 returns-clause-none c =
-    subst (λ j. IfOk c.tile.result (λ found. IfNone found ((values : List ℤ) → ¬ (IsTrueTile (pipeline_in j) c.args.stage c.args.row c.args.col values))))
+    subst (λ j. IfOk c.tile.result
+    (λ found. IfNone found ((values : List ℤ) → ¬ (IsTrueTile (pipeline_in j) c.args.stage c.args.row c.args.col values))))
     c.in_ok-of.ensures.job c.tile.ensures.none

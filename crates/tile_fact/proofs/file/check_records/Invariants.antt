@@ -10,5 +10,7 @@ use Rattle.tile_fact.proofs.file.check_records.Given as goal
 abbrev pub invariant-loop : goal.invariant-loop
 invariant-loop l =
     (length l.rest ≤ l.total)
-    × ((front : List Fact) × (with_front front (records_read (l.count - l.counter) l.total (option_map (λ r. fact_of r.label.key r.label.kind r.numbers.now) l.last) l.rest)
+    × ((front : List Fact)
+    × (with_front front
+    (records_read (l.count - l.counter) l.total (option_map (λ r. fact_of r.label.key r.label.kind r.numbers.now) l.last) l.rest)
     ≡ records_read l.count l.total None l.bytes))

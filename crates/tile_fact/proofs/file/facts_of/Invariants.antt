@@ -8,4 +8,5 @@ use Rattle.tile_fact.proofs.file.facts_of.Given as goal
 abbrev pub invariant-loop : goal.invariant-loop
 invariant-loop l =
     (length l.rest ≤ l.total)
-    × ((last : Option Fact) × (with_front l.facts.items (records_read (l.count - l.counter) l.total last l.rest) ≡ records_read l.count l.total None l.bytes))
+    × ((last : Option Fact)
+    × (with_front l.facts.items (records_read (l.count - l.counter) l.total last l.rest) ≡ records_read l.count l.total None l.bytes))

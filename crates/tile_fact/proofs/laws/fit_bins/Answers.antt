@@ -11,4 +11,5 @@ loop-bin-preserved c =
     All-more (FitsSigned w64) c.args.bins.now c.loop-bin.bin-index (pos 0) c.loop-bin-test.true c.loop-bin.invariant fits
 
 pub returns : goal.returns
-returns c = subst (λ (l : List ℤ). All (FitsSigned w64) l) (take_all c.loop-bin.bin-index c.args.bins.now (omega arith)) c.loop-bin.invariant
+returns c =
+    subst (λ (l : List ℤ). All (FitsSigned w64) l) (take_all c.loop-bin.bin-index c.args.bins.now (omega arith)) c.loop-bin.invariant

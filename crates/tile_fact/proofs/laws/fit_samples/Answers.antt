@@ -11,4 +11,6 @@ loop-sample-preserved c =
     All-more (FitsSigned w32) c.args.samples.now c.loop-sample.sample-index (pos 0) c.loop-sample-test.true c.loop-sample.invariant fits
 
 pub returns : goal.returns
-returns c = subst (λ (l : List ℤ). All (FitsSigned w32) l) (take_all c.loop-sample.sample-index c.args.samples.now (omega arith)) c.loop-sample.invariant
+returns c =
+    subst (λ (l : List ℤ). All (FitsSigned w32) l) (take_all c.loop-sample.sample-index c.args.samples.now (omega arith))
+    c.loop-sample.invariant

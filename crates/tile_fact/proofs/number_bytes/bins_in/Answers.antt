@@ -14,4 +14,6 @@ loop-rest-preserved c =
     pushed c.split_bin-bin.ensures.bin c.split_bin-bin.ensures.behind
 
 pub returns : goal.returns
-returns c = none_more c.loop-rest.bins.items (numbers_in w64 c.loop-rest.rest.now) _ c.loop-rest.invariant (bin_end c.loop-rest.rest.now (omega arith))
+returns c =
+    none_more c.loop-rest.bins.items (numbers_in w64 c.loop-rest.rest.now) _ c.loop-rest.invariant
+    (bin_end c.loop-rest.rest.now (omega arith))

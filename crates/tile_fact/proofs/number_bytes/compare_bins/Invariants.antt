@@ -7,7 +7,8 @@ use Rattle.tile_fact.proofs.number_bytes.compare_bins.Given as goal
 
 -- what is left is in the order of all
 abbrev pub invariant-loop-a_rest : goal.invariant-loop-a_rest
-invariant-loop-a_rest l = slice_cmp int_cmp (numbers_in w64 l.a_rest) (numbers_in w64 l.b_rest) ≡ slice_cmp int_cmp (numbers_in w64 l.a) (numbers_in w64 l.b)
+invariant-loop-a_rest l =
+    slice_cmp int_cmp (numbers_in w64 l.a_rest) (numbers_in w64 l.b_rest) ≡ slice_cmp int_cmp (numbers_in w64 l.a) (numbers_in w64 l.b)
 
 abbrev pub decreases-loop-a_rest : goal.decreases-loop-a_rest
 decreases-loop-a_rest l = length l.a_rest

@@ -11,7 +11,11 @@ read_kind-requires c = omega (arith, part_shorter _ _ _ _ (part_takes c.args.tot
 
 pub read_length-requires : goal.read_length-requires
 read_length-requires c =
-    omega (arith, part_shorter _ _ _ _ (part_takes c.args.total 74 c.args.bytes.now _ _ c.in_ok-part.ensures), kind_shorter c.args.total _ _ _ c.in_ok-kind.ensures)
+    omega (
+      arith,
+      part_shorter _ _ _ _ (part_takes c.args.total 74 c.args.bytes.now _ _ c.in_ok-part.ensures),
+      kind_shorter c.args.total _ _ _ c.in_ok-kind.ensures,
+    )
 
 pub overflow_mul-len : goal.overflow_mul-len
 overflow_mul-len c =

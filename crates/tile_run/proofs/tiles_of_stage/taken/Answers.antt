@@ -24,5 +24,7 @@ loop-held-preserved-then-holds c =
       some = omega arith;
       ordered = omega arith;
       most = c.loop-held.invariant.most;
-      within = more_held c.args.span.now c.args.col.now c.args.points.now.col middle c.at.ensures.within c.requires.held (subst (Holds c.args.span.now) col (c.holds.ensures.0 c.if-holds.true));
+      within =
+          more_held c.args.span.now c.args.col.now c.args.points.now.col middle c.at.ensures.within c.requires.held
+          (subst (Holds c.args.span.now) col (c.holds.ensures.0 c.if-holds.true));
     }

@@ -19,7 +19,8 @@ unreachable-requires g c =
     let rows = c.height_of-rows.ensures ∙ ap (λ s. height_of job (slice_index s 0)) c.stages-2.ensures in
     let cols = c.width_of-cols.ensures ∙ ap (λ s. width_of job (slice_index s 0)) c.stages-2.ensures in
     let made = c.in_ok-planes.ensures ∙ ap (map (samples_from job env c.max-max.result)) c.stages.ensures in
-    let same = same_picture job env o c.height_of-rows.result c.width_of-cols.result c.max-max.result (samples_of c.in_ok-planes.planes.items)
+    let same = same_picture job env o c.height_of-rows.result c.width_of-cols.result c.max-max.result
+    (samples_of c.in_ok-planes.planes.items)
     rows cols c.max-max.ensures made in
     false≢true (c.in-Err.ensures.exact.1 (subst IsImage (sym same) (is_picture job env o c.requires.output)))
 

@@ -11,7 +11,8 @@ use Rattle.accumulators.proofs.picture.Lent.plane_over.Goals as goal
 
 pub loop-place-init : goal.loop-place-init
 loop-place-init g c =
-    let h : ℤ × ℤ → ℕ = sample_at (given_at (pipeline_in c.args.self.now.job.now) (g.K.Known.given c.args.self.now.known.now)) c.args.max c.args.stage in
+    let h : ℤ × ℤ → ℕ =
+    sample_at (given_at (pipeline_in c.args.self.now.job.now) (g.K.Known.given c.args.self.now.known.now)) c.args.max c.args.stage in
     ap (λ (xs : List ℕ). xs ++ rest_of h (c.args.domain.now.rows.lo +ℤ pos 0) (len_of c.args.domain.now.rows - 0)
     (numbers_of c.args.domain.now.cols)) c.in_ok-plane.ensures.items
     ∙ none_made h c.args.domain.now
@@ -30,7 +31,8 @@ push_row-requires g c =
       c.len.ensures.number,
     ) in
     record {
-      stored = row_lent (pipeline_in c.args.self.now.job.now) (g.K.Known.given c.args.self.now.known.now) c.args.stage area c.requires.stored
+      stored =
+          row_lent (pipeline_in c.args.self.now.job.now) (g.K.Known.given c.args.self.now.known.now) c.args.stage area c.requires.stored
           c.requires.domain
           (to_z w32 (of_z w32 c.number_at-row.result)) (to_z w32 (of_z w32 c.lo-first.result)) c.loop-place.place (length c.loop-place.line)
           within
@@ -40,7 +42,8 @@ push_row-requires g c =
 
 pub loop-place-preserved : goal.loop-place-preserved
 loop-place-preserved g c =
-    let h : ℤ × ℤ → ℕ = sample_at (given_at (pipeline_in c.args.self.now.job.now) (g.K.Known.given c.args.self.now.known.now)) c.args.max c.args.stage in
+    let h : ℤ × ℤ → ℕ =
+    sample_at (given_at (pipeline_in c.args.self.now.job.now) (g.K.Known.given c.args.self.now.known.now)) c.args.max c.args.stage in
     let area = c.args.domain.now in
     let within : c.loop-place.place < len_of area.rows = omega arith in
     let row_fits : FitsSigned w32 c.number_at-row.result = search rules in

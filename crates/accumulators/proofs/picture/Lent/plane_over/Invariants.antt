@@ -9,6 +9,9 @@ use Rattle.accumulators.proofs.picture.Lent.plane_over.Given as goal
 
 abbrev pub invariant-loop-place : goal.invariant-loop-place
 invariant-loop-place g l =
-    l.plane.items ++ rest_of (sample_at (given_at (pipeline_in l.fn.self.job.now) (g.K.Known.given l.fn.self.known.now)) l.fn.max l.fn.stage) (l.fn.domain.rows.lo +ℤ pos l.place)
+    l.plane.items
+    ++ rest_of (sample_at (given_at (pipeline_in l.fn.self.job.now) (g.K.Known.given l.fn.self.known.now)) l.fn.max l.fn.stage)
+    (l.fn.domain.rows.lo +ℤ pos l.place)
     (len_of l.fn.domain.rows - l.place) (numbers_of l.fn.domain.cols)
-    ≡ map (sample_at (given_at (pipeline_in l.fn.self.job.now) (g.K.Known.given l.fn.self.known.now)) l.fn.max l.fn.stage) (points_of l.fn.domain)
+    ≡ map (sample_at (given_at (pipeline_in l.fn.self.job.now) (g.K.Known.given l.fn.self.known.now)) l.fn.max l.fn.stage)
+    (points_of l.fn.domain)

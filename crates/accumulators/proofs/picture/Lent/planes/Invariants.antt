@@ -7,5 +7,8 @@ use Rattle.accumulators.proofs.picture.Lent.planes.Given as goal
 
 abbrev pub invariant-loop-stage : goal.invariant-loop-stage
 invariant-loop-stage g l =
-    samples_of l.planes.items ++ map (samples_from (pipeline_in l.fn.self.job.now) (given_at (pipeline_in l.fn.self.job.now) (g.K.Known.given l.fn.self.known.now)) l.max) (drop l.stage-index l.stages)
-    ≡ map (samples_from (pipeline_in l.fn.self.job.now) (given_at (pipeline_in l.fn.self.job.now) (g.K.Known.given l.fn.self.known.now)) l.max) l.stages
+    samples_of l.planes.items
+    ++ map (samples_from (pipeline_in l.fn.self.job.now)
+    (given_at (pipeline_in l.fn.self.job.now) (g.K.Known.given l.fn.self.known.now)) l.max) (drop l.stage-index l.stages)
+    ≡ map (samples_from (pipeline_in l.fn.self.job.now) (given_at (pipeline_in l.fn.self.job.now) (g.K.Known.given l.fn.self.known.now))
+    l.max) l.stages

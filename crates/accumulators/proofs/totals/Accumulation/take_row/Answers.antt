@@ -26,6 +26,7 @@ loop-col-preserved c =
       c.take.ensures.span ∙ c.loop-col.invariant.2,
       tile_more (with_tile (pipeline_in self.of.job.now) self.stage self.op self.grid) c.args.row c.loop-col.col (tile_cols self.grid)
           c.loop-col.gathering.bins.items c.take.new.self.bins.items _ within c.loop-col.invariant.3
-          (c.take.ensures.bins ∙ ap (λ (op : Fold). joined_bins op c.loop-col.gathering.bins.items c.deref.result.now) c.loop-col.invariant.1
+          (c.take.ensures.bins
+          ∙ ap (λ (op : Fold). joined_bins op c.loop-col.gathering.bins.items c.deref.result.now) c.loop-col.invariant.1
           ∙ ap (joined_bins self.op c.loop-col.gathering.bins.items) (c.deref.ensures.value ∙ c.in_ok-partial.ensures)),
     )

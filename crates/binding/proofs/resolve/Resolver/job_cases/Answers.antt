@@ -24,4 +24,5 @@ job_case-requires-clause-boxed c =
     let box = box_in (program_in c.args.self.now) (variables_in c.args.own.now) c.args.bounds.now.domain in
     ap (λ (os : List (Option Area)). slice_get os n) c.requires.boxed
     ∙ slice_get-map box (branches cases) n
-    ∙ ap (option_map box) (slice_get-map branch cases n ∙ ap (option_map branch) (here_is cases cases n x refl c.loop-number-test.true c.index-cases-number.is))
+    ∙ ap (option_map box) (slice_get-map branch cases n
+    ∙ ap (option_map branch) (here_is cases cases n x refl c.loop-number-test.true c.index-cases-number.is))

@@ -6,4 +6,6 @@ use Rattle.binding.specs.inside.Resolving.{program_in}
 use Rattle.binding.proofs.resolve.Resolver.output.Given as goal
 
 abbrev pub invariant-loop-item : goal.invariant-loop-item
-invariant-loop-item l = flat_map (item_outputs (program_in l.self)) (declarations (drop l.item-index l.items)) ≡ flat_map (item_outputs (program_in l.self)) (declarations l.items)
+invariant-loop-item l =
+    flat_map (item_outputs (program_in l.self)) (declarations (drop l.item-index l.items))
+    ≡ flat_map (item_outputs (program_in l.self)) (declarations l.items)

@@ -7,4 +7,6 @@ use Rattle.binding.proofs.resolve.Resolver.rank.Goals as goal
 pub returns : goal.returns
 returns c =
     let ranks = ranks_in c.args.self.now.checked.now in
-    c.unwrap_or.ensures ∙ (ap (λ o. unwrap_or o 0) c.rank.ensures ∙ (unwrap_or-slice_get ranks c.stage_number.result 0 ∙ ap (slice_index ranks) c.stage_number.ensures))
+    c.unwrap_or.ensures
+    ∙ (ap (λ o. unwrap_or o 0) c.rank.ensures
+    ∙ (unwrap_or-slice_get ranks c.stage_number.result 0 ∙ ap (slice_index ranks) c.stage_number.ensures))

@@ -12,8 +12,12 @@ pub add_item-requires : goal.add_item-requires
 add_item-requires c =
     let items = c.args.items.now in
     let n = c.loop-item.item-index in
-    let here = slice_get-map declaration items n ∙ ap (option_map declaration) (here_is items items n _ refl c.loop-item-test.true c.item-item.is) in
+    let here =
+    slice_get-map declaration items n
+    ∙ ap (option_map declaration) (here_is items items n _ refl c.loop-item-test.true c.item-item.is) in
     record {
       ranged = all_at IsRangedItem (declarations items) n (declaration c.item-item.result) c.requires.ranged here;
-      bound = all_at (IsBoundItem (program_in c.args.self.now) c.args.self.now.found.now) (declarations items) n (declaration c.item-item.result) c.requires.bound here;
+      bound =
+          all_at (IsBoundItem (program_in c.args.self.now) c.args.self.now.found.now) (declarations items) n
+          (declaration c.item-item.result) c.requires.bound here;
     }

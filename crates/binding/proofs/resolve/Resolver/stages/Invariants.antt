@@ -7,4 +7,6 @@ use Rattle.binding.specs.inside.Resolving.{program_in}
 use Rattle.binding.proofs.resolve.Resolver.stages.Given as goal
 
 abbrev pub invariant-loop-item : goal.invariant-loop-item
-invariant-loop-item l = map stage_view l.stages.items ++ flat_map (item_stages (program_in l.self)) (declarations (drop l.item-index l.items)) ≡ flat_map (item_stages (program_in l.self)) (declarations l.items)
+invariant-loop-item l =
+    map stage_view l.stages.items ++ flat_map (item_stages (program_in l.self)) (declarations (drop l.item-index l.items))
+    ≡ flat_map (item_stages (program_in l.self)) (declarations l.items)

@@ -36,7 +36,8 @@ pub returns-clause-exact : goal.returns-clause-exact
 returns-clause-exact c =
     let rows = c.meeting-rows.ensures.both in
     let cols = c.meeting-cols.ensures.both in
-    exact_from c.args.self.now c.args.area.now _ (returns-clause-list c) (record { rows = rows.0; cols = cols.0 }) (record { rows = rows.1; cols = cols.1 }) c.height.ensures.within
+    exact_from c.args.self.now c.args.area.now _ (returns-clause-list c) (record { rows = rows.0; cols = cols.0 })
+    (record { rows = rows.1; cols = cols.1 }) c.height.ensures.within
 
 pub returns-clause-order : goal.returns-clause-order
 returns-clause-order c = in_order_from c.args.self.now c.args.area.now _ (returns-clause-list c)

@@ -14,15 +14,18 @@ returns-clause-value c =
     let low = c.requires.least in
     let high = c.requires.most in
     to_z-of_z w32 _ result
-    ∙ scaled_is _ _ _ _ _ mul v add div (product_fits _ c.args.v c.self.invariant low high) (sum_fits _ c.args.v c.self.invariant low high) c.floor_div.ensures
+    ∙ scaled_is _ _ _ _ _ mul v add div (product_fits _ c.args.v c.self.invariant low high) (sum_fits _ c.args.v c.self.invariant low high)
+    c.floor_div.ensures
     ∙ ap (λ x. index_at x c.args.v) c.self.view_is
 
 pub returns-clause-least : goal.returns-clause-least
 returns-clause-least c =
     let index : IsIndex c.args.self.now = subst IsIndex c.self.view_is c.self.invariant in
-    subst (λ (z : ℤ). negsuc 1048575 ≤ℤ z) (sym (returns-clause-value c)) (index_within c.args.self.now c.args.v index c.requires.least c.requires.most).0
+    subst (λ (z : ℤ). negsuc 1048575 ≤ℤ z) (sym (returns-clause-value c))
+    (index_within c.args.self.now c.args.v index c.requires.least c.requires.most).0
 
 pub returns-clause-most : goal.returns-clause-most
 returns-clause-most c =
     let index : IsIndex c.args.self.now = subst IsIndex c.self.view_is c.self.invariant in
-    subst (λ (z : ℤ). z ≤ℤ pos 1048576) (sym (returns-clause-value c)) (index_within c.args.self.now c.args.v index c.requires.least c.requires.most).1
+    subst (λ (z : ℤ). z ≤ℤ pos 1048576) (sym (returns-clause-value c))
+    (index_within c.args.self.now c.args.v index c.requires.least c.requires.most).1

@@ -5,10 +5,12 @@ use Rattle.domains.specs.Span.{IsHull, IsSpan, hull_of}
 use Rattle.domains.proofs.span.Span.hull.Goals as goal
 
 pub invariant_of-result : goal.invariant_of-result
-invariant_of-result c = record { least = omega (arith, ints, clamps); ordered = omega (arith, ints, clamps); most = omega (arith, ints, clamps) }
+invariant_of-result c =
+    record { least = omega (arith, ints, clamps); ordered = omega (arith, ints, clamps); most = omega (arith, ints, clamps) }
 
 pub returns-clause-within : goal.returns-clause-within
-returns-clause-within c = (subst IsSpan c.self.view_is c.self.invariant, subst IsSpan c.other.view_is c.other.invariant, invariant_of-result c)
+returns-clause-within c =
+    (subst IsSpan c.self.view_is c.self.invariant, subst IsSpan c.other.view_is c.other.invariant, invariant_of-result c)
 
 pub returns-clause-least : goal.returns-clause-least
 returns-clause-least c =

@@ -37,6 +37,8 @@ returns-clause-stand c =
     let last : c.loop-number.number ≡ length job.stages = omega
     (arith, counted, length-map stages stage_view, c.loop-number-test.false, c.loop-number.auto.number-end) in
     let groups = before.0 ∙ ap (range_with_len 0) last in
-    let is : grouping_of (record { inlining = c.in_ok-inlining.inlining; groups = c.loop-number.groups; standings = c.loop-number.standings }) ≡ initial_grouping job = (λ i. record { inlining = c.in_ok-inlining.ensures i; groups = groups i }) in
+    let is : grouping_of
+    (record { inlining = c.in_ok-inlining.inlining; groups = c.loop-number.groups; standings = c.loop-number.standings })
+    ≡ initial_grouping job = (λ i. record { inlining = c.in_ok-inlining.ensures i; groups = groups i }) in
     subst (λ (d : Grouping). AllStand job d c.loop-number.standings.items) (sym is)
     (all_at_first job c.loop-number.standings.items (before.1 ∙ last) before.2)

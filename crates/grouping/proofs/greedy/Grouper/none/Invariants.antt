@@ -11,4 +11,5 @@ abbrev pub invariant-loop-number : goal.invariant-loop-number
 invariant-loop-number l =
     (l.groups.items ≡ range_with_len 0 l.number)
     × (length l.standings.items ≡ l.number)
-    × ((g : ℕ) (s : Standing) → slice_get l.standings.items g ≡ Some s → Stands (pipeline_in l.job) (initial_grouping (pipeline_in l.job)) g s)
+    × ((g : ℕ) (s : Standing) → slice_get l.standings.items g ≡ Some s
+    → Stands (pipeline_in l.job) (initial_grouping (pipeline_in l.job)) g s)

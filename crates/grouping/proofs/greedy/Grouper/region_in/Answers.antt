@@ -16,7 +16,9 @@ is_region : (c : After-kept_box) → c.kept_box.result ≡ region (target_of c.a
 is_region c =
     let job = pipeline_in c.args.walk.now.job.now in
     c.kept_box.ensures
-    ∙ kept_is_region job (grouping_of c.args.self.now) c.args.self.now.standings.items c.args.walk.now.stage c.args.reader c.args.place c.args.walk.now.region c.requires.stand c.requires.there c.requires.group (not_equal c.args.reader c.args.walk.now.stage c.if-reader-walk.false) c.requires.tile
+    ∙ kept_is_region job (grouping_of c.args.self.now) c.args.self.now.standings.items c.args.walk.now.stage c.args.reader c.args.place
+    c.args.walk.now.region c.requires.stand c.requires.there c.requires.group
+    (not_equal c.args.reader c.args.walk.now.stage c.if-reader-walk.false) c.requires.tile
     ∙ ap (λ (inlining : List Bool). region (target_over job inlining c.args.walk.now.stage c.args.walk.now.region) c.args.reader)
     (sym c.requires.inlining)
 

@@ -39,7 +39,8 @@ sum_more f xs after x n m one was is =
     is ∙ ap (λ k. k + f x) (was ∙ sum-map f xs) ∙ sym all
 
 -- the box of the next tile stands in the list of all
-next_box : (f : Area → Option Area) (done all : List (Option Area)) (tiles : List Area) (k : ℕ) (a : Area) (o : Option Area) → k < length tiles
+next_box : (f : Area → Option Area) (done all : List (Option Area)) (tiles : List Area) (k : ℕ) (a : Area) (o : Option Area)
+    → k < length tiles
     → a ≡ get_or tiles k a → o ≡ f a → done ++ map f (drop k tiles) ≡ all → done ++ o ∷ map f (drop (suc k) tiles) ≡ all
 next_box f done all tiles k a o low is box was =
     let left : drop k tiles ≡ a ∷ drop (suc k) tiles = drop-cons tiles k a low ∙ ap (λ x. x ∷ drop (suc k) tiles) (sym is) in
@@ -55,7 +56,8 @@ add-requires-clause-added c =
     let added = before.2 in
     let next = next_small points_of_box c.loop-place.trial.boxes.items _ (boxes_by_tile job inlining h g) c.box_in-area.result
     (next_box (λ b. box (target_over job inlining h b) g) c.loop-place.trial.boxes.items (boxes_by_tile job inlining h g) c.args.tiles.now
-    c.loop-place.place c.index-tiles-place.result c.box_in-area.result c.loop-place-test.true c.index-tiles-place.is c.box_in-area.ensures.is
+    c.loop-place.place c.index-tiles-place.result c.box_in-area.result c.loop-place-test.true c.index-tiles-place.is
+    c.box_in-area.ensures.is
     before.1) in
     omega (arith, added, next, boxes_small job inlining h g c.args.job.now.well)
 
@@ -102,7 +104,11 @@ loop-place-preserved c =
     let held = c.in_ok-add.ensures.scratch
     ∙ (λ i. c.loop-place.trial.scratch.items ++ (kept i + points_of_box (c.box_in-area.ensures.is i)) ∷ []) in (
       c.box_in-area.ensures.room ∙ before.0,
-      mapped_more (λ b. box (target_over job self.inlining h b) g) c.loop-place.trial.boxes.items c.add.new.self.boxes.items tiles c.loop-place.place a _ c.loop-place-test.true c.index-tiles-place.is boxes before.1,
-      sum_more points_of_box c.loop-place.trial.boxes.items c.add.new.self.boxes.items c.box_in-area.result c.loop-place.trial.added c.add.new.self.added c.in_ok-add.ensures.boxes before.2 c.in_ok-add.ensures.added,
-      mapped_more (λ b. scratch (target_over job self.inlining h b) + points_of_box (box (target_over job self.inlining h b) g)) c.loop-place.trial.scratch.items c.add.new.self.scratch.items tiles c.loop-place.place a _ c.loop-place-test.true c.index-tiles-place.is held before.3,
+      mapped_more (λ b. box (target_over job self.inlining h b) g) c.loop-place.trial.boxes.items c.add.new.self.boxes.items tiles
+          c.loop-place.place a _ c.loop-place-test.true c.index-tiles-place.is boxes before.1,
+      sum_more points_of_box c.loop-place.trial.boxes.items c.add.new.self.boxes.items c.box_in-area.result c.loop-place.trial.added
+          c.add.new.self.added c.in_ok-add.ensures.boxes before.2 c.in_ok-add.ensures.added,
+      mapped_more (λ b. scratch (target_over job self.inlining h b) + points_of_box (box (target_over job self.inlining h b) g))
+          c.loop-place.trial.scratch.items c.add.new.self.scratch.items tiles c.loop-place.place a _ c.loop-place-test.true
+          c.index-tiles-place.is held before.3,
     )

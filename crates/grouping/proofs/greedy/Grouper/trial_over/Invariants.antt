@@ -10,7 +10,14 @@ use Rattle.grouping.proofs.greedy.Grouper.trial_over.Given as goal
 abbrev pub invariant-loop-place : goal.invariant-loop-place
 invariant-loop-place l =
     (length l.hulls ≡ length l.fn.hulls)
-    × (l.trial.boxes.items ++ map (λ a. box (target_over (pipeline_in l.job) l.self.inlining l.candidate.group a) l.candidate.number) (drop l.place l.tiles) ≡ boxes_by_tile (pipeline_in l.job) l.self.inlining l.candidate.group l.candidate.number)
+    × (l.trial.boxes.items
+    ++ map (λ a. box (target_over (pipeline_in l.job) l.self.inlining l.candidate.group a) l.candidate.number) (drop l.place l.tiles)
+    ≡ boxes_by_tile (pipeline_in l.job) l.self.inlining l.candidate.group l.candidate.number)
     × (l.trial.added ≡ sum (map points_of_box l.trial.boxes.items))
-    × (l.trial.scratch.items ++ map (λ a. scratch (target_over (pipeline_in l.job) l.self.inlining l.candidate.group a) + points_of_box (box (target_over (pipeline_in l.job) l.self.inlining l.candidate.group a) l.candidate.number)) (drop l.place l.tiles)
-    ≡ map (λ a. scratch (target_over (pipeline_in l.job) l.self.inlining l.candidate.group a) + points_of_box (box (target_over (pipeline_in l.job) l.self.inlining l.candidate.group a) l.candidate.number)) (areas_at (pipeline_in l.job) l.candidate.group))
+    × (l.trial.scratch.items
+    ++ map (λ a. scratch (target_over (pipeline_in l.job) l.self.inlining l.candidate.group a)
+    + points_of_box (box (target_over (pipeline_in l.job) l.self.inlining l.candidate.group a) l.candidate.number))
+    (drop l.place l.tiles)
+    ≡ map (λ a. scratch (target_over (pipeline_in l.job) l.self.inlining l.candidate.group a)
+    + points_of_box (box (target_over (pipeline_in l.job) l.self.inlining l.candidate.group a) l.candidate.number))
+    (areas_at (pipeline_in l.job) l.candidate.group))

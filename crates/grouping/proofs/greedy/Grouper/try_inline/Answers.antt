@@ -53,8 +53,11 @@ overflow_add-points c =
 
 pub inline-requires-clause-group : goal.inline-requires-clause-group
 inline-requires-clause-group c =
-    let step = step_of (pipeline_in c.args.job.now) c.args.self.now c.args.candidate.now c.args.job.now.well c.requires.stand c.requires.candidate in
-    let there = (group_is (pipeline_in c.args.job.now) (grouping_of c.args.self.now) c.args.self.now.standings.items c.args.candidate.now.number c.args.candidate.now.group step.valid step.stand step.shared).2 in
+    let step =
+    step_of (pipeline_in c.args.job.now) c.args.self.now c.args.candidate.now c.args.job.now.well c.requires.stand
+    c.requires.candidate in
+    let there = (group_is (pipeline_in c.args.job.now) (grouping_of c.args.self.now) c.args.self.now.standings.items
+    c.args.candidate.now.number c.args.candidate.now.group step.valid step.stand step.shared).2 in
     let all = step.stand.all in
     omega arith
 
@@ -66,7 +69,10 @@ returns-then-fits-clause-grouping c =
     let h = c.args.candidate.now.group in
     let step = step_of job self c.args.candidate.now c.args.job.now.well c.requires.stand c.requires.candidate in
     let trial = c.in_ok-trial.ensures in
-    let it_pays = sym (weighed job (grouping_of self) self.standings.items g h c.args.percent c.kept_cost-own.result c.kept_cost-apart.result c.in_ok-trial.trial c.pays.result step trial c.kept_cost-own.ensures c.kept_cost-apart.ensures c.pays.ensures) ∙ c.if-pays.true in
+    let it_pays =
+    sym (weighed job (grouping_of self) self.standings.items g h c.args.percent c.kept_cost-own.result c.kept_cost-apart.result
+    c.in_ok-trial.trial c.pays.result step trial c.kept_cost-own.ensures c.kept_cost-apart.ensures c.pays.ensures)
+    ∙ c.if-pays.true in
     let it_fits = sym (c.fits.ensures ∙ fits_is step c.in_ok-trial.trial.scratch.items trial.in_scratch) ∙ c.if-fits.true in
     c.inline.ensures.grouping ∙ sym (λ i. if it_pays i && it_fits i then with_inlined (grouping_of self) g h else grouping_of self)
 
@@ -99,7 +105,9 @@ returns-else-pays-clause-grouping c =
     let h = c.args.candidate.now.group in
     let step = step_of job self c.args.candidate.now c.args.job.now.well c.requires.stand c.requires.candidate in
     let trial = c.in_ok-trial.ensures in
-    let weighs = weighed job (grouping_of self) self.standings.items g h c.args.percent c.kept_cost-own.result c.kept_cost-apart.result c.in_ok-trial.trial c.pays.result step trial c.kept_cost-own.ensures c.kept_cost-apart.ensures c.pays.ensures in
+    let weighs =
+    weighed job (grouping_of self) self.standings.items g h c.args.percent c.kept_cost-own.result c.kept_cost-apart.result
+    c.in_ok-trial.trial c.pays.result step trial c.kept_cost-own.ensures c.kept_cost-apart.ensures c.pays.ensures in
     not_both (pays job c.args.percent self.inlining g h) (has_room job self.inlining g h) (with_inlined (grouping_of self) g h)
     (grouping_of self) (elim c.else-pays.branch [
       | else-pays-via-then-pays+else-fits w ↦

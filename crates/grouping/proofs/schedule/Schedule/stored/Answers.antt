@@ -7,7 +7,10 @@ use Rattle.grouping.proofs.schedule.Schedule.stored.Goals as goal
 
 pub with_costs-requires : goal.with_costs-requires
 with_costs-requires c =
-    record { schedule = subst (IsSchedule (pipeline_in c.args.job.now)) (sym c.in_ok-inlining.ensures) (stored_is (pipeline_in c.args.job.now)) }
+    record {
+      schedule =
+          subst (IsSchedule (pipeline_in c.args.job.now)) (sym c.in_ok-inlining.ensures) (stored_is (pipeline_in c.args.job.now));
+    }
 
 pub returns-clause-fits : goal.returns-clause-fits
 returns-clause-fits c =

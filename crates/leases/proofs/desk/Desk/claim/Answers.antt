@@ -18,16 +18,22 @@ returns-in_default-insert-clause-memory c = λ h t s is_memory.
 
 pub returns : goal.returns
 returns c =
-    let table : (q : Key) → get key_cmp c.match-lease.self.leases q ≡ option_or (if same c.args.key q then c.lease.result else None) (get key_cmp c.args.self.now.leases q) =
+    let table : (q : Key) → get key_cmp c.match-lease.self.leases q ≡ option_or (if same c.args.key q then c.lease.result else None)
+    (get key_cmp c.args.self.now.leases q) =
     λ q. elim c.match-lease.branch [
       | in-Some+in-Ok w ↦
           ap (λ d. get key_cmp d.leases q) w.self-is
-          ∙ (w.in-Ok.ensures.updates.0 q ∙ put_lease (same c.args.key q) w.in-Some.lease c.lease.result (get key_cmp c.args.self.now.leases q) w.in-Some.is)
-      | in_default w ↦ ap (λ d. get key_cmp d.leases q) w.self-is ∙ put_none (same c.args.key q) c.lease.result (get key_cmp c.args.self.now.leases q) w.in_default.is
+          ∙ (w.in-Ok.ensures.updates.0 q
+          ∙ put_lease (same c.args.key q) w.in-Some.lease c.lease.result (get key_cmp c.args.self.now.leases q) w.in-Some.is)
+      | in_default w ↦ ap (λ d. get key_cmp d.leases q) w.self-is
+          ∙ put_none (same c.args.key q) c.lease.result (get key_cmp c.args.self.now.leases q) w.in_default.is
     ] in
-    let done = λ (h : List Entry) (t : ℕ) (s : StandsFor c.args.self.now h t). claim_done c.args.self.now (record { clock = c.max-time.result; leases = c.match-lease.self.leases }) h t c.args.now c.max-time.result
+    let done =
+    λ (h : List Entry) (t : ℕ) (s : StandsFor c.args.self.now h t). claim_done c.args.self.now
+    (record { clock = c.max-time.result; leases = c.match-lease.self.leases }) h t c.args.now c.max-time.result
     c.args.node c.args.key c.args.ttl c.by_rules-claim.result c.lease.result s c.max-time.ensures
-    (c.by_rules-claim.ensures ∙ ap (λ o. claim_by o c.max-time.result c.args.node c.args.ttl) c.lease_at.ensures) c.lease.ensures refl table in
+    (c.by_rules-claim.ensures ∙ ap (λ o. claim_by o c.max-time.result c.args.node c.args.ttl) c.lease_at.ensures) c.lease.ensures refl table
+    in
     record {
       answer = λ h t s some. (done h t s).0;
       memory = search rules;

@@ -10,7 +10,8 @@ returns-clause-answer c = λ h t s.
     let when : c.max-self.result ≡ max t c.args.now = c.max-self.ensures ∙ ap (λ k. max k c.args.now) s.clock in
     let node : c.map.result ≡ option_map (λ (l : Lease). l.node) c.lease_at.result = search rules in
     node ∙ ap (option_map (λ l. l.node))
-    (c.lease_at.ensures ∙ (ap (λ x. shown_at x c.args.self.now c.args.key.now) when ∙ shown_later c.args.self.now h t _ c.args.key.now s (omega arith)))
+    (c.lease_at.ensures
+    ∙ (ap (λ x. shown_at x c.args.self.now c.args.key.now) when ∙ shown_later c.args.self.now h t _ c.args.key.now s (omega arith)))
 
 pub returns-clause-stands : goal.returns-clause-stands
 returns-clause-stands c = λ h t s.

@@ -12,5 +12,12 @@ index-requires-2 c =
     let same = ap (λ (p : Image). length p.planes) view_is in
     let kept = length_samples inside.planes.items in
     let there : c.args.plane < length inside.planes.items = omega (arith, same, kept, c.requires.in_planes) in
-    let plane = plane_at (inside.rows * inside.cols) inside.max inside.planes.items c.args.plane c.index.result.now c.self.invariant.planes there (search rules) in
-    omega (arith, plane.whole, mul-add-lt c.args.row inside.cols c.args.col inside.rows (search rules) (search rules), c.index.result.now.ok.0)
+    let plane =
+    plane_at (inside.rows * inside.cols) inside.max inside.planes.items c.args.plane c.index.result.now c.self.invariant.planes there
+    (search rules) in
+    omega (
+      arith,
+      plane.whole,
+      mul-add-lt c.args.row inside.cols c.args.col inside.rows (search rules) (search rules),
+      c.index.result.now.ok.0,
+    )

@@ -25,5 +25,6 @@ loop-next-preserved g c =
 
 pub returns : goal.returns
 returns g c =
-    let e : slice_get (facts_in c.args.self.now) (length c.loop-next.facts.items) ≡ None = sym c.loop-next.invariant.next ∙ ap option_copied c.in_default.is in
+    let e : slice_get (facts_in c.args.self.now) (length c.loop-next.facts.items) ≡ None =
+    sym c.loop-next.invariant.next ∙ ap option_copied c.in_default.is in
     all_copied (facts_in c.args.self.now) c.loop-next.facts.items c.loop-next.invariant.copied e

@@ -13,12 +13,15 @@ loop-key-preserved g c =
     elim c.if-count-eq0.branch [
       | then-count-eq0+then-is_first w ↦
           subst (IsFound s (take (i + 1) keys)) (sym w.least-is)
-          (found_first s keys i c.count.result key found c.loop-key-test.true c.key-item.is c.count.ensures w.if-count-eq0.true (sym w.is_first.ensures ∙ w.if-is_first.true) c.loop-key.invariant)
+          (found_first s keys i c.count.result key found c.loop-key-test.true c.key-item.is c.count.ensures w.if-count-eq0.true
+          (sym w.is_first.ensures ∙ w.if-is_first.true) c.loop-key.invariant)
       | else-count-eq0 w ↦
           subst (IsFound s (take (i + 1) keys)) (sym w.least-is)
           (elim w.else-count-eq0.branch [
             | else-count-eq0-via-then-count-eq0+else-is_first v ↦
-                found_later s keys i key found c.loop-key-test.true c.key-item.is (sym v.is_first.ensures ∙ v.if-is_first.false) c.loop-key.invariant
-            | else-count-eq0-via-else-count-eq0 v ↦ found_held s keys i c.count.result key found c.loop-key-test.true c.key-item.is c.count.ensures v.if-count-eq0.false c.loop-key.invariant
+                found_later s keys i key found c.loop-key-test.true c.key-item.is (sym v.is_first.ensures ∙ v.if-is_first.false)
+                c.loop-key.invariant
+            | else-count-eq0-via-else-count-eq0 v ↦ found_held s keys i c.count.result key found c.loop-key-test.true c.key-item.is
+                c.count.ensures v.if-count-eq0.false c.loop-key.invariant
           ])
     ]

@@ -10,7 +10,9 @@ pub loop-key-preserved : goal.loop-key-preserved
 loop-key-preserved g c =
     let keys = c.args.keys.now in
     lent_more c.args.self.now c.loop-key.state c.take_of_key.new.self keys c.loop-key.key-index c.key-item.result
-    (slice_get_read keys (length keys) c.loop-key.key-index c.key-item.result refl c.loop-key-test.true c.key-item.is) c.loop-key.invariant c.in_ok-take_of_key.ensures
+    (slice_get_read keys (length keys) c.loop-key.key-index c.key-item.result refl c.loop-key-test.true c.key-item.is) c.loop-key.invariant
+    c.in_ok-take_of_key.ensures
 
 pub returns-clause-lent : goal.returns-clause-lent
-returns-clause-lent g c = lent_all c.args.self.now c.loop-key.state c.args.keys.now c.loop-key.key-index c.loop-key-test.false c.loop-key.invariant
+returns-clause-lent g c =
+    lent_all c.args.self.now c.loop-key.state c.args.keys.now c.loop-key.key-index c.loop-key-test.false c.loop-key.invariant

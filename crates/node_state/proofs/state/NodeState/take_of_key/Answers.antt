@@ -13,7 +13,8 @@ loop-n-preserved g c f =
       | in-Some+in_ok-clone+in_ok-take w ↦
           let here : slice_get xs c.loop-n.n ≡ Some w.in-Some.fact.now = sym c.nth.ensures ∙ ap option_copied w.in-Some.is in
           let now : c.match-nth.self ≡ with_fact c.loop-n.self w.in-Some.fact.now = search rules in
-          ap (λ (s : State). holds s f) now ∙ taken_more c.args.self.now c.loop-n.self xs c.loop-n.n w.in-Some.fact.now here c.loop-n.invariant f
+          ap (λ (s : State). holds s f) now
+          ∙ taken_more c.args.self.now c.loop-n.self xs c.loop-n.n w.in-Some.fact.now here c.loop-n.invariant f
       | in_default w ↦
           let none : slice_get xs c.loop-n.n ≡ None = sym c.nth.ensures ∙ ap option_copied w.in_default.is in
           absurd (omega (arith, none_after xs c.loop-n.n c.count-n-end.result c.count-n-end.ensures c.loop-n-test.true none))

@@ -8,4 +8,5 @@ use Rattle.node_state.proofs.state.NodeState.take_of_key.Given as goal
 
 -- the first facts of the key are taken
 abbrev pub invariant-loop-n : goal.invariant-loop-n
-invariant-loop-n g l = (f : Fact) → holds l.self f ≡ (holds l.fn.self f || list_any (eq_by_cmp fact_cmp f) (take l.n (facts_of l.other l.key)))
+invariant-loop-n g l =
+    (f : Fact) → holds l.self f ≡ (holds l.fn.self f || list_any (eq_by_cmp fact_cmp f) (take l.n (facts_of l.other l.key)))

@@ -4,4 +4,8 @@ use Rattle.overlap_tiles.proofs.layout.Layout.of.Goals as goal
 
 pub boxes-requires : goal.boxes-requires
 boxes-requires c =
-    record { target = tile_is_target (pipeline_in c.args.job.now) c.args.schedule.now.inlining c.args.stage c.args.row c.args.col c.in-Some.area c.args.job.now.well c.in-Some.ensures.some }
+    record {
+      target =
+          tile_is_target (pipeline_in c.args.job.now) c.args.schedule.now.inlining c.args.stage c.args.row c.args.col c.in-Some.area
+          c.args.job.now.well c.in-Some.ensures.some;
+    }

@@ -8,8 +8,11 @@ use Rattle.grouping.specs.Targets.{target_over}
 pub keys-requires : goal.keys-requires
 keys-requires c =
     let is = c.in_ok-layout.ensures.layout in
-    numbers_fit (target_over (pipeline_in c.args.job.now) c.args.schedule.now.inlining c.args.stage is.area) c.needs.result.now c.args.job.now.well (c.needs.ensures ∙ is.layout.layout.needs)
+    numbers_fit (target_over (pipeline_in c.args.job.now) c.args.schedule.now.inlining c.args.stage is.area) c.needs.result.now
+    c.args.job.now.well (c.needs.ensures ∙ is.layout.layout.needs)
 
 pub invariant_of-result : goal.invariant_of-result
-invariant_of-result c =
-    (ap (map key_tile) c.in_ok-needs.ensures ∙ tiles_back (program_id_in c.args.job.now) (pipeline_in c.args.job.now) _ ∙ c.needs.ensures, tt)
+invariant_of-result c = (
+  ap (map key_tile) c.in_ok-needs.ensures ∙ tiles_back (program_id_in c.args.job.now) (pipeline_in c.args.job.now) _ ∙ c.needs.ensures,
+  tt,
+)

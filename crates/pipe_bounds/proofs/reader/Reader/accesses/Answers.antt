@@ -12,15 +12,21 @@ use Rattle.pipe_bounds.proofs.reader.Reader.accesses.Goals as goal
 pub returns-in_err-read : goal.returns-in_err-read
 returns-in_err-read c =
     let accesses = c.args.accesses.now in
-    let there = here_is accesses accesses c.loop-read.read c.index-accesses-read.result refl c.loop-read-test.true c.index-accesses-read.is in
+    let there =
+    here_is accesses accesses c.loop-read.read c.index-accesses-read.result refl c.loop-read-test.true c.index-accesses-read.is in
     let p = err_from_is_err_and c.from_residual.result c.from_residual.ensures.1 in
-    rw (p.1, p.2) (first_read (domains_in c.args.self.now.found.now) (HoldsPoint c.args.area.now) accesses c.args.self.now.stage c.args.case c.loop-read.read c.index-accesses-read.result c.in_err-read.field-0.0 there c.loop-read.invariant c.in_err-read.ensures)
+    rw (p.1, p.2) (first_read (domains_in c.args.self.now.found.now) (HoldsPoint c.args.area.now) accesses c.args.self.now.stage c.args.case
+    c.loop-read.read c.index-accesses-read.result c.in_err-read.field-0.0 there c.loop-read.invariant c.in_err-read.ensures)
 
 pub loop-read-preserved : goal.loop-read-preserved
 loop-read-preserved c =
     let accesses = c.args.accesses.now in
-    let there = here_is accesses accesses c.loop-read.read c.index-accesses-read.result refl c.loop-read-test.true c.index-accesses-read.is in
-    all_more (λ m x. Stays (domains_in c.args.self.now.found.now) (HoldsPoint c.args.area.now) x) accesses c.loop-read.read c.index-accesses-read.result there c.in_ok-read.ensures c.loop-read.invariant
+    let there =
+    here_is accesses accesses c.loop-read.read c.index-accesses-read.result refl c.loop-read-test.true c.index-accesses-read.is in
+    all_more (λ m x. Stays (domains_in c.args.self.now.found.now) (HoldsPoint c.args.area.now) x) accesses c.loop-read.read
+    c.index-accesses-read.result there c.in_ok-read.ensures c.loop-read.invariant
 
 pub returns : goal.returns
-returns c = all_of_them (λ m x. Stays (domains_in c.args.self.now.found.now) (HoldsPoint c.args.area.now) x) c.args.accesses.now c.loop-read.read c.loop-read-test.false c.loop-read.invariant
+returns c =
+    all_of_them (λ m x. Stays (domains_in c.args.self.now.found.now) (HoldsPoint c.args.area.now) x) c.args.accesses.now c.loop-read.read
+    c.loop-read-test.false c.loop-read.invariant

@@ -6,4 +6,5 @@ use Rattle.pipe_bounds.specs.StageBounds.{domains_in}
 use Rattle.pipe_bounds.proofs.reader.Reader.accesses.Given as goal
 
 abbrev pub invariant-loop-read : goal.invariant-loop-read
-invariant-loop-read l = (m : ℕ) (x : Access) → m < l.read → slice_get l.accesses m ≡ Some x → Stays (domains_in l.self.found.now) (HoldsPoint l.area) x
+invariant-loop-read l =
+    (m : ℕ) (x : Access) → m < l.read → slice_get l.accesses m ≡ Some x → Stays (domains_in l.self.found.now) (HoldsPoint l.area) x

@@ -14,7 +14,10 @@ accesses-requires-clause-sound c =
     let stages = c.args.self.now.stages.now in
     let value = accesses_of stages (view c.args.accum.now.value) in
     let bin = accesses_of stages (view c.args.accum.now.bin) in
-    let found = c.deref.ensures.value ∙ c.in_ok-add_accesses-2.ensures ∙ ap (λ (xs : List Access). xs ++ bin) (c.in_ok-add_accesses.ensures ∙ ap (λ (xs : List Access). xs ++ value) c.new-found.ensures.items) in
+    let found =
+    c.deref.ensures.value ∙ c.in_ok-add_accesses-2.ensures
+    ∙ ap (λ (xs : List Access). xs ++ bin)
+    (c.in_ok-add_accesses.ensures ∙ ap (λ (xs : List Access). xs ++ value) c.new-found.ensures.items) in
     let sound = c.requires.sound 0 (whole_case c.args.accum.now.row.name (value ++ bin)) refl in
     subst (AreSound _) (sym found) sound
 
@@ -23,6 +26,11 @@ returns c =
     let self = c.args.self.now in
     let value = accesses_of self.stages.now (view c.args.accum.now.value) in
     let bin = accesses_of self.stages.now (view c.args.accum.now.bin) in
-    let found = c.deref.ensures.value ∙ c.in_ok-add_accesses-2.ensures ∙ ap (λ (xs : List Access). xs ++ bin) (c.in_ok-add_accesses.ensures ∙ ap (λ (xs : List Access). xs ++ value) c.new-found.ensures.items) in
-    one_case self.params.now (domains_in self.found.now) self.domain.now c.args.accum.now.row.name (value ++ bin) self.stage c.accesses.result
-    (subst (λ (xs : List Access). AnswersReads (domains_in self.found.now) (HoldsPoint self.domain.now) xs self.stage 0 c.accesses.result) found c.accesses.ensures)
+    let found =
+    c.deref.ensures.value ∙ c.in_ok-add_accesses-2.ensures
+    ∙ ap (λ (xs : List Access). xs ++ bin)
+    (c.in_ok-add_accesses.ensures ∙ ap (λ (xs : List Access). xs ++ value) c.new-found.ensures.items) in
+    one_case self.params.now (domains_in self.found.now) self.domain.now c.args.accum.now.row.name (value ++ bin) self.stage
+    c.accesses.result
+    (subst (λ (xs : List Access). AnswersReads (domains_in self.found.now) (HoldsPoint self.domain.now) xs self.stage 0 c.accesses.result)
+    found c.accesses.ensures)

@@ -21,11 +21,16 @@ pub returns-in-Some : goal.returns-in-Some
 returns-in-Some c =
     let self = c.args.self.now in
     let inside = IsInBox self.params.now self.domain.now (branch_case self.stages.now c.args.row.now (branch c.args.case.now)) in
-    let box = subst (λ (o : Option Area). IsBox self.params.now c.args.row.now self.domain.now (branch c.args.case.now).condition o) c.in-Some.is c.requires.area in
-    same_box (domains_in self.found.now) (HoldsPoint c.in-Some.area) inside (accesses_of self.stages.now (view c.args.case.now.value)) self.stage c.args.number c.expr.result box.points c.expr.ensures
+    let box =
+    subst (λ (o : Option Area). IsBox self.params.now c.args.row.now self.domain.now (branch c.args.case.now).condition o) c.in-Some.is
+    c.requires.area in
+    same_box (domains_in self.found.now) (HoldsPoint c.in-Some.area) inside (accesses_of self.stages.now (view c.args.case.now.value))
+    self.stage c.args.number c.expr.result box.points c.expr.ensures
 
 pub returns-in-None : goal.returns-in-None
 returns-in-None c =
     let self = c.args.self.now in
-    let box = subst (λ (o : Option Area). IsBox self.params.now c.args.row.now self.domain.now (branch c.args.case.now).condition o) c.in-None.is c.requires.area in
+    let box =
+    subst (λ (o : Option Area). IsBox self.params.now c.args.row.now self.domain.now (branch c.args.case.now).condition o) c.in-None.is
+    c.requires.area in
     λ m access there r k inside x y row column. absurd (box.points r k inside)

@@ -23,7 +23,8 @@ branch-self-requires-clause-area c =
     let o = c.index-self-number.result in
     let less = subst (λ n. i < n) (sym (c.requires.boxes.each ∙ length-map c.args.cases.now branch)) c.loop-number-test.true in
     c.requires.boxes.box i (branch x) (get_or boxes i o)
-    (slice_get-map branch c.args.cases.now i ∙ ap (option_map branch) (here_is c.args.cases.now c.args.cases.now i x refl c.loop-number-test.true c.index-cases-number.is))
+    (slice_get-map branch c.args.cases.now i
+    ∙ ap (option_map branch) (here_is c.args.cases.now c.args.cases.now i x refl c.loop-number-test.true c.index-cases-number.is))
     (slice_get-get_or boxes i o less)
 
 pub branch-self-requires-clause-sound : goal.branch-self-requires-clause-sound
@@ -31,7 +32,8 @@ branch-self-requires-clause-sound c =
     let self = c.args.self.now in
     let i = c.loop-number.number in
     let x = c.index-cases-number.result in
-    c.requires.sound i (branch_case self.stages.now c.args.row.now (branch x)) (case_at self.stages.now c.args.row.now c.args.cases.now i x c.loop-number-test.true c.index-cases-number.is)
+    c.requires.sound i (branch_case self.stages.now c.args.row.now (branch x))
+    (case_at self.stages.now c.args.row.now c.args.cases.now i x c.loop-number-test.true c.index-cases-number.is)
 
 pub returns-in_err-branch : goal.returns-in_err-branch
 returns-in_err-branch c =
@@ -40,7 +42,10 @@ returns-in_err-branch c =
     let x = c.index-cases-number.result in
     let there = case_at self.stages.now c.args.row.now c.args.cases.now i x c.loop-number-test.true c.index-cases-number.is in
     let p = err_from_is_err_and c.from_residual.result c.from_residual.ensures.1 in
-    rw (p.1, p.2) (first_case self.params.now (domains_in self.found.now) self.domain.now (map (branch_case self.stages.now c.args.row.now) (branches c.args.cases.now)) self.stage i (branch_case self.stages.now c.args.row.now (branch x)) c.in_err-branch.field-0.0 there c.loop-number.invariant c.in_err-branch.ensures)
+    rw (p.1, p.2) (first_case self.params.now (domains_in self.found.now) self.domain.now
+    (map (branch_case self.stages.now c.args.row.now) (branches c.args.cases.now)) self.stage i
+    (branch_case self.stages.now c.args.row.now (branch x)) c.in_err-branch.field-0.0 there c.loop-number.invariant
+    c.in_err-branch.ensures)
 
 pub loop-number-preserved : goal.loop-number-preserved
 loop-number-preserved c =
@@ -48,11 +53,14 @@ loop-number-preserved c =
     let i = c.loop-number.number in
     let x = c.index-cases-number.result in
     let there = case_at self.stages.now c.args.row.now c.args.cases.now i x c.loop-number-test.true c.index-cases-number.is in
-    all_more (λ n (y : ReadCase). AllStay (domains_in self.found.now) (IsInBox self.params.now self.domain.now y) y.accesses) (map (branch_case self.stages.now c.args.row.now) (branches c.args.cases.now)) i (branch_case self.stages.now c.args.row.now (branch x)) there c.in_ok-branch.ensures c.loop-number.invariant
+    all_more (λ n (y : ReadCase). AllStay (domains_in self.found.now) (IsInBox self.params.now self.domain.now y) y.accesses)
+    (map (branch_case self.stages.now c.args.row.now) (branches c.args.cases.now)) i
+    (branch_case self.stages.now c.args.row.now (branch x)) there c.in_ok-branch.ensures c.loop-number.invariant
 
 pub returns : goal.returns
 returns c =
     let self = c.args.self.now in
     let i = c.loop-number.number in
     let end = subst (λ n. n ≤ i) (sym (cases_end self.stages.now c.args.row.now c.args.cases.now)) c.loop-number-test.false in
-    all_of_them (λ n (y : ReadCase). AllStay (domains_in self.found.now) (IsInBox self.params.now self.domain.now y) y.accesses) (map (branch_case self.stages.now c.args.row.now) (branches c.args.cases.now)) i end c.loop-number.invariant
+    all_of_them (λ n (y : ReadCase). AllStay (domains_in self.found.now) (IsInBox self.params.now self.domain.now y) y.accesses)
+    (map (branch_case self.stages.now c.args.row.now) (branches c.args.cases.now)) i end c.loop-number.invariant

@@ -8,4 +8,5 @@ use Rattle.pipe_bounds.proofs.reader.Reader.expr.Goals as goal
 pub returns : goal.returns
 returns c =
     let self = c.args.self.now in
-    subst (λ (xs : List Access). AnswersReads (domains_in self.found.now) (HoldsPoint c.args.area.now) xs self.stage c.args.case c.accesses-2.result) (c.deref.ensures.value ∙ c.in_ok-accesses.ensures) c.accesses-2.ensures
+    subst (λ (xs : List Access). AnswersReads (domains_in self.found.now) (HoldsPoint c.args.area.now) xs self.stage c.args.case
+    c.accesses-2.result) (c.deref.ensures.value ∙ c.in_ok-accesses.ensures) c.accesses-2.ensures

@@ -16,7 +16,8 @@ use Rattle.pipe_bounds.proofs.reader.Reader.func.Goals as goal
 pub branches-requires-clause-boxes : goal.branches-requires-clause-boxes
 branches-requires-clause-boxes c =
     let self = c.args.self.now in
-    subst (λ (cs : List Case). AreBoxes self.params.now c.args.func.now.row.name self.domain.now (branches cs) self.boxes.now) (sym c.list-cases.ensures) c.requires.boxes
+    subst (λ (cs : List Case). AreBoxes self.params.now c.args.func.now.row.name self.domain.now (branches cs) self.boxes.now)
+    (sym c.list-cases.ensures) c.requires.boxes
 
 pub returns-in_err-branches : goal.returns-in_err-branches
 returns-in_err-branches c =
@@ -24,9 +25,13 @@ returns-in_err-branches c =
     let func = c.args.func.now in
     let case = branch_case self.stages.now func.row.name in
     let f = c.in_err-branches.field-0.0 in
-    let fault = subst (λ (cs : List Case). (f ≡ Memory) ⊎ IsFirstCase self.params.now (domains_in self.found.now) self.domain.now (map case (branches cs)) self.stage f) c.list-cases.ensures c.in_err-branches.ensures in
+    let fault =
+    subst (λ (cs : List Case). (f ≡ Memory)
+    ⊎ IsFirstCase self.params.now (domains_in self.found.now) self.domain.now (map case (branches cs)) self.stage f)
+    c.list-cases.ensures c.in_err-branches.ensures in
     let p = err_from_is_err_and c.from_residual.result c.from_residual.ensures.1 in
-    rw (p.1, p.2) (front_fault self.params.now (domains_in self.found.now) self.domain.now (map case (branches (cases_of func.cases))) (otherwise_cases self.stages.now func.row.name (option_map view func.otherwise)) self.stage f fault)
+    rw (p.1, p.2) (front_fault self.params.now (domains_in self.found.now) self.domain.now (map case (branches (cases_of func.cases)))
+    (otherwise_cases self.stages.now func.row.name (option_map view func.otherwise)) self.stage f fault)
 
 pub expr-requires-clause-sound : goal.expr-requires-clause-sound
 expr-requires-clause-sound c =
@@ -35,7 +40,9 @@ expr-requires-clause-sound c =
     let row = func.row.name in
     let xs = map (branch_case self.stages.now row) (branches (cases_of func.cases)) in
     let y = whole_case row (accesses_of self.stages.now (view c.in-Some.value)) in
-    let sound = subst (λ (o : Option Expr). AreSoundCases (length self.found.now) (xs ++ otherwise_cases self.stages.now row (option_map view o))) c.in-Some.is c.requires.sound in
+    let sound =
+    subst (λ (o : Option Expr). AreSoundCases (length self.found.now) (xs ++ otherwise_cases self.stages.now row (option_map view o)))
+    c.in-Some.is c.requires.sound in
     sound (length xs) y (slice_get-end xs y)
 
 pub returns-in-Some : goal.returns-in-Some
@@ -46,7 +53,16 @@ returns-in-Some c =
     let case = branch_case self.stages.now row in
     let cs = c.list-cases.result.now in
     let accesses = accesses_of self.stages.now (view c.in-Some.value) in
-    let last = over_whole self.params.now (domains_in self.found.now) self.domain.now row accesses self.stage (length cs) c.expr.result c.expr.ensures in
-    let whole = cases_more self.params.now (domains_in self.found.now) self.domain.now (map case (branches cs)) (whole_case row accesses) self.stage (length cs) c.expr.result (sym (cases_end self.stages.now row cs)) c.in_ok-branches.ensures last in
-    let some = subst (λ (o : Option Expr). AnswersCases self.params.now (domains_in self.found.now) self.domain.now (map case (branches cs) ++ otherwise_cases self.stages.now row (option_map view o)) self.stage c.expr.result) (sym c.in-Some.is) whole in
-    subst (λ (ds : List Case). AnswersCases self.params.now (domains_in self.found.now) self.domain.now (map case (branches ds) ++ otherwise_cases self.stages.now row (option_map view func.otherwise)) self.stage c.expr.result) c.list-cases.ensures some
+    let last =
+    over_whole self.params.now (domains_in self.found.now) self.domain.now row accesses self.stage (length cs) c.expr.result
+    c.expr.ensures in
+    let whole =
+    cases_more self.params.now (domains_in self.found.now) self.domain.now (map case (branches cs)) (whole_case row accesses) self.stage
+    (length cs) c.expr.result (sym (cases_end self.stages.now row cs)) c.in_ok-branches.ensures last in
+    let some =
+    subst (λ (o : Option Expr). AnswersCases self.params.now (domains_in self.found.now) self.domain.now
+    (map case (branches cs) ++ otherwise_cases self.stages.now row (option_map view o)) self.stage c.expr.result) (sym c.in-Some.is)
+    whole in
+    subst (λ (ds : List Case). AnswersCases self.params.now (domains_in self.found.now) self.domain.now
+    (map case (branches ds) ++ otherwise_cases self.stages.now row (option_map view func.otherwise)) self.stage c.expr.result)
+    c.list-cases.ensures some

@@ -19,9 +19,11 @@ func-requires-clause-boxes c =
 pub returns-in-Func : goal.returns-in-Func
 returns-in-Func c =
     let self = c.args.self.now in
-    subst (λ (i : Item). AnswersCases self.params.now (domains_in self.found.now) self.domain.now (item_cases self.stages.now (declaration i)) self.stage c.func.result) (sym c.in-Func.is) c.func.ensures
+    subst (λ (i : Item). AnswersCases self.params.now (domains_in self.found.now) self.domain.now
+    (item_cases self.stages.now (declaration i)) self.stage c.func.result) (sym c.in-Func.is) c.func.ensures
 
 pub returns-in-Accum : goal.returns-in-Accum
 returns-in-Accum c =
     let self = c.args.self.now in
-    subst (λ (i : Item). AnswersCases self.params.now (domains_in self.found.now) self.domain.now (item_cases self.stages.now (declaration i)) self.stage c.accum.result) (sym c.in-Accum.is) c.accum.ensures
+    subst (λ (i : Item). AnswersCases self.params.now (domains_in self.found.now) self.domain.now
+    (item_cases self.stages.now (declaration i)) self.stage c.accum.result) (sym c.in-Accum.is) c.accum.ensures

@@ -20,7 +20,9 @@ returns-in-Some c =
       least = x.least;
       greatest = x.greatest;
       told = cc (to_z-of_z w32 x.least least, to_z-of_z w32 x.greatest greatest);
-      leaves = leaves_by_spans (domains_in found) access c.args.area.now c.taken-taken.result d x.axis x.least x.greatest c.taken-taken.ensures.within c.taken-taken.ensures.taken there c.in-Some.ensures;
+      leaves =
+          leaves_by_spans (domains_in found) access c.args.area.now c.taken-taken.result d x.axis x.least x.greatest
+          c.taken-taken.ensures.within c.taken-taken.ensures.taken there c.in-Some.ensures;
     })
 
 pub returns-in-None : goal.returns-in-None
@@ -29,4 +31,5 @@ returns-in-None c =
     let access = c.args.access.now in
     let d = c.domain.result.now in
     let there = domain_read found access c.stage.result c.index-self-stage.result d c.requires.sound c.stage.ensures c.domain.ensures in
-    stays_by_spans (domains_in found) access c.args.area.now c.taken-taken.result d c.taken-taken.ensures.within c.taken-taken.ensures.taken there c.in-None.ensures
+    stays_by_spans (domains_in found) access c.args.area.now c.taken-taken.result d c.taken-taken.ensures.within c.taken-taken.ensures.taken
+    there c.in-None.ensures

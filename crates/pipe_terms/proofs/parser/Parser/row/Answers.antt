@@ -7,6 +7,9 @@ pub loop-self-preserved : goal.loop-self-preserved
 loop-self-preserved c =
     let pushed : c.push-in-loop-self.new.self.items ≡ c.loop-self.entries.items ++ c.in_ok-entry.entry ∷ [] = search rules in
     record {
-      reading = rw pushed (row_step _ c.loop-self.entries.items (at c.loop-self.self) (at c.mark-in-loop-self.new.self) (at c.entry-in-loop-self.new.self) c.in_ok-entry.entry (sym c.is_mark.ensures ∙ c.loop-self-test.true) c.in_ok-mark-2.ensures.exact c.in_ok-entry.ensures.exact c.loop-self.invariant.reading);
+      reading =
+          rw pushed (row_step _ c.loop-self.entries.items (at c.loop-self.self) (at c.mark-in-loop-self.new.self)
+          (at c.entry-in-loop-self.new.self) c.in_ok-entry.entry (sym c.is_mark.ensures ∙ c.loop-self-test.true)
+          c.in_ok-mark-2.ensures.exact c.in_ok-entry.ensures.exact c.loop-self.invariant.reading);
       shorter = search rules;
     }

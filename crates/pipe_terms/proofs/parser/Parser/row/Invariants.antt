@@ -8,7 +8,9 @@ use Rattle.pipe_terms.proofs.parser.Parser.row.Given as goal
 
 abbrev pub invariant-loop-self : goal.invariant-loop-self
 invariant-loop-self l = record {
-  reading : row (at l.fn.self) ≡ (while (is_mark_at Comma) (next_behind (mark Comma Plain) entry) l.entries.items >>= λ xs. mark CloseSquare Plain >>= λ _. gives xs) (at l.self);
+  reading : row (at l.fn.self)
+      ≡ (while (is_mark_at Comma) (next_behind (mark Comma Plain) entry) l.entries.items >>= λ xs. mark CloseSquare Plain >>= λ _. gives xs)
+      (at l.self);
   shorter : length l.self.rest.now ≤ length l.fn.self.rest.now;
 }
 

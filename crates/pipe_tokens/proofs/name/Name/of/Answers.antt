@@ -7,4 +7,5 @@ use Rattle.pipe_tokens.proofs.name.Name.of.Goals as goal
 pub invariant_of-result : goal.invariant_of-result
 invariant_of-result c =
     let bytes = c.args.bytes.now in
-    subst (λ (front : List ℕ). HoldsName (front ++ drop (length bytes) (replicate 32 0)) (length bytes)) (sym c.copy_from_slice.ensures.after) (holds_name bytes (sym c.is_name.ensures ∙ c.if-not-is_name.false))
+    subst (λ (front : List ℕ). HoldsName (front ++ drop (length bytes) (replicate 32 0)) (length bytes))
+    (sym c.copy_from_slice.ensures.after) (holds_name bytes (sym c.is_name.ensures ∙ c.if-not-is_name.false))

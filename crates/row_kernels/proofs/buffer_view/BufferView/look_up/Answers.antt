@@ -15,7 +15,8 @@ sample-requires c =
     let lt : c.loop-k.k < length c.args.out.now = omega (arith, c.loop-k.auto.out) in
     let col : to_z w32 (of_z w32 c.at.result) ≡ index_at c.args.col.now (c.args.points.now.col +ℤ pos c.loop-k.k) =
     to_z-of_z w32 _ found ∙ c.at.ensures.value ∙ ap (index_at c.args.col.now) (to_z-of_z w32 _ at_k ∙ c.column.ensures) in
-    rw (to_z-of_z w32 c.args.row row) (subst (λ (z : ℤ). HoldsPoint c.args.self.now.area c.args.row z) (sym col) (c.requires.there c.loop-k.k lt))
+    rw (to_z-of_z w32 c.args.row row)
+    (subst (λ (z : ℤ). HoldsPoint c.args.self.now.area c.args.row z) (sym col) (c.requires.there c.loop-k.k lt))
 
 pub loop-k-preserved : goal.loop-k-preserved
 loop-k-preserved c =
@@ -23,7 +24,9 @@ loop-k-preserved c =
     let found : FitsSigned w32 c.at.result = search rules in
     let at_k : FitsSigned w32 c.column.result = search rules in
     let lt : c.loop-k.k < length c.loop-k.out = omega arith in
-    EachPlace-more (λ j. at c.args.self.now.values.now (place_of c.args.self.now.area (to_z w32 (of_z w32 c.args.row)) (index_at c.args.col.now (c.args.points.now.col +ℤ pos j)))) c.loop-k.out c.loop-k.k _ lt
+    EachPlace-more (λ j. at c.args.self.now.values.now
+    (place_of c.args.self.now.area (to_z w32 (of_z w32 c.args.row)) (index_at c.args.col.now (c.args.points.now.col +ℤ pos j))))
+    c.loop-k.out c.loop-k.k _ lt
     (to_z-of_z w32 _ value ∙ c.sample.ensures
     ∙ ap (λ (z : ℤ). at c.args.self.now.values.now (place_of c.args.self.now.area (to_z w32 (of_z w32 c.args.row)) z))
     (to_z-of_z w32 _ found ∙ c.at.ensures.value ∙ ap (index_at c.args.col.now) (to_z-of_z w32 _ at_k ∙ c.column.ensures)))

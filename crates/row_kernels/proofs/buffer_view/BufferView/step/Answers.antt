@@ -12,24 +12,35 @@ pub place-place-requires : goal.place-place-requires
 place-place-requires c =
     let row : FitsSigned w32 c.args.row = search rules in
     let col : FitsSigned w32 c.col_at.result = search rules in
-    rw (to_z-of_z w32 c.args.row row) (subst (λ (z : ℤ). HoldsPoint c.args.self.now.area c.args.row z) (sym (to_z-of_z w32 _ col ∙ c.col_at.ensures))
-    (subst (λ (z : ℤ). HoldsPoint c.args.self.now.area c.args.row (index_at c.args.col.now z)) (+ℤ_idr c.args.points.now.col) (c.requires.there 0 c.requires.some)))
+    rw (to_z-of_z w32 c.args.row row)
+    (subst (λ (z : ℤ). HoldsPoint c.args.self.now.area c.args.row z) (sym (to_z-of_z w32 _ col ∙ c.col_at.ensures))
+    (subst (λ (z : ℤ). HoldsPoint c.args.self.now.area c.args.row (index_at c.args.col.now z)) (+ℤ_idr c.args.points.now.col)
+    (c.requires.there 0 c.requires.some)))
 
 pub take_every-requires : goal.take_every-requires
 take_every-requires c = λ k h.
     let row : FitsSigned w32 c.args.row = search rules in
     let col : FitsSigned w32 c.col_at.result = search rules in
     let first : c.place-place.result ≡ place_of c.args.self.now.area c.args.row (index_at c.args.col.now c.args.points.now.col) =
-    c.place-place.ensures ∙ (λ i. place_of c.args.self.now.area (to_z-of_z w32 c.args.row row i) ((to_z-of_z w32 _ col ∙ c.col_at.ensures) i)) in
+    c.place-place.ensures
+    ∙ (λ i. place_of c.args.self.now.area (to_z-of_z w32 c.args.row row i) ((to_z-of_z w32 _ col ∙ c.col_at.ensures) i)) in
     let size : length c.args.self.now.values.now ≡ point_count c.args.self.now.area = c.args.self.now.size in
-    let step = place_steps c.args.self.now.area c.args.row c.args.col.now c.args.points.now.col c.step_of.result (length c.args.out.now) c.place-place.result c.step_of.ensures c.requires.div first c.requires.there k h in
-    omega (arith, step, place_below c.args.self.now.area c.args.row (index_at c.args.col.now (c.args.points.now.col +ℤ pos k)) (c.requires.there k h))
+    let step =
+    place_steps c.args.self.now.area c.args.row c.args.col.now c.args.points.now.col c.step_of.result (length c.args.out.now)
+    c.place-place.result c.step_of.ensures c.requires.div first c.requires.there k h in
+    omega (
+      arith,
+      step,
+      place_below c.args.self.now.area c.args.row (index_at c.args.col.now (c.args.points.now.col +ℤ pos k)) (c.requires.there k h),
+    )
 
 pub returns : goal.returns
 returns c = λ k h.
     let row : FitsSigned w32 c.args.row = search rules in
     let col : FitsSigned w32 c.col_at.result = search rules in
     let first : c.place-place.result ≡ place_of c.args.self.now.area c.args.row (index_at c.args.col.now c.args.points.now.col) =
-    c.place-place.ensures ∙ (λ i. place_of c.args.self.now.area (to_z-of_z w32 c.args.row row i) ((to_z-of_z w32 _ col ∙ c.col_at.ensures) i)) in
+    c.place-place.ensures
+    ∙ (λ i. place_of c.args.self.now.area (to_z-of_z w32 c.args.row row i) ((to_z-of_z w32 _ col ∙ c.col_at.ensures) i)) in
     c.take_every.ensures k h
-    ∙ ap (at c.args.self.now.values.now) (place_steps c.args.self.now.area c.args.row c.args.col.now c.args.points.now.col c.step_of.result (length c.args.out.now) c.place-place.result c.step_of.ensures c.requires.div first c.requires.there k h)
+    ∙ ap (at c.args.self.now.values.now) (place_steps c.args.self.now.area c.args.row c.args.col.now c.args.points.now.col c.step_of.result
+    (length c.args.out.now) c.place-place.result c.step_of.ensures c.requires.div first c.requires.there k h)

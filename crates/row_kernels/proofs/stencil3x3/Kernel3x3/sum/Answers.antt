@@ -19,5 +19,7 @@ returns c =
     ∙ whole
     ∙ (λ i. wrapped (front i +ℤ c.sum-3.ensures i))
     ∙ (λ i. wrapped (wrapped (c.sum.ensures i +ℤ c.sum-2.ensures i) +ℤ wrapped (tap_sum c.self.inside.bottom c.args.bottom.now c.args.k)))
-    ∙ wrapped_three (tap_sum c.self.inside.top c.args.top.now c.args.k) (tap_sum c.self.inside.middle c.args.middle.now c.args.k) (tap_sum c.self.inside.bottom c.args.bottom.now c.args.k)
-    ∙ ap (λ (ks : List (List ℤ)). wrapped (tap_sum (factors ks 0) c.args.top.now c.args.k +ℤ tap_sum (factors ks 1) c.args.middle.now c.args.k +ℤ tap_sum (factors ks 2) c.args.bottom.now c.args.k)) c.self.view_is
+    ∙ wrapped_three (tap_sum c.self.inside.top c.args.top.now c.args.k) (tap_sum c.self.inside.middle c.args.middle.now c.args.k)
+    (tap_sum c.self.inside.bottom c.args.bottom.now c.args.k)
+    ∙ ap (λ (ks : List (List ℤ)). wrapped (tap_sum (factors ks 0) c.args.top.now c.args.k
+    +ℤ tap_sum (factors ks 1) c.args.middle.now c.args.k +ℤ tap_sum (factors ks 2) c.args.bottom.now c.args.k)) c.self.view_is

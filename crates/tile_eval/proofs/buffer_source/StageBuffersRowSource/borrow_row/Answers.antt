@@ -8,4 +8,5 @@ slice-requires c =
     let row : FitsSigned w32 c.args.row = search rules in
     let first : FitsSigned w32 c.args.first = search rules in
     rw (to_z-of_z w32 c.args.row row) (rw (to_z-of_z w32 c.args.first first) (λ k h.
-    known_within c.args.self.now.buffers.items c.args.stage c.in_ok-whole.field-0.now c.view.result.area _ _ c.in_ok-whole.ensures.some c.view.ensures.area (c.requires k h)))
+    known_within c.args.self.now.buffers.items c.args.stage c.in_ok-whole.field-0.now c.view.result.area _ _ c.in_ok-whole.ensures.some
+    c.view.ensures.area (c.requires k h)))

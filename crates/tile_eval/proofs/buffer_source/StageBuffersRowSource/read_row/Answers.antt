@@ -10,13 +10,16 @@ read_row-requires c =
     let row : FitsSigned w32 c.args.row = search rules in
     let first : FitsSigned w32 c.args.first = search rules in
     rw (to_z-of_z w32 c.args.row row) (rw (to_z-of_z w32 c.args.first first) (λ k h.
-    known_within c.args.self.now.buffers.items c.args.stage c.in-Some.whole.now c.view.result.area _ _ c.in-Some.ensures.some c.view.ensures.area (c.requires k h)))
+    known_within c.args.self.now.buffers.items c.args.stage c.in-Some.whole.now c.view.result.area _ _ c.in-Some.ensures.some
+    c.view.ensures.area (c.requires k h)))
 
 pub returns-in-Some : goal.returns-in-Some
 returns-in-Some c = λ k h.
     let row : FitsSigned w32 c.args.row = search rules in
     let first : FitsSigned w32 c.args.first = search rules in
-    known_sample c.args.self.now.buffers.items c.args.stage c.in-Some.whole.now c.view.result.area c.view.result.values.now c.args.row (c.args.first +ℤ pos k) _ c.in-Some.ensures.some c.view.ensures.area c.view.ensures.values
+    known_sample c.args.self.now.buffers.items c.args.stage c.in-Some.whole.now c.view.result.area c.view.result.values.now c.args.row
+    (c.args.first +ℤ pos k) _ c.in-Some.ensures.some c.view.ensures.area c.view.ensures.values
     (c.read_row.ensures k h
-    ∙ ap (λ (r : ℤ). at c.view.result.values.now (place_of c.view.result.area r (to_z w32 (of_z w32 c.args.first) +ℤ pos k))) (to_z-of_z w32 c.args.row row)
+    ∙ ap (λ (r : ℤ). at c.view.result.values.now (place_of c.view.result.area r (to_z w32 (of_z w32 c.args.first) +ℤ pos k)))
+    (to_z-of_z w32 c.args.row row)
     ∙ ap (λ (x : ℤ). at c.view.result.values.now (place_of c.view.result.area c.args.row (x +ℤ pos k))) (to_z-of_z w32 c.args.first first))

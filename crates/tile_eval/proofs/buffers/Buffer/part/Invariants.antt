@@ -6,5 +6,7 @@ use Rattle.tile_eval.proofs.buffers.Buffer.part.Given as goal
 
 abbrev pub invariant-loop-place : goal.invariant-loop-place
 invariant-loop-place l =
-    l.values.items ++ rest_of (λ p. buffer_value l.self p.0 p.1) (l.area.rows.lo +ℤ pos l.place) (len_of l.area.rows - l.place) (numbers_of l.area.cols)
+    l.values.items
+    ++ rest_of (λ p. buffer_value l.self p.0 p.1) (l.area.rows.lo +ℤ pos l.place) (len_of l.area.rows - l.place)
+    (numbers_of l.area.cols)
     ≡ raster l.area (buffer_value l.self)

@@ -18,7 +18,8 @@ learn-returns-then-is_some-clause-served t c =
 
 pub learn-put-requires : goal.learn-put-requires
 learn-put-requires t c =
-    let within = whole_within (pipeline_in c.args.job.now) c.args.stage c.in-Some.whole (c.in_ok-whole.ensures.right c.in-Some.whole c.in-Some.is) in
+    let within =
+    whole_within (pipeline_in c.args.job.now) c.args.stage c.in-Some.whole (c.in_ok-whole.ensures.right c.in-Some.whole c.in-Some.is) in
     omega (arith, within, c.in_ok-learn_reads.ensures.places)
 
 pub learn-returns-in-Some-clause-right : goal.learn-returns-in-Some-clause-right
@@ -55,10 +56,12 @@ pub learn_reads-learn-requires : goal.learn_reads-learn-requires
 learn_reads-learn-requires t c =
     let job = pipeline_in c.args.job.now in
     let ranks : ℕ → ℕ = rank_of job.stages in
-    let one : ranks (stage_read (read_view (slice_index_or c.deref-read-items.result.now c.loop-read.read-index c.read-item.result))) < ranks c.args.stage =
+    let one : ranks (stage_read (read_view (slice_index_or c.deref-read-items.result.now c.loop-read.read-index c.read-item.result))) <
+    ranks c.args.stage =
     read_falls job c.args.job.now.well c.args.stage c.loop-read.read-index c.deref-read-items.result.now c.read-item.result
     (option_map (λ reads. map read_view reads.items) c.in_ok-reads.field-0) c.in_ok-reads.ensures
-    (ap (option_map (λ reads. map read_view reads.items)) c.in-Some.is ∙ ap (λ xs. Some (map read_view xs)) (sym c.deref-read-items.ensures.value))
+    (ap (option_map (λ reads. map read_view reads.items)) c.in-Some.is
+    ∙ ap (λ xs. Some (map read_view xs)) (sym c.deref-read-items.ensures.value))
     c.loop-read-test.true in
     let falls : ranks c.stage_of.result < ranks c.args.stage =
     subst (λ h. ranks h < ranks c.args.stage) (sym (c.stage_of.ensures ∙ ap (λ x. stage_read (read_view x)) c.read-item.is)) one in
@@ -75,7 +78,9 @@ learn_reads-loop-read-preserved t c = (
       c.loop-read.read-index c.in_ok-learn.ensures.more
       (λ d.
       subst (λ h. AreKnownOf (pipeline_in c.args.job.now) c.learn.new.self.buffers.items h)
-      (c.stage_of.ensures ∙ ap (λ x. stage_read (read_view x)) (c.read-item.is ∙ same_read c.deref-read-items.result.now c.loop-read.read-index c.read-item.result d c.loop-read-test.true))
+      (c.stage_of.ensures
+      ∙ ap (λ x. stage_read (read_view x))
+      (c.read-item.is ∙ same_read c.deref-read-items.result.now c.loop-read.read-index c.read-item.result d c.loop-read-test.true))
       (served_known (pipeline_in c.args.job.now) c.stage_of.result c.learn.new.self.buffers.items c.in_ok-learn.ensures.served))
       c.loop-read.invariant.3,
 )
@@ -87,5 +92,6 @@ learn_reads-returns-clause-inputs t c =
     (option_map (λ reads. map read_view reads.items) c.in_ok-reads.field-0) c.in_ok-reads.ensures
     (ap (option_map (λ reads. map read_view reads.items)) c.in-Some.is)
     (λ k d h.
-    subst (λ xs. AreKnownOf job c.loop-read.self.buffers.items (stage_read (read_view (slice_index_or xs k d)))) c.deref-read-items.ensures.value
+    subst (λ xs. AreKnownOf job c.loop-read.self.buffers.items (stage_read (read_view (slice_index_or xs k d))))
+    c.deref-read-items.ensures.value
     (c.loop-read.invariant.3 k d (omega (arith, h, c.loop-read-test.false, ap length c.deref-read-items.ensures.value))))

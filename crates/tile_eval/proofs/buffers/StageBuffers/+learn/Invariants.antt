@@ -21,4 +21,5 @@ invariant-learn_reads-loop-read l =
     (length l.self.buffers.items ≡ length (pipeline_in l.job).stages)
     × AreTrue (pipeline_in l.job) l.self.buffers.items
     × KnowsMore l.fn.self.buffers.items l.self.buffers.items
-    × ((k : ℕ) (d : Read) → k < l.read-index → AreKnownOf (pipeline_in l.job) l.self.buffers.items (stage_read (read_view (slice_index_or l.read-items k d))))
+    × ((k : ℕ) (d : Read) → k < l.read-index
+    → AreKnownOf (pipeline_in l.job) l.self.buffers.items (stage_read (read_view (slice_index_or l.read-items k d))))

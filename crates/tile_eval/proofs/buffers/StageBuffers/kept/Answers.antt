@@ -12,7 +12,11 @@ invariant_of-result c =
     let job : Pipeline = pipeline_in c.args.job.now in
     let s : Stage = stage_view c.in-Some.stage.now in
     let valued : IsValued s.body = valued_kind s.body (λ e. let no : c.ne.result ≡ false = rw (c.kind.ensures ∙ e) at c.ne.ensures in cc) in
-    record { size = ap length c.in_ok-computed-in-Some.ensures ∙ values_long job c.args.number s (sym c.in-Some.ensures) valued ∙ ap point_count (sym c.domain.ensures) }
+    record {
+      size =
+          ap length c.in_ok-computed-in-Some.ensures ∙ values_long job c.args.number s (sym c.in-Some.ensures) valued
+          ∙ ap point_count (sym c.domain.ensures);
+    }
 
 pub returns-in_ok-computed-in-Some : goal.returns-in_ok-computed-in-Some
 returns-in_ok-computed-in-Some c =

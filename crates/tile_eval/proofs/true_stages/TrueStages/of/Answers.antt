@@ -9,8 +9,10 @@ pub loop-stage-preserved : goal.loop-stage-preserved
 loop-stage-preserved c = (
   c.in_ok-learn.ensures.places,
   c.in_ok-learn.ensures.right,
-  below_more (λ k. IsServed (pipeline_in c.args.job.now) c.learn.new.self.buffers.items (slice_index c.args.stages.now k)) c.loop-stage.stage-index
-      (λ k h. more_serves (pipeline_in c.args.job.now) (slice_index c.args.stages.now k) c.loop-stage.known.buffers.items c.learn.new.self.buffers.items
+  below_more (λ k. IsServed (pipeline_in c.args.job.now) c.learn.new.self.buffers.items (slice_index c.args.stages.now k))
+      c.loop-stage.stage-index
+      (λ k h. more_serves (pipeline_in c.args.job.now) (slice_index c.args.stages.now k) c.loop-stage.known.buffers.items
+      c.learn.new.self.buffers.items
       c.in_ok-learn.ensures.more (c.loop-stage.invariant.2 k h))
       c.in_ok-learn.ensures.served,
 )

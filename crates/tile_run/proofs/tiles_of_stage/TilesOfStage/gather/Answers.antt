@@ -10,14 +10,19 @@ pick_part-done-requires-clause-there g c =
     let row : FitsSigned w32 c.args.row = search rules in
     rw (to_z-of_z w32 c.args.row row)
     (rest_held c.args.points.now.col c.part.result.col c.loop-done.done c.loop-done.out c.loop-done.invariant.most c.part.ensures.col
-    (λ (z : ℤ). IsGivenAt (g.K.Known.given c.args.self.now.known.now) c.args.self.now.stage c.args.self.now.grid c.args.row (index_at c.args.col.now z)) (length c.args.out.now) c.loop-done.auto.out c.requires.there)
+    (λ (z : ℤ). IsGivenAt (g.K.Known.given c.args.self.now.known.now) c.args.self.now.stage c.args.self.now.grid c.args.row
+    (index_at c.args.col.now z)) (length c.args.out.now) c.loop-done.auto.out c.requires.there)
 
 pub loop-done-preserved : goal.loop-done-preserved
 loop-done-preserved g c = record {
-  most = still_most c.args.points.now.col c.part.result.col c.loop-done.done c.loop-done.out c.loop-done.invariant.most c.part.ensures.col c.pick_part-done.new.out c.pick_part-done.result c.pick_part-done.auto.out c.pick_part-done.ensures.most;
+  most =
+      still_most c.args.points.now.col c.part.result.col c.loop-done.done c.loop-done.out c.loop-done.invariant.most c.part.ensures.col
+      c.pick_part-done.new.out c.pick_part-done.result c.pick_part-done.auto.out c.pick_part-done.ensures.most;
   numbers =
-      row_goes_on c.args.points.now.col c.part.result.col c.loop-done.done c.loop-done.out c.loop-done.invariant.most c.part.ensures.col c.pick_part-done.new.out c.pick_part-done.result c.pick_part-done.auto.out c.pick_part-done.ensures.most
-      (λ (z : ℤ). number_at (g.K.Known.given c.args.self.now.known.now) c.args.self.now.stage c.args.self.now.grid (to_z w32 (of_z w32 c.args.row)) (index_at c.args.col.now z)) c.loop-done.invariant.numbers c.pick_part-done.ensures.numbers;
+      row_goes_on c.args.points.now.col c.part.result.col c.loop-done.done c.loop-done.out c.loop-done.invariant.most c.part.ensures.col
+      c.pick_part-done.new.out c.pick_part-done.result c.pick_part-done.auto.out c.pick_part-done.ensures.most
+      (λ (z : ℤ). number_at (g.K.Known.given c.args.self.now.known.now) c.args.self.now.stage c.args.self.now.grid
+      (to_z w32 (of_z w32 c.args.row)) (index_at c.args.col.now z)) c.loop-done.invariant.numbers c.pick_part-done.ensures.numbers;
 }
 
 pub returns : goal.returns

@@ -26,18 +26,25 @@ part-done-requires-clause-there g c =
     let fits : FitsSigned w32 c.number_after.result = search rules in
     let column : c.number_after.result ≡ c.args.first +ℤ pos c.loop-done.done = search rules in
     rw (to_z-of_z w32 c.args.row row)
-    (rest_held c.args.first (to_z w32 (of_z w32 c.number_after.result)) c.loop-done.done c.loop-done.out c.loop-done.invariant.most (to_z-of_z w32 c.number_after.result fits ∙ column)
-    (λ (z : ℤ). IsGivenAt (g.K.Known.given c.args.self.now.known.now) c.args.self.now.stage c.args.self.now.grid c.args.row z) (length c.args.out.now) c.loop-done.auto.out c.requires)
+    (rest_held c.args.first (to_z w32 (of_z w32 c.number_after.result)) c.loop-done.done c.loop-done.out c.loop-done.invariant.most
+    (to_z-of_z w32 c.number_after.result fits ∙ column)
+    (λ (z : ℤ). IsGivenAt (g.K.Known.given c.args.self.now.known.now) c.args.self.now.stage c.args.self.now.grid c.args.row z)
+    (length c.args.out.now) c.loop-done.auto.out c.requires)
 
 pub loop-done-preserved : goal.loop-done-preserved
 loop-done-preserved g c =
     let fits : FitsSigned w32 c.number_after.result = search rules in
-    let column : to_z w32 (of_z w32 c.number_after.result) ≡ to_z w32 (of_z w32 c.args.first) +ℤ pos c.loop-done.done = to_z-of_z w32 c.number_after.result fits ∙ c.number_after.ensures in
+    let column : to_z w32 (of_z w32 c.number_after.result) ≡ to_z w32 (of_z w32 c.args.first) +ℤ pos c.loop-done.done =
+    to_z-of_z w32 c.number_after.result fits ∙ c.number_after.ensures in
     record {
-      most = still_most (to_z w32 (of_z w32 c.args.first)) (to_z w32 (of_z w32 c.number_after.result)) c.loop-done.done c.loop-done.out c.loop-done.invariant.most column c.part-done.new.out c.part-done.result c.part-done.auto.out c.part-done.ensures.most;
+      most =
+          still_most (to_z w32 (of_z w32 c.args.first)) (to_z w32 (of_z w32 c.number_after.result)) c.loop-done.done c.loop-done.out
+          c.loop-done.invariant.most column c.part-done.new.out c.part-done.result c.part-done.auto.out c.part-done.ensures.most;
       numbers =
-          row_goes_on (to_z w32 (of_z w32 c.args.first)) (to_z w32 (of_z w32 c.number_after.result)) c.loop-done.done c.loop-done.out c.loop-done.invariant.most column c.part-done.new.out c.part-done.result c.part-done.auto.out c.part-done.ensures.most
-          (number_at (g.K.Known.given c.args.self.now.known.now) c.args.self.now.stage c.args.self.now.grid (to_z w32 (of_z w32 c.args.row))) c.loop-done.invariant.numbers c.part-done.ensures.numbers;
+          row_goes_on (to_z w32 (of_z w32 c.args.first)) (to_z w32 (of_z w32 c.number_after.result)) c.loop-done.done c.loop-done.out
+          c.loop-done.invariant.most column c.part-done.new.out c.part-done.result c.part-done.auto.out c.part-done.ensures.most
+          (number_at (g.K.Known.given c.args.self.now.known.now) c.args.self.now.stage c.args.self.now.grid
+          (to_z w32 (of_z w32 c.args.row))) c.loop-done.invariant.numbers c.part-done.ensures.numbers;
     }
 
 pub returns : goal.returns
