@@ -4,7 +4,7 @@
 ghost use Rattle.job.specs.Kept.{pipeline_in};
 
 use crate::bound_jobs::job_of;
-use crate::runs::{chosen, run};
+use crate::runs::{chosen, run, schedule_of};
 use crate::wanted::{holds, tells};
 use accumulators::{Answer, answer_of, join_into, whole};
 use domains::Fold;
@@ -12,6 +12,7 @@ use job::Job;
 use std::alloc::Global;
 use std::test::Fail;
 use std::thread::Threads;
+use tile_run::RunFault;
 
 /// How many samples leave each remainder by 4.
 pub(crate) const REMAINDERS: &str =
@@ -30,6 +31,11 @@ accum low [-8..8] over (x in [1..2], y in [0..3]) min a(x, y) at a(x, y) / 2;
 func b(x in [1..2], y in [0..3]) { else : a(x, y) * a(x, y); }
 accum high [0..2] over (x in [1..2], y in [0..3]) max b(x, y) at y / 2;
 output b max 255;";
+
+/// One tile of an accumulator reads a square of 8,193 rows and columns: more than there is scratch memory for.
+const GATHERS_TOO_MUCH: &str = "image I(1,1);
+func a(x in [0..8192], y in [0..8192]) { else : 1; }
+accum h [0..0] over (x in [0..1023], y in [0..1023]) sum a(8*x, 8*y) + a(8*x+8, 8*y+8) at 0;";
 
 const SIXTEEN: &[u8] = b"P2 4 4 15 0 1 2 3 4 5 6 7 8 9 10 11 15 13 12 14";
 
@@ -153,4 +159,26 @@ fn extremes_at_every_schedule(rt: HostRuntime) -> Result<(), Fail> {
         has_extremes_at(&rt, rt.alloc(), sides, true)?;
     }
     Ok(())
+}
+
+// Whether an answer was refused since the first tile of the accumulator has no room.
+fn is_without_room(job: &Job, answer: &Result<Answer, RunFault>) -> Option<bool> {
+    match answer {
+        Err(fault) => Some(*fault == RunFault::ScratchTooBig(job.key(2, 0, 0)?)),
+        Ok(_) => None,
+    }
+}
+
+fn has_no_room(rt: &(impl Threads + Sync), alloc: Global, job: &Job) -> Result<(), Fail> {
+    let schedule = schedule_of(alloc, job, &[false, true, false])?;
+    let stored = run(rt, alloc, job, &schedule)?;
+    let answer = answer_of(rt, alloc, job, &schedule, &stored);
+    holds(is_without_room(job, &answer), "a tile has no room")
+}
+
+#[test]
+fn a_tile_of_an_accumulator_without_room_is_told(rt: HostRuntime) -> Result<(), Fail> {
+    let alloc = rt.alloc();
+    let job = job_of(alloc, GATHERS_TOO_MUCH, &[], b"P2 1 1 9 0", (1024, 1024))?;
+    has_no_room(&rt, alloc, &job)
 }
