@@ -1,2 +1,4 @@
 pub mod OneTile
 pub mod Judging
+pub mod Pairing
+pub mod Serving

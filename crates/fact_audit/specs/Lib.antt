@@ -1,3 +1,4 @@
 pub mod TrueFacts
 pub mod Shapes
 pub mod Verdicts
+pub mod inside

@@ -2,11 +2,13 @@
 #![tactic(auto)]
 
 pub mod laws;
+mod several;
 mod shape;
 mod single;
 mod truth;
 mod verdict;
 
+pub use several::audit_all;
 pub use shape::shape_ok;
 pub use single::audit;
 pub use verdict::Verdict;

@@ -1,0 +1,100 @@
+//! Verdicts on several facts, for which each stage is computed once.
+
+ghost use Rattle.std.specs.Prelude.{◌≡◌, ◌↔◌, IfOk, IsTrue};
+ghost use Rattle.catalog.specs.Entries.{entry_of, ids_in};
+ghost use Rattle.fact_audit.specs.Verdicts.{AreVerdicts, IsVerdict};
+ghost use Rattle.fact_audit.specs.inside.Ready.{AreNamed, AreReady, AreStagesFor, IsReady};
+
+use crate::truth::verdict_by;
+use crate::verdict::Verdict;
+use catalog::{Catalog, Ids};
+use identity::Key;
+use job::Job;
+use std::alloc::{AllocError, Global};
+use tile_eval::TrueStages;
+use tile_fact::Fact;
+
+/// Judges facts by the jobs of a catalog: a verdict for each, in their order, which is that of [`audit`](crate::audit). Of each job the
+/// stages that facts name, and what these read, are computed whole, each once, and all are kept until the last verdict. For a fact
+/// of no job nothing is computed.
+///
+/// # Errors
+///
+/// Fails only where memory is refused.
+pub fn audit_all(
+    alloc: Global,
+    catalog: &Catalog,
+    facts: &[Fact],
+) -> Result<Vec<Verdict>, AllocError>
+    ensures { IfOk result (λ verdicts. AreVerdicts catalog.now facts.now verdicts.items) }
+{
+    let known = all_stages(alloc, catalog, facts)?;
+    let mut verdicts = Vec::with_capacity(alloc, facts.len())?;
+    for fact in facts {
+        verdicts.push(verdict_among(alloc, catalog, &known, fact)?)?;
+    }
+    Ok(verdicts)
+}
+
+// What is said of a fact, for which all is computed.
+fn verdict_among(
+    alloc: Global,
+    catalog: &Catalog,
+    known: &[TrueStages<'_>],
+    fact: &Fact,
+) -> Result<Verdict, AllocError>
+    requires { IsReady catalog.now known.now fact.now }
+    ensures { IfOk result (IsVerdict catalog.now fact.now) }
+{
+    match catalog.find(&Ids::of_key(fact.key())) {
+        Some(index) => verdict_by(alloc, &known[index], fact),
+        None => Ok(Verdict::Foreign),
+    }
+}
+
+// The stages of each job that facts name, in the order of the jobs.
+fn all_stages<'a>(
+    alloc: Global,
+    catalog: &'a Catalog,
+    facts: &[Fact],
+) -> Result<Vec<TrueStages<'a>>, AllocError>
+    ensures { IfOk result (λ known. AreReady catalog.now facts.now known.items) }
+{
+    let mut known = Vec::with_capacity(alloc, catalog.len())?;
+    for index in 0..catalog.len() {
+        let Some(job) = catalog.job(index) else {
+            unreachable!();
+        };
+        known.push(stages_for(alloc, job, facts)?)?;
+    }
+    Ok(known)
+}
+
+// The stages of a job that facts name, and what these read.
+fn stages_for<'a>(alloc: Global, job: &'a Job, facts: &[Fact]) -> Result<TrueStages<'a>, AllocError>
+    ensures { IfOk result (AreStagesFor facts.now (entry_of job.now)) }
+{
+    let stages = named_stages(alloc, &Ids::of(job), facts)?;
+    TrueStages::of(alloc, job, &stages)
+}
+
+// The stages that facts name of the job of these identities.
+fn named_stages(alloc: Global, ids: &Ids, facts: &[Fact]) -> Result<Vec<usize>, AllocError>
+    ensures { IfOk result (λ stages. AreNamed ids.now facts.now stages.items) }
+{
+    let mut stages = Vec::new(alloc);
+    for fact in facts {
+        let key = fact.key();
+        if has_ids(key, ids) {
+            stages.push(usize::from(key.stage))?;
+        }
+    }
+    Ok(stages)
+}
+
+// Whether the key names the job of these identities.
+fn has_ids(key: &Key, ids: &Ids) -> bool
+    ensures { IsTrue result ↔ ids.now ≡ ids_in key.now }
+{
+    ids.program.as_bytes() == key.program.as_bytes() && ids.input.as_bytes() == key.input.as_bytes()
+}
