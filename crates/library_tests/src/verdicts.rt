@@ -4,7 +4,7 @@
 use crate::bound_jobs::job_of;
 use crate::wanted::{holds, tells};
 use catalog::{AdmitFault, Catalog, Ids};
-use fact_audit::{audit, shape_ok};
+use fact_audit::{audit, audit_all, shape_ok};
 use identity::{Key, ProgramId};
 use job::Job;
 use std::alloc::Global;
@@ -144,6 +144,32 @@ fn bins_over_a_tile(rt: HostRuntime) -> Result<(), Fail> {
     has_verdict(alloc, &jobs, &partial(alloc, key, &[1, 2, 1, 0])?, "True")?;
     has_verdict(alloc, &jobs, &partial(alloc, key, &[1, 2, 0, 1])?, "False")?;
     has_verdict(alloc, &jobs, &partial(alloc, key, &[1, 2, 1])?, "Misshapen")
+}
+
+// A true fact of each job, and of the first a false, a misshapen and a foreign one between them.
+fn several(alloc: Global, copied: Key, counted: Key) -> Result<Vec<Fact>, Fail> {
+    let foreign = Key {
+        program: ProgramId::new([7; 32]),
+        ..copied
+    };
+    let mut facts = Vec::new(alloc);
+    facts.push(tile(alloc, copied, &[1, 2, 3, 4])?)?;
+    facts.push(tile(alloc, copied, &[1, 2, 3, 5])?)?;
+    facts.push(tile(alloc, copied, &[1, 2, 3])?)?;
+    facts.push(tile(alloc, foreign, &[1, 2, 3, 4])?)?;
+    facts.push(partial(alloc, counted, &[1, 2, 1, 0])?)?;
+    Ok(facts)
+}
+
+#[test]
+fn facts_of_several_jobs(rt: HostRuntime) -> Result<(), Fail> {
+    let alloc = rt.alloc();
+    let jobs = two_jobs(alloc)?;
+    let copied = key_at(&jobs, 0, 1, 0, 0).ok_or("no key")?;
+    let counted = key_at(&jobs, 1, 1, 0, 0).ok_or("no key")?;
+    let facts = several(alloc, copied, counted)?;
+    let verdicts = audit_all(alloc, &jobs, &facts)?;
+    tells(alloc, &verdicts, "[True, False, Misshapen, Foreign, True]")
 }
 
 // A shape is told whatever the identities are.
