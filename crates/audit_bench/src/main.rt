@@ -1,0 +1,64 @@
+//! Makes a true fact of each tile of each function of a job, and has all of them judged at once, so many times; prints how many are
+//! called true, and the milliseconds of each round.
+#![tactic(auto)]
+
+mod facts;
+
+use crate::facts::all_facts;
+use anyhow::{Context, Result};
+use catalog::Catalog;
+use domains::TileSides;
+use fact_audit::{Verdict, audit_all};
+use inputs::{job_of, read_input};
+use job::Job;
+use std::env;
+use std::fs::File;
+use std::rt::{Clock, Env, Files};
+use std::time::Instant;
+use streams::Metered;
+use tile_fact::Fact;
+
+// The job of a program and a picture, as `eval` reads them, in tiles of this height and width.
+fn read_job(rt: &(impl AllocGlobal + Files), path: &str, side: u32) -> Result<Job> {
+    let mut source = Metered::new(File::open(rt, path)?);
+    let input = read_input(rt.alloc(), &mut source)?;
+    let sides = TileSides::new(side, side).context("a side from 1 to 1024")?;
+    let mut job = job_of(rt.alloc(), sides, &[], input)?;
+    job.keep_input_id();
+    Ok(job)
+}
+
+fn round(
+    rt: &(impl AllocGlobal + Clock + Print + Eprint),
+    jobs: &Catalog,
+    facts: &[Fact],
+) -> Result<()> {
+    let start = Instant::now(rt)?;
+    let verdicts = audit_all(rt.alloc(), jobs, facts)?;
+    let judged = start.elapsed(rt)?;
+    let held = verdicts
+        .iter()
+        .filter(|verdict| **verdict == Verdict::True)
+        .count();
+    println!(rt; "{held} of {} true", facts.len())?;
+    eprintln!(rt; "judged {:?}", judged)?;
+    Ok(())
+}
+
+fn main(rt: HostRuntime) -> Result<()> {
+    let mut args = env::args(&rt)?;
+    let _ = args.next();
+    let path = args.next().context("a path")?;
+    let side = args.next().context("a side")?.as_str().parse::<u32>()?;
+    let rounds = args.next().context("rounds")?.as_str().parse::<u32>()?;
+    let job = read_job(&rt, path.as_str(), side)?;
+    let facts = all_facts(rt.alloc(), &job)?;
+    let mut jobs = Catalog::new(rt.alloc());
+    if jobs.admit(job).is_err() {
+        anyhow::bail!("the job is not admitted");
+    }
+    for _ in 0..rounds {
+        round(&rt, &jobs, &facts)?;
+    }
+    Ok(())
+}
