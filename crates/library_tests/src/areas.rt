@@ -56,7 +56,8 @@ fn covers(alloc: Global, last: (i32, i32), count: usize) -> Result<(), Fail> {
     holds(Some(tiles.len() == count), "a cover of so many tiles")
 }
 
-// A cover has no limit of its own, neither of rows of tiles nor of columns.
+// A cover has no limit of its own, neither of rows of tiles nor of columns. A body of `Grid::cover` that refuses memory above 64 rows of
+// tiles fails here.
 #[test]
 fn covers_of_many_rows_and_of_many_columns(rt: HostRuntime) -> Result<(), Fail> {
     let alloc = rt.alloc();

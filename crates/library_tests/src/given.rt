@@ -187,6 +187,24 @@ fn partials_are_gathered_over_a_tile_alone(rt: HostRuntime) -> Result<(), Fail> 
     are_gathered(alloc, &job)
 }
 
+/// The columns of a row of 1,024, summed by their remainders by 2.
+const WIDE: &str =
+    "image I(1,1); accum h [0..1] over (x in [0..0], y in [0..1023]) sum y at y % 2;";
+
+fn is_wide(alloc: Global, job: &Job) -> Result<(), Fail> {
+    has_few_stages(job)?;
+    let schedule = chosen(alloc, job, false)?;
+    Scheduled::new(alloc, job, &schedule).has_bins((1, 0, 0), "[261632, 262144]")
+}
+
+// A body of `partial` that refuses memory above a thousand columns fails here.
+#[test]
+fn partials_over_1024_columns(rt: HostRuntime) -> Result<(), Fail> {
+    let alloc = rt.alloc();
+    let job = job_of(alloc, WIDE, &[], b"P2 1 1 9 0", (1, 1024))?;
+    is_wide(alloc, &job)
+}
+
 fn are_computed(alloc: Global, job: &Job) -> Result<(), Fail> {
     has_few_stages(job)?;
     let schedule = schedule_of(alloc, job, &[false, true, false])?;

@@ -29,6 +29,7 @@ fn counting(alloc: Global, header: &[u8], samples: usize) -> Result<Vec<u8>, All
     Ok(bytes)
 }
 
+// A body of `raw` that refuses memory above a million samples fails here.
 #[test]
 fn raw_bytes_of_a_million_samples(rt: HostRuntime) -> Result<(), Fail> {
     let bytes = counting(rt.alloc(), b"P5\n1000 1001\n255\n", 1_001_000)?;

@@ -233,6 +233,7 @@ static PLANNED: [(Case, Tile, &str); 9] = [
     ),
 ];
 
+// A body of `TilePlan::of` that answers memory where a tile takes too much scratch memory fails here.
 #[test]
 fn tiles_are_planned(rt: HostRuntime) -> Result<(), Fail> {
     for (case, tile, wanted) in PLANNED {

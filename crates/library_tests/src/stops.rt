@@ -122,10 +122,15 @@ fn is_metered(alloc: Global) -> bool {
     let one = sink.write(b"ab").ok();
     let stopped = sink.write(b"b").ok();
     let is_read = (first, second, third) == (Some(3), None, Some(3)) && source.failures == 1;
+    let of_four = Metered::new(Stops::after(alloc, b"", 9))
+        .write(b"four")
+        .ok();
     let is_written = (none, one, stopped) == (Some(0), Some(1), None) && sink.failures == 1;
-    is_read && is_written
+    is_read && is_written && of_four == Some(3)
 }
 
+// No clause can say what the reader or the writer inside a meter is asked. Bodies of `Metered` that always fail, that make a failed call
+// again and do not count it, that offer no byte, or not all of four, or that count a write of no bytes, are refused here.
 #[test]
 fn each_call_is_made_once_and_each_failure_counted(rt: HostRuntime) -> Result<(), Fail> {
     for until_stop in 0..=BYTES.len() + 1 {

@@ -217,6 +217,7 @@ fn has_no_room(rt: &(impl Threads + Sync), alloc: Global, job: &Job) -> Result<(
     holds(is_without_room(job, &run), "a tile has no room")
 }
 
+// A body of `run_all` that answers memory in place of this fault fails here.
 #[test]
 fn a_tile_without_room_is_told_before_any_is_computed(rt: HostRuntime) -> Result<(), Fail> {
     let alloc = rt.alloc();

@@ -100,6 +100,16 @@ fn empty_bins_keep_start(rt: HostRuntime) -> Result<(), Fail> {
     )
 }
 
+/// The columns of a row, summed by their remainders by 2.
+const WIDE: &str =
+    "image I(1,1); accum h [0..1] over (x in [0..0], y in [0..16383]) sum y at y % 2;";
+
+// A body of `whole` that refuses memory above so many columns fails here.
+#[test]
+fn totals_over_16384_columns(rt: HostRuntime) -> Result<(), Fail> {
+    has_bins(rt.alloc(), WIDE, b"P2 1 1 9 0", "[67100672, 67108864]")
+}
+
 #[test]
 fn sums_wrap_at_64_bits(rt: HostRuntime) -> Result<(), Fail> {
     let mut sums = [i64::MAX, -1, 5];
@@ -176,6 +186,7 @@ fn has_no_room(rt: &(impl Threads + Sync), alloc: Global, job: &Job) -> Result<(
     holds(is_without_room(job, &answer), "a tile has no room")
 }
 
+// A body of `answer_of` that answers memory in place of this fault fails here.
 #[test]
 fn a_tile_of_an_accumulator_without_room_is_told(rt: HostRuntime) -> Result<(), Fail> {
     let alloc = rt.alloc();

@@ -51,6 +51,26 @@ fn values_of_a_stage(rt: HostRuntime) -> Result<(), Fail> {
     has_values(rt.alloc(), &job)
 }
 
+/// A row that counts, as wide as a program's domains are beside pictures.
+const WIDE: &str =
+    "image I(1,1); func a(x in [0..0], y in [0..16383]) { else : y; } accum h [0..0] over (x in [0..0], y in [0..0]) sum a(x, y) at 0;";
+
+fn is_wide(alloc: Global, job: &Job) -> Result<(), Fail> {
+    let values = plain(alloc, job, 1)?;
+    tells(
+        alloc,
+        &(values.len(), values.first(), values.last()),
+        "(16384, Some(0), Some(16383))",
+    )
+}
+
+// Memory may be refused by any contract of values. A body that refuses it for rows of more columns than a picture has fails here.
+#[test]
+fn a_row_of_16384_columns(rt: HostRuntime) -> Result<(), Fail> {
+    let job = job_of(rt.alloc(), WIDE, &[], b"P2 1 1 9 0", (1, 1024))?;
+    is_wide(rt.alloc(), &job)
+}
+
 fn has_stages(alloc: Global, job: &Job, stages: &[usize], wanted: &str) -> Result<(), Fail> {
     let values = plain_all(alloc, job, stages)?;
     tells(alloc, &values, wanted)
