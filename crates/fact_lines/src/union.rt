@@ -1,0 +1,46 @@
+//! What the fact files of a text hold together.
+
+ghost use Rattle.std.specs.Prelude.{IfOk, IfErr};
+ghost use Rattle.fact_lines.specs.Texts.{IsUnion};
+ghost use Rattle.fact_lines.specs.Faults.{IsFault};
+
+use crate::fault::LinesFault;
+use crate::line::read_line;
+use std::alloc::{AllocError, Global};
+use std::collections::BTreeSet;
+use tile_fact::Fact;
+
+/// The facts of all fact files of the text, rising, each once, or the first fault of the text.
+///
+/// Each line, which LF or the end of the text ends, is one file in hexadecimal digits of either case, or empty and passed
+/// over. A text of no file has no facts. A line's bad digits are found without any memory.
+pub fn union_of(alloc: Global, text: &[u8]) -> Result<Vec<Fact>, LinesFault>
+    // The list is what the text's files hold.
+    ensures found { IfOk result (λ facts. IsUnion text.now facts.items) }
+
+    // A fault is the first one of the text, at its line; memory is refused only for a line that has no fault before it.
+    ensures fault { IfErr result (IsFault text.now) }
+{
+    let facts = read_files(alloc, text)?;
+    Ok(rising(alloc, facts)?)
+}
+
+// The facts of all files in the order in which they stand.
+fn read_files(alloc: Global, text: &[u8]) -> Result<Vec<Fact>, LinesFault> {
+    let mut facts = Vec::new(alloc);
+    let mut number = 0;
+    for line in text.split(|byte| *byte == b'\n') {
+        number += 1;
+        facts.append(&mut read_line(alloc, number, line)?)?;
+    }
+    Ok(facts)
+}
+
+// The same facts, rising, each once. No facts take no memory.
+fn rising(alloc: Global, facts: Vec<Fact>) -> Result<Vec<Fact>, AllocError> {
+    if facts.is_empty() {
+        return Ok(facts);
+    }
+    let union: BTreeSet<Fact> = facts.into_iter().collect(alloc)?;
+    union.into_iter().collect(alloc)
+}
