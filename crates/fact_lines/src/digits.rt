@@ -1,18 +1,59 @@
-//! Bytes into a writer as hexadecimal digits.
+//! Bytes on their way into a writer as hexadecimal digits, through a buffer of fixed size.
 
+ghost use Rattle.std.specs.Prelude.{◌≤◌, length};
+
+use arrayvec::ArrayVec;
 use streams::{Sink, WriteFailed, write_whole};
 
-// How many bytes have their digits written by one call at most.
-const PIECE: usize = 2048;
+const ROOM: usize = 2048;
 
-/// Writes two small digits for each byte, without memory.
-pub fn write_digits<W: Sink>(writer: &mut W, bytes: &[u8]) -> Result<(), WriteFailed> {
-    let mut digits = [0; 2 * PIECE];
-    for piece in bytes.chunks(PIECE) {
-        let digits = &mut digits[..2 * piece.len()];
-        if hex::encode_to_slice(piece, digits).is_ok() {
-            write_whole(writer, digits)?;
+const DIGITS: usize = 4096;
+
+/// Bytes whose digits are still to be written.
+pub type Waiting = ArrayVec<u8, ROOM>;
+
+/// Puts the bytes behind those that wait, and writes the digits of all of these where there is no more room.
+pub fn put<W: Sink>(
+    waiting: &mut Waiting,
+    writer: &mut W,
+    bytes: &[u8],
+) -> Result<(), WriteFailed> {
+    for byte in bytes {
+        if waiting.is_full() {
+            flush(waiting, writer)?;
         }
+        waiting.push(*byte);
     }
     Ok(())
+}
+
+/// Puts the parts, one behind the other.
+pub fn put_parts<W: Sink>(
+    waiting: &mut Waiting,
+    writer: &mut W,
+    parts: &[&[u8]],
+) -> Result<(), WriteFailed> {
+    for part in parts {
+        put(waiting, writer, part)?;
+    }
+    Ok(())
+}
+
+/// Writes the digits of all bytes that wait, after which none does.
+pub fn flush<W: Sink>(waiting: &mut Waiting, writer: &mut W) -> Result<(), WriteFailed> {
+    write_digits(writer, waiting.as_slice())?;
+    waiting.clear();
+    Ok(())
+}
+
+// Two small digits for each of the bytes.
+fn write_digits<W: Sink>(writer: &mut W, bytes: &[u8]) -> Result<(), WriteFailed>
+    requires { length bytes.now ≤ ROOM }
+{
+    let mut digits = [0; DIGITS];
+    let digits = &mut digits[..2 * bytes.len()];
+    match hex::encode_to_slice(bytes, digits) {
+        Ok(()) => write_whole(writer, digits),
+        Err(_) => unreachable!(),
+    }
 }

@@ -6,8 +6,7 @@ ghost use Rattle.fact_lines.specs.Faults.{IsFault};
 
 use crate::fault::LinesFault;
 use crate::line::read_line;
-use std::alloc::{AllocError, Global};
-use std::collections::BTreeSet;
+use std::alloc::Global;
 use tile_fact::Fact;
 
 /// The facts of all fact files of the text, rising, each once, or the first fault of the text.
@@ -21,8 +20,10 @@ pub fn union_of(alloc: Global, text: &[u8]) -> Result<Vec<Fact>, LinesFault>
     // A fault is the first one of the text, at its line; memory is refused only for a line that has no fault before it.
     ensures fault { IfErr result (IsFault text.now) }
 {
-    let facts = read_files(alloc, text)?;
-    Ok(rising(alloc, facts)?)
+    let mut facts = read_files(alloc, text)?;
+    facts.sort_unstable();
+    facts.dedup();
+    Ok(facts)
 }
 
 // The facts of all files in the order in which they stand.
@@ -34,13 +35,4 @@ fn read_files(alloc: Global, text: &[u8]) -> Result<Vec<Fact>, LinesFault> {
         facts.append(&mut read_line(alloc, number, line)?)?;
     }
     Ok(facts)
-}
-
-// The same facts, rising, each once. No facts take no memory.
-fn rising(alloc: Global, facts: Vec<Fact>) -> Result<Vec<Fact>, AllocError> {
-    if facts.is_empty() {
-        return Ok(facts);
-    }
-    let union: BTreeSet<Fact> = facts.into_iter().collect(alloc)?;
-    union.into_iter().collect(alloc)
 }

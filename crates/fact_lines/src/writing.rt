@@ -5,8 +5,8 @@ ghost use Rattle.std.specs.Prelude.{◌≡◌, ◌<◌, ◌≤◌, ◌^◌, Matc
 ghost use Rattle.streams.specs.Streams.{AppendsPart, CountsFailure};
 ghost use Rattle.fact_lines.specs.Written.{written};
 
-use crate::digits::write_digits;
-use crate::records::write_record;
+use crate::digits::{Waiting, flush};
+use crate::records::put_file;
 use streams::{Sink, WriteFailed, write_whole};
 use tile_fact::Fact;
 
@@ -27,10 +27,8 @@ pub fn write_union<W: Sink>(facts: &[Fact], count: u32, writer: &mut W) -> Resul
         (AppendsPart (W.contents writer.old) (W.contents writer.new) (written facts.now)) }
     ensures failed { CountsFailure result (W.failures writer.old) (W.failures writer.new) }
 {
-    write_digits(writer, b"PTF1")?;
-    write_digits(writer, &count.to_be_bytes())?;
-    for fact in facts {
-        write_record(writer, fact)?;
-    }
+    let mut waiting = Waiting::new();
+    put_file(&mut waiting, writer, count, facts)?;
+    flush(&mut waiting, writer)?;
     write_whole(writer, b"\n")
 }
