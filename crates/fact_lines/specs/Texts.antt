@@ -24,11 +24,11 @@ pub record IsFileLine (line : List ℕ) (facts : List Fact) : Type 0 where
 abbrev pub IsGoodLine : List ℕ → Type 0
 IsGoodLine line = (line ≡ []) ⊎ ((facts : List Fact) × IsFileLine line facts)
 
--- a file of the text has the fact
-pub record IsInText (text : List ℕ) (fact : Fact) : Type 0 where
+-- a file of the lines has the fact
+pub record IsOnLines (all : List (List ℕ)) (fact : Fact) : Type 0 where
   pub line : List ℕ
   pub facts : List Fact
-  pub stands : Contains (lines text) line
+  pub stands : Contains all line
   pub file : IsFileLine line facts
   pub has : Contains facts fact
 
@@ -36,4 +36,4 @@ pub record IsInText (text : List ℕ) (fact : Fact) : Type 0 where
 pub record IsUnion (text : List ℕ) (facts : List Fact) : Type 0 where
   pub good : All IsGoodLine (lines text)
   pub rise : Rises facts
-  pub same : (fact : Fact) → Contains facts fact ↔ IsInText text fact
+  pub same : (fact : Fact) → Contains facts fact ↔ IsOnLines (lines text) fact

@@ -1,12 +1,11 @@
 //! What the definitions amount to, proved once for the crates above. A law is a function whose clauses are the law.
 
-ghost use Rattle.std.specs.List.{Contains};
-ghost use Rattle.std.specs.Prelude.{◌≡◌, ◌≢◌, ℕ, List, IsOk};
+ghost use Rattle.std.specs.Prelude.{◌≡◌, ℕ, List};
 ghost use Rattle.tile_fact.specs.declared.fact.Fact.{Fact};
 ghost use Rattle.tile_fact.specs.FactFile.{AreFacts};
 ghost use Rattle.fact_lines.specs.declared.fault.LinesFault.{LinesFault};
 ghost use Rattle.fact_lines.specs.declared.fault.LinesFault.TheVariants.{Memory};
-ghost use Rattle.fact_lines.specs.Texts.{IsInText, IsUnion};
+ghost use Rattle.fact_lines.specs.Texts.{IsUnion};
 ghost use Rattle.fact_lines.specs.Faults.{IsFault};
 ghost use Rattle.fact_lines.specs.Written.{written};
 
