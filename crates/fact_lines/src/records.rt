@@ -1,5 +1,12 @@
 //! The bytes of a fact file, one after the other.
 
+ghost use Rattle.std.specs.Int.{w32, w64};
+ghost use Rattle.std.specs.List.{flat_map};
+ghost use Rattle.std.specs.Prelude.{◌≡◌, ◌++◌, length};
+ghost use Rattle.tile_fact.specs.FactFile.{fact_file, fact_record, number_bytes};
+ghost use Rattle.fact_lines.specs.inside.Passing.{Puts};
+ghost use Rattle.fact_lines.specs.inside.Labels.{label_bytes};
+
 use crate::digits::{Waiting, put, put_parts};
 use streams::{Sink, WriteFailed};
 use tile_fact::{Body, Fact};
@@ -10,7 +17,12 @@ pub fn put_file<W: Sink>(
     writer: &mut W,
     count: u32,
     facts: &[Fact],
-) -> Result<(), WriteFailed> {
+) -> Result<(), WriteFailed>
+    requires { count ≡ length facts.now }
+    ensures { Puts result (fact_file facts.now) waiting.old.items waiting.new.items
+        (W.contents writer.old) (W.contents writer.new)
+        (W.failures writer.old) (W.failures writer.new) }
+{
     put_parts(waiting, writer, &[b"PTF1", &count.to_be_bytes()])?;
     for fact in facts {
         put_record(waiting, writer, fact)?;
@@ -22,7 +34,11 @@ fn put_record<W: Sink>(
     waiting: &mut Waiting,
     writer: &mut W,
     fact: &Fact,
-) -> Result<(), WriteFailed> {
+) -> Result<(), WriteFailed>
+    ensures { Puts result (fact_record fact.now) waiting.old.items waiting.new.items
+        (W.contents writer.old) (W.contents writer.new)
+        (W.failures writer.old) (W.failures writer.new) }
+{
     put_label(waiting, writer, fact)?;
     match fact.body() {
         Body::Tile(samples) => put_samples(waiting, writer, samples.as_slice()),
@@ -31,11 +47,11 @@ fn put_record<W: Sink>(
 }
 
 // What stands before the numbers.
-fn put_label<W: Sink>(
-    waiting: &mut Waiting,
-    writer: &mut W,
-    fact: &Fact,
-) -> Result<(), WriteFailed> {
+fn put_label<W: Sink>(waiting: &mut Waiting, writer: &mut W, fact: &Fact) -> Result<(), WriteFailed>
+    ensures { Puts result (label_bytes fact.now) waiting.old.items waiting.new.items
+        (W.contents writer.old) (W.contents writer.new)
+        (W.failures writer.old) (W.failures writer.new) }
+{
     let (kind, count) = match fact.body() {
         Body::Tile(samples) => (0, samples.as_slice().len()),
         Body::Partial(bins) => (1, bins.as_slice().len()),
@@ -60,18 +76,22 @@ fn put_samples<W: Sink>(
     waiting: &mut Waiting,
     writer: &mut W,
     samples: &[i32],
-) -> Result<(), WriteFailed> {
+) -> Result<(), WriteFailed>
+    ensures { Puts result (flat_map (number_bytes w32) samples.now) waiting.old.items waiting.new.items
+        (W.contents writer.old) (W.contents writer.new)
+        (W.failures writer.old) (W.failures writer.new) }
+{
     for sample in samples {
         put(waiting, writer, &sample.to_be_bytes())?;
     }
     Ok(())
 }
 
-fn put_bins<W: Sink>(
-    waiting: &mut Waiting,
-    writer: &mut W,
-    bins: &[i64],
-) -> Result<(), WriteFailed> {
+fn put_bins<W: Sink>(waiting: &mut Waiting, writer: &mut W, bins: &[i64]) -> Result<(), WriteFailed>
+    ensures { Puts result (flat_map (number_bytes w64) bins.now) waiting.old.items waiting.new.items
+        (W.contents writer.old) (W.contents writer.new)
+        (W.failures writer.old) (W.failures writer.new) }
+{
     for bin in bins {
         put(waiting, writer, &bin.to_be_bytes())?;
     }

@@ -1,8 +1,9 @@
 //! What the fact files of a text hold together.
 
 ghost use Rattle.std.specs.Prelude.{IfOk, IfErr};
-ghost use Rattle.fact_lines.specs.Texts.{IsUnion};
+ghost use Rattle.fact_lines.specs.Texts.{IsUnion, lines};
 ghost use Rattle.fact_lines.specs.Faults.{IsFault};
+ghost use Rattle.fact_lines.specs.inside.Gathering.{Gathers};
 
 use crate::fault::LinesFault;
 use crate::line::read_line;
@@ -27,7 +28,10 @@ pub fn union_of(alloc: Global, text: &[u8]) -> Result<Vec<Fact>, LinesFault>
 }
 
 // The facts of all files in the order in which they stand.
-fn read_files(alloc: Global, text: &[u8]) -> Result<Vec<Fact>, LinesFault> {
+fn read_files(alloc: Global, text: &[u8]) -> Result<Vec<Fact>, LinesFault>
+    ensures found { IfOk result (λ facts. Gathers (lines text.now) facts.items) }
+    ensures fault { IfErr result (IsFault text.now) }
+{
     let mut facts = Vec::new(alloc);
     let mut number = 0;
     for line in text.split(|byte| *byte == b'\n') {
