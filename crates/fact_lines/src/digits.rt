@@ -2,7 +2,7 @@
 
 ghost use Rattle.std.specs.Io.KnownBytes.{Appends};
 ghost use Rattle.std.specs.List.{flat_map};
-ghost use Rattle.std.specs.Prelude.{◌≡◌, ◌≤◌, [], length, OnOk, OnErr};
+ghost use Rattle.std.specs.Prelude.{◌≡◌, ◌<◌, ◌≤◌, [], length, OnOk, OnErr};
 ghost use Rattle.hex.specs.Hex.{encode_lower};
 ghost use Rattle.streams.specs.Streams.{AppendsPart, CountsFailure};
 ghost use Rattle.fact_lines.specs.inside.Passing.{Puts};
@@ -24,10 +24,21 @@ pub fn put<W: Sink>(waiting: &mut Waiting, writer: &mut W, bytes: &[u8]) -> Resu
         (W.failures writer.old) (W.failures writer.new) }
 {
     for byte in bytes {
-        if waiting.is_full() {
-            flush(waiting, writer)?;
-        }
+        make_room(waiting, writer)?;
         waiting.push(*byte);
+    }
+    Ok(())
+}
+
+// Sees that one byte more may wait.
+fn make_room<W: Sink>(waiting: &mut Waiting, writer: &mut W) -> Result<(), WriteFailed>
+    ensures puts { Puts result [] waiting.old.items waiting.new.items
+        (W.contents writer.old) (W.contents writer.new)
+        (W.failures writer.old) (W.failures writer.new) }
+    ensures room { OnOk result (length waiting.new.items < ROOM) }
+{
+    if waiting.is_full() {
+        flush(waiting, writer)?;
     }
     Ok(())
 }

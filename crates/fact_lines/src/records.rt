@@ -24,6 +24,18 @@ pub fn put_file<W: Sink>(
         (W.failures writer.old) (W.failures writer.new) }
 {
     put_parts(waiting, writer, &[b"PTF1", &count.to_be_bytes()])?;
+    put_records(waiting, writer, facts)
+}
+
+fn put_records<W: Sink>(
+    waiting: &mut Waiting,
+    writer: &mut W,
+    facts: &[Fact],
+) -> Result<(), WriteFailed>
+    ensures { Puts result (flat_map fact_record facts.now) waiting.old.items waiting.new.items
+        (W.contents writer.old) (W.contents writer.new)
+        (W.failures writer.old) (W.failures writer.new) }
+{
     for fact in facts {
         put_record(waiting, writer, fact)?;
     }
