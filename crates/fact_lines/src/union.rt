@@ -6,7 +6,7 @@ ghost use Rattle.fact_lines.specs.Faults.{IsFault};
 ghost use Rattle.fact_lines.specs.inside.Gathering.{Gathers};
 
 use crate::fault::LinesFault;
-use crate::line::read_line;
+use crate::line::add_line;
 use std::alloc::Global;
 use tile_fact::Fact;
 
@@ -36,7 +36,7 @@ fn read_files(alloc: Global, text: &[u8]) -> Result<Vec<Fact>, LinesFault>
     let mut number = 0;
     for line in text.split(|byte| *byte == b'\n') {
         number += 1;
-        facts.append(&mut read_line(alloc, number, line)?)?;
+        add_line(alloc, number, line, &mut facts)?;
     }
     Ok(facts)
 }
