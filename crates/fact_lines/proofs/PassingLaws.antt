@@ -200,12 +200,14 @@ record_parts fact =
     let F : Body → Type 0 =
     λ body. (behind : List ℕ) × (key_bytes fact.key ++ body_bytes body ≡ (key_bytes fact.key ++ kind body ∷ to_be_bytes w32 (length (numbers body))) ++ behind) in
     elim (fact.body) as F [
-      | Tile samples ↦
-          (flat_map (number_bytes w32) samples,
-           sym (append_assoc (key_bytes fact.key) (0 ∷ to_be_bytes w32 (length samples)) (flat_map (number_bytes w32) samples)))
-      | Partial bins ↦
-          (flat_map (number_bytes w64) bins,
-           sym (append_assoc (key_bytes fact.key) (1 ∷ to_be_bytes w32 (length bins)) (flat_map (number_bytes w64) bins)))
+      | Tile samples ↦ (
+        flat_map (number_bytes w32) samples,
+        sym (append_assoc (key_bytes fact.key) (0 ∷ to_be_bytes w32 (length samples)) (flat_map (number_bytes w32) samples)),
+      )
+      | Partial bins ↦ (
+        flat_map (number_bytes w64) bins,
+        sym (append_assoc (key_bytes fact.key) (1 ∷ to_be_bytes w32 (length bins)) (flat_map (number_bytes w64) bins)),
+      )
     ]
 
 pub label_breaks : (fact : Fact) (was : List ℕ) (a b : Option (List ℕ)) (n m : ℕ) → Breaks (label_bytes fact) was a b n m

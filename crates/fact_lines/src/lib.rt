@@ -2,6 +2,7 @@
 #![tactic(auto)]
 
 mod digits;
+mod distinct;
 mod fault;
 pub mod laws;
 mod line;

@@ -5,6 +5,7 @@ ghost use Rattle.fact_lines.specs.Texts.{IsUnion, lines};
 ghost use Rattle.fact_lines.specs.Faults.{IsFault};
 ghost use Rattle.fact_lines.specs.inside.Gathering.{Gathers};
 
+use crate::distinct::sort_once;
 use crate::fault::LinesFault;
 use crate::line::add_line;
 use std::alloc::Global;
@@ -22,8 +23,7 @@ pub fn union_of(alloc: Global, text: &[u8]) -> Result<Vec<Fact>, LinesFault>
     ensures fault { IfErr result (IsFault text.now) }
 {
     let mut facts = read_files(alloc, text)?;
-    facts.sort_unstable();
-    facts.dedup();
+    sort_once(&mut facts);
     Ok(facts)
 }
 
