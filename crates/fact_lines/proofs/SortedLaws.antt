@@ -47,3 +47,12 @@ sorted_union text old new gathered strict kept none_new = record {
     λ on. has_it new fact (kept fact ((gathered.same fact).1 on)),
   );
 }
+
+pub ordered_union : (cmp : Fact → Fact → Ordering) → ((a b : Fact) → cmp a b ≡ fact_cmp a b) → (text : List ℕ) (old new : List Fact)
+    → Gathers (lines text) old → IsStrictlySortedBy cmp new
+    → ((x : Fact) → Contains old x → Any (λ y. eq_by_cmp cmp x y ≡ true) new)
+    → ((x : Fact) → Contains new x → Contains old x) → IsUnion text new
+ordered_union cmp same text old new gathered strict kept none_new =
+    let whole : cmp ≡ fact_cmp = λ i a b. same a b i in
+    sorted_union text old new gathered (subst (λ (c : Fact → Fact → Ordering). IsStrictlySortedBy c new) whole strict)
+    (λ x h. subst (λ (c : Fact → Fact → Ordering). Any (λ y. eq_by_cmp c x y ≡ true) new) whole (kept x h)) none_new

@@ -4,7 +4,6 @@
 mod digits;
 mod distinct;
 mod fault;
-pub mod laws;
 mod line;
 mod records;
 mod union;
