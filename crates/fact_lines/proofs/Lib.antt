@@ -1,0 +1,4 @@
+pub mod PassingLaws
+pub mod GatheringLaws
+pub mod HexLaws
+pub mod SortedLaws

@@ -1,0 +1,31 @@
+//! Why a text is not one of fact files.
+
+ghost use Rattle.std.specs.Prelude.{◌≡◌};
+ghost use Rattle.fact_lines.specs.declared.fault.LinesFault.TheVariants.{Memory};
+
+use std::alloc::AllocError;
+use thiserror::Error;
+use tile_fact::FactFault;
+
+/// The first fault of a text, by the number of its line. Lines are counted from 1, empty ones too.
+#[derive(Clone, Copy, Debug, PartialEq, Eq, Error)]
+pub enum LinesFault {
+    /// The line is not empty and is no hexadecimal digits, two for each byte.
+    #[error("line {line}: bad hex")]
+    BadHex { line: usize },
+    /// The line is the digits of bytes that are no fact file: their first fault, with its offset in these bytes. It is
+    /// never [`FactFault::Memory`].
+    #[error("line {line}: {fault}")]
+    BadFile { line: usize, fault: FactFault },
+    /// There is no memory for a line of digits, before which each line is empty or a fact file, or for the union.
+    #[error("out of memory")]
+    Memory,
+}
+
+impl From<AllocError> for LinesFault {
+    ghost from_gives = { λ _ fault. fault ≡ Memory };
+
+    fn from(_fault: AllocError) -> LinesFault {
+        LinesFault::Memory
+    }
+}

@@ -1,0 +1,34 @@
+//! A list of facts as the line of its file.
+
+ghost use Rattle.std.specs.Io.KnownBytes.{Appends};
+ghost use Rattle.std.specs.Prelude.{◌≡◌, ◌<◌, ◌≤◌, ◌^◌, MatchOption, OnOk, OnErr, length};
+ghost use Rattle.streams.specs.Streams.{AppendsPart, CountsFailure};
+ghost use Rattle.fact_lines.specs.Written.{written};
+
+use crate::digits::{Waiting, flush};
+use crate::records::put_file;
+use streams::{Sink, WriteFailed, write_whole};
+use tile_fact::Fact;
+
+/// How many facts there are, if a fact file can count them: none past 4,294,967,295.
+pub fn count_facts(facts: &[Fact]) -> Option<u32>
+    ensures { MatchOption result (2 ^ 32 ≤ length facts.now) (λ count. count ≡ length facts.now) }
+{
+    u32::try_from(facts.len()).ok()
+}
+
+/// Writes the fact file of the facts in small hexadecimal digits, and LF. No memory is taken: the digits go through a
+/// buffer of fixed size.
+pub fn write_union<W: Sink>(facts: &[Fact], count: u32, writer: &mut W) -> Result<(), WriteFailed>
+    requires { count ≡ length facts.now }
+    ensures ok { OnOk result
+        (Appends (W.contents writer.old) (W.contents writer.new) (written facts.now)) }
+    ensures part { OnErr result
+        (AppendsPart (W.contents writer.old) (W.contents writer.new) (written facts.now)) }
+    ensures failed { CountsFailure result (W.failures writer.old) (W.failures writer.new) }
+{
+    let mut waiting = Waiting::new();
+    put_file(&mut waiting, writer, count, facts)?;
+    flush(&mut waiting, writer)?;
+    write_whole(writer, b"\n")
+}
