@@ -1,3 +1,9 @@
 pub mod ListLaws
 pub mod LentLaws
 pub mod AskedLaws
+pub mod WantedTiles
+pub mod Judged
+pub mod OneHeld
+pub mod HeldPartials
+pub mod HeldPictures
+pub mod TrueStates

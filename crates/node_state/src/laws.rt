@@ -1,7 +1,13 @@
 //! What the definitions amount to, proved once for the crates above. A law is a function whose clauses are the law.
 
+ghost use Rattle.accumulators.specs.Answers.{IsAnswer};
+ghost use Rattle.accumulators.specs.declared.answer.Answer.{Answer};
+ghost use Rattle.catalog.specs.Entries.{Entry, IsCatalog, ids_of};
 ghost use Rattle.identity.specs.declared.key.Key.{Key};
+ghost use Rattle.job.specs.WellFormed.{IsJob};
+ghost use Rattle.node_state.specs.HeldAnswers.{HoldsTrueFacts, IsAnswerFault, IsFaultOfTrueFacts, IsHeldAnswer};
 ghost use Rattle.node_state.specs.States.{State, holds, lent};
+ghost use Rattle.node_state.specs.declared.answer_fault.AnswerFault.{AnswerFault};
 ghost use Rattle.std.specs.List.{Contains};
 ghost use Rattle.std.specs.Prelude.{◌≡◌, ◌↔◌, true, List};
 ghost use Rattle.tile_fact.specs.declared.fact.Fact.{Fact};
@@ -10,4 +16,17 @@ ghost use Rattle.tile_fact.specs.declared.fact.Fact.{Fact};
 pub fn lent_facts_are_held()
     ensures lent { (s : State) (keys : List Key) (f : Fact) →
         (holds (lent s keys) f ≡ true) ↔ ((holds s f ≡ true) × Contains keys f.key) }
+{}
+
+/// Where all that is held is true of the jobs of a catalog, what is answered for one of them is its image and its totals. If there is
+/// no answer, then nothing is held of the least wanted key that is not ready, or all are held and there was no memory.
+pub fn true_states_answer_the_job()
+    ensures answer { (catalog : List Entry) (entry : Entry) (s : State) (answer : Answer)
+        → IsCatalog catalog → Contains catalog entry → IsJob entry.pipeline
+        → HoldsTrueFacts catalog s → IsHeldAnswer s (ids_of entry).program entry.pipeline answer
+        → IsAnswer entry.pipeline answer }
+    ensures fault { (catalog : List Entry) (entry : Entry) (s : State) (fault : AnswerFault)
+        → IsCatalog catalog → Contains catalog entry → HoldsTrueFacts catalog s
+        → IsAnswerFault s (ids_of entry).program entry.pipeline fault
+        → IsFaultOfTrueFacts s (ids_of entry).program entry.pipeline fault }
 {}

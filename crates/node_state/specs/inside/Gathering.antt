@@ -1,0 +1,11 @@
+-- The partials that are held of a stage, row by row.
+use Rattle.std.specs.List.{flat_map, range_with_len}
+use Rattle.std.specs.Prelude.{ℕ, ℤ, List}
+use Rattle.job.specs.Pipeline.{Pipeline}
+use Rattle.node_state.specs.HeldAnswers.{partials_of}
+use Rattle.node_state.specs.States.{State}
+use Rattle.node_state.specs.inside.Judging.{tile_key}
+
+-- those of the first n tiles of row i
+abbrev pub row_partials : State → List ℕ → Pipeline → ℕ → ℕ → ℕ → List (List ℤ)
+row_partials s program job g n i = flat_map (λ j. partials_of s (tile_key program job g i j)) (range_with_len 0 n)
