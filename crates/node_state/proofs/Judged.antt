@@ -1,12 +1,12 @@
 -- What the search for the first tile that is not ready found.
-use Rattle.std.proofs.Common.{List, ℕ, ◌≡◌, ◌<◌, inl, inr, ap, sym, ◌∙◌, subst, Some}
+use Rattle.std.proofs.Common.{arith, List, ℕ, ◌≡◌, ◌<◌, ◌≤◌, inl, inr, ap, sym, ◌∙◌, subst, true, None, Some}
 use Rattle.std.specs.Prelude.{Contains}
-use Rattle.std.proofs.lemmas.Option.{slice_get_within, same_Some}
-use Rattle.domains.specs.Tiles.{tile_cols}
+use Rattle.std.proofs.lemmas.Option.{slice_get_within, none-some, same_Some}
+use Rattle.domains.specs.Tiles.{tile_cols, tile_rows}
 use Rattle.domains.specs.declared.grid.Grid.{Grid}
 use Rattle.grouping.proofs.TilesAreTargets.{gridded}
 use Rattle.identity.specs.declared.key.Key.{Key}
-use Rattle.job.specs.Answers.{Tile}
+use Rattle.job.specs.Answers.{Tile, is_result}
 use Rattle.job.specs.Pipeline.{Pipeline}
 use Rattle.job.specs.Readers.{grid_at}
 use Rattle.overlap_tiles.specs.Needs.{IsKeyBefore, IsTileBefore}
@@ -16,10 +16,27 @@ use Rattle.node_state.specs.HeldAnswers.{IsReady, IsDisputed, IsMisshapen, AllAr
 use Rattle.node_state.specs.States.{State}
 use Rattle.node_state.specs.declared.answer_fault.AnswerFault.{AnswerFault}
 use Rattle.node_state.specs.declared.answer_fault.AnswerFault.TheVariants as fault
-use Rattle.node_state.specs.inside.Judging.{tile_key, IsFaultAt, JobIsReady, JobHasFault}
+use Rattle.node_state.specs.inside.Judging.{tile_key, IsFaultAt, RowIsReady, GridIsReady, StageIsReady, JobIsReady, JobHasFault}
 use Rattle.node_state.proofs.WantedTiles.{IsWantedTile, wanted_key, key_wanted, tile_before}
 
 module _ (s : State) (program : List ℕ) (job : Pipeline) where
+  -- ---- a stage
+
+  pub stage_ready : (g n : ℕ) (grid : Grid) → grid_at job g ≡ Some grid → tile_rows grid ≤ n
+      → ((i : ℕ) → i < n → RowIsReady s program job g (tile_cols grid) i) → StageIsReady s program job g
+  stage_ready g n grid there past rows other at =
+      subst (λ (d : Grid). GridIsReady s program job g d) (same_Some grid other (sym there ∙ at)) (λ i low. rows i (omega arith))
+
+  pub none_ready : (g : ℕ) → grid_at job g ≡ None → StageIsReady s program job g
+  none_ready g none grid there = absurd (none-some grid (sym none ∙ there))
+
+  -- of all that is ready the tiles of a stage are
+  pub stage_of_all : (g : ℕ) → AllAreReady s program job → is_result job g ≡ true → StageIsReady s program job g
+  stage_of_all g ready wanted grid there i row j col =
+      ready (tile_key program job g i j)
+      (key_wanted program job (record { stage = g; row = i; col = j })
+      (record { wanted = wanted; grid = grid; there = there; tile = (row, col) }))
+
   -- ---- all are ready
 
   pub all_ready : JobIsReady s program job → AllAreReady s program job

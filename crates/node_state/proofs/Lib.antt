@@ -6,4 +6,5 @@ pub mod Judged
 pub mod OneHeld
 pub mod HeldPartials
 pub mod HeldPictures
+pub mod Answered
 pub mod TrueStates

@@ -1,5 +1,5 @@
 -- What is held of a key of which one fact is held.
-use Rattle.std.proofs.Common.{ℕ, ℤ, ◌≡◌, refl, sym, ap, ◌∙◌, subst, true, Some, List, [], ◌∷◌, length}
+use Rattle.std.proofs.Common.{ℕ, ℤ, ◌≡◌, refl, sym, ap, ◌∙◌, subst, true, Some, None, List, [], ◌∷◌, length}
 use Rattle.std.specs.Prelude.{slice_get}
 use Rattle.std.specs.List.{Contains, flat_map}
 use Rattle.std.proofs.lemmas.Bool.{true≢false}
@@ -17,7 +17,9 @@ use Rattle.job.specs.WellFormed.{IsFunction}
 use Rattle.tile_fact.specs.declared.body.Body as fact_body
 use Rattle.tile_fact.specs.declared.body.Body.TheVariants.{Tile, Partial}
 use Rattle.tile_fact.specs.declared.fact.Fact.{Fact}
-use Rattle.node_state.specs.HeldAnswers.{IsReady, samples_in, bins_in, partials_of}
+use Rattle.node_state.specs.Answers.{counted, known_of}
+use Rattle.node_state.specs.declared.answers.Known.TheVariants.{One}
+use Rattle.node_state.specs.HeldAnswers.{HasOneFact, IsReady, samples_in, bins_in, partials_of}
 use Rattle.node_state.specs.States.{State, holds, facts_of}
 
 -- ---- the fact
@@ -74,3 +76,30 @@ bins_fit job key xs span fits there =
 pub partials_alone : (s : State) (key : Key) (fact : Fact) → facts_of s key ≡ fact ∷ [] → partials_of s key ≡ bins_in fact.body
 partials_alone s key fact alone =
     ap (λ xs. flat_map (λ f. bins_in f.body) xs) alone ∙ append-nil (bins_in fact.body)
+
+-- ---- what is read of a key
+
+alone : (xs : List Fact) (fact : Fact) → counted (length xs) ≡ One → slice_get xs 0 ≡ Some fact → xs ≡ fact ∷ []
+alone [] fact one e = absurd (cc)
+alone (x ∷ []) fact one e = ap (λ y. y ∷ []) (same_Some x fact e)
+alone (x ∷ y ∷ more) fact one e = absurd (cc)
+
+some_there : (xs : List Fact) → counted (length xs) ≡ One → slice_get xs 0 ≡ None → ⊥
+some_there [] one e = absurd (cc)
+some_there (x ∷ []) one e = absurd (cc)
+some_there (x ∷ y ∷ more) one e = absurd (cc)
+
+pub one_read : (s : State) (key : Key) (P : Fact → Type 0) (fact : Fact) → known_of s key ≡ One
+    → slice_get (facts_of s key) 0 ≡ Some fact → P fact → HasOneFact s key P
+one_read s key P fact one there is = record { fact = fact; alone = alone (facts_of s key) fact one there; is = is }
+
+pub one_there : (s : State) (key : Key) → known_of s key ≡ One → slice_get (facts_of s key) 0 ≡ None → ⊥
+one_there s key one none = some_there (facts_of s key) one none
+
+pub bins_read : (s : State) (job : Pipeline) (key : Key) (fact : Fact) (xs : List ℤ) → IsReady s job key
+    → slice_get (facts_of s key) 0 ≡ Some fact → fact.body ≡ Partial xs
+    → (span : Ends) → stage_bins (slice_get job.stages key.stage) ≡ Some span → length xs ≡ len_of span
+bins_read s job key fact xs is there body span at =
+    let same = same_Some is.fact fact (sym (first_alone s key is.fact is.alone) ∙ there) in
+    bins_fit job key xs span
+    (subst (BodyFits job key) (ap (λ (f : Fact). f.body) same ∙ body) (fits_key s job key is)) at

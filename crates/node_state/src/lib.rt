@@ -2,7 +2,11 @@
 #![tactic(auto)]
 
 mod answer_fault;
+mod answering;
 mod answers;
+mod held;
+mod held_totals;
+mod judging;
 pub mod laws;
 mod lending;
 mod missing;
