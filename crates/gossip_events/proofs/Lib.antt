@@ -1,0 +1,4 @@
+pub mod KeyLaws
+pub mod PlaceLaws
+pub mod VerbLaws
+pub mod ScriptLaws

@@ -1,0 +1,10 @@
+use Rattle.gossip_events.proofs.KeyLaws.{more_keys, no_keys}
+use Rattle.gossip_events.proofs.naming.keys_of.Goals as goal
+
+pub loop-place-preserved : goal.loop-place-preserved
+loop-place-preserved c =
+    more_keys c.args.jobs.now c.args.places.now c.loop-place.place-index _ _ _ _ c.loop-place-test.true c.loop-place.invariant c.in-Some.ensures.some c.in_ok-push.ensures.items
+
+pub returns-in_default-clause-none : goal.returns-in_default-clause-none
+returns-in_default-clause-none c is =
+    no_keys c.args.jobs.now c.args.places.now c.loop-place.place-index _ c.loop-place-test.true c.in_default.ensures.none

@@ -1,0 +1,5 @@
+pub mod Codes
+pub mod FaultTable
+pub mod Scripts
+pub mod ScriptFaults
+pub mod inside

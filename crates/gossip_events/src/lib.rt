@@ -1,0 +1,21 @@
+//! What can happen to the nodes of a world, and scripts that tell it line by line.
+#![tactic(auto)]
+
+mod event;
+mod fault;
+mod keys;
+mod line;
+mod naming;
+mod order;
+mod order_words;
+mod place;
+mod places;
+mod script;
+mod verb;
+mod words;
+
+pub use event::Event;
+pub use fault::ScriptFault;
+pub use keys::Keys;
+pub use line::MOST_EVENTS;
+pub use script::script_of;

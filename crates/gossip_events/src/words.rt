@@ -1,0 +1,61 @@
+//! Words, and the numbers that they spell.
+
+ghost use Rattle.std.specs.Prelude.{◌≡◌, ◌==◌, ℕ, IfNone, IfOk, IfSome, map};
+ghost use Rattle.std.specs.List.{slice_split};
+ghost use Rattle.gossip_events.specs.Scripts.{SpellsNode, SpellsNumber, SpellsStage, words};
+
+use std::alloc::{AllocError, Global};
+
+/// The words of a line, between which stands one blank each.
+pub fn words_of<'a>(alloc: Global, line: &'a [u8]) -> Result<Vec<&'a [u8]>, AllocError>
+    ensures { IfOk result (λ found. map (λ w. w.now) found.items ≡ words line.now) }
+{
+    line.split(|byte| *byte == b' ').collect(alloc)
+}
+
+/// The parts of a word, between which stands one colon each.
+pub fn parts_of<'a>(alloc: Global, word: &'a [u8]) -> Result<Vec<&'a [u8]>, AllocError>
+    ensures { IfOk result
+        (λ found. map (λ p. p.now) found.items ≡ slice_split (λ b. b == 58) word.now) }
+{
+    word.split(|byte| *byte == b':').collect(alloc)
+}
+
+/// The number that the word spells in digits alone, within 32 bits.
+pub fn number(word: &[u8]) -> Option<u32>
+    ensures some { IfSome result (SpellsNumber word.now) }
+    ensures none { IfNone result ((n : ℕ) → ¬ SpellsNumber word.now n) }
+{
+    match std::str::from_utf8(word) {
+        Ok(text) => digits(text),
+        Err(_) => None,
+    }
+}
+
+// The number that the text spells in digits alone, within 32 bits.
+fn digits(text: &str) -> Option<u32>
+    ensures some { IfSome result (SpellsNumber text.now) }
+    ensures none { IfNone result ((n : ℕ) → ¬ SpellsNumber text.now n) }
+{
+    if text.starts_with('+') {
+        None
+    } else {
+        text.parse().ok()
+    }
+}
+
+/// The node that the word names.
+pub fn node(word: &[u8]) -> Option<u8>
+    ensures some { IfSome result (SpellsNode word.now) }
+    ensures none { IfNone result ((n : ℕ) → ¬ SpellsNode word.now n) }
+{
+    u8::try_from(number(word)?).ok()
+}
+
+/// The stage that the word names.
+pub fn stage(word: &[u8]) -> Option<u16>
+    ensures some { IfSome result (SpellsStage word.now) }
+    ensures none { IfNone result ((n : ℕ) → ¬ SpellsStage word.now n) }
+{
+    u16::try_from(number(word)?).ok()
+}
