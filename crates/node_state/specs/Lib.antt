@@ -1,3 +1,5 @@
 pub mod States
 pub mod Answers
+pub mod MakeFaults
+pub mod Making
 pub mod inside

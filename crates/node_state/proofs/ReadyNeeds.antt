@@ -1,0 +1,111 @@
+-- Needs that are ready, and the tiles that their facts tell.
+use Rattle.std.proofs.Common.{arith, ℕ, ℤ, ◌≡◌, ◌+◌, ◌++◌, ◌<◌, ◌==◌, Bool, true, false, not, cond, List, [], ◌∷◌, ◌&&◌, Option, Some, None, length, take, refl, sym, ap, ◌∙◌, subst, inl, inr}
+use Rattle.std.specs.Option.{is_none, option_map_or}
+use Rattle.std.specs.List.{flat_map}
+use Rattle.std.specs.Prelude.{Contains, slice_get}
+use Rattle.std.proofs.lemmas.Bool.{and_parts, eq-eqb, false≢true, true≢false}
+use Rattle.std.proofs.lemmas.Option.{none-some}
+use Rattle.domains.proofs.PairLists.{Contains-here, Contains-cases}
+use Rattle.fact_audit.specs.Shapes.{IsPartialShape, BodyFits, FitsJob}
+use Rattle.fact_store.proofs.KeyLaws.{in_facts_of}
+use Rattle.grouping.proofs.Lists.{Contains-flat_map}
+use Rattle.grouping.specs.Schedules.{is_function, is_function_body}
+use Rattle.grouping.specs.Targets.{Target, is_boxed}
+use Rattle.grouping.specs.Schedules.{is_inlined}
+use Rattle.identity.specs.declared.key.Key.{Key}
+use Rattle.job.specs.Answers.{is_accumulator}
+use Rattle.job.specs.Pipeline.{Body, plane, function, accumulator, Stage, Pipeline}
+use Rattle.job.specs.WellFormed.{IsJob}
+use Rattle.overlap_tiles.proofs.Lists.{Contains-from_flat_map, Contains-from_map}
+use Rattle.overlap_tiles.proofs.NeedsAreExact.{from_needs}
+use Rattle.overlap_tiles.specs.Needs.{key_of, needs, needed_keys}
+use Rattle.tile_fact.specs.declared.body.Body as facts
+use Rattle.tile_fact.specs.declared.body.Body.TheVariants.{Tile, Partial}
+use Rattle.tile_fact.specs.declared.fact.Fact.{Fact}
+use Rattle.tile_run.proofs.FirstFound.{none_of}
+use Rattle.tile_run.specs.KnownTiles.{AreWhole}
+use Rattle.tile_run.specs.Runs.{is_missing, first_missing}
+use Rattle.node_state.specs.Making.{samples_in, is_of_tile, tiles_in, needed_tiles, IsOneThatFits, IsReady}
+use Rattle.node_state.specs.inside.Needing.{AreReady}
+use Rattle.node_state.specs.States.{State, facts_of}
+use Rattle.node_state.proofs.ToldTiles.{first_of, told_whole}
+
+-- ---- the facts of needs that are ready
+
+one_fits : (job : Pipeline) (fs : List Fact) → IsOneThatFits job fs → (f : Fact) → Contains fs f → FitsJob f job
+one_fits job [] h f c = absurd h
+one_fits job (g ∷ []) h f c =
+    elim (Contains-cases g [] f c) [ inl same ↦ subst (λ (x : Fact). FitsJob x job) same h | inr k ↦ absurd (omega (arith, k.1)) ]
+one_fits job (g ∷ k ∷ more) h f c = absurd h
+
+one_there : (job : Pipeline) (fs : List Fact) → IsOneThatFits job fs → (f : Fact) × Contains fs f
+one_there job [] h = absurd h
+one_there job (f ∷ []) h = (f, Contains-here f [])
+one_there job (g ∷ k ∷ more) h = absurd h
+
+module _ (s : State) (job : Pipeline) (keys : List Key) (ready : AreReady s job keys) where
+  pub all_fit : (f : Fact) → Contains (flat_map (facts_of s) keys) f → FitsJob f job
+  all_fit f there =
+      let at = Contains-from_flat_map (facts_of s) keys f there in one_fits job (facts_of s at.0) (ready at.0 at.1) f at.2
+
+  pub needed_whole : AreWhole job (needed_tiles s keys)
+  needed_whole = told_whole job (flat_map (facts_of s) keys) all_fit
+
+  of_itself : (need : Key) (f : Fact) → f.key ≡ need → is_of_tile need.stage need.row need.col f ≡ true
+  of_itself need f e =
+      (λ n. eq-eqb f.key.stage need.stage (ap (λ (k : Key). k.stage) e) n
+          && (eq-eqb f.key.row need.row (ap (λ (k : Key). k.row) e) n && eq-eqb f.key.col need.col (ap (λ (k : Key). k.col) e) n))
+
+  no_partial : (g h : ℕ) (stage : Stage) → g ≡ h → slice_get job.stages g ≡ Some stage → is_function job h ≡ true
+      → is_accumulator stage.body ≡ true → ⊥
+  no_partial g h stage e there function' bins =
+      apart stage.body
+      (sym (ap (λ (o : Option Stage). option_map_or (λ x. is_function_body x.body) o false) there) ∙ ap (is_function job) e ∙ function')
+      bins
+    where
+      apart : (b : Body) → is_function_body b ≡ true → is_accumulator b ≡ true → ⊥
+      apart (plane n) f a = false≢true f
+      apart (function cases otherwise) f a = false≢true a
+      apart (accumulator way bins value bin) f a = false≢true f
+
+  is_told : (need : Key) → is_function job need.stage ≡ true → (f : Fact) → f.key.stage ≡ need.stage → FitsJob f job
+      → is_none (samples_in f.body) ≡ false
+  is_told need function' f stage fits = by f.body fits
+    where
+      by : (b : facts.Body) → BodyFits job f.key b → is_none (samples_in b) ≡ false
+      by (Tile xs) h = refl
+      by (Partial xs) h =
+          absurd (no_partial f.key.stage need.stage h.has.tile.stage stage h.has.tile.tile.there function' h.has.tile.accumulator)
+
+  need_told : (need : Key) → Contains keys need → is_function job need.stage ≡ true → is_missing (needed_tiles s keys) need ≡ false
+  need_told need asked function' =
+      let one = one_there job (facts_of s need) (ready need asked) in
+      let there = Contains-flat_map (facts_of s) keys need one.0 asked one.1 in
+      let own : one.0.key ≡ need = ((in_facts_of s need one.0).0 one.1).1 in
+      let first = first_of (flat_map (facts_of s) keys) need.stage need.row need.col one.0 there (of_itself need one.0 own) in
+      ap is_none first.2 ∙ is_told need function' first.0 first.1.stage (all_fit first.0 first.1.there)
+
+  pub all_told : ((need : Key) → Contains keys need → is_function job need.stage ≡ true)
+      → first_missing (needed_tiles s keys) keys ≡ None
+  all_told functions = none_of (is_missing (needed_tiles s keys)) keys (λ need asked. need_told need asked (functions need asked))
+
+-- ---- needs of a target
+
+pub needed_function : (program : List ℕ) (t : Target) → IsJob t.job → (need : Key) → Contains (needed_keys program t) need
+    → is_function t.job need.stage ≡ true
+needed_function program t good need asked =
+    let at = Contains-from_map (key_of program t.job) (needs t) need asked in
+    let needed = from_needs t at.0 good at.1 in
+    let boxed = and_parts (is_boxed t at.0.stage) (not (is_inlined t.inlining at.0.stage)) needed.stored in
+    let function' = and_parts (is_function t.job at.0.stage) (not (at.0.stage == t.stage)) boxed.0 in
+    subst (λ (k : Key). is_function t.job k.stage ≡ true) at.2 function'.0
+
+-- ---- one need after another
+
+one_of : {X : Type 0} → (xs : List X) → length xs ≡ 1 → (x : X) → slice_get xs 0 ≡ Some x → xs ≡ x ∷ []
+one_of [] e x there = absurd (omega (arith, e))
+one_of (y ∷ []) e x there = λ n. there' n ∷ []
+  where
+    there' : y ≡ x
+    there' = cc
+one_of (y ∷ z ∷ zs) e x there = absurd (omega (arith, e))
