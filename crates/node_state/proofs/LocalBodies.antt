@@ -159,12 +159,11 @@ few_totals : (job : Pipeline) (inlining : List Bool) (given : KnownTiles) (area 
     → length (local_totals job inlining given area g) ≤ 4096
 few_totals job inlining given area g good = by (slice_get job.stages g) refl
   where
-    abbrev env : Valuation
-    env = read_from job inlining given (local_value job inlining given)
-
-    by : (o : Option Stage) → slice_get job.stages g ≡ o → length (option_map_or (λ s. body_totals env area s.body) o []) ≤ 4096
+    by : (o : Option Stage) → slice_get job.stages g ≡ o → length (option_map_or (λ s. body_totals (read_from job inlining given (local_value job inlining given)) area s.body) o []) ≤ 4096
     by None there = omega arith
-    by (Some s) there = few_bins job.picture s.domain area env s.body (good.stages g s there).body
+    by (Some s) there =
+        few_bins job.picture s.domain area (read_from job inlining given (local_value job inlining given)) s.body
+        (good.stages g s there).body
 
 pub body_within : (job : Pipeline) (inlining : List Bool) (g i j : ℕ) (area : Area) → IsJob job → IsTileAt job g i j area
     → (given : KnownTiles) (b : facts.Body)

@@ -136,7 +136,7 @@ module _ (catalog : List Entry) (s : State) (inlining : List Bool) (key : Key) (
     made facts are ready body local = in_target (λ t. IsMadeOf s (needs_of key t) t body) (record {
       room = is.plan.fits;
       ready = subst (AreReady s entry.pipeline) needs_are ready;
-      body =
+      numbers =
           subst (λ (ks : List Key). IsLocalBody target (needed_tiles s ks) body) needs_are
           (subst (λ (fs : List Fact). IsLocalBody target (tiles_in fs) body) are local);
     })

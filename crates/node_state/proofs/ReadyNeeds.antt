@@ -1,10 +1,13 @@
 -- Needs that are ready, and the tiles that their facts tell.
-use Rattle.std.proofs.Common.{arith, ℕ, ℤ, ◌≡◌, ◌+◌, ◌++◌, ◌<◌, ◌==◌, Bool, true, false, not, cond, List, [], ◌∷◌, ◌&&◌, Option, Some, None, length, take, refl, sym, ap, ◌∙◌, subst, inl, inr}
+use Rattle.std.proofs.Common.{arith, ℕ, ℤ, ◌≡◌, ◌+◌, ◌++◌, ◌<◌, ◌≤◌, ◌==◌, Bool, true, false, not, cond, List, [], ◌∷◌, ◌&&◌, Option, Some, None, length, take, refl, sym, ap, ◌∙◌, subst, inl, inr}
 use Rattle.std.specs.Option.{is_none, option_map_or}
 use Rattle.std.specs.List.{flat_map}
 use Rattle.std.specs.Prelude.{Contains, slice_get}
 use Rattle.std.proofs.lemmas.Bool.{and_parts, eq-eqb, false≢true, true≢false}
-use Rattle.std.proofs.lemmas.Option.{none-some}
+use Rattle.std.proofs.lemmas.List.{take_more, take_all, append-nil}
+use Rattle.std.proofs.lemmas.List.Concat.{flat_map-append}
+use Rattle.std.proofs.lemmas.Option.{none-some, same_Some, slice_get_within, slice_get-get_or, get_or_from_slice_get}
+use Rattle.domains.proofs.Places.{all_more}
 use Rattle.domains.proofs.PairLists.{Contains-here, Contains-cases}
 use Rattle.fact_audit.specs.Shapes.{IsPartialShape, BodyFits, FitsJob}
 use Rattle.fact_store.proofs.KeyLaws.{in_facts_of}
@@ -26,7 +29,10 @@ use Rattle.tile_run.proofs.FirstFound.{none_of}
 use Rattle.tile_run.specs.KnownTiles.{AreWhole}
 use Rattle.tile_run.specs.Runs.{is_missing, first_missing}
 use Rattle.node_state.specs.Making.{samples_in, is_of_tile, tiles_in, needed_tiles, IsOneThatFits, IsReady}
-use Rattle.node_state.specs.inside.Needing.{AreReady}
+use Rattle.node_state.specs.Answers.{counted, known_of}
+use Rattle.node_state.specs.declared.answers.Known.TheVariants.{One}
+use Rattle.node_state.specs.declared.make_fault.MakeFault.{MakeFault}
+use Rattle.node_state.specs.inside.Needing.{AreReady, IsNeedFault, IsNeedsFault}
 use Rattle.node_state.specs.States.{State, facts_of}
 use Rattle.node_state.proofs.ToldTiles.{first_of, told_whole}
 
@@ -102,10 +108,60 @@ needed_function program t good need asked =
 
 -- ---- one need after another
 
-one_of : {X : Type 0} → (xs : List X) → length xs ≡ 1 → (x : X) → slice_get xs 0 ≡ Some x → xs ≡ x ∷ []
-one_of [] e x there = absurd (omega (arith, e))
-one_of (y ∷ []) e x there = λ n. there' n ∷ []
-  where
-    there' : y ≡ x
-    there' = cc
-one_of (y ∷ z ∷ zs) e x there = absurd (omega (arith, e))
+flat_one : {X A : Type 0} → (f : X → List A) (x : X) → flat_map f (x ∷ []) ≡ f x
+flat_one f x = append-nil (f x)
+
+module _ (s : State) (job : Pipeline) (keys : List Key) where
+  -- the needs before this place are ready
+  abbrev pub AreReadyBefore : ℕ → Type 0
+  AreReadyBefore i = (k : ℕ) (need : Key) → k < i → slice_get keys k ≡ Some need → IsReady s job need
+
+  pub facts_more : (i : ℕ) (need : Key) (facts : List Fact) (fact : Fact) → slice_get keys i ≡ Some need
+      → facts ≡ flat_map (facts_of s) (take i keys) → facts_of s need ≡ fact ∷ []
+      → facts ++ fact ∷ [] ≡ flat_map (facts_of s) (take (i + 1) keys)
+  facts_more i need facts fact there before one =
+      let low = slice_get_within keys i need there in
+      (λ n. before n ++ sym one n)
+      ∙ ap (λ fs. flat_map (facts_of s) (take i keys) ++ fs) (sym (flat_one (facts_of s) need))
+      ∙ sym (flat_map-append (facts_of s) (take i keys) (need ∷ []))
+      ∙ ap (λ k. flat_map (facts_of s) (take i keys ++ k ∷ [])) (sym (get_or_from_slice_get keys i need need there))
+      ∙ ap (flat_map (facts_of s)) (sym (take_more keys i need low))
+
+  ready_one : (need : Key) (fact : Fact) → facts_of s need ≡ fact ∷ [] → FitsJob fact job → IsReady s job need
+  ready_one need fact one fits = subst (IsOneThatFits job) (sym one) fits
+
+  pub ready_more : (i : ℕ) (need : Key) (fact : Fact) → slice_get keys i ≡ Some need → facts_of s need ≡ fact ∷ [] → FitsJob fact job
+      → AreReadyBefore i → AreReadyBefore (i + 1)
+  ready_more i need fact there one fits before =
+      all_more (λ (k : ℕ) (x : Key). IsReady s job x) keys i need there (ready_one need fact one fits) before
+
+  pub ready_all : (i : ℕ) → length keys ≤ i → AreReadyBefore i → AreReady s job keys
+  ready_all i past before need asked =
+      before asked.0 need (let low = asked.1 in omega arith) (slice_get-get_or keys asked.0 need asked.1 ∙ ap Some asked.2)
+
+  pub facts_all : (i : ℕ) (facts : List Fact) → length keys ≤ i → facts ≡ flat_map (facts_of s) (take i keys)
+      → facts ≡ flat_map (facts_of s) keys
+  facts_all i facts past before = before ∙ ap (flat_map (facts_of s)) (take_all i keys past)
+
+  pub stops : (i : ℕ) (need : Key) (why : MakeFault) → slice_get keys i ≡ Some need → AreReadyBefore i → IsNeedFault s job need why
+      → IsNeedsFault s job keys why
+  stops i need why there before reason =
+      inr (record { place = i; need = need; there = there; reason = reason; before = before })
+
+-- ---- the facts of one need
+
+one_of : (fs : List Fact) (f : Fact) → One ≡ counted (length fs) → slice_get fs 0 ≡ Some f → fs ≡ f ∷ []
+one_of [] f e there = absurd (cc)
+one_of (x ∷ []) f e there = let same = same_Some x f there in ap (λ y. y ∷ []) same
+one_of (x ∷ y ∷ more) f e there = absurd (cc)
+
+none_of_one : (fs : List Fact) → One ≡ counted (length fs) → slice_get fs 0 ≡ None → ⊥
+none_of_one [] e none = cc
+none_of_one (x ∷ more) e none = cc
+
+module _ (s : State) (need : Key) (known : One ≡ known_of s need) where
+  pub the_one : (f : Fact) → slice_get (facts_of s need) 0 ≡ Some f → facts_of s need ≡ f ∷ []
+  the_one f there = one_of (facts_of s need) f known there
+
+  pub is_there : slice_get (facts_of s need) 0 ≡ None → ⊥
+  is_there none = none_of_one (facts_of s need) known none

@@ -33,8 +33,8 @@ found_is p (y ∷ ys) x e = by (p y) refl e (found_is p ys x)
     by false is e later = let rest = later e in (Contains-append_right (y ∷ []) ys x rest.0, rest.1)
 
 some_found : {X : Type 0} → (p : X → Bool) (xs : List X) (x : X) → Contains xs x → p x ≡ true → (y : X) × (find p xs ≡ Some y)
-some_found p [] x h t = absurd (omega (arith, h.1))
-some_found p (y ∷ ys) x h t = by (p y) refl (λ later. some_found p ys x later t)
+some_found {X = X} p [] x h t = absurd (omega (arith, h.1))
+some_found {X = X} p (y ∷ ys) x h t = by (p y) refl (λ later. some_found p ys x later t)
   where
     by : (b : Bool) → p y ≡ b → (Contains ys x → (z : X) × (find p ys ≡ Some z)) → (z : X) × (cond b (Some y) (find p ys) ≡ Some z)
     by true is later = (y, refl)

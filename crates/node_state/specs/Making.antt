@@ -91,7 +91,7 @@ IsLocalBody t given (Partial bins) =
 pub record IsMadeOf (s : State) (needs : List Key) (t : Target) (body : Body) : Type 0 where
   pub room : scratch t ≤ most_scratch
   pub ready : (need : Key) → Contains needs need → IsReady s t.job need
-  pub body : IsLocalBody t (needed_tiles s needs) body
+  pub numbers : IsLocalBody t (needed_tiles s needs) body
 
 -- a fact that is made by the job that its key names
 abbrev pub IsMade : List Entry → State → List Bool → Fact → Type 0

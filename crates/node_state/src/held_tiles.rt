@@ -1,7 +1,8 @@
 //! Tiles that held facts tell.
 
 ghost use Rattle.node_state.specs.Making.{is_of_tile};
-ghost use Rattle.std.specs.Prelude.{◌≡◌};
+ghost use Rattle.std.specs.Option.{option_copied};
+ghost use Rattle.std.specs.Prelude.{◌≡◌, find};
 
 use tile_fact::{Body, Fact};
 use tile_run::Known;
@@ -19,15 +20,21 @@ impl Known for HeldTiles {
     ghost given = { λ held. tiles_in held.facts.items };
 
     fn tile(&self, stage: usize, row: u32, col: u32) -> Option<&[i32]> {
-        let fact = self
-            .facts
-            .iter()
-            .find(|fact| is_of_tile(fact, stage, row, col))?;
+        let fact = first_of(&self.facts, stage, row, col)?;
         match fact.body() {
             Body::Tile(samples) => Some(samples.as_slice()),
             Body::Partial(_) => None,
         }
     }
+}
+
+// The first of the facts of this tile.
+fn first_of(facts: &[Fact], stage: usize, row: u32, col: u32) -> Option<&Fact>
+    ensures { option_copied result ≡ find (is_of_tile stage row col) facts.now }
+{
+    facts
+        .iter()
+        .find(|fact| is_of_tile(fact, stage, row, col))
 }
 
 // Whether the fact is of the tile of this stage in this row and this column.

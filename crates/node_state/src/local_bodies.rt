@@ -44,14 +44,19 @@ pub(crate) fn local_body(
         → IfOk result (BodyIsTrue (pipeline_in job.now) key.now) }
     ensures within { IfOk result IsWithin }
 {
+    // No need is missing, so that only memory can be.
     let mut scratch = Scratch::new(alloc);
     match job.kind(usize::from(key.stage)) {
         Some(StageKind::Function) => {
-            let samples = run_tile(alloc, job, plan, &mut scratch, held).map_err(|_| AllocError)?;
+            let Ok(samples) = run_tile(alloc, job, plan, &mut scratch, held) else {
+                return Err(AllocError);
+            };
             Ok(Body::Tile(Samples::new(samples)?))
         }
         Some(StageKind::Accumulator) => {
-            let bins = partial(alloc, job, plan, &mut scratch, held).map_err(|_| AllocError)?;
+            let Ok(bins) = partial(alloc, job, plan, &mut scratch, held) else {
+                return Err(AllocError);
+            };
             Ok(Body::Partial(Bins::new(bins)?))
         }
         Some(StageKind::Plane) | None => unreachable!(),
