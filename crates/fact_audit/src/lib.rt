@@ -10,5 +10,5 @@ mod verdict;
 
 pub use several::audit_all;
 pub use shape::shape_ok;
-pub use single::audit;
+pub use single::{audit, job_of};
 pub use verdict::Verdict;

@@ -32,8 +32,8 @@ pub fn audit(alloc: Global, catalog: &Catalog, fact: &Fact) -> Result<Verdict, A
     verdict_by(alloc, &stages, fact)
 }
 
-// The job whose identities the key names.
-pub(crate) fn job_of<'a>(catalog: &'a Catalog, key: &Key) -> Option<&'a Job>
+/// The job whose identities the key names. Nothing is hashed, and no memory is taken.
+pub fn job_of<'a>(catalog: &'a Catalog, key: &Key) -> Option<&'a Job>
     ensures some { IfSome result (λ job. HasEntry catalog.now key.now (entry_of job.now)) }
     ensures none { IfNone result ((i : ℕ) → ¬ (StandsAt catalog.now (ids_in key.now) i)) }
     ensures catalog { IsCatalog catalog.now }

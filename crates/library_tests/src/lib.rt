@@ -17,6 +17,8 @@ mod identities;
 #[cfg(test)]
 mod jobs;
 #[cfg(test)]
+mod makes;
+#[cfg(test)]
 mod pictures;
 #[cfg(test)]
 mod plans;

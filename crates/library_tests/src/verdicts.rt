@@ -33,7 +33,7 @@ fn counting(alloc: Global) -> Result<Job, Fail> {
     )
 }
 
-fn admit(jobs: &mut Catalog, job: Job) -> Result<usize, Fail> {
+pub(crate) fn admit(jobs: &mut Catalog, job: Job) -> Result<usize, Fail> {
     match jobs.admit(job) {
         Ok(index) => Ok(index),
         Err(_) => Err(Fail::new("the job is refused")),
@@ -49,7 +49,7 @@ fn two_jobs(alloc: Global) -> Result<Catalog, Fail> {
 }
 
 // The key of a tile of the job at this index.
-fn key_at(jobs: &Catalog, index: usize, stage: u16, row: u32, col: u32) -> Option<Key> {
+pub(crate) fn key_at(jobs: &Catalog, index: usize, stage: u16, row: u32, col: u32) -> Option<Key> {
     let ids = Ids::of(jobs.job(index)?);
     Some(Key {
         program: ids.program,
@@ -67,7 +67,7 @@ fn fact(key: Key, body: Body) -> Result<Fact, Fail> {
     }
 }
 
-fn tile(alloc: Global, key: Key, numbers: &[i32]) -> Result<Fact, Fail> {
+pub(crate) fn tile(alloc: Global, key: Key, numbers: &[i32]) -> Result<Fact, Fail> {
     fact(key, Body::Tile(Samples::new(numbers.to_vec(alloc)?)?))
 }
 

@@ -25,7 +25,7 @@ no_length (x ∷ xs) n e z = absurd (omega arith)
 some_length : {X : Type 0} (xs : List X) (n : ℕ) → n ≡ length xs → (n ≡ 0 → ⊥) → xs ≡ [] → ⊥
 some_length xs n e z none = z (e ∙ ap length none)
 
-not_below_itself : (key : Key) → key_cmp key key ≢ Less
+pub not_below_itself : (key : Key) → key_cmp key key ≢ Less
 not_below_itself key h = absurd (apart (sym ((equal_keys key key).1 refl) ∙ h))
   where
     apart : Equal ≡ Less → ⊥

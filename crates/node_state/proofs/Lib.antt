@@ -8,3 +8,7 @@ pub mod HeldPartials
 pub mod HeldPictures
 pub mod Answered
 pub mod TrueStates
+pub mod ToldTiles
+pub mod ReadyNeeds
+pub mod MadeFacts
+pub mod LocalBodies

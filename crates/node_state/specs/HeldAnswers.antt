@@ -23,6 +23,7 @@ use Rattle.tile_fact.specs.declared.fact.Fact.{Fact}
 use Rattle.tile_run.specs.KnownTiles.{KnownTiles}
 use Rattle.node_state.specs.Answers.{IsNotHeld, AreHeld, IsLeastNotHeld, known_of}
 use Rattle.node_state.specs.States.{State, holds, facts_of}
+pub use Rattle.node_state.specs.HeldFacts.{HasOneFact, HoldsTrueFacts, IsMisshapen, IsReady, samples_in}
 use Rattle.node_state.specs.declared.answer_fault.AnswerFault.{AnswerFault}
 use Rattle.node_state.specs.declared.answer_fault.AnswerFault.TheVariants as fault
 use Rattle.node_state.specs.declared.answers.Known.TheVariants as known
@@ -39,21 +40,7 @@ missing_keys s program job = filter (lacks s) (wanted_keys program job)
 
 -- ---- what is held of a wanted key
 
--- one fact of the key is held, and P holds of it
-pub record HasOneFact (s : State) (key : Key) (P : Fact → Type 0) : Type 0 where
-  pub fact : Fact
-  pub alone : facts_of s key ≡ fact ∷ []
-  pub is : P fact
-
--- and it has the kind and the count of its tile
-abbrev pub IsReady : State → Pipeline → Key → Type 0
-IsReady s job key = HasOneFact s key (λ fact. FitsJob fact job)
-
--- or another kind or count
-abbrev pub IsMisshapen : State → Pipeline → Key → Type 0
-IsMisshapen s job key = HasOneFact s key (λ fact. ¬ FitsJob fact job)
-
--- or two facts or more are held
+-- two facts or more are held
 abbrev pub IsDisputed : State → Key → Type 0
 IsDisputed s key = known_of s key ≡ known.Disputed
 
@@ -76,11 +63,6 @@ IsAnswerFault s program job (fault.Misshapen key) = IsFirstUnready s program job
 IsAnswerFault s program job fault.Memory = AllAreReady s program job
 
 -- ---- the numbers that are held
-
--- the samples of a tile
-abbrev pub samples_in : Body → Option (List ℤ)
-samples_in (Tile samples) = Some samples
-samples_in (Partial bins) = None
 
 -- the samples that are held of the tiles of functions: those of the key's fact, where one is held
 abbrev pub held_tiles : State → List ℕ → Pipeline → KnownTiles
@@ -116,9 +98,6 @@ pub record IsHeldAnswer (s : State) (program : List ℕ) (job : Pipeline) (answe
   pub totals : map gathered answer.totals.items ≡ held_totals s program job
 
 -- ---- where all that is held is true
-
-abbrev pub HoldsTrueFacts : List Entry → State → Type 0
-HoldsTrueFacts catalog s = (fact : Fact) → holds s fact ≡ true → IsTrueFact catalog fact
 
 -- nothing is held of the least key that is not ready; no key is disputed, and none is misshapen
 abbrev pub IsFaultOfTrueFacts : State → List ℕ → Pipeline → AnswerFault → Type 0

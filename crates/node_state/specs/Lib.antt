@@ -1,5 +1,8 @@
 pub mod States
 pub mod Answers
+pub mod HeldFacts
 pub mod AnswerFaults
 pub mod HeldAnswers
+pub mod MakeFaults
+pub mod Making
 pub mod inside

@@ -2,3 +2,4 @@
 pub mod Searching
 pub mod Judging
 pub mod Gathering
+pub mod Needing

@@ -1,0 +1,26 @@
+use Rattle.std.proofs.Common.{rules, ◌≡◌, [], ◌∷◌, Some, refl, true≢false, sym, ap, ◌∙◌, subst}
+use Rattle.std.specs.Option.{option_copied}
+use Rattle.std.specs.Prelude.{slice_get}
+use Rattle.tile_fact.specs.declared.fact.Fact.{Fact}
+use Rattle.node_state.specs.States.{facts_of}
+use Rattle.node_state.proofs.ReadyNeeds.{the_one}
+use Rattle.node_state.proofs.state.NodeState.needed_fact.Goals as goal
+
+pub returns-then-not-shape_ok-clause-fault : goal.returns-then-not-shape_ok-clause-fault
+returns-then-not-shape_ok-clause-fault g c =
+    let s = c.args.self.now in
+    let need = c.args.need.now in
+    let there : slice_get (facts_of s need) 0 ≡ Some c.in-Some.fact.now = sym c.nth.ensures ∙ ap option_copied c.in-Some.is in
+    (refl, record {
+        fact = c.in-Some.fact.now;
+        alone = the_one s need (sym c.in-One.is ∙ c.knows.ensures) c.in-Some.fact.now there;
+        is = λ fits. true≢false (sym (c.shape_ok.ensures.1 fits) ∙ c.if-not-shape_ok.true);
+      })
+
+pub returns-in_ok-clone-in-One-clause-one : goal.returns-in_ok-clone-in-One-clause-one
+returns-in_ok-clone-in-One-clause-one g c =
+    let s = c.args.self.now in
+    let need = c.args.need.now in
+    let there : slice_get (facts_of s need) 0 ≡ Some c.in-Some.fact.now = sym c.nth.ensures ∙ ap option_copied c.in-Some.is in
+    let same : c.in_ok-clone-in-One.field-0 ≡ c.in-Some.fact.now = search rules in
+    subst (λ (f : Fact). facts_of s need ≡ f ∷ []) (sym same) (the_one s need (sym c.in-One.is ∙ c.knows.ensures) c.in-Some.fact.now there)

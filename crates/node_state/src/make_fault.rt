@@ -1,0 +1,99 @@
+//! Why a node does not make a tile.
+
+ghost use Rattle.std.specs.Prelude.{◌≡◌};
+ghost use Rattle.node_state.specs.declared.make_fault.MakeFault.TheVariants.{Memory};
+
+use identity::Key;
+use overlap_tiles::PlanFault;
+use std::alloc::{AllocError, AllocFailed};
+use thiserror::Error;
+
+/// Why a node does not make a tile.
+#[derive(Clone, Copy, Debug, PartialEq, Eq, Error)]
+pub enum MakeFault {
+    /// 1: no job has the identities that the key names.
+    #[error("no job has these identities")]
+    Foreign,
+    /// 2: the stage is no function and no accumulator of the job, or it has no such tile.
+    #[error("there is no such tile")]
+    NoSuchTile,
+    /// 3: of this key, the least of those whose tiles are needed and not ready, no fact is held.
+    #[error("a tile that is needed is not held")]
+    NeedMissing(Key),
+    /// 4: of this key, the least of those whose tiles are needed and not ready, several facts are held.
+    #[error("several facts of a tile that is needed are held")]
+    NeedDisputed(Key),
+    /// 5: of this key, the least of those whose tiles are needed and not ready, one fact is held, of another kind or count.
+    #[error("the fact of a tile that is needed does not fit the tile")]
+    NeedMisshapen(Key),
+    /// 6: the boxes of what is inlined into the tile have more points together than `grouping::MOST_SCRATCH`.
+    #[error("the tile takes too much scratch memory")]
+    ScratchTooBig,
+    /// 7: no memory was left.
+    #[error("out of memory")]
+    Memory,
+}
+
+impl MakeFault {
+    ghost use Rattle.node_state.specs.MakeFaults.{make_number, make_name};
+
+    /// The fault's number, 1 to 7.
+    pub fn number(self) -> u8
+        ensures { result ≡ make_number self }
+    {
+        match self {
+            MakeFault::Foreign => 1,
+            MakeFault::NoSuchTile => 2,
+            MakeFault::NeedMissing(_) => 3,
+            MakeFault::NeedDisputed(_) => 4,
+            MakeFault::NeedMisshapen(_) => 5,
+            MakeFault::ScratchTooBig => 6,
+            MakeFault::Memory => 7,
+        }
+    }
+
+    /// The fault's name, as it is printed.
+    pub fn name(self) -> &'static str
+        ensures { result.now ≡ make_name self }
+    {
+        match self {
+            MakeFault::Foreign => "Foreign",
+            MakeFault::NoSuchTile => "NoSuchTile",
+            MakeFault::NeedMissing(_) => "NeedMissing",
+            MakeFault::NeedDisputed(_) => "NeedDisputed",
+            MakeFault::NeedMisshapen(_) => "NeedMisshapen",
+            MakeFault::ScratchTooBig => "ScratchTooBig",
+            MakeFault::Memory => "Memory",
+        }
+    }
+}
+
+impl From<AllocError> for MakeFault {
+    ghost from_gives = { λ _ fault. fault ≡ Memory };
+
+    fn from(_fault: AllocError) -> MakeFault {
+        MakeFault::Memory
+    }
+}
+
+impl<T: Drop> From<AllocFailed<T>> for MakeFault {
+    ghost from_gives = { λ _ fault. fault ≡ Memory };
+
+    fn from(_fault: AllocFailed<T>) -> MakeFault {
+        MakeFault::Memory
+    }
+}
+
+impl From<PlanFault> for MakeFault {
+    ghost use Rattle.node_state.specs.MakeFaults.{of_plan};
+
+    ghost from_gives = { λ plan fault. fault ≡ of_plan plan };
+
+    fn from(fault: PlanFault) -> MakeFault {
+        match fault {
+            PlanFault::NoSuchTile => MakeFault::NoSuchTile,
+            PlanFault::ScratchTooBig => MakeFault::ScratchTooBig,
+            PlanFault::Memory => MakeFault::Memory,
+        }
+    }
+}
