@@ -1,12 +1,12 @@
 -- The body of a tile: its kind, its size, and that it is true where what is given is.
-use Rattle.std.proofs.Common.{arith, ℕ, ℤ, pos, ◌≡◌, ◌+◌, ◌*◌, ◌<◌, ◌≤◌, Bool, true, false, List, [], Option, Some, None, length, refl, sym, ap, ◌∙◌, subst}
+use Rattle.std.proofs.Common.{arith, ℕ, ℤ, ◌≡◌, ◌+◌, ◌*◌, ◌<◌, ◌≤◌, Bool, true, false, List, [], Option, Some, None, length, refl, sym, ap, ◌∙◌, subst}
 use Rattle.std.specs.Option.{option_map, option_map_or}
 use Rattle.std.specs.Prelude.{slice_get}
 use Rattle.std.proofs.Math.Nat.{mul-le-mul_left, mul-le-mul_right}
 use Rattle.std.proofs.lemmas.Int.{ints, clamps}
 use Rattle.std.proofs.lemmas.List.{length-map}
-use Rattle.std.proofs.lemmas.Bool.{false≢true, true≢false}
-use Rattle.accumulators.specs.Partials.{local_totals, AreTotalsOn, IsAccumulatorTile, IsTruePartial}
+use Rattle.std.proofs.lemmas.Bool.{false≢true}
+use Rattle.accumulators.specs.Partials.{local_totals, AreTotalsOn, IsTruePartial}
 use Rattle.domains.proofs.Lengths.{len_is}
 use Rattle.domains.proofs.PartsOfSpans.{part_fits}
 use Rattle.domains.proofs.Spans.{length-numbers_from}
@@ -24,7 +24,6 @@ use Rattle.job.specs.Readers.{body_kind, kind_of}
 use Rattle.job.specs.Totals.{body_totals}
 use Rattle.job.specs.Values.{Valuation}
 use Rattle.job.specs.WellFormed.{IsFunction, IsBody, IsJob}
-use Rattle.job.specs.declared.job.StageKind.{StageKind}
 use Rattle.job.specs.declared.job.StageKind.TheVariants as kind
 use Rattle.netpbm.specs.Image.{Image}
 use Rattle.overlap_tiles.specs.Plans.{IsTileAt}
@@ -100,7 +99,7 @@ module _ (job : Pipeline) (g : ℕ) where
             stage = own.stage;
             tile = tile_over own.stage own.there own.is;
             function = by own.stage.body
-            (sym (ap (λ (o : Option Stage). option_map_or (λ s. is_function_body s.body) o false) own.there) ∙ function');
+                (sym (ap (λ (o : Option Stage). option_map_or (λ s. is_function_body s.body) o false) own.there) ∙ function');
           };
           values = values area at;
         }

@@ -1,8 +1,7 @@
 -- From the plan of a key's tile, and from what is held of its needs, to a fact or to a fault.
-use Rattle.std.proofs.Common.{arith, ℕ, ◌≡◌, ◌<◌, ◌≤◌, ◌⊎◌, Bool, List, Option, Some, None, length, get_or, refl, sym, ap, ◌∙◌, subst, inl, inr}
+use Rattle.std.proofs.Common.{arith, ℕ, ◌≡◌, ◌<◌, ◌≤◌, ◌⊎◌, Bool, List, Some, length, sym, ap, ◌∙◌, subst, inl, inr}
 use Rattle.std.specs.List.{flat_map}
 use Rattle.std.specs.Prelude.{Contains, slice_get}
-use Rattle.std.specs.declared.cmp.Ordering.TheVariants.{Less}
 use Rattle.std.proofs.lemmas.Bool.{cases_lt, cases_eq}
 use Rattle.std.proofs.lemmas.Option.{same_Some, slice_get_within, get_or_from_slice_get, slice_get-get_or}
 use Rattle.catalog.specs.Entries.{Entry, IsCatalog, ids_in}
@@ -31,7 +30,7 @@ use Rattle.node_state.specs.declared.make_fault.MakeFault.{MakeFault}
 use Rattle.node_state.specs.declared.make_fault.MakeFault.TheVariants as fault
 use Rattle.node_state.specs.Answers.{known_of}
 use Rattle.node_state.specs.MakeFaults.{of_plan}
-use Rattle.node_state.specs.Making.{HasTarget, HasTargetIn, needs_of, tiles_in, needed_tiles, IsReady, IsMisshapen, IsLocalBody, IsMadeOf, IsMade, HoldsTrueFacts, IsFirstUnready, IsMakeFault}
+use Rattle.node_state.specs.Making.{HasTarget, HasTargetIn, needs_of, tiles_in, needed_tiles, IsMisshapen, IsLocalBody, IsMadeOf, IsMade, HoldsTrueFacts, IsFirstUnready, IsMakeFault}
 use Rattle.node_state.specs.inside.Needing.{AreReady, IsStoppedAt, IsNeedsFault}
 use Rattle.node_state.specs.States.{State, facts_of}
 use Rattle.node_state.proofs.AskedLaws.{not_below_itself}
@@ -89,7 +88,7 @@ module _ (catalog : List Entry) (s : State) (inlining : List Bool) (key : Key) (
             ap (λ (ks : List Key). slice_get ks k) (sym is.plan.plan.needs) ∙ here in
             let after : IsKeyBefore need other =
             (λ i. key_cmp (sym (get_or_from_slice_get (needed_keys (sha256 entry.text) target) place need need in_list) i)
-                (sym (get_or_from_slice_get (needed_keys (sha256 entry.text) target) k other need behind) i)) ∙ rise in
+            (sym (get_or_from_slice_get (needed_keys (sha256 entry.text) target) k other need behind) i)) ∙ rise in
             not_below_itself need (key_order.trans need other need after before)
 
     first_unready : (why : MakeFault) (at : IsStoppedAt s entry.pipeline p.needs why) (need : Key) (Reason : Type 0) → need ≡ at.need

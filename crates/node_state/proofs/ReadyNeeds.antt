@@ -1,15 +1,15 @@
 -- Needs that are ready, and the tiles that their facts tell.
-use Rattle.std.proofs.Common.{arith, ℕ, ℤ, ◌≡◌, ◌+◌, ◌++◌, ◌<◌, ◌≤◌, ◌==◌, Bool, true, false, not, cond, List, [], ◌∷◌, ◌&&◌, Option, Some, None, length, take, refl, sym, ap, ◌∙◌, subst, inl, inr}
+use Rattle.std.proofs.Common.{arith, ℕ, ◌≡◌, ◌+◌, ◌++◌, ◌<◌, ◌≤◌, ◌==◌, true, false, not, List, [], ◌∷◌, ◌&&◌, Option, Some, None, length, take, refl, sym, ap, ◌∙◌, subst, inl, inr}
 use Rattle.std.specs.Option.{is_none, option_map_or}
 use Rattle.std.specs.List.{flat_map}
 use Rattle.std.specs.Prelude.{Contains, slice_get}
-use Rattle.std.proofs.lemmas.Bool.{and_parts, eq-eqb, false≢true, true≢false}
+use Rattle.std.proofs.lemmas.Bool.{and_parts, eq-eqb, false≢true}
 use Rattle.std.proofs.lemmas.List.{take_more, take_all, append-nil}
 use Rattle.std.proofs.lemmas.List.Concat.{flat_map-append}
-use Rattle.std.proofs.lemmas.Option.{none-some, same_Some, slice_get_within, slice_get-get_or, get_or_from_slice_get}
+use Rattle.std.proofs.lemmas.Option.{same_Some, slice_get_within, slice_get-get_or, get_or_from_slice_get}
 use Rattle.domains.proofs.Places.{all_more}
 use Rattle.domains.proofs.PairLists.{Contains-here, Contains-cases}
-use Rattle.fact_audit.specs.Shapes.{IsPartialShape, BodyFits, FitsJob}
+use Rattle.fact_audit.specs.Shapes.{BodyFits, FitsJob}
 use Rattle.fact_store.proofs.KeyLaws.{in_facts_of}
 use Rattle.grouping.proofs.Lists.{Contains-flat_map}
 use Rattle.grouping.specs.Schedules.{is_function, is_function_body}
@@ -28,7 +28,7 @@ use Rattle.tile_fact.specs.declared.fact.Fact.{Fact}
 use Rattle.tile_run.proofs.FirstFound.{none_of}
 use Rattle.tile_run.specs.KnownTiles.{AreWhole}
 use Rattle.tile_run.specs.Runs.{is_missing, first_missing}
-use Rattle.node_state.specs.Making.{samples_in, is_of_tile, tiles_in, needed_tiles, IsReady}
+use Rattle.node_state.specs.Making.{samples_in, is_of_tile, needed_tiles, IsReady}
 use Rattle.node_state.specs.Answers.{counted, known_of}
 use Rattle.node_state.specs.declared.answers.Known.TheVariants.{One}
 use Rattle.node_state.specs.declared.make_fault.MakeFault.{MakeFault}
@@ -60,7 +60,7 @@ module _ (s : State) (job : Pipeline) (keys : List Key) (ready : AreReady s job 
   of_itself : (need : Key) (f : Fact) → f.key ≡ need → is_of_tile need.stage need.row need.col f ≡ true
   of_itself need f e =
       (λ n. eq-eqb f.key.stage need.stage (ap (λ (k : Key). k.stage) e) n
-          && (eq-eqb f.key.row need.row (ap (λ (k : Key). k.row) e) n && eq-eqb f.key.col need.col (ap (λ (k : Key). k.col) e) n))
+      && (eq-eqb f.key.row need.row (ap (λ (k : Key). k.row) e) n && eq-eqb f.key.col need.col (ap (λ (k : Key). k.col) e) n))
 
   no_partial : (g h : ℕ) (stage : Stage) → g ≡ h → slice_get job.stages g ≡ Some stage → is_function job h ≡ true
       → is_accumulator stage.body ≡ true → ⊥

@@ -1,5 +1,5 @@
 -- What facts tell of tiles.
-use Rattle.std.proofs.Common.{arith, ℕ, ℤ, ◌≡◌, ◌==◌, Bool, true, false, cond, List, [], ◌∷◌, ◌&&◌, Option, Some, None, length, refl, sym, ap, ◌∙◌, subst, inl, inr}
+use Rattle.std.proofs.Common.{arith, ℕ, ℤ, ◌≡◌, ◌==◌, Bool, true, false, cond, List, [], ◌∷◌, ◌&&◌, Option, Some, None, refl, sym, ap, ◌∙◌, subst, inl, inr}
 use Rattle.std.specs.Option.{option_and_then}
 use Rattle.std.specs.Prelude.{Contains, find, slice_get}
 use Rattle.std.proofs.lemmas.Bool.{and_parts, eqb-true, false≢true}
@@ -11,7 +11,7 @@ use Rattle.domains.specs.Tiles.{tile_area}
 use Rattle.fact_audit.specs.Shapes.{IsTileShape, BodyFits, FitsJob}
 use Rattle.fact_audit.specs.TrueFacts.{BodyIsTrue, IsTrueOf}
 use Rattle.job.specs.Answers.{grid_of}
-use Rattle.job.specs.Pipeline.{Stage, Pipeline}
+use Rattle.job.specs.Pipeline.{Pipeline}
 use Rattle.job.specs.Values.{value}
 use Rattle.tile_eval.specs.Buffer.{raster, IsTrueTile}
 use Rattle.tile_fact.specs.declared.body.Body.{Body}

@@ -32,9 +32,7 @@ impl Known for HeldTiles {
 fn first_of(facts: &[Fact], stage: usize, row: u32, col: u32) -> Option<&Fact>
     ensures { option_copied result ≡ find (is_of_tile stage row col) facts.now }
 {
-    facts
-        .iter()
-        .find(|fact| is_of_tile(fact, stage, row, col))
+    facts.iter().find(|fact| is_of_tile(fact, stage, row, col))
 }
 
 // Whether the fact is of the tile of this stage in this row and this column.

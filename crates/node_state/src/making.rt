@@ -32,12 +32,7 @@ impl<S: FactStore> NodeState<S> {
     ///
     /// The first of `Foreign`, `NoSuchTile` and `ScratchTooBig`; then the least need that is not ready, as `NeedMissing`,
     /// `NeedDisputed` or `NeedMisshapen`. Memory may be refused wherever there is such a tile.
-    pub fn make(
-        &self,
-        catalog: &Catalog,
-        schedule: &Schedule,
-        key: &Key,
-    ) -> Result<Fact, MakeFault>
+    pub fn make(&self, catalog: &Catalog, schedule: &Schedule, key: &Key) -> Result<Fact, MakeFault>
         ensures key { IfOk result (λ fact. fact.key ≡ key.now) }
         ensures made { IfOk result (IsMade catalog.now self.now schedule.now.inlining) }
         ensures right { HoldsTrueFacts catalog.now self.now

@@ -15,8 +15,7 @@ pub returns-in-Some-Function-clause-local : goal.returns-in-Some-Function-clause
 returns-in-Some-Function-clause-local c = λ inlining is.
     let job = pipeline_in c.args.job.now in
     let key = c.args.key.now in
-    let here : option_map kind_of (slice_get job.stages key.stage) ≡ Some kind.Function = search rules in
-    (
+    let here : option_map kind_of (slice_get job.stages key.stage) ≡ Some kind.Function = search rules in (
       function_kind job key.stage here,
       c.in_ok-new-in-Some-Function.ensures ∙ c.in-Ok.ensures.values inlining key.stage key.row key.col is is.area is.tile,
     )
@@ -47,11 +46,10 @@ pub returns-in-Some-Accumulator-clause-local : goal.returns-in-Some-Accumulator-
 returns-in-Some-Accumulator-clause-local c = λ inlining is.
     let job = pipeline_in c.args.job.now in
     let key = c.args.key.now in
-    let here : option_map kind_of (slice_get job.stages key.stage) ≡ Some kind.Accumulator = search rules in
-    (
+    let here : option_map kind_of (slice_get job.stages key.stage) ≡ Some kind.Accumulator = search rules in (
       accumulator_kind job key.stage here,
       c.in_ok-new-in-Some-Accumulator.ensures
-      ∙ c.in-Ok-partial.ensures.totals inlining key.stage key.row key.col is is.area is.tile,
+          ∙ c.in-Ok-partial.ensures.totals inlining key.stage key.row key.col is is.area is.tile,
     )
 
 pub returns-in-Some-Accumulator-clause-right : goal.returns-in-Some-Accumulator-clause-right

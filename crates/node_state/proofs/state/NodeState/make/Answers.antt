@@ -1,6 +1,6 @@
-use Rattle.std.proofs.Common.{rules, ◌≡◌, ℕ, None, List, sym, ap, ◌∙◌, subst}
+use Rattle.std.proofs.Common.{◌≡◌, ℕ, None, List, sym, ap, ◌∙◌, subst}
 use Rattle.std.specs.List.{flat_map}
-use Rattle.std.specs.Prelude.{Contains, IfErr}
+use Rattle.std.specs.Prelude.{Contains}
 use Rattle.std.proofs.lemmas.Result.{err_from_is_err_and}
 use Rattle.catalog.specs.Entries.{entry_of}
 use Rattle.fact_audit.specs.TrueFacts.{IsTrueFact}
@@ -8,7 +8,7 @@ use Rattle.identity.specs.declared.key.Key.{Key}
 use Rattle.job.specs.Kept.{pipeline_in, program_id_in}
 use Rattle.grouping.specs.Targets.{target_over}
 use Rattle.overlap_tiles.specs.Needs.{needed_keys}
-use Rattle.overlap_tiles.specs.Plans.{Plan, IsTilePlan}
+use Rattle.overlap_tiles.specs.Plans.{IsTilePlan}
 use Rattle.tile_fact.specs.declared.fact.Fact.{Fact}
 use Rattle.tile_run.specs.KnownTiles.{AreTrue, AreWhole}
 use Rattle.tile_run.specs.Runs.{first_missing}

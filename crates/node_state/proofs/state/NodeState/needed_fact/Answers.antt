@@ -24,3 +24,18 @@ returns-in_ok-clone-in-One-clause-one g c =
     let there : slice_get (facts_of s need) 0 ≡ Some c.in-Some.fact.now = sym c.nth.ensures ∙ ap option_copied c.in-Some.is in
     let same : c.in_ok-clone-in-One.field-0 ≡ c.in-Some.fact.now = search rules in
     subst (λ (f : Fact). facts_of s need ≡ f ∷ []) (sym same) (the_one s need (sym c.in-One.is ∙ c.knows.ensures) c.in-Some.fact.now there)
+
+pub returns-in_err-clone-in-One-clause-fault : goal.returns-in_err-clone-in-One-clause-fault
+returns-in_err-clone-in-One-clause-fault g c =
+    let s = c.args.self.now in
+    let need = c.args.need.now in
+    let job = pipeline_in c.args.job.now in
+    let there : slice_get (facts_of s need) 0 ≡ Some c.in-Some.fact.now = sym c.nth.ensures ∙ ap option_copied c.in-Some.is in
+    let ready : IsReady s job need =
+    record {
+      fact = c.in-Some.fact.now;
+      alone = the_one s need (sym c.in-One.is ∙ c.knows.ensures) c.in-Some.fact.now there;
+      is = c.shape_ok.ensures.0 (true_where_not_not c.shape_ok.result c.if-not-shape_ok.false);
+    } in
+    let p = err_from_is_err_and c.from_residual.result c.from_residual.ensures.1 in
+    rw (p.1, p.2) (ready)

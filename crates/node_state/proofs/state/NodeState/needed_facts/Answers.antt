@@ -1,10 +1,8 @@
-use Rattle.std.proofs.Common.{rules, ◌≡◌, ◌++◌, ◌∷◌, [], refl, length, Some, List, sym, ap, ◌∙◌, subst}
-use Rattle.std.specs.Prelude.{IfErr, slice_get}
+use Rattle.std.proofs.Common.{rules, ◌≡◌, ◌++◌, ◌∷◌, [], refl, length, ◌∙◌}
 use Rattle.std.proofs.lemmas.Option.{slice_get_read}
 use Rattle.std.proofs.lemmas.Result.{err_from_is_err_and}
 use Rattle.job.specs.Kept.{pipeline_in}
-use Rattle.tile_fact.specs.declared.fact.Fact.{Fact}
-use Rattle.node_state.proofs.ReadyNeeds.{AreReadyBefore, facts_more, ready_more, ready_all, facts_all, stops}
+use Rattle.node_state.proofs.ReadyNeeds.{facts_more, ready_more, ready_all, stops}
 use Rattle.node_state.proofs.state.NodeState.needed_facts.Goals as goal
 
 pub returns-in_err-needed_fact-clause-fault : goal.returns-in_err-needed_fact-clause-fault
