@@ -27,6 +27,8 @@ mod runs;
 #[cfg(test)]
 mod schedules;
 #[cfg(test)]
+mod scripts;
+#[cfg(test)]
 mod stops;
 #[cfg(test)]
 mod texts;

@@ -1,3 +1,6 @@
+use Rattle.std.proofs.lemmas.Result.{err_from_is_err_and}
+use Rattle.job.specs.Kept.{pipeline_in}
+use Rattle.node_state.specs.HeldFacts.{IsReady}
 use Rattle.std.proofs.Common.{rules, ◌≡◌, [], ◌∷◌, Some, refl, true≢false, sym, ap, ◌∙◌, subst}
 use Rattle.std.specs.Option.{option_copied}
 use Rattle.std.specs.Prelude.{slice_get}
@@ -35,7 +38,7 @@ returns-in_err-clone-in-One-clause-fault g c =
     record {
       fact = c.in-Some.fact.now;
       alone = the_one s need (sym c.in-One.is ∙ c.knows.ensures) c.in-Some.fact.now there;
-      is = c.shape_ok.ensures.0 (true_where_not_not c.shape_ok.result c.if-not-shape_ok.false);
+      is = c.shape_ok.ensures.0 (cc);
     } in
     let p = err_from_is_err_and c.from_residual.result c.from_residual.ensures.1 in
     rw (p.1, p.2) (ready)
