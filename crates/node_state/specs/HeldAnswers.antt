@@ -3,14 +3,11 @@
 -- program and its pipeline.
 use Rattle.std.specs.List.{Contains, flat_map, range_with_len}
 use Rattle.std.specs.Option.{option_and_then}
-use Rattle.std.specs.Prelude.{◌≡◌, ℕ, ℤ, ◌==◌, Bool, true, Option, Some, None, List, [], ◌∷◌, map, filter, length, slice_get}
+use Rattle.std.specs.Prelude.{◌≡◌, ℕ, ℤ, ◌==◌, Bool, List, [], ◌∷◌, map, filter, length, slice_get}
 use Rattle.accumulators.specs.Answers.{Gathered, gathered}
 use Rattle.accumulators.specs.Gatherings.{gathered_from}
 use Rattle.accumulators.specs.Pictures.{given_image}
 use Rattle.accumulators.specs.declared.answer.Answer.{Answer}
-use Rattle.catalog.specs.Entries.{Entry}
-use Rattle.fact_audit.specs.Shapes.{FitsJob}
-use Rattle.fact_audit.specs.TrueFacts.{IsTrueFact}
 use Rattle.identity.specs.declared.key.Key.{Key}
 use Rattle.job.specs.Answers.{tiles}
 use Rattle.job.specs.Pipeline.{Pipeline}
@@ -19,10 +16,9 @@ use Rattle.overlap_tiles.specs.Needs.{key_of, IsKeyBefore}
 use Rattle.overlap_tiles.specs.Work.{wanted_keys}
 use Rattle.tile_fact.specs.declared.body.Body.{Body}
 use Rattle.tile_fact.specs.declared.body.Body.TheVariants.{Tile, Partial}
-use Rattle.tile_fact.specs.declared.fact.Fact.{Fact}
 use Rattle.tile_run.specs.KnownTiles.{KnownTiles}
 use Rattle.node_state.specs.Answers.{IsNotHeld, AreHeld, IsLeastNotHeld, known_of}
-use Rattle.node_state.specs.States.{State, holds, facts_of}
+use Rattle.node_state.specs.States.{State, facts_of}
 pub use Rattle.node_state.specs.HeldFacts.{HasOneFact, HoldsTrueFacts, IsMisshapen, IsReady, samples_in}
 use Rattle.node_state.specs.declared.answer_fault.AnswerFault.{AnswerFault}
 use Rattle.node_state.specs.declared.answer_fault.AnswerFault.TheVariants as fault
