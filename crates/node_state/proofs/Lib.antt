@@ -5,3 +5,4 @@ pub mod ToldTiles
 pub mod ReadyNeeds
 pub mod MadeFacts
 pub mod LocalBodies
+pub mod TilesInOrder

@@ -1,3 +1,4 @@
 -- What clauses of inner functions cite, and no public clause does.
 pub mod Searching
+pub mod Holding
 pub mod Needing
