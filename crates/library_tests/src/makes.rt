@@ -23,7 +23,7 @@ struct Scheduled {
 }
 
 // A program and a picture, with the side of its tiles and a flag for each stage that tells which functions are inlined.
-fn scheduled(
+fn admitted(
     alloc: Global,
     text: &str,
     file: &[u8],
@@ -44,13 +44,7 @@ impl Scheduled {
     }
 
     // Compares the numbers of the fact that is made of a key.
-    fn makes(
-        &self,
-        alloc: Global,
-        state: &NodeState,
-        key: &Key,
-        wanted: &str,
-    ) -> Result<(), Fail> {
+    fn makes(&self, alloc: Global, state: &NodeState, key: &Key, wanted: &str) -> Result<(), Fail> {
         let fact = state.make(&self.jobs, &self.schedule, key)?;
         holds(Some(fact.key() == key), "the fact is of the key")?;
         match fact.body() {
@@ -77,7 +71,7 @@ fn take(state: &mut NodeState, fact: Fact) -> Result<(), Fail> {
 
 // The chain of stencils, of which the first is stored.
 fn chain(alloc: Global) -> Result<Scheduled, Fail> {
-    scheduled(alloc, CHAIN, ONES, 2, &[false, false, false])
+    admitted(alloc, CHAIN, ONES, 2, &[false, false, false])
 }
 
 /// The tiles of the first stencil.
@@ -86,7 +80,7 @@ const TILES: [(u32, u32); 4] = [(0, 0), (0, 1), (1, 0), (1, 1)];
 #[test]
 fn a_tile_of_inlined_functions_is_made_of_nothing(rt: HostRuntime) -> Result<(), Fail> {
     let alloc = rt.alloc();
-    let inlined = scheduled(alloc, CHAIN, ONES, 2, &[false, true, false])?;
+    let inlined = admitted(alloc, CHAIN, ONES, 2, &[false, true, false])?;
     let state = NodeState::new(alloc);
     let key = inlined.key(2, 0, 0)?;
     inlined.makes(alloc, &state, &key, "[81, 81, 81, 81]")
@@ -110,7 +104,7 @@ fn a_tile_is_made_of_tiles_that_were_made(rt: HostRuntime) -> Result<(), Fail> {
 #[test]
 fn a_partial_is_made(rt: HostRuntime) -> Result<(), Fail> {
     let alloc = rt.alloc();
-    let counted = scheduled(alloc, REMAINDERS, ONE_TO_NINE, 2, &[false, false])?;
+    let counted = admitted(alloc, REMAINDERS, ONE_TO_NINE, 2, &[false, false])?;
     let state = NodeState::new(alloc);
     let key = counted.key(1, 0, 0)?;
     counted.makes(alloc, &state, &key, "[1, 2, 1, 0]")
@@ -152,13 +146,7 @@ fn the_least_need_that_is_not_ready_is_told(rt: HostRuntime) -> Result<(), Fail>
 #[test]
 fn scratch_is_told_before_needs(rt: HostRuntime) -> Result<(), Fail> {
     let alloc = rt.alloc();
-    let big = scheduled(
-        alloc,
-        TOO_BIG,
-        b"P2 1 1 255 7",
-        1024,
-        &[false, true, false],
-    )?;
+    let big = admitted(alloc, TOO_BIG, b"P2 1 1 255 7", 1024, &[false, true, false])?;
     let state = NodeState::new(alloc);
     big.lacks(&state, &big.key(2, 0, 0)?, MakeFault::ScratchTooBig)
 }

@@ -12,3 +12,4 @@ pub mod ToldTiles
 pub mod ReadyNeeds
 pub mod MadeFacts
 pub mod LocalBodies
+pub mod TilesInOrder

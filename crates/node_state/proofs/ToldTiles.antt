@@ -43,7 +43,7 @@ some_found {X = X} p (y ∷ ys) x h t = by (p y) refl (λ later. some_found p ys
 
 -- ---- the fact that tells a tile
 
-of_tile : (g i j : ℕ) (f : Fact) → is_of_tile g i j f ≡ true → (f.key.stage ≡ g) × (f.key.row ≡ i) × (f.key.col ≡ j)
+pub of_tile : (g i j : ℕ) (f : Fact) → is_of_tile g i j f ≡ true → (f.key.stage ≡ g) × (f.key.row ≡ i) × (f.key.col ≡ j)
 of_tile g i j f e =
     let first = and_parts (f.key.stage == g) (f.key.row == i && f.key.col == j) e in
     let rest = and_parts (f.key.row == i) (f.key.col == j) first.1 in

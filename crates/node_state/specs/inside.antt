@@ -2,4 +2,5 @@
 pub mod Searching
 pub mod Judging
 pub mod Gathering
+pub mod Holding
 pub mod Needing

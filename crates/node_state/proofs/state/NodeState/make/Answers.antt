@@ -14,9 +14,11 @@ use Rattle.tile_run.specs.KnownTiles.{AreTrue, AreWhole}
 use Rattle.tile_run.specs.Runs.{first_missing}
 use Rattle.node_state.specs.Making.{tiles_in, needed_tiles, IsMade}
 use Rattle.node_state.specs.States.{facts_of}
+use Rattle.node_state.specs.inside.Holding.{TilesRise}
 use Rattle.node_state.specs.inside.Needing.{AreReady, IsNeedsFault}
 use Rattle.node_state.proofs.MadeFacts.{stopped, made, needed_true, true_fact}
 use Rattle.node_state.proofs.ReadyNeeds.{needed_whole, all_told, needed_function}
+use Rattle.node_state.proofs.TilesInOrder.{needed_rise}
 use Rattle.node_state.proofs.ToldTiles.{told_true}
 use Rattle.node_state.proofs.state.NodeState.make.Goals as goal
 
@@ -54,6 +56,21 @@ local_body-requires-clause-given g c =
     (all_told s (pipeline_in job) keys c.in_ok-facts.ensures.ready (λ need h.
     needed_function (program_id_in job) (target_over (pipeline_in job) c.args.schedule.now.inlining c.from-stage.result is.area)
     job.well need (subst (λ (ks : List Key). Contains ks need) asked h))))
+
+pub invariant_of-local_body : goal.invariant_of-local_body
+invariant_of-local_body g c =
+    let s = c.args.self.now in
+    let job = c.in-Some.job.now in
+    let keys = c.needs.result.now in
+    let is = c.in_ok-plan.ensures.plan in
+    let t = target_over (pipeline_in job) c.args.schedule.now.inlining c.from-stage.result is.area in
+    let asked : keys ≡ needed_keys (program_id_in job) t = c.needs.ensures ∙ is.plan.plan.needs in
+    let rise : TilesRise (flat_map (facts_of s) (needed_keys (program_id_in job) t)) =
+    needed_rise s (program_id_in job) t (subst (AreReady s (pipeline_in job)) asked c.in_ok-facts.ensures.ready) in
+    record {
+      rising =
+          subst TilesRise (ap (flat_map (facts_of s)) (sym asked) ∙ sym c.in_ok-facts.ensures.facts) rise;
+    }
 
 pub returns-clause-made : goal.returns-clause-made
 returns-clause-made g c =
