@@ -79,7 +79,8 @@ class Program:
                 raise Broken(f"{' '.join(words)}: no answer in {SECONDS} seconds") from None
         answer = Answer(process.returncode, out)
         demand(not err, f"{' '.join(words)}: wrote {err[:80]!r} to standard error")
-        demand(answer.status in (0, 1, 2, 3) or words[0] == "audit" and answer.status == FOUND_FALSE, f"{' '.join(words)}: {answer.shown()}")
+        usual = (0, 1, 2, 3, FOUND_FALSE) if words[0] == "audit" else (0, 1, 2, 3)
+        demand(answer.status in usual, f"{' '.join(words)}: {answer.shown()}")
         demand(not answer.is_refusal or is_refusal_line(answer), f"{' '.join(words)}: no line of this refusal: {answer.shown()}")
         return answer
 

@@ -1,6 +1,6 @@
 """What random programs mean, point by point: the values of their functions and what their accumulators gather, over one tile.
 
-Written from docs/LANGUAGE.md and docs/FORMATS.md alone, for programs that `check` accepts; there is one token after the other, and nothing else.
+Written from docs/LANGUAGE.md and docs/FORMATS.md alone, for programs that `check` accepts, given as tokens, whose variables are x and y.
 """
 from typing import Callable, NamedTuple
 
@@ -35,7 +35,7 @@ class Area(NamedTuple):
 class Stage:
     """A plane, a function or an accumulator."""
 
-    def __init__(self, kind: str, domain: Area, formula: Formula, bins: tuple[int, int] = (0, 0), place: Formula | None = None, op: str = ""):
+    def __init__(self, kind: str, domain: Area, formula: Formula, bins=(0, 0), place: Formula | None = None, op: str = ""):
         self.kind, self.domain, self.formula, self.bins, self.place, self.op = kind, domain, formula, bins, place, op
         self.known: dict[Point, int] = {}
 
