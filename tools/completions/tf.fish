@@ -2,7 +2,7 @@
 complete -c tf -n __fish_use_subcommand -a eval -d 'the result; a raw PGM picture, or a raw PPM where the output names three functions, if there is an output; then for each accumulator a line NAME LO..HI; b b b'
 complete -c tf -n __fish_use_subcommand -a check -d 'program HEX and input HEX, the identities; then for each plane, function and accumulator a line stage N KIND NAME R0..R1 C0..C1 tiles T'
 complete -c tf -n __fish_use_subcommand -a plan -d 'for each function and accumulator inlined NAME, or stored NAME cost C with the number of points that its tiles compute'
-complete -c tf -n __fish_use_subcommand -a merge -d 'the union of fact files as a line of hexadecimal digits; whether facts are true it does not ask'
+complete -c tf -n __fish_use_subcommand -a merge -d 'the union of fact files, as a line of hexadecimal digits'
 complete -c tf -n __fish_use_subcommand -a audit -d 'for each fact of the union of fact files, rising, a line VERDICT STAGE ROW COL, with True, False, Misshapen or Foreign'
 complete -c tf -n __fish_use_subcommand -a graph -d 'draws the stages; what is inlined in the frame of the stage that computes it, and tiles and cost of what is stored (SVG, or DOT where the file ends in .dot)'
 complete -c tf -n __fish_use_subcommand -a hist -d 'draws an accumulators line as bars (SVG)'

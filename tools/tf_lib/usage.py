@@ -42,8 +42,7 @@ COMMANDS = {
                 "line `stage N KIND NAME R0..R1 C0..C1 tiles T`"),
         Command("plan", ONE, ONE, "for each function and accumulator `inlined NAME`, or `stored NAME cost C` with the number of points "
                 "that its tiles compute"),
-        Command("merge", (FACTS,), (FACTS,), "the union of fact files as a line of hexadecimal digits; whether facts are true it does not "
-                "ask"),
+        Command("merge", (FACTS,), (FACTS,), "the union of fact files, as a line of hexadecimal digits"),
         Command("audit", (*ONE, FACTS), ("program", FACTS, "picture"), "for each fact of the union of fact files, rising, a line "
                 "`VERDICT STAGE ROW COL`, with `True`, `False`, `Misshapen` or `Foreign`"),
     )
