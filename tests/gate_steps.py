@@ -190,13 +190,13 @@ def steps(clone: str, times: Times) -> list[Step]:
     if not done[0].failed:
         done.append(run("conformance cases", clone, ["tests/run_cases", *PROGRAMS]))
         done.append(run("memory refused", clone, ["tests/refusals", BUILT]))
-        done.append(run("damaged pictures", clone, ["tests/damage", BUILT]))
+        done.append(run("damaged pictures and fact files", clone, ["tests/damage", BUILT]))
         done.append(run("random jobs", clone, ["tests/fuzz", BUILT]))
         done.append(run("results of the examples", clone, ["examples/expected"]))
         done.append(run("page of the examples", clone, ["examples/show", "--check", BUILT]))
         done.append(run("tests of tf", clone, ["tests/test_tf", BUILT]))
         done.append(run("texts of the errors", clone, ["tests/test_errors", BUILT]))
-        done.append(run("commands of the guide", clone, ["tests/test_guide", BUILT]))
+        done.append(run("commands of the pages", clone, ["tests/test_guide", BUILT]))
         done.append(run("gallery", clone, ["docs/gallery/make", "--check", BUILT]))
     return done
 

@@ -11,10 +11,14 @@ TEXT = "1 NotAscii|2 BadToken|3 Unexpected|4 NumberTooBig|5 TooDeep|6 TooLong|7 
 PICTURE = (
     "1 OtherFormat|2 HeaderCut|3 BadNumber|4 BadSize|5 BadMax|6 CommentBehindDigit|7 RasterCut|8 SampleTooBig|9 TrailingBytes"
 )
+FACTS = "1 BadMagic|2 Cut|3 NotRising|4 BadKind|5 TooLong|6 TrailingBytes"
+# the status of an audit that found a False, with all verdicts
+FOUND_FALSE = 6
 # the lines of refusals, by exit status
 REFUSALS = {
     1: ["usage: tilefarm COMMAND .*", rf"parameter: (?:1 NoSuchParam|2 SetTwice) .*"],
-    2: ["input: no separator", "input: too long", rf"picture: (?:{PICTURE}) at \d+"],
+    2: ["input: no separator", "input: too long", rf"picture: (?:{PICTURE}) at \d+",
+        rf"facts: line \d+ (?:bad hex|(?:{FACTS}) at \d+)"],
     3: [
         rf"program: (?:{TEXT}) at \d+",
         r"check: (?:1 Unknown|2 Twice|3 Kind|4 BadKernel|5 BadLiteral) item \d+",
@@ -43,7 +47,7 @@ class Answer:
 
     @property
     def is_refusal(self) -> bool:
-        return self.status != 0
+        return self.status not in (0, FOUND_FALSE)
 
     def shown(self) -> str:
         return f"status {self.status}, {self.bytes[:120]!r}"
@@ -75,7 +79,8 @@ class Program:
                 raise Broken(f"{' '.join(words)}: no answer in {SECONDS} seconds") from None
         answer = Answer(process.returncode, out)
         demand(not err, f"{' '.join(words)}: wrote {err[:80]!r} to standard error")
-        demand(answer.status in (0, 1, 2, 3), f"{' '.join(words)}: {answer.shown()}")
+        usual = (0, 1, 2, 3, FOUND_FALSE) if words[0] == "audit" else (0, 1, 2, 3)
+        demand(answer.status in usual, f"{' '.join(words)}: {answer.shown()}")
         demand(not answer.is_refusal or is_refusal_line(answer), f"{' '.join(words)}: no line of this refusal: {answer.shown()}")
         return answer
 

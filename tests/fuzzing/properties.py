@@ -4,8 +4,10 @@ from dataclasses import dataclass
 from random import Random
 
 from .answers import CHECKED, PLANNED, Answer, Program, demand
+from .audits import audited, merged_at_random
 from .pictures import Picture, picture
 from .programs import Writer, spelled, spelled_otherwise
+from .values import Meaning
 
 SEPARATOR = b"%%\n"
 
@@ -36,6 +38,10 @@ def judged(program: Program, random: Random) -> str:
     another_spelling(program, case, written.tokens, taken, random)
     for _ in range(3):
         damaged(program, case, random)
+    merged_at_random(program, random)
+    if not answer.is_refusal:
+        known = {name: int(value) for name, value in (it.split("=") for it in written.values)}
+        audited(program, *(case.text, case.picture, case.words), Meaning(written.tokens, known, taken), random)
     return "refused" if answer.is_refusal else "evaluated"
 
 

@@ -29,6 +29,8 @@ def refused_word(words: list[str]) -> tuple[str, str]:
     """The first word that the program refuses, and what would be right."""
     if not words or words[0] not in COMMANDS:
         return (words[0] if words else ""), f"The first word is a command: {', '.join(COMMANDS)}."
+    if not COMMANDS[words[0]].takes_words:
+        return "".join(words[1:2]), f"{words[0]} takes no options and no values: it has its fact files alone."
     rest, seen = list(words[1:]), set()
     while rest:
         word = rest.pop(0)
@@ -68,6 +70,8 @@ def is_value(text: str) -> bool:
 def no_separator(found: re.Match[str], at: Situation) -> Blame:
     name = at.text().name
     cure = f"The input has no line that is exactly %%: name the picture behind the program, as tf eval {name} photo.png."
+    if at.words[:1] == ["audit"]:
+        cure = f"The input has no two lines that are exactly %%: name picture and facts, as tf audit {name} photo.png some.facts."
     return Blame([at.text().place(len(at.text().data))], cure)
 
 
@@ -80,6 +84,8 @@ def input_failed(found: re.Match[str], at: Situation) -> Blame:
 
 
 def memory(found: re.Match[str], at: Situation) -> Blame:
+    if at.words[:1] == ["merge"]:
+        return Blame([], "Memory ran out: end other programs, or merge fewer files: what stands in the union is held at once.")
     return Blame([], "Memory ran out: end other programs, or take a smaller picture; without --stored less is held at once.")
 
 

@@ -1,7 +1,7 @@
 """One call of tf: the program is run on the input that the words name, and what it writes is put where it belongs."""
 import sys
 
-from . import graph, hist
+from . import facts, graph, hist, making
 from .blame import Situation
 from .faults import explained
 from .joining import Input, joined
@@ -13,6 +13,10 @@ from .stages import stages_of
 from .text import Refused
 from .tune import tune
 from .words import asked
+
+
+# the status of an audit that found a False, with its verdicts as usual
+FOUND_FALSE = 6
 
 
 class Failed(Exception):
@@ -64,12 +68,12 @@ class Call:
     def perform(self) -> int:
         """Runs a command of the program, and puts what it writes where it belongs."""
         ended = self.run()
-        if ended.status:
+        if ended.status not in (0, FOUND_FALSE):
             return self.explain(ended)
         if self.asked.name == "eval":
             self.warn_of_samples()
         self.deliver(ended.written)
-        return 0
+        return ended.status
 
     def warn_of_samples(self) -> None:
         """Says so where the picture has samples above the greatest of the output."""
@@ -120,6 +124,16 @@ class Call:
         lines = (found[1] if found else ended.written).decode("ascii", "replace")
         return self.give_drawing(hist.svg(lines, self.asked.own.get("--of")))
 
+    def facts(self) -> int:
+        if "--list" in self.asked.own:
+            self.text_of("merge")
+            return self.give_drawing("".join(map(facts.told, facts.all_of(self.input.sections["facts"].texts()))).encode())
+        check, program = self.text_of("check"), known_program(self.input.sections["program"].data)
+        if program is None:
+            raise Refused("tf does not read this program as tilefarm does")
+        found = making.Maker(self.input, program, self.asked.words).facts(check, self.asked.own.get("--of"), part_of(self.asked.own))
+        return self.give_drawing(facts.line_of(found))
+
     def tune(self) -> int:
         ended = self.run("check")
         if ended.status:
@@ -133,3 +147,11 @@ class Call:
 
     def join(self) -> int:
         return self.give_drawing(self.input.data)
+
+
+def part_of(own: dict[str, str]) -> tuple[int, int]:
+    """Which of how many parts is asked for: the first of one unless said."""
+    first, _, count = own.get("--part", "1/1").partition("/")
+    if not (first.isdigit() and count.isdigit() and 1 <= int(first) <= int(count)):
+        raise Refused("--part takes K/N, two numbers with K from 1 to N: --part 1/2", 1)
+    return int(first), int(count)

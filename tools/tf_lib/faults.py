@@ -2,6 +2,7 @@
 import re
 from typing import Callable
 
+from . import blame_facts as of_facts
 from . import blame_grammar as of_text
 from . import blame_input as of_input
 from . import blame_names as of_names
@@ -18,6 +19,8 @@ TABLE: dict[str, Callable[[re.Match[str], Situation], Blame]] = {
     r"input failed": of_input.input_failed,
     r"memory": of_input.memory,
     r"picture: \d+ (?P<fault>\w+)" + OFFSET: of_input.picture,
+    r"facts: line (?P<line>\d+) bad hex": of_facts.bad_hex,
+    r"facts: line (?P<line>\d+) \d+ (?P<fault>\w+)" + OFFSET: of_facts.bad_file,
     r"parameter: 1 NoSuchParam" + GIVEN: of_values.no_such_param,
     r"parameter: 2 SetTwice" + GIVEN: of_values.set_twice,
     r"program: 1 NotAscii" + OFFSET: of_text.not_ascii,

@@ -1,23 +1,28 @@
-"""From the user's files to the input of `tilefarm`: the program, a line `%%`, and the picture."""
+"""From the user's files to the input of `tilefarm`: the program, a line `%%`, and the picture; or what else a command takes."""
 import sys
 import tempfile
-from dataclasses import dataclass
+from dataclasses import dataclass, field
 
 from . import converters, png
 from .netpbm import Header, header_of, picture_of
 from .text import Refused, Text, content
-from .usage import Command
+from .usage import FACTS, Command
 
 SEPARATOR = b"%%\n"
 
 
 @dataclass
 class Section:
-    """A part of the input: the user's text, what stands for it in the input, and whether these are the same."""
+    """A part of the input: the user's text, what stands for it in the input, and whether these are the same. Where several
+    files stand one behind the other, `more` has the texts behind the first."""
 
     text: Text
     data: bytes
     is_own: bool = True
+    more: list[Text] = field(default_factory=list)
+
+    def texts(self) -> list[Text]:
+        return [self.text, *self.more]
 
 
 @dataclass
@@ -40,19 +45,31 @@ def joined(command: Command, files: list[str], grey: bool, said: list[str]) -> I
     """The input of a command, from its files. What is to be said to the user is added to `said`."""
     if len(files) == 1 and len(command.files) > 1:
         return whole_input(command, files[0])
-    if len(files) != len(command.files):
-        raise Refused(f"tf {command.name} takes {' '.join(it.upper() for it in command.files)}, and got {len(files)} files", 1)
-    given = {kind: section(kind, path, grey, said) for kind, path in zip(command.files, files)}
+    takes_more = FACTS in command.files and len(files) > len(command.files)
+    if len(files) != len(command.files) and not takes_more:
+        wanted = " ".join(f"{it.upper()}{'...' if it == FACTS else ''}" for it in command.files)
+        raise Refused(f"tf {command.name} takes {wanted}, and got {len(files)} files", 1)
+    is_parted = len(command.sections) > 1
+    given = {kind: section(kind, path, grey, is_parted, said) for kind, path in zip(command.files, files)}
+    for path in files[len(command.files) :]:
+        append(given[FACTS], section(FACTS, path, grey, is_parted, said))
     sections = {kind: given[kind] for kind in command.sections}
     return Input(sections, SEPARATOR.join(it.data for it in sections.values()))
 
 
-def section(kind: str, path: str, grey: bool, said: list[str]) -> Section:
+def section(kind: str, path: str, grey: bool, is_parted: bool, said: list[str]) -> Section:
     if kind == "picture":
         return picture_section(path, grey, said)
     data = ended(read_file(path))
-    refuse_separator(path, data)
+    if is_parted:
+        refuse_separator(path, data, "the program's text" if kind == "program" else "this text")
     return Section(Text(path, data), data)
+
+
+def append(first: Section, other: Section) -> None:
+    """Lets a file stand behind those that are there."""
+    first.data += other.data
+    first.more.append(other.text)
 
 
 def read_file(path: str) -> bytes:
@@ -65,11 +82,11 @@ def ended(data: bytes) -> bytes:
     return data if not data or data.endswith(b"\n") else data + b"\n"
 
 
-def refuse_separator(path: str, data: bytes) -> None:
+def refuse_separator(path: str, data: bytes, what: str) -> None:
     at = (b"\n" + data).find(b"\n" + SEPARATOR)
     if at >= 0:
         drawing = "\n".join(Text(path, data).place(at, 2).drawing())
-        raise Refused(f"a line that is exactly %% ends the program's text\n{drawing}\n"
+        raise Refused(f"a line that is exactly %% ends {what}\n{drawing}\n"
                       "Take the line out, or give this file alone if the picture stands behind it.")
 
 

@@ -5,12 +5,17 @@ from typing import NamedTuple
 
 class Command(NamedTuple):
     """A command of `tilefarm`. `files` are the files that its words name, in their order; `sections` are the parts of its
-    input in theirs. A section is a program, a picture, or another text that is passed on as it stands."""
+    input in theirs. A section is a program, a picture, fact files (as many as are named), or another text that is passed on."""
 
     name: str
     files: tuple[str, ...]
     sections: tuple[str, ...]
     writes: str
+
+    @property
+    def takes_words(self) -> bool:
+        """Whether it takes options and values: what has no program is not asked for anything more."""
+        return "program" in self.sections
 
 
 class Option(NamedTuple):
@@ -27,7 +32,7 @@ class Status(NamedTuple):
     lines: str
 
 
-ONE = ("program", "picture")
+ONE, FACTS = ("program", "picture"), "facts"
 COMMANDS = {
     it.name: it
     for it in (
@@ -37,6 +42,9 @@ COMMANDS = {
                 "line `stage N KIND NAME R0..R1 C0..C1 tiles T`"),
         Command("plan", ONE, ONE, "for each function and accumulator `inlined NAME`, or `stored NAME cost C` with the number of points "
                 "that its tiles compute"),
+        Command("merge", (FACTS,), (FACTS,), "the union of fact files, as a line of hexadecimal digits"),
+        Command("audit", (*ONE, FACTS), ("program", FACTS, "picture"), "for each fact of the union of fact files, rising, a line "
+                "`VERDICT STAGE ROW COL`, with `True`, `False`, `Misshapen` or `Foreign`"),
     )
 }
 OPTIONS = (
@@ -53,21 +61,29 @@ STATUSES = (
     Status(4, "input or output failed", "`input failed`; nothing where the output failed"),
     Status(5, "memory ran out", "`memory`"),
 )
+# what `merge` and `audit` end with besides
+FACT_STATUSES = (
+    Status(2, "a fact file cannot be read", "`facts: line L bad hex`, `facts: line L N NAME at OFFSET`"),
+    Status(6, "`audit` found a `False`", "all verdicts"),
+)
 DRAWING = {
     "graph": "draws the stages: what is inlined in the frame of the stage that computes it, and tiles and cost of what is stored "
              "(SVG, or DOT where the file ends in .dot)",
     "hist": "draws an accumulator's line as bars (SVG)",
     "tune": "times sides of tiles and percentages, and says which are best here",
+    "facts": "makes the fact file of a job's tiles: those of the output and of all accumulators; with --list tells what fact files hold",
 }
 OWN_OPTIONS = (
     Option("-o", "FILE", "where the picture goes (.png, .pgm, .ppm; .jpg and .tif through another tool), or the drawing or the joined "
-           "input; it takes its name only when all went well"),
+           "input, or the lines that a command writes; it takes its name only when all went well"),
     Option("--print", "", "prints the samples of the result as rows of numbers, and writes no picture"),
     Option("--grey", "", "makes one grey plane of a picture in colours, before the program sees it"),
     Option("--time", "", "tells how long the program ran"),
     Option("--memory", "", "tells how much memory the program held at most"),
-    Option("--join", "", "only joins program and picture, and runs nothing: tf --join PROGRAM PICTURE -o INPUT"),
-    Option("--of", "NAME", "of hist: the accumulator to draw; the first unless given"),
+    Option("--join", "", "only joins program, picture and fact files, and runs nothing: tf --join PROGRAM PICTURE [FACTS]... -o INPUT"),
+    Option("--of", "NAME", "of hist: the accumulator to draw, the first unless given; of facts: the stage whose tiles are told"),
+    Option("--part", "K/N", "of facts: of all tiles in their order each N-th from the K-th on, as 1/2 and 2/2"),
+    Option("--list", "", "of facts: tells what is in fact files, a line for each fact: tf facts --list FACTS..."),
     Option("--rounds", "N", "of tune: how often each setting is timed; 3 unless given"),
     Option("--help", "", "prints this"),
 )
@@ -89,7 +105,9 @@ def valued() -> dict[str, str]:
 
 def help_text() -> str:
     """What `tf --help` prints."""
-    lines = ["usage: tf COMMAND PROGRAM [PICTURE] [-o FILE] [OPTIONS] [NAME=VALUE]...", "",
+    lines = ["usage: tf COMMAND PROGRAM [PICTURE] [-o FILE] [OPTIONS] [NAME=VALUE]...",
+             "       tf audit PROGRAM PICTURE FACTS... [-o FILE] [OPTIONS] [NAME=VALUE]...",
+             "       tf merge FACTS... [-o FILE]", "",
              "Runs tilefarm on a program and a picture, shows faults in your own files, and draws what it is told.",
              "PICTURE is PNG, PGM or PPM; other formats are read through ImageMagick, libvips or netpbm. Without it",
              "PROGRAM is a whole input, with the line %% and the picture behind it.", "", "Commands of tilefarm:"]
@@ -97,7 +115,8 @@ def help_text() -> str:
     lines += ["", "Commands of tf:", *(row(name, says) for name, says in DRAWING.items())]
     lines += ["", "Options of tilefarm:", *(row(f"{it.name} {it.value}", it.says) for it in OPTIONS)]
     lines += ["", "Options of tf:", *(row(f"{it.name} {it.value}", it.says) for it in OWN_OPTIONS)]
-    lines += ["", "Exit status:", *(row(str(it.number), it.when) for it in STATUSES), "",
+    when = {it.number: it.when.replace("`", "") for it in (*FACT_STATUSES, *STATUSES)}
+    lines += ["", "Exit status:", *(row(str(it), when[it]) for it in sorted(when)), "",
               "The program is $TILEFARM, or crates/tilefarm/out/tilefarm of this repository, or tilefarm on the path."]
     return "\n".join(lines) + "\n"
 

@@ -24,8 +24,10 @@ class Asked:
         return self.own.get("-o")
 
     def command(self) -> Command:
-        """The command of `tilefarm` that runs; what draws and joins takes the files of `eval`."""
-        return COMMANDS.get(self.name, COMMANDS["eval"])
+        """The command of `tilefarm` that runs. What draws and joins takes the files of `eval`; what joins more, those of `audit`;
+        what lists facts, those of `merge`."""
+        usual = "audit" if not self.name and len(self.files) > 2 else "merge" if "--list" in self.own else "eval"
+        return COMMANDS.get(self.name, COMMANDS[usual])
 
 
 def asked(words: list[str]) -> Asked:
