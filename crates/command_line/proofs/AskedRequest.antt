@@ -10,9 +10,11 @@ use Rattle.clap.specs.declared.error.kind.ErrorKind.{ErrorKind}
 use Rattle.clap.specs.declared.error.kind.ErrorKind.TheVariants.{OutOfMemory}
 use Rattle.clap.specs.declared.parser.matches.ArgMatches.{ArgMatches}
 use Rattle.clap.proofs.OnLiterals.{clap_on_literals}
-use Rattle.command_line.specs.Asking.{IsRequestOf}
+use Rattle.command_line.specs.Asking.{AskForMerge, IsJobRequestOf, IsRequestOf}
 use Rattle.command_line.specs.Usage.{usage}
+use Rattle.command_line.specs.declared.words.JobRequest.{JobRequest}
 use Rattle.command_line.specs.declared.words.Request.{Request}
+use Rattle.command_line.specs.declared.words.Request.TheVariants.{Merge, Job}
 
 usage_is_simple : is_simple usage ≡ true
 unfolding clap_on_literals
@@ -50,7 +52,7 @@ none_among k kinds empty among = subst (λ (ks : Kinds). IsAmong k ks) empty amo
 -- words that are refused are none
 pub refused : (words : List (String Global)) (app : App) (e : Error) → app ≡ usage
     → (is_simple_and_free app ≡ true → FailsBy {T = ArgMatches} (fault_of app (texts words)) (Err e))
-    → kind_of e ≢ OutOfMemory → (request : Request) → ¬ IsRequestOf words request
+    → kind_of e ≢ OutOfMemory → (request : JobRequest) → ¬ IsJobRequestOf words request
 refused words app e is fails kind request asked =
     elim (subst (λ (a : App). is_simple_and_free a ≡ true → FailsBy {T = ArgMatches} (fault_of a (texts words)) (Err e)) is fails
     usage_is_free) [
@@ -58,6 +60,12 @@ refused words app e is fails kind request asked =
       | inr among ↦ none_among (kind_of e) (fault_of usage (texts words)) asked.accepted among
     ]
 
-pub same_rows : (words : List (String Global)) (request : Request) (asked : IsRequestOf words request) (rows : List Row)
+pub same_rows : (words : List (String Global)) (request : JobRequest) (asked : IsJobRequestOf words request) (rows : List Row)
     → option_map (λ p. p.1) (subcommand_of usage (texts words)) ≡ Some rows → asked.rows ≡ rows
 same_rows words request asked rows is = same_Some asked.rows rows (sym asked.given ∙ is)
+
+-- words that are neither `merge` alone nor a command line of the usage text ask for nothing
+pub none_asked : (words : List (String Global)) → ¬ AskForMerge words → ((request : JobRequest) → ¬ IsJobRequestOf words request)
+    → (request : Request) → ¬ IsRequestOf words request
+none_asked words no_merge no_job Merge asked = no_merge asked
+none_asked words no_merge no_job (Job request) asked = no_job request asked

@@ -1,0 +1,65 @@
+use Rattle.std.proofs.Common.{◌∙◌, List, None, sym, subst, rules}
+use Rattle.std.proofs.lemmas.Option.{none-some}
+use Rattle.std.proofs.lemmas.Result.{err_from_is_err_and}
+use Rattle.clap.specs.Words.{Row, app_of, found_of, rows_of}
+use Rattle.command_line.specs.Asking.{AreOptions, AreParametersIn}
+use Rattle.command_line.proofs.AskedRequest.{accepted, entered, refused, same_rows}
+use Rattle.command_line.proofs.words.job_request_of.Goals as goal
+
+pub returns-in_default-clause-usage : goal.returns-in_default-clause-usage
+returns-in_default-clause-usage c = λ usage request asked. c.in_default.ensures.none request.task asked.task
+
+pub returns-in_err-matches-clause-usage : goal.returns-in_err-matches-clause-usage
+returns-in_err-matches-clause-usage c =
+    let p = err_from_is_err_and c.from_residual-in_err-matches.result c.from_residual-in_err-matches.ensures.1 in
+    rw p.1 (λ usage. refused c.args.words.now (app_of c.in_ok-usage.field-0) c.in_err-matches.field-0.0 c.in_ok-usage.ensures
+    c.in_err-matches.ensures.kinds (p.2 usage))
+
+pub returns-in_default-subcommand-clause-usage : goal.returns-in_default-subcommand-clause-usage
+returns-in_default-subcommand-clause-usage c = λ usage request asked.
+    let rows =
+    entered c.args.words.now (app_of c.in_ok-usage.field-0) c.in_ok-matches.matches c.subcommand.result None c.in_ok-usage.ensures
+    c.in_ok-matches.ensures.matches c.subcommand.ensures.rows c.in_default-subcommand.is in
+    none-some asked.rows (sym rows ∙ asked.given)
+
+pub returns-in_default-options_of-clause-usage : goal.returns-in_default-options_of-clause-usage
+returns-in_default-options_of-clause-usage c = λ usage request asked.
+    let rows =
+    entered c.args.words.now (app_of c.in_ok-usage.field-0) c.in_ok-matches.matches c.subcommand.result _ c.in_ok-usage.ensures
+    c.in_ok-matches.ensures.matches c.subcommand.ensures.rows c.in-Some-subcommand.is in
+    c.in_default-options_of.ensures.none request.options
+    (subst (λ (found : List Row). AreOptions found request.options)
+    (same_rows c.args.words.now request asked (rows_of (found_of c.in-Some-subcommand.given.now)) rows) asked.options)
+
+pub returns-in_err-parameters_of-clause-usage : goal.returns-in_err-parameters_of-clause-usage
+returns-in_err-parameters_of-clause-usage c =
+    let p = err_from_is_err_and c.from_residual-in_err-parameters_of.result c.from_residual-in_err-parameters_of.ensures.1 in
+    let rows =
+    entered c.args.words.now (app_of c.in_ok-usage.field-0) c.in_ok-matches.matches c.subcommand.result _ c.in_ok-usage.ensures
+    c.in_ok-matches.ensures.matches c.subcommand.ensures.rows c.in-Some-subcommand.is in
+    rw (p.1, p.2) (λ usage request asked.
+    c.in_err-parameters_of.ensures.usage usage request.parameters.items
+    (subst (λ (found : List Row). AreParametersIn found request.parameters.items)
+    (same_rows c.args.words.now request asked (rows_of (found_of c.in-Some-subcommand.given.now)) rows) asked.parameters))
+
+pub returns-clause-asked : goal.returns-clause-asked
+returns-clause-asked c =
+    let rows =
+    entered c.args.words.now (app_of c.in_ok-usage.field-0) c.in_ok-matches.matches c.subcommand.result _ c.in_ok-usage.ensures
+    c.in_ok-matches.ensures.matches c.subcommand.ensures.rows c.in-Some-subcommand.is in
+    record {
+      accepted =
+          accepted c.args.words.now (app_of c.in_ok-usage.field-0) c.in_ok-matches.matches c.in_ok-usage.ensures
+          c.in_ok-matches.ensures.kinds;
+      no_separator = search rules;
+      task = c.in-Some.ensures.some;
+      rows = rows_of (found_of c.in-Some-subcommand.given.now);
+      given = rows;
+      options = c.in-Some-options_of.ensures.some;
+      parameters = c.in_ok-parameters_of.ensures.some;
+    }
+
+pub returns-in_err-parameters_of-clause-memory : goal.returns-in_err-parameters_of-clause-memory
+returns-in_err-parameters_of-clause-memory c =
+    let p = err_from_is_err_and c.from_residual-in_err-parameters_of.result c.from_residual-in_err-parameters_of.ensures.1 in
+    rw p.1 (λ memory. record { task = c.in-Some.task; named = c.in-Some.ensures.some; no_separator = search rules })
