@@ -1,6 +1,6 @@
 -- What is written, and of what it is said.
-use Rattle.std.proofs.Common.{◌≡◌, ◌≤◌, ◌++◌, List, [], ℕ, Option, Result, Ok, Err, OnOk, length, refl, sym, subst}
-use Rattle.std.specs.Prelude.{IfErr, IfOk, IfSome, OnErr}
+use Rattle.std.proofs.Common.{◌≡◌, ◌++◌, List, [], ℕ, Option, Result, Ok, Err, OnOk, refl, sym, subst}
+use Rattle.std.specs.Prelude.{OnErr}
 use Rattle.std.specs.Io.KnownBytes.{Appends}
 use Rattle.std.proofs.KnownBytes.{Appends-trans}
 use Rattle.std.proofs.lemmas.List.{append-nil}
@@ -12,7 +12,7 @@ use Rattle.job.specs.WellFormed.{IsJob}
 use Rattle.job.specs.declared.job.Job.{Job}
 use Rattle.inputs.specs.Giving.{Given}
 use Rattle.inputs.specs.Input.{IsReadJob}
-use Rattle.inputs.specs.Outcomes.{AppendsPartSaid, CountsRead, CountsWritten, IsOfInput, IsOfReader, IsSaid, JobSaying, Refusing, Saying, Writes, most_input}
+use Rattle.inputs.specs.Outcomes.{CountsRead, CountsWritten, IsSaid, JobSaying, Refusing, Saying, Writes}
 use Rattle.inputs.specs.declared.faults.StreamFault.{StreamFault}
 use Rattle.inputs.specs.declared.faults.StreamFault.TheVariants as faults
 use Rattle.commands.specs.Sayings.{finding_none}
@@ -48,69 +48,6 @@ pub said_of : (Says : JobSaying) (input : List ℕ) (given : List Given) (sides 
     → Says read.tree (pipeline_in job) bytes → IsSaid Says given sides input bytes
 said_of Says input given sides job bytes read is says =
     record { tree = read.tree; job = pipeline_in job; is_job = is; of_input = read.of_input; says = says }
-
-of_input : (known : Option (List ℕ)) (input : List ℕ) (P : List ℕ → Type 0) → IfSome known (λ all. input ≡ all)
-    → length input ≤ most_input → P input → IsOfInput known P
-of_input known input P all within holds = record { input = input; all = all; within = within; holds = holds }
-
--- bytes that are said of the input at each answer were written, or where the writer failed a part of them
-pub said_writes : {Answer : Type 0} (Says : Saying Answer) (Refuses : Refusing) (known : Option (List ℕ)) (input bytes : List ℕ)
-    (some : Answer) (r : Result Answer StreamFault) (old new : Option (List ℕ))
-    → IfSome known (λ all. input ≡ all) → length input ≤ most_input
-    → Says some input bytes → IfOk r (λ answer. answer ≡ some)
-    → OnOk r (Appends old new bytes) → OnErr r (AppendsPart old new bytes) → IfErr r (λ fault. fault ≡ faults.Write)
-    → Writes Says Refuses known r old new
-said_writes Says Refuses known input bytes some (Ok answer) old new all within said same taken part fault =
-    record {
-      bytes = bytes;
-      said = of_input known input (λ i. Says answer i bytes) all within (subst (λ a. Says a input bytes) (sym same) said);
-      taken = taken;
-    }
-said_writes {Answer = Answer} Says Refuses known input bytes some (Err f) old new all within said same taken part fault =
-    let cut : AppendsPartSaid Says known old new =
-    record { answer = some; bytes = bytes; said = of_input known input (λ i. Says some i bytes) all within said; taken = part } in
-    subst (λ (g : StreamFault). Writes {Answer = Answer} Says Refuses known (Err g) old new) (sym fault) cut
-
--- ---- what an input is refused with
-
--- a fault of the reader wrote nothing
-pub reader_writes : {Answer : Type 0} (Says : Saying Answer) (Refuses : Refusing) (known : Option (List ℕ)) (f : StreamFault)
-    (old : Option (List ℕ)) → IsOfReader known f → Writes {Answer = Answer} Says Refuses known (Err f) old old
-reader_writes Says Refuses known faults.Read old is = (refl, tt)
-reader_writes Says Refuses known faults.TooLong old is = (refl, is)
-reader_writes Says Refuses known faults.Memory old is = (refl, tt)
-reader_writes Says Refuses known faults.NoSeparator old is = absurd is
-reader_writes Says Refuses known (faults.Program x) old is = absurd is
-reader_writes Says Refuses known (faults.Picture x) old is = absurd is
-reader_writes Says Refuses known (faults.Check x) old is = absurd is
-reader_writes Says Refuses known (faults.Param x) old is = absurd is
-reader_writes Says Refuses known (faults.Bind x) old is = absurd is
-reader_writes Says Refuses known (faults.Facts x) old is = absurd is
-reader_writes Says Refuses known faults.Write old is = absurd is
-
--- a fault of the input wrote nothing; neither the length nor the writer is the input's
-pub refused_writes : {Answer : Type 0} (Says : Saying Answer) (Refuses : Refusing) (known : Option (List ℕ)) (input : List ℕ)
-    (f : StreamFault) (old : Option (List ℕ)) → (Refuses input faults.TooLong → ⊥) → (Refuses input faults.Write → ⊥)
-    → IfSome known (λ all. input ≡ all) → length input ≤ most_input → Refuses input f
-    → Writes {Answer = Answer} Says Refuses known (Err f) old old
-refused_writes Says Refuses known input faults.Read old long write all within is = (refl, tt)
-refused_writes Says Refuses known input faults.Memory old long write all within is = (refl, tt)
-refused_writes Says Refuses known input faults.TooLong old long write all within is = absurd (long is)
-refused_writes Says Refuses known input faults.Write old long write all within is = absurd (write is)
-refused_writes Says Refuses known input faults.NoSeparator old long write all within is =
-    (refl, of_input known input (λ i. Refuses i faults.NoSeparator) all within is)
-refused_writes Says Refuses known input (faults.Program x) old long write all within is =
-    (refl, of_input known input (λ i. Refuses i (faults.Program x)) all within is)
-refused_writes Says Refuses known input (faults.Picture x) old long write all within is =
-    (refl, of_input known input (λ i. Refuses i (faults.Picture x)) all within is)
-refused_writes Says Refuses known input (faults.Check x) old long write all within is =
-    (refl, of_input known input (λ i. Refuses i (faults.Check x)) all within is)
-refused_writes Says Refuses known input (faults.Param x) old long write all within is =
-    (refl, of_input known input (λ i. Refuses i (faults.Param x)) all within is)
-refused_writes Says Refuses known input (faults.Bind x) old long write all within is =
-    (refl, of_input known input (λ i. Refuses i (faults.Bind x)) all within is)
-refused_writes Says Refuses known input (faults.Facts x) old long write all within is =
-    (refl, of_input known input (λ i. Refuses i (faults.Facts x)) all within is)
 
 -- ---- commands that judge nothing
 
