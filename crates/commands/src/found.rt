@@ -20,12 +20,11 @@ pub enum Found {
 pub fn found_in(verdicts: &[Verdict]) -> Found
     ensures { IsFound result verdicts.now }
 {
-    for verdict in verdicts {
-        if let Verdict::False = verdict {
-            return Found::AFalse;
-        }
+    if verdicts.contains(&Verdict::False) {
+        Found::AFalse
+    } else {
+        Found::NoFalse
     }
-    Found::NoFalse
 }
 
 /// What a command found that judges nothing.
