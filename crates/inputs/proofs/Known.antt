@@ -37,7 +37,7 @@ use Rattle.inputs.specs.Faults.{IsAuditFault, IsFaultOf, IsJobFault, IsMergeFaul
 use Rattle.inputs.specs.Giving.{Given, AreGiven, unset_of}
 use Rattle.inputs.specs.Input.{IsAuditInput, IsInput, IsJobAt, IsSpelled, MeansSomething, program_at}
 use Rattle.inputs.specs.Sections.{IsParted, IsPartedInThree}
-use Rattle.inputs.specs.inside.Steps.{IsParamRefusal, IsRefusal, TellsBind}
+use Rattle.inputs.specs.inside.Steps.{TellsBind}
 use Rattle.inputs.specs.Told.{told_lines, told_parse, told_picture}
 use Rattle.inputs.proofs.Accepting.{means_something}
 use Rattle.inputs.proofs.Handing.{params_named}
@@ -66,36 +66,6 @@ picture_fault text spelling tree (pictures.CommentBehindDigit n) program is = (t
 picture_fault text spelling tree (pictures.RasterCut n) program is = (tree, program, is, λ e. cc)
 picture_fault text spelling tree (pictures.SampleTooBig n) program is = (tree, program, is, λ e. cc)
 picture_fault text spelling tree (pictures.TrailingBytes n) program is = (tree, program, is, λ e. cc)
-
--- what `check` refuses
-pub refused_program : (tree : List Declaration) (source : Image) (given : List Given) (sides : Sides) (f : StreamFault)
-    → IsRefusal tree f → IsJobFault tree source given sides f
-refused_program tree source given sides (faults.Check line) is = is
-refused_program tree source given sides faults.Memory is = tt
-refused_program tree source given sides faults.Read is = absurd is
-refused_program tree source given sides faults.TooLong is = absurd is
-refused_program tree source given sides faults.NoSeparator is = absurd is
-refused_program tree source given sides (faults.Program x) is = absurd is
-refused_program tree source given sides (faults.Picture x) is = absurd is
-refused_program tree source given sides (faults.Param x) is = absurd is
-refused_program tree source given sides (faults.Bind x) is = absurd is
-refused_program tree source given sides (faults.Facts x) is = absurd is
-refused_program tree source given sides faults.Write is = absurd is
-
--- a value that is given in vain
-pub refused_param : (tree : List Declaration) (source : Image) (given : List Given) (sides : Sides) (f : StreamFault)
-    → MeansSomething tree → IsParamRefusal (unset_of tree) given f → IsJobFault tree source given sides f
-refused_param tree source given sides (faults.Param line) means is = (means, is)
-refused_param tree source given sides faults.Memory means is = tt
-refused_param tree source given sides faults.Read means is = absurd is
-refused_param tree source given sides faults.TooLong means is = absurd is
-refused_param tree source given sides faults.NoSeparator means is = absurd is
-refused_param tree source given sides (faults.Program x) means is = absurd is
-refused_param tree source given sides (faults.Picture x) means is = absurd is
-refused_param tree source given sides (faults.Check x) means is = absurd is
-refused_param tree source given sides (faults.Bind x) means is = absurd is
-refused_param tree source given sides (faults.Facts x) means is = absurd is
-refused_param tree source given sides faults.Write means is = absurd is
 
 bind_fault : (tree : List Declaration) (source : Image) (given : List Given) (sides : Sides) (chosen : List Setting)
     (ranks : List ℕ) (fault : BindFault) (f : StreamFault)

@@ -31,11 +31,7 @@ fn write_bad_hex<W: Sink>(writer: &mut W, line: usize) -> Result<(), WriteFailed
 }
 
 /// The line's number, and the fault of the file that it is.
-fn write_bad_file<W: Sink>(
-    writer: &mut W,
-    line: usize,
-    fault: FactFault,
-) -> Result<(), WriteFailed>
+fn write_bad_file<W: Sink>(writer: &mut W, line: usize, fault: FactFault) -> Result<(), WriteFailed>
     ensures { Takes result (bad_file_text line fault)
         (W.contents writer.old) (W.contents writer.new)
         (W.failures writer.old) (W.failures writer.new) }
@@ -58,8 +54,5 @@ fn write_file_fault<W: Sink>(
     let line = lines.format(line).as_bytes();
     let number = numbers.format(fault.number()).as_bytes();
     let name = fault.name().as_bytes();
-    write_texts(
-        writer,
-        &[b"facts: line ", line, b" ", number, b" ", name],
-    )
+    write_texts(writer, &[b"facts: line ", line, b" ", number, b" ", name])
 }

@@ -132,11 +132,7 @@ fn audit_in(
 }
 
 /// The program of a text and the picture that is spelled.
-fn read_spelled(
-    alloc: Global,
-    text: &[u8],
-    spelling: &[u8],
-) -> Result<(Tree, Picture), StreamFault>
+fn read_spelled(alloc: Global, text: &[u8], spelling: &[u8]) -> Result<(Tree, Picture), StreamFault>
     ensures ok { IfOk result (λ read. IsSpelled text.now spelling.now (content read.0) read.1) }
     ensures fault { IfErr result (IsSpellingFault text.now spelling.now) }
 {

@@ -11,4 +11,4 @@ returns-in_err-write_file_fault g c =
 pub returns : goal.returns
 returns g c =
     takes_then c.write_offset.result (file_fault_text c.args.line c.args.fault) (offset_text (offset_of c.args.fault)) _ _ _ _ _ _
-    c.in_ok-write_file_fault.ensures c.write_offset.ensures
+    c.in_ok-write_file_fault.ensures (rw c.offset.ensures at c.write_offset.ensures)

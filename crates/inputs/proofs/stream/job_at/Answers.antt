@@ -1,7 +1,6 @@
-use Rattle.std.proofs.lemmas.Result.{IfErr-weaker, IfOk-weaker, err_from_is_err_and}
-use Rattle.pipe_tree.specs.Content.{content}
+use Rattle.std.proofs.lemmas.Result.{IfErr-weaker, IfOk-weaker}
 use Rattle.job.specs.Kept.{pipeline_in, program_text_in}
-use Rattle.inputs.proofs.Known.{job_made, job_text, late_fault, refused_program}
+use Rattle.inputs.proofs.Known.{job_made, job_text, late_fault}
 use Rattle.inputs.proofs.Listed.{both_then}
 use Rattle.inputs.proofs.stream.job_at.Goals as goal
 
