@@ -6,3 +6,4 @@ pub mod Ranging
 pub mod Replying
 pub mod Telling
 pub mod TotalLines
+pub mod ZippedLaws
