@@ -1,7 +1,9 @@
 -- What the words ask for, by what clap found in them, and that refused words ask for nothing.
-use Rattle.std.proofs.Common.{◌≡◌, ◌≢◌, ◌∙◌, List, [], Option, Some, Ok, Err, Bor, true, inl, inr, map, option_map, refl, sym, ap, subst}
+use Rattle.std.proofs.Common.{◌≡◌, ◌≢◌, ◌≤◌, ◌<◌, ◌↔◌, ◌∙◌, ℕ, Bool, IsTrue, List, [], ◌∷◌, codes, get_or, length, arith, Option, Some, Ok, Err, Bor, true, inl, inr, map, option_map, refl, sym, ap, subst}
 use Rattle.std.specs.Prelude.{string_bytes}
 use Rattle.std.proofs.lemmas.Option.{same_Some}
+use Rattle.std.proofs.lemmas.Slice.Eq.{bytes_eq-Decides}
+use Rattle.std.specs.Str.{bytes_eq}
 use Rattle.std.specs.declared.alloc.Global.{Global}
 use Rattle.std.specs.declared.string.String.{String}
 use Rattle.clap.specs.Words.{App, FailsBy, HasMatchesOf, IsAmong, Kinds, Row, Text, fault_of, found_of, is_simple, is_simple_and_free, kind_of, rows_of, subcommand_of, subcommand_rows_of}
@@ -10,9 +12,9 @@ use Rattle.clap.specs.declared.error.kind.ErrorKind.{ErrorKind}
 use Rattle.clap.specs.declared.error.kind.ErrorKind.TheVariants.{OutOfMemory}
 use Rattle.clap.specs.declared.parser.matches.ArgMatches.{ArgMatches}
 use Rattle.clap.proofs.OnLiterals.{clap_on_literals}
-use Rattle.command_line.specs.Asking.{IsRequestOf}
+use Rattle.command_line.specs.Asking.{AskForMerge, IsJobRequestOf}
 use Rattle.command_line.specs.Usage.{usage}
-use Rattle.command_line.specs.declared.words.Request.{Request}
+use Rattle.command_line.specs.declared.words.JobRequest.{JobRequest}
 
 usage_is_simple : is_simple usage ≡ true
 unfolding clap_on_literals
@@ -50,7 +52,7 @@ none_among k kinds empty among = subst (λ (ks : Kinds). IsAmong k ks) empty amo
 -- words that are refused are none
 pub refused : (words : List (String Global)) (app : App) (e : Error) → app ≡ usage
     → (is_simple_and_free app ≡ true → FailsBy {T = ArgMatches} (fault_of app (texts words)) (Err e))
-    → kind_of e ≢ OutOfMemory → (request : Request) → ¬ IsRequestOf words request
+    → kind_of e ≢ OutOfMemory → (request : JobRequest) → ¬ IsJobRequestOf words request
 refused words app e is fails kind request asked =
     elim (subst (λ (a : App). is_simple_and_free a ≡ true → FailsBy {T = ArgMatches} (fault_of a (texts words)) (Err e)) is fails
     usage_is_free) [
@@ -58,6 +60,18 @@ refused words app e is fails kind request asked =
       | inr among ↦ none_among (kind_of e) (fault_of usage (texts words)) asked.accepted among
     ]
 
-pub same_rows : (words : List (String Global)) (request : Request) (asked : IsRequestOf words request) (rows : List Row)
+pub same_rows : (words : List (String Global)) (request : JobRequest) (asked : IsJobRequestOf words request) (rows : List Row)
     → option_map (λ p. p.1) (subcommand_of usage (texts words)) ≡ Some rows → asked.rows ≡ rows
 same_rows words request asked rows is = same_Some asked.rows rows (sym asked.given ∙ is)
+
+-- one word, of which a test tells whether it is `merge`
+pub one_word : (words : List (String Global)) (word : String Global) (text : List ℕ) (b : Bool) → 1 ≤ length words → length words < 2
+    → word ≡ get_or words 0 word → text ≡ string_bytes word → b ≡ bytes_eq text (codes "merge") → IsTrue b ↔ AskForMerge words
+one_word [] word text b some few first spelled tested = absurd (omega arith)
+one_word (w ∷ []) word text b some few first spelled tested =
+    let is = bytes_eq-Decides text (codes "merge") in
+    let same : string_bytes w ≡ text = ap string_bytes (sym first) ∙ sym spelled in (
+      λ true. ap (λ t. t ∷ []) (same ∙ is.0 (subst IsTrue tested true)),
+      λ asked. let alone : string_bytes w ≡ codes "merge" = cc in subst IsTrue (sym tested) (is.1 (sym same ∙ alone)),
+    )
+one_word (v ∷ w ∷ ws) word text b some few first spelled tested = absurd (omega arith)

@@ -11,7 +11,9 @@ use Rattle.command_line.specs.Usage.{usage}
 use Rattle.command_line.specs.Values.{IsChosen, SpellsParameter, is_true}
 use Rattle.command_line.specs.declared.options.Options.{Options}
 use Rattle.command_line.specs.declared.tasks.Task.{Task}
+use Rattle.command_line.specs.declared.words.JobRequest.{JobRequest}
 use Rattle.command_line.specs.declared.words.Request.{Request}
+use Rattle.command_line.specs.declared.words.Request.TheVariants.{Merge, Job}
 
 -- a parameter's name and the value that it is given
 abbrev pub Given : Type 0
@@ -44,15 +46,15 @@ AreParametersIn rows given = AreParameters (unwrap_or (all_of (codes "NAME=VALUE
 abbrev pub is_separator : String Global → Bool
 is_separator word = bytes_eq (string_bytes word) (codes "--")
 
--- The first word is a command, and none is `--`. Only then are the others looked at.
-pub record NamesCommand (words : List (String Global)) : Type 0 where
+-- The first word is a task's, and none is `--`. Only then are the others looked at.
+pub record NamesTask (words : List (String Global)) : Type 0 where
   pub task : Task
   pub named : AsksFor words task
   pub no_separator : list_any is_separator words ≡ false
 
--- The words are a command line of the usage text, and none is `--`. The first is the command; the others give its options and its
+-- The words are a command line of the usage text, and none is `--`. The first is the task's; the others give its options and its
 -- parameters.
-pub record IsRequestOf (words : List (String Global)) (request : Request) : Type 0 where
+pub record IsJobRequestOf (words : List (String Global)) (request : JobRequest) : Type 0 where
   pub accepted : fault_of usage (map string_bytes words) ≡ []
   pub no_separator : list_any is_separator words ≡ false
   pub task : AsksFor words request.task
@@ -60,3 +62,11 @@ pub record IsRequestOf (words : List (String Global)) (request : Request) : Type
   pub given : option_map (λ p. p.1) (subcommand_of usage (map string_bytes words)) ≡ Some rows
   pub options : AreOptions rows request.options
   pub parameters : AreParametersIn rows request.parameters.items
+
+-- there is one word, which is `merge`: it takes neither options nor parameters
+abbrev pub AskForMerge : List (String Global) → Type 0
+AskForMerge words = map string_bytes words ≡ codes "merge" ∷ []
+
+abbrev pub IsRequestOf : List (String Global) → Request → Type 0
+IsRequestOf words Merge = AskForMerge words
+IsRequestOf words (Job request) = IsJobRequestOf words request

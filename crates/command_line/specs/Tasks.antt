@@ -1,14 +1,15 @@
--- What the program can be asked to do, and the words that ask for it.
+-- What the program can be asked to do with a program and a picture, and the words that ask for it.
 use Rattle.std.specs.Prelude.{◌≡◌, ℕ, Some, List, codes, slice_get, string_bytes}
 use Rattle.std.specs.declared.alloc.Global.{Global}
 use Rattle.std.specs.declared.string.String.{String}
 use Rattle.command_line.specs.declared.tasks.Task.{Task}
-use Rattle.command_line.specs.declared.tasks.Task.TheVariants.{Eval, Check, Plan}
+use Rattle.command_line.specs.declared.tasks.Task.TheVariants.{Eval, Check, Plan, Audit}
 
 abbrev pub word_of : Task → List ℕ
 word_of Eval = codes "eval"
 word_of Check = codes "check"
 word_of Plan = codes "plan"
+word_of Audit = codes "audit"
 
 -- the first of the words is the task's
 abbrev pub AsksFor : List (String Global) → Task → Type 0

@@ -1,5 +1,5 @@
--- What the usage text tells: the commands, and the options and words that each takes. How such a command line is read is told by
--- clap's definitions.
+-- What the usage text tells: the commands that take options and values of parameters, and which. How such a command line is read
+-- is told by clap's definitions. `merge`, which takes no words, is none of them.
 use Rattle.std.specs.Prelude.{Some, true, codes}
 use Rattle.clap.specs.Words.{App, Rule, Shape, Text, new_app, new_rule, with_rule, with_subcommand}
 use Rattle.clap.specs.Simple.{on_top}
@@ -32,14 +32,14 @@ command_app name =
 abbrev pub command_shape : Text → Shape
 command_shape name = (command_app name).top
 
--- one of the three commands, without the program's name and without help
+-- one of the four commands, without the program's name and without help
 abbrev pub usage : App
 usage =
-    with_subcommand (with_subcommand (with_subcommand
+    with_subcommand (with_subcommand (with_subcommand (with_subcommand
     (on_top (λ s. record s {
       no_binary_name = true;
       disable_help_flag = true;
       disable_help_subcommand = true;
       subcommand_required = true;
     }) (new_app (codes "tilefarm")))
-    (command_shape (codes "eval"))) (command_shape (codes "check"))) (command_shape (codes "plan"))
+    (command_shape (codes "eval"))) (command_shape (codes "check"))) (command_shape (codes "plan"))) (command_shape (codes "audit"))

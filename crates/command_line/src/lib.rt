@@ -9,4 +9,4 @@ mod words;
 
 pub use options::{Options, Percent};
 pub use tasks::Task;
-pub use words::{Refusal, Request, request_of};
+pub use words::{JobRequest, Refusal, Request, request_of};

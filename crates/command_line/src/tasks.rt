@@ -1,10 +1,10 @@
-//! What the program can be asked to do.
+//! What the program can be asked to do with a program and a picture.
 
 ghost use Rattle.std.specs.Prelude.{IfNone, IfSome};
 ghost use Rattle.command_line.specs.Tasks.{AsksFor};
 ghost use Rattle.command_line.specs.declared.tasks.Task.{Task as TaskType};
 
-/// What the program is asked to do.
+/// What the program is asked to do with a program and a picture.
 #[derive(Clone, Copy, Debug, PartialEq, Eq)]
 pub enum Task {
     /// To run a program on a picture.
@@ -13,6 +13,8 @@ pub enum Task {
     Check,
     /// To tell which functions are stored, and what that costs.
     Plan,
+    /// To judge the facts of fact files.
+    Audit,
 }
 
 /// What the first word asks for.
@@ -25,6 +27,7 @@ pub fn task_of(words: &[String]) -> Option<Task>
         "eval" => Some(Task::Eval),
         "check" => Some(Task::Check),
         "plan" => Some(Task::Plan),
+        "audit" => Some(Task::Audit),
         _ => None,
     }
 }

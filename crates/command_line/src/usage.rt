@@ -1,4 +1,4 @@
-//! The command line as the usage text tells it: the commands, and what each takes.
+//! The command line as the usage text tells it: the commands that take words, and what each takes.
 
 ghost use Rattle.std.specs.Prelude.{◌≡◌, IfOk, false};
 ghost use Rattle.clap.specs.Words.{app_of, rule_of, shape_of};
@@ -8,7 +8,7 @@ ghost use Rattle.command_line.specs.Usage.{command_shape, flag_option, number_op
 use clap::{Arg, ArgAction, Command};
 use std::alloc::{AllocError, Global};
 
-/// The program's commands. Of help there is the usage line alone, so clap adds none.
+/// The program's commands but `merge`, which takes no words. Of help there is the usage line alone, so clap adds none.
 pub fn usage<'a>(alloc: Global) -> Result<Command<'a>, AllocError>
     ensures { IfOk result (λ c. app_of c ≡ usage) }
 {
@@ -19,7 +19,8 @@ pub fn usage<'a>(alloc: Global) -> Result<Command<'a>, AllocError>
         .subcommand_required(true)
         .subcommand(command(alloc, "eval")?)?
         .subcommand(command(alloc, "check")?)?
-        .subcommand(command(alloc, "plan")?)
+        .subcommand(command(alloc, "plan")?)?
+        .subcommand(command(alloc, "audit")?)
 }
 
 /// A command that takes options and values of parameters.

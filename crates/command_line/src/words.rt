@@ -1,13 +1,13 @@
 //! What the words of the command line ask for.
 
-ghost use Rattle.std.specs.Prelude.{◌≡◌, ◌≢◌, IfOk, IfErr, IfSome, IfNone, List, ℕ, map};
+ghost use Rattle.std.specs.Prelude.{◌≡◌, ◌≢◌, ◌↔◌, IsTrue, IfOk, IfErr, IfSome, IfNone, List, ℕ, map};
 ghost use Rattle.std.specs.List.{list_any};
 ghost use Rattle.clap.specs.Words.{first_of, found_of, kind_of, rows_of};
 ghost use Rattle.clap.specs.declared.error.kind.ErrorKind.TheVariants.{OutOfMemory};
-ghost use Rattle.command_line.specs.Asking.{AreOptions, AreParameters, AreParametersIn, Given, IsRequestOf, NamesCommand, is_separator};
-ghost use Rattle.command_line.specs.Tasks.{AsksFor};
+ghost use Rattle.command_line.specs.Asking.{AreOptions, AreParameters, AreParametersIn, AskForMerge, Given, IsJobRequestOf, IsRequestOf, NamesTask, is_separator};
 ghost use Rattle.command_line.specs.Values.{IsChosen, is_true};
 ghost use Rattle.command_line.specs.declared.options.Options.{Options as OptionsType};
+ghost use Rattle.command_line.specs.declared.words.JobRequest.{JobRequest as JobRequestType};
 ghost use Rattle.command_line.specs.declared.words.Request.{Request as RequestType};
 ghost use Rattle.command_line.specs.declared.words.Refusal.TheVariants as refusals;
 
@@ -20,9 +20,18 @@ use clap::{ArgMatches, Error};
 use domains::TileSides;
 use std::alloc::{AllocError, AllocFailed, Global};
 
-/// What is to be done and how, and the parameters that are given, in order.
+/// What is to be done.
 #[derive(Drop)]
-pub struct Request {
+pub enum Request {
+    /// To merge fact files into one.
+    Merge,
+    /// A task on a program and a picture.
+    Job(JobRequest),
+}
+
+/// What is to be done with a program and a picture, and how, and the parameters that are given, in order.
+#[derive(Drop)]
+pub struct JobRequest {
     pub task: Task,
     pub options: Options,
     pub parameters: Vec<(String, i32)>,
@@ -65,11 +74,34 @@ impl From<Error> for Refusal {
 /// What the words, without the program's own name, ask for. They are refused as usage only where they ask for nothing.
 pub fn request_of(alloc: Global, words: &[String]) -> Result<Request, Refusal>
     ensures asked { IfOk result (IsRequestOf words.now) }
-    ensures task { IfOk result (λ request. AsksFor words.now request.task) }
     ensures usage { IfErr result (λ refusal. refusal ≡ refusals.Usage
         → (request : RequestType) → ¬ IsRequestOf words.now request) }
-    // Where the words name no command nothing grows, and memory never stands in the place of usage.
-    ensures memory { IfErr result (λ refusal. refusal ≡ refusals.Memory → NamesCommand words.now) }
+    // Where the words name no task nothing grows, and memory never stands in the place of usage.
+    ensures memory { IfErr result (λ refusal. refusal ≡ refusals.Memory → NamesTask words.now) }
+{
+    if is_merge(words) {
+        Ok(Request::Merge)
+    } else {
+        Ok(Request::Job(job_request_of(alloc, words)?))
+    }
+}
+
+/// Whether there is one word, which is `merge`.
+fn is_merge(words: &[String]) -> bool
+    ensures { IsTrue result ↔ AskForMerge words.now }
+{
+    match words {
+        [word] => word.as_str() == "merge",
+        _ => false,
+    }
+}
+
+/// What the words ask to be done with a program and a picture.
+fn job_request_of(alloc: Global, words: &[String]) -> Result<JobRequest, Refusal>
+    ensures asked { IfOk result (IsJobRequestOf words.now) }
+    ensures usage { IfErr result (λ refusal. refusal ≡ refusals.Usage
+        → (request : JobRequestType) → ¬ IsJobRequestOf words.now request) }
+    ensures memory { IfErr result (λ refusal. refusal ≡ refusals.Memory → NamesTask words.now) }
 {
     if has_separator(words) {
         return Err(Refusal::Usage);
@@ -84,7 +116,7 @@ pub fn request_of(alloc: Global, words: &[String]) -> Result<Request, Refusal>
     let Some(options) = options_of(given) else {
         return Err(Refusal::Usage);
     };
-    Ok(Request {
+    Ok(JobRequest {
         task,
         options,
         parameters: parameters_of(alloc, given)?,

@@ -1,14 +1,15 @@
 -- How a run of the program ends: what the words ask for, and what was written.
-use Rattle.std.specs.Prelude.{◌≡◌, ℕ, List, Option, codes}
+use Rattle.std.specs.Prelude.{◌≡◌, ◌⊎◌, ℕ, List, Option, codes}
 use Rattle.std.specs.declared.alloc.Global.{Global}
 use Rattle.std.specs.declared.string.String.{String}
-use Rattle.command_line.specs.Asking.{IsRequestOf}
+use Rattle.command_line.specs.Asking.{AskForMerge, IsRequestOf, NamesTask}
 use Rattle.command_line.specs.declared.words.Request.{Request}
 use Rattle.inputs.specs.FaultLines.{line_of}
-use Rattle.inputs.specs.Outcomes.{AppendsPartSaid, AppendsSaid, IsFaultOfKnown, Saying, status_of}
+use Rattle.inputs.specs.Outcomes.{AppendsPartSaid, AppendsSaid, IsFirstFault, status_of}
 use Rattle.inputs.specs.Taking.{Puts}
 use Rattle.inputs.specs.declared.faults.StreamFault.{StreamFault}
-use Rattle.commands.specs.Sayings.{saying_of}
+use Rattle.commands.specs.Sayings.{refusing_by, saying_by}
+use Rattle.commands.specs.declared.found.Found.{Found}
 
 -- ---- words that ask for nothing
 
@@ -21,25 +22,25 @@ AskForNothing words = (request : Request) → ¬ IsRequestOf words request
 
 -- ---- words that ask for something
 
+-- they are `merge` alone, or the first is a task's and none is `--`
+abbrev pub NamesCommand : List (String Global) → Type 0
+NamesCommand words = AskForMerge words ⊎ NamesTask words
+
 -- they ask for a request of which this holds
 abbrev pub AskFor : List (String Global) → (Request → Type 0) → Type 0
 AskFor words Holds = (request : Request) × IsRequestOf words request × Holds request
 
--- what the command of a request says, by its options
-abbrev pub saying_by : Request → Saying
-saying_by request = saying_of request.task request.options.stored request.options.percent
-
--- the command was run on the request's own parameters and sides, and the writer took all that it says
-abbrev pub HasSaid : Request → Option (List ℕ) → Option (List ℕ) → Option (List ℕ) → Type 0
-HasSaid request input old new = AppendsSaid (saying_by request) input request.parameters.items request.options.sides old new
+-- the command was run on the request's own parameters and options, and the writer took all that it says where it finds this
+abbrev pub HasSaid : Found → Request → Option (List ℕ) → Option (List ℕ) → Option (List ℕ) → Type 0
+HasSaid found request input old new = AppendsSaid (saying_by request) input found old new
 
 -- the writer failed, and took a part of it
 abbrev pub HasSaidPart : Request → Option (List ℕ) → Option (List ℕ) → Option (List ℕ) → Type 0
-HasSaidPart request input old new = AppendsPartSaid (saying_by request) input request.parameters.items request.options.sides old new
+HasSaidPart request input old new = AppendsPartSaid (saying_by request) input old new
 
 -- the first fault of the input and of the request's parameters and sides has this status, and its line alone was written
 pub record HasTold (status : ℕ) (request : Request) (input old new : Option (List ℕ)) (before after : ℕ) : Type 0 where
   pub fault : StreamFault
   pub told : status_of fault ≡ status
-  pub first : IsFaultOfKnown input request.parameters.items request.options.sides fault
+  pub first : IsFirstFault (refusing_by request) input fault
   pub line : Puts (line_of fault) old new before after

@@ -1,14 +1,44 @@
--- What each command says.
-use Rattle.std.specs.Prelude.{ℕ, Bool}
+-- What each command says, and what it refuses an input with.
+use Rattle.std.specs.Prelude.{◌≡◌, ℕ, List}
+use Rattle.command_line.specs.declared.options.Options.{Options}
 use Rattle.command_line.specs.declared.tasks.Task.{Task}
-use Rattle.command_line.specs.declared.tasks.Task.TheVariants.{Eval, Check, Plan}
+use Rattle.command_line.specs.declared.tasks.Task.TheVariants.{Eval, Check, Plan, Audit}
+use Rattle.command_line.specs.declared.words.Request.{Request}
+use Rattle.command_line.specs.declared.words.Request.TheVariants.{Merge, Job}
+use Rattle.inputs.specs.Giving.{Given}
+use Rattle.inputs.specs.Outcomes.{Refusing, Saying, refusing_audit, refusing_job, refusing_merge, saying_of_audit, saying_of_job}
+use Rattle.commands.specs.Auditing.{SaysVerdicts}
 use Rattle.commands.specs.Listing.{SaysCheck}
-use Rattle.inputs.specs.Outcomes.{Saying}
+use Rattle.commands.specs.Merging.{saying_union}
 use Rattle.commands.specs.Planning.{SaysPlan}
 use Rattle.commands.specs.Results.{SaysResult}
+use Rattle.commands.specs.declared.found.Found.{Found}
+use Rattle.commands.specs.declared.found.Found.TheVariants.{NoFalse}
 
--- what a command says, where all functions are to be stored or not, and by this percentage
-abbrev pub saying_of : Task → Bool → ℕ → Saying
-saying_of Eval stored percent = SaysResult
-saying_of Check stored percent = SaysCheck
-saying_of Plan stored percent = SaysPlan stored percent
+-- a command that judges no fact finds none that is false
+abbrev pub finding_none : Saying (Unit {0}) → Saying Found
+finding_none Says found input bytes = (found ≡ NoFalse) × Says tt input bytes
+
+-- ---- tasks on a program and a picture
+
+abbrev pub saying_of_task : Task → Options → List Given → Saying Found
+saying_of_task Eval options given = finding_none (saying_of_job SaysResult given options.sides)
+saying_of_task Check options given = finding_none (saying_of_job SaysCheck given options.sides)
+saying_of_task Plan options given = finding_none (saying_of_job (SaysPlan options.stored options.percent) given options.sides)
+saying_of_task Audit options given = saying_of_audit SaysVerdicts given options.sides
+
+abbrev pub refusing_of_task : Task → Options → List Given → Refusing
+refusing_of_task Eval options given = refusing_job given options.sides
+refusing_of_task Check options given = refusing_job given options.sides
+refusing_of_task Plan options given = refusing_job given options.sides
+refusing_of_task Audit options given = refusing_audit given options.sides
+
+-- ---- requests
+
+abbrev pub saying_by : Request → Saying Found
+saying_by Merge = finding_none saying_union
+saying_by (Job request) = saying_of_task request.task request.options request.parameters.items
+
+abbrev pub refusing_by : Request → Refusing
+refusing_by Merge = refusing_merge
+refusing_by (Job request) = refusing_of_task request.task request.options request.parameters.items

@@ -5,12 +5,16 @@ ghost use Rattle.inputs.specs.FaultLines.{line_of};
 ghost use Rattle.inputs.specs.Outcomes.{CountsRead, CountsWritten, Writes, status_of};
 ghost use Rattle.inputs.specs.Taking.{Puts};
 ghost use Rattle.streams.specs.Streams.{one_more};
-ghost use Rattle.command_line.specs.Asking.{NamesCommand};
-ghost use Rattle.commands.specs.Endings.{AskFor, AskForNothing, HasSaid, HasSaidPart, HasTold, saying_by, usage_line};
+ghost use Rattle.commands.specs.Endings.{AskFor, AskForNothing, HasSaid, HasSaidPart, HasTold, NamesCommand, usage_line};
+ghost use Rattle.commands.specs.Sayings.{refusing_by, refusing_of_task, saying_by, saying_of_task};
+ghost use Rattle.commands.specs.declared.found.Found.TheVariants.{AFalse, NoFalse};
 ghost use Rattle.inputs.specs.declared.faults.StreamFault.TheVariants.{Memory, Read};
 
+use crate::audits::audit_stream;
+use crate::found::{Found, none_false};
 use crate::task_stream::{check_stream, eval_stream, plan_stream};
-use command_line::{Refusal, Request, Task, request_of};
+use crate::unions::merge_stream;
+use command_line::{JobRequest, Refusal, Request, Task, request_of};
 use inputs::{StreamFault, write_line};
 use std::thread::Threads;
 use streams::{Sink, Source, write_whole};
@@ -19,8 +23,8 @@ use streams::{Sink, Source, write_whole};
 const USAGE: &[u8] = b"usage: tilefarm COMMAND [OPTIONS] [NAME=VALUE]...\n";
 
 /// Runs the command that the words name, and answers the status that the program is to end with: 0 done, 1 usage or
-/// parameters, 2 unreadable input, 3 refused program, 4 input or output failed, 5 memory. A fault is told in one line
-/// on the writer, which takes no memory. `words` is without the program's own name.
+/// parameters, 2 unreadable input, 3 refused program, 4 input or output failed, 5 memory, 6 a false fact was found. A fault
+/// is told in one line on the writer, which takes no memory. `words` is without the program's own name.
 pub fn run_command<H: AllocGlobal + Threads + Sync, R: Source, W: Sink>(
     rt: &H,
     words: &[String],
@@ -28,9 +32,13 @@ pub fn run_command<H: AllocGlobal + Threads + Sync, R: Source, W: Sink>(
     writer: &mut W,
 ) -> u8
     // The command that the words ask for was run with the options and the parameters that they give, and the writer took
-    // all that it says.
+    // all that it says, which is of no fact that it is false.
     ensures done { result ≡ 0 → (W.failures writer.new ≡ W.failures writer.old)
-        × AskFor words.now (λ request. HasSaid request (R.remaining reader.old)
+        × AskFor words.now (λ request. HasSaid NoFalse request (R.remaining reader.old)
+        (W.contents writer.old) (W.contents writer.new)) }
+    // The same, and it says of a fact that it is false.
+    ensures found { result ≡ 6 → (W.failures writer.new ≡ W.failures writer.old)
+        × AskFor words.now (λ request. HasSaid AFalse request (R.remaining reader.old)
         (W.contents writer.old) (W.contents writer.new)) }
     // The words ask for nothing, and nothing is read; or the first fault is one of the parameters that they give.
     ensures usage { result ≡ 1 →
@@ -59,7 +67,7 @@ pub fn run_command<H: AllocGlobal + Threads + Sync, R: Source, W: Sink>(
     ensures memory { result ≡ 5 → NamesCommand words.now
         × Puts (line_of Memory) (W.contents writer.old) (W.contents writer.new)
         (W.failures writer.old) (W.failures writer.new) }
-    ensures known { result ≤ 5 }
+    ensures known { result ≤ 6 }
     ensures read { result ≢ 4 → R.failures reader.new ≡ R.failures reader.old }
 {
     match request_of(rt.alloc(), words) {
@@ -83,7 +91,10 @@ fn run_request<H: AllocGlobal + Threads + Sync, R: Source, W: Sink>(
     writer: &mut W,
 ) -> u8
     ensures done { result ≡ 0 → (W.failures writer.new ≡ W.failures writer.old)
-        × HasSaid request.now (R.remaining reader.old) (W.contents writer.old)
+        × HasSaid NoFalse request.now (R.remaining reader.old) (W.contents writer.old)
+        (W.contents writer.new) }
+    ensures found { result ≡ 6 → (W.failures writer.new ≡ W.failures writer.old)
+        × HasSaid AFalse request.now (R.remaining reader.old) (W.contents writer.old)
         (W.contents writer.new) }
     ensures usage { result ≡ 1 → HasTold 1 request.now (R.remaining reader.old)
         (W.contents writer.old) (W.contents writer.new) (W.failures writer.old)
@@ -104,11 +115,12 @@ fn run_request<H: AllocGlobal + Threads + Sync, R: Source, W: Sink>(
     ensures memory { result ≡ 5 →
         Puts (line_of Memory) (W.contents writer.old) (W.contents writer.new)
         (W.failures writer.old) (W.failures writer.new) }
-    ensures known { result ≤ 5 }
+    ensures known { result ≤ 6 }
     ensures read { result ≢ 4 → R.failures reader.new ≡ R.failures reader.old }
 {
     match perform(rt, request, reader, writer) {
-        Ok(()) => 0,
+        Ok(Found::NoFalse) => 0,
+        Ok(Found::AFalse) => 6,
         Err(fault) => {
             tell(&fault, writer);
             fault.status()
@@ -122,20 +134,39 @@ fn perform<H: AllocGlobal + Threads + Sync, R: Source, W: Sink>(
     request: &Request,
     reader: &mut R,
     writer: &mut W,
-) -> Result<(), StreamFault>
+) -> Result<Found, StreamFault>
+    ensures written { Writes (saying_by request.now) (refusing_by request.now)
+        (R.remaining reader.old) result (W.contents writer.old) (W.contents writer.new) }
+    ensures read { CountsRead result (R.failures reader.old) (R.failures reader.new) }
+    ensures write { CountsWritten result (W.failures writer.old) (W.failures writer.new) }
+{
+    match request {
+        Request::Merge => none_false(merge_stream(rt, reader, writer)),
+        Request::Job(request) => perform_task(rt, request, reader, writer),
+    }
+}
+
+/// Does the task that is asked for.
+fn perform_task<H: AllocGlobal + Threads + Sync, R: Source, W: Sink>(
+    rt: &H,
+    request: &JobRequest,
+    reader: &mut R,
+    writer: &mut W,
+) -> Result<Found, StreamFault>
     ensures written { let asked = request.now in
-        Writes (saying_by asked) (R.remaining reader.old) asked.parameters.items asked.options.sides
-        result
-        (W.contents writer.old) (W.contents writer.new) }
+        Writes (saying_of_task asked.task asked.options asked.parameters.items)
+        (refusing_of_task asked.task asked.options asked.parameters.items)
+        (R.remaining reader.old) result (W.contents writer.old) (W.contents writer.new) }
     ensures read { CountsRead result (R.failures reader.old) (R.failures reader.new) }
     ensures write { CountsWritten result (W.failures writer.old) (W.failures writer.new) }
 {
     let options = &request.options;
     let parameters = request.parameters.as_slice();
     match request.task {
-        Task::Eval => eval_stream(rt, options, parameters, reader, writer),
-        Task::Check => check_stream(rt, options, parameters, reader, writer),
-        Task::Plan => plan_stream(rt, options, parameters, reader, writer),
+        Task::Eval => none_false(eval_stream(rt, options, parameters, reader, writer)),
+        Task::Check => none_false(check_stream(rt, options, parameters, reader, writer)),
+        Task::Plan => none_false(plan_stream(rt, options, parameters, reader, writer)),
+        Task::Audit => audit_stream(rt, options, parameters, reader, writer),
     }
 }
 

@@ -1,4 +1,4 @@
-//! What each command has to write of a job.
+//! What is to be written of a job.
 
 ghost use Rattle.std.specs.Prelude.{◌≡◌, IfOk, List};
 ghost use Rattle.job.specs.Kept.{pipeline_in, program_text_in};
@@ -6,34 +6,35 @@ ghost use Rattle.pipe_print.specs.Canonical.{canonical};
 ghost use Rattle.pipe_tree.specs.Tree.{Declaration};
 ghost use Rattle.commands.specs.Planning.{IsPlan, inlining_asked};
 ghost use Rattle.commands.specs.inside.Replies.{reply_bytes};
-ghost use Rattle.commands.specs.Sayings.{saying_of};
+ghost use Rattle.commands.specs.inside.Questions.{saying_of};
 
 use crate::answer::evaluate;
 use crate::plan_lines::plan_lines;
+use crate::question::Question;
 use crate::reply::Reply;
 use crate::schedules::schedule_of;
 use crate::stage_lines::check_lines;
-use command_line::{Options, Task};
+use command_line::Options;
 use job::Job;
 use std::alloc::{AllocError, Global};
 use std::thread::Threads;
 
-/// What the command says of the job.
+/// What is said of the job where this is asked.
 pub fn task_reply(
     rt: &(impl Threads + Sync),
     alloc: Global,
-    task: Task,
+    question: Question,
     options: &Options,
     job: &Job,
 ) -> Result<Reply, AllocError>
     ensures { IfOk result (λ reply. (tree : List Declaration) → program_text_in job.now ≡ canonical tree
-        → saying_of task options.now.stored options.now.percent tree (pipeline_in job.now)
+        → saying_of question options.now.stored options.now.percent tree (pipeline_in job.now)
         (reply_bytes reply)) }
 {
-    match task {
-        Task::Eval => evaluate(rt, alloc, job, options),
-        Task::Check => Ok(Reply::of_lines(check_lines(alloc, job)?)),
-        Task::Plan => Ok(Reply::of_lines(planned_lines(alloc, options, job)?)),
+    match question {
+        Question::Answer => evaluate(rt, alloc, job, options),
+        Question::Stages => Ok(Reply::of_lines(check_lines(alloc, job)?)),
+        Question::Plan => Ok(Reply::of_lines(planned_lines(alloc, options, job)?)),
     }
 }
 

@@ -2,16 +2,17 @@
 
 ghost use Rattle.std.specs.Prelude.{IfOk, IfErr};
 ghost use Rattle.inputs.specs.Faults.{IsFaultOf};
-ghost use Rattle.inputs.specs.Outcomes.{Writes, IsSaid, CountsRead, CountsWritten};
+ghost use Rattle.inputs.specs.Outcomes.{CountsRead, CountsWritten, IsSaid, Writes, refusing_job, saying_of_job};
 ghost use Rattle.commands.specs.Listing.{SaysCheck};
 ghost use Rattle.commands.specs.Planning.{SaysPlan};
+ghost use Rattle.commands.specs.inside.Questions.{saying_of};
 ghost use Rattle.commands.specs.inside.Replies.{reply_bytes};
 ghost use Rattle.commands.specs.Results.{SaysResult};
-ghost use Rattle.commands.specs.Sayings.{saying_of};
 
+use crate::question::Question;
 use crate::reply::{Reply, write_reply};
 use crate::task_reply::task_reply;
-use command_line::{Options, Task};
+use command_line::Options;
 use inputs::{StreamFault, job_of, read_input};
 use std::alloc::Global;
 use std::thread::Threads;
@@ -30,13 +31,14 @@ pub fn check_stream<H: AllocGlobal + Threads + Sync, R: Source, W: Sink>(
 ) -> Result<(), StreamFault>
     // At `Ok` the writer took all lines, and where it failed a part of them. Any other fault has written
     // nothing, and is the first fault of the input and the parameters.
-    ensures written { Writes SaysCheck (R.remaining reader.old) parameters.now options.now.sides
+    ensures written { Writes (saying_of_job SaysCheck parameters.now options.now.sides)
+        (refusing_job parameters.now options.now.sides) (R.remaining reader.old)
         result (W.contents writer.old) (W.contents writer.new) }
     // A fault of the reader or the writer is answered where it failed, and nowhere else.
     ensures read { CountsRead result (R.failures reader.old) (R.failures reader.new) }
     ensures write { CountsWritten result (W.failures writer.old) (W.failures writer.new) }
 {
-    task_stream(rt, Task::Check, options, parameters, reader, writer)
+    task_stream(rt, Question::Stages, options, parameters, reader, writer)
 }
 
 /// Reads a program and a picture, and writes the result of running the program on the picture: the picture that it puts out, if
@@ -52,13 +54,14 @@ pub fn eval_stream<H: AllocGlobal + Threads + Sync, R: Source, W: Sink>(
 ) -> Result<(), StreamFault>
     // At `Ok` the writer took the bytes of the result, and where it failed a part of them. Any other fault has written
     // nothing, and is the first fault of the input and the parameters.
-    ensures written { Writes SaysResult (R.remaining reader.old) parameters.now options.now.sides
+    ensures written { Writes (saying_of_job SaysResult parameters.now options.now.sides)
+        (refusing_job parameters.now options.now.sides) (R.remaining reader.old)
         result (W.contents writer.old) (W.contents writer.new) }
     // A fault of the reader or the writer is answered where it failed, and nowhere else.
     ensures read { CountsRead result (R.failures reader.old) (R.failures reader.new) }
     ensures write { CountsWritten result (W.failures writer.old) (W.failures writer.new) }
 {
-    task_stream(rt, Task::Eval, options, parameters, reader, writer)
+    task_stream(rt, Question::Answer, options, parameters, reader, writer)
 }
 
 /// Reads a program and a picture, and writes a line for each function and each accumulator: that it is inlined, or that it is
@@ -74,50 +77,51 @@ pub fn plan_stream<H: AllocGlobal + Threads + Sync, R: Source, W: Sink>(
 ) -> Result<(), StreamFault>
     // At `Ok` the writer took all lines, and where it failed a part of them. Any other fault has written
     // nothing, and is the first fault of the input and the parameters.
-    ensures written { Writes (SaysPlan options.now.stored options.now.percent)
-        (R.remaining reader.old) parameters.now options.now.sides result (W.contents writer.old)
-        (W.contents writer.new) }
+    ensures written { Writes (saying_of_job (SaysPlan options.now.stored options.now.percent)
+        parameters.now options.now.sides) (refusing_job parameters.now options.now.sides)
+        (R.remaining reader.old) result (W.contents writer.old) (W.contents writer.new) }
     // A fault of the reader or the writer is answered where it failed, and nowhere else.
     ensures read { CountsRead result (R.failures reader.old) (R.failures reader.new) }
     ensures write { CountsWritten result (W.failures writer.old) (W.failures writer.new) }
 {
-    task_stream(rt, Task::Plan, options, parameters, reader, writer)
+    task_stream(rt, Question::Plan, options, parameters, reader, writer)
 }
 
-/// Reads the input, and writes what the command says of it. All is computed before the first byte is written.
+/// Reads the input, and writes what is said of its job where this is asked. All is computed before the first byte is written.
 fn task_stream<H: AllocGlobal + Threads + Sync, R: Source, W: Sink>(
     rt: &H,
-    task: Task,
+    question: Question,
     options: &Options,
     parameters: &[(String, i32)],
     reader: &mut R,
     writer: &mut W,
 ) -> Result<(), StreamFault>
-    ensures written { Writes (saying_of task options.now.stored options.now.percent)
-        (R.remaining reader.old) parameters.now options.now.sides result (W.contents writer.old)
-        (W.contents writer.new) }
+    ensures written {
+        Writes (saying_of_job (saying_of question options.now.stored options.now.percent)
+        parameters.now options.now.sides) (refusing_job parameters.now options.now.sides)
+        (R.remaining reader.old) result (W.contents writer.old) (W.contents writer.new) }
     ensures read { CountsRead result (R.failures reader.old) (R.failures reader.new) }
     ensures write { CountsWritten result (W.failures writer.old) (W.failures writer.new) }
 {
     let input = read_input(rt.alloc(), reader)?;
-    let reply = input_reply(rt, rt.alloc(), task, options, parameters, input)?;
+    let reply = input_reply(rt, rt.alloc(), question, options, parameters, input)?;
     write_reply(&reply, writer)
 }
 
-/// What the command says of the job of the input.
+/// What is said of the job of the input where this is asked.
 fn input_reply(
     rt: &(impl Threads + Sync),
     alloc: Global,
-    task: Task,
+    question: Question,
     options: &Options,
     given: &[(String, i32)],
     input: Vec<u8>,
 ) -> Result<Reply, StreamFault>
     ensures said { IfOk result (λ reply. IsSaid
-        (saying_of task options.now.stored options.now.percent) input.items given.now
-        options.now.sides (reply_bytes reply)) }
+        (saying_of question options.now.stored options.now.percent) given.now options.now.sides
+        input.items (reply_bytes reply)) }
     ensures fault { IfErr result (IsFaultOf input.items given.now options.now.sides) }
 {
     let job = job_of(alloc, options.sides, given, input)?;
-    Ok(task_reply(rt, alloc, task, options, &job)?)
+    Ok(task_reply(rt, alloc, question, options, &job)?)
 }

@@ -3,3 +3,4 @@ pub mod Handing
 pub mod Known
 pub mod Listed
 pub mod Taken
+pub mod Written

@@ -1,5 +1,5 @@
 -- Lists and results: what stands at a place, and several things said of one result.
-use Rattle.std.proofs.Common.{Result, Ok, Err, IfOk, ℕ, ◌<◌, ◌≡◌, List, Some, length, get_or, slice_get, refl}
+use Rattle.std.proofs.Common.{Result, Ok, Err, IfOk, IfNone, ℕ, ◌<◌, ◌≡◌, List, Option, Some, None, length, get_or, slice_get, refl}
 use Rattle.std.proofs.lemmas.Option.{slice_get_read}
 
 -- what a loop over a list has before it
@@ -15,3 +15,8 @@ pub all_then : {X E : Type 0} {P Q R S : X → Type 0} (r : Result X E) → ((x 
     → IfOk r S
 all_then (Ok x) f p q s = f x p q s
 all_then (Err e) f p q s = tt
+
+-- where an answer is nothing, this holds
+pub if_none : {X P : Type 0} (r : Option X) → P → IfNone r P
+if_none None p = p
+if_none (Some x) p = tt

@@ -16,8 +16,12 @@ use Rattle.pipe_bounds.specs.declared.fault.ParamFault.{ParamFault}
 use Rattle.binding.specs.BindFaults.{bind_number, bind_name}
 use Rattle.binding.specs.declared.fault.BindFault.{BindFault}
 use Rattle.binding.specs.declared.fault.BindFault.TheVariants as binding
+use Rattle.tile_fact.specs.FaultTable as files
+use Rattle.tile_fact.specs.declared.fault.FactFault.{FactFault}
+use Rattle.fact_lines.specs.declared.fault.LinesFault.{LinesFault}
+use Rattle.fact_lines.specs.declared.fault.LinesFault.TheVariants as facts
 use Rattle.inputs.specs.declared.faults.StreamFault.{StreamFault}
-use Rattle.inputs.specs.declared.faults.StreamFault.TheVariants.{Read, TooLong, NoSeparator, Program, Picture, Check, Param, Bind, Memory, Write}
+use Rattle.inputs.specs.declared.faults.StreamFault.TheVariants.{Read, TooLong, NoSeparator, Program, Picture, Check, Param, Bind, Facts, Memory, Write}
 use Rattle.inputs.specs.declared.lines.BindLine.{BindLine}
 use Rattle.inputs.specs.declared.lines.CheckLine.{CheckLine}
 use Rattle.inputs.specs.declared.lines.CheckLine.TheVariants as lines
@@ -105,6 +109,28 @@ read_text fault = []
 abbrev pub bind_text : BindLine → List ℕ
 bind_text line = bind_head line.fault ++ blamed_text line.blamed ++ read_text line.fault
 
+-- ---- faults of fact files
+
+-- `facts: line L`, where lines are counted from 1
+abbrev pub line_head : ℕ → List ℕ
+line_head line = codes "facts: line " ++ decimal line
+
+abbrev pub bad_hex_text : ℕ → List ℕ
+bad_hex_text line = line_head line ++ codes " bad hex"
+
+-- ` NUMBER NAME`
+abbrev pub file_fault_text : ℕ → FactFault → List ℕ
+file_fault_text line fault = line_head line ++ 32 ∷ decimal (files.number_of fault) ++ 32 ∷ files.name_of fault
+
+-- the offset counts bytes of the file, and not digits
+abbrev pub bad_file_text : ℕ → FactFault → List ℕ
+bad_file_text line fault = file_fault_text line fault ++ offset_text (files.offset_of fault)
+
+abbrev pub facts_text : LinesFault → List ℕ
+facts_text (facts.BadHex line) = bad_hex_text line
+facts_text (facts.BadFile line fault) = bad_file_text line fault
+facts_text facts.Memory = codes "memory"
+
 -- ---- the whole
 
 -- a fault's line without its line feed
@@ -117,6 +143,7 @@ text_of (Picture fault) = head_at (codes "picture") (pictures.number_of fault) (
 text_of (Check line) = check_text line
 text_of (Param line) = param_text line
 text_of (Bind line) = bind_text line
+text_of (Facts fault) = facts_text fault
 text_of Memory = codes "memory"
 text_of Write = []
 

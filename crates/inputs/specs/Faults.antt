@@ -20,14 +20,18 @@ use Rattle.pipe_bounds.specs.declared.params.Setting.{Setting}
 use Rattle.binding.specs.BindFaults.{IsBindFault}
 use Rattle.binding.specs.declared.fault.BindFault.{BindFault}
 use Rattle.binding.specs.declared.fault.BindFault.TheVariants as binding
+use Rattle.fact_lines.specs.Faults.{IsFault as IsLinesFault}
+use Rattle.fact_lines.specs.declared.fault.LinesFault.{LinesFault}
+use Rattle.fact_lines.specs.declared.fault.LinesFault.TheVariants as lines
+use Rattle.job.specs.Pipeline.{Pipeline}
 use Rattle.inputs.specs.Giving.{Given, AreGiven, IsFirstRefused, unset_of}
-use Rattle.inputs.specs.Input.{IsInput, IsParted, MeansSomething, program_at}
-use Rattle.inputs.specs.Sections.{HasNoSeparator}
+use Rattle.inputs.specs.Input.{IsAuditInput, IsInput, IsJobAt, MeansSomething, program_at}
+use Rattle.inputs.specs.Sections.{HasNoSeparator, IsParted, IsPartedInThree, LacksSeparator}
 use Rattle.inputs.specs.declared.faults.StreamFault.{StreamFault}
-use Rattle.inputs.specs.declared.faults.StreamFault.TheVariants.{Read, TooLong, NoSeparator, Program, Picture, Check, Param, Bind, Memory, Write}
+use Rattle.inputs.specs.declared.faults.StreamFault.TheVariants.{Read, TooLong, NoSeparator, Program, Picture, Check, Param, Bind, Facts, Memory, Write}
 use Rattle.inputs.specs.declared.lines.BindLine.{BindLine}
 use Rattle.inputs.specs.declared.lines.CheckLine.{CheckLine}
-use Rattle.inputs.specs.declared.lines.CheckLine.TheVariants as lines
+use Rattle.inputs.specs.declared.lines.CheckLine.TheVariants as check_lines
 
 -- the name of the stage, or of the parameter, of this number
 abbrev pub name_at : List Symbol → ℕ → Option (List ℕ)
@@ -41,11 +45,11 @@ names_of stages numbers = filter_map (name_at stages) numbers
 
 -- the fault of a program, told by the names of its stages
 abbrev pub IsCheckLine : List Declaration → CheckLine → Type 0
-IsCheckLine tree (lines.Cycle names) =
+IsCheckLine tree (check_lines.Cycle names) =
     (cycle : List ℕ) × IsProgramFault tree (checks.Cycle cycle) × (names ≡ names_of (stages_of tree) cycle)
-IsCheckLine tree (lines.Fault (checks.Cycle cycle)) = ⊥
-IsCheckLine tree (lines.Fault checks.Memory) = ⊥
-IsCheckLine tree (lines.Fault fault) = IsProgramFault tree fault
+IsCheckLine tree (check_lines.Fault (checks.Cycle cycle)) = ⊥
+IsCheckLine tree (check_lines.Fault checks.Memory) = ⊥
+IsCheckLine tree (check_lines.Fault fault) = IsProgramFault tree fault
 
 -- ---- faults of a program and a picture
 
@@ -76,24 +80,85 @@ pub record IsBindLine (tree : List Declaration) (given : List Given) (source : I
   pub no_memory : line.fault ≢ binding.Memory
   pub blames : line.blamed ≡ blamed (params_of tree) (stages_of tree) line.fault
 
--- ---- the whole
+-- ---- the steps
 
--- the first fault of an input, of the parameters that are given and of the sides of tiles; memory may run out for any
+-- the first fault of a program's text and of the spelling of a picture; memory may run out for any
+abbrev pub IsSpellingFault : List ℕ → List ℕ → StreamFault → Type 0
+IsSpellingFault text spelling (Program fault) = IsTextFault text fault × (fault ≢ texts.Memory)
+IsSpellingFault text spelling (Picture fault) =
+    (tree : List Declaration) × IsText text tree × IsPictureFault spelling fault × (fault ≢ pictures.Memory)
+IsSpellingFault text spelling Memory = Unit {0}
+IsSpellingFault text spelling _ = ⊥
+
+-- the first fault of a program and a picture, of the parameters that are given and of the sides of tiles; memory may run out for
+-- any
+abbrev pub IsJobFault : List Declaration → Image → List Given → Sides → StreamFault → Type 0
+IsJobFault tree source given sides (Check line) = IsCheckLine tree line
+IsJobFault tree source given sides (Param line) = MeansSomething tree × IsFirstRefused (unset_of tree) given line
+IsJobFault tree source given sides (Bind line) = MeansSomething tree × IsBindLine tree given source sides line
+IsJobFault tree source given sides Memory = Unit {0}
+IsJobFault tree source given sides _ = ⊥
+
+-- the first bad line
+abbrev pub IsFactsFault : List ℕ → LinesFault → Type 0
+IsFactsFault text fault = IsLinesFault text fault × (fault ≢ lines.Memory)
+
+-- ---- the whole: neither a reader nor a writer is known here
+
+-- the first fault of an input of two sections; memory may run out for any
 abbrev pub IsFaultOf : List ℕ → List Given → Sides → StreamFault → Type 0
 IsFaultOf input given sides NoSeparator = HasNoSeparator input
 IsFaultOf input given sides (Program fault) =
-    (text spelling : List ℕ) × IsParted input text spelling × IsTextFault text fault × (fault ≢ texts.Memory)
+    (text spelling : List ℕ) × IsParted input text spelling × IsSpellingFault text spelling (Program fault)
 IsFaultOf input given sides (Picture fault) =
-    (text spelling : List ℕ) × (tree : List Declaration) × IsParted input text spelling × IsText text tree
-    × IsPictureFault spelling fault × (fault ≢ pictures.Memory)
-IsFaultOf input given sides (Check line) = (tree : List Declaration) × (source : Image) × IsInput input tree source × IsCheckLine tree line
+    (text spelling : List ℕ) × IsParted input text spelling × IsSpellingFault text spelling (Picture fault)
+IsFaultOf input given sides (Check line) =
+    (tree : List Declaration) × (source : Image) × IsInput input tree source × IsJobFault tree source given sides (Check line)
 IsFaultOf input given sides (Param line) =
-    (tree : List Declaration) × (source : Image) × IsInput input tree source × MeansSomething tree
-    × IsFirstRefused (unset_of tree) given line
+    (tree : List Declaration) × (source : Image) × IsInput input tree source × IsJobFault tree source given sides (Param line)
 IsFaultOf input given sides (Bind line) =
-    (tree : List Declaration) × (source : Image) × IsInput input tree source × MeansSomething tree × IsBindLine tree given source sides line
+    (tree : List Declaration) × (source : Image) × IsInput input tree source × IsJobFault tree source given sides (Bind line)
 IsFaultOf input given sides Memory = Unit {0}
--- neither a reader nor a writer is known here
+IsFaultOf input given sides (Facts fault) = ⊥
 IsFaultOf input given sides Read = ⊥
 IsFaultOf input given sides TooLong = ⊥
 IsFaultOf input given sides Write = ⊥
+
+-- the first bad line of the middle section, where the program and the picture have a job at the values that are given
+pub record IsAuditFactsFault (input : List ℕ) (given : List Given) (sides : Sides) (fault : LinesFault) : Type 0 where
+  pub tree : List Declaration
+  pub text : List ℕ
+  pub source : Image
+  pub job : Pipeline
+  pub read : IsAuditInput input tree text source
+  pub made : IsJobAt tree source given sides job
+  pub bad : IsFactsFault text fault
+
+-- the first fault of an input of three sections: a bad line waits for the program, the picture and the job; memory may run out for
+-- any
+abbrev pub IsAuditFault : List ℕ → List Given → Sides → StreamFault → Type 0
+IsAuditFault input given sides NoSeparator = LacksSeparator input
+IsAuditFault input given sides (Program fault) =
+    (text middle spelling : List ℕ) × IsPartedInThree input text middle spelling × IsSpellingFault text spelling (Program fault)
+IsAuditFault input given sides (Picture fault) =
+    (text middle spelling : List ℕ) × IsPartedInThree input text middle spelling × IsSpellingFault text spelling (Picture fault)
+IsAuditFault input given sides (Check line) =
+    (tree : List Declaration) × (middle : List ℕ) × (source : Image) × IsAuditInput input tree middle source
+    × IsJobFault tree source given sides (Check line)
+IsAuditFault input given sides (Param line) =
+    (tree : List Declaration) × (middle : List ℕ) × (source : Image) × IsAuditInput input tree middle source
+    × IsJobFault tree source given sides (Param line)
+IsAuditFault input given sides (Bind line) =
+    (tree : List Declaration) × (middle : List ℕ) × (source : Image) × IsAuditInput input tree middle source
+    × IsJobFault tree source given sides (Bind line)
+IsAuditFault input given sides (Facts fault) = IsAuditFactsFault input given sides fault
+IsAuditFault input given sides Memory = Unit {0}
+IsAuditFault input given sides Read = ⊥
+IsAuditFault input given sides TooLong = ⊥
+IsAuditFault input given sides Write = ⊥
+
+-- the first fault of an input that is fact files alone; memory is refused only where no line before is bad
+abbrev pub IsMergeFault : List ℕ → StreamFault → Type 0
+IsMergeFault input (Facts fault) = IsFactsFault input fault
+IsMergeFault input Memory = IsLinesFault input lines.Memory
+IsMergeFault input _ = ⊥

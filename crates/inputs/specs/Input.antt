@@ -1,5 +1,5 @@
--- From the bytes of an input to its job.
-use Rattle.std.specs.Prelude.{◌≡◌, ℕ, ◌+◌, true, List, take, drop}
+-- From the bytes of an input to its job, and to the facts that are to be judged by it.
+use Rattle.std.specs.Prelude.{◌≡◌, ℕ, true, List}
 use Rattle.std.specs.List.{list_any}
 use Rattle.domains.specs.Sides.{Sides}
 use Rattle.netpbm.specs.Grammar.{IsPicture}
@@ -17,25 +17,31 @@ use Rattle.binding.specs.Binding.{Program, IsJobOf}
 use Rattle.job.specs.Kept.{pipeline_in, program_text_in}
 use Rattle.job.specs.Pipeline.{Pipeline}
 use Rattle.job.specs.declared.job.Job.{Job}
+use Rattle.fact_lines.specs.Texts.{IsUnion}
+use Rattle.tile_fact.specs.declared.fact.Fact.{Fact}
 use Rattle.inputs.specs.Giving.{Given, AreGiven, unset_of}
-use Rattle.inputs.specs.Sections.{IsFirstSeparator}
+use Rattle.inputs.specs.Sections.{IsParted, IsPartedInThree}
 
--- ---- the sections
+-- ---- what is read
 
--- the first separator line parts the program's text from what spells the picture
-pub record IsParted (input text spelling : List ℕ) : Type 0 where
-  pub at : ℕ
-  pub first : IsFirstSeparator input at
-  pub before : text ≡ take at input
-  pub behind : spelling ≡ drop (at + 3) input
+-- a program's text and the spelling of a picture
+pub record IsSpelled (text spelling : List ℕ) (tree : List Declaration) (source : Image) : Type 0 where
+  pub program : IsText text tree
+  pub picture : IsPicture spelling source
 
 -- a program, a separator line and a picture
 pub record IsInput (input : List ℕ) (tree : List Declaration) (source : Image) : Type 0 where
   pub text : List ℕ
   pub spelling : List ℕ
   pub parted : IsParted input text spelling
-  pub program : IsText text tree
-  pub picture : IsPicture spelling source
+  pub spelled : IsSpelled text spelling tree source
+
+-- a program, a separator line, lines that are to be fact files, a separator line and a picture
+pub record IsAuditInput (input : List ℕ) (tree : List Declaration) (lines : List ℕ) (source : Image) : Type 0 where
+  pub text : List ℕ
+  pub spelling : List ℕ
+  pub parted : IsPartedInThree input text lines spelling
+  pub spelled : IsSpelled text spelling tree source
 
 -- ---- the program
 
@@ -52,12 +58,10 @@ pub record MeansSomething (tree : List Declaration) : Type 0 where
 abbrev pub program_at : List Declaration → List ℕ → List Setting → Program
 program_at tree ranks chosen = record { stages = stages_of tree; ranks = ranks; settings = chosen }
 
--- The input is a program that means something, of this tree, a separator line and a picture. All values that are given have a
--- parameter of their own. The job is what the program says at these values, with the others taken from the picture's sides, and
--- nothing is amiss: all is in bounds, and the picture, the sides of the output's functions and the numbers of tiles fit.
-pub record IsInputJob (input : List ℕ) (given : List Given) (sides : Sides) (tree : List Declaration) (job : Pipeline) : Type 0 where
-  pub source : Image
-  pub read : IsInput input tree source
+-- The program of this tree means something. All values that are given have a parameter of their own. The job is what the program
+-- says at these values, with the others taken from the picture's sides, and nothing is amiss: all is in bounds, and the picture, the
+-- sides of the output's functions and the numbers of tiles fit.
+pub record IsJobAt (tree : List Declaration) (source : Image) (given : List Given) (sides : Sides) (job : Pipeline) : Type 0 where
   pub means : MeansSomething tree
   pub chosen : List Setting
   pub are_given : AreGiven (unset_of tree) given chosen
@@ -66,8 +70,32 @@ pub record IsInputJob (input : List ℕ) (given : List Given) (sides : Sides) (t
   pub bound : IsBound tree (program_at tree ranks chosen) source sides job
   pub says : IsJobOf tree chosen source sides job
 
+-- the input is a program of this tree, a separator line and a picture, and the job is theirs
+pub record IsInputJob (input : List ℕ) (given : List Given) (sides : Sides) (tree : List Declaration) (job : Pipeline) : Type 0 where
+  pub source : Image
+  pub read : IsInput input tree source
+  pub made : IsJobAt tree source given sides job
+
 -- the job of an input, which keeps the canonical text of its program
 pub record IsReadJob (input : List ℕ) (given : List Given) (sides : Sides) (job : Job) : Type 0 where
   pub tree : List Declaration
   pub of_input : IsInputJob input given sides tree (pipeline_in job)
+  pub text : program_text_in job ≡ canonical tree
+
+-- ---- the job and the facts that are to be judged by it
+
+-- the input is a program of this tree, fact files and a picture; the job is the program's and the picture's, and the facts are those
+-- of all files, rising, each once
+pub record IsInputAudit (input : List ℕ) (given : List Given) (sides : Sides) (tree : List Declaration) (job : Pipeline)
+    (facts : List Fact) : Type 0 where
+  pub lines : List ℕ
+  pub source : Image
+  pub read : IsAuditInput input tree lines source
+  pub made : IsJobAt tree source given sides job
+  pub union : IsUnion lines facts
+
+-- the job and the facts of an input; the job keeps the canonical text of its program
+pub record IsReadAudit (input : List ℕ) (given : List Given) (sides : Sides) (job : Job) (facts : List Fact) : Type 0 where
+  pub tree : List Declaration
+  pub of_input : IsInputAudit input given sides tree (pipeline_in job) facts
   pub text : program_text_in job ≡ canonical tree

@@ -6,21 +6,18 @@ use Rattle.streams.specs.Streams.{AppendsPart, one_more}
 use Rattle.pipe_tree.specs.Tree.{Declaration}
 use Rattle.job.specs.Pipeline.{Pipeline}
 use Rattle.job.specs.WellFormed.{IsJob}
-use Rattle.inputs.specs.Faults.{IsFaultOf}
+use Rattle.tile_fact.specs.declared.fact.Fact.{Fact}
+use Rattle.inputs.specs.Faults.{IsAuditFault, IsFaultOf, IsMergeFault}
 use Rattle.inputs.specs.Giving.{Given}
-use Rattle.inputs.specs.Input.{IsInputJob}
+use Rattle.inputs.specs.Input.{IsInputAudit, IsInputJob}
 use Rattle.inputs.specs.declared.faults.StreamFault.{StreamFault}
-use Rattle.inputs.specs.declared.faults.StreamFault.TheVariants.{Read, TooLong, NoSeparator, Program, Picture, Check, Param, Bind, Memory, Write}
+use Rattle.inputs.specs.declared.faults.StreamFault.TheVariants.{Read, TooLong, NoSeparator, Program, Picture, Check, Param, Bind, Facts, Memory, Write}
 
 -- ---- what is read
 
 -- the most bytes of an input
 abbrev pub most_input : ℕ
 most_input = 536870912
-
--- where the input is known it is not too long, and this is said of it
-abbrev pub IfRead : Option (List ℕ) → (List ℕ → Type 0) → Type 0
-IfRead known Holds = IfSome known (λ input. (length input ≤ most_input) × Holds input)
 
 -- what reading is refused with
 abbrev pub IsOfReader : Option (List ℕ) → StreamFault → Type 0
@@ -29,52 +26,51 @@ IsOfReader known TooLong = IfSome known (λ input. most_input < length input)
 IsOfReader known Memory = Unit {0}
 IsOfReader known _ = ⊥
 
--- ---- what is said
+-- This is said of an input that is not too long: where the reader's bytes are known, of these.
+pub record IsOfInput (known : Option (List ℕ)) (Holds : List ℕ → Type 0) : Type 0 where
+  pub input : List ℕ
+  pub all : IfSome known (λ bytes. input ≡ bytes)
+  pub within : length input ≤ most_input
+  pub holds : Holds input
 
--- which bytes a command says of the tree of a program and of its job
-abbrev pub Saying : Type 1
-Saying = List Declaration → Pipeline → List ℕ → Type 0
+-- ---- what a command says
 
--- the bytes are what a command says of a tree and a job, for which Reads holds
-pub record IsSaidOf (Says : Saying) (Reads : List Declaration → Pipeline → Type 0) (bytes : List ℕ) : Type 0 where
-  pub tree : List Declaration
-  pub job : Pipeline
-  pub is_job : IsJob job
-  pub of_input : Reads tree job
-  pub says : Says tree job bytes
+-- the bytes that a command says of an input where it answers this
+abbrev pub Saying : Type 0 → Type 1
+Saying Answer = Answer → List ℕ → List ℕ → Type 0
 
--- what a command says of the program and of the job of an input
-abbrev pub IsSaid : Saying → List ℕ → List Given → Sides → List ℕ → Type 0
-IsSaid Says input given sides bytes = IsSaidOf Says (IsInputJob input given sides) bytes
+-- the faults that a command refuses an input with
+abbrev pub Refusing : Type 1
+Refusing = List ℕ → StreamFault → Type 0
 
--- the same where the input may not be known: then it is said of some job
-abbrev pub IsSaidOfKnown : Saying → Option (List ℕ) → List Given → Sides → List ℕ → Type 0
-IsSaidOfKnown Says known given sides bytes = IsSaidOf Says (λ tree job. IfRead known (λ input. IsInputJob input given sides tree job)) bytes
+-- the writer took what the command says where it answers this
+pub record AppendsSaid {Answer : Type 0} (Says : Saying Answer) (known : Option (List ℕ)) (answer : Answer)
+    (old new : Option (List ℕ)) : Type 0 where
+  pub bytes : List ℕ
+  pub said : IsOfInput known (λ input. Says answer input bytes)
+  pub taken : Appends old new bytes
 
--- ---- what is written
+-- or a part of what it says
+pub record AppendsPartSaid {Answer : Type 0} (Says : Saying Answer) (known old new : Option (List ℕ)) : Type 0 where
+  pub answer : Answer
+  pub bytes : List ℕ
+  pub said : IsOfInput known (λ input. Says answer input bytes)
+  pub taken : AppendsPart old new bytes
 
--- the writer took what the command says
-abbrev pub AppendsSaid : Saying → Option (List ℕ) → List Given → Sides → Option (List ℕ) → Option (List ℕ) → Type 0
-AppendsSaid Says known given sides old new = (bytes : List ℕ) × IsSaidOfKnown Says known given sides bytes × Appends old new bytes
-
--- or a part of it
-abbrev pub AppendsPartSaid : Saying → Option (List ℕ) → List Given → Sides → Option (List ℕ) → Option (List ℕ) → Type 0
-AppendsPartSaid Says known given sides old new = (bytes : List ℕ) × IsSaidOfKnown Says known given sides bytes × AppendsPart old new bytes
-
--- the fault is one of the input, where this is known, or of the reader
-abbrev pub IsFaultOfKnown : Option (List ℕ) → List Given → Sides → StreamFault → Type 0
-IsFaultOfKnown known given sides Read = Unit {0}
-IsFaultOfKnown known given sides TooLong = IfSome known (λ input. most_input < length input)
-IsFaultOfKnown known given sides Memory = Unit {0}
-IsFaultOfKnown known given sides fault = IfRead known (λ input. IsFaultOf input given sides fault)
+-- the fault is the first one that the command refuses the input with, or one of the reader
+abbrev pub IsFirstFault : Refusing → Option (List ℕ) → StreamFault → Type 0
+IsFirstFault Refuses known Read = Unit {0}
+IsFirstFault Refuses known TooLong = IfSome known (λ input. most_input < length input)
+IsFirstFault Refuses known Memory = Unit {0}
+IsFirstFault Refuses known fault = IsOfInput known (λ input. Refuses input fault)
 
 -- what was written: all that the command says; where the writer failed a part of it; else nothing, and the fault is the first
 -- one
-abbrev pub Writes : {X : Type 0} → Saying → Option (List ℕ) → List Given → Sides → Result X StreamFault → Option (List ℕ) → Option (List ℕ)
-    → Type 0
-Writes Says known given sides (Ok _) old new = AppendsSaid Says known given sides old new
-Writes Says known given sides (Err Write) old new = AppendsPartSaid Says known given sides old new
-Writes Says known given sides (Err fault) old new = (new ≡ old) × IsFaultOfKnown known given sides fault
+abbrev pub Writes : {Answer : Type 0} → Saying Answer → Refusing → Option (List ℕ) → Result Answer StreamFault → Option (List ℕ)
+    → Option (List ℕ) → Type 0
+Writes Says Refuses known (Ok answer) old new = AppendsSaid Says known answer old new
+Writes Says Refuses known (Err Write) old new = AppendsPartSaid Says known old new
+Writes Says Refuses known (Err fault) old new = (new ≡ old) × IsFirstFault Refuses known fault
 
 -- one call of the reader failed at `Read`, and none at any other answer
 abbrev pub CountsRead : {X : Type 0} → Result X StreamFault → ℕ → ℕ → Type 0
@@ -86,12 +82,63 @@ abbrev pub CountsWritten : {X : Type 0} → Result X StreamFault → ℕ → ℕ
 CountsWritten (Err Write) old new = new ≡ one_more old
 CountsWritten _ old new = new ≡ old
 
+-- ---- commands on a program and a picture
+
+-- which bytes a command says of the tree of a program and of its job
+abbrev pub JobSaying : Type 1
+JobSaying = List Declaration → Pipeline → List ℕ → Type 0
+
+-- the bytes are what a command says of the program and of the job of an input
+pub record IsSaid (Says : JobSaying) (given : List Given) (sides : Sides) (input bytes : List ℕ) : Type 0 where
+  pub tree : List Declaration
+  pub job : Pipeline
+  pub is_job : IsJob job
+  pub of_input : IsInputJob input given sides tree job
+  pub says : Says tree job bytes
+
+-- a command that has no answer of its own
+abbrev pub saying_of_job : JobSaying → List Given → Sides → Saying (Unit {0})
+saying_of_job Says given sides answer input bytes = IsSaid Says given sides input bytes
+
+abbrev pub refusing_job : List Given → Sides → Refusing
+refusing_job given sides input fault = IsFaultOf input given sides fault
+
+-- ---- a command on a program, fact files and a picture
+
+-- which bytes a command says of the tree of a program, of its job and of facts where it answers this
+abbrev pub AuditSaying : Type 0 → Type 1
+AuditSaying Answer = List Declaration → Pipeline → List Fact → Answer → List ℕ → Type 0
+
+-- the bytes are what a command says of the program, of the job and of the facts of an input where it answers this
+pub record IsSaidOfAudit {Answer : Type 0} (Says : AuditSaying Answer) (given : List Given) (sides : Sides) (answer : Answer)
+    (input bytes : List ℕ) : Type 0 where
+  pub tree : List Declaration
+  pub job : Pipeline
+  pub facts : List Fact
+  pub is_job : IsJob job
+  pub of_input : IsInputAudit input given sides tree job facts
+  pub says : Says tree job facts answer bytes
+
+abbrev pub saying_of_audit : {Answer : Type 0} → AuditSaying Answer → List Given → Sides → Saying Answer
+saying_of_audit Says given sides answer input bytes = IsSaidOfAudit Says given sides answer input bytes
+
+abbrev pub refusing_audit : List Given → Sides → Refusing
+refusing_audit given sides input fault = IsAuditFault input given sides fault
+
+-- ---- a command on fact files
+
+abbrev pub refusing_merge : Refusing
+refusing_merge input fault = IsMergeFault input fault
+
+-- ---- statuses
+
 -- the status that a program ends with at a fault
 abbrev pub status_of : StreamFault → ℕ
 status_of (Param _) = 1
 status_of TooLong = 2
 status_of NoSeparator = 2
 status_of (Picture _) = 2
+status_of (Facts _) = 2
 status_of (Program _) = 3
 status_of (Check _) = 3
 status_of (Bind _) = 3

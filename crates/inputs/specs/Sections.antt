@@ -1,5 +1,6 @@
--- The sections of the input, parted by the first line that is exactly the separator.
-use Rattle.std.specs.Prelude.{ℕ, ◌-◌, ◌<◌, ◌==◌, ◌||◌, ◌&&◌, Bool, IsTrue, List, [], ◌∷◌, length, drop, slice_index, nat_eq}
+-- The sections of the input, parted by lines that are exactly the separator: the first one, and where there are three sections the
+-- first one behind it.
+use Rattle.std.specs.Prelude.{◌≡◌, ◌⊎◌, ℕ, ◌+◌, ◌-◌, ◌<◌, ◌==◌, ◌||◌, ◌&&◌, Bool, IsTrue, List, [], ◌∷◌, length, take, drop, slice_index, nat_eq}
 use Rattle.std.specs.List.{starts_with}
 
 -- two percent signs and a line feed
@@ -23,3 +24,24 @@ pub record IsFirstSeparator (input : List ℕ) (at : ℕ) : Type 0 where
 -- no line is a separator
 abbrev pub HasNoSeparator : List ℕ → Type 0
 HasNoSeparator input = (k : ℕ) → k < length input → ¬ IsTrue (separates input k)
+
+-- ---- two sections
+
+-- the first separator line parts what stands before it from the rest, whatever this holds
+pub record IsParted (input text rest : List ℕ) : Type 0 where
+  pub at : ℕ
+  pub first : IsFirstSeparator input at
+  pub before : text ≡ take at input
+  pub behind : rest ≡ drop (at + 3) input
+
+-- ---- three sections
+
+-- the first separator line and the first one behind it part three sections, of which the last is the rest, whatever it holds
+pub record IsPartedInThree (input text middle rest : List ℕ) : Type 0 where
+  pub behind : List ℕ
+  pub first : IsParted input text behind
+  pub second : IsParted behind middle rest
+
+-- no line is a separator, or none behind the first one
+abbrev pub LacksSeparator : List ℕ → Type 0
+LacksSeparator input = HasNoSeparator input ⊎ ((text behind : List ℕ) × IsParted input text behind × HasNoSeparator behind)

@@ -3,8 +3,10 @@ use Rattle.netpbm.specs.declared.fault.PicFault.{PicFault}
 use Rattle.netpbm.specs.declared.fault.PicFault.TheVariants as pictures
 use Rattle.pipe_tree.specs.declared.fault.ParseFault.{ParseFault}
 use Rattle.pipe_tree.specs.declared.fault.ParseFault.TheVariants as texts
+use Rattle.fact_lines.specs.declared.fault.LinesFault.{LinesFault}
+use Rattle.fact_lines.specs.declared.fault.LinesFault.TheVariants as lines
 use Rattle.inputs.specs.declared.faults.StreamFault.{StreamFault}
-use Rattle.inputs.specs.declared.faults.StreamFault.TheVariants.{Program, Picture, Memory}
+use Rattle.inputs.specs.declared.faults.StreamFault.TheVariants.{Program, Picture, Facts, Memory}
 
 abbrev pub told_parse : ParseFault → StreamFault
 told_parse texts.Memory = Memory
@@ -13,3 +15,7 @@ told_parse f = Program f
 abbrev pub told_picture : PicFault → StreamFault
 told_picture pictures.Memory = Memory
 told_picture f = Picture f
+
+abbrev pub told_lines : LinesFault → StreamFault
+told_lines lines.Memory = Memory
+told_lines f = Facts f

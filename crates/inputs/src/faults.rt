@@ -1,6 +1,7 @@
 //! Why a command gave no result.
 
 use crate::lines::{BindLine, CheckLine, ParamLine};
+use fact_lines::LinesFault;
 use netpbm::PicFault;
 use pipe_tree::ParseFault;
 use std::alloc::AllocError;
@@ -33,6 +34,9 @@ pub enum StreamFault {
     /// The program and the picture make no job.
     #[error("the program and the picture make no job")]
     Bind(BindLine),
+    /// A line is no fact file.
+    #[error("a line is no fact file: {0}")]
+    Facts(LinesFault),
     /// Memory ran out.
     #[error("out of memory")]
     Memory,
@@ -51,7 +55,10 @@ impl StreamFault {
     {
         match self {
             StreamFault::Param(_) => 1,
-            StreamFault::TooLong | StreamFault::NoSeparator | StreamFault::Picture(_) => 2,
+            StreamFault::TooLong
+            | StreamFault::NoSeparator
+            | StreamFault::Picture(_)
+            | StreamFault::Facts(_) => 2,
             StreamFault::Program(_) | StreamFault::Check(_) | StreamFault::Bind(_) => 3,
             StreamFault::Read | StreamFault::Write => 4,
             StreamFault::Memory => 5,
@@ -94,6 +101,20 @@ impl From<PicFault> for StreamFault {
         match fault {
             PicFault::Memory => StreamFault::Memory,
             fault => StreamFault::Picture(fault),
+        }
+    }
+}
+
+impl From<LinesFault> for StreamFault {
+    ghost use Rattle.std.specs.Prelude.{◌≡◌};
+    ghost use Rattle.inputs.specs.Told.{told_lines};
+
+    ghost from_gives = { λ fault told. told ≡ told_lines fault };
+
+    fn from(fault: LinesFault) -> StreamFault {
+        match fault {
+            LinesFault::Memory => StreamFault::Memory,
+            fault => StreamFault::Facts(fault),
         }
     }
 }

@@ -1,10 +1,11 @@
-//! From the bytes of an input to its job, or to the fault that is told of it in one line.
+//! From the bytes of an input to its job and its facts, or to the fault that is told of it in one line.
 #![tactic(auto)]
 
 mod accepted;
 mod bind_lines;
 mod bound;
 mod check_lines;
+mod facts_lines;
 mod faults;
 mod lines;
 mod sections;
@@ -15,6 +16,7 @@ mod texts;
 
 pub use faults::StreamFault;
 pub use lines::{BindLine, CheckLine, ParamLine, StageNames};
-pub use sections::split_section;
-pub use stream::{job_of, read_input};
+pub use sections::{split_section, split_sections};
+pub use stream::{audit_of, facts_of, job_of, read_input};
 pub use telling::write_line;
+pub use texts::write_texts;

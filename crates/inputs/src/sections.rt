@@ -1,7 +1,7 @@
 //! The sections of the input, parted by lines that are exactly `%%`.
 
 ghost use Rattle.std.specs.Prelude.{◌≡◌, ℕ, ◌+◌, ◌↔◌, ◌<◌, ◌≤◌, IsTrue, IfSome, IfNone, length, take, drop};
-ghost use Rattle.inputs.specs.Sections.{separates, IsFirstSeparator, HasNoSeparator};
+ghost use Rattle.inputs.specs.Sections.{separates, HasNoSeparator, IsFirstSeparator, IsPartedInThree, LacksSeparator};
 
 /// The line that parts two sections.
 const SEPARATOR: &[u8] = b"%%\n";
@@ -21,6 +21,18 @@ pub fn split_section(input: &[u8]) -> Option<(&[u8], &[u8])>
         }
     }
     None
+}
+
+/// The first section, the one behind its separator line, and what stands behind the next separator line; or nothing where
+/// there are less than two. Behind the second one a separator line is a line like others.
+pub fn split_sections(input: &[u8]) -> Option<(&[u8], &[u8], &[u8])>
+    ensures parted { IfSome result
+        (λ parts. IsPartedInThree input.now parts.0.now parts.1.now parts.2.now) }
+    ensures none { IfNone result (LacksSeparator input.now) }
+{
+    let (text, behind) = split_section(input)?;
+    let (middle, rest) = split_section(behind)?;
+    Some((text, middle, rest))
 }
 
 fn is_separator(input: &[u8], at: usize) -> bool

@@ -1,27 +1,31 @@
-//! From the bytes of the input to its job.
+//! From the bytes of the input to its job and its facts.
 
 ghost use Rattle.std.specs.Prelude.{◌≡◌, ◌≤◌, IfOk, IfErr, IfSome, List, length};
 ghost use Rattle.domains.specs.Sides.{Sides};
+ghost use Rattle.pipe_print.specs.Canonical.{canonical};
 ghost use Rattle.pipe_tree.specs.Content.{content};
-ghost use Rattle.job.specs.Kept.{pipeline_in};
+ghost use Rattle.job.specs.Kept.{pipeline_in, program_text_in};
 ghost use Rattle.job.specs.WellFormed.{IsJob, IsSmall};
-ghost use Rattle.inputs.specs.Faults.{IsFaultOf};
+ghost use Rattle.fact_lines.specs.Texts.{IsUnion};
+ghost use Rattle.inputs.specs.Faults.{IsAuditFault, IsFaultOf, IsJobFault, IsMergeFault, IsSpellingFault};
 ghost use Rattle.inputs.specs.Giving.{Given};
-ghost use Rattle.inputs.specs.Input.{IsInput, IsReadJob};
+ghost use Rattle.inputs.specs.Input.{IsInput, IsJobAt, IsReadAudit, IsReadJob, IsSpelled};
 ghost use Rattle.inputs.specs.Outcomes.{CountsRead, CountsWritten, IsOfReader, most_input};
 
 use crate::accepted::accept;
 use crate::bound::bind;
 use crate::faults::StreamFault;
-use crate::sections::split_section;
+use crate::sections::{split_section, split_sections};
 use crate::settings::choose;
 use domains::TileSides;
+use fact_lines::union_of;
 use job::Job;
 use netpbm::Picture;
 use pipe_lang::parse;
 use pipe_tree::Tree;
 use std::alloc::Global;
 use streams::{Source, SourceFault, read_whole};
+use tile_fact::Fact;
 
 /// The most bytes of an input.
 const MAX_INPUT: usize = 536_870_912;
@@ -56,9 +60,32 @@ pub fn job_of(
     ensures fault { IfErr result (IsFaultOf input.items given.now sides) }
 {
     let (tree, picture) = read_all(alloc, input)?;
-    let checked = accept(alloc, tree)?;
-    let params = choose(alloc, &checked, given)?;
-    bind(alloc, checked, &params, picture, sides)
+    job_at(alloc, sides, given, tree, picture)
+}
+
+/// The job of the program and the picture that the input spells, and the facts of the fact files between them, rising, each
+/// once. A bad line is told only where the program and the picture have a job.
+pub fn audit_of(
+    alloc: Global,
+    sides: TileSides,
+    given: &[(String, i32)],
+    input: Vec<u8>,
+) -> Result<(Job, Vec<Fact>), StreamFault>
+    ensures of_input { IfOk result
+        (λ read. IsReadAudit input.items given.now sides read.0 read.1.items) }
+    ensures job { IfOk result (λ read. IsJob (pipeline_in read.0)) }
+    ensures small { IfOk result (λ read. IsSmall (pipeline_in read.0)) }
+    ensures fault { IfErr result (IsAuditFault input.items given.now sides) }
+{
+    audit_in(alloc, sides, given, input.as_slice())
+}
+
+/// The facts of the fact files that the input is, rising, each once.
+pub fn facts_of(alloc: Global, input: Vec<u8>) -> Result<Vec<Fact>, StreamFault>
+    ensures union { IfOk result (λ facts. IsUnion input.items facts.items) }
+    ensures fault { IfErr result (IsMergeFault input.items) }
+{
+    Ok(union_of(alloc, input.as_slice())?)
 }
 
 /// The program and the picture that the input spells; the input is let go.
@@ -79,7 +106,56 @@ fn read_sections(alloc: Global, input: &[u8]) -> Result<(Tree, Picture), StreamF
     let Some((text, spelling)) = split_section(input) else {
         return Err(StreamFault::NoSeparator);
     };
+    read_spelled(alloc, text, spelling)
+}
+
+/// The job and the facts that the input spells.
+fn audit_in(
+    alloc: Global,
+    sides: TileSides,
+    given: &[(String, i32)],
+    input: &[u8],
+) -> Result<(Job, Vec<Fact>), StreamFault>
+    ensures of_input { IfOk result
+        (λ read. IsReadAudit input.now given.now sides read.0 read.1.items) }
+    ensures job { IfOk result (λ read. IsJob (pipeline_in read.0)) }
+    ensures small { IfOk result (λ read. IsSmall (pipeline_in read.0)) }
+    ensures fault { IfErr result (IsAuditFault input.now given.now sides) }
+{
+    let Some((text, middle, spelling)) = split_sections(input) else {
+        return Err(StreamFault::NoSeparator);
+    };
+    let (tree, picture) = read_spelled(alloc, text, spelling)?;
+    let job = job_at(alloc, sides, given, tree, picture)?;
+    let facts = union_of(alloc, middle)?;
+    Ok((job, facts))
+}
+
+/// The program of a text and the picture that is spelled.
+fn read_spelled(alloc: Global, text: &[u8], spelling: &[u8]) -> Result<(Tree, Picture), StreamFault>
+    ensures ok { IfOk result (λ read. IsSpelled text.now spelling.now (content read.0) read.1) }
+    ensures fault { IfErr result (IsSpellingFault text.now spelling.now) }
+{
     let tree = parse(alloc, text)?;
     let picture = netpbm::read(alloc, spelling)?;
     Ok((tree, picture))
+}
+
+/// The job of a program and a picture at the values that are given.
+fn job_at(
+    alloc: Global,
+    sides: TileSides,
+    given: &[(String, i32)],
+    tree: Tree,
+    picture: Picture,
+) -> Result<Job, StreamFault>
+    ensures made { IfOk result
+        (λ job. IsJobAt (content tree) picture given.now sides (pipeline_in job)) }
+    ensures text { IfOk result (λ job. program_text_in job ≡ canonical (content tree)) }
+    ensures job { IfOk result (λ job. IsJob (pipeline_in job)) }
+    ensures fault { IfErr result (IsJobFault (content tree) picture given.now sides) }
+{
+    let checked = accept(alloc, tree)?;
+    let params = choose(alloc, &checked, given)?;
+    bind(alloc, checked, &params, picture, sides)
 }

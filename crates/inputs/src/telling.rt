@@ -1,15 +1,15 @@
 //! The lines that tell faults, which take no memory.
 
 ghost use Rattle.std.specs.Prelude.{◌++◌, ◌∷◌, [], string_bytes};
-ghost use Rattle.inputs.specs.FaultLines.{head_at, line_of, name_text, offset_text, param_head, param_text, text_of};
+ghost use Rattle.inputs.specs.FaultLines.{head_at, line_of, name_text, param_head, param_text, text_of};
 ghost use Rattle.inputs.specs.Taking.{Takes};
 
 use crate::bind_lines::write_bind;
 use crate::check_lines::write_check;
+use crate::facts_lines::write_facts;
 use crate::faults::StreamFault;
 use crate::lines::ParamLine;
-use crate::texts::{write_head, write_text, write_texts};
-use itoa::Buffer;
+use crate::texts::{write_head, write_offset, write_text, write_texts};
 use pipe_bounds::ParamFault;
 use streams::{Sink, WriteFailed};
 
@@ -63,6 +63,7 @@ fn write_fault<W: Sink>(fault: &StreamFault, writer: &mut W) -> Result<(), Write
         StreamFault::Check(line) => write_check(writer, line),
         StreamFault::Param(line) => write_param(writer, line),
         StreamFault::Bind(line) => write_bind(writer, line),
+        StreamFault::Facts(fault) => write_facts(writer, *fault),
         StreamFault::Memory => write_text(writer, b"memory"),
         StreamFault::Write => Ok(()),
     }
@@ -82,17 +83,6 @@ fn write_place<W: Sink>(
 {
     write_head(writer, kind, number, name)?;
     write_offset(writer, offset)
-}
-
-fn write_offset<W: Sink>(writer: &mut W, offset: Option<usize>) -> Result<(), WriteFailed>
-    ensures { Takes result (offset_text offset) (W.contents writer.old) (W.contents writer.new)
-        (W.failures writer.old) (W.failures writer.new) }
-{
-    let mut digits = Buffer::new();
-    write_texts(
-        writer,
-        &[b" at ", digits.format(offset.unwrap_or(0)).as_bytes()],
-    )
 }
 
 fn write_param<W: Sink>(writer: &mut W, line: &ParamLine) -> Result<(), WriteFailed>

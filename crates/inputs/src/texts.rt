@@ -1,7 +1,7 @@
 //! Texts into a writer, without memory.
 
 ghost use Rattle.std.specs.List.{flat_map};
-ghost use Rattle.inputs.specs.FaultLines.{head, name_text};
+ghost use Rattle.inputs.specs.FaultLines.{head, name_text, offset_text};
 ghost use Rattle.inputs.specs.Taking.{Takes};
 
 use itoa::Buffer;
@@ -49,6 +49,18 @@ pub fn write_head<W: Sink>(
             b" ",
             name.as_bytes(),
         ],
+    )
+}
+
+/// Where a fault stands; 0 for one that has no place.
+pub fn write_offset<W: Sink>(writer: &mut W, offset: Option<usize>) -> Result<(), WriteFailed>
+    ensures { Takes result (offset_text offset) (W.contents writer.old) (W.contents writer.new)
+        (W.failures writer.old) (W.failures writer.new) }
+{
+    let mut digits = Buffer::new();
+    write_texts(
+        writer,
+        &[b" at ", digits.format(offset.unwrap_or(0)).as_bytes()],
     )
 }
 

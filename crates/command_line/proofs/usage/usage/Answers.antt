@@ -14,5 +14,7 @@ returns c =
     let eval = c.in_ok-subcommand.ensures.shape c.in_ok-command.ensures.local ∙ ap₂ with_subcommand empty c.in_ok-command.ensures.shape in
     let check =
     c.in_ok-subcommand-2.ensures.shape c.in_ok-command-2.ensures.local ∙ ap₂ with_subcommand eval c.in_ok-command-2.ensures.shape in
-    IfOk-weaker c.subcommand-3.result _ _
-    (λ r h. h.shape c.in_ok-command-3.ensures.local ∙ ap₂ with_subcommand check c.in_ok-command-3.ensures.shape) c.subcommand-3.ensures
+    let plan =
+    c.in_ok-subcommand-3.ensures.shape c.in_ok-command-3.ensures.local ∙ ap₂ with_subcommand check c.in_ok-command-3.ensures.shape in
+    IfOk-weaker c.subcommand-4.result _ _
+    (λ r h. h.shape c.in_ok-command-4.ensures.local ∙ ap₂ with_subcommand plan c.in_ok-command-4.ensures.shape) c.subcommand-4.ensures

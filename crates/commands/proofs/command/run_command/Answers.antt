@@ -1,10 +1,23 @@
 use Rattle.std.proofs.Common.{inl, inr, refl}
+use Rattle.commands.proofs.Telling.{names_command}
 use Rattle.commands.proofs.command.run_command.Goals as goal
 
 pub returns-in-Ok-clause-done : goal.returns-in-Ok-clause-done
 returns-in-Ok-clause-done g c = λ ends.
     let done = c.run_request.ensures.done ends in
     (done.0, (c.in-Ok.request, c.in-Ok.ensures.asked, done.1))
+
+pub returns-in-Ok-clause-found : goal.returns-in-Ok-clause-found
+returns-in-Ok-clause-found g c = λ ends.
+    let found = c.run_request.ensures.found ends in
+    (found.0, (c.in-Ok.request, c.in-Ok.ensures.asked, found.1))
+
+pub returns-in-Ok-clause-memory : goal.returns-in-Ok-clause-memory
+returns-in-Ok-clause-memory g c = λ ends.
+    (names_command c.args.words.now c.in-Ok.request c.in-Ok.ensures.asked, c.run_request.ensures.memory ends)
+
+pub returns-in-Err-Memory-clause-memory : goal.returns-in-Err-Memory-clause-memory
+returns-in-Err-Memory-clause-memory g c = λ ends. (inr (c.in-Err-Memory.ensures.memory c.in-Err-Memory.field-0-is), c.tell.ensures)
 
 pub returns-in-Ok-clause-usage : goal.returns-in-Ok-clause-usage
 returns-in-Ok-clause-usage g c = λ ends. inr (c.in-Ok.request, c.in-Ok.ensures.asked, c.run_request.ensures.usage ends)

@@ -1,24 +1,27 @@
 use Rattle.std.proofs.lemmas.Result.{err_from_is_err_and}
+use Rattle.inputs.specs.Outcomes.{refusing_job, saying_of_job}
+use Rattle.inputs.proofs.Written.{job_refused, lines_written}
+use Rattle.commands.specs.inside.Questions.{saying_of}
 use Rattle.commands.specs.inside.Replies.{reply_bytes}
-use Rattle.commands.specs.Sayings.{saying_of}
-use Rattle.inputs.proofs.Known.{input_fault, said_written}
 use Rattle.commands.proofs.task_stream.task_stream.Goals as goal
 
 pub returns-in_err-reply-clause-written : goal.returns-in_err-reply-clause-written
 returns-in_err-reply-clause-written g c =
-    let known = g.R.Source.remaining c.args.reader.now in
+    let given = c.args.parameters.now in
+    let sides = c.args.options.now.sides in
+    let says = saying_of_job (saying_of c.args.question c.args.options.now.stored c.args.options.now.percent) given sides in
     let read = c.in_ok-input.ensures in
     let p = err_from_is_err_and c.from_residual-in_err-reply.result c.from_residual-in_err-reply.ensures.1 in
-    rw (p.1, p.2) (input_fault (Unit {0}) (saying_of c.args.task c.args.options.now.stored c.args.options.now.percent) known
-    c.in_ok-input.input.items c.args.parameters.now c.args.options.now.sides c.in_err-reply.field-0.0
-    (g.W.Sink.contents c.args.writer.now) read.whole read.within c.in_err-reply.ensures.fault)
+    rw (p.1, p.2) (job_refused says (g.R.Source.remaining c.args.reader.now) c.in_ok-input.input.items given sides
+    c.in_err-reply.field-0.0 (g.W.Sink.contents c.args.writer.now) read.whole read.within c.in_err-reply.ensures.fault)
 
 pub returns-clause-written : goal.returns-clause-written
 returns-clause-written g c =
-    let known = g.R.Source.remaining c.args.reader.now in
+    let given = c.args.parameters.now in
+    let sides = c.args.options.now.sides in
+    let says = saying_of_job (saying_of c.args.question c.args.options.now.stored c.args.options.now.percent) given sides in
     let read = c.in_ok-input.ensures in
     let written = c.write_reply.ensures in
-    said_written (Unit {0}) (saying_of c.args.task c.args.options.now.stored c.args.options.now.percent) known c.in_ok-input.input.items
-    c.args.parameters.now c.args.options.now.sides (reply_bytes c.in_ok-reply.reply) c.write_reply.result
-    (g.W.Sink.contents c.args.writer.now) (g.W.Sink.contents c.write_reply.new.writer) read.whole read.within c.in_ok-reply.ensures.said
-    written.ok written.part written.fault
+    lines_written says (refusing_job given sides) (g.R.Source.remaining c.args.reader.now) c.in_ok-input.input.items
+    (reply_bytes c.in_ok-reply.reply) c.write_reply.result (g.W.Sink.contents c.args.writer.now)
+    (g.W.Sink.contents c.write_reply.new.writer) read.whole read.within c.in_ok-reply.ensures.said written.ok written.part written.fault

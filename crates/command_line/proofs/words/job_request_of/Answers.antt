@@ -4,7 +4,7 @@ use Rattle.std.proofs.lemmas.Result.{err_from_is_err_and}
 use Rattle.clap.specs.Words.{Row, app_of, found_of, rows_of}
 use Rattle.command_line.specs.Asking.{AreOptions, AreParametersIn}
 use Rattle.command_line.proofs.AskedRequest.{accepted, entered, refused, same_rows}
-use Rattle.command_line.proofs.words.request_of.Goals as goal
+use Rattle.command_line.proofs.words.job_request_of.Goals as goal
 
 pub returns-in_default-clause-usage : goal.returns-in_default-clause-usage
 returns-in_default-clause-usage c = λ usage request asked. c.in_default.ensures.none request.task asked.task

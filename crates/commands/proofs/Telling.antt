@@ -1,0 +1,68 @@
+-- What the words name, and which fault is told.
+use Rattle.std.proofs.Common.{◌≡◌, ◌⊎◌, inl, inr, ℕ, List, Option, Result, Err, refl, subst, sym, ◌∙◌}
+use Rattle.std.specs.declared.alloc.Global.{Global}
+use Rattle.std.specs.declared.string.String.{String}
+use Rattle.command_line.specs.Asking.{IsRequestOf}
+use Rattle.command_line.specs.declared.words.Request.{Request}
+use Rattle.command_line.specs.declared.words.Request.TheVariants.{Merge, Job}
+use Rattle.inputs.specs.FaultLines.{line_of}
+use Rattle.inputs.specs.Outcomes.{CountsWritten, IsFirstFault, Refusing, Saying, Writes, status_of}
+use Rattle.inputs.specs.Taking.{Puts}
+use Rattle.inputs.specs.declared.faults.StreamFault.{StreamFault}
+use Rattle.inputs.specs.declared.faults.StreamFault.TheVariants as faults
+use Rattle.commands.specs.Endings.{HasTold, NamesCommand}
+use Rattle.commands.specs.Sayings.{refusing_by, saying_by}
+use Rattle.commands.specs.declared.found.Found.{Found}
+
+-- words that ask for something name a command
+pub names_command : (words : List (String Global)) (request : Request) → IsRequestOf words request → NamesCommand words
+names_command words Merge asked = inl asked
+names_command words (Job request) asked =
+    inr (record { task = request.task; named = asked.task; no_separator = asked.no_separator })
+
+-- a fault of neither stream was told first, and nothing was written before
+told_first : {Answer : Type 0} (Says : Saying Answer) (Refuses : Refusing) (known : Option (List ℕ)) (f : StreamFault)
+    (old new : Option (List ℕ)) → (status_of f ≡ 4 → ⊥) → Writes {Answer = Answer} Says Refuses known (Err f) old new
+    → (new ≡ old) × IsFirstFault Refuses known f
+told_first Says Refuses known faults.Read old new other wrote = absurd (other refl)
+told_first Says Refuses known faults.Write old new other wrote = absurd (other refl)
+told_first Says Refuses known faults.TooLong old new other wrote = wrote
+told_first Says Refuses known faults.NoSeparator old new other wrote = wrote
+told_first Says Refuses known (faults.Program x) old new other wrote = wrote
+told_first Says Refuses known (faults.Picture x) old new other wrote = wrote
+told_first Says Refuses known (faults.Check x) old new other wrote = wrote
+told_first Says Refuses known (faults.Param x) old new other wrote = wrote
+told_first Says Refuses known (faults.Bind x) old new other wrote = wrote
+told_first Says Refuses known (faults.Facts x) old new other wrote = wrote
+told_first Says Refuses known faults.Memory old new other wrote = wrote
+
+-- and the writer had not failed
+none_failed : (f : StreamFault) (before after : ℕ) → (status_of f ≡ 4 → ⊥) → CountsWritten {X = Found} (Err f) before after → after ≡ before
+none_failed faults.Read before after other counts = counts
+none_failed faults.Write before after other counts = absurd (other refl)
+none_failed faults.TooLong before after other counts = counts
+none_failed faults.NoSeparator before after other counts = counts
+none_failed (faults.Program x) before after other counts = counts
+none_failed (faults.Picture x) before after other counts = counts
+none_failed (faults.Check x) before after other counts = counts
+none_failed (faults.Param x) before after other counts = counts
+none_failed (faults.Bind x) before after other counts = counts
+none_failed (faults.Facts x) before after other counts = counts
+none_failed faults.Memory before after other counts = counts
+
+-- so its line alone was written
+pub told_at : (status : ℕ) (request : Request) (known : Option (List ℕ)) (f : StreamFault) (old mid new : Option (List ℕ))
+    (before between after : ℕ) → status_of f ≡ status → (status ≡ 4 → ⊥)
+    → Writes {Answer = Found} (saying_by request) (refusing_by request) known (Err f) old mid → CountsWritten {X = Found} (Err f) before between
+    → Puts (line_of f) mid new between after → HasTold status request known old new before after
+told_at status request known f old mid new before between after ends four wrote counts line =
+    let other : status_of f ≡ 4 → ⊥ = λ e. four (sym ends ∙ e) in
+    let first = told_first (saying_by request) (refusing_by request) known f old mid other wrote in
+    record {
+      fault = f;
+      told = ends;
+      first = first.1;
+      line =
+          subst (λ (m : Option (List ℕ)). Puts (line_of f) m new before after) first.0
+          (subst (λ (n : ℕ). Puts (line_of f) mid new n after) (none_failed f before between other counts) line);
+    }

@@ -1,0 +1,22 @@
+-- What is asked of a job alone, and how an answer without facts is told.
+use Rattle.std.specs.Prelude.{ℕ, Bool, Result, Ok, Err}
+use Rattle.inputs.specs.Outcomes.{JobSaying}
+use Rattle.inputs.specs.declared.faults.StreamFault.{StreamFault}
+use Rattle.commands.specs.Listing.{SaysCheck}
+use Rattle.commands.specs.Planning.{SaysPlan}
+use Rattle.commands.specs.Results.{SaysResult}
+use Rattle.commands.specs.declared.found.Found.{Found}
+use Rattle.commands.specs.declared.found.Found.TheVariants.{NoFalse}
+use Rattle.commands.specs.declared.question.Question.{Question}
+use Rattle.commands.specs.declared.question.Question.TheVariants as questions
+
+-- what is said where this is asked, where all functions are to be stored or not, and by this percentage
+abbrev pub saying_of : Question → Bool → ℕ → JobSaying
+saying_of questions.Answer stored percent = SaysResult
+saying_of questions.Stages stored percent = SaysCheck
+saying_of questions.Plan stored percent = SaysPlan stored percent
+
+-- no fact was judged
+abbrev pub none_false : Result (Unit {0}) StreamFault → Result Found StreamFault
+none_false (Ok done) = Ok NoFalse
+none_false (Err fault) = Err fault

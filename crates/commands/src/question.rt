@@ -1,0 +1,12 @@
+//! What is asked of a job alone.
+
+/// What is asked of a job alone.
+#[derive(Clone, Copy, Debug, PartialEq, Eq)]
+pub enum Question {
+    /// What its result is.
+    Answer,
+    /// Which program it is of, and which stages it has.
+    Stages,
+    /// Which functions are stored, and what that costs.
+    Plan,
+}

@@ -1,0 +1,99 @@
+-- What a command has written where it ends, from what its steps make sure of.
+use Rattle.std.proofs.Common.{◌≡◌, ◌≤◌, List, length, Result, Ok, Err, OnOk, Option, ℕ, refl, sym, subst}
+use Rattle.std.specs.Prelude.{IfErr, IfOk, IfSome, OnErr}
+use Rattle.std.specs.Io.KnownBytes.{Appends}
+use Rattle.domains.specs.Sides.{Sides}
+use Rattle.streams.specs.Streams.{AppendsPart}
+use Rattle.inputs.specs.declared.faults.StreamFault.{StreamFault}
+use Rattle.inputs.specs.declared.faults.StreamFault.TheVariants as faults
+use Rattle.inputs.specs.Faults.{IsAuditFault, IsFaultOf, IsMergeFault}
+use Rattle.inputs.specs.Giving.{Given}
+use Rattle.inputs.specs.Outcomes.{AppendsSaid, IsOfInput, IsOfReader, Refusing, Saying, Writes, most_input, refusing_audit, refusing_job, refusing_merge}
+
+-- ---- nothing was written
+
+-- a fault of the reader wrote nothing
+pub reader_fault : {Answer : Type 0} (Says : Saying Answer) (Refuses : Refusing) (known : Option (List ℕ)) (f : StreamFault)
+    (old : Option (List ℕ)) → IsOfReader known f → Writes Says Refuses known (Err f) old old
+reader_fault Says Refuses known faults.Read old is = (refl, tt)
+reader_fault Says Refuses known faults.TooLong old is = (refl, is)
+reader_fault Says Refuses known faults.Memory old is = (refl, tt)
+reader_fault Says Refuses known faults.NoSeparator old is = absurd is
+reader_fault Says Refuses known (faults.Program x) old is = absurd is
+reader_fault Says Refuses known (faults.Picture x) old is = absurd is
+reader_fault Says Refuses known (faults.Check x) old is = absurd is
+reader_fault Says Refuses known (faults.Param x) old is = absurd is
+reader_fault Says Refuses known (faults.Bind x) old is = absurd is
+reader_fault Says Refuses known (faults.Facts x) old is = absurd is
+reader_fault Says Refuses known faults.Write old is = absurd is
+
+of_input : (known : Option (List ℕ)) (input : List ℕ) (Holds : List ℕ → Type 0) → IfSome known (λ all. input ≡ all)
+    → length input ≤ most_input → Holds input → IsOfInput known Holds
+of_input known input Holds all within holds = record { input = input; all = all; within = within; holds = holds }
+
+-- a fault of the input wrote nothing: it is none of the reader's or the writer's own
+pub input_fault : {Answer : Type 0} (Says : Saying Answer) (Refuses : Refusing) (known : Option (List ℕ)) (input : List ℕ)
+    (f : StreamFault) (old : Option (List ℕ)) → ¬ Refuses input faults.TooLong → ¬ Refuses input faults.Write
+    → IfSome known (λ all. input ≡ all) → length input ≤ most_input → Refuses input f → Writes Says Refuses known (Err f) old old
+input_fault Says Refuses known input faults.Read old long write all within is = (refl, tt)
+input_fault Says Refuses known input faults.TooLong old long write all within is = absurd (long is)
+input_fault Says Refuses known input faults.Memory old long write all within is = (refl, tt)
+input_fault Says Refuses known input faults.Write old long write all within is = absurd (write is)
+input_fault Says Refuses known input faults.NoSeparator old long write all within is =
+    (refl, of_input known input (λ i. Refuses i faults.NoSeparator) all within is)
+input_fault Says Refuses known input (faults.Program x) old long write all within is =
+    (refl, of_input known input (λ i. Refuses i (faults.Program x)) all within is)
+input_fault Says Refuses known input (faults.Picture x) old long write all within is =
+    (refl, of_input known input (λ i. Refuses i (faults.Picture x)) all within is)
+input_fault Says Refuses known input (faults.Check x) old long write all within is =
+    (refl, of_input known input (λ i. Refuses i (faults.Check x)) all within is)
+input_fault Says Refuses known input (faults.Param x) old long write all within is =
+    (refl, of_input known input (λ i. Refuses i (faults.Param x)) all within is)
+input_fault Says Refuses known input (faults.Bind x) old long write all within is =
+    (refl, of_input known input (λ i. Refuses i (faults.Bind x)) all within is)
+input_fault Says Refuses known input (faults.Facts x) old long write all within is =
+    (refl, of_input known input (λ i. Refuses i (faults.Facts x)) all within is)
+
+-- the same of each kind of input
+pub job_refused : {Answer : Type 0} (Says : Saying Answer) (known : Option (List ℕ)) (input : List ℕ) (given : List Given) (sides : Sides)
+    (f : StreamFault) (old : Option (List ℕ)) → IfSome known (λ all. input ≡ all) → length input ≤ most_input
+    → IsFaultOf input given sides f → Writes Says (refusing_job given sides) known (Err f) old old
+job_refused Says known input given sides f old all within is =
+    input_fault Says (refusing_job given sides) known input f old (λ h. h) (λ h. h) all within is
+
+pub audit_refused : {Answer : Type 0} (Says : Saying Answer) (known : Option (List ℕ)) (input : List ℕ) (given : List Given) (sides : Sides)
+    (f : StreamFault) (old : Option (List ℕ)) → IfSome known (λ all. input ≡ all) → length input ≤ most_input
+    → IsAuditFault input given sides f → Writes Says (refusing_audit given sides) known (Err f) old old
+audit_refused Says known input given sides f old all within is =
+    input_fault Says (refusing_audit given sides) known input f old (λ h. h) (λ h. h) all within is
+
+pub merge_refused : {Answer : Type 0} (Says : Saying Answer) (known : Option (List ℕ)) (input : List ℕ) (f : StreamFault)
+    (old : Option (List ℕ)) → IfSome known (λ all. input ≡ all) → length input ≤ most_input → IsMergeFault input f
+    → Writes Says refusing_merge known (Err f) old old
+merge_refused Says known input f old all within is = input_fault Says refusing_merge known input f old (λ h. h) (λ h. h) all within is
+
+-- ---- what is said was written
+
+-- all of it, or where the writer failed a part of it
+pub said_written : {Answer : Type 0} (Says : Saying Answer) (Refuses : Refusing) (known : Option (List ℕ)) (input : List ℕ)
+    (answer : Answer) (bytes : List ℕ) (r : Result Answer StreamFault) (old new : Option (List ℕ))
+    → IfSome known (λ all. input ≡ all) → length input ≤ most_input → Says answer input bytes → IfOk r (λ x. x ≡ answer)
+    → OnOk r (Appends old new bytes) → OnErr r (AppendsPart old new bytes) → IfErr r (λ f. f ≡ faults.Write)
+    → Writes Says Refuses known r old new
+said_written Says Refuses known input answer bytes (Ok x) old new all within says same whole part fault =
+    subst (λ y. AppendsSaid Says known y old new) (sym same)
+    (record { bytes = bytes; said = of_input known input (λ i. Says answer i bytes) all within says; taken = whole })
+said_written Says Refuses known input answer bytes (Err f) old new all within says same whole part fault =
+    subst (λ (g : StreamFault). Writes Says Refuses known (Err g) old new) (sym fault)
+    (record { answer = answer; bytes = bytes; said = of_input known input (λ i. Says answer i bytes) all within says; taken = part })
+
+-- the same of a command that has no answer of its own
+pub lines_written : (Says : Saying (Unit {0})) (Refuses : Refusing) (known : Option (List ℕ)) (input bytes : List ℕ)
+    (r : Result (Unit {0}) StreamFault) (old new : Option (List ℕ))
+    → IfSome known (λ all. input ≡ all) → length input ≤ most_input → Says tt input bytes
+    → OnOk r (Appends old new bytes) → OnErr r (AppendsPart old new bytes) → IfErr r (λ f. f ≡ faults.Write)
+    → Writes Says Refuses known r old new
+lines_written Says Refuses known input bytes (Ok x) old new all within says whole part fault =
+    said_written Says Refuses known input tt bytes (Ok x) old new all within says refl whole part fault
+lines_written Says Refuses known input bytes (Err f) old new all within says whole part fault =
+    said_written Says Refuses known input tt bytes (Err f) old new all within says tt whole part fault
