@@ -1,12 +1,12 @@
 -- Facts in the order of their tiles, among which one is looked up.
-use Rattle.std.proofs.Common.{arith, ℕ, zero, suc, ◌≡◌, ◌<◌, ◌≤◌, ◌==◌, ◌⊎◌, ◌&&◌, ◌||◌, ◌++◌, Bool, true, false, cond, List, [], ◌∷◌, map, Option, Some, None, length, get_or, refl, sym, ap, ◌∙◌, subst, inl, inr}
+use Rattle.std.proofs.Common.{arith, ℕ, zero, suc, ◌≡◌, ◌<◌, ◌≤◌, ◌==◌, ◌⊎◌, ◌&&◌, ◌||◌, ◌++◌, Bool, true, false, cond, List, [], ◌∷◌, map, Some, None, length, get_or, refl, sym, ap, ◌∙◌, subst, inl, inr}
 use Rattle.std.specs.List.{flat_map}
 use Rattle.std.specs.List.Sorted.{IsPartitionedBy, IsPartitionPoint}
-use Rattle.std.specs.Prelude.{AllPairs, Contains, find, nat_lt, slice_get}
+use Rattle.std.specs.Prelude.{Contains, find, nat_lt, slice_get}
 use Rattle.std.proofs.lemmas.Bool.{and_parts, or_cases, ltb-true, lt-ltb, eqb-true, eq-eqb, false≢true, cases_lt, cases_eq}
 use Rattle.std.proofs.lemmas.List.{length-map, map-append, get_or-map}
 use Rattle.std.proofs.lemmas.List.Elements.{Contains-append_right}
-use Rattle.std.proofs.lemmas.Option.{none-some, same_Some, slice_get_within, get_or_from_slice_get}
+use Rattle.std.proofs.lemmas.Option.{none-some, same_Some, get_or_from_slice_get}
 use Rattle.domains.proofs.PairLists.{Contains-here}
 use Rattle.fact_store.proofs.KeyLaws.{in_facts_of}
 use Rattle.identity.specs.declared.key.Key.{Key}
@@ -17,7 +17,8 @@ use Rattle.overlap_tiles.proofs.NeedsAreExact.{needs_rise}
 use Rattle.overlap_tiles.specs.Needs.{key_of, key_tile, needs, needed_keys, IsTileBefore}
 use Rattle.tile_fact.specs.declared.fact.Fact.{Fact}
 use Rattle.tile_run.proofs.FirstFound.{none_of}
-use Rattle.node_state.specs.Making.{is_of_tile, IsOneThatFits}
+use Rattle.node_state.specs.HeldFacts.{IsReady}
+use Rattle.node_state.specs.Making.{is_of_tile}
 use Rattle.node_state.specs.inside.Holding.{is_before_tile, TilesRise}
 use Rattle.node_state.specs.inside.Needing.{AreReady}
 use Rattle.node_state.specs.States.{State, facts_of}
@@ -158,20 +159,19 @@ module _ (g i j : ℕ) (facts : List Fact) (rise : TilesRise facts) (n : ℕ) (c
 
 -- ---- facts of keys that rise
 
-keys_of : (job : Pipeline) (s : State) (need : Key) (fs : List Fact) → facts_of s need ≡ fs → IsOneThatFits job fs
-    → map (λ f. f.key) fs ≡ need ∷ []
-keys_of job s need [] is h = absurd h
-keys_of job s need (f ∷ []) is h =
-    let own = ((in_facts_of s need f).0 (subst (λ (fs : List Fact). Contains fs f) (sym is) (Contains-here f []))).1 in
-    ap (λ (k : Key). k ∷ []) own
-keys_of job s need (f ∷ g ∷ more) is h = absurd h
+keys_of : (job : Pipeline) (s : State) (need : Key) → IsReady s job need → map (λ f. f.key) (facts_of s need) ≡ need ∷ []
+keys_of job s need ready =
+    let own =
+    ((in_facts_of s need ready.fact).0
+    (subst (λ (fs : List Fact). Contains fs ready.fact) (sym ready.alone) (Contains-here ready.fact []))).1 in
+    ap (map (λ (f : Fact). f.key)) ready.alone ∙ ap (λ (k : Key). k ∷ []) own
 
 -- where one fact of each key is held, their keys are these
 all_keys : (s : State) (job : Pipeline) (keys : List Key) → AreReady s job keys → map (λ f. f.key) (flat_map (facts_of s) keys) ≡ keys
 all_keys s job [] ready = refl
 all_keys s job (k ∷ ks) ready =
     map-append (λ (f : Fact). f.key) (facts_of s k) (flat_map (facts_of s) ks)
-    ∙ (λ n. keys_of job s k (facts_of s k) refl (ready k (Contains-here k ks)) n
+    ∙ (λ n. keys_of job s k (ready k (Contains-here k ks)) n
     ++ all_keys s job ks (λ need asked. ready need (Contains-append_right (k ∷ []) ks need asked)) n)
 
 -- so that the facts of what a target needs are in the order of their tiles
