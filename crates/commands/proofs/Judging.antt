@@ -12,7 +12,7 @@ use Rattle.fact_audit.specs.declared.verdict.Verdict.{Verdict}
 use Rattle.inputs.specs.Giving.{Given}
 use Rattle.inputs.specs.Input.{IsReadAudit}
 use Rattle.inputs.specs.Outcomes.{IsSaidOfAudit}
-use Rattle.job.specs.Kept.{pipeline_in, program_text_in}
+use Rattle.job.specs.Kept.{pipeline_in}
 use Rattle.job.specs.WellFormed.{IsJob}
 use Rattle.job.specs.declared.job.Job.{Job}
 use Rattle.tile_fact.specs.declared.fact.Fact.{Fact}

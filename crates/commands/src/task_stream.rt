@@ -96,8 +96,7 @@ fn task_stream<H: AllocGlobal + Threads + Sync, R: Source, W: Sink>(
     reader: &mut R,
     writer: &mut W,
 ) -> Result<(), StreamFault>
-    ensures written {
-        Writes (saying_of_job (saying_of question options.now.stored options.now.percent)
+    ensures written { Writes (saying_of_job (saying_of question options.now.stored options.now.percent)
         parameters.now options.now.sides) (refusing_job parameters.now options.now.sides)
         (R.remaining reader.old) result (W.contents writer.old) (W.contents writer.new) }
     ensures read { CountsRead result (R.failures reader.old) (R.failures reader.new) }

@@ -1,4 +1,4 @@
-use Rattle.commands.proofs.PassingLaws.{broken_out, part_out, whole_out}
+use Rattle.commands.proofs.PassingLaws.{part_out, whole_out}
 use Rattle.commands.proofs.verdict_lines.write_verdicts.Goals as goal
 
 pub returns-clause-ok : goal.returns-clause-ok

@@ -1,4 +1,4 @@
-use Rattle.commands.proofs.PassingLaws.{breaks_all, passes_all, passes_none, puts_err}
+use Rattle.commands.proofs.PassingLaws.{breaks_all, passes_none, puts_err}
 use Rattle.commands.proofs.waiting.make_room.Goals as goal
 
 pub returns-in_err-flush-clause-puts : goal.returns-in_err-flush-clause-puts

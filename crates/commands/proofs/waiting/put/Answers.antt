@@ -1,5 +1,4 @@
-use Rattle.std.proofs.Common.{arith, get_or, take, subst, sym, ◌++◌, [], ◌∷◌}
-use Rattle.commands.specs.inside.Passing.{Passes}
+use Rattle.std.proofs.Common.{arith}
 use Rattle.commands.proofs.PassingLaws.{breaks_byte, passes_byte, passes_none, puts_err}
 use Rattle.commands.proofs.waiting.put.Goals as goal
 
