@@ -2,7 +2,6 @@ use Rattle.std.proofs.Common.{rules, ◌≡◌, Some, None, sym, ap, ◌∙◌}
 use Rattle.std.specs.Option.{option_copied}
 use Rattle.std.specs.Prelude.{slice_get}
 use Rattle.std.proofs.lemmas.List.Sorted.{IsPartitionPoint-from_clause}
-use Rattle.tile_fact.specs.declared.fact.Fact.{Fact}
 use Rattle.node_state.specs.inside.Holding.{is_before_tile}
 use Rattle.node_state.proofs.ListLaws as list
 use Rattle.node_state.proofs.TilesInOrder.{parted, there_is, there_is_none, none_left}
