@@ -21,13 +21,13 @@ fn copied(alloc: Global, sides: (u32, u32)) -> Result<Job, Fail> {
     job_of(alloc, COPY, &[], b"P2 2 2 255 1 2 3 4\n", sides)
 }
 
-fn take(state: &mut NodeState, key: Key, body: Body) -> Result<(), Fail> {
-    let fact = Fact::new(key, body).ok().ok_or("no fact")?;
+fn take(state: &mut NodeState, key: &Key, body: Body) -> Result<(), Fail> {
+    let fact = Fact::new(*key, body).ok().ok_or("no fact")?;
     state.take(fact).ok().ok_or("no memory")?;
     Ok(())
 }
 
-fn take_tile(alloc: Global, state: &mut NodeState, key: Key, numbers: &[i32]) -> Result<(), Fail> {
+fn take_tile(alloc: Global, state: &mut NodeState, key: &Key, numbers: &[i32]) -> Result<(), Fail> {
     take(
         state,
         key,
@@ -38,7 +38,7 @@ fn take_tile(alloc: Global, state: &mut NodeState, key: Key, numbers: &[i32]) ->
 fn take_partial(
     alloc: Global,
     state: &mut NodeState,
-    key: Key,
+    key: &Key,
     numbers: &[i64],
 ) -> Result<(), Fail> {
     take(
@@ -53,6 +53,15 @@ fn fails(state: &NodeState, job: &Job, wanted: AnswerFault) -> Result<(), Fail> 
     holds(
         Some(state.answer(job).err() == Some(wanted)),
         "the answer's fault",
+    )
+}
+
+// Fails where another key is missing than this one alone.
+fn lacks_one(state: &NodeState, job: &Job, wanted: &Key) -> Result<(), Fail> {
+    let missing = state.missing(job)?;
+    holds(
+        Some(matches!(missing.as_slice(), [only] if *only == *wanted)),
+        "one key is missing",
     )
 }
 
@@ -72,14 +81,14 @@ fn has_plane(state: &NodeState, job: &Job, wanted: &[u16]) -> Result<(), Fail> {
 }
 
 // One tile of a picture, told in two ways.
-fn is_disputed(alloc: Global, first: i32, second: i32) -> Result<(), Fail> {
+fn is_disputed(alloc: Global, first: u16, second: u16) -> Result<(), Fail> {
     let job = copied(alloc, (2, 2))?;
     let key = job.key(1, 0, 0).ok_or("no key")?;
     let mut state = NodeState::new(alloc);
     fails(&state, &job, AnswerFault::Missing(key))?;
-    take_tile(alloc, &mut state, key, &[1, 2, 3, first])?;
-    has_plane(&state, &job, &[1, 2, 3, first as u16])?;
-    take_tile(alloc, &mut state, key, &[1, 2, 3, second])?;
+    take_tile(alloc, &mut state, &key, &[1, 2, 3, i32::from(first)])?;
+    has_plane(&state, &job, &[1, 2, 3, first])?;
+    take_tile(alloc, &mut state, &key, &[1, 2, 3, i32::from(second)])?;
     fails(&state, &job, AnswerFault::Disputed(key))
 }
 
@@ -96,10 +105,10 @@ fn facts_of_another_shape(rt: HostRuntime) -> Result<(), Fail> {
     let job = copied(alloc, (2, 2))?;
     let key = job.key(1, 0, 0).ok_or("no key")?;
     let mut short = NodeState::new(alloc);
-    take_tile(alloc, &mut short, key, &[1, 2, 3])?;
+    take_tile(alloc, &mut short, &key, &[1, 2, 3])?;
     fails(&short, &job, AnswerFault::Misshapen(key))?;
     let mut bins = NodeState::new(alloc);
-    take_partial(alloc, &mut bins, key, &[1, 2, 3, 4])?;
+    take_partial(alloc, &mut bins, &key, &[1, 2, 3, 4])?;
     fails(&bins, &job, AnswerFault::Misshapen(key))
 }
 
@@ -111,7 +120,7 @@ fn a_picture_of_four_tiles(rt: HostRuntime) -> Result<(), Fail> {
     let mut state = NodeState::new(alloc);
     for (row, col, number) in [(1, 1, 400), (0, 1, 2), (1, 0, -3), (0, 0, 1)] {
         let key = job.key(1, row, col).ok_or("no key")?;
-        take_tile(alloc, &mut state, key, &[number])?;
+        take_tile(alloc, &mut state, &key, &[number])?;
     }
     has_plane(&state, &job, &[1, 2, 0, 255])
 }
@@ -125,12 +134,12 @@ fn the_least_key_with_a_fault(rt: HostRuntime) -> Result<(), Fail> {
     let mut state = NodeState::new(alloc);
     for (row, col) in keys {
         let key = job.key(1, row, col).ok_or("no key")?;
-        take_tile(alloc, &mut state, key, &[7])?;
+        take_tile(alloc, &mut state, &key, &[7])?;
     }
     let last = job.key(1, 1, 1).ok_or("no key")?;
     fails(&state, &job, AnswerFault::Missing(last))?;
     let disputed = job.key(1, 1, 0).ok_or("no key")?;
-    take_tile(alloc, &mut state, disputed, &[8])?;
+    take_tile(alloc, &mut state, &disputed, &[8])?;
     fails(&state, &job, AnswerFault::Disputed(disputed))
 }
 
@@ -140,11 +149,7 @@ fn the_tile_of_the_output_is_missing(rt: HostRuntime) -> Result<(), Fail> {
     let job = job_of(alloc, CHAIN, &[], ONES, (2, 2))?;
     let state: NodeState = NodeState::new(alloc);
     let key = job.key(2, 0, 0).ok_or("no key")?;
-    let missing = state.missing(&job)?;
-    holds(
-        Some(missing.as_slice() == [key].as_slice()),
-        "b's tile alone",
-    )
+    lacks_one(&state, &job, &key)
 }
 
 // The job that counts remainders, and what it counts over each of its four tiles.
@@ -159,7 +164,7 @@ fn counted(alloc: Global) -> Result<(Job, NodeState), Fail> {
     ];
     for (row, col, bins) in partials {
         let key = job.key(1, row, col).ok_or("no key")?;
-        take_partial(alloc, &mut state, key, &bins)?;
+        take_partial(alloc, &mut state, &key, &bins)?;
     }
     Ok((job, state))
 }
@@ -186,12 +191,8 @@ fn partials_are_missing(rt: HostRuntime) -> Result<(), Fail> {
     fails(&state, &job, AnswerFault::Missing(first))?;
     for (row, col) in [(0, 0), (1, 0), (0, 1)] {
         let key = job.key(1, row, col).ok_or("no key")?;
-        take_partial(alloc, &mut state, key, &[0, 0, 0, 0])?;
+        take_partial(alloc, &mut state, &key, &[0, 0, 0, 0])?;
     }
-    let missing = state.missing(&job)?;
-    holds(
-        Some(missing.as_slice() == [last].as_slice()),
-        "the last tile alone",
-    )?;
+    lacks_one(&state, &job, &last)?;
     fails(&state, &job, AnswerFault::Missing(last))
 }
