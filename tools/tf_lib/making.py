@@ -8,7 +8,7 @@ from typing import Iterator, NamedTuple
 
 from .facts import Fact
 from .joining import SEPARATOR, Input
-from .program import Item, Program
+from .program import Program
 from .running import run
 from .text import Refused
 
