@@ -53,7 +53,8 @@ none_failed faults.Memory before after other counts = counts
 -- so its line alone was written
 pub told_at : (status : ℕ) (request : Request) (known : Option (List ℕ)) (f : StreamFault) (old mid new : Option (List ℕ))
     (before between after : ℕ) → status_of f ≡ status → (status ≡ 4 → ⊥)
-    → Writes {Answer = Found} (saying_by request) (refusing_by request) known (Err f) old mid → CountsWritten {X = Found} (Err f) before between
+    → Writes {Answer = Found} (saying_by request) (refusing_by request) known (Err f) old mid
+    → CountsWritten {X = Found} (Err f) before between
     → Puts (line_of f) mid new between after → HasTold status request known old new before after
 told_at status request known f old mid new before between after ends four wrote counts line =
     let other : status_of f ≡ 4 → ⊥ = λ e. four (sym ends ∙ e) in

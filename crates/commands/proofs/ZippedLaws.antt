@@ -35,7 +35,8 @@ pub passes_pair : {X : Type 0} (facts : List Fact) (verdicts : List Verdict) (se
 passes_pair facts verdicts seen last fact verdict was mid waits a b c n m k at first second =
     let i = length seen in
     subst (λ j. Passes (flat_map verdict_line (take j (zip facts verdicts))) was waits a c n k) (sym (length_push seen last))
-    (passes_more verdict_line (zip facts verdicts) i (fact, verdict) was mid waits a b c n m k (within facts verdicts i fact verdict at) first
+    (passes_more verdict_line (zip facts verdicts) i (fact, verdict) was mid waits a b c n m k
+    (within facts verdicts i fact verdict at) first
     (subst (λ (p : Fact × Verdict). Passes (verdict_line p) mid waits b c m k) (sym (pair_at facts verdicts i fact verdict at)) second))
 
 pub breaks_pair : (facts : List Fact) (verdicts : List Verdict) (i : ℕ) (fact : Fact) (verdict : Verdict)
@@ -51,4 +52,5 @@ pub all_pairs : (facts : List Fact) (verdicts : List Verdict) (i : ℕ) (was mid
     → Passes (flat_map verdict_line (take i (zip facts verdicts))) was mid a b n m → Passes (verdict_lines facts verdicts) was mid a b n m
 all_pairs facts verdicts i was mid a b n m end passes =
     let long = length-zip facts verdicts in
-    subst (λ pairs. Passes (flat_map verdict_line pairs) was mid a b n m) (take_all i (zip facts verdicts) (omega (arith, long, end))) passes
+    subst (λ pairs. Passes (flat_map verdict_line pairs) was mid a b n m) (take_all i (zip facts verdicts) (omega (arith, long, end)))
+    passes

@@ -4,15 +4,15 @@ use Rattle.commands.proofs.command.run_request.Goals as goal
 
 pub returns-in-Err-clause-usage : goal.returns-in-Err-clause-usage
 returns-in-Err-clause-usage g c = λ ends.
-    told_at 1 c.args.request.now _ c.in-Err.fault _ _ _ _ _ _ (sym c.status.ensures ∙ ends) (λ e. cc) c.in-Err.ensures.written c.in-Err.ensures.write
-    c.tell.ensures
+    told_at 1 c.args.request.now _ c.in-Err.fault _ _ _ _ _ _ (sym c.status.ensures ∙ ends) (λ e. cc) c.in-Err.ensures.written
+    c.in-Err.ensures.write c.tell.ensures
 
 pub returns-in-Err-clause-unreadable : goal.returns-in-Err-clause-unreadable
 returns-in-Err-clause-unreadable g c = λ ends.
-    told_at 2 c.args.request.now _ c.in-Err.fault _ _ _ _ _ _ (sym c.status.ensures ∙ ends) (λ e. cc) c.in-Err.ensures.written c.in-Err.ensures.write
-    c.tell.ensures
+    told_at 2 c.args.request.now _ c.in-Err.fault _ _ _ _ _ _ (sym c.status.ensures ∙ ends) (λ e. cc) c.in-Err.ensures.written
+    c.in-Err.ensures.write c.tell.ensures
 
 pub returns-in-Err-clause-refused : goal.returns-in-Err-clause-refused
 returns-in-Err-clause-refused g c = λ ends.
-    told_at 3 c.args.request.now _ c.in-Err.fault _ _ _ _ _ _ (sym c.status.ensures ∙ ends) (λ e. cc) c.in-Err.ensures.written c.in-Err.ensures.write
-    c.tell.ensures
+    told_at 3 c.args.request.now _ c.in-Err.fault _ _ _ _ _ _ (sym c.status.ensures ∙ ends) (λ e. cc) c.in-Err.ensures.written
+    c.in-Err.ensures.write c.tell.ensures

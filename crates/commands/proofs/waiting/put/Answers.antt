@@ -13,5 +13,6 @@ returns-in_err-make_room g c =
 pub loop-byte-preserved : goal.loop-byte-preserved
 loop-byte-preserved g c =
     let passed =
-    passes_byte c.args.bytes.now c.loop-byte.byte-index 0 _ _ _ _ _ _ _ _ _ (omega arith) c.loop-byte.invariant c.in_ok-make_room.ensures.puts in
+    passes_byte c.args.bytes.now c.loop-byte.byte-index 0 _ _ _ _ _ _ _ _ _ (omega arith) c.loop-byte.invariant
+    c.in_ok-make_room.ensures.puts in
     rw (c.push.ensures.items) passed

@@ -8,8 +8,10 @@ loop-part-init g c = passes_none _ _ _
 pub returns-in_err-put : goal.returns-in_err-put
 returns-in_err-put g c =
     puts_err c.from_residual.result _ _ _ _ _ _ _ c.from_residual.ensures.0
-    (breaks_more (λ t. t.now) c.args.parts.now c.loop-part.part-index _ _ _ _ _ _ _ _ _ (omega arith) c.loop-part.invariant c.in_err-put.ensures)
+    (breaks_more (λ t. t.now) c.args.parts.now c.loop-part.part-index _ _ _ _ _ _ _ _ _ (omega arith) c.loop-part.invariant
+    c.in_err-put.ensures)
 
 pub loop-part-preserved : goal.loop-part-preserved
 loop-part-preserved g c =
-    passes_more (λ t. t.now) c.args.parts.now c.loop-part.part-index _ _ _ _ _ _ _ _ _ _ (omega arith) c.loop-part.invariant c.in_ok-put.ensures
+    passes_more (λ t. t.now) c.args.parts.now c.loop-part.part-index _ _ _ _ _ _ _ _ _ _ (omega arith) c.loop-part.invariant
+    c.in_ok-put.ensures
