@@ -77,76 +77,130 @@ fn chain(alloc: Global) -> Result<Scheduled, Fail> {
 /// The tiles of the first stencil.
 const TILES: [(u32, u32); 4] = [(0, 0), (0, 1), (1, 0), (1, 1)];
 
-#[test]
-fn a_tile_of_inlined_functions_is_made_of_nothing(rt: HostRuntime) -> Result<(), Fail> {
-    let alloc = rt.alloc();
-    let inlined = admitted(alloc, CHAIN, ONES, 2, &[false, true, false])?;
-    let state = NodeState::new(alloc);
-    let key = inlined.key(2, 0, 0)?;
-    inlined.makes(alloc, &state, &key, "[81, 81, 81, 81]")
+// Takes the fact that is made of a tile of the first stencil.
+fn take_made(
+    alloc: Global,
+    chain: &Scheduled,
+    state: &mut NodeState,
+    tile: (u32, u32),
+) -> Result<(), Fail> {
+    let key = chain.key(1, tile.0, tile.1)?;
+    chain.makes(alloc, state, &key, "[9, 9, 9, 9]")?;
+    let fact = state.make(&chain.jobs, &chain.schedule, &key)?;
+    take(state, fact)
+}
+
+fn is_made_of_tiles(alloc: Global, chain: &Scheduled) -> Result<(), Fail> {
+    let mut state = NodeState::new(alloc);
+    for tile in TILES {
+        take_made(alloc, chain, &mut state, tile)?;
+    }
+    chain.makes(alloc, &state, &chain.key(2, 0, 0)?, "[81, 81, 81, 81]")
 }
 
 #[test]
 fn a_tile_is_made_of_tiles_that_were_made(rt: HostRuntime) -> Result<(), Fail> {
     let alloc = rt.alloc();
-    let chain = chain(alloc)?;
-    let mut state = NodeState::new(alloc);
-    for (row, col) in TILES {
-        let key = chain.key(1, row, col)?;
-        chain.makes(alloc, &state, &key, "[9, 9, 9, 9]")?;
-        let fact = state.make(&chain.jobs, &chain.schedule, &key)?;
-        take(&mut state, fact)?;
-    }
-    let key = chain.key(2, 0, 0)?;
-    chain.makes(alloc, &state, &key, "[81, 81, 81, 81]")
+    is_made_of_tiles(alloc, &chain(alloc)?)
+}
+
+// Compares what is made of the first tile of a stage where nothing is held.
+fn is_made_of_nothing(
+    alloc: Global,
+    scheduled: &Scheduled,
+    stage: u16,
+    wanted: &str,
+) -> Result<(), Fail> {
+    let key = scheduled.key(stage, 0, 0)?;
+    scheduled.makes(alloc, &NodeState::new(alloc), &key, wanted)
+}
+
+#[test]
+fn a_tile_of_inlined_functions_is_made_of_nothing(rt: HostRuntime) -> Result<(), Fail> {
+    let alloc = rt.alloc();
+    let inlined = admitted(alloc, CHAIN, ONES, 2, &[false, true, false])?;
+    is_made_of_nothing(alloc, &inlined, 2, "[81, 81, 81, 81]")
 }
 
 #[test]
 fn a_partial_is_made(rt: HostRuntime) -> Result<(), Fail> {
     let alloc = rt.alloc();
     let counted = admitted(alloc, REMAINDERS, ONE_TO_NINE, 2, &[false, false])?;
+    is_made_of_nothing(alloc, &counted, 1, "[1, 2, 1, 0]")
+}
+
+// Whether no fact is made of such a tile.
+fn has_no_tile(
+    scheduled: &Scheduled,
+    state: &NodeState,
+    tile: (u16, u32, u32),
+) -> Result<(), Fail> {
+    let key = scheduled.key(tile.0, tile.1, tile.2)?;
+    scheduled.lacks(state, &key, MakeFault::NoSuchTile)
+}
+
+fn tells_what_is_not_there(alloc: Global, chain: &Scheduled) -> Result<(), Fail> {
     let state = NodeState::new(alloc);
-    let key = counted.key(1, 0, 0)?;
-    counted.makes(alloc, &state, &key, "[1, 2, 1, 0]")
+    let foreign = Key {
+        input: InputId::new([7; 32]),
+        ..chain.key(2, 0, 0)?
+    };
+    chain.lacks(&state, &foreign, MakeFault::Foreign)?;
+    has_no_tile(chain, &state, (0, 0, 0))?;
+    has_no_tile(chain, &state, (2, 0, 1))?;
+    has_no_tile(chain, &state, (3, 0, 0))
 }
 
 #[test]
 fn keys_of_no_tile(rt: HostRuntime) -> Result<(), Fail> {
     let alloc = rt.alloc();
-    let chain = chain(alloc)?;
-    let state = NodeState::new(alloc);
+    tells_what_is_not_there(alloc, &chain(alloc)?)
+}
+
+// Takes a tile of these numbers.
+fn take_tile(alloc: Global, state: &mut NodeState, key: Key, numbers: &[i32]) -> Result<(), Fail> {
+    take(state, tile(alloc, key, numbers)?)
+}
+
+fn tells_the_least(alloc: Global, chain: &Scheduled) -> Result<(), Fail> {
+    let mut state = NodeState::new(alloc);
     let key = chain.key(2, 0, 0)?;
-    let foreign = Key {
-        input: InputId::new([7; 32]),
-        ..key
-    };
-    chain.lacks(&state, &foreign, MakeFault::Foreign)?;
-    chain.lacks(&state, &chain.key(0, 0, 0)?, MakeFault::NoSuchTile)?;
-    chain.lacks(&state, &chain.key(2, 0, 1)?, MakeFault::NoSuchTile)?;
-    chain.lacks(&state, &chain.key(3, 0, 0)?, MakeFault::NoSuchTile)
+    let first = chain.key(1, 0, 0)?;
+    let second = chain.key(1, 0, 1)?;
+    take_tile(alloc, &mut state, second, &[9, 9, 9])?;
+    chain.lacks(&state, &key, MakeFault::NeedMissing(first))?;
+    take_tile(alloc, &mut state, first, &[9, 9, 9, 9])?;
+    chain.lacks(&state, &key, MakeFault::NeedMisshapen(second))?;
+    take_tile(alloc, &mut state, first, &[9, 9, 9, 8])?;
+    chain.lacks(&state, &key, MakeFault::NeedDisputed(first))
 }
 
 #[test]
 fn the_least_need_that_is_not_ready_is_told(rt: HostRuntime) -> Result<(), Fail> {
     let alloc = rt.alloc();
-    let chain = chain(alloc)?;
-    let mut state = NodeState::new(alloc);
-    let key = chain.key(2, 0, 0)?;
+    tells_the_least(alloc, &chain(alloc)?)
+}
+
+fn lacks_its_first_need(alloc: Global, chain: &Scheduled) -> Result<(), Fail> {
     let first = chain.key(1, 0, 0)?;
-    let second = chain.key(1, 0, 1)?;
-    chain.lacks(&state, &key, MakeFault::NeedMissing(first))?;
-    take(&mut state, tile(alloc, second, &[9, 9, 9])?)?;
-    chain.lacks(&state, &key, MakeFault::NeedMissing(first))?;
-    take(&mut state, tile(alloc, first, &[9, 9, 9, 9])?)?;
-    chain.lacks(&state, &key, MakeFault::NeedMisshapen(second))?;
-    take(&mut state, tile(alloc, first, &[9, 9, 9, 8])?)?;
-    chain.lacks(&state, &key, MakeFault::NeedDisputed(first))
+    let key = chain.key(2, 0, 0)?;
+    chain.lacks(&NodeState::new(alloc), &key, MakeFault::NeedMissing(first))
+}
+
+#[test]
+fn a_tile_without_its_needs_is_not_made(rt: HostRuntime) -> Result<(), Fail> {
+    let alloc = rt.alloc();
+    lacks_its_first_need(alloc, &chain(alloc)?)
+}
+
+fn lacks_room(alloc: Global, big: &Scheduled) -> Result<(), Fail> {
+    let key = big.key(2, 0, 0)?;
+    big.lacks(&NodeState::new(alloc), &key, MakeFault::ScratchTooBig)
 }
 
 #[test]
 fn scratch_is_told_before_needs(rt: HostRuntime) -> Result<(), Fail> {
     let alloc = rt.alloc();
     let big = admitted(alloc, TOO_BIG, b"P2 1 1 255 7", 1024, &[false, true, false])?;
-    let state = NodeState::new(alloc);
-    big.lacks(&state, &big.key(2, 0, 0)?, MakeFault::ScratchTooBig)
+    lacks_room(alloc, &big)
 }

@@ -30,7 +30,7 @@ use Rattle.node_state.specs.declared.make_fault.MakeFault.{MakeFault}
 use Rattle.node_state.specs.declared.make_fault.MakeFault.TheVariants as fault
 use Rattle.node_state.specs.Answers.{known_of}
 use Rattle.node_state.specs.MakeFaults.{of_plan}
-use Rattle.node_state.specs.Making.{HasTarget, HasTargetIn, needs_of, tiles_in, needed_tiles, IsMisshapen, IsLocalBody, IsMadeOf, IsMade, HoldsTrueFacts, IsFirstUnready, IsMakeFault}
+use Rattle.node_state.specs.Making.{HasTarget, HasTargetIn, needs_for, tiles_in, needed_tiles, IsMisshapen, IsLocalBody, IsMadeOf, IsMade, AreNeedsTrue, IsFirstUnready, IsMakeFault}
 use Rattle.node_state.specs.inside.Needing.{AreReady, IsStoppedAt, IsNeedsFault}
 use Rattle.node_state.specs.States.{State, facts_of}
 use Rattle.node_state.proofs.AskedLaws.{not_below_itself}
@@ -65,7 +65,7 @@ module _ (catalog : List Entry) (s : State) (inlining : List Bool) (key : Key) (
     in_target : (P : Target → Type 0) → P target → HasTargetIn catalog inlining key P
     in_target P h = in_job (λ job. HasTarget job inlining key P) (record { area = is.area; tile = is.tile; holds = h })
 
-    needs_are : p.needs ≡ needs_of key target
+    needs_are : p.needs ≡ needs_for key target
     needs_are = is.plan.plan.needs ∙ ap (λ (ids : Ids). needed_keys ids.program target) found.2
 
     -- a key before a need stands before it among the needs
@@ -92,7 +92,7 @@ module _ (catalog : List Entry) (s : State) (inlining : List Bool) (key : Key) (
             not_below_itself need (key_order.trans need other need after before)
 
     first_unready : (why : MakeFault) (at : IsStoppedAt s entry.pipeline p.needs why) (need : Key) (Reason : Type 0) → need ≡ at.need
-        → Reason → IsFirstUnready s (needs_of key target) target need Reason
+        → Reason → IsFirstUnready s (needs_for key target) target need Reason
     first_unready why at need Reason same reason =
         let there : slice_get p.needs at.place ≡ Some need = at.there ∙ ap Some (sym same) in
         record {
@@ -110,15 +110,15 @@ module _ (catalog : List Entry) (s : State) (inlining : List Bool) (key : Key) (
     at_need fault.NoSuchTile at = absurd at.reason
     at_need fault.ScratchTooBig at = absurd at.reason
     at_need (fault.NeedMissing need) at =
-        in_target (λ t. IsFirstUnready s (needs_of key t) t need (known_of s need ≡ Nothing))
+        in_target (λ t. IsFirstUnready s (needs_for key t) t need (known_of s need ≡ Nothing))
         (first_unready (fault.NeedMissing need) at need (known_of s need ≡ Nothing) at.reason.0
         (subst (λ (k : Key). known_of s k ≡ Nothing) (sym at.reason.0) at.reason.1))
     at_need (fault.NeedDisputed need) at =
-        in_target (λ t. IsFirstUnready s (needs_of key t) t need (known_of s need ≡ Disputed))
+        in_target (λ t. IsFirstUnready s (needs_for key t) t need (known_of s need ≡ Disputed))
         (first_unready (fault.NeedDisputed need) at need (known_of s need ≡ Disputed) at.reason.0
         (subst (λ (k : Key). known_of s k ≡ Disputed) (sym at.reason.0) at.reason.1))
     at_need (fault.NeedMisshapen need) at =
-        in_target (λ t. IsFirstUnready s (needs_of key t) t need (IsMisshapen s t.job need))
+        in_target (λ t. IsFirstUnready s (needs_for key t) t need (IsMisshapen s t.job need))
         (first_unready (fault.NeedMisshapen need) at need (IsMisshapen s entry.pipeline need) at.reason.0
         (subst (λ (k : Key). IsMisshapen s entry.pipeline k) (sym at.reason.0) at.reason.1))
     at_need fault.Memory at = in_target (λ t. Unit {0}) tt
@@ -132,7 +132,7 @@ module _ (catalog : List Entry) (s : State) (inlining : List Bool) (key : Key) (
     pub made : (facts : List Fact) → facts ≡ flat_map (facts_of s) p.needs → AreReady s entry.pipeline p.needs → (body : Body)
         → IsLocalBody target (tiles_in facts) body
         → IsMade catalog s inlining (record { key = key; body = body })
-    made facts are ready body local = in_target (λ t. IsMadeOf s (needs_of key t) t body) (record {
+    made facts are ready body local = in_target (λ t. IsMadeOf s (needs_for key t) t body) (record {
       room = is.plan.fits;
       ready = subst (AreReady s entry.pipeline) needs_are ready;
       numbers =
@@ -148,12 +148,14 @@ module _ (catalog : List Entry) (s : State) (inlining : List Bool) (key : Key) (
         (subst (λ (ks : List Key). Contains ks need) is.plan.plan.needs asked) in
         ap ids_in (sym at.2) ∙ found.2
 
-    pub needed_true : IsCatalog catalog → HoldsTrueFacts catalog s → (f : Fact) → Contains (flat_map (facts_of s) p.needs) f
+    pub needed_true : IsCatalog catalog → AreNeedsTrue catalog s inlining key → (f : Fact) → Contains (flat_map (facts_of s) p.needs) f
         → IsTrueOf f entry.pipeline
     needed_true c right f there =
         let at = Contains-from_flat_map (facts_of s) p.needs f there in
         let own = (in_facts_of s at.0 f).0 at.2 in
-        let h = right f own.0 in
+        let asked : Contains (needs_for key target) f.key =
+        subst (λ (ks : List Key). Contains ks f.key) needs_are (subst (Contains p.needs) (sym own.1) at.1) in
+        let h = right f own.0 (in_target (λ t. Contains (needs_for key t) f.key) asked) in
         let place = c.apart (ids_in key) h.index found.0 (h.entry, h.there, h.ids ∙ ap ids_in own.1 ∙ need_ids at.0 at.1)
         (entry, found.1, found.2) in
         let same = same_Some h.entry entry (sym h.there ∙ ap (slice_get catalog) place ∙ found.1) in

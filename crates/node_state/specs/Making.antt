@@ -41,8 +41,8 @@ abbrev pub HasTargetIn : List Entry → List Bool → Key → (Target → Type 0
 HasTargetIn catalog inlining key P = HasJob catalog key (λ job. HasTarget job inlining key P)
 
 -- the keys of the tiles of stored functions that it reads, rising
-abbrev pub needs_of : Key → Target → List Key
-needs_of key t = needed_keys key.program t
+abbrev pub needs_for : Key → Target → List Key
+needs_for key t = needed_keys key.program t
 
 -- ---- what is held of its needs
 
@@ -76,7 +76,12 @@ pub record IsMadeOf (s : State) (needs : List Key) (t : Target) (body : Body) : 
 
 -- a fact that is made by the job that its key names
 abbrev pub IsMade : List Entry → State → List Bool → Fact → Type 0
-IsMade catalog s inlining fact = HasTargetIn catalog inlining fact.key (λ t. IsMadeOf s (needs_of fact.key t) t fact.body)
+IsMade catalog s inlining fact = HasTargetIn catalog inlining fact.key (λ t. IsMadeOf s (needs_for fact.key t) t fact.body)
+
+-- each held fact of a tile that is needed is true
+abbrev pub AreNeedsTrue : List Entry → State → List Bool → Key → Type 0
+AreNeedsTrue catalog s inlining key =
+    (f : Fact) → holds s f ≡ true → HasTargetIn catalog inlining key (λ t. Contains (needs_for key t) f.key) → IsTrueFact catalog f
 
 -- ---- why nothing is made
 
@@ -94,10 +99,10 @@ IsMakeFault catalog s inlining key fault.Foreign = (i : ℕ) → ¬ (StandsAt ca
 IsMakeFault catalog s inlining key fault.NoSuchTile = HasJob catalog key (λ job. ¬ (HasTileAt job key.stage key.row key.col))
 IsMakeFault catalog s inlining key fault.ScratchTooBig = HasTargetIn catalog inlining key (λ t. most_scratch < scratch t)
 IsMakeFault catalog s inlining key (fault.NeedMissing need) =
-    HasTargetIn catalog inlining key (λ t. IsFirstUnready s (needs_of key t) t need (known_of s need ≡ Nothing))
+    HasTargetIn catalog inlining key (λ t. IsFirstUnready s (needs_for key t) t need (known_of s need ≡ Nothing))
 IsMakeFault catalog s inlining key (fault.NeedDisputed need) =
-    HasTargetIn catalog inlining key (λ t. IsFirstUnready s (needs_of key t) t need (known_of s need ≡ Disputed))
+    HasTargetIn catalog inlining key (λ t. IsFirstUnready s (needs_for key t) t need (known_of s need ≡ Disputed))
 IsMakeFault catalog s inlining key (fault.NeedMisshapen need) =
-    HasTargetIn catalog inlining key (λ t. IsFirstUnready s (needs_of key t) t need (IsMisshapen s t.job need))
+    HasTargetIn catalog inlining key (λ t. IsFirstUnready s (needs_for key t) t need (IsMisshapen s t.job need))
 -- memory may be refused wherever there is such a tile
 IsMakeFault catalog s inlining key fault.Memory = HasTargetIn catalog inlining key (λ t. Unit {0})

@@ -5,7 +5,7 @@ ghost use Rattle.std.specs.Prelude.{◌≡◌, ◌∷◌, [], IfOk, IfErr};
 ghost use Rattle.fact_audit.specs.Shapes.{FitsJob};
 ghost use Rattle.fact_audit.specs.TrueFacts.{IsTrueFact};
 ghost use Rattle.job.specs.Kept.{pipeline_in};
-ghost use Rattle.node_state.specs.Making.{HoldsTrueFacts, IsMade, IsMakeFault};
+ghost use Rattle.node_state.specs.Making.{AreNeedsTrue, IsMade, IsMakeFault};
 ghost use Rattle.node_state.specs.inside.Needing.{AreReady, IsNeedFault, IsNeedsFault};
 ghost use Rattle.node_state.specs.States.{facts_of};
 
@@ -35,7 +35,7 @@ impl<S: FactStore> NodeState<S> {
     pub fn make(&self, catalog: &Catalog, schedule: &Schedule, key: &Key) -> Result<Fact, MakeFault>
         ensures key { IfOk result (λ fact. fact.key ≡ key.now) }
         ensures made { IfOk result (IsMade catalog.now self.now schedule.now.inlining) }
-        ensures right { HoldsTrueFacts catalog.now self.now
+        ensures right { AreNeedsTrue catalog.now self.now schedule.now.inlining key.now
             → IfOk result (IsTrueFact catalog.now) }
         ensures fault { IfErr result
             (IsMakeFault catalog.now self.now schedule.now.inlining key.now) }
