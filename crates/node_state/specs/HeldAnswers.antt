@@ -60,7 +60,7 @@ IsAnswerFault s program job fault.Memory = AllAreReady s program job
 
 -- ---- the numbers that are held
 
--- the samples that are held of the tiles of functions: those of the key's fact, where one is held
+-- the samples that are held of a tile: those of the first fact of its key. Stages without tiles have none
 abbrev pub held_tiles : State → List ℕ → Pipeline → KnownTiles
 held_tiles s program job g i j =
     option_and_then

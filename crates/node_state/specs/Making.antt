@@ -5,7 +5,7 @@ use Rattle.std.specs.List.{flat_map}
 use Rattle.accumulators.specs.Partials.{local_totals}
 use Rattle.catalog.specs.Entries.{Entry, StandsAt, ids_in}
 use Rattle.domains.specs.declared.area.Area.{Area}
-use Rattle.fact_audit.specs.TrueFacts.{HasJob}
+use Rattle.fact_audit.specs.TrueFacts.{HasJob, IsTrueFact}
 use Rattle.grouping.specs.Costs.{scratch, most_scratch}
 use Rattle.grouping.specs.Schedules.{is_function}
 use Rattle.grouping.specs.Targets.{Target, target_over}
@@ -23,8 +23,8 @@ use Rattle.tile_run.specs.Local.{local_value}
 use Rattle.tile_run.specs.Work.{is_accumulator_at}
 use Rattle.node_state.specs.declared.make_fault.MakeFault.{MakeFault}
 use Rattle.node_state.specs.declared.make_fault.MakeFault.TheVariants as fault
-use Rattle.node_state.specs.States.{State, facts_of}
-pub use Rattle.node_state.specs.HeldFacts.{HoldsTrueFacts, IsMisshapen, IsReady, samples_in}
+use Rattle.node_state.specs.States.{State, facts_of, holds}
+pub use Rattle.node_state.specs.HeldFacts.{IsMisshapen, IsReady, samples_in}
 use Rattle.node_state.specs.Answers.{known_of}
 use Rattle.node_state.specs.declared.answers.Known.TheVariants.{Nothing, Disputed}
 

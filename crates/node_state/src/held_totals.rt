@@ -98,7 +98,8 @@ impl<S: FactStore> Held<'_, S> {
     // The bins of the partial that is held of a key, if it is one's.
     fn bins(&self, key: &Key) -> Option<&[i64]>
         requires { IsReady self.now.state.now (pipeline_in self.now.job.now) key.now }
-        ensures some { IfSome result (λ bins. partials_of self.now.state.now key.now ≡ bins.now ∷ []) }
+        ensures some { IfSome result
+            (λ bins. partials_of self.now.state.now key.now ≡ bins.now ∷ []) }
         ensures none { IfNone result (partials_of self.now.state.now key.now ≡ []) }
         ensures count { IfSome result (λ bins. (span : Ends)
             → stage_bins (slice_get (pipeline_in self.now.job.now).stages key.now.stage) ≡ Some span
