@@ -1,0 +1,3 @@
+pub mod StateLaws
+pub mod TakingLaws
+pub mod Following

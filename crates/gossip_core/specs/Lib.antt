@@ -1,0 +1,5 @@
+pub mod Networks
+pub mod Steps
+pub mod StepTable
+pub mod Histories
+pub mod Taking

@@ -1,0 +1,88 @@
+//! Why an event is refused.
+
+ghost use Rattle.std.specs.Prelude.{◌≡◌};
+ghost use Rattle.gossip_core.specs.declared.fault.StepFault.TheVariants.{Memory};
+
+use identity::Key;
+use node_state::MakeFault;
+use std::alloc::{AllocError, AllocFailed};
+use thiserror::Error;
+
+/// The first fault of an event, in this order.
+#[derive(Clone, Copy, Debug, PartialEq, Eq, Error)]
+pub enum StepFault {
+    /// 1: a node is not there.
+    #[error("no such node")]
+    NoSuchNode,
+    /// 2: the message was never sent.
+    #[error("no such message")]
+    NoSuchMessage,
+    /// 3: the message is for another node.
+    #[error("the message is for another node")]
+    WrongAddress,
+    /// 4: the node can't make the fact. Never for memory.
+    #[error("the fact can't be made: {0}")]
+    Make(MakeFault),
+    /// 5: the least of the keys of which the node holds nothing.
+    #[error("no fact of a key is held")]
+    NotHeld(Key),
+    /// 6: there is no memory for what the event asks.
+    #[error("out of memory")]
+    Memory,
+}
+
+impl StepFault {
+    ghost use Rattle.std.specs.Prelude.{◌↔◌, IsTrue};
+    ghost use Rattle.gossip_core.specs.StepTable.{name_of, number_of};
+
+    /// The fault's number, from 1 to 6.
+    pub fn number(self) -> u8
+        ensures { result ≡ number_of self }
+    {
+        match self {
+            StepFault::NoSuchNode => 1,
+            StepFault::NoSuchMessage => 2,
+            StepFault::WrongAddress => 3,
+            StepFault::Make(_) => 4,
+            StepFault::NotHeld(_) => 5,
+            StepFault::Memory => 6,
+        }
+    }
+
+    /// The fault's name.
+    pub fn name(self) -> &'static str
+        ensures { result.now ≡ name_of self }
+    {
+        match self {
+            StepFault::NoSuchNode => "NoSuchNode",
+            StepFault::NoSuchMessage => "NoSuchMessage",
+            StepFault::WrongAddress => "WrongAddress",
+            StepFault::Make(_) => "Make",
+            StepFault::NotHeld(_) => "NotHeld",
+            StepFault::Memory => "Memory",
+        }
+    }
+
+    /// Whether memory was refused.
+    pub fn is_memory(self) -> bool
+        ensures { IsTrue result ↔ self ≡ Memory }
+    {
+        matches!(self, StepFault::Memory)
+    }
+}
+
+impl From<AllocError> for StepFault {
+    ghost from_gives = { λ _ fault. fault ≡ Memory };
+
+    fn from(_fault: AllocError) -> StepFault {
+        StepFault::Memory
+    }
+}
+
+impl<T: Drop> From<AllocFailed<T>> for StepFault {
+    ghost from_gives = { λ _ fault. fault ≡ Memory };
+
+    fn from(_fault: AllocFailed<T>) -> StepFault {
+        StepFault::Memory
+    }
+}
