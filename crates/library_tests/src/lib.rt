@@ -3,8 +3,6 @@
 #![tactic(auto)]
 
 #[cfg(test)]
-mod answers;
-#[cfg(test)]
 mod areas;
 #[cfg(test)]
 mod bound_jobs;
@@ -17,8 +15,6 @@ mod identities;
 #[cfg(test)]
 mod jobs;
 #[cfg(test)]
-mod makes;
-#[cfg(test)]
 mod pictures;
 #[cfg(test)]
 mod plans;
@@ -26,8 +22,6 @@ mod plans;
 mod runs;
 #[cfg(test)]
 mod schedules;
-#[cfg(test)]
-mod scripts;
 #[cfg(test)]
 mod stops;
 #[cfg(test)]
