@@ -54,11 +54,10 @@ impl Scheduled {
     }
 
     // Fails where a fact of the key is made, or where another fault is told.
-    fn lacks(&self, state: &NodeState, key: &Key, wanted: MakeFault) -> Result<(), Fail> {
-        match state.make(&self.jobs, &self.schedule, key) {
-            Ok(_) => Err(Fail::new("a fact is made")),
-            Err(fault) => holds(Some(fault == wanted), wanted.name()),
-        }
+    fn lacks(&self, state: &NodeState, key: &Key, wanted: &MakeFault) -> Result<(), Fail> {
+        let made = state.make(&self.jobs, &self.schedule, key);
+        let fault = made.err().ok_or("a fact is made")?;
+        holds(Some(fault == *wanted), wanted.name())
     }
 }
 
@@ -136,16 +135,17 @@ fn has_no_tile(
     tile: (u16, u32, u32),
 ) -> Result<(), Fail> {
     let key = scheduled.key(tile.0, tile.1, tile.2)?;
-    scheduled.lacks(state, &key, MakeFault::NoSuchTile)
+    scheduled.lacks(state, &key, &MakeFault::NoSuchTile)
 }
 
 fn tells_what_is_not_there(alloc: Global, chain: &Scheduled) -> Result<(), Fail> {
     let state = NodeState::new(alloc);
+    let key = chain.key(2, 0, 0)?;
     let foreign = Key {
         input: InputId::new([7; 32]),
-        ..chain.key(2, 0, 0)?
+        ..key
     };
-    chain.lacks(&state, &foreign, MakeFault::Foreign)?;
+    chain.lacks(&state, &foreign, &MakeFault::Foreign)?;
     has_no_tile(chain, &state, (0, 0, 0))?;
     has_no_tile(chain, &state, (2, 0, 1))?;
     has_no_tile(chain, &state, (3, 0, 0))
@@ -158,8 +158,8 @@ fn keys_of_no_tile(rt: HostRuntime) -> Result<(), Fail> {
 }
 
 // Takes a tile of these numbers.
-fn take_tile(alloc: Global, state: &mut NodeState, key: Key, numbers: &[i32]) -> Result<(), Fail> {
-    take(state, tile(alloc, key, numbers)?)
+fn take_tile(alloc: Global, state: &mut NodeState, key: &Key, numbers: &[i32]) -> Result<(), Fail> {
+    take(state, tile(alloc, *key, numbers)?)
 }
 
 fn tells_the_least(alloc: Global, chain: &Scheduled) -> Result<(), Fail> {
@@ -167,12 +167,12 @@ fn tells_the_least(alloc: Global, chain: &Scheduled) -> Result<(), Fail> {
     let key = chain.key(2, 0, 0)?;
     let first = chain.key(1, 0, 0)?;
     let second = chain.key(1, 0, 1)?;
-    take_tile(alloc, &mut state, second, &[9, 9, 9])?;
-    chain.lacks(&state, &key, MakeFault::NeedMissing(first))?;
-    take_tile(alloc, &mut state, first, &[9, 9, 9, 9])?;
-    chain.lacks(&state, &key, MakeFault::NeedMisshapen(second))?;
-    take_tile(alloc, &mut state, first, &[9, 9, 9, 8])?;
-    chain.lacks(&state, &key, MakeFault::NeedDisputed(first))
+    take_tile(alloc, &mut state, &second, &[9, 9, 9])?;
+    chain.lacks(&state, &key, &MakeFault::NeedMissing(first))?;
+    take_tile(alloc, &mut state, &first, &[9, 9, 9, 9])?;
+    chain.lacks(&state, &key, &MakeFault::NeedMisshapen(second))?;
+    take_tile(alloc, &mut state, &first, &[9, 9, 9, 8])?;
+    chain.lacks(&state, &key, &MakeFault::NeedDisputed(first))
 }
 
 #[test]
@@ -184,7 +184,7 @@ fn the_least_need_that_is_not_ready_is_told(rt: HostRuntime) -> Result<(), Fail>
 fn lacks_its_first_need(alloc: Global, chain: &Scheduled) -> Result<(), Fail> {
     let first = chain.key(1, 0, 0)?;
     let key = chain.key(2, 0, 0)?;
-    chain.lacks(&NodeState::new(alloc), &key, MakeFault::NeedMissing(first))
+    chain.lacks(&NodeState::new(alloc), &key, &MakeFault::NeedMissing(first))
 }
 
 #[test]
@@ -195,7 +195,7 @@ fn a_tile_without_its_needs_is_not_made(rt: HostRuntime) -> Result<(), Fail> {
 
 fn lacks_room(alloc: Global, big: &Scheduled) -> Result<(), Fail> {
     let key = big.key(2, 0, 0)?;
-    big.lacks(&NodeState::new(alloc), &key, MakeFault::ScratchTooBig)
+    big.lacks(&NodeState::new(alloc), &key, &MakeFault::ScratchTooBig)
 }
 
 #[test]

@@ -9,10 +9,12 @@ use identity::Key;
 use std::alloc::Global;
 use std::test::Fail;
 
-const ONE: &str = "image I(1,1); func f(x in [0..0], y in [0..0]) { else : I(x,y); } output f max 255;";
+const ONE: &str =
+    "image I(1,1); func f(x in [0..0], y in [0..0]) { else : I(x,y); } output f max 255;";
 
 /// A line of each kind, among lines that tell nothing. The last one has no line feed.
-const EACH: &[u8] = b"# events\nmake 0 0:1:2:3\n\nsend 1 255\nsend 1 0 0:1:0:0 0:1:2:3\n#\ndeliver 007 4294967295\nmerge 2 3\nkeep 0\nrestart 9";
+const EACH: &[u8] =
+    b"# events\nmake 0 0:1:2:3\n\nsend 1 255\nsend 1 0 0:1:0:0 0:1:2:3\n#\ndeliver 007 4294967295\nmerge 2 3\nkeep 0\nrestart 9";
 
 fn jobs(alloc: Global) -> Result<Catalog, Fail> {
     let mut jobs = Catalog::new(alloc);
@@ -59,11 +61,14 @@ fn each_kind_of_line(rt: HostRuntime) -> Result<(), Fail> {
     for event in &events {
         lines.push(shown(alloc, &jobs, event)?)?;
     }
-    let wanted = r#"["make 0", "send 1 255 0", "send 1 0 2", "deliver 7 4294967295", "merge 2 3", "keep 0", "restart 9"]"#;
+    let wanted =
+        r#"["make 0", "send 1 255 0", "send 1 0 2", "deliver 7 4294967295", "merge 2 3", "keep 0", "restart 9"]"#;
     tells(alloc, &lines, wanted)?;
-    match &events[2] {
-        Event::Send { keys, .. } => holds(
-            Some(matches!(keys.as_slice(), [a, b] if is_key(&jobs, a, 1, 0, 0) && is_key(&jobs, b, 1, 2, 3))),
+    match events.get(2) {
+        Some(Event::Send { keys, .. }) => holds(
+            Some(
+                matches!(keys.as_slice(), [a, b] if is_key(&jobs, a, 1, 0, 0) && is_key(&jobs, b, 1, 2, 3)),
+            ),
             "the keys that are sent",
         ),
         _ => Err(Fail::new("a sending")),
@@ -82,9 +87,33 @@ fn lines_of_no_form(rt: HostRuntime) -> Result<(), Fail> {
     let alloc = rt.alloc();
     let jobs = jobs(alloc)?;
     let lines = [
-        "keep", "keep 256", "keep -1", "keep +1", "keep  1", "keep 1 ", " keep 1", "keep 1 2", "Keep 1", "keep 1\r", " ", " # no",
-        "make 0", "make 0 0:1:0", "make 0 0:1:0:0:0", "make 0 0:65536:0:0", "make 0 0:1:4294967296:0", "make 0 0:1:0:0 0:1:0:0",
-        "make 0 :1:0:0", "make 0 0x0:1:0:0", "deliver 0 4294967296", "deliver 0", "merge 0", "send 0", "restart", "retire 0 0", "keep \u{660}",
+        "keep",
+        "keep 256",
+        "keep -1",
+        "keep +1",
+        "keep  1",
+        "keep 1 ",
+        " keep 1",
+        "keep 1 2",
+        "Keep 1",
+        "keep 1\r",
+        " ",
+        " # no",
+        "make 0",
+        "make 0 0:1:0",
+        "make 0 0:1:0:0:0",
+        "make 0 0:65536:0:0",
+        "make 0 0:1:4294967296:0",
+        "make 0 0:1:0:0 0:1:0:0",
+        "make 0 :1:0:0",
+        "make 0 0x0:1:0:0",
+        "deliver 0 4294967296",
+        "deliver 0",
+        "merge 0",
+        "send 0",
+        "restart",
+        "retire 0 0",
+        "keep \u{660}",
     ];
     for line in &lines {
         fails(alloc, &jobs, line, "BadLine { line: 1 }")?;
@@ -102,12 +131,7 @@ fn the_first_faulty_line(rt: HostRuntime) -> Result<(), Fail> {
         "keep 0\n\n# no\nmake 0 1:1:0:0\nkeep",
         "NoSuchJob { line: 4 }",
     )?;
-    fails(
-        alloc,
-        &jobs,
-        "send 0 0 1:1:0:0 0:0",
-        "BadLine { line: 1 }",
-    )?;
+    fails(alloc, &jobs, "send 0 0 1:1:0:0 0:0", "BadLine { line: 1 }")?;
     fails(
         alloc,
         &jobs,
