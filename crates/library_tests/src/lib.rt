@@ -3,6 +3,8 @@
 #![tactic(auto)]
 
 #[cfg(test)]
+mod answers;
+#[cfg(test)]
 mod areas;
 #[cfg(test)]
 mod bound_jobs;
@@ -15,6 +17,8 @@ mod identities;
 #[cfg(test)]
 mod jobs;
 #[cfg(test)]
+mod makes;
+#[cfg(test)]
 mod pictures;
 #[cfg(test)]
 mod plans;
@@ -22,6 +26,8 @@ mod plans;
 mod runs;
 #[cfg(test)]
 mod schedules;
+#[cfg(test)]
+mod scripts;
 #[cfg(test)]
 mod stops;
 #[cfg(test)]
