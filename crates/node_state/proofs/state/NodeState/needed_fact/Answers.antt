@@ -13,12 +13,14 @@ pub returns-then-not-shape_ok-clause-fault : goal.returns-then-not-shape_ok-clau
 returns-then-not-shape_ok-clause-fault g c =
     let s = c.args.self.now in
     let need = c.args.need.now in
-    let there : slice_get (facts_of s need) 0 ≡ Some c.in-Some.fact.now = sym c.nth.ensures ∙ ap option_copied c.in-Some.is in
-    (refl, record {
+    let there : slice_get (facts_of s need) 0 ≡ Some c.in-Some.fact.now = sym c.nth.ensures ∙ ap option_copied c.in-Some.is in (
+      refl,
+      record {
         fact = c.in-Some.fact.now;
         alone = the_one s need (sym c.in-One.is ∙ c.knows.ensures) c.in-Some.fact.now there;
         is = λ fits. true≢false (sym (c.shape_ok.ensures.1 fits) ∙ c.if-not-shape_ok.true);
-      })
+      },
+    )
 
 pub returns-in_ok-clone-in-One-clause-one : goal.returns-in_ok-clone-in-One-clause-one
 returns-in_ok-clone-in-One-clause-one g c =
