@@ -1,0 +1,13 @@
+//! Worlds: nodes that make, send, deliver, merge, keep and restart, over every list of events.
+#![tactic(auto)]
+
+mod fault;
+mod network;
+mod node;
+mod planned;
+mod ran;
+mod schedules;
+
+pub use fault::{FinishFault, WorldFault};
+pub use ran::Ran;
+pub use schedules::NodeSchedules;
