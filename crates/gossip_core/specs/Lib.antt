@@ -2,4 +2,5 @@ pub mod Networks
 pub mod Steps
 pub mod StepTable
 pub mod Histories
+pub mod Truths
 pub mod Taking
