@@ -1,5 +1,5 @@
 -- What is made of a tile is true, where all is true that is held of the tiles that it needs.
-use Rattle.std.proofs.Common.{ℕ, ℤ, ◌≡◌, Bool, List, map, refl, sym, ap, ◌∙◌}
+use Rattle.std.proofs.Common.{ℕ, ◌≡◌, Bool, List, map, refl, sym, ap, ◌∙◌}
 use Rattle.std.specs.List.{flat_map}
 use Rattle.accumulators.proofs.LastStepIsTile.{only_area}
 use Rattle.accumulators.proofs.TrueTilesGiveTotals.{layout_totals_true}

@@ -1,14 +1,14 @@
 -- Events that are accepted leave true what was true, and make nothing false.
-use Rattle.std.proofs.Common.{ap, sym, ◌∙◌, subst, inl, inr}
+use Rattle.std.proofs.Common.{sym, ◌∙◌, subst, inl, inr}
 use Rattle.std.proofs.lemmas.Bool.{true≢false}
-use Rattle.std.specs.Prelude.{◌≡◌, ℕ, zero, suc, ◌<◌, ◌==◌, ◌⊎◌, Bool, true, false, cond, List, [], ◌∷◌, ◌++◌, length}
+use Rattle.std.specs.Prelude.{ℕ, zero, suc, ◌<◌, ◌==◌, Bool, true, false, cond, List, [], ◌∷◌, ◌++◌, length}
 use Rattle.catalog.specs.Entries.{AreJobs, Entry, IsCatalog}
 use Rattle.fact_audit.specs.TrueFacts.{IsTrueFact}
 use Rattle.fact_store.proofs.SetLaws.{holds-nothing, in_join, in_with_fact}
 use Rattle.identity.specs.declared.key.Key.{Key}
 use Rattle.tile_fact.specs.declared.fact.Fact.{Fact}
 use Rattle.node_state.specs.HeldAnswers.{HoldsTrueFacts}
-use Rattle.node_state.specs.States.{State, holds, join, lent, nothing, with_fact}
+use Rattle.node_state.specs.States.{State, join, lent, nothing, with_fact}
 use Rattle.node_state.proofs.LentLaws.{in_lent}
 use Rattle.gossip_events.specs.declared.event.Event.{Event}
 use Rattle.gossip_events.specs.declared.event.Event.TheVariants.{Make, Send, Deliver, Merge, Keep, Restart}
@@ -19,10 +19,6 @@ use Rattle.gossip_core.specs.Truths.{AllTrue}
 use Rattle.gossip_core.proofs.Following.{within_first}
 use Rattle.gossip_core.proofs.MadeTruth.{made_true}
 use Rattle.gossip_core.proofs.StateLaws.{facts_found, held_keep, held_set, kept_keep, kept_set, states_start}
-
-either : (P : State → Type 0) (b : Bool) (s t : State) → P s → P t → P (cond b s t)
-either P true s t one other = one
-either P false s t one other = other
 
 -- what holds of each message, of one more and of none holds of each then
 sent_more : (P : State → Type 0) (ms : List Sent) (m : Sent) → P nothing → P m.facts → ((k : ℕ) → P (facts_at ms k)) → (k : ℕ)
@@ -48,6 +44,10 @@ module _ (jobs : List Entry) where
   true_lent : (s : State) (keys : List Key) → HoldsTrueFacts jobs s → HoldsTrueFacts jobs (lent s keys)
   true_lent s keys all f has = all f ((in_lent s keys f).0 has).0
 
+  true_either : (b : Bool) (s t : State) → HoldsTrueFacts jobs s → HoldsTrueFacts jobs t → HoldsTrueFacts jobs (cond b s t)
+  true_either true s t one other = one
+  true_either false s t one other = other
+
   -- ---- worlds
 
   true_start : (size : ℕ) → AllTrue jobs (start size)
@@ -66,19 +66,21 @@ module _ (jobs : List Entry) where
         sent = sent_more (HoldsTrueFacts jobs) w.messages (record { to = to; facts = s }) true_nothing is all.sent;
       }
 
-  true_held : (w : Network) (a : ℕ) (s : State) → a < length w.nodes → AllTrue jobs w → HoldsTrueFacts jobs s → AllTrue jobs (with_held w a s)
+  true_held : (w : Network) (a : ℕ) (s : State) → a < length w.nodes → AllTrue jobs w → HoldsTrueFacts jobs s
+      → AllTrue jobs (with_held w a s)
   true_held w a s within all is =
       record {
-        holds = λ n. subst (HoldsTrueFacts jobs) (sym (held_set w a s n within)) (either (HoldsTrueFacts jobs) (a == n) s (held w n) is (all.holds n));
+        holds = λ n. subst (HoldsTrueFacts jobs) (sym (held_set w a s n within)) (true_either (a == n) s (held w n) is (all.holds n));
         keeps = λ n. subst (HoldsTrueFacts jobs) (sym (kept_set w a s n within)) (all.keeps n);
         sent = all.sent;
       }
 
-  true_kept : (w : Network) (a : ℕ) (s : State) → a < length w.nodes → AllTrue jobs w → HoldsTrueFacts jobs s → AllTrue jobs (with_kept w a s)
+  true_kept : (w : Network) (a : ℕ) (s : State) → a < length w.nodes → AllTrue jobs w → HoldsTrueFacts jobs s
+      → AllTrue jobs (with_kept w a s)
   true_kept w a s within all is =
       record {
         holds = λ n. subst (HoldsTrueFacts jobs) (sym (held_keep w a s n within)) (all.holds n);
-        keeps = λ n. subst (HoldsTrueFacts jobs) (sym (kept_keep w a s n within)) (either (HoldsTrueFacts jobs) (a == n) s (kept w n) is (all.keeps n));
+        keeps = λ n. subst (HoldsTrueFacts jobs) (sym (kept_keep w a s n within)) (true_either (a == n) s (kept w n) is (all.keeps n));
         sent = all.sent;
       }
 
