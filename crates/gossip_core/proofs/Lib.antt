@@ -1,3 +1,5 @@
 pub mod StateLaws
 pub mod TakingLaws
 pub mod Following
+pub mod MadeTruth
+pub mod TruthLaws

@@ -1,12 +1,16 @@
 //! What the definitions amount to, proved once for the crates above. A law is a function whose clauses are the law.
 
-ghost use Rattle.std.specs.Prelude.{◌≡◌, ℕ, ◌↔◌, List, ◌∷◌};
+ghost use Rattle.std.specs.Prelude.{◌≡◌, ℕ, ◌↔◌, Bool, List, ◌∷◌};
+ghost use Rattle.catalog.specs.Entries.{AreJobs, Entry, IsCatalog};
+ghost use Rattle.fact_audit.specs.TrueFacts.{IsTrueFact};
 ghost use Rattle.gossip_core.specs.Histories.{Leads, start};
 ghost use Rattle.gossip_core.specs.Networks.{Network};
 ghost use Rattle.gossip_core.specs.Steps.{Accepts, Work, held, kept};
 ghost use Rattle.gossip_core.specs.Taking.{IsTaken, IsTakenAtKeep, Took};
+ghost use Rattle.gossip_core.specs.Truths.{AllTrue};
 ghost use Rattle.gossip_events.specs.declared.event.Event.{Event};
 ghost use Rattle.gossip_events.specs.declared.event.Event.TheVariants.{Merge};
+ghost use Rattle.node_state.specs.Making.{AreNeedsTrue, IsMade};
 ghost use Rattle.node_state.specs.States.{IsSubset, State};
 ghost use Rattle.tile_fact.specs.declared.fact.Fact.{Fact};
 
@@ -38,4 +42,23 @@ pub fn merges_are_least()
         → (s : State) → IsSubset (held w a) s → IsSubset (held w b) s → IsSubset (held new a) s }
     ensures other { (u : Work) (w new : Network) (a b n : ℕ) → Accepts u w (Merge a b) new
         → ¬ (a ≡ n) → held new n ≡ held w n }
+{}
+
+/// What is made of a tile is true, where all is true that is held of the tiles that it needs.
+pub fn made_facts_are_true()
+    ensures { (jobs : List Entry) (s : State) (inlining : List Bool) (fact : Fact)
+        → IsCatalog jobs → AreJobs jobs → AreNeedsTrue jobs s inlining fact.key
+        → IsMade jobs s inlining fact → IsTrueFact jobs fact }
+{}
+
+/// In a world of true facts an event that is accepted brings true facts alone.
+pub fn accepted_events_keep_truth()
+    ensures { (u : Work) (w new : Network) (e : Event) → IsCatalog u.jobs → AreJobs u.jobs
+        → AllTrue u.jobs w → Accepts u w e new → AllTrue u.jobs new }
+{}
+
+/// So all that nodes hold, keep and send is true in each world to which events lead from nodes that hold nothing.
+pub fn worlds_hold_true_facts()
+    ensures { (u : Work) (size : ℕ) (h accepted : List Event) (w : Network) → IsCatalog u.jobs
+        → AreJobs u.jobs → Leads u size h accepted w → AllTrue u.jobs w }
 {}
