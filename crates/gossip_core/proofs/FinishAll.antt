@@ -90,10 +90,13 @@ module _ (u : Work) (n j : ℕ) (entry : Entry) (inlining : List Bool) (is : IsC
       → ((after : Network) → suc sent ≡ length after.messages → IsUnderWay after ts → Finishes after rest)
       → Finishes w (Make n (key t) ∷ Deliver n sent ∷ rest)
   one_made w sent t ts rest count under lacked further = (
-    (can_make w t ts under lacked, λ next ok. (
-      delivery_goes u n (key t) next sent (told n (made next ok).fact) (here next ok) (there next ok) refl,
-      λ after goes. (finish next after ok goes).0,
-    )),
+    (
+      can_make w t ts under lacked,
+      λ next ok. (
+        delivery_goes u n (key t) next sent (told n (made next ok).fact) (here next ok) (there next ok) refl,
+        λ after goes. (finish next after ok goes).0,
+      ),
+    ),
     λ new all. (finish all.0 all.2.0 all.1 all.2.1).1 new all.2.2,
   )
     where

@@ -1,5 +1,5 @@
 -- What accepted makings and deliveries do, and that they are accepted.
-use Rattle.std.proofs.Common.{arith, ℕ, suc, ◌+◌, ◌<◌, ◌≤◌, ◌≡◌, inl, inr, refl, sym, ap, ◌∙◌, subst, Bool, true, cond, Some, List, [], ◌∷◌, ◌++◌, length}
+use Rattle.std.proofs.Common.{arith, ℕ, suc, ◌<◌, ◌≤◌, ◌≡◌, inl, inr, refl, sym, ap, ◌∙◌, subst, true, cond, Some, List, [], ◌∷◌, ◌++◌, length}
 use Rattle.std.specs.Prelude.{◌≢◌, ◌==◌, slice_get}
 use Rattle.std.specs.List.{Any}
 use Rattle.std.proofs.lemmas.Bool.{eq-eqb}
@@ -91,33 +91,30 @@ module _ (u : Work) (n : ℕ) (key : Key) (w : Network) where
   itself : (s t : State) → cond (n == n) s t ≡ s
   itself s t = ap (λ b. cond b s t) (eq-eqb n n refl)
 
+  -- the fact is joined to what the node held
+  joined : (next after : Network) → n < length w.nodes → (made : IsMadeNext next) → Accepts u next (Deliver n (length w.messages)) after
+      → held after n ≡ join (held w n) (with_fact nothing made.fact)
+  joined next after here made goes =
+      let same = same_Some goes.1.0 (told n made.fact) (sym goes.1.1 ∙ message_there next made) in
+      let nodes : length next.nodes ≡ length w.nodes = ap length made.nodes in
+      ap (λ (v : Network). held v n) goes.1.3
+      ∙ held_set next n (join (held next n) goes.1.0.facts) n (omega arith)
+      ∙ itself (join (held next n) goes.1.0.facts) (held next n)
+      ∙ ap (λ (x : Sent). join (held next n) x.facts) same
+      ∙ ap (λ ns. join (states_at ns n).held (with_fact nothing made.fact)) made.nodes
+
   pub gained : (next after : Network) → n < length w.nodes → Accepts u w (Make n key) next
       → Accepts u next (Deliver n (length w.messages)) after → IsGained after
   gained next after here ok goes =
       let made = made_next next ok in
-      let s = held next n in
-      let m : Sent = goes.1.0 in
-      let same : m ≡ told n made.fact = same_Some m (told n made.fact) (sym goes.1.1 ∙ message_there next made) in
-      let nodes : length next.nodes ≡ length w.nodes = ap length made.nodes in
-      let state : held after n ≡ join s (with_fact nothing made.fact) =
-          ap (λ (v : Network). held v n) goes.1.3
-          ∙ held_set next n (join s m.facts) n (omega arith)
-          ∙ itself (join s m.facts) s
-          ∙ ap (λ (x : Sent). join s x.facts) same in
-      let before : held w n ≡ s = ap (λ ns. (states_at ns n).held) (sym made.nodes) in
+      let new = with_fact nothing made.fact in
+      let state = joined next after here made goes in
+      let has = subset_right (held w n) new made.fact (with_fact_has nothing made.fact made.fact (inl refl)) in
       record {
-        nodes =
-            ap (λ (v : Network). length v.nodes) goes.1.3
-            ∙ length-slice_set_nodes next.nodes n _
-            ∙ nodes;
+        nodes = ap (λ (v : Network). length v.nodes) goes.1.3 ∙ length-slice_set_nodes next.nodes n _ ∙ ap length made.nodes;
         messages =
             ap (λ (v : Network). length v.messages) goes.1.3 ∙ ap length made.messages
             ∙ length_push w.messages (told n made.fact) ∙ omega arith;
-        grown = subst (IsSubset (held w n)) (sym state)
-            (subst (λ (x : State). IsSubset x (join s (with_fact nothing made.fact))) (sym before)
-            (subset_left s (with_fact nothing made.fact)));
-        has = is_held (held after n) key made.fact
-            (subst (λ (x : State). holds x made.fact ≡ true) (sym state)
-            (subset_right s (with_fact nothing made.fact) made.fact (with_fact_has nothing made.fact made.fact (inl refl))))
-            made.own;
+        grown = subst (IsSubset (held w n)) (sym state) (subset_left (held w n) new);
+        has = is_held (held after n) key made.fact (subst (λ (x : State). holds x made.fact ≡ true) (sym state) has) made.own;
       }

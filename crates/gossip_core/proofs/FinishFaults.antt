@@ -1,5 +1,5 @@
 -- A node that holds, of all work tiles of lower stages, true facts can make a work tile that has room.
-use Rattle.std.proofs.Common.{ℕ, ◌<◌, ◌≡◌, refl, sym, ap, ◌∙◌, subst, Bool, true, false, Some, List}
+use Rattle.std.proofs.Common.{ℕ, ◌<◌, ◌≡◌, refl, sym, ap, ◌∙◌, subst, Bool, false, List}
 use Rattle.std.specs.Prelude.{◌≢◌, slice_get}
 use Rattle.std.specs.List.{Contains}
 use Rattle.std.proofs.lemmas.Bool.{true≢false}
@@ -8,7 +8,7 @@ use Rattle.catalog.specs.Entries.{Entry, IsCatalog, StandsAt, ids_in, ids_of}
 use Rattle.domains.specs.declared.area.Area.{Area}
 use Rattle.fact_audit.specs.TrueFacts.{HasJob}
 use Rattle.grouping.specs.Costs.{most_scratch, scratch}
-use Rattle.grouping.specs.Targets.{Target, target_over}
+use Rattle.grouping.specs.Targets.{target_over}
 use Rattle.identity.specs.declared.key.Key.{Key}
 use Rattle.job.specs.Answers.{Tile}
 use Rattle.job.specs.Identity.{HasTileAt}
@@ -72,8 +72,8 @@ module _ (u : Work) (n j : ℕ) (entry : Entry) (inlining : List Bool) (is : IsC
         let target = target_over job inlining t.stage area in
         let from = Contains-from_map (key_of (ids_of entry).program job) (needs target) need asked in
         let needed = from_needs target from.0 good from.1 in
-        let some = lower from.0 (needed_is_work job inlining t.stage area from.0 needed)
-            (needed_is_lower job inlining t.stage area from.0 needed good) in
+        let work = needed_is_work job inlining t.stage area from.0 needed in
+        let some = lower from.0 work (needed_is_lower job inlining t.stage area from.0 needed good) in
         subst IsHeldNeed from.2 (refl, some)
 
     no_unready : (need : Key) (Reason : Type 0) → (IsHeldNeed need → Reason → ⊥)

@@ -6,3 +6,5 @@ pub mod FinishNeeds
 pub mod FinishEvents
 pub mod FinishFaults
 pub mod FinishAll
+pub mod FinishWanted
+pub mod FinishStart
