@@ -77,7 +77,8 @@ module _ (u : Work) (n j : ℕ) (entry : Entry) (inlining : List Bool) (is : IsC
   can_make w t ts under lacked =
       let work = under.work t (Contains-here t ts) in
       make_goes u n (key t) w under.here
-      (λ fault other cannot. no_make_fault u n j entry inlining is planned (held w n) t good (under.truth.holds n) work (roomy t work lacked)
+      (λ fault other cannot. no_make_fault u n j entry inlining is planned (held w n) t good (under.truth.holds n) work
+      (roomy t work lacked)
       (λ m lower low. elim (under.held_or_left m lower) [
         | inl some ↦ some
         | inr left ↦ absurd (none_lower job t ts m under.order left low)

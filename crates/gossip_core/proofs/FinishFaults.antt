@@ -32,7 +32,8 @@ use Rattle.gossip_core.specs.Steps.{CannotMake, IsScheduleFor, Work, held}
 use Rattle.gossip_core.proofs.FinishLists.{found_in}
 use Rattle.gossip_core.proofs.FinishNeeds.{needed_is_lower, needed_is_work, none_disputed, none_missing, none_misshapen}
 
-module _ (u : Work) (n j : ℕ) (entry : Entry) (inlining : List Bool) (is : IsCatalog u.jobs) (planned : IsPlanned u n j entry inlining) where
+module _ (u : Work) (n j : ℕ) (entry : Entry) (inlining : List Bool) (is : IsCatalog u.jobs)
+    (planned : IsPlanned u n j entry inlining) where
   abbrev job : Pipeline
   job = entry.pipeline
 
@@ -94,7 +95,8 @@ module _ (u : Work) (n j : ℕ) (entry : Entry) (inlining : List Bool) (is : IsC
         no_unready need (known_of s need ≡ known.Disputed)
         (λ of two. none_disputed u.jobs entry s is (found_in u.jobs j entry planned.there) right need two) has
     no_make_fault (makes.NeedMisshapen need) other has =
-        let at = of_job t (λ x. HasTarget x inlining (key t) (λ y. IsFirstUnready s (needs_for (key t) y) y need (IsMisshapen s y.job need))) has in
+        let at = of_job t
+        (λ x. HasTarget x inlining (key t) (λ y. IsFirstUnready s (needs_for (key t) y) y need (IsMisshapen s y.job need))) has in
         none_misshapen u.jobs entry s is (found_in u.jobs j entry planned.there) right need
         (held_need at.area need at.holds.needed).0 at.holds.reason
     no_make_fault makes.Memory other has = other refl

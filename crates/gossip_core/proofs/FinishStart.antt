@@ -51,7 +51,9 @@ module _ (u : Work) (w : Network) (n j : ℕ) (entry : Entry) (inlining : List B
   }
 
   all : Finishes u n j entry inlining is good planned keeps (held w n) roomy w events
-  all = finishes u n j entry inlining is good planned keeps (held w n) roomy (work_tiles entry.pipeline inlining) w (length w.messages) refl under
+  all =
+      finishes u n j entry inlining is good planned keeps (held w n) roomy (work_tiles entry.pipeline inlining) w (length w.messages)
+      refl under
 
   pub none_refused : NoneRefused u w events
   none_refused = all.0

@@ -28,11 +28,13 @@ a_function (accumulator fold bins value bin) is = absurd is
 pub output_is_function : (job : Pipeline) (g : ℕ) → IsJob job → is_output job g ≡ true → is_function job g ≡ true
 output_is_function job g good = by job.output refl
   where
-    by : (o : Option Output) → job.output ≡ o → option_map_or (λ x. list_any (λ h. h == g) x.stages) o false ≡ true → is_function job g ≡ true
+    by : (o : Option Output) → job.output ≡ o → option_map_or (λ x. list_any (λ h. h == g) x.stages) o false ≡ true
+        → is_function job g ≡ true
     by None there is = absurd (false≢true is)
     by (Some o) there is =
-        let own = All-contains (IsOutputPlane job (height_of job (slice_index o.stages 0)) (width_of job (slice_index o.stages 0))) o.stages g
-        (good.output o there).equal_sides (among o.stages g is) in
+        let head = slice_index o.stages 0 in
+        let own = All-contains (IsOutputPlane job (height_of job head) (width_of job head)) o.stages g (good.output o there).equal_sides
+        (among o.stages g is) in
         ap (λ (s : Option Stage). option_map_or (λ x. is_function_body x.body) s false) own.there ∙ a_function own.stage.body own.function
 
 stored : (f i a : Bool) → f ≡ true → (i ≡ true → ⊥) → ((f && not i) || a) ≡ true

@@ -51,18 +51,24 @@ pub fn merges_are_least()
 /// schedule stores the outputs, all tiles that the job's answer is put together from.
 pub fn finishing_events_give_all()
     ensures accepted { (u : Work) (w : Network) (n j : ℕ) (entry : Entry) (inlining : List Bool)
-        → IsCatalog u.jobs → IsJob entry.pipeline → AllTrue u.jobs w → ((v new : Network) (e : Event) → AllTrue u.jobs v → Accepts u v e new → AllTrue u.jobs new)
+        → IsCatalog u.jobs → IsJob entry.pipeline → AllTrue u.jobs w
+        → ((v new : Network) (e : Event) → AllTrue u.jobs v → Accepts u v e new
+        → AllTrue u.jobs new)
         → n < length w.nodes → IsPlanned u n j entry inlining
         → first_without_room entry.pipeline inlining (lacked_work (held w n) entry inlining) ≡ None
         → NoneRefused u w (makings n (length w.messages) (lacked_work (held w n) entry inlining)) }
     ensures work { (u : Work) (w : Network) (n j : ℕ) (entry : Entry) (inlining : List Bool)
-        → IsCatalog u.jobs → IsJob entry.pipeline → AllTrue u.jobs w → ((v new : Network) (e : Event) → AllTrue u.jobs v → Accepts u v e new → AllTrue u.jobs new)
+        → IsCatalog u.jobs → IsJob entry.pipeline → AllTrue u.jobs w
+        → ((v new : Network) (e : Event) → AllTrue u.jobs v → Accepts u v e new
+        → AllTrue u.jobs new)
         → n < length w.nodes → IsPlanned u n j entry inlining
         → first_without_room entry.pipeline inlining (lacked_work (held w n) entry inlining) ≡ None
         → GivesAll u w n (makings n (length w.messages) (lacked_work (held w n) entry inlining))
         (work_keys (ids_of entry).program entry.pipeline inlining) }
     ensures wanted { (u : Work) (w : Network) (n j : ℕ) (entry : Entry) (inlining : List Bool)
-        → IsCatalog u.jobs → IsJob entry.pipeline → AllTrue u.jobs w → ((v new : Network) (e : Event) → AllTrue u.jobs v → Accepts u v e new → AllTrue u.jobs new)
+        → IsCatalog u.jobs → IsJob entry.pipeline → AllTrue u.jobs w
+        → ((v new : Network) (e : Event) → AllTrue u.jobs v → Accepts u v e new
+        → AllTrue u.jobs new)
         → n < length w.nodes → IsPlanned u n j entry inlining
         → first_without_room entry.pipeline inlining (lacked_work (held w n) entry inlining) ≡ None
         → StoresOutputs entry.pipeline inlining
