@@ -2,7 +2,6 @@ pub mod Networks
 pub mod Steps
 pub mod StepTable
 pub mod Histories
-pub mod Truths
 pub mod Taking
 pub mod Truths
 pub mod Finishing

@@ -136,7 +136,7 @@ module _ (catalog : List Entry) (entry : Entry) (s : State) (is : IsCatalog cata
   there = slice_get-get_or catalog here.0 entry here.1 ∙ ap Some here.2
 
   -- what is held of a key of the job is true of the job
-  true_body : (key : Key) (fact : Fact) → ids_in key ≡ ids_of entry → Contains (facts_of s key) fact → BodyIsTrue job key fact.body
+  pub true_body : (key : Key) (fact : Fact) → ids_in key ≡ ids_of entry → Contains (facts_of s key) fact → BodyIsTrue job key fact.body
   true_body key fact ids has =
       let of = (in_facts_of s key fact).0 has in
       let told = right fact of.0 in
@@ -231,7 +231,7 @@ module _ (catalog : List Entry) (entry : Entry) (s : State) (is : IsCatalog cata
   alone_is_held : (key : Key) → IsReady s job key → IsNotHeld s key → ⊥
   alone_is_held key one none = let e = one.alone in absurd (cc)
 
-  no_dispute : (key : Key) → IsDisputed s key → ⊥
+  pub no_dispute : (key : Key) → IsDisputed s key → ⊥
   no_dispute key disputed = by (facts_of s key) refl disputed
     where
       same_fact : (a b : Fact) → Contains (facts_of s key) a → Contains (facts_of s key) b → a ≡ b
