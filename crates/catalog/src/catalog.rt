@@ -115,6 +115,7 @@ impl Catalog {
     pub fn job(&self, index: usize) -> Option<&Job>
         ensures job { option_map (λ job. entry_of job.now) result ≡ slice_get self.now index }
         ensures jobs { AreJobs self.now }
+        ensures catalog { IsCatalog self.now }
     {
         self.jobs().get(index)
     }

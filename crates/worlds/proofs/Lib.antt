@@ -1,1 +1,3 @@
 pub mod StepLaws
+pub mod WorldLaws
+pub mod RunLaws

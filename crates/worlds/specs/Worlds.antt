@@ -1,14 +1,14 @@
 -- What a world is: jobs with a schedule of each node for each of them, and nodes with their messages, in which every fact is true. And why
--- there is none.
-use Rattle.std.specs.Prelude.{◌≡◌, ℕ, Bool, Some, List, length, slice_get}
-use Rattle.catalog.specs.Entries.{Entry, IsCatalog}
-use Rattle.job.specs.WellFormed.{IsJob}
+-- there is none, and how far a run of events goes.
+use Rattle.std.specs.Prelude.{◌≡◌, ℕ, ◌+◌, ◌≤◌, Bool, Some, List, ◌++◌, length, reverse, slice_get}
+use Rattle.catalog.specs.Entries.{AreJobs, IsCatalog}
+use Rattle.gossip_core.specs.Histories.{Leads}
 use Rattle.gossip_core.specs.Networks.{Network}
 use Rattle.gossip_core.specs.Steps.{Work}
 use Rattle.gossip_core.specs.Truths.{AllTrue}
-
-abbrev pub AreJobs : List Entry → Type 0
-AreJobs entries = (i : ℕ) (entry : Entry) → slice_get entries i ≡ Some entry → IsJob entry.pipeline
+use Rattle.gossip_events.specs.declared.event.Event.{Event}
+use Rattle.worlds.specs.declared.fault.WorldFault.{WorldFault}
+use Rattle.worlds.specs.declared.fault.WorldFault.TheVariants.{BadCount, Memory}
 
 -- ---- what is seen
 
@@ -33,3 +33,25 @@ pub record IsWorld (u : Work) (w : Network) : Type 0 where
   pub work : IsPlannedWork u
   pub nodes : length u.schedules ≡ length w.nodes
   pub truth : AllTrue u.jobs w
+
+-- ---- where there is none
+
+-- 1 to 16 nodes, each with a schedule for each job
+pub record IsCounted (u : Work) : Type 0 where
+  pub least : 1 ≤ length u.schedules
+  pub most : length u.schedules ≤ 16
+  pub each : HasSchedules u
+
+-- memory is refused only where the counts are good
+abbrev pub IsRefusedWorld : Work → WorldFault → Type 0
+IsRefusedWorld u BadCount = ¬ (IsCounted u)
+IsRefusedWorld u Memory = IsCounted u
+
+-- ---- runs
+
+-- Some events led to the world from which a run went on, some of them accepted. These and the events that it went through lead to the
+-- world now; and so many of the latter were refused.
+pub record RunsOn (w : WorldView) (size : ℕ) (h accepted events : List Event) (refused : ℕ) : Type 0 where
+  pub later : List Event
+  pub leads : Leads w.work size (reverse events ++ h) later w.network
+  pub count : length later + refused ≡ length accepted + length events

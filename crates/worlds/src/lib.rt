@@ -2,12 +2,15 @@
 #![tactic(auto)]
 
 mod fault;
+mod finishing;
 mod network;
 mod node;
 mod planned;
 mod ran;
 mod schedules;
+mod world;
 
 pub use fault::{FinishFault, WorldFault};
 pub use ran::Ran;
 pub use schedules::NodeSchedules;
+pub use world::World;

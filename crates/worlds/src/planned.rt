@@ -3,6 +3,7 @@
 ghost use Rattle.catalog.specs.Entries.{StandsAt, ids_in};
 ghost use Rattle.gossip_core.specs.Steps.{IsScheduleFor};
 ghost use Rattle.std.specs.Prelude.{◌<◌, ◌≡◌, ℕ, IfErr, IfNone, IfOk, IfSome, length};
+ghost use Rattle.worlds.specs.Worlds.{HasSchedules, IsPlannedWork};
 ghost use Rattle.worlds.specs.inside.Making.{CannotBeMade, IsMadeBy};
 
 use crate::schedules::NodeSchedules;
@@ -40,6 +41,17 @@ impl Model for PlannedJobs {
 }
 
 impl PlannedJobs {
+    /// These jobs and schedules.
+    pub fn new(catalog: Catalog, schedules: Vec<NodeSchedules>) -> PlannedJobs
+        requires { HasSchedules (record { jobs = catalog; schedules = schedules.items }) }
+        ensures same { result ≡ record { jobs = catalog; schedules = schedules.items } }
+        ensures good { IsPlannedWork result }
+    {
+        // What each catalog is `job` tells, whichever it is asked for.
+        let _ = catalog.job(0);
+        PlannedJobs { catalog, schedules }
+    }
+
     /// Node n's schedule for the job whose tile the key names, if there is that job.
     pub fn schedule_for(&self, n: usize, key: &Key) -> Option<&Schedule>
         requires { n < length self.now.schedules }

@@ -3,4 +3,4 @@ use Rattle.gossip_core.specs.Steps.{no_states}
 use Rattle.worlds.proofs.network.Network.new.Given as goal
 
 abbrev pub invariant-loop : goal.invariant-loop
-invariant-loop g l = l.nodes.items ≡ replicate l.loop-index no_states
+invariant-loop g l = l.nodes.items ≡ replicate l.counter no_states
