@@ -10,3 +10,5 @@ pub mod FinishFaults
 pub mod FinishAll
 pub mod FinishWanted
 pub mod FinishStart
+pub mod AllHeld
+pub mod Headlines

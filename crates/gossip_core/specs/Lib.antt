@@ -5,3 +5,4 @@ pub mod Histories
 pub mod Taking
 pub mod Truths
 pub mod Finishing
+pub mod Headline

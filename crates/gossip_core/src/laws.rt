@@ -4,6 +4,7 @@ ghost use Rattle.std.specs.Prelude.{◌≡◌, ℕ, ◌<◌, ◌↔◌, Bool, No
 ghost use Rattle.catalog.specs.Entries.{AreJobs, Entry, IsCatalog, ids_of};
 ghost use Rattle.fact_audit.specs.TrueFacts.{IsTrueFact};
 ghost use Rattle.gossip_core.specs.Finishing.{GivesAll, IsPlanned, NoneRefused, lacked_work, makings};
+ghost use Rattle.gossip_core.specs.Headline.{Headline};
 ghost use Rattle.gossip_core.specs.Histories.{Leads, start};
 ghost use Rattle.gossip_core.specs.Networks.{Network};
 ghost use Rattle.gossip_core.specs.Steps.{Accepts, Work, held, kept};
@@ -88,4 +89,10 @@ pub fn finishing_events_give_all()
         → StoresOutputs entry.pipeline inlining
         → GivesAll u w n (makings n (length w.messages) (lacked_work (held w n) entry inlining))
         (wanted_keys (ids_of entry).program entry.pipeline) }
+{}
+
+/// The headline: all that `Headline` says holds of each world to which events lead from nodes that hold nothing, over a catalog of jobs.
+pub fn headline()
+    ensures { (u : Work) (size : ℕ) (h accepted : List Event) (w : Network) → IsCatalog u.jobs
+        → AreJobs u.jobs → Leads u size h accepted w → Headline u w accepted }
 {}

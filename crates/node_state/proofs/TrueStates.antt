@@ -157,7 +157,7 @@ module _ (catalog : List Entry) (entry : Entry) (s : State) (is : IsCatalog cata
       sym (same_Some ys xs e) ∙ told.values
       ∙ ap (λ a. raster a (value job g)) (told.tile.tile.is ∙ ap (λ (x : Stage). tile_area (grid_of job x) i j) same)
 
-  true_tiles : AreTrue job (held_tiles s program job)
+  pub true_tiles : AreTrue job (held_tiles s program job)
   true_tiles g stage at i j xs tile given =
       let key = tile_key program job g i j in
       option_and_then_some _ _ xs given (λ grid _ inner.
@@ -201,7 +201,7 @@ module _ (catalog : List Entry) (entry : Entry) (s : State) (is : IsCatalog cata
         }))))
         ∙ flat_map_single (λ t. totals_over job (tile_area grid t.0 t.1) g) (tiles_of grid)
 
-    stage_gathers : IsJob job → (g : ℕ) → gathered_from job g (held_partials s program job g) ≡ gathered_at job g
+    pub stage_gathers : IsJob job → (g : ℕ) → gathered_from job g (held_partials s program job g) ≡ gathered_at job g
     stage_gathers good g = by (slice_get job.stages g) refl
       where
         by_kind : (stage : Stage) (b : Bool) → slice_get job.stages g ≡ Some stage → is_accumulator stage.body ≡ b
