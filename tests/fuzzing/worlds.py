@@ -8,6 +8,7 @@ from typing import NamedTuple
 
 from .facts import Fact, file_of
 from .netpbm import Fault, Reader
+from .pictures import Picture
 from .schedules import Schedule
 from .texts import identities, settings, tokens_of
 from .values import Meaning, Point
@@ -25,6 +26,9 @@ class Refusal(Exception):
     def __init__(self, status: int, line: str):
         super().__init__(line)
         self.status, self.line = status, line
+
+    def answer(self) -> tuple[int, bytes]:
+        return self.status, f"{self.line}\n".encode()
 
 
 # ---- scripts
@@ -202,6 +206,15 @@ class World:
         return "".join(f"{it}\n" for it in lines).encode()
 
 
+def after(job: Job, nodes: int, text: bytes) -> tuple[int, bytes]:
+    """The exit status of `world` on a script of a job, and what it writes."""
+    try:
+        events, made = script(text), World(job, nodes)
+        return 0, made.told(len(events), len(made.run(events)))
+    except Refusal as refusal:
+        return refusal.answer()
+
+
 # ---- inputs and words
 
 
@@ -241,20 +254,22 @@ def sections(data: bytes, count: int) -> list[bytes]:
     return [*found, rest]
 
 
+def picture_of(data: bytes) -> Picture:
+    try:
+        return Reader(data).picture()
+    except Fault as fault:
+        raise Refusal(2, f"picture: {fault.number} {fault.name} at {fault.at}") from None
+
+
 def world(data: bytes, words: list[str]) -> tuple[int, bytes]:
     """The exit status of `world` on an input, and what it writes. The words are good ones, and so is the program over the picture."""
     try:
         text, told, given = sections(data, 3)
-        try:
-            picture = Reader(given).picture()
-        except Fault as fault:
-            raise Refusal(2, f"picture: {fault.number} {fault.name} at {fault.at}") from None
-        asked, tokens = words_of(words), tokens_of(text)
-        known = settings(tokens, asked.given, picture)
-        meaning = Meaning(tokens, known, picture)
-        schedule = Schedule(meaning, asked.sides, asked.percent, asked.is_stored)
-        made = World(Job(identities(tokens, known, picture, asked.sides), meaning, schedule), asked.nodes)
-        events = script(told)
-        return 0, made.told(len(events), len(made.run(events)))
+        picture = picture_of(given)
     except Refusal as refusal:
-        return refusal.status, f"{refusal.line}\n".encode()
+        return refusal.answer()
+    asked, tokens = words_of(words), tokens_of(text)
+    known = settings(tokens, asked.given, picture)
+    meaning = Meaning(tokens, known, picture)
+    schedule = Schedule(meaning, asked.sides, asked.percent, asked.is_stored)
+    return after(Job(identities(tokens, known, picture, asked.sides), meaning, schedule), asked.nodes, told)
