@@ -10,7 +10,6 @@ from .pictures import Picture
 from .values import Point
 
 TOKEN = re.compile(r"\s+|#[^\n]*|([A-Za-z][A-Za-z0-9_]*|[0-9]+|\.\.|<<|>>|<=|>=|==|[][(){},;:+*/%-])")
-ITEMS = ("param", "image", "func", "accum", "output")
 # how tightly an expression holds together
 SUM, PRODUCT, TIGHT = range(3)
 
