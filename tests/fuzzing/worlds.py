@@ -1,6 +1,6 @@
 """Worlds: nodes that make facts, send them to each other, lose them and start again. A reader of scripts, and what `world` must print.
 
-Written from docs/FORMATS.md and docs/WORLDS.md alone. A node makes a fact of facts that it holds, so each fact of a world is the true one
+It goes by docs/FORMATS.md and docs/WORLDS.md, and by no code of the program. A node makes a fact of facts that it holds, so each fact of a world is the true one
 of its tile. What a node holds is told here by the tiles alone, and the facts are those of the evaluator.
 """
 import re
