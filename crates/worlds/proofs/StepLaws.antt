@@ -1,23 +1,25 @@
 -- What events need of the nodes and the jobs, over plain variables.
-use Rattle.std.proofs.Common.{arith, ℕ, ◌==◌, cond, get_or, ◌≡◌, ◌≢◌, ◌<◌, ◌≤◌, Bool, List, [], ◌∷◌, Option, Some, None, length, refl, sym, ap, ◌∙◌, subst, zero, suc}
+use Rattle.std.proofs.Common.{arith, ℕ, ◌==◌, cond, get_or, ◌≡◌, ◌≢◌, ◌<◌, ◌≤◌, Bool, List, [], ◌∷◌, Option, Some, None, Result, Ok, Err, IfOk, IfErr, IfSome, IfNone, option_map, length, refl, sym, ap, ◌∙◌, subst, zero, suc}
 use Rattle.std.specs.List.{All}
 use Rattle.std.proofs.lemmas.Bool.{eq-eqb}
 use Rattle.std.specs.Prelude.{slice_get, slice_set, unwrap_or}
 use Rattle.std.proofs.lemmas.Option.{none-some, same_Some, slice_get_within, slice_get-get_or}
-use Rattle.catalog.specs.Entries.{Entry, IsCatalog, StandsAt, ids_in}
+use Rattle.catalog.specs.Entries.{StandsAt, ids_in}
+use Rattle.catalog.specs.declared.ids.Ids.{Ids}
 use Rattle.identity.specs.declared.key.Key.{Key}
 use Rattle.node_state.specs.declared.make_fault.MakeFault.{MakeFault}
 use Rattle.node_state.specs.declared.make_fault.MakeFault.TheVariants as makes
-use Rattle.node_state.specs.Making.{IsMakeFault}
+use Rattle.node_state.specs.Making.{IsMade, IsMakeFault}
 use Rattle.node_state.specs.States.{State, join, lacked, nothing, with_fact}
 use Rattle.tile_fact.specs.declared.fact.Fact.{Fact}
 use Rattle.gossip_core.specs.Networks.{Network, NodeStates, Sent}
-use Rattle.gossip_core.specs.Steps.{Accepts, CannotMake, IsDone, IsScheduleFor, Makes, Refuses, Work, held, no_states, states_at, with_message}
+use Rattle.gossip_core.specs.Steps.{Accepts, CannotMake, HasNodes, IsDone, IsScheduleFor, IsStepFault, Makes, Refuses, Work, held, no_states, states_at, with_message}
 use Rattle.gossip_core.specs.declared.done.Done.TheVariants as does
 use Rattle.gossip_core.specs.declared.fault.StepFault.TheVariants as faults
 use Rattle.gossip_core.proofs.StateLaws.{states_set}
 use Rattle.gossip_events.specs.declared.event.Event.TheVariants.{Make, Deliver}
-use Rattle.worlds.specs.inside.Making.{CannotBeMade, IsMadeBy}
+use Rattle.worlds.specs.Worlds.{HasSchedules}
+use Rattle.worlds.specs.inside.Making.{CannotBeMade, IsMadeBy, refusal_of}
 
 pub one_within : (n size : ℕ) → n < size → All (λ k. k < size) (n ∷ [])
 one_within n size within zero d inside = within
@@ -25,13 +27,32 @@ one_within n size within (suc k) d inside = absurd (omega (arith, inside))
 
 -- ---- schedules
 
--- a node with schedules for all jobs has one for each
-pub none_lacking : (u : Work) (schedules : List (List Bool)) (ids : Rattle.catalog.specs.declared.ids.Ids.Ids) (job : ℕ)
-    → length schedules ≡ length u.jobs → StandsAt u.jobs ids job → slice_get schedules job ≡ None → ⊥
-none_lacking u schedules ids job same stands none =
-    let inside = slice_get_within u.jobs job stands.0 stands.1 in
-    let there = slice_get-get_or schedules job [] (omega (arith, inside, same)) in
-    none-some _ (sym none ∙ there)
+module _ (u v : Work) (view : v ≡ u) (n job : ℕ) (key : Key) (ids : Ids) (ids_are : ids ≡ ids_in key) (schedules : List (List Bool))
+    (within : n < length u.schedules) (of_node : schedules ≡ get_or v.schedules n schedules) (stands : StandsAt v.jobs ids job) where
+  node_has : slice_get v.schedules n ≡ Some schedules
+  node_has = slice_get-get_or v.schedules n schedules (subst (λ (x : Work). n < length x.schedules) (sym view) within) ∙ ap Some (sym of_node)
+
+  -- what is found is the schedule
+  pub scheduled : {X : Type 0} (f : X → List Bool) (o : Option X) → option_map f o ≡ slice_get schedules job
+      → IfSome o (λ s. IsScheduleFor u n key (f s))
+  scheduled f None e = tt
+  scheduled f (Some s) e =
+      subst (λ (x : Work). IsScheduleFor x n key (f s)) view (record {
+        job = job;
+        there = subst (λ i. StandsAt v.jobs i job) ids_are stands;
+        schedules = schedules;
+        of_node = node_has;
+        of_job = sym e;
+      })
+
+  -- a node with schedules for all jobs has one for each
+  pub none_lacking : HasSchedules v → {X : Type 0} (P : Type 0) (f : X → List Bool) (o : Option X) → option_map f o ≡ slice_get schedules job
+      → IfNone o P
+  none_lacking each P f (Some s) e = tt
+  none_lacking each P f None e =
+      let inside = slice_get_within v.jobs job stands.0 stands.1 in
+      let same = each n schedules node_has in
+      absurd (none-some _ (e ∙ slice_get-get_or schedules job [] (omega (arith, inside, same))))
 
 -- ---- making
 
@@ -44,7 +65,7 @@ cannot_make u w n key (makes.NeedDisputed need) h = h
 cannot_make u w n key (makes.NeedMisshapen need) h = h
 cannot_make u w n key makes.Memory h = h
 
-pub cannot_be_made : (u : Work) (n : ℕ) (s : State) (key : Key) (inlining : List Bool) (fault : MakeFault) → IsScheduleFor u n key inlining
+cannot_be_made : (u : Work) (n : ℕ) (s : State) (key : Key) (inlining : List Bool) (fault : MakeFault) → IsScheduleFor u n key inlining
     → IsMakeFault u.jobs s inlining key fault → CannotBeMade u n s key fault
 cannot_be_made u n s key inlining makes.Foreign schedule h = h
 cannot_be_made u n s key inlining makes.NoSuchTile schedule h = (inlining, schedule, h)
@@ -57,6 +78,17 @@ cannot_be_made u n s key inlining makes.Memory schedule h = (inlining, schedule,
 makes_by : (u : Work) (w : Network) (n : ℕ) (key : Key) (fact : Fact) → IsMadeBy u n (held w n) key fact → Makes u w n key fact
 makes_by u w n key fact is = record { of_key = is.of_key; inlining = is.inlining; schedule = is.schedule; made = is.made }
 
+module _ (u v : Work) (view : v ≡ u) (n : ℕ) (s : State) (key : Key) (inlining : List Bool) (schedule : IsScheduleFor u n key inlining) where
+  pub made_by : (r : Result Fact MakeFault) → IfOk r (λ fact. fact.key ≡ key) → IfOk r (IsMade v.jobs s inlining) → IfOk r (IsMadeBy u n s key)
+  made_by (Ok fact) of_key made' =
+      record { of_key = of_key; inlining = inlining; schedule = schedule; made = subst (λ (x : Work). IsMade x.jobs s inlining fact) view made' }
+  made_by (Err fault) of_key made' = tt
+
+  pub never_made : (r : Result Fact MakeFault) → IfErr r (IsMakeFault v.jobs s inlining key) → IfErr r (CannotBeMade u n s key)
+  never_made (Ok fact) h = tt
+  never_made (Err fault) h =
+      cannot_be_made u n s key inlining fault schedule (subst (λ (x : Work). IsMakeFault x.jobs s inlining key fault) view h)
+
 -- ---- nodes and messages that are looked up
 
 states_there : (nodes : List NodeStates) (n : ℕ) (q : NodeStates) → n < length nodes → q ≡ get_or nodes n q → states_at nodes n ≡ q
@@ -68,6 +100,16 @@ set_same [] n q within is = absurd (omega (arith, within))
 set_same (x ∷ xs) zero q within is = ap (λ y. y ∷ xs) is
 set_same (x ∷ xs) (suc n) q within is = ap (λ ys. x ∷ ys) (set_same xs n q (omega (arith, within)) is)
 
+unmade : (u : Work) (v : Network) (n : ℕ) (key : Key) → HasNodes v (Make n key) → (fault : MakeFault) → CannotMake u v n key fault
+    → IsStepFault u v (Make n key) (refusal_of fault)
+unmade u v n key here makes.Foreign why = (here, (why, λ e. cc))
+unmade u v n key here makes.NoSuchTile why = (here, (why, λ e. cc))
+unmade u v n key here makes.ScratchTooBig why = (here, (why, λ e. cc))
+unmade u v n key here (makes.NeedMissing need) why = (here, (why, λ e. cc))
+unmade u v n key here (makes.NeedDisputed need) why = (here, (why, λ e. cc))
+unmade u v n key here (makes.NeedMisshapen need) why = (here, (why, λ e. cc))
+unmade u v n key here makes.Memory why = (here, tt, λ wrong. wrong)
+
 module _ (u : Work) (v w : Network) (view : v ≡ w) (n : ℕ) (within : n < length v.nodes) where
   here : All (λ i. i < length v.nodes) (n ∷ [])
   here = one_within n (length v.nodes) within
@@ -78,21 +120,19 @@ module _ (u : Work) (v w : Network) (view : v ≡ w) (n : ℕ) (within : n < len
     held_is : b.held ≡ held v n
     held_is = ap (λ (x : NodeStates). x.held) (node ∙ sym (states_there v.nodes n q within q_is))
 
-    pub not_made : (fault : MakeFault) → CannotBeMade u n b.held key fault → fault ≢ makes.Memory
-        → Refuses u w (Make n key) w (faults.Make fault)
-    not_made fault why other =
-        subst (λ x. Refuses u x (Make n key) x (faults.Make fault)) view
+    pub not_made : (fault : MakeFault) → CannotBeMade u n b.held key fault → Refuses u w (Make n key) w (refusal_of fault)
+    not_made fault why =
+        subst (λ x. Refuses u x (Make n key) x (refusal_of fault)) view
         (record {
-          first = (here, cannot_make u v n key fault (subst (λ s. CannotBeMade u n s key fault) held_is why), other);
+          first = unmade u v n key here fault (cannot_make u v n key fault (subst (λ s. CannotBeMade u n s key fault) held_is why));
           unchanged = refl;
         })
 
     pub made : (fact : Fact) (new : Network) → IsMadeBy u n b.held key fact → new ≡ with_message w n (with_fact nothing fact)
         → Accepts u w (Make n key) new
     made fact new is after =
-        subst (λ x. x ≡ w → Accepts u w (Make n key) new) view
-        (λ same. subst (λ x. Accepts u x (Make n key) new) same
-        (here, (fact, makes_by u v n key fact (subst (λ s. IsMadeBy u n s key fact) held_is is), after ∙ ap (λ x. with_message x n (with_fact nothing fact)) (sym same)))) view
+        subst (λ x. new ≡ with_message x n (with_fact nothing fact) → Accepts u x (Make n key) new) view
+        (λ same. (here, (fact, makes_by u v n key fact (subst (λ s. IsMadeBy u n s key fact) held_is is), same))) after
 
   -- ---- deliveries
 
@@ -117,16 +157,25 @@ module _ (u : Work) (v w : Network) (view : v ≡ w) (n : ℕ) (within : n < len
 
       pub delivered : s ≡ join b.held a.facts → Accepts u w (Deliver n k) after
       delivered is =
-          subst (λ x. Accepts u x (Deliver n k) after) view
-          (here, (a, there, to, λ i. record v { nodes = slice_set v.nodes n (record {
-            held = (is ∙ ap (λ (x : NodeStates). join x.held a.facts) at) i;
-            kept = (at i).kept;
-          }) }))
+          subst (λ x. Accepts u x (Deliver n k) after) view (
+            here,
+            (
+              a,
+              there,
+              to,
+              λ i. record v {
+                nodes = slice_set v.nodes n (record {
+                  held = (is ∙ ap (λ (x : NodeStates). join x.held a.facts) at) i;
+                  kept = (at i).kept;
+                });
+              },
+            ),
+          )
 
       pub new_ones : (count : ℕ) → count ≡ length (lacked b.held s) → IsDone w (Deliver n k) after (does.New count)
       new_ones count is =
           subst (λ x. IsDone x (Deliver n k) after (does.New count)) view
-          (is ∙ (λ i. length (lacked (at i).held (held_set_is (~ i)))))
+          (is ∙ ap (λ (x : NodeStates). length (lacked x.held s)) at ∙ ap (λ t. length (lacked (held v n) t)) (sym held_set_is))
         where
           held_set_is : held after n ≡ s
           held_set_is =

@@ -1,9 +1,14 @@
 //! The events that let a node hold all tiles of a job.
 
 ghost use Rattle.catalog.specs.Entries.{entry_of};
-ghost use Rattle.gossip_core.specs.Finishing.{lacked_work, makings};
-ghost use Rattle.std.specs.Prelude.{◌≡◌, IfErr, IfOk};
+ghost use Rattle.gossip_core.specs.Finishing.{IsPlanned, lacked_work, makings};
+ghost use Rattle.gossip_core.specs.Steps.{held};
+ghost use Rattle.job.specs.Kept.{pipeline_in};
+ghost use Rattle.overlap_tiles.specs.Work.{first_without_room};
+ghost use Rattle.std.specs.Prelude.{◌≡◌, IfErr, IfOk, None};
 ghost use Rattle.worlds.specs.Finishes.{Finishes, IsFinishFault};
+ghost use Rattle.worlds.specs.declared.fault.FinishFault.TheVariants as faults;
+ghost use Rattle.worlds.specs.inside.Making.{IsRoomFault};
 
 use crate::fault::FinishFault;
 use crate::world::World;
@@ -29,6 +34,19 @@ impl<S: FactStore> World<S> {
         ensures finishes { IfOk result (λ events. Finishes self.now n job events.items) }
         ensures fault { IfErr result (IsFinishFault self.now n job) }
     {
+        let planned = self.planned(n, job)?;
+        let keys = makable_keys(self.alloc, &planned)?;
+        Ok(making_events(self.alloc, n, self.network.sent(), &keys)?)
+    }
+
+    // The job, and what node n holds and how it makes its tiles.
+    fn planned(&self, n: u8, job: usize) -> Result<Planned<'_, S>, FinishFault>
+        ensures planned { IfOk result (λ p. IsPlanned self.now.work n job
+            (entry_of p.job.now) p.schedule.now.inlining) }
+        ensures held { IfOk result (λ p. p.held.now ≡ held self.now.network n) }
+        ensures there { IfOk result (λ _. IsFinishFault self.now n job faults.Memory) }
+        ensures fault { IfErr result (IsFinishFault self.now n job) }
+    {
         let Some(node) = self.network.node(n) else {
             return Err(FinishFault::NoSuchNode);
         };
@@ -38,11 +56,38 @@ impl<S: FactStore> World<S> {
         let Some(schedule) = self.jobs.schedules[usize::from(n)].schedule(job) else {
             unreachable!();
         };
-        let lacked = lacked_keys(self.alloc, &node.held, planned, schedule)?;
-        if let Some(key) = first_without_room(self.alloc, planned, schedule, &lacked)? {
-            return Err(FinishFault::ScratchTooBig(key));
-        }
-        Ok(making_events(self.alloc, n, self.network.sent(), &lacked)?)
+        Ok(Planned {
+            held: &node.held,
+            job: planned,
+            schedule,
+        })
+    }
+}
+
+// What a node holds, a job, and the node's schedule for it.
+#[derive(Clone, Copy)]
+struct Planned<'a, S: FactStore> {
+    held: &'a NodeState<S>,
+    job: &'a Job,
+    schedule: &'a Schedule,
+}
+
+// The keys of the work tiles of which nothing is held, if each of these has room.
+fn makable_keys<S: FactStore>(
+    alloc: Global,
+    planned: &Planned<'_, S>,
+) -> Result<Vec<Key>, FinishFault>
+    ensures keys { let p = planned.now in IfOk result (λ keys. keys.items
+        ≡ lacked_work p.held.now (entry_of p.job.now) p.schedule.now.inlining) }
+    ensures room { let p = planned.now in IfOk result (λ keys.
+        first_without_room (pipeline_in p.job.now) p.schedule.now.inlining keys.items ≡ None) }
+    ensures fault { let p = planned.now in IfErr result
+        (IsRoomFault p.held.now (entry_of p.job.now) p.schedule.now.inlining) }
+{
+    let keys = lacked_keys(alloc, planned.held, planned.job, planned.schedule)?;
+    match first_without_room(alloc, planned.job, planned.schedule, &keys)? {
+        None => Ok(keys),
+        Some(key) => Err(FinishFault::ScratchTooBig(key)),
     }
 }
 
@@ -62,21 +107,13 @@ fn lacked_keys<S: FactStore>(
 }
 
 // A making of each key by the node, and its delivery, where so many messages were sent before.
-fn making_events(
-    alloc: Global,
-    n: u8,
-    sent: usize,
-    keys: &[Key],
-) -> Result<Vec<Event>, AllocError>
+fn making_events(alloc: Global, n: u8, sent: usize, keys: &[Key]) -> Result<Vec<Event>, AllocError>
     ensures { IfOk result (λ events. events.items ≡ makings n sent keys.now) }
 {
     let mut events = Vec::new(alloc);
     let mut message = sent as u64;
     for key in keys {
-        events.push(Event::Make {
-            node: n,
-            key: *key,
-        })?;
+        events.push(Event::Make { node: n, key: *key })?;
         events.push(Event::Deliver { node: n, message })?;
         message = message.checked_add(1).ok_or(AllocError)?;
     }

@@ -6,6 +6,7 @@ ghost use Rattle.gossip_core.specs.declared.done.Done.TheVariants as does;
 ghost use Rattle.gossip_core.specs.declared.fault.StepFault.TheVariants as faults;
 ghost use Rattle.gossip_events.specs.declared.event.Event.TheVariants.{Make, Send, Deliver, Merge, Keep, Restart};
 ghost use Rattle.std.specs.Option.{option_map};
+ghost use Rattle.worlds.specs.inside.Making.{refusal_of};
 ghost use Rattle.std.specs.Prelude.{◌≡◌, IfErr, IfOk, OnErr, OnOk, length, slice_get};
 
 use crate::node::{Message, Node};
@@ -109,8 +110,7 @@ impl<S: FactStore> Network<S> {
         let node = &self.nodes[n];
         let fact = match jobs.make(n, &node.held, key) {
             Ok(fact) => fact,
-            Err(MakeFault::Memory) => return Err(StepFault::Memory),
-            Err(fault) => return Err(StepFault::Make(fault)),
+            Err(fault) => return Err(refusal_of(fault)),
         };
         let mut facts = NodeState::new(self.alloc);
         facts.take(fact)?;
@@ -206,5 +206,15 @@ impl<S: FactStore> Network<S> {
         let node = &mut self.nodes[n];
         node.held = node.kept.copy()?;
         Ok(Done::Restarted)
+    }
+}
+
+// How a node that makes nothing refuses to.
+fn refusal_of(fault: MakeFault) -> StepFault
+    ensures { result ≡ refusal_of fault }
+{
+    match fault {
+        MakeFault::Memory => StepFault::Memory,
+        _ => StepFault::Make(fault),
     }
 }
