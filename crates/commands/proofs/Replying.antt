@@ -16,7 +16,7 @@ use Rattle.inputs.specs.Outcomes.{CountsRead, CountsWritten, IsSaid, JobSaying, 
 use Rattle.inputs.specs.declared.faults.StreamFault.{StreamFault}
 use Rattle.inputs.specs.declared.faults.StreamFault.TheVariants as faults
 use Rattle.commands.specs.Sayings.{finding_none}
-use Rattle.commands.specs.declared.found.Found.TheVariants.{NoFalse}
+use Rattle.fact_commands.specs.declared.found.Found.TheVariants.{NoFalse}
 use Rattle.commands.specs.inside.Questions.{none_false}
 
 -- ---- one part behind the other

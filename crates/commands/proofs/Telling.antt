@@ -12,7 +12,7 @@ use Rattle.inputs.specs.declared.faults.StreamFault.{StreamFault}
 use Rattle.inputs.specs.declared.faults.StreamFault.TheVariants as faults
 use Rattle.commands.specs.Endings.{HasTold, NamesCommand}
 use Rattle.commands.specs.Sayings.{refusing_by, saying_by}
-use Rattle.commands.specs.declared.found.Found.{Found}
+use Rattle.fact_commands.specs.declared.found.Found.{Found}
 
 -- words that ask for something name a command
 pub names_command : (words : List (String Global)) (request : Request) → IsRequestOf words request → NamesCommand words

@@ -7,13 +7,13 @@ use Rattle.command_line.specs.declared.words.Request.{Request}
 use Rattle.command_line.specs.declared.words.Request.TheVariants.{Merge, Job}
 use Rattle.inputs.specs.Giving.{Given}
 use Rattle.inputs.specs.Outcomes.{Refusing, Saying, refusing_audit, refusing_job, refusing_merge, saying_of_audit, saying_of_job}
-use Rattle.commands.specs.Auditing.{SaysVerdicts}
+use Rattle.fact_commands.specs.Auditing.{SaysVerdicts}
 use Rattle.commands.specs.Listing.{SaysCheck}
-use Rattle.commands.specs.Merging.{saying_union}
+use Rattle.fact_commands.specs.Merging.{saying_union}
 use Rattle.commands.specs.Planning.{SaysPlan}
 use Rattle.commands.specs.Results.{SaysResult}
-use Rattle.commands.specs.declared.found.Found.{Found}
-use Rattle.commands.specs.declared.found.Found.TheVariants.{NoFalse}
+use Rattle.fact_commands.specs.declared.found.Found.{Found}
+use Rattle.fact_commands.specs.declared.found.Found.TheVariants.{NoFalse}
 
 -- a command that judges no fact finds none that is false
 abbrev pub finding_none : Saying (Unit {0}) → Saying Found

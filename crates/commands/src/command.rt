@@ -7,14 +7,13 @@ ghost use Rattle.inputs.specs.Taking.{Puts};
 ghost use Rattle.streams.specs.Streams.{one_more};
 ghost use Rattle.commands.specs.Endings.{AskFor, AskForNothing, HasSaid, HasSaidPart, HasTold, NamesCommand, usage_line};
 ghost use Rattle.commands.specs.Sayings.{refusing_by, refusing_of_task, saying_by, saying_of_task};
-ghost use Rattle.commands.specs.declared.found.Found.TheVariants.{AFalse, NoFalse};
+ghost use Rattle.fact_commands.specs.declared.found.Found.TheVariants.{AFalse, NoFalse};
 ghost use Rattle.inputs.specs.declared.faults.StreamFault.TheVariants.{Memory, Read};
 
-use crate::audits::audit_stream;
-use crate::found::{Found, none_false};
+use crate::found::none_false;
 use crate::task_stream::{check_stream, eval_stream, plan_stream};
-use crate::unions::merge_stream;
 use command_line::{JobRequest, Refusal, Request, Task, request_of};
+use fact_commands::{Found, audit_stream, merge_stream};
 use inputs::{StreamFault, write_line};
 use std::thread::Threads;
 use streams::{Sink, Source, write_whole};
