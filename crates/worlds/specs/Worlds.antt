@@ -4,8 +4,9 @@ use Rattle.std.specs.Prelude.{◌≡◌, ℕ, ◌+◌, ◌≤◌, Bool, Some, Li
 use Rattle.catalog.specs.Entries.{AreJobs, IsCatalog}
 use Rattle.gossip_core.specs.Histories.{Leads}
 use Rattle.gossip_core.specs.Networks.{Network}
-use Rattle.gossip_core.specs.Steps.{Work}
+use Rattle.gossip_core.specs.Steps.{IsStepFault, Work}
 use Rattle.gossip_core.specs.Truths.{AllTrue}
+use Rattle.gossip_core.specs.declared.fault.StepFault.TheVariants as steps
 use Rattle.gossip_events.specs.declared.event.Event.{Event}
 use Rattle.worlds.specs.declared.fault.WorldFault.{WorldFault}
 use Rattle.worlds.specs.declared.fault.WorldFault.TheVariants.{BadCount, Memory}
@@ -55,3 +56,9 @@ pub record RunsOn (w : WorldView) (size : ℕ) (h accepted events : List Event) 
   pub later : List Event
   pub leads : Leads w.work size (reverse events ++ h) later w.network
   pub count : length later + refused ≡ length accepted + length events
+
+-- the next event is one for which memory may be refused
+pub record StopsAt (w : WorldView) (events : List Event) (n : ℕ) : Type 0 where
+  pub event : Event
+  pub next : slice_get events n ≡ Some event
+  pub memory : IsStepFault w.work w.network event steps.Memory

@@ -9,8 +9,8 @@ ghost use Rattle.gossip_events.specs.Scripts.{AreEvents, lines};
 ghost use Rattle.gossip_events.specs.declared.event.Event.{Event as EventType};
 ghost use Rattle.node_state.specs.HeldAnswers.{HoldsTrueFacts};
 ghost use Rattle.std.specs.Option.{IfSome, option_map};
-ghost use Rattle.std.specs.Prelude.{◌≡◌, ◌≤◌, ◌↔◌, ℕ, List, [], IfErr, IfOk, IsTrue, OnOk, false, length, slice_get, take};
-ghost use Rattle.worlds.specs.Worlds.{IsCounted, IsRefusedWorld, RunsOn};
+ghost use Rattle.std.specs.Prelude.{◌≡◌, ◌≤◌, ◌↔◌, ℕ, List, [], IfErr, IfOk, IsTrue, OnOk, false, length, true, slice_get, take};
+ghost use Rattle.worlds.specs.Worlds.{IsCounted, IsRefusedWorld, RunsOn, StopsAt};
 
 use crate::fault::WorldFault;
 use crate::network::Network;
@@ -112,6 +112,7 @@ impl<S: FactStore> World<S> {
             → RunsOn self.new size h accepted (take result.done events.now) result.refused }
         ensures gone { result.done ≤ length events.now }
         ensures all { result.memory ≡ false → result.done ≡ length events.now }
+        ensures stopped { result.memory ≡ true → StopsAt self.new events.now result.done }
         ensures work { self.new.work ≡ self.old.work }
         ensures truth { AllTrue self.new.work.jobs self.new.network }
     {
