@@ -3,8 +3,9 @@ use Rattle.std.proofs.Common.{◌≡◌, sym, ap, ◌∙◌, subst, refl, List, 
 use Rattle.std.specs.List.{Contains, range_with_len}
 use Rattle.std.specs.Prelude.{ℕ, length}
 use Rattle.accumulators.proofs.TrueImage.{image_true}
-use Rattle.accumulators.specs.Answers.{IsAnswer, gathered_at}
+use Rattle.accumulators.specs.Answers.{IsAnswer, all_gathered, gathered_at}
 use Rattle.accumulators.specs.Gatherings.{gathered_from}
+use Rattle.accumulators.specs.Pictures.{given_image}
 use Rattle.accumulators.specs.declared.answer.Answer.{Answer}
 use Rattle.catalog.specs.Entries.{Entry, IsCatalog, ids_in, ids_of}
 use Rattle.domains.proofs.PairLists.{Contains-here}
@@ -13,6 +14,7 @@ use Rattle.fact_audit.specs.TrueFacts.{BodyIsTrue}
 use Rattle.fact_store.proofs.KeyLaws.{in_facts_of}
 use Rattle.grouping.proofs.Lists.{flat_map-same}
 use Rattle.identity.specs.declared.key.Key.{Key}
+use Rattle.job.specs.Answers.{image}
 use Rattle.job.specs.Pipeline.{Pipeline}
 use Rattle.job.specs.WellFormed.{IsJob}
 use Rattle.overlap_tiles.specs.Work.{wanted_keys}
@@ -21,7 +23,7 @@ use Rattle.node_state.proofs.HeldPictures.{outputs_held}
 use Rattle.node_state.proofs.TrueStates.{no_dispute, stage_gathers, true_answer, true_body, true_fault, true_tiles}
 use Rattle.node_state.proofs.WantedTiles.{wanted_key}
 use Rattle.node_state.specs.Answers.{AreHeld, IsLeastNotHeld, IsNotHeld, counted}
-use Rattle.node_state.specs.HeldAnswers.{AllAreReady, HoldsTrueFacts, IsAnswerFault, IsFaultOfTrueFacts, IsFirstUnready, IsHeldAnswer, IsReady, held_partials, held_tiles}
+use Rattle.node_state.specs.HeldAnswers.{AllAreReady, HoldsTrueFacts, IsAnswerFault, IsFaultOfTrueFacts, IsFirstUnready, IsHeldAnswer, IsReady, held_partials, held_tiles, held_totals}
 use Rattle.node_state.specs.declared.answer_fault.AnswerFault.{AnswerFault}
 use Rattle.node_state.specs.declared.answer_fault.AnswerFault.TheVariants as fault
 use Rattle.node_state.specs.States.{State, facts_of}
@@ -71,23 +73,28 @@ module _ (catalog : List Entry) (entry : Entry) (s : State) (is : IsCatalog cata
   fault_is (fault.Misshapen key) told = absurd told
   fault_is fault.Memory told = all_ready told
 
-  held_answer : (answer : Answer) → AllAreReady s program job → IsAnswer job answer → IsHeldAnswer s program job answer
-  held_answer answer ready told = record {
-    ready = ready;
-    picture =
-        told.picture
-        ∙ sym (image_true job (held_tiles s program job) good (true_tiles catalog entry s is here right) (outputs_held s program job ready good));
-    totals =
-        told.totals
-        ∙ sym (flat_map-same (λ g. gathered_from job g (held_partials s program job g)) (gathered_at job) (range_with_len 0 (length job.stages))
-        (stage_gathers catalog entry s is here right ready good));
-  }
+  module _ (ready : AllAreReady s program job) where
+    image_is : given_image job (held_tiles s program job) ≡ image job
+    image_is =
+        image_true job (held_tiles s program job) good (true_tiles catalog entry s is here right) (outputs_held s program job ready good)
+
+    totals_are : held_totals s program job ≡ all_gathered job
+    totals_are =
+        flat_map-same (λ g. gathered_from job g (held_partials s program job g)) (gathered_at job)
+        (range_with_len 0 (length job.stages)) (stage_gathers catalog entry s is here right ready good)
+
+    held_answer : (answer : Answer) → IsAnswer job answer → IsHeldAnswer s program job answer
+    held_answer answer told = record {
+      ready = ready;
+      picture = told.picture ∙ sym image_is;
+      totals = told.totals ∙ sym totals_are;
+    }
 
   pub answers_exactly : AnswersExactly s entry
   answers_exactly = record {
     answer = λ answer. (
       (λ gives. (all_held gives.ready, true_answer catalog entry s is here right answer good gives)),
-      λ told. held_answer answer (all_ready told.0) told.1,
+      λ told. held_answer (all_ready told.0) answer told.1,
     );
     fault = λ f. (true_fault catalog entry s is here right f, fault_is f);
   }
