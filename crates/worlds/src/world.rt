@@ -1,5 +1,6 @@
 //! Worlds.
 
+ghost use Rattle.gossip_core.specs.Headline.{Headline};
 ghost use Rattle.gossip_core.specs.Histories.{Leads, start};
 ghost use Rattle.gossip_core.specs.Steps.{Accepts, IsDone, Refuses};
 ghost use Rattle.gossip_core.specs.Taking.{IsTaken, IsTakenAtKeep};
@@ -9,7 +10,7 @@ ghost use Rattle.gossip_events.specs.Scripts.{AreEvents, lines};
 ghost use Rattle.gossip_events.specs.declared.event.Event.{Event as EventType};
 ghost use Rattle.node_state.specs.HeldAnswers.{HoldsTrueFacts};
 ghost use Rattle.std.specs.Option.{IfSome, option_map};
-ghost use Rattle.std.specs.Prelude.{◌≡◌, ◌≤◌, ◌↔◌, ℕ, List, [], IfErr, IfOk, IsTrue, OnOk, false, length, true, slice_get, take};
+ghost use Rattle.std.specs.Prelude.{◌≡◌, ◌≤◌, ◌↔◌, ℕ, List, [], ◌∷◌, IfErr, IfOk, IsTrue, OnOk, false, length, true, slice_get, take};
 ghost use Rattle.worlds.specs.Worlds.{IsCounted, IsRefusedWorld, RunsOn, StopsAt};
 
 use crate::fault::WorldFault;
@@ -99,6 +100,9 @@ impl<S: FactStore> World<S> {
         ensures answer { IfOk result (IsDone self.old.network event.now self.new.network) }
         ensures refused { IfErr result
             (Refuses self.old.work self.old.network event.now self.new.network) }
+        ensures led { (size : ℕ) (h accepted : List EventType)
+            → Leads self.old.work size h accepted self.old.network → OnOk result
+            (Leads self.new.work size (event.now ∷ h) (event.now ∷ accepted) self.new.network) }
         ensures work { self.new.work ≡ self.old.work }
         ensures truth { AllTrue self.new.work.jobs self.new.network }
     {
@@ -115,6 +119,10 @@ impl<S: FactStore> World<S> {
         ensures stopped { result.memory ≡ true → StopsAt self.new events.now result.done }
         ensures work { self.new.work ≡ self.old.work }
         ensures truth { AllTrue self.new.work.jobs self.new.network }
+        // Whatever list of events led here, the headline holds of it.
+        ensures headline { (size : ℕ) (h accepted : List EventType)
+            → Leads self.new.work size h accepted self.new.network
+            → Headline self.new.work self.new.network accepted }
     {
         let _ = &self.network;
         let mut done = 0;

@@ -1,7 +1,8 @@
 use Rattle.std.proofs.Common.{◌≡◌, ◌+◌, ℕ, List, sym, subst, ◌∙◌, ap, arith, take, ◌++◌, ◌∷◌, []}
+use Rattle.gossip_core.proofs.Headlines.{headline_of}
 use Rattle.gossip_events.specs.declared.event.Event.{Event}
 use Rattle.worlds.proofs.RunLaws.{next_taken, not_memory, run_starts, runs_accepted, runs_refused}
-use Rattle.worlds.specs.Worlds.{RunsOn}
+use Rattle.worlds.specs.Worlds.{IsPlannedWork, RunsOn}
 use Rattle.worlds.proofs.world.World.run.Goals as goal
 use Rattle.worlds.proofs.world.World.run.Goals.{in-Ok, in-Err+else-is_memory}
 
@@ -17,6 +18,7 @@ loop-event-preserved g c =
         refused = let r = before.refused in let same = w.refused-is in omega (arith, r, same);
         work = c.step.ensures.work ∙ before.work;
         truth = c.step.ensures.truth;
+        good = subst IsPlannedWork (sym c.step.ensures.work) before.good;
         led = λ size h accepted leads.
             subst (λ (es : List Event). RunsOn c.step.new.self size h accepted es c.match-step.refused) more
             (subst (λ k. RunsOn c.step.new.self size h accepted (take i events ++ c.event-item.result ∷ []) k) (sym w.refused-is)
@@ -28,6 +30,7 @@ loop-event-preserved g c =
         refused = let r = before.refused in let same = w.refused-is in omega (arith, r, same);
         work = c.step.ensures.work ∙ before.work;
         truth = c.step.ensures.truth;
+        good = subst IsPlannedWork (sym c.step.ensures.work) before.good;
         led = λ size h accepted leads.
             subst (λ (es : List Event). RunsOn c.step.new.self size h accepted es c.match-step.refused) more
             (subst (λ k. RunsOn c.step.new.self size h accepted (take i events ++ c.event-item.result ∷ []) k) (sym w.refused-is)
@@ -36,3 +39,13 @@ loop-event-preserved g c =
             (not_memory w.in-Err.fault w.is_memory.result w.if-is_memory.false w.is_memory.ensures.1) w.in-Err.ensures.refused));
       }
     ]
+
+pub returns-then-is_memory-clause-headline : goal.returns-then-is_memory-clause-headline
+returns-then-is_memory-clause-headline g c size h accepted leads =
+    let good = subst IsPlannedWork (sym c.step.ensures.work) c.loop-event.invariant.good in
+    headline_of c.step.new.self.work size h accepted c.step.new.self.network good.apart good.jobs leads
+
+pub returns-clause-headline : goal.returns-clause-headline
+returns-clause-headline g c size h accepted leads =
+    let good = c.loop-event.invariant.good in
+    headline_of c.loop-event.self.work size h accepted c.loop-event.self.network good.apart good.jobs leads

@@ -1,4 +1,7 @@
-use Rattle.std.proofs.Common.{◌≡◌}
+use Rattle.std.proofs.Common.{◌≡◌, refl, sym, subst, inl}
+use Rattle.std.proofs.lemmas.Result.{IfOk-weaker}
+use Rattle.gossip_core.specs.Histories.{Leads}
+use Rattle.worlds.specs.Worlds.{WorldView}
 use Rattle.worlds.proofs.WorldLaws.{world_after}
 use Rattle.worlds.proofs.world.World.step.Goals as goal
 
@@ -11,3 +14,12 @@ pub returns-clause-truth : goal.returns-clause-truth
 returns-clause-truth g c =
     (world_after c.self.inside.jobs c.self.inside.network c.step.new.self c.args.event.now c.step.result c.self.invariant c.step.ensures.done
     c.step.ensures.refused).truth
+
+pub returns-clause-led : goal.returns-clause-led
+returns-clause-led g c size h accepted leads =
+    IfOk-weaker c.step.result _ _ (λ d ok. (
+      c.self.inside.network,
+      accepted,
+      subst (λ (v : WorldView). Leads v.work size h accepted v.network) (sym c.self.view_is) leads,
+      inl (ok, refl),
+    )) c.step.ensures.done
