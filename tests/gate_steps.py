@@ -190,7 +190,7 @@ def steps(clone: str, times: Times) -> list[Step]:
     if not done[0].failed:
         done.append(run("conformance cases", clone, ["tests/run_cases", *PROGRAMS]))
         done.append(run("memory refused", clone, ["tests/refusals", BUILT]))
-        done.append(run("damaged pictures and fact files", clone, ["tests/damage", BUILT]))
+        done.append(run("damaged pictures, fact files and scripts", clone, ["tests/damage", BUILT]))
         done.append(run("random jobs", clone, ["tests/fuzz", BUILT]))
         done.append(run("results of the examples", clone, ["examples/expected"]))
         done.append(run("page of the examples", clone, ["examples/show", "--check", BUILT]))

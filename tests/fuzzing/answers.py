@@ -18,7 +18,7 @@ FOUND_FALSE = 6
 REFUSALS = {
     1: ["usage: tilefarm COMMAND .*", rf"parameter: (?:1 NoSuchParam|2 SetTwice) .*"],
     2: ["input: no separator", "input: too long", rf"picture: (?:{PICTURE}) at \d+",
-        rf"facts: line \d+ (?:bad hex|(?:{FACTS}) at \d+)"],
+        rf"facts: line \d+ (?:bad hex|(?:{FACTS}) at \d+)", r"script: (?:(?:1 BadLine|2 NoSuchJob) at \d+|3 TooManyEvents)"],
     3: [
         rf"program: (?:{TEXT}) at \d+",
         r"check: (?:1 Unknown|2 Twice|3 Kind|4 BadKernel|5 BadLiteral) item \d+",

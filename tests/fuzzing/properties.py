@@ -7,6 +7,7 @@ from .answers import CHECKED, PLANNED, Answer, Program, demand
 from .audits import audited, merged_at_random
 from .pictures import Picture, picture
 from .programs import Writer, spelled, spelled_otherwise
+from .scripts import another_script, worlded
 from .values import Meaning
 
 SEPARATOR = b"%%\n"
@@ -39,9 +40,14 @@ def judged(program: Program, random: Random) -> str:
     for _ in range(3):
         damaged(program, case, random)
     merged_at_random(program, random)
-    if not answer.is_refusal:
+    if answer.is_refusal:
+        told = program.call(SEPARATOR.join([case.text, another_script(random), case.picture]), "world", *case.words)
+        demand(told == answer, f"world differs from eval: {told.shown()}, {answer.shown()}")
+    else:
         known = {name: int(value) for name, value in (it.split("=") for it in written.values)}
-        audited(program, *(case.text, case.picture, case.words), Meaning(written.tokens, known, taken), random)
+        meaning = Meaning(written.tokens, known, taken)
+        audited(program, *(case.text, case.picture, case.words), meaning, random)
+        worlded(program, *(case.text, case.picture, case.words), meaning, random)
     return "refused" if answer.is_refusal else "evaluated"
 
 

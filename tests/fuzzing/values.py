@@ -1,6 +1,7 @@
 """What random programs mean, point by point: the values of their functions and what their accumulators gather, over one tile.
+Also what a schedule stands on: the cases of each stage, over which points they count, and what they read from where.
 
-Written from docs/LANGUAGE.md and docs/FORMATS.md alone, for programs that `check` accepts, given as tokens, whose variables are x and y.
+Written from docs/LANGUAGE.md and docs/FORMATS.md alone, for programs that `check` accepts, given as tokens.
 """
 from typing import Callable, NamedTuple
 
@@ -8,6 +9,7 @@ from .pictures import Picture
 
 Point = tuple[int, int]
 Formula = Callable[[Point], int]
+Index = Callable[[int], int]
 STARTS = {"sum": 0, "min": 2**63 - 1, "max": -(2**63)}
 
 
@@ -31,6 +33,48 @@ class Area(NamedTuple):
     def points(self) -> list[Point]:
         return [(x, y) for x in range(self.rows[0], self.rows[1] + 1) for y in range(self.cols[0], self.cols[1] + 1)]
 
+    def count(self) -> int:
+        return (self.rows[1] - self.rows[0] + 1) * (self.cols[1] - self.cols[0] + 1)
+
+    def meet(self, other: "Area") -> "Area | None":
+        """What both have, if they have anything."""
+        ends = [(max(a[0], b[0]), min(a[1], b[1])) for a, b in zip(self, other)]
+        return Area(*ends) if all(least <= most for least, most in ends) else None
+
+    def hull(self, other: "Area | None") -> "Area":
+        """The least area that has all of both."""
+        return Area(*((min(a[0], b[0]), max(a[1], b[1])) for a, b in zip(self, other))) if other else self
+
+
+class Read(NamedTuple):
+    """A read of a stage: for the rows and for the columns, where it is at the least of them and at the greatest."""
+
+    name: str
+    rows: tuple[Index, Index]
+    cols: tuple[Index, Index]
+
+    def image(self, area: Area) -> Area:
+        """The area from where the read is at the least row and column to where it is at the greatest."""
+        return Area(*((at_least(least), at_most(most)) for (at_least, at_most), (least, most) in zip(self[1:], area)))
+
+
+class Case:
+    """A case of a function, an `else`, or the two expressions of an accumulator: the tests of bounds, and the reads in their order."""
+
+    def __init__(self):
+        self.bounds: list[tuple[int, str, int]] = []
+        self.reads: list[Read] = []
+
+    def box(self, domain: Area) -> Area | None:
+        """The part of a domain where the tests of bounds hold."""
+        spans = [list(it) for it in domain]
+        for axis, mark, value in self.bounds:
+            if mark != "<=":
+                spans[axis][0] = max(spans[axis][0], value)
+            if mark != ">=":
+                spans[axis][1] = min(spans[axis][1], value)
+        return Area(*map(tuple, spans)) if all(least <= most for least, most in spans) else None
+
 
 class Stage:
     """A plane, a function or an accumulator."""
@@ -38,6 +82,7 @@ class Stage:
     def __init__(self, kind: str, domain: Area, formula: Formula, bins=(0, 0), place: Formula | None = None, op: str = ""):
         self.kind, self.domain, self.formula, self.bins, self.place, self.op = kind, domain, formula, bins, place, op
         self.known: dict[Point, int] = {}
+        self.cases: list[Case] = []
 
     def value(self, point: Point) -> int:
         if point not in self.known:
@@ -69,6 +114,10 @@ class Meaning:
     def __init__(self, tokens: list[str], known: dict[str, int], picture: Picture):
         self.tokens, self.at, self.known, self.picture = [*tokens, ""], 0, known, picture
         self.names: dict[str, Stage] = {}
+        self.outputs: list[str] = []
+        # what stands where the reader is: the variables, and the cases so far
+        self.variables: list[str] = []
+        self.cases: list[Case] = []
         while self.peek():
             getattr(self, self.take())()
         self.stages = list(self.names.values())
@@ -92,8 +141,12 @@ class Meaning:
         self.take(";")
 
     def output(self) -> None:
-        while self.take() != ";":
-            pass
+        self.outputs = [self.take()]
+        while self.takes(","):
+            self.outputs.append(self.take())
+        self.take("max")
+        self.take()
+        self.take(";")
 
     def image(self) -> None:
         names = [self.take()]
@@ -110,30 +163,33 @@ class Meaning:
         return lambda point: samples[(point[0] * width + point[1]) * planes + plane]
 
     def func(self) -> None:
-        name, domain = self.take(), self.domain()
+        name, domain, self.cases = self.take(), self.domain(), []
         self.take("{")
         cases: list[tuple[Callable[[Point], bool], Formula]] = []
         while word := self.takes("case", "else"):
+            self.cases.append(Case())
             holds = self.condition() if word == "case" else lambda point: True
             self.take(":")
             cases.append((holds, self.expression()))
             self.take(";")
         self.take("}")
         self.names[name] = Stage("func", domain, lambda point: next((value(point) for holds, value in cases if holds(point)), 0))
+        self.names[name].cases = self.cases
 
     def accum(self) -> None:
-        name, bins = self.take(), self.span()
+        name, bins, self.cases = self.take(), self.span(), [Case()]
         self.take("over")
         domain, op, value = self.domain(), self.take("sum", "min", "max"), self.expression()
         self.take("at")
         self.names[name] = Stage("accum", domain, value, bins, self.expression(), op)
+        self.names[name].cases = self.cases
         self.take(";")
 
     def domain(self) -> Area:
-        spans = []
+        spans, self.variables = [], []
         for mark in "(,":
             self.take(mark)
-            self.take()
+            self.variables.append(self.take())
             self.take("in")
             spans.append(self.span())
         self.take(")")
@@ -169,13 +225,14 @@ class Meaning:
         return lambda point: all(it(point) for it in tests)
 
     def test(self) -> Callable[[Point], bool]:
-        axis, mark = "xy".index(self.take()), self.take("<=", ">=", "==", "%")
+        axis, mark = self.variables.index(self.take()), self.take("<=", ">=", "==", "%")
         if mark == "%":
             divisor = int(self.take())
             self.take("==")
             rest = int(self.take())
             return lambda point: point[axis] % divisor == rest
         value, holds = self.affine(), COMPARED[mark]
+        self.cases[-1].bounds.append((axis, mark, value))
         return lambda point: holds(point[axis], value)
 
     # ---- expressions
@@ -206,8 +263,8 @@ class Meaning:
             return value
         if word.isdigit():
             return lambda point, value=int(word): value
-        if word in ("x", "y"):
-            return lambda point, axis="xy".index(word): point[axis]
+        if word in self.variables:
+            return lambda point, axis=self.variables.index(word): point[axis]
         if word == "stencil":
             return self.stencil()
         if word in self.known:
@@ -233,14 +290,15 @@ class Meaning:
         self.take(",")
         cols = self.index()
         self.take(")")
+        self.cases[-1].reads.append(Read(name, (rows, rows), (cols, cols)))
         return lambda point: self.names[name].value((rows(point[0]), cols(point[1])))
 
-    def index(self) -> Callable[[int], int]:
+    def index(self) -> Index:
         grouped, mul, add, div = self.takes("("), 1, 0, 1
         if self.peek().isdigit():
             mul = int(self.take())
             self.take("*")
-        self.take("x", "y")
+        self.take(*self.variables)
         if mark := self.takes("+", "-"):
             add = int(self.take()) * (1 if mark == "+" else -1)
         if grouped:
@@ -259,6 +317,7 @@ class Meaning:
         self.take(")")
         up, left = len(rows) // 2, len(rows[0]) // 2
         factors = [(a - up, b - left, it) for a, row in enumerate(rows) for b, it in enumerate(row)]
+        self.cases[-1].reads.append(Read(name, widened(up), widened(left)))
 
         def value(point: Point) -> int:
             stage = self.names[name]
@@ -280,6 +339,11 @@ class Meaning:
 
 COMPARED = {"<=": lambda a, b: a <= b, ">=": lambda a, b: a >= b, "==": lambda a, b: a == b}
 CALLS = {"min": min, "max": max, "abs": lambda a: wrapped(abs(a)), "clamp": lambda e, a, b: min(max(e, a), b), "select": None}
+
+
+def widened(reach: int) -> tuple[Index, Index]:
+    """Where a stencil begins and ends that reaches so far to each side."""
+    return lambda v: v - reach, lambda v: v + reach
 
 
 def joined(one: Formula, other: Formula, sign: int) -> Formula:

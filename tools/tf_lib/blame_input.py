@@ -6,7 +6,7 @@ from .netpbm import header_of
 from .text import Place
 from .usage import COMMANDS, OPTIONS
 
-RANGES = {"--rows": (1, 1024), "--cols": (1, 1024), "--percent": (0, 10000)}
+RANGES = {"--rows": (1, 1024), "--cols": (1, 1024), "--percent": (0, 10000), "--nodes": (1, 16)}
 PICTURE_CURES = {
     "OtherFormat": "This is no picture that tf knows: PGM and PPM begin with P2, P3, P5 or P6, and PNG, JPEG and TIFF are converted.",
     "HeaderCut": "The file ends inside its header: kind, width, height, greatest sample, and one white byte.",
@@ -36,7 +36,7 @@ def refused_word(words: list[str]) -> tuple[str, str]:
         word = rest.pop(0)
         name, is_joined, joined = word.partition("=")
         if name.startswith("--"):
-            fault = option_fault(name, joined if is_joined else None, rest, seen)
+            fault = option_fault(words[0], name, joined if is_joined else None, rest, seen)
             if fault:
                 return word, fault
         elif not is_joined:
@@ -46,9 +46,12 @@ def refused_word(words: list[str]) -> tuple[str, str]:
     return "", "See tf --help for what a command takes."
 
 
-def option_fault(name: str, value: str | None, rest: list[str], seen: set[str]) -> str:
-    """What is wrong with an option, if something is. Its value is taken from the words behind it."""
-    known = {it.name: it.value for it in OPTIONS}
+def option_fault(command: str, name: str, value: str | None, rest: list[str], seen: set[str]) -> str:
+    """What is wrong with an option of a command, if something is. Its value is taken from the words behind it."""
+    known = {it.name: it.value for it in OPTIONS if it.only in ("", command)}
+    other = next((it.only for it in OPTIONS if it.name == name and name not in known), "")
+    if other:
+        return f"{name} is an option of {other} alone."
     if name not in known:
         return f"There is no option {name}: there are {', '.join(known)}."
     if name in seen:
@@ -72,6 +75,8 @@ def no_separator(found: re.Match[str], at: Situation) -> Blame:
     cure = f"The input has no line that is exactly %%: name the picture behind the program, as tf eval {name} photo.png."
     if at.words[:1] == ["audit"]:
         cure = f"The input has no two lines that are exactly %%: name picture and facts, as tf audit {name} photo.png some.facts."
+    if at.words[:1] == ["world"]:
+        cure = f"The input has no two lines that are exactly %%: name picture and script, as tf world {name} photo.png some.script."
     return Blame([at.text().place(len(at.text().data))], cure)
 
 
@@ -86,6 +91,8 @@ def input_failed(found: re.Match[str], at: Situation) -> Blame:
 def memory(found: re.Match[str], at: Situation) -> Blame:
     if at.words[:1] == ["merge"]:
         return Blame([], "Memory ran out: end other programs, or merge fewer files: what stands in the union is held at once.")
+    if at.words[:1] == ["world"]:
+        return Blame([], "Memory ran out: end other programs, or take fewer nodes and events: all that was ever sent is held.")
     return Blame([], "Memory ran out: end other programs, or take a smaller picture; without --stored less is held at once.")
 
 

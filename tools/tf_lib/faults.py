@@ -6,6 +6,7 @@ from . import blame_facts as of_facts
 from . import blame_grammar as of_text
 from . import blame_input as of_input
 from . import blame_names as of_names
+from . import blame_script as of_script
 from . import blame_values as of_values
 from .blame import Blame, Situation
 
@@ -21,6 +22,9 @@ TABLE: dict[str, Callable[[re.Match[str], Situation], Blame]] = {
     r"picture: \d+ (?P<fault>\w+)" + OFFSET: of_input.picture,
     r"facts: line (?P<line>\d+) bad hex": of_facts.bad_hex,
     r"facts: line (?P<line>\d+) \d+ (?P<fault>\w+)" + OFFSET: of_facts.bad_file,
+    r"script: 1 BadLine at (?P<line>\d+)": of_script.bad_line,
+    r"script: 2 NoSuchJob at (?P<line>\d+)": of_script.no_such_job,
+    r"script: 3 TooManyEvents": of_script.too_many_events,
     r"parameter: 1 NoSuchParam" + GIVEN: of_values.no_such_param,
     r"parameter: 2 SetTwice" + GIVEN: of_values.set_twice,
     r"program: 1 NotAscii" + OFFSET: of_text.not_ascii,

@@ -5,7 +5,7 @@ from typing import NamedTuple
 
 class Command(NamedTuple):
     """A command of `tilefarm`. `files` are the files that its words name, in their order; `sections` are the parts of its
-    input in theirs. A section is a program, a picture, fact files (as many as are named), or another text that is passed on."""
+    input in theirs. A section is a program, a picture, fact files (as many as are named), or a script, which is passed on."""
 
     name: str
     files: tuple[str, ...]
@@ -17,13 +17,19 @@ class Command(NamedTuple):
         """Whether it takes options and values: what has no program is not asked for anything more."""
         return "program" in self.sections
 
+    @property
+    def is_of_facts(self) -> bool:
+        """Whether it takes or writes facts."""
+        return FACTS in self.sections or SCRIPT in self.sections
+
 
 class Option(NamedTuple):
-    """An option, the word for its value if it takes one, and what it says."""
+    """An option, the word for its value if it takes one, what it says, and the command that takes it, if it is of one alone."""
 
     name: str
     value: str
     says: str
+    only: str = ""
 
 
 class Status(NamedTuple):
@@ -32,7 +38,7 @@ class Status(NamedTuple):
     lines: str
 
 
-ONE, FACTS = ("program", "picture"), "facts"
+ONE, FACTS, SCRIPT = ("program", "picture"), "facts", "script"
 COMMANDS = {
     it.name: it
     for it in (
@@ -45,6 +51,8 @@ COMMANDS = {
         Command("merge", (FACTS,), (FACTS,), "the union of fact files, as a line of hexadecimal digits"),
         Command("audit", (*ONE, FACTS), ("program", FACTS, "picture"), "for each fact of the union of fact files, rising, a line "
                 "`VERDICT STAGE ROW COL`, with `True`, `False`, `Misshapen` or `Foreign`"),
+        Command("world", (*ONE, SCRIPT), ("program", SCRIPT, "picture"), "`done D refused R`, the numbers of a script's events and of "
+                "those that were refused; then for each node a line `node N HEX`, the facts that it holds"),
     )
 }
 OPTIONS = (
@@ -52,6 +60,7 @@ OPTIONS = (
     Option("--cols", "W", "columns of a tile, 1 to 1024; 64 unless given"),
     Option("--percent", "P", "how many percent more points may be computed where a function is inlined, 0 to 10,000; 40 unless given"),
     Option("--stored", "", "inlines nothing"),
+    Option("--nodes", "N", "of `world` alone: how many nodes there are, 1 to 16; 2 unless given", only="world"),
 )
 STATUSES = (
     Status(0, "done", "what the command writes"),
@@ -61,9 +70,10 @@ STATUSES = (
     Status(4, "input or output failed", "`input failed`; nothing where the output failed"),
     Status(5, "memory ran out", "`memory`"),
 )
-# what `merge` and `audit` end with besides
+# what `merge`, `audit` and `world` end with besides
 FACT_STATUSES = (
     Status(2, "a fact file cannot be read", "`facts: line L bad hex`, `facts: line L N NAME at OFFSET`"),
+    Status(2, "a script cannot be read", "`script: N NAME at LINE`, `script: 3 TooManyEvents`"),
     Status(6, "`audit` found a `False`", "all verdicts"),
 )
 DRAWING = {
@@ -80,7 +90,8 @@ OWN_OPTIONS = (
     Option("--grey", "", "makes one grey plane of a picture in colours, before the program sees it"),
     Option("--time", "", "tells how long the program ran"),
     Option("--memory", "", "tells how much memory the program held at most"),
-    Option("--join", "", "only joins program, picture and fact files, and runs nothing: tf --join PROGRAM PICTURE [FACTS]... -o INPUT"),
+    Option("--join", "", "only joins program, picture and fact files or a script, and runs nothing: tf --join PROGRAM PICTURE [FACTS]... "
+           "-o INPUT"),
     Option("--of", "NAME", "of hist: the accumulator to draw, the first unless given; of facts: the stage whose tiles are told"),
     Option("--part", "K/N", "of facts: of all tiles in their order each N-th from the K-th on, as 1/2 and 2/2"),
     Option("--list", "", "of facts: tells what is in fact files, a line for each fact: tf facts --list FACTS..."),
@@ -95,6 +106,7 @@ LIMITS = (
     ("sides of a kernel", "odd, 1 to 15"),
     ("ends of an interval; bins", "within 16,384 of 0; 4,096"),
     ("tiles of a stage", "65,536"),
+    ("nodes of a world; events of a script", "1 to 16; 65,536"),
 )
 
 
@@ -107,13 +119,14 @@ def help_text() -> str:
     """What `tf --help` prints."""
     lines = ["usage: tf COMMAND PROGRAM [PICTURE] [-o FILE] [OPTIONS] [NAME=VALUE]...",
              "       tf audit PROGRAM PICTURE FACTS... [-o FILE] [OPTIONS] [NAME=VALUE]...",
+             "       tf world PROGRAM PICTURE SCRIPT [-o FILE] [--nodes N] [OPTIONS] [NAME=VALUE]...",
              "       tf merge FACTS... [-o FILE]", "",
              "Runs tilefarm on a program and a picture, shows faults in your own files, and draws what it is told.",
              "PICTURE is PNG, PGM or PPM; other formats are read through ImageMagick, libvips or netpbm. Without it",
              "PROGRAM is a whole input, with the line %% and the picture behind it.", "", "Commands of tilefarm:"]
     lines += [row(it.name, it.writes.replace("`", "")) for it in COMMANDS.values()]
     lines += ["", "Commands of tf:", *(row(name, says) for name, says in DRAWING.items())]
-    lines += ["", "Options of tilefarm:", *(row(f"{it.name} {it.value}", it.says) for it in OPTIONS)]
+    lines += ["", "Options of tilefarm:", *(row(f"{it.name} {it.value}", it.says.replace("`", "")) for it in OPTIONS)]
     lines += ["", "Options of tf:", *(row(f"{it.name} {it.value}", it.says) for it in OWN_OPTIONS)]
     when = {it.number: it.when.replace("`", "") for it in (*FACT_STATUSES, *STATUSES)}
     lines += ["", "Exit status:", *(row(str(it), when[it]) for it in sorted(when)), "",

@@ -5,8 +5,9 @@ use Rattle.std.proofs.lemmas.Bool.{cases_lt}
 use Rattle.std.proofs.lemmas.Option.{slice_get-map, slice_get_read, slice_get_within, same_Some, none-some}
 use Rattle.job.specs.declared.job.Job.{Job}
 use Rattle.job.specs.Kept.{pipeline_in, program_text_in}
+use Rattle.job.specs.WellFormed.{IsJob}
 use Rattle.catalog.specs.declared.ids.Ids.{Ids}
-use Rattle.catalog.specs.Entries.{Entry, entry_of, ids_of, StandsAt, IsCatalog}
+use Rattle.catalog.specs.Entries.{Entry, entry_of, ids_of, AreJobs, StandsAt, IsCatalog}
 use Rattle.catalog.specs.Refusals.{IsNew, IsAdmitted}
 
 pub same_entry : (a b : Job) → pipeline_in a ≡ pipeline_in b → program_text_in a ≡ program_text_in b → entry_of a ≡ entry_of b
@@ -15,6 +16,12 @@ same_entry a b p t i = record { text = t i; pipeline = p i }
 pub entry_at : (jobs : List Job) (n i : ℕ) (job : Job) → n ≡ length jobs → i < n → job ≡ get_or jobs i job
     → slice_get (map entry_of jobs) i ≡ Some (entry_of job)
 entry_at jobs n i job e h is = slice_get-map entry_of jobs i ∙ ap (option_map entry_of) (slice_get_read jobs n i job e h is)
+
+-- each job is well formed, so each entry is
+pub all_jobs : (jobs : List Job) → AreJobs (map entry_of jobs)
+all_jobs [] i entry there = absurd (none-some entry there)
+all_jobs (job ∷ jobs) zero entry there = subst (λ (e : Entry). IsJob e.pipeline) (same_Some (entry_of job) entry there) job.well
+all_jobs (job ∷ jobs) (suc i) entry there = all_jobs jobs i entry there
 
 -- ---- a loop over the places
 

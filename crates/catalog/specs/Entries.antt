@@ -7,6 +7,7 @@ use Rattle.job.specs.declared.job.Job.{Job}
 use Rattle.job.specs.Identity.{input_bytes, input_id}
 use Rattle.job.specs.Kept.{pipeline_in, program_text_in}
 use Rattle.job.specs.Pipeline.{Pipeline}
+use Rattle.job.specs.WellFormed.{IsJob}
 use Rattle.catalog.specs.declared.ids.Ids.{Ids}
 
 pub record Entry : Type 0 where
@@ -36,3 +37,7 @@ StandsAt entries ids i = (entry : Entry) × (slice_get entries i ≡ Some entry)
 pub record IsCatalog (entries : List Entry) : Type 0 where
   pub apart : (ids : Ids) (i j : ℕ) → StandsAt entries ids i → StandsAt entries ids j → i ≡ j
   pub few : length entries ≤ 16
+
+-- each job of it is well formed
+abbrev pub AreJobs : List Entry → Type 0
+AreJobs entries = (i : ℕ) (entry : Entry) → slice_get entries i ≡ Some entry → IsJob entry.pipeline

@@ -2,7 +2,7 @@
 
 ghost use Rattle.std.specs.Prelude.{◌≡◌, ◌++◌, ◌∷◌, [], ℕ, List, length, map, slice_get, IfOk, IfErr, IfSome, IfNone, OnOk, OnErr};
 ghost use Rattle.std.specs.Option.{option_map};
-ghost use Rattle.catalog.specs.Entries.{entry_of, IsCatalog, StandsAt};
+ghost use Rattle.catalog.specs.Entries.{entry_of, AreJobs, IsCatalog, StandsAt};
 ghost use Rattle.catalog.specs.Refusals.{IsAdmitted, IsRefusal};
 
 use crate::fault::AdmitFault;
@@ -113,7 +113,9 @@ impl Catalog {
 
     /// The job of this index. No memory is taken.
     pub fn job(&self, index: usize) -> Option<&Job>
-        ensures { option_map (λ job. entry_of job.now) result ≡ slice_get self.now index }
+        ensures job { option_map (λ job. entry_of job.now) result ≡ slice_get self.now index }
+        ensures jobs { AreJobs self.now }
+        ensures catalog { IsCatalog self.now }
     {
         self.jobs().get(index)
     }

@@ -1,3 +1,14 @@
 pub mod StateLaws
 pub mod TakingLaws
 pub mod Following
+pub mod MadeTruth
+pub mod TruthLaws
+pub mod FinishLists
+pub mod FinishNeeds
+pub mod FinishEvents
+pub mod FinishFaults
+pub mod FinishAll
+pub mod FinishWanted
+pub mod FinishStart
+pub mod AllHeld
+pub mod Headlines

@@ -9,7 +9,7 @@ use Rattle.gossip_core.specs.Steps.{facts_at, held, kept, no_states, states_at, 
 
 -- ---- nodes
 
-states_set : (nodes : List NodeStates) (a : ℕ) (q : NodeStates) (n : ℕ) → a < length nodes
+pub states_set : (nodes : List NodeStates) (a : ℕ) (q : NodeStates) (n : ℕ) → a < length nodes
     → states_at (slice_set nodes a q) n ≡ (if a == n then q else states_at nodes n)
 states_set [] a q n within = absurd (omega (arith, within))
 states_set (x ∷ xs) zero q zero within = refl

@@ -1,13 +1,21 @@
 //! What the definitions amount to, proved once for the crates above. A law is a function whose clauses are the law.
 
-ghost use Rattle.std.specs.Prelude.{◌≡◌, ℕ, ◌↔◌, List, ◌∷◌};
+ghost use Rattle.std.specs.Prelude.{◌≡◌, ℕ, ◌<◌, ◌↔◌, Bool, None, List, ◌∷◌, length};
+ghost use Rattle.catalog.specs.Entries.{AreJobs, Entry, IsCatalog, ids_of};
+ghost use Rattle.fact_audit.specs.TrueFacts.{IsTrueFact};
+ghost use Rattle.gossip_core.specs.Finishing.{GivesAll, IsPlanned, NoneRefused, lacked_work, makings};
+ghost use Rattle.gossip_core.specs.Headline.{Headline};
 ghost use Rattle.gossip_core.specs.Histories.{Leads, start};
 ghost use Rattle.gossip_core.specs.Networks.{Network};
 ghost use Rattle.gossip_core.specs.Steps.{Accepts, Work, held, kept};
 ghost use Rattle.gossip_core.specs.Taking.{IsTaken, IsTakenAtKeep, Took};
+ghost use Rattle.gossip_core.specs.Truths.{AllTrue};
 ghost use Rattle.gossip_events.specs.declared.event.Event.{Event};
 ghost use Rattle.gossip_events.specs.declared.event.Event.TheVariants.{Merge};
+ghost use Rattle.grouping.specs.Inlining.{StoresOutputs};
+ghost use Rattle.node_state.specs.Making.{AreNeedsTrue, IsMade};
 ghost use Rattle.node_state.specs.States.{IsSubset, State};
+ghost use Rattle.overlap_tiles.specs.Work.{first_without_room, wanted_keys, work_keys};
 ghost use Rattle.tile_fact.specs.declared.fact.Fact.{Fact};
 
 /// Whatever list of events leads to a world, refused ones among them, each node holds just the facts that it took, and keeps just those that
@@ -38,4 +46,53 @@ pub fn merges_are_least()
         → (s : State) → IsSubset (held w a) s → IsSubset (held w b) s → IsSubset (held new a) s }
     ensures other { (u : Work) (w new : Network) (a b n : ℕ) → Accepts u w (Merge a b) new
         → ¬ (a ≡ n) → held new n ≡ held w n }
+{}
+
+/// What is made of a tile is true, where all is true that is held of the tiles that it needs.
+pub fn made_facts_are_true()
+    ensures { (jobs : List Entry) (s : State) (inlining : List Bool) (fact : Fact)
+        → IsCatalog jobs → AreJobs jobs → AreNeedsTrue jobs s inlining fact.key
+        → IsMade jobs s inlining fact → IsTrueFact jobs fact }
+{}
+
+/// In a world of true facts an event that is accepted brings true facts alone.
+pub fn accepted_events_keep_truth()
+    ensures { (u : Work) (w new : Network) (e : Event) → IsCatalog u.jobs → AreJobs u.jobs
+        → AllTrue u.jobs w → Accepts u w e new → AllTrue u.jobs new }
+{}
+
+/// So all that nodes hold, keep and send is true in each world to which events lead from nodes that hold nothing.
+pub fn worlds_hold_true_facts()
+    ensures { (u : Work) (size : ℕ) (h accepted : List Event) (w : Network) → IsCatalog u.jobs
+        → AreJobs u.jobs → Leads u size h accepted w → AllTrue u.jobs w }
+{}
+
+/// In a world of true facts, the events that make each tile of a job's stored functions and accumulators of which a node holds nothing,
+/// and deliver it, are none of them refused, where each of these tiles has room. Then the node holds all of these tiles, and where its
+/// schedule stores the outputs, all tiles that the job's answer is put together from.
+pub fn finishing_events_give_all()
+    ensures accepted { (u : Work) (w : Network) (n j : ℕ) (entry : Entry) (inlining : List Bool)
+        → IsCatalog u.jobs → AreJobs u.jobs → AllTrue u.jobs w
+        → n < length w.nodes → IsPlanned u n j entry inlining
+        → first_without_room entry.pipeline inlining (lacked_work (held w n) entry inlining) ≡ None
+        → NoneRefused u w (makings n (length w.messages) (lacked_work (held w n) entry inlining)) }
+    ensures work { (u : Work) (w : Network) (n j : ℕ) (entry : Entry) (inlining : List Bool)
+        → IsCatalog u.jobs → AreJobs u.jobs → AllTrue u.jobs w
+        → n < length w.nodes → IsPlanned u n j entry inlining
+        → first_without_room entry.pipeline inlining (lacked_work (held w n) entry inlining) ≡ None
+        → GivesAll u w n (makings n (length w.messages) (lacked_work (held w n) entry inlining))
+        (work_keys (ids_of entry).program entry.pipeline inlining) }
+    ensures wanted { (u : Work) (w : Network) (n j : ℕ) (entry : Entry) (inlining : List Bool)
+        → IsCatalog u.jobs → AreJobs u.jobs → AllTrue u.jobs w
+        → n < length w.nodes → IsPlanned u n j entry inlining
+        → first_without_room entry.pipeline inlining (lacked_work (held w n) entry inlining) ≡ None
+        → StoresOutputs entry.pipeline inlining
+        → GivesAll u w n (makings n (length w.messages) (lacked_work (held w n) entry inlining))
+        (wanted_keys (ids_of entry).program entry.pipeline) }
+{}
+
+/// The headline: all that `Headline` says holds of each world to which events lead from nodes that hold nothing, over a catalog of jobs.
+pub fn headline()
+    ensures { (u : Work) (size : ℕ) (h accepted : List Event) (w : Network) → IsCatalog u.jobs
+        → AreJobs u.jobs → Leads u size h accepted w → Headline u w accepted }
 {}

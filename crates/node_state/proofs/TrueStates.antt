@@ -136,7 +136,7 @@ module _ (catalog : List Entry) (entry : Entry) (s : State) (is : IsCatalog cata
   there = slice_get-get_or catalog here.0 entry here.1 ∙ ap Some here.2
 
   -- what is held of a key of the job is true of the job
-  true_body : (key : Key) (fact : Fact) → ids_in key ≡ ids_of entry → Contains (facts_of s key) fact → BodyIsTrue job key fact.body
+  pub true_body : (key : Key) (fact : Fact) → ids_in key ≡ ids_of entry → Contains (facts_of s key) fact → BodyIsTrue job key fact.body
   true_body key fact ids has =
       let of = (in_facts_of s key fact).0 has in
       let told = right fact of.0 in
@@ -157,7 +157,7 @@ module _ (catalog : List Entry) (entry : Entry) (s : State) (is : IsCatalog cata
       sym (same_Some ys xs e) ∙ told.values
       ∙ ap (λ a. raster a (value job g)) (told.tile.tile.is ∙ ap (λ (x : Stage). tile_area (grid_of job x) i j) same)
 
-  true_tiles : AreTrue job (held_tiles s program job)
+  pub true_tiles : AreTrue job (held_tiles s program job)
   true_tiles g stage at i j xs tile given =
       let key = tile_key program job g i j in
       option_and_then_some _ _ xs given (λ grid _ inner.
@@ -201,7 +201,7 @@ module _ (catalog : List Entry) (entry : Entry) (s : State) (is : IsCatalog cata
         }))))
         ∙ flat_map_single (λ t. totals_over job (tile_area grid t.0 t.1) g) (tiles_of grid)
 
-    stage_gathers : IsJob job → (g : ℕ) → gathered_from job g (held_partials s program job g) ≡ gathered_at job g
+    pub stage_gathers : IsJob job → (g : ℕ) → gathered_from job g (held_partials s program job g) ≡ gathered_at job g
     stage_gathers good g = by (slice_get job.stages g) refl
       where
         by_kind : (stage : Stage) (b : Bool) → slice_get job.stages g ≡ Some stage → is_accumulator stage.body ≡ b
@@ -231,7 +231,7 @@ module _ (catalog : List Entry) (entry : Entry) (s : State) (is : IsCatalog cata
   alone_is_held : (key : Key) → IsReady s job key → IsNotHeld s key → ⊥
   alone_is_held key one none = let e = one.alone in absurd (cc)
 
-  no_dispute : (key : Key) → IsDisputed s key → ⊥
+  pub no_dispute : (key : Key) → IsDisputed s key → ⊥
   no_dispute key disputed = by (facts_of s key) refl disputed
     where
       same_fact : (a b : Fact) → Contains (facts_of s key) a → Contains (facts_of s key) b → a ≡ b

@@ -12,7 +12,7 @@ loop-index-preserved c =
     let serve = AreStagesFor c.args.facts.now in
     subst (λ (known : List TrueStages). IsBegun serve catalog known (c.loop-index.index + 1)) (sym c.in_ok-push.ensures.items)
     (begun_more serve catalog c.loop-index.known.items c.loop-index.index (entry_of c.in-Some.job.now) c.in_ok-stages_for.field-0
-    (sym c.in-Some.ensures) c.in_ok-stages_for.ensures c.loop-index.invariant)
+    (sym c.in-Some.ensures.job) c.in_ok-stages_for.ensures c.loop-index.invariant)
 
 pub returns : goal.returns
 returns c =

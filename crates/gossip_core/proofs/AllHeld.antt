@@ -1,0 +1,93 @@
+-- What a state of true facts answers for a job, exactly.
+use Rattle.std.proofs.Common.{◌≡◌, sym, ap, ◌∙◌, subst, refl, List, [], ◌∷◌}
+use Rattle.std.specs.List.{Contains, range_with_len}
+use Rattle.std.specs.Prelude.{ℕ, length}
+use Rattle.accumulators.proofs.TrueImage.{image_true}
+use Rattle.accumulators.specs.Answers.{IsAnswer, gathered_at}
+use Rattle.accumulators.specs.Gatherings.{gathered_from}
+use Rattle.accumulators.specs.declared.answer.Answer.{Answer}
+use Rattle.catalog.specs.Entries.{Entry, IsCatalog, ids_in, ids_of}
+use Rattle.domains.proofs.PairLists.{Contains-here}
+use Rattle.fact_audit.proofs.Judging.{true_fits}
+use Rattle.fact_audit.specs.TrueFacts.{BodyIsTrue}
+use Rattle.fact_store.proofs.KeyLaws.{in_facts_of}
+use Rattle.grouping.proofs.Lists.{flat_map-same}
+use Rattle.identity.specs.declared.key.Key.{Key}
+use Rattle.job.specs.Pipeline.{Pipeline}
+use Rattle.job.specs.WellFormed.{IsJob}
+use Rattle.overlap_tiles.specs.Work.{wanted_keys}
+use Rattle.tile_fact.specs.declared.fact.Fact.{Fact}
+use Rattle.node_state.proofs.HeldPictures.{outputs_held}
+use Rattle.node_state.proofs.TrueStates.{no_dispute, stage_gathers, true_answer, true_body, true_fault, true_tiles}
+use Rattle.node_state.proofs.WantedTiles.{wanted_key}
+use Rattle.node_state.specs.Answers.{AreHeld, IsLeastNotHeld, IsNotHeld, counted}
+use Rattle.node_state.specs.HeldAnswers.{AllAreReady, HoldsTrueFacts, IsAnswerFault, IsFaultOfTrueFacts, IsFirstUnready, IsHeldAnswer, IsReady, held_partials, held_tiles}
+use Rattle.node_state.specs.declared.answer_fault.AnswerFault.{AnswerFault}
+use Rattle.node_state.specs.declared.answer_fault.AnswerFault.TheVariants as fault
+use Rattle.node_state.specs.States.{State, facts_of}
+use Rattle.gossip_core.specs.Headline.{AnswersExactly}
+
+module _ (catalog : List Entry) (entry : Entry) (s : State) (is : IsCatalog catalog) (here : Contains catalog entry)
+    (right : HoldsTrueFacts catalog s) (good : IsJob entry.pipeline) where
+  abbrev program : List ℕ
+  program = (ids_of entry).program
+
+  abbrev job : Pipeline
+  job = entry.pipeline
+
+  -- what is held of a wanted key is one fact, and fits
+  alone_fits : (key : Key) (f : Fact) → Contains (wanted_keys program job) key → facts_of s key ≡ f ∷ [] → IsReady s job key
+  alone_fits key f has alone =
+      let ids : ids_in key ≡ ids_of entry = ap ids_in (sym (wanted_key program job key has).is) in
+      let among = subst (λ (fs : List Fact). Contains fs f) (sym alone) (Contains-here f []) in
+      let own = ((in_facts_of s key f).0 among).1 in
+      let told = true_body catalog entry s is here right key f ids among in
+      record { fact = f; alone = alone; is = true_fits job f (subst (λ (k : Key). BodyIsTrue job k f.body) (sym own) told) }
+
+  held_ready : (key : Key) → Contains (wanted_keys program job) key → ¬ IsNotHeld s key → IsReady s job key
+  held_ready key has some = by (facts_of s key) refl
+    where
+      by : (fs : List Fact) → facts_of s key ≡ fs → IsReady s job key
+      by [] at = absurd (some at)
+      by (f ∷ []) at = alone_fits key f has at
+      by (f ∷ g ∷ more) at = absurd (no_dispute catalog entry s is here right key (ap (λ (fs : List Fact). counted (length fs)) at))
+
+  all_ready : AreHeld s (wanted_keys program job) → AllAreReady s program job
+  all_ready all key has = held_ready key has (all key has)
+
+  all_held : AllAreReady s program job → AreHeld s (wanted_keys program job)
+  all_held ready key has none = let e = (ready key has).alone in absurd (cc)
+
+  -- the wanted keys below the least that is not held are ready
+  least_is_first : (key : Key) → IsLeastNotHeld s (wanted_keys program job) key → IsFirstUnready s program job key
+  least_is_first key of = record {
+    wanted = of.asked;
+    below = λ other has low. held_ready other has (λ none. of.least other has none low);
+  }
+
+  fault_is : (f : AnswerFault) → IsFaultOfTrueFacts s program job f → IsAnswerFault s program job f
+  fault_is (fault.Missing key) told = (least_is_first key told, told.not_held)
+  fault_is (fault.Disputed key) told = absurd told
+  fault_is (fault.Misshapen key) told = absurd told
+  fault_is fault.Memory told = all_ready told
+
+  held_answer : (answer : Answer) → AllAreReady s program job → IsAnswer job answer → IsHeldAnswer s program job answer
+  held_answer answer ready told = record {
+    ready = ready;
+    picture =
+        told.picture
+        ∙ sym (image_true job (held_tiles s program job) good (true_tiles catalog entry s is here right) (outputs_held s program job ready good));
+    totals =
+        told.totals
+        ∙ sym (flat_map-same (λ g. gathered_from job g (held_partials s program job g)) (gathered_at job) (range_with_len 0 (length job.stages))
+        (stage_gathers catalog entry s is here right ready good));
+  }
+
+  pub answers_exactly : AnswersExactly s entry
+  answers_exactly = record {
+    answer = λ answer. (
+      (λ gives. (all_held gives.ready, true_answer catalog entry s is here right answer good gives)),
+      λ told. held_answer answer (all_ready told.0) told.1,
+    );
+    fault = λ f. (true_fault catalog entry s is here right f, fault_is f);
+  }

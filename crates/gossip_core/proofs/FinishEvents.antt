@@ -1,0 +1,120 @@
+-- What accepted makings and deliveries do, and that they are accepted.
+use Rattle.std.proofs.Common.{arith, ℕ, suc, ◌<◌, ◌≤◌, ◌≡◌, inl, inr, refl, sym, ap, ◌∙◌, subst, true, cond, Some, List, [], ◌∷◌, ◌++◌, length}
+use Rattle.std.specs.Prelude.{◌≢◌, ◌==◌, slice_get}
+use Rattle.std.specs.List.{Any}
+use Rattle.std.proofs.lemmas.Bool.{eq-eqb}
+use Rattle.std.proofs.lemmas.List.{length_push}
+use Rattle.std.proofs.lemmas.Option.{same_Some}
+use Rattle.domains.proofs.PairLists.{Contains-cases}
+use Rattle.domains.proofs.Places.{slice_get-end}
+use Rattle.fact_store.proofs.SetLaws.{subset_left, subset_right, with_fact_has}
+use Rattle.identity.specs.declared.key.Key.{Key}
+use Rattle.node_state.specs.Answers.{IsNotHeld}
+use Rattle.node_state.specs.States.{IsSubset, State, holds, join, nothing, with_fact}
+use Rattle.node_state.specs.declared.make_fault.MakeFault.{MakeFault}
+use Rattle.node_state.specs.declared.make_fault.MakeFault.TheVariants as makes
+use Rattle.tile_fact.specs.declared.fact.Fact.{Fact}
+use Rattle.gossip_events.specs.declared.event.Event.TheVariants.{Make, Deliver}
+use Rattle.gossip_core.specs.Histories.{IsRefused}
+use Rattle.gossip_core.specs.Networks.{Network, Sent}
+use Rattle.gossip_core.specs.Steps.{Accepts, CannotMake, IsStepFault, Work, held, states_at}
+use Rattle.gossip_core.specs.declared.fault.StepFault.{StepFault}
+use Rattle.gossip_core.specs.declared.fault.StepFault.TheVariants as faults
+use Rattle.gossip_core.proofs.FinishLists.{in_none, is_held}
+use Rattle.gossip_core.proofs.StateLaws.{found_within, held_set, length-slice_set_nodes}
+
+-- the message that a making of a fact sends
+abbrev pub told : ℕ → Fact → Sent
+told n fact = record { to = n; facts = with_fact nothing fact }
+
+module _ (u : Work) (n : ℕ) (key : Key) (w : Network) where
+  none_past : n < length w.nodes → Any (λ m. length w.nodes ≤ m) (n ∷ []) → ⊥
+  none_past here past = elim (Contains-cases n [] past.1 (past.0, past.2, past.3)) [
+    | inl same ↦ (let low = past.4 in omega arith)
+    | inr other ↦ in_none past.1 other
+  ]
+
+  pub make_goes : n < length w.nodes → ((fault : MakeFault) → fault ≢ makes.Memory → CannotMake u w n key fault → ⊥)
+      → ¬ IsRefused u w (Make n key)
+  make_goes here none refused = by refused.0 refused.1 refused.2
+    where
+      by : (fault : StepFault) → fault ≢ faults.Memory → IsStepFault u w (Make n key) fault → ⊥
+      by faults.NoSuchNode other is = none_past here is
+      by faults.NoSuchMessage other is = is.1 tt
+      by faults.WrongAddress other is = is.1
+      by (faults.Make fault) other is = none fault is.1.1 is.1.0
+      by (faults.NotHeld asked) other is = is.1
+      by faults.Memory other is = other refl
+
+  pub delivery_goes : (k : ℕ) (m : Sent) → n < length w.nodes → slice_get w.messages k ≡ Some m → m.to ≡ n → ¬ IsRefused u w (Deliver n k)
+  delivery_goes k m here there own refused = by refused.0 refused.1 refused.2
+    where
+      by : (fault : StepFault) → fault ≢ faults.Memory → IsStepFault u w (Deliver n k) fault → ⊥
+      by faults.NoSuchNode other is = none_past here is
+      by faults.NoSuchMessage other is = is.1 (found_within w.messages m k there)
+      by faults.WrongAddress other is =
+          let wrong = is.1 in
+          wrong.2 (ap (λ (x : Sent). x.to) (same_Some wrong.0 m (sym wrong.1 ∙ there)) ∙ own)
+      by (faults.Make fault) other is = is.1
+      by (faults.NotHeld asked) other is = is.1
+      by faults.Memory other is = other refl
+
+  -- ---- a making
+
+  -- a fact of the key was sent
+  pub record IsMadeNext (next : Network) : Type 0 where
+    pub fact : Fact
+    pub own : fact.key ≡ key
+    pub nodes : next.nodes ≡ w.nodes
+    pub messages : next.messages ≡ w.messages ++ told n fact ∷ []
+
+  pub made_next : (next : Network) → Accepts u w (Make n key) next → IsMadeNext next
+  made_next next ok = record {
+    fact = ok.1.0;
+    own = ok.1.1.of_key;
+    nodes = ap (λ (v : Network). v.nodes) ok.1.2;
+    messages = ap (λ (v : Network). v.messages) ok.1.2;
+  }
+
+  pub message_there : (next : Network) (made : IsMadeNext next) → slice_get next.messages (length w.messages) ≡ Some (told n made.fact)
+  message_there next made =
+      ap (λ (ms : List Sent). slice_get ms (length w.messages)) made.messages ∙ slice_get-end w.messages (told n made.fact)
+
+  -- ---- and its delivery
+
+  pub record IsGained (after : Network) : Type 0 where
+    pub nodes : length after.nodes ≡ length w.nodes
+    pub messages : length after.messages ≡ suc (length w.messages)
+    pub grown : IsSubset (held w n) (held after n)
+    pub has : ¬ IsNotHeld (held after n) key
+
+  itself : (s t : State) → cond (n == n) s t ≡ s
+  itself s t = ap (λ b. cond b s t) (eq-eqb n n refl)
+
+  -- the fact is joined to what the node held
+  joined : (next after : Network) → n < length w.nodes → (made : IsMadeNext next) → Accepts u next (Deliver n (length w.messages)) after
+      → held after n ≡ join (held w n) (with_fact nothing made.fact)
+  joined next after here made goes =
+      let same = same_Some goes.1.0 (told n made.fact) (sym goes.1.1 ∙ message_there next made) in
+      let nodes : length next.nodes ≡ length w.nodes = ap length made.nodes in
+      ap (λ (v : Network). held v n) goes.1.3
+      ∙ held_set next n (join (held next n) goes.1.0.facts) n (omega arith)
+      ∙ itself (join (held next n) goes.1.0.facts) (held next n)
+      ∙ ap (λ (x : Sent). join (held next n) x.facts) same
+      ∙ ap (λ ns. join (states_at ns n).held (with_fact nothing made.fact)) made.nodes
+
+  pub gained : (next after : Network) → n < length w.nodes → Accepts u w (Make n key) next
+      → Accepts u next (Deliver n (length w.messages)) after → IsGained after
+  gained next after here ok goes =
+      let made = made_next next ok in
+      let new = with_fact nothing made.fact in
+      let state = joined next after here made goes in
+      let has = subset_right (held w n) new made.fact (with_fact_has nothing made.fact made.fact (inl refl)) in
+      record {
+        nodes = ap (λ (v : Network). length v.nodes) goes.1.3 ∙ length-slice_set_nodes next.nodes n _ ∙ ap length made.nodes;
+        messages =
+            ap (λ (v : Network). length v.messages) goes.1.3 ∙ ap length made.messages
+            ∙ length_push w.messages (told n made.fact) ∙ omega arith;
+        grown = subst (IsSubset (held w n)) (sym state) (subset_left (held w n) new);
+        has = is_held (held after n) key made.fact (subst (λ (x : State). holds x made.fact ≡ true) (sym state) has) made.own;
+      }

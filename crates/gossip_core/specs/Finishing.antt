@@ -1,0 +1,48 @@
+-- The events that let a node hold all tiles of a job: for each tile of which it holds nothing a making, and the delivery of what was made.
+use Rattle.std.specs.Prelude.{◌≡◌, ℕ, suc, Bool, Some, None, List, [], ◌∷◌, filter, length, slice_get}
+use Rattle.std.specs.List.{Contains}
+use Rattle.catalog.specs.Entries.{Entry, ids_of}
+use Rattle.identity.specs.declared.key.Key.{Key}
+use Rattle.node_state.specs.Answers.{AreHeld}
+use Rattle.node_state.specs.HeldAnswers.{lacks}
+use Rattle.node_state.specs.States.{State}
+use Rattle.overlap_tiles.specs.Work.{first_without_room, wanted_keys, work_keys}
+use Rattle.gossip_events.specs.declared.event.Event.{Event}
+use Rattle.gossip_events.specs.declared.event.Event.TheVariants.{Make, Deliver}
+use Rattle.gossip_core.specs.Histories.{IsRefused}
+use Rattle.gossip_core.specs.Networks.{Network}
+use Rattle.gossip_core.specs.Steps.{Accepts, Work, held}
+
+-- ---- what is asked
+
+-- job j is this one, and node n inlines these of its stages
+pub record IsPlanned (u : Work) (n j : ℕ) (entry : Entry) (inlining : List Bool) : Type 0 where
+  pub there : slice_get u.jobs j ≡ Some entry
+  pub schedules : List (List Bool)
+  pub of_node : slice_get u.schedules n ≡ Some schedules
+  pub of_job : slice_get schedules j ≡ Some inlining
+
+-- the keys of the stored functions' and the accumulators' tiles of which nothing is held, in the order in which they can be made
+abbrev pub lacked_work : State → Entry → List Bool → List Key
+lacked_work s entry inlining = filter (lacks s) (work_keys (ids_of entry).program entry.pipeline inlining)
+
+-- a making of each key by node n and its delivery, where so many messages were sent before
+abbrev pub makings : ℕ → ℕ → List Key → List Event
+makings n sent [] = []
+makings n sent (key ∷ keys) = Make n key ∷ Deliver n sent ∷ makings n (suc sent) keys
+
+-- ---- what comes of it
+
+-- one after the other, the oldest first, the events are accepted
+abbrev pub AllAccepted : Work → Network → List Event → Network → Type 0
+AllAccepted u w [] new = new ≡ w
+AllAccepted u w (e ∷ events) new = (next : Network) × Accepts u w e next × AllAccepted u next events new
+
+-- whatever worlds the events lead to, none of them is refused, unless memory is
+abbrev pub NoneRefused : Work → Network → List Event → Type 0
+NoneRefused u w [] = Unit {0}
+NoneRefused u w (e ∷ events) = ¬ (IsRefused u w e) × ((next : Network) → Accepts u w e next → NoneRefused u next events)
+
+-- where all of them are accepted, node n holds a fact of each of the keys
+abbrev pub GivesAll : Work → Network → ℕ → List Event → List Key → Type 0
+GivesAll u w n events keys = (new : Network) → AllAccepted u w events new → AreHeld (held new n) keys

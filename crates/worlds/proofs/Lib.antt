@@ -1,0 +1,4 @@
+pub mod StepLaws
+pub mod WorldLaws
+pub mod RunLaws
+pub mod FinishLaws

@@ -1,0 +1,22 @@
+use Rattle.std.proofs.Common.{◌≡◌, ◌<◌, ℕ, OnOk, sym, ap, ◌∙◌, subst}
+use Rattle.std.proofs.lemmas.Result.{IfOk-weaker}
+use Rattle.gossip_core.specs.Steps.{Refuses, with_message}
+use Rattle.gossip_events.specs.declared.event.Event.TheVariants.{Make}
+use Rattle.node_state.specs.States.{with_fact}
+use Rattle.worlds.proofs.StepLaws.{made, not_made}
+use Rattle.worlds.proofs.network.Network.make.Goals as goal
+
+pub returns-in-Err-clause-refused : goal.returns-in-Err-clause-refused
+returns-in-Err-clause-refused g c =
+    subst (Refuses c.args.jobs.now c.args.self.now (Make c.args.n c.args.key.now) c.args.self.now) (sym c.refusal_of.ensures)
+    (not_made c.args.jobs.now _ _ c.self.view_is c.args.n
+    (subst (λ x. c.args.n < x) (c.len.ensures ∙ c.self.inside.nodes.ok.0) c.if-n-len.false) c.args.key.now _ _ c.node.view_is
+    c.index-node.ensures c.in-Err.fault c.in-Err.ensures.fault)
+
+pub returns-clause-done : goal.returns-clause-done
+returns-clause-done g c =
+    IfOk-weaker c.post.result _ _ (λ d sent. made c.args.jobs.now _ _ c.self.view_is c.args.n
+    (subst (λ x. c.args.n < x) (c.len.ensures ∙ c.self.inside.nodes.ok.0) c.if-n-len.false) c.args.key.now _ _ c.node.view_is
+    c.index-node.ensures c.in-Ok.fact c.post.new.self c.in-Ok.ensures.made
+    (sent ∙ ap (with_message c.args.self.now c.args.n) (c.in_ok-take.ensures.added ∙ ap (λ s. with_fact s c.in-Ok.fact) c.new-facts.ensures)))
+    c.post.ensures.sent

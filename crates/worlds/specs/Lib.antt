@@ -1,0 +1,4 @@
+pub mod Worlds
+pub mod Finishes
+pub mod FaultTable
+pub mod inside

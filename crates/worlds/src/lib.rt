@@ -1,0 +1,16 @@
+//! Worlds: nodes that make, send, deliver, merge, keep and restart, over every list of events.
+#![tactic(auto)]
+
+mod fault;
+mod finishing;
+mod network;
+mod node;
+mod planned;
+mod ran;
+mod schedules;
+mod world;
+
+pub use fault::{FinishFault, WorldFault};
+pub use ran::Ran;
+pub use schedules::NodeSchedules;
+pub use world::World;
