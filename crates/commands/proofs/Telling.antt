@@ -12,7 +12,7 @@ use Rattle.inputs.specs.declared.faults.StreamFault.{StreamFault}
 use Rattle.inputs.specs.declared.faults.StreamFault.TheVariants as faults
 use Rattle.commands.specs.Endings.{HasTold, NamesCommand}
 use Rattle.commands.specs.Sayings.{refusing_by, saying_by}
-use Rattle.commands.specs.declared.found.Found.{Found}
+use Rattle.fact_commands.specs.declared.found.Found.{Found}
 
 -- words that ask for something name a command
 pub names_command : (words : List (String Global)) (request : Request) → IsRequestOf words request → NamesCommand words
@@ -34,6 +34,7 @@ told_first Says Refuses known (faults.Check x) old new other wrote = wrote
 told_first Says Refuses known (faults.Param x) old new other wrote = wrote
 told_first Says Refuses known (faults.Bind x) old new other wrote = wrote
 told_first Says Refuses known (faults.Facts x) old new other wrote = wrote
+told_first Says Refuses known (faults.Script x) old new other wrote = wrote
 told_first Says Refuses known faults.Memory old new other wrote = wrote
 
 -- and the writer had not failed
@@ -48,6 +49,7 @@ none_failed (faults.Check x) before after other counts = counts
 none_failed (faults.Param x) before after other counts = counts
 none_failed (faults.Bind x) before after other counts = counts
 none_failed (faults.Facts x) before after other counts = counts
+none_failed (faults.Script x) before after other counts = counts
 none_failed faults.Memory before after other counts = counts
 
 -- so its line alone was written

@@ -9,7 +9,7 @@ use Rattle.inputs.specs.Outcomes.{AppendsPartSaid, AppendsSaid, IsFirstFault, st
 use Rattle.inputs.specs.Taking.{Puts}
 use Rattle.inputs.specs.declared.faults.StreamFault.{StreamFault}
 use Rattle.commands.specs.Sayings.{refusing_by, saying_by}
-use Rattle.commands.specs.declared.found.Found.{Found}
+use Rattle.fact_commands.specs.declared.found.Found.{Found}
 
 -- ---- words that ask for nothing
 

@@ -1,9 +1,6 @@
-pub mod Auditing
 pub mod Endings
 pub mod Listing
-pub mod Merging
 pub mod Planning
 pub mod Results
 pub mod Sayings
-pub mod Verdicts
 pub mod inside

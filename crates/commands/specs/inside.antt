@@ -1,5 +1,4 @@
 -- What inner contracts and proofs cite, and no public one: how the code goes about it.
 pub mod Gathering
-pub mod Passing
 pub mod Questions
 pub mod Replies

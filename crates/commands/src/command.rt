@@ -7,17 +7,17 @@ ghost use Rattle.inputs.specs.Taking.{Puts};
 ghost use Rattle.streams.specs.Streams.{one_more};
 ghost use Rattle.commands.specs.Endings.{AskFor, AskForNothing, HasSaid, HasSaidPart, HasTold, NamesCommand, usage_line};
 ghost use Rattle.commands.specs.Sayings.{refusing_by, refusing_of_task, saying_by, saying_of_task};
-ghost use Rattle.commands.specs.declared.found.Found.TheVariants.{AFalse, NoFalse};
+ghost use Rattle.fact_commands.specs.declared.found.Found.TheVariants.{AFalse, NoFalse};
 ghost use Rattle.inputs.specs.declared.faults.StreamFault.TheVariants.{Memory, Read};
 
-use crate::audits::audit_stream;
-use crate::found::{Found, none_false};
+use crate::found::none_false;
 use crate::task_stream::{check_stream, eval_stream, plan_stream};
-use crate::unions::merge_stream;
 use command_line::{JobRequest, Refusal, Request, Task, request_of};
+use fact_commands::{Found, audit_stream, merge_stream};
 use inputs::{StreamFault, write_line};
 use std::thread::Threads;
 use streams::{Sink, Source, write_whole};
+use world_commands::world_stream;
 
 /// The line of every command line that is refused.
 const USAGE: &[u8] = b"usage: tilefarm COMMAND [OPTIONS] [NAME=VALUE]...\n";
@@ -167,6 +167,9 @@ fn perform_task<H: AllocGlobal + Threads + Sync, R: Source, W: Sink>(
         Task::Check => none_false(check_stream(rt, options, parameters, reader, writer)),
         Task::Plan => none_false(plan_stream(rt, options, parameters, reader, writer)),
         Task::Audit => audit_stream(rt, options, parameters, reader, writer),
+        Task::World(nodes) => {
+            none_false(world_stream(rt, nodes, options, parameters, reader, writer))
+        }
     }
 }
 

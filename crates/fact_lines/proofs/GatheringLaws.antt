@@ -1,6 +1,6 @@
 -- What lines hold, one after the other.
-use Rattle.std.proofs.Common.{◌≡◌, ◌++◌, ◌+◌, ◌<◌, ◌≤◌, ℕ, List, [], ◌∷◌, ◌⊎◌, inl, inr, length, take, drop, get_or, refl, sym, ap, subst, ◌∙◌, arith}
-use Rattle.std.specs.Prelude.{◌≢◌, ◌↔◌, Ok}
+use Rattle.std.proofs.Common.{◌≡◌, ◌++◌, ◌+◌, ◌<◌, ℕ, List, [], ◌∷◌, inl, inr, length, take, drop, get_or, refl, sym, ap, subst, ◌∙◌, arith}
+use Rattle.std.specs.Prelude.{◌≢◌}
 use Rattle.std.specs.List.{All, Contains}
 use Rattle.std.proofs.lemmas.List.{drop_more, length-take-le, take-append-drop, take_all, take_more}
 use Rattle.std.proofs.lemmas.List.Elements.{All-nil, All-append, Contains-append_cases, Contains-append_left, Contains-append_right, Contains-push, Contains-push_cases, All-cons}
@@ -12,7 +12,7 @@ use Rattle.tile_fact.specs.declared.fault.FactFault.{FactFault}
 use Rattle.tile_fact.specs.declared.fault.FactFault.TheVariants as files
 use Rattle.tile_fact.specs.Faults.{IsFault as IsFileFault}
 use Rattle.fact_lines.specs.declared.fault.LinesFault.{LinesFault}
-use Rattle.fact_lines.specs.Faults.{AreDigits, IsFault, IsLineFault}
+use Rattle.fact_lines.specs.Faults.{IsFault, IsLineFault}
 use Rattle.fact_lines.specs.inside.Gathering.{Adds, Gathers, told}
 use Rattle.fact_lines.specs.Texts.{IsDigitsOf, IsFileLine, IsGoodLine, IsOnLines, lines}
 

@@ -1,4 +1,4 @@
-pub mod PassingLaws
 pub mod GatheringLaws
 pub mod HexLaws
+pub mod RecordLaws
 pub mod SortedLaws

@@ -1,7 +1,6 @@
 //! Texts of fact files, a line for each in hexadecimal digits: the union of what they hold, and the line of a union.
 #![tactic(auto)]
 
-mod digits;
 mod distinct;
 mod fault;
 mod line;
@@ -11,7 +10,7 @@ mod writing;
 
 pub use fault::LinesFault;
 pub use union::union_of;
-pub use writing::{count_facts, write_union};
+pub use writing::{count_facts, put_union, write_union};
 
 #[cfg(test)]
 mod tests;

@@ -1,66 +1,71 @@
-//! The bytes of a fact file, one after the other.
+//! The digits of a fact file, one part after the other.
 
+ghost use Rattle.hex.specs.Hex.{encode_lower};
 ghost use Rattle.std.specs.Int.{w32, w64};
 ghost use Rattle.std.specs.List.{flat_map};
 ghost use Rattle.std.specs.Prelude.{◌≡◌, ◌++◌, length};
 ghost use Rattle.tile_fact.specs.FactFile.{fact_file, fact_record, number_bytes};
-ghost use Rattle.fact_lines.specs.inside.Passing.{Puts};
+ghost use Rattle.write_buffer.specs.Passing.{Puts};
 ghost use Rattle.fact_lines.specs.inside.Labels.{label_bytes};
 
-use crate::digits::{Waiting, put, put_parts};
 use streams::{Sink, WriteFailed};
 use tile_fact::{Body, Fact};
+use write_buffer::WriteBuffer;
 
-/// Puts the file of the facts.
+/// Puts the digits of the file of the facts.
 pub fn put_file<W: Sink>(
-    waiting: &mut Waiting,
+    buffer: &mut WriteBuffer,
     writer: &mut W,
     count: u32,
     facts: &[Fact],
 ) -> Result<(), WriteFailed>
     requires { count ≡ length facts.now }
-    ensures { Puts result (fact_file facts.now) waiting.old.items waiting.new.items
+    ensures { Puts result (encode_lower (fact_file facts.now)) buffer.old buffer.new
         (W.contents writer.old) (W.contents writer.new)
         (W.failures writer.old) (W.failures writer.new) }
 {
-    put_parts(waiting, writer, &[b"PTF1", &count.to_be_bytes()])?;
-    put_records(waiting, writer, facts)
+    buffer.put_hex_parts(writer, &[b"PTF1", &count.to_be_bytes()])?;
+    put_records(buffer, writer, facts)
 }
 
 fn put_records<W: Sink>(
-    waiting: &mut Waiting,
+    buffer: &mut WriteBuffer,
     writer: &mut W,
     facts: &[Fact],
 ) -> Result<(), WriteFailed>
-    ensures { Puts result (flat_map fact_record facts.now) waiting.old.items waiting.new.items
-        (W.contents writer.old) (W.contents writer.new)
+    ensures { Puts result (flat_map (λ fact. encode_lower (fact_record fact)) facts.now)
+        buffer.old buffer.new (W.contents writer.old) (W.contents writer.new)
         (W.failures writer.old) (W.failures writer.new) }
 {
     for fact in facts {
-        put_record(waiting, writer, fact)?;
+        put_record(buffer, writer, fact)?;
     }
     Ok(())
 }
 
 fn put_record<W: Sink>(
-    waiting: &mut Waiting,
+    buffer: &mut WriteBuffer,
     writer: &mut W,
     fact: &Fact,
 ) -> Result<(), WriteFailed>
-    ensures { Puts result (fact_record fact.now) waiting.old.items waiting.new.items
+    ensures { Puts result (encode_lower (fact_record fact.now)) buffer.old buffer.new
         (W.contents writer.old) (W.contents writer.new)
         (W.failures writer.old) (W.failures writer.new) }
 {
-    put_label(waiting, writer, fact)?;
+    put_label(buffer, writer, fact)?;
     match fact.body() {
-        Body::Tile(samples) => put_samples(waiting, writer, samples.as_slice()),
-        Body::Partial(bins) => put_bins(waiting, writer, bins.as_slice()),
+        Body::Tile(samples) => put_samples(buffer, writer, samples.as_slice()),
+        Body::Partial(bins) => put_bins(buffer, writer, bins.as_slice()),
     }
 }
 
 // What stands before the numbers.
-fn put_label<W: Sink>(waiting: &mut Waiting, writer: &mut W, fact: &Fact) -> Result<(), WriteFailed>
-    ensures { Puts result (label_bytes fact.now) waiting.old.items waiting.new.items
+fn put_label<W: Sink>(
+    buffer: &mut WriteBuffer,
+    writer: &mut W,
+    fact: &Fact,
+) -> Result<(), WriteFailed>
+    ensures { Puts result (encode_lower (label_bytes fact.now)) buffer.old buffer.new
         (W.contents writer.old) (W.contents writer.new)
         (W.failures writer.old) (W.failures writer.new) }
 {
@@ -69,8 +74,7 @@ fn put_label<W: Sink>(waiting: &mut Waiting, writer: &mut W, fact: &Fact) -> Res
         Body::Partial(bins) => (1, bins.as_slice().len()),
     };
     let key = fact.key();
-    put_parts(
-        waiting,
+    buffer.put_hex_parts(
         writer,
         &[
             key.program.as_bytes(),
@@ -85,27 +89,31 @@ fn put_label<W: Sink>(waiting: &mut Waiting, writer: &mut W, fact: &Fact) -> Res
 }
 
 fn put_samples<W: Sink>(
-    waiting: &mut Waiting,
+    buffer: &mut WriteBuffer,
     writer: &mut W,
     samples: &[i32],
 ) -> Result<(), WriteFailed>
-    ensures { Puts result (flat_map (number_bytes w32) samples.now) waiting.old.items waiting.new.items
-        (W.contents writer.old) (W.contents writer.new)
+    ensures { Puts result (flat_map (λ sample. encode_lower (number_bytes w32 sample)) samples.now)
+        buffer.old buffer.new (W.contents writer.old) (W.contents writer.new)
         (W.failures writer.old) (W.failures writer.new) }
 {
     for sample in samples {
-        put(waiting, writer, &sample.to_be_bytes())?;
+        buffer.put_hex(writer, &sample.to_be_bytes())?;
     }
     Ok(())
 }
 
-fn put_bins<W: Sink>(waiting: &mut Waiting, writer: &mut W, bins: &[i64]) -> Result<(), WriteFailed>
-    ensures { Puts result (flat_map (number_bytes w64) bins.now) waiting.old.items waiting.new.items
-        (W.contents writer.old) (W.contents writer.new)
+fn put_bins<W: Sink>(
+    buffer: &mut WriteBuffer,
+    writer: &mut W,
+    bins: &[i64],
+) -> Result<(), WriteFailed>
+    ensures { Puts result (flat_map (λ bin. encode_lower (number_bytes w64 bin)) bins.now)
+        buffer.old buffer.new (W.contents writer.old) (W.contents writer.new)
         (W.failures writer.old) (W.failures writer.new) }
 {
     for bin in bins {
-        put(waiting, writer, &bin.to_be_bytes())?;
+        buffer.put_hex(writer, &bin.to_be_bytes())?;
     }
     Ok(())
 }

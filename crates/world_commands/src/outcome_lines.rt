@@ -4,21 +4,22 @@ ghost use Rattle.std.specs.Io.KnownBytes.{Appends};
 ghost use Rattle.std.specs.List.{flat_map};
 ghost use Rattle.std.specs.Prelude.{◌≡◌, IfErr, OnErr, OnOk};
 ghost use Rattle.inputs.specs.Outcomes.{CountsWritten};
-ghost use Rattle.inputs.specs.Taking.{Takes};
 ghost use Rattle.inputs.specs.declared.faults.StreamFault.TheVariants.{Write};
-ghost use Rattle.fact_lines.specs.Written.{written};
-ghost use Rattle.streams.specs.Streams.{AppendsPart};
+ghost use Rattle.streams.specs.Streams.{AppendsPart, CountsFailure};
 ghost use Rattle.world_commands.specs.WorldLines.{count_line, node_head};
 ghost use Rattle.world_commands.specs.inside.Outcomes.{held_line, outcome_lines};
+ghost use Rattle.write_buffer.specs.Passing.{Puts};
 
 use crate::held_facts::HeldFacts;
 use crate::outcome::Outcome;
-use fact_lines::write_union;
-use inputs::{StreamFault, write_texts};
+use fact_lines::put_union;
+use inputs::StreamFault;
 use itoa::Buffer;
 use streams::{Sink, WriteFailed};
+use write_buffer::WriteBuffer;
 
-/// Writes how many events there were and how many were refused, and a line for each node. No memory is taken.
+/// Writes how many events there were and how many were refused, and a line for each node. No memory is taken: the lines go through a
+/// buffer of fixed size.
 pub fn write_outcome<W: Sink>(outcome: &Outcome, writer: &mut W) -> Result<(), StreamFault>
     ensures ok { OnOk result
         (Appends (W.contents writer.old) (W.contents writer.new) (outcome_lines outcome.now)) }
@@ -34,16 +35,37 @@ pub fn write_outcome<W: Sink>(outcome: &Outcome, writer: &mut W) -> Result<(), S
 }
 
 fn write_lines<W: Sink>(outcome: &Outcome, writer: &mut W) -> Result<(), WriteFailed>
-    ensures { Takes result (outcome_lines outcome.now)
+    ensures ok { OnOk result
+        (Appends (W.contents writer.old) (W.contents writer.new) (outcome_lines outcome.now)) }
+    ensures part { OnErr result
+        (AppendsPart (W.contents writer.old) (W.contents writer.new) (outcome_lines outcome.now)) }
+    ensures failed { CountsFailure result (W.failures writer.old) (W.failures writer.new) }
+{
+    let mut buffer = WriteBuffer::new();
+    put_outcome(&mut buffer, writer, outcome)?;
+    buffer.flush(writer)
+}
+
+fn put_outcome<W: Sink>(
+    buffer: &mut WriteBuffer,
+    writer: &mut W,
+    outcome: &Outcome,
+) -> Result<(), WriteFailed>
+    ensures { Puts result (outcome_lines outcome.now) buffer.old buffer.new
         (W.contents writer.old) (W.contents writer.new)
         (W.failures writer.old) (W.failures writer.new) }
 {
-    write_counts(writer, outcome.done, outcome.refused)?;
-    write_nodes(writer, &outcome.nodes)
+    put_counts(buffer, writer, outcome.done, outcome.refused)?;
+    put_nodes(buffer, writer, &outcome.nodes)
 }
 
-fn write_counts<W: Sink>(writer: &mut W, done: usize, refused: usize) -> Result<(), WriteFailed>
-    ensures { Takes result (count_line done refused)
+fn put_counts<W: Sink>(
+    buffer: &mut WriteBuffer,
+    writer: &mut W,
+    done: usize,
+    refused: usize,
+) -> Result<(), WriteFailed>
+    ensures { Puts result (count_line done refused) buffer.old buffer.new
         (W.contents writer.old) (W.contents writer.new)
         (W.failures writer.old) (W.failures writer.new) }
 {
@@ -51,43 +73,42 @@ fn write_counts<W: Sink>(writer: &mut W, done: usize, refused: usize) -> Result<
     let mut refusals = Buffer::new();
     let done = dones.format(done).as_bytes();
     let refused = refusals.format(refused).as_bytes();
-    write_texts(writer, &[b"done ", done, b" refused ", refused, b"\n"])
+    buffer.put_parts(writer, &[b"done ", done, b" refused ", refused, b"\n"])
 }
 
-fn write_nodes<W: Sink>(writer: &mut W, nodes: &[HeldFacts]) -> Result<(), WriteFailed>
-    ensures { Takes result (flat_map held_line nodes.now)
+fn put_nodes<W: Sink>(
+    buffer: &mut WriteBuffer,
+    writer: &mut W,
+    nodes: &[HeldFacts],
+) -> Result<(), WriteFailed>
+    ensures { Puts result (flat_map held_line nodes.now) buffer.old buffer.new
         (W.contents writer.old) (W.contents writer.new)
         (W.failures writer.old) (W.failures writer.new) }
 {
     for node in nodes {
-        write_node(writer, node)?;
+        put_node(buffer, writer, node)?;
     }
     Ok(())
 }
 
-fn write_node<W: Sink>(writer: &mut W, node: &HeldFacts) -> Result<(), WriteFailed>
-    ensures { Takes result (held_line node.now)
+fn put_node<W: Sink>(
+    buffer: &mut WriteBuffer,
+    writer: &mut W,
+    node: &HeldFacts,
+) -> Result<(), WriteFailed>
+    ensures { Puts result (held_line node.now) buffer.old buffer.new
         (W.contents writer.old) (W.contents writer.new)
         (W.failures writer.old) (W.failures writer.new) }
 {
-    write_head(writer, node.node)?;
-    write_facts(writer, node)
+    put_head(buffer, writer, node.node)?;
+    put_union(buffer, writer, &node.facts, node.count)
 }
 
-/// The file of the facts that the node holds, and LF.
-fn write_facts<W: Sink>(writer: &mut W, node: &HeldFacts) -> Result<(), WriteFailed>
-    ensures { Takes result (written node.now.facts.items)
-        (W.contents writer.old) (W.contents writer.new)
-        (W.failures writer.old) (W.failures writer.new) }
-{
-    write_union(&node.facts, node.count, writer)
-}
-
-fn write_head<W: Sink>(writer: &mut W, node: u8) -> Result<(), WriteFailed>
-    ensures { Takes result (node_head node)
+fn put_head<W: Sink>(buffer: &mut WriteBuffer, writer: &mut W, node: u8) -> Result<(), WriteFailed>
+    ensures { Puts result (node_head node) buffer.old buffer.new
         (W.contents writer.old) (W.contents writer.new)
         (W.failures writer.old) (W.failures writer.new) }
 {
     let mut digits = Buffer::new();
-    write_texts(writer, &[b"node ", digits.format(node).as_bytes(), b" "])
+    buffer.put_parts(writer, &[b"node ", digits.format(node).as_bytes(), b" "])
 }

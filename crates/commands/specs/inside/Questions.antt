@@ -5,8 +5,8 @@ use Rattle.inputs.specs.declared.faults.StreamFault.{StreamFault}
 use Rattle.commands.specs.Listing.{SaysCheck}
 use Rattle.commands.specs.Planning.{SaysPlan}
 use Rattle.commands.specs.Results.{SaysResult}
-use Rattle.commands.specs.declared.found.Found.{Found}
-use Rattle.commands.specs.declared.found.Found.TheVariants.{NoFalse}
+use Rattle.fact_commands.specs.declared.found.Found.{Found}
+use Rattle.fact_commands.specs.declared.found.Found.TheVariants.{NoFalse}
 use Rattle.commands.specs.declared.question.Question.{Question}
 use Rattle.commands.specs.declared.question.Question.TheVariants as questions
 

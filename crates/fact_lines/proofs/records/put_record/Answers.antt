@@ -1,5 +1,5 @@
-use Rattle.std.proofs.Common.{◌∙◌, sym}
-use Rattle.fact_lines.proofs.PassingLaws.{label_breaks, puts_bins, puts_err, puts_samples}
+use Rattle.write_buffer.proofs.PassingLaws.{puts_err}
+use Rattle.fact_lines.proofs.RecordLaws.{label_breaks, puts_bins, puts_samples}
 use Rattle.fact_lines.proofs.records.put_record.Goals as goal
 
 pub returns-in_err-put_label : goal.returns-in_err-put_label

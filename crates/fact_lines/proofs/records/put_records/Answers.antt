@@ -1,16 +1,16 @@
 use Rattle.std.proofs.Common.{arith}
+use Rattle.hex.specs.Hex.{encode_lower}
 use Rattle.tile_fact.specs.FactFile.{fact_record}
-use Rattle.fact_lines.proofs.PassingLaws.{breaks_more, passes_more, passes_none, puts_err}
+use Rattle.write_buffer.proofs.PassingLaws.{breaks_more, passes_more, puts_err}
 use Rattle.fact_lines.proofs.records.put_records.Goals as goal
-
-pub loop-fact-init : goal.loop-fact-init
-loop-fact-init g c = passes_none _ _ _
 
 pub returns-in_err-put_record : goal.returns-in_err-put_record
 returns-in_err-put_record g c =
     puts_err c.from_residual.result _ _ _ _ _ _ _ c.from_residual.ensures.0
-    (breaks_more fact_record c.args.facts.now c.loop-fact.fact-index _ _ _ _ _ _ _ _ _ (omega arith) c.loop-fact.invariant (rw c.fact-item.is at c.in_err-put_record.ensures))
+    (breaks_more (λ fact. encode_lower (fact_record fact)) c.args.facts.now c.loop-fact.fact-index _ _ _ _ _ _ _ _ _ (omega arith)
+    c.loop-fact.invariant (rw c.fact-item.is at c.in_err-put_record.ensures))
 
 pub loop-fact-preserved : goal.loop-fact-preserved
 loop-fact-preserved g c =
-    passes_more fact_record c.args.facts.now c.loop-fact.fact-index _ _ _ _ _ _ _ _ _ _ (omega arith) c.loop-fact.invariant (rw c.fact-item.is at c.in_ok-put_record.ensures)
+    passes_more (λ fact. encode_lower (fact_record fact)) c.args.facts.now c.loop-fact.fact-index _ _ _ _ _ _ _ _ _ _ (omega arith)
+    c.loop-fact.invariant (rw c.fact-item.is at c.in_ok-put_record.ensures)

@@ -1,4 +1,4 @@
-use Rattle.std.proofs.Common.{◌≡◌, rules}
+use Rattle.std.proofs.Common.{rules}
 use Rattle.std.specs.declared.cmp.Ordering.{Ordering}
 use Rattle.tile_fact.specs.contracts.fact.FactOrd.TheImpl as order
 use Rattle.tile_fact.specs.declared.fact.Fact.{Fact}

@@ -1,0 +1,37 @@
+-- What `audit` tells in bytes: of each fact what is said of it, and whether one of them is false.
+use Rattle.std.specs.Prelude.{ℕ, List, [], ◌∷◌, ◌++◌, Contains, codes}
+use Rattle.std.specs.Fmt.{decimal}
+use Rattle.std.specs.List.{flat_map, zip}
+use Rattle.fact_audit.specs.declared.verdict.Verdict.{Verdict}
+use Rattle.fact_audit.specs.declared.verdict.Verdict.TheVariants.{Foreign, Misshapen, True, False}
+use Rattle.identity.specs.declared.key.Key.{Key}
+use Rattle.tile_fact.specs.declared.fact.Fact.{Fact}
+use Rattle.fact_commands.specs.declared.found.Found.{Found}
+use Rattle.fact_commands.specs.declared.found.Found.TheVariants.{NoFalse, AFalse}
+
+-- ---- lines of facts
+
+abbrev pub verdict_word : Verdict → List ℕ
+verdict_word Foreign = codes "Foreign"
+verdict_word Misshapen = codes "Misshapen"
+verdict_word True = codes "True"
+verdict_word False = codes "False"
+
+-- ` STAGE ROW COLUMN` and LF
+abbrev pub place_text : Key → List ℕ
+place_text key = 32 ∷ decimal key.stage ++ 32 ∷ decimal key.row ++ 32 ∷ decimal key.col ++ 10 ∷ []
+
+-- what is said of a fact, and its stage, row and column
+abbrev pub verdict_line : Fact × Verdict → List ℕ
+verdict_line judged = verdict_word judged.1 ++ place_text judged.0.key
+
+-- a line for each fact, in their order
+abbrev pub verdict_lines : List Fact → List Verdict → List ℕ
+verdict_lines facts verdicts = flat_map verdict_line (zip facts verdicts)
+
+-- ---- what they found
+
+-- a fact is false, or none is
+abbrev pub IsFound : Found → List Verdict → Type 0
+IsFound AFalse verdicts = Contains verdicts False
+IsFound NoFalse verdicts = ¬ (Contains verdicts False)

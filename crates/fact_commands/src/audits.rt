@@ -1,0 +1,59 @@
+//! Fact files as they are audited: from a reader to a writer.
+
+ghost use Rattle.std.specs.Io.KnownBytes.{Appends};
+ghost use Rattle.std.specs.Prelude.{◌≡◌, IfOk, IfErr, OnErr, OnOk, length};
+ghost use Rattle.inputs.specs.Outcomes.{CountsRead, CountsWritten, Writes, refusing_audit, saying_of_audit};
+ghost use Rattle.inputs.specs.declared.faults.StreamFault.TheVariants.{Write};
+ghost use Rattle.streams.specs.Streams.{AppendsPart};
+ghost use Rattle.fact_commands.specs.Auditing.{SaysVerdicts};
+ghost use Rattle.fact_commands.specs.Verdicts.{verdict_lines};
+
+use crate::audit::{Judged, judge};
+use crate::found::Found;
+use crate::verdict_lines::write_verdicts;
+use command_line::Options;
+use inputs::{StreamFault, read_input};
+use streams::{Sink, Source};
+
+/// Reads a program, fact files and a picture, and writes a line for each fact of the files, rising: what is said of it, its stage,
+/// its row and its column. The answer tells whether one of them is false.
+///
+/// The input is the program's text, a line `%%`, the files, a line for each, a line `%%` and the picture. `parameters` gives values
+/// of the program's parameters. All is judged before the first byte is written, and the lines go out through a buffer of fixed size.
+pub fn audit_stream<H: AllocGlobal, R: Source, W: Sink>(
+    rt: &H,
+    options: &Options,
+    parameters: &[(String, i32)],
+    reader: &mut R,
+    writer: &mut W,
+) -> Result<Found, StreamFault>
+    // At `Ok` the writer took all lines, of which one is of a false fact exactly where the answer says so, and where it failed a
+    // part of such lines. Any other fault has written nothing, and is the first fault of the input and the parameters.
+    ensures written { Writes (saying_of_audit SaysVerdicts parameters.now options.now.sides)
+        (refusing_audit parameters.now options.now.sides) (R.remaining reader.old)
+        result (W.contents writer.old) (W.contents writer.new) }
+    // A fault of the reader or the writer is answered where it failed, and nowhere else.
+    ensures read { CountsRead result (R.failures reader.old) (R.failures reader.new) }
+    ensures write { CountsWritten result (W.failures writer.old) (W.failures writer.new) }
+{
+    let input = read_input(rt.alloc(), reader)?;
+    let judged = judge(rt.alloc(), options.sides, parameters, input)?;
+    write_judged(&judged, writer)
+}
+
+/// Writes the lines of the verdicts, and answers what they found.
+fn write_judged<W: Sink>(judged: &Judged, writer: &mut W) -> Result<Found, StreamFault>
+    requires { length judged.now.verdicts.items ≡ length judged.now.facts.items }
+    ensures ok { OnOk result (Appends (W.contents writer.old) (W.contents writer.new)
+        (verdict_lines judged.now.facts.items judged.now.verdicts.items)) }
+    ensures found { IfOk result (λ found. found ≡ judged.now.found) }
+    ensures part { OnErr result (AppendsPart (W.contents writer.old) (W.contents writer.new)
+        (verdict_lines judged.now.facts.items judged.now.verdicts.items)) }
+    ensures fault { IfErr result (λ fault. fault ≡ Write) }
+    ensures write { CountsWritten result (W.failures writer.old) (W.failures writer.new) }
+{
+    match write_verdicts(&judged.facts, &judged.verdicts, writer) {
+        Ok(()) => Ok(judged.found),
+        Err(_) => Err(StreamFault::Write),
+    }
+}

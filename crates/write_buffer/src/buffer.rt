@@ -1,0 +1,142 @@
+//! A buffer of fixed size before a writer.
+
+ghost use Rattle.hex.specs.Hex.{encode_lower};
+ghost use Rattle.std.specs.Fmt.{decimal};
+ghost use Rattle.std.specs.Io.KnownBytes.{Appends};
+ghost use Rattle.std.specs.List.{flat_map};
+ghost use Rattle.std.specs.Prelude.{◌≡◌, [], ◌∷◌, OnOk, OnErr};
+ghost use Rattle.streams.specs.Streams.{AppendsPart, CountsFailure};
+ghost use Rattle.write_buffer.specs.Passing.{Puts};
+
+use arrayvec::ArrayVec;
+use itoa::Buffer;
+use std::marker::Model;
+use streams::{Sink, WriteFailed, write_whole};
+
+const ROOM: usize = 4096;
+
+const DIGITS: &[u8; 16] = b"0123456789abcdef";
+
+/// Bytes that wait to be written, which is done where more have no room. It takes no memory. Once the writer has failed, the
+/// buffer is of no more use.
+#[derive(Debug, Drop)]
+pub struct WriteBuffer {
+    bytes: ArrayVec<u8, ROOM>,
+}
+
+impl Model for WriteBuffer {
+    ghost use Rattle.std.specs.Prelude.{ℕ, List};
+
+    ghost Value = { List ℕ };
+
+    ghost view = { λ b. b.bytes.items };
+}
+
+impl WriteBuffer {
+    /// A buffer in which no byte waits.
+    pub fn new() -> WriteBuffer
+        ensures { result ≡ [] }
+    {
+        WriteBuffer {
+            bytes: ArrayVec::new(),
+        }
+    }
+
+    /// Puts bytes behind those that wait.
+    pub fn put<W: Sink>(&mut self, writer: &mut W, bytes: &[u8]) -> Result<(), WriteFailed>
+        ensures { Puts result bytes.now self.old self.new
+            (W.contents writer.old) (W.contents writer.new)
+            (W.failures writer.old) (W.failures writer.new) }
+    {
+        let Err(_) = self.bytes.try_extend_from_slice(bytes) else {
+            return Ok(());
+        };
+        self.pass(writer, bytes)
+    }
+
+    // Writes all bytes that wait, and lets these wait in their place, or writes them too where there is no room for all of them.
+    fn pass<W: Sink>(&mut self, writer: &mut W, bytes: &[u8]) -> Result<(), WriteFailed>
+        ensures { Puts result bytes.now self.old self.new
+            (W.contents writer.old) (W.contents writer.new)
+            (W.failures writer.old) (W.failures writer.new) }
+    {
+        self.flush(writer)?;
+        let Err(_) = self.bytes.try_extend_from_slice(bytes) else {
+            return Ok(());
+        };
+        write_whole(writer, bytes)
+    }
+
+    /// Puts the parts, one behind the other.
+    pub fn put_parts<W: Sink>(&mut self, writer: &mut W, parts: &[&[u8]]) -> Result<(), WriteFailed>
+        ensures { Puts result (flat_map (λ part. part.now) parts.now) self.old self.new
+            (W.contents writer.old) (W.contents writer.new)
+            (W.failures writer.old) (W.failures writer.new) }
+    {
+        for part in parts {
+            self.put(writer, part)?;
+        }
+        Ok(())
+    }
+
+    /// Puts two small hexadecimal digits for each of the bytes.
+    pub fn put_hex<W: Sink>(&mut self, writer: &mut W, bytes: &[u8]) -> Result<(), WriteFailed>
+        ensures { Puts result (encode_lower bytes.now) self.old self.new
+            (W.contents writer.old) (W.contents writer.new)
+            (W.failures writer.old) (W.failures writer.new) }
+    {
+        for byte in bytes {
+            self.put(writer, &digits_of(*byte))?;
+        }
+        Ok(())
+    }
+
+    /// Puts two small hexadecimal digits for each byte of the parts, one behind the other.
+    pub fn put_hex_parts<W: Sink>(
+        &mut self,
+        writer: &mut W,
+        parts: &[&[u8]],
+    ) -> Result<(), WriteFailed>
+        ensures { Puts result (encode_lower (flat_map (λ part. part.now) parts.now)) self.old self.new
+            (W.contents writer.old) (W.contents writer.new)
+            (W.failures writer.old) (W.failures writer.new) }
+    {
+        for part in parts {
+            self.put_hex(writer, part)?;
+        }
+        Ok(())
+    }
+
+    /// Puts the decimal digits of a number.
+    pub fn put_decimal<W: Sink>(&mut self, writer: &mut W, number: u64) -> Result<(), WriteFailed>
+        ensures { Puts result (decimal number) self.old self.new
+            (W.contents writer.old) (W.contents writer.new)
+            (W.failures writer.old) (W.failures writer.new) }
+    {
+        let mut digits = Buffer::new();
+        self.put(writer, digits.format(number).as_bytes())
+    }
+
+    /// Writes all bytes that wait, after which none does.
+    pub fn flush<W: Sink>(&mut self, writer: &mut W) -> Result<(), WriteFailed>
+        ensures ok { OnOk result (Appends (W.contents writer.old) (W.contents writer.new) self.old) }
+        ensures part { OnErr result
+            (AppendsPart (W.contents writer.old) (W.contents writer.new) self.old) }
+        ensures failed { CountsFailure result (W.failures writer.old) (W.failures writer.new) }
+        ensures none { OnOk result (self.new ≡ []) }
+    {
+        write_whole(writer, self.bytes.as_slice())?;
+        self.bytes.clear();
+        Ok(())
+    }
+}
+
+// The small hexadecimal digits of a byte.
+fn digits_of(byte: u8) -> [u8; 2]
+    ensures { result ≡ encode_lower (byte ∷ []) }
+{
+    [
+        DIGITS[usize::from(byte / 16)],
+        DIGITS[usize::from(byte % 16)],
+    ]
+}

@@ -1,0 +1,9 @@
+//! Bytes on their way into a writer, through a buffer of fixed size.
+#![tactic(auto)]
+
+mod buffer;
+
+pub use buffer::WriteBuffer;
+
+#[cfg(test)]
+mod tests;
