@@ -13,7 +13,9 @@ use Rattle.clap.specs.declared.error.kind.ErrorKind.TheVariants.{OutOfMemory}
 use Rattle.clap.specs.declared.parser.matches.ArgMatches.{ArgMatches}
 use Rattle.clap.proofs.OnLiterals.{clap_on_literals}
 use Rattle.command_line.specs.Asking.{AskForMerge, IsJobRequestOf}
+use Rattle.command_line.specs.Tasks.{AsksFor, word_of}
 use Rattle.command_line.specs.Usage.{usage}
+use Rattle.command_line.specs.declared.tasks.Task.{Task}
 use Rattle.command_line.specs.declared.words.JobRequest.{JobRequest}
 
 usage_is_simple : is_simple usage ≡ true
@@ -63,6 +65,19 @@ refused words app e is fails kind request asked =
 pub same_rows : (words : List (String Global)) (request : JobRequest) (asked : IsJobRequestOf words request) (rows : List Row)
     → option_map (λ p. p.1) (subcommand_of usage (texts words)) ≡ Some rows → asked.rows ≡ rows
 same_rows words request asked rows is = same_Some asked.rows rows (sym asked.given ∙ is)
+
+-- ---- tasks
+
+-- tasks that the words ask for have the same word
+pub same_word : (words : List (String Global)) (a b : Task) → AsksFor words a → AsksFor words b → word_of a ≡ word_of b
+same_word words a b (first, here, is) (other, there, says) =
+    sym is ∙ ap string_bytes (same_Some first other (sym here ∙ there)) ∙ says
+
+-- and a task of that word is asked for
+pub asks_too : (words : List (String Global)) (a b : Task) → AsksFor words a → word_of b ≡ word_of a → AsksFor words b
+asks_too words a b (first, here, is) same = (first, here, is ∙ sym same)
+
+-- ---- merge
 
 -- one word, of which a test tells whether it is `merge`
 pub one_word : (words : List (String Global)) (word : String Global) (text : List ℕ) (b : Bool) → 1 ≤ length words → length words < 2

@@ -6,11 +6,13 @@ use Rattle.std.specs.declared.alloc.Global.{Global}
 use Rattle.std.specs.declared.string.String.{String}
 use Rattle.clap.specs.Words.{Row, Text, all_of, fault_of, first_of, subcommand_of}
 use Rattle.domains.specs.Sides.{IsSides}
+use Rattle.command_line.specs.Nodes.{IsNodeCount}
 use Rattle.command_line.specs.Tasks.{AsksFor}
 use Rattle.command_line.specs.Usage.{usage}
 use Rattle.command_line.specs.Values.{IsChosen, SpellsParameter, is_true}
 use Rattle.command_line.specs.declared.options.Options.{Options}
 use Rattle.command_line.specs.declared.tasks.Task.{Task}
+use Rattle.command_line.specs.declared.tasks.Task.TheVariants.{World}
 use Rattle.command_line.specs.declared.words.JobRequest.{JobRequest}
 use Rattle.command_line.specs.declared.words.Request.{Request}
 use Rattle.command_line.specs.declared.words.Request.TheVariants.{Merge, Job}
@@ -29,6 +31,11 @@ pub record AreOptions (rows : List Row) (options : Options) : Type 0 where
   pub percent : IsChosen (first_of (codes "percent") rows) 40 options.percent
   pub most : options.percent ≤ 10000
   pub stored : options.stored ≡ is_true (first_of (codes "stored") rows)
+
+-- the number of nodes of a world, by the option that was given, and where it was not two; other tasks have none
+abbrev pub HasNodes : List Row → Task → Type 0
+HasNodes rows (World nodes) = IsChosen (first_of (codes "nodes") rows) 2 nodes × IsNodeCount nodes
+HasNodes rows task = Unit {0}
 
 -- ---- parameters
 
@@ -60,6 +67,7 @@ pub record IsJobRequestOf (words : List (String Global)) (request : JobRequest) 
   pub task : AsksFor words request.task
   pub rows : List Row
   pub given : option_map (λ p. p.1) (subcommand_of usage (map string_bytes words)) ≡ Some rows
+  pub nodes : HasNodes rows request.task
   pub options : AreOptions rows request.options
   pub parameters : AreParametersIn rows request.parameters.items
 

@@ -29,17 +29,22 @@ command_app name =
     (number_option (codes "rows"))) (number_option (codes "cols"))) (number_option (codes "percent")))
     (flag_option (codes "stored"))) parameter_words
 
+-- `world` takes `[--nodes N]` too
+abbrev pub world_app : App
+world_app = with_rule (command_app (codes "world")) (number_option (codes "nodes"))
+
 abbrev pub command_shape : Text → Shape
 command_shape name = (command_app name).top
 
--- one of the four commands, without the program's name and without help
+-- one of the five commands, without the program's name and without help
 abbrev pub usage : App
 usage =
-    with_subcommand (with_subcommand (with_subcommand (with_subcommand
+    with_subcommand (with_subcommand (with_subcommand (with_subcommand (with_subcommand
     (on_top (λ s. record s {
       no_binary_name = true;
       disable_help_flag = true;
       disable_help_subcommand = true;
       subcommand_required = true;
     }) (new_app (codes "tilefarm")))
-    (command_shape (codes "eval"))) (command_shape (codes "check"))) (command_shape (codes "plan"))) (command_shape (codes "audit"))
+    (command_shape (codes "eval"))) (command_shape (codes "check"))) (command_shape (codes "plan"))) (command_shape (codes "audit")))
+    world_app.top

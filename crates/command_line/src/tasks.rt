@@ -4,6 +4,8 @@ ghost use Rattle.std.specs.Prelude.{IfNone, IfSome};
 ghost use Rattle.command_line.specs.Tasks.{AsksFor};
 ghost use Rattle.command_line.specs.declared.tasks.Task.{Task as TaskType};
 
+use crate::nodes::NodeCount;
+
 /// What the program is asked to do with a program and a picture.
 #[derive(Clone, Copy, Debug, PartialEq, Eq)]
 pub enum Task {
@@ -15,9 +17,11 @@ pub enum Task {
     Plan,
     /// To judge the facts of fact files.
     Audit,
+    /// To tell what so many nodes hold after a script.
+    World(NodeCount),
 }
 
-/// What the first word asks for.
+/// What the first word asks for; a world has the usual number of nodes.
 pub fn task_of(words: &[String]) -> Option<Task>
     ensures some { IfSome result (AsksFor words.now) }
     ensures none { IfNone result ((task : TaskType) → ¬ AsksFor words.now task) }
@@ -28,6 +32,7 @@ pub fn task_of(words: &[String]) -> Option<Task>
         "check" => Some(Task::Check),
         "plan" => Some(Task::Plan),
         "audit" => Some(Task::Audit),
+        "world" => Some(Task::World(NodeCount::usual())),
         _ => None,
     }
 }

@@ -1,9 +1,9 @@
 //! The command line as the usage text tells it: the commands that take words, and what each takes.
 
 ghost use Rattle.std.specs.Prelude.{◌≡◌, IfOk, false};
-ghost use Rattle.clap.specs.Words.{app_of, rule_of, shape_of};
+ghost use Rattle.clap.specs.Words.{app_of, rule_of};
 ghost use Rattle.clap.specs.declared.builder.Command.TheViews.{out-Command as fields_of};
-ghost use Rattle.command_line.specs.Usage.{command_shape, flag_option, number_option, parameter_words, usage};
+ghost use Rattle.command_line.specs.Usage.{command_app, flag_option, number_option, parameter_words, usage, world_app};
 
 use clap::{Arg, ArgAction, Command};
 use std::alloc::{AllocError, Global};
@@ -20,12 +20,13 @@ pub fn usage<'a>(alloc: Global) -> Result<Command<'a>, AllocError>
         .subcommand(command(alloc, "eval")?)?
         .subcommand(command(alloc, "check")?)?
         .subcommand(command(alloc, "plan")?)?
-        .subcommand(command(alloc, "audit")?)
+        .subcommand(command(alloc, "audit")?)?
+        .subcommand(world(alloc)?)
 }
 
 /// A command that takes options and values of parameters.
 fn command<'a>(alloc: Global, name: &'a str) -> Result<Command<'a>, AllocError>
-    ensures shape { IfOk result (λ c. shape_of c ≡ command_shape name.now) }
+    ensures app { IfOk result (λ c. app_of c ≡ command_app name.now) }
     ensures local { IfOk result (λ c. (fields_of c).has_globals ≡ false) }
 {
     Command::new(alloc, name)
@@ -35,6 +36,14 @@ fn command<'a>(alloc: Global, name: &'a str) -> Result<Command<'a>, AllocError>
         .arg(number(alloc, "percent"))?
         .arg(flag(alloc, "stored"))?
         .arg(parameters(alloc))
+}
+
+/// The command that takes a number of nodes too.
+fn world<'a>(alloc: Global) -> Result<Command<'a>, AllocError>
+    ensures app { IfOk result (λ c. app_of c ≡ world_app) }
+    ensures local { IfOk result (λ c. (fields_of c).has_globals ≡ false) }
+{
+    command(alloc, "world")?.arg(number(alloc, "nodes"))
 }
 
 /// An option that takes a number.

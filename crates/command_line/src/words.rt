@@ -4,13 +4,17 @@ ghost use Rattle.std.specs.Prelude.{◌≡◌, ◌≢◌, ◌↔◌, IsTrue, IfO
 ghost use Rattle.std.specs.List.{list_any};
 ghost use Rattle.clap.specs.Words.{first_of, found_of, kind_of, rows_of};
 ghost use Rattle.clap.specs.declared.error.kind.ErrorKind.TheVariants.{OutOfMemory};
-ghost use Rattle.command_line.specs.Asking.{AreOptions, AreParameters, AreParametersIn, AskForMerge, Given, IsJobRequestOf, IsRequestOf, NamesTask, is_separator};
+ghost use Rattle.command_line.specs.Asking.{AreOptions, AreParameters, AreParametersIn, AskForMerge, Given, HasNodes, IsJobRequestOf, IsRequestOf, NamesTask, is_separator};
+ghost use Rattle.command_line.specs.Tasks.{word_of};
 ghost use Rattle.command_line.specs.Values.{IsChosen, is_true};
 ghost use Rattle.command_line.specs.declared.options.Options.{Options as OptionsType};
+ghost use Rattle.command_line.specs.declared.tasks.Task.{Task as TaskType};
+ghost use Rattle.command_line.specs.declared.tasks.Task.TheVariants.{World};
 ghost use Rattle.command_line.specs.declared.words.JobRequest.{JobRequest as JobRequestType};
 ghost use Rattle.command_line.specs.declared.words.Request.{Request as RequestType};
 ghost use Rattle.command_line.specs.declared.words.Refusal.TheVariants as refusals;
 
+use crate::nodes::NodeCount;
 use crate::options::{Options, Percent};
 use crate::tasks::{Task, task_of};
 use crate::usage::usage;
@@ -106,11 +110,14 @@ fn job_request_of(alloc: Global, words: &[String]) -> Result<JobRequest, Refusal
     if has_separator(words) {
         return Err(Refusal::Usage);
     }
-    let Some(task) = task_of(words) else {
+    let Some(named) = task_of(words) else {
         return Err(Refusal::Usage);
     };
     let matches = usage(alloc)?.try_get_matches_from(words)?;
     let Some((_, given)) = matches.subcommand() else {
+        return Err(Refusal::Usage);
+    };
+    let Some(task) = counted(named, given) else {
         return Err(Refusal::Usage);
     };
     let Some(options) = options_of(given) else {
@@ -133,6 +140,28 @@ fn has_separator(words: &[String]) -> bool
         }
     }
     false
+}
+
+/// The task that is named, where it is a world with the number of nodes that is given.
+fn counted(named: Task, given: &ArgMatches) -> Option<Task>
+    ensures same { IfSome result (λ task. word_of task ≡ word_of named) }
+    ensures nodes { IfSome result (HasNodes (rows_of (found_of given.now))) }
+    ensures none { IfNone result ((task : TaskType) → word_of task ≡ word_of named
+        → ¬ HasNodes (rows_of (found_of given.now)) task) }
+{
+    match named {
+        Task::World(_) => Some(Task::World(nodes_of(given)?)),
+        task => Some(task),
+    }
+}
+
+/// How many nodes the world is to have; what is not given is as usual.
+fn nodes_of(given: &ArgMatches) -> Option<NodeCount>
+    ensures some { IfSome result (λ nodes. HasNodes (rows_of (found_of given.now)) (World nodes)) }
+    ensures none { IfNone result ((nodes : ℕ)
+        → ¬ HasNodes (rows_of (found_of given.now)) (World nodes)) }
+{
+    NodeCount::new(number_in(given, "nodes", u32::from(NodeCount::usual().get()))?)
 }
 
 /// How the command is to be run; what is not given is as usual.

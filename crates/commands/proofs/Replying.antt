@@ -77,6 +77,7 @@ none_false_writes Says Refuses known (Err (faults.Check x)) old new wrote = wrot
 none_false_writes Says Refuses known (Err (faults.Param x)) old new wrote = wrote
 none_false_writes Says Refuses known (Err (faults.Bind x)) old new wrote = wrote
 none_false_writes Says Refuses known (Err (faults.Facts x)) old new wrote = wrote
+none_false_writes Says Refuses known (Err (faults.Script x)) old new wrote = wrote
 
 pub none_false_reads : (r : Result (Unit {0}) StreamFault) (old new : ℕ) → CountsRead r old new → CountsRead (none_false r) old new
 none_false_reads (Ok done) old new counts = counts
@@ -91,6 +92,7 @@ none_false_reads (Err f) old new counts =
       | faults.Param x ↦ λ c. c
       | faults.Bind x ↦ λ c. c
       | faults.Facts x ↦ λ c. c
+      | faults.Script x ↦ λ c. c
       | faults.Memory ↦ λ c. c
       | faults.Write ↦ λ c. c
     ] counts
@@ -108,6 +110,7 @@ none_false_wrote (Err f) old new counts =
       | faults.Param x ↦ λ c. c
       | faults.Bind x ↦ λ c. c
       | faults.Facts x ↦ λ c. c
+      | faults.Script x ↦ λ c. c
       | faults.Memory ↦ λ c. c
       | faults.Write ↦ λ c. c
     ] counts

@@ -34,6 +34,7 @@ told_first Says Refuses known (faults.Check x) old new other wrote = wrote
 told_first Says Refuses known (faults.Param x) old new other wrote = wrote
 told_first Says Refuses known (faults.Bind x) old new other wrote = wrote
 told_first Says Refuses known (faults.Facts x) old new other wrote = wrote
+told_first Says Refuses known (faults.Script x) old new other wrote = wrote
 told_first Says Refuses known faults.Memory old new other wrote = wrote
 
 -- and the writer had not failed
@@ -48,6 +49,7 @@ none_failed (faults.Check x) before after other counts = counts
 none_failed (faults.Param x) before after other counts = counts
 none_failed (faults.Bind x) before after other counts = counts
 none_failed (faults.Facts x) before after other counts = counts
+none_failed (faults.Script x) before after other counts = counts
 none_failed faults.Memory before after other counts = counts
 
 -- so its line alone was written

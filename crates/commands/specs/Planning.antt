@@ -7,9 +7,9 @@ use Rattle.pipe_tree.specs.Tree.{Declaration}
 use Rattle.job.specs.Answers.{has_tiles}
 use Rattle.job.specs.Pipeline.{Stage, Pipeline}
 use Rattle.grouping.specs.Costs.{cost}
-use Rattle.grouping.specs.Greedy.{greedy_inlining}
 use Rattle.grouping.specs.Inlining.{AllFitScratch}
-use Rattle.grouping.specs.Schedules.{all_stored, IsSchedule}
+use Rattle.grouping.specs.Schedules.{IsSchedule}
+use Rattle.one_job.specs.Asked.{inlining_asked}
 
 -- ---- lines of stages
 
@@ -30,10 +30,6 @@ plan_line_at job inlining g = option_map_or (stage_plan job inlining g) (slice_g
 -- the functions and accumulators in the order of the stages
 abbrev pub plan_bytes : Pipeline → List Bool → List ℕ
 plan_bytes job inlining = flat_map (plan_line_at job inlining) (range_with_len 0 (length job.stages))
-
--- which functions are inlined: none where all are to be stored, else those that the greedy rule inlines
-abbrev pub inlining_asked : Bool → ℕ → Pipeline → List Bool
-inlining_asked stored percent job = if stored then all_stored job else greedy_inlining job percent
 
 -- the bytes tell these inlining, which are a schedule of the job by which each tile has room in scratch memory
 pub record IsPlan (job : Pipeline) (inlining : List Bool) (bytes : List ℕ) : Type 0 where

@@ -2,7 +2,7 @@
 use Rattle.std.specs.Prelude.{◌≡◌, List}
 use Rattle.command_line.specs.declared.options.Options.{Options}
 use Rattle.command_line.specs.declared.tasks.Task.{Task}
-use Rattle.command_line.specs.declared.tasks.Task.TheVariants.{Eval, Check, Plan, Audit}
+use Rattle.command_line.specs.declared.tasks.Task.TheVariants.{Eval, Check, Plan, Audit, World}
 use Rattle.command_line.specs.declared.words.Request.{Request}
 use Rattle.command_line.specs.declared.words.Request.TheVariants.{Merge, Job}
 use Rattle.inputs.specs.Giving.{Given}
@@ -14,6 +14,8 @@ use Rattle.commands.specs.Planning.{SaysPlan}
 use Rattle.commands.specs.Results.{SaysResult}
 use Rattle.fact_commands.specs.declared.found.Found.{Found}
 use Rattle.fact_commands.specs.declared.found.Found.TheVariants.{NoFalse}
+use Rattle.world_commands.specs.WorldFaults.{refusing_world}
+use Rattle.world_commands.specs.WorldSayings.{saying_of_world}
 
 -- a command that judges no fact finds none that is false
 abbrev pub finding_none : Saying (Unit {0}) → Saying Found
@@ -26,12 +28,14 @@ saying_of_task Eval options given = finding_none (saying_of_job SaysResult given
 saying_of_task Check options given = finding_none (saying_of_job SaysCheck given options.sides)
 saying_of_task Plan options given = finding_none (saying_of_job (SaysPlan options.stored options.percent) given options.sides)
 saying_of_task Audit options given = saying_of_audit SaysVerdicts given options.sides
+saying_of_task (World nodes) options given = finding_none (saying_of_world nodes options given)
 
 abbrev pub refusing_of_task : Task → Options → List Given → Refusing
 refusing_of_task Eval options given = refusing_job given options.sides
 refusing_of_task Check options given = refusing_job given options.sides
 refusing_of_task Plan options given = refusing_job given options.sides
 refusing_of_task Audit options given = refusing_audit given options.sides
+refusing_of_task (World nodes) options given = refusing_world given options.sides
 
 -- ---- requests
 

@@ -10,12 +10,12 @@ ghost use Rattle.commands.specs.inside.Replies.{reply_bytes};
 ghost use Rattle.commands.specs.Results.{result_bytes};
 
 use crate::reply::Reply;
-use crate::schedules::schedule_of;
 use crate::totals::lines_of;
 use accumulators::{Answer, answer_of};
 use command_line::Options;
 use grouping::Schedule;
 use job::Job;
+use one_job::schedule_of;
 use std::alloc::{AllocError, Global};
 use std::thread::Threads;
 use tile_run::{RunFault, Stored, run_all};

@@ -17,6 +17,7 @@ use fact_commands::{Found, audit_stream, merge_stream};
 use inputs::{StreamFault, write_line};
 use std::thread::Threads;
 use streams::{Sink, Source, write_whole};
+use world_commands::world_stream;
 
 /// The line of every command line that is refused.
 const USAGE: &[u8] = b"usage: tilefarm COMMAND [OPTIONS] [NAME=VALUE]...\n";
@@ -166,6 +167,9 @@ fn perform_task<H: AllocGlobal + Threads + Sync, R: Source, W: Sink>(
         Task::Check => none_false(check_stream(rt, options, parameters, reader, writer)),
         Task::Plan => none_false(plan_stream(rt, options, parameters, reader, writer)),
         Task::Audit => audit_stream(rt, options, parameters, reader, writer),
+        Task::World(nodes) => {
+            none_false(world_stream(rt, nodes, options, parameters, reader, writer))
+        }
     }
 }
 

@@ -1,4 +1,4 @@
-//! The commands: from the input to what a command writes, and how commands end. Those on fact files stand in a crate below.
+//! The commands: from the input to what a command writes, and how commands end. Those on fact files and on scripts stand in crates below.
 #![tactic(auto)]
 
 mod answer;
@@ -7,7 +7,6 @@ mod found;
 mod plan_lines;
 mod question;
 mod reply;
-mod schedules;
 mod stage_lines;
 mod task_reply;
 mod task_stream;

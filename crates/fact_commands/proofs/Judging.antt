@@ -1,11 +1,6 @@
 -- The verdicts on the facts of an input are those by the catalog of its job.
 use Rattle.std.proofs.Common.{◌≡◌, [], ◌∷◌, ℕ, List, refl, ap, subst, ◌∙◌}
-use Rattle.std.specs.Prelude.{◌≢◌}
-use Rattle.std.proofs.lemmas.Option.{none-some}
 use Rattle.catalog.specs.Entries.{Entry, entry_of}
-use Rattle.catalog.specs.Refusals.{IsRefusal}
-use Rattle.catalog.specs.declared.fault.AdmitFault.{AdmitFault}
-use Rattle.catalog.specs.declared.fault.AdmitFault.TheVariants.{Same, Clash, Full, Memory}
 use Rattle.domains.specs.Sides.{Sides}
 use Rattle.fact_audit.specs.Verdicts.{AreVerdicts}
 use Rattle.fact_audit.specs.declared.verdict.Verdict.{Verdict}
@@ -16,16 +11,10 @@ use Rattle.job.specs.Kept.{pipeline_in}
 use Rattle.job.specs.WellFormed.{IsJob}
 use Rattle.job.specs.declared.job.Job.{Job}
 use Rattle.tile_fact.specs.declared.fact.Fact.{Fact}
-use Rattle.fact_commands.specs.Auditing.{SaysVerdicts, catalog_of}
+use Rattle.one_job.specs.Alone.{catalog_of}
+use Rattle.fact_commands.specs.Auditing.{SaysVerdicts}
 use Rattle.fact_commands.specs.Verdicts.{IsFound, verdict_lines}
 use Rattle.fact_commands.specs.declared.found.Found.{Found}
-
--- an empty catalog refuses a job for memory alone
-pub only_memory : (entry : Entry) (fault : AdmitFault) → fault ≢ Memory → IsRefusal [] entry fault → ⊥
-only_memory entry (Same i) other twin = none-some twin.0 twin.1
-only_memory entry (Clash i) other twin = none-some twin.0 twin.1
-only_memory entry Full other full = cc
-only_memory entry Memory other is = other refl
 
 pub judged_said : (input : List ℕ) (given : List Given) (sides : Sides) (job : Job) (facts : List Fact) (catalog : List Entry)
     (verdicts : List Verdict) (found : Found) → IsReadAudit input given sides job facts → IsJob (pipeline_in job)

@@ -1,19 +1,17 @@
 //! What is said of the facts of an input.
 
-ghost use Rattle.std.specs.Prelude.{◌≡◌, [], ◌∷◌, IfOk, IfErr, length};
-ghost use Rattle.catalog.specs.Entries.{entry_of};
+ghost use Rattle.std.specs.Prelude.{◌≡◌, IfOk, IfErr, length};
 ghost use Rattle.inputs.specs.Faults.{IsAuditFault};
 ghost use Rattle.inputs.specs.Outcomes.{IsSaidOfAudit};
 ghost use Rattle.fact_commands.specs.Auditing.{SaysVerdicts};
 ghost use Rattle.fact_commands.specs.Verdicts.{verdict_lines};
 
 use crate::found::{Found, found_in};
-use catalog::{AdmitFault, Catalog};
 use domains::TileSides;
 use fact_audit::{Verdict, audit_all};
 use inputs::{StreamFault, audit_of};
-use job::Job;
-use std::alloc::{AllocError, Global};
+use one_job::catalog_of;
+use std::alloc::Global;
 use tile_fact::Fact;
 
 /// Facts, what is said of each, in their order, and whether one of them is false.
@@ -46,16 +44,4 @@ pub fn judge(
         verdicts,
         found,
     })
-}
-
-/// The catalog that has this job alone.
-fn catalog_of(alloc: Global, job: Job) -> Result<Catalog, AllocError>
-    ensures { IfOk result (λ catalog. catalog ≡ entry_of job ∷ []) }
-{
-    let mut catalog = Catalog::new(alloc);
-    match catalog.admit(job) {
-        Ok(_) => Ok(catalog),
-        Err((_, AdmitFault::Memory)) => Err(AllocError),
-        Err((_, AdmitFault::Same(_) | AdmitFault::Clash(_) | AdmitFault::Full)) => unreachable!(),
-    }
 }

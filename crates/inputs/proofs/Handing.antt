@@ -83,4 +83,5 @@ told_refusal start ss given n pair fault (faults.Picture x) there before why tol
 told_refusal start ss given n pair fault (faults.Check x) there before why told = told
 told_refusal start ss given n pair fault (faults.Bind x) there before why told = told
 told_refusal start ss given n pair fault (faults.Facts x) there before why told = told
+told_refusal start ss given n pair fault (faults.Script x) there before why told = told
 told_refusal start ss given n pair fault faults.Write there before why told = told

@@ -33,9 +33,9 @@ use Rattle.fact_lines.specs.declared.fault.LinesFault.{LinesFault}
 use Rattle.fact_lines.specs.declared.fault.LinesFault.TheVariants as lines
 use Rattle.inputs.specs.declared.faults.StreamFault.{StreamFault}
 use Rattle.inputs.specs.declared.faults.StreamFault.TheVariants as faults
-use Rattle.inputs.specs.Faults.{IsAuditFault, IsFaultOf, IsJobFault, IsMergeFault, IsSpellingFault, blamed}
+use Rattle.inputs.specs.Faults.{IsAuditFault, IsFaultAround, IsFaultOf, IsJobFault, IsMergeFault, IsSpellingFault, blamed}
 use Rattle.inputs.specs.Giving.{Given, AreGiven, unset_of}
-use Rattle.inputs.specs.Input.{IsAuditInput, IsInput, IsJobAt, IsSpelled, MeansSomething, program_at}
+use Rattle.inputs.specs.Input.{IsInput, IsInputAround, IsInputInThree, IsJobAt, IsSpelled, MeansSomething, program_at}
 use Rattle.inputs.specs.Sections.{IsParted, IsPartedInThree}
 use Rattle.inputs.specs.inside.Steps.{TellsBind}
 use Rattle.inputs.specs.Told.{told_lines, told_parse, told_picture}
@@ -94,6 +94,7 @@ bind_fault tree source given sides chosen ranks fault (faults.Picture x) means a
 bind_fault tree source given sides chosen ranks fault (faults.Check x) means are_given ranking is told = absurd told
 bind_fault tree source given sides chosen ranks fault (faults.Param x) means are_given ranking is told = absurd told
 bind_fault tree source given sides chosen ranks fault (faults.Facts x) means are_given ranking is told = absurd told
+bind_fault tree source given sides chosen ranks fault (faults.Script x) means are_given ranking is told = absurd told
 bind_fault tree source given sides chosen ranks fault faults.Write means are_given ranking is told = absurd told
 
 -- ---- faults of an input of two sections
@@ -110,6 +111,7 @@ spelling_fault input text spelling given sides (faults.Check x) parted is = absu
 spelling_fault input text spelling given sides (faults.Param x) parted is = absurd is
 spelling_fault input text spelling given sides (faults.Bind x) parted is = absurd is
 spelling_fault input text spelling given sides (faults.Facts x) parted is = is
+spelling_fault input text spelling given sides (faults.Script x) parted is = is
 spelling_fault input text spelling given sides faults.Write parted is = is
 
 pub job_fault : (input : List ℕ) (given : List Given) (sides : Sides) (tree : List Declaration) (source : Image) (f : StreamFault)
@@ -124,48 +126,65 @@ job_fault input given sides tree source faults.NoSeparator read is = absurd is
 job_fault input given sides tree source (faults.Program x) read is = absurd is
 job_fault input given sides tree source (faults.Picture x) read is = absurd is
 job_fault input given sides tree source (faults.Facts x) read is = is
+job_fault input given sides tree source (faults.Script x) read is = is
 job_fault input given sides tree source faults.Write read is = is
 
 -- ---- faults of an input of three sections
 
-pub audit_spelling_fault : (input text middle spelling : List ℕ) (given : List Given) (sides : Sides) (f : StreamFault)
-    → IsPartedInThree input text middle spelling → IsSpellingFault text spelling f → IsAuditFault input given sides f
-audit_spelling_fault input text middle spelling given sides (faults.Program x) parted is = (text, middle, spelling, parted, is)
-audit_spelling_fault input text middle spelling given sides (faults.Picture x) parted is = (text, middle, spelling, parted, is)
-audit_spelling_fault input text middle spelling given sides faults.Memory parted is = tt
-audit_spelling_fault input text middle spelling given sides faults.Read parted is = is
-audit_spelling_fault input text middle spelling given sides faults.TooLong parted is = is
-audit_spelling_fault input text middle spelling given sides faults.NoSeparator parted is = absurd is
-audit_spelling_fault input text middle spelling given sides (faults.Check x) parted is = absurd is
-audit_spelling_fault input text middle spelling given sides (faults.Param x) parted is = absurd is
-audit_spelling_fault input text middle spelling given sides (faults.Bind x) parted is = absurd is
-audit_spelling_fault input text middle spelling given sides (faults.Facts x) parted is = absurd is
-audit_spelling_fault input text middle spelling given sides faults.Write parted is = is
+pub spelling_fault_around : (input text middle spelling : List ℕ) (given : List Given) (sides : Sides) (f : StreamFault)
+    → IsPartedInThree input text middle spelling → IsSpellingFault text spelling f → IsFaultAround input given sides f
+spelling_fault_around input text middle spelling given sides (faults.Program x) parted is = (text, middle, spelling, parted, is)
+spelling_fault_around input text middle spelling given sides (faults.Picture x) parted is = (text, middle, spelling, parted, is)
+spelling_fault_around input text middle spelling given sides faults.Memory parted is = tt
+spelling_fault_around input text middle spelling given sides faults.Read parted is = is
+spelling_fault_around input text middle spelling given sides faults.TooLong parted is = is
+spelling_fault_around input text middle spelling given sides faults.NoSeparator parted is = absurd is
+spelling_fault_around input text middle spelling given sides (faults.Check x) parted is = absurd is
+spelling_fault_around input text middle spelling given sides (faults.Param x) parted is = absurd is
+spelling_fault_around input text middle spelling given sides (faults.Bind x) parted is = absurd is
+spelling_fault_around input text middle spelling given sides (faults.Facts x) parted is = is
+spelling_fault_around input text middle spelling given sides (faults.Script x) parted is = is
+spelling_fault_around input text middle spelling given sides faults.Write parted is = is
 
-pub audit_job_fault : (input middle : List ℕ) (given : List Given) (sides : Sides) (tree : List Declaration) (source : Image)
+pub job_fault_around : (input middle : List ℕ) (given : List Given) (sides : Sides) (tree : List Declaration) (source : Image)
     (f : StreamFault)
-    → IsAuditInput input tree middle source → IsJobFault tree source given sides f → IsAuditFault input given sides f
-audit_job_fault input middle given sides tree source (faults.Check x) read is = (tree, middle, source, read, is)
-audit_job_fault input middle given sides tree source (faults.Param x) read is = (tree, middle, source, read, is)
-audit_job_fault input middle given sides tree source (faults.Bind x) read is = (tree, middle, source, read, is)
-audit_job_fault input middle given sides tree source faults.Memory read is = tt
-audit_job_fault input middle given sides tree source faults.Read read is = is
-audit_job_fault input middle given sides tree source faults.TooLong read is = is
-audit_job_fault input middle given sides tree source faults.NoSeparator read is = absurd is
-audit_job_fault input middle given sides tree source (faults.Program x) read is = absurd is
-audit_job_fault input middle given sides tree source (faults.Picture x) read is = absurd is
-audit_job_fault input middle given sides tree source (faults.Facts x) read is = absurd is
-audit_job_fault input middle given sides tree source faults.Write read is = is
+    → IsInputInThree input tree middle source → IsJobFault tree source given sides f → IsFaultAround input given sides f
+job_fault_around input middle given sides tree source (faults.Check x) read is = (tree, middle, source, read, is)
+job_fault_around input middle given sides tree source (faults.Param x) read is = (tree, middle, source, read, is)
+job_fault_around input middle given sides tree source (faults.Bind x) read is = (tree, middle, source, read, is)
+job_fault_around input middle given sides tree source faults.Memory read is = tt
+job_fault_around input middle given sides tree source faults.Read read is = is
+job_fault_around input middle given sides tree source faults.TooLong read is = is
+job_fault_around input middle given sides tree source faults.NoSeparator read is = absurd is
+job_fault_around input middle given sides tree source (faults.Program x) read is = absurd is
+job_fault_around input middle given sides tree source (faults.Picture x) read is = absurd is
+job_fault_around input middle given sides tree source (faults.Facts x) read is = is
+job_fault_around input middle given sides tree source (faults.Script x) read is = is
+job_fault_around input middle given sides tree source faults.Write read is = is
 
-pub audit_facts_fault : (input middle : List ℕ) (given : List Given) (sides : Sides) (tree : List Declaration) (source : Image)
-    (job : Pipeline) (f : LinesFault)
-    → IsAuditInput input tree middle source → IsJobAt tree source given sides job → IsLinesFault middle f
-    → IsAuditFault input given sides (told_lines f)
-audit_facts_fault input middle given sides tree source job (lines.BadHex n) read made is =
-    record { tree = tree; text = middle; source = source; job = job; read = read; made = made; bad = (is, λ e. cc) }
-audit_facts_fault input middle given sides tree source job (lines.BadFile n x) read made is =
-    record { tree = tree; text = middle; source = source; job = job; read = read; made = made; bad = (is, λ e. cc) }
-audit_facts_fault input middle given sides tree source job lines.Memory read made is = tt
+pub audit_fault_around : (input : List ℕ) (given : List Given) (sides : Sides) (f : StreamFault) → IsFaultAround input given sides f
+    → IsAuditFault input given sides f
+audit_fault_around input given sides (faults.Program x) is = is
+audit_fault_around input given sides (faults.Picture x) is = is
+audit_fault_around input given sides (faults.Check x) is = is
+audit_fault_around input given sides (faults.Param x) is = is
+audit_fault_around input given sides (faults.Bind x) is = is
+audit_fault_around input given sides (faults.Facts x) is = absurd is
+audit_fault_around input given sides (faults.Script x) is = is
+audit_fault_around input given sides faults.NoSeparator is = is
+audit_fault_around input given sides faults.Memory is = is
+audit_fault_around input given sides faults.Read is = is
+audit_fault_around input given sides faults.TooLong is = is
+audit_fault_around input given sides faults.Write is = is
+
+pub audit_facts_fault : (input middle : List ℕ) (given : List Given) (sides : Sides) (tree : List Declaration) (job : Pipeline)
+    (f : LinesFault)
+    → IsInputAround input given sides tree job middle → IsLinesFault middle f → IsAuditFault input given sides (told_lines f)
+audit_facts_fault input middle given sides tree job (lines.BadHex n) around is =
+    record { tree = tree; job = job; text = middle; around = around; bad = (is, λ e. cc) }
+audit_facts_fault input middle given sides tree job (lines.BadFile n x) around is =
+    record { tree = tree; job = job; text = middle; around = around; bad = (is, λ e. cc) }
+audit_facts_fault input middle given sides tree job lines.Memory around is = tt
 
 -- ---- faults of fact files
 

@@ -25,6 +25,7 @@ reader_fault Says Refuses known (faults.Check x) old is = absurd is
 reader_fault Says Refuses known (faults.Param x) old is = absurd is
 reader_fault Says Refuses known (faults.Bind x) old is = absurd is
 reader_fault Says Refuses known (faults.Facts x) old is = absurd is
+reader_fault Says Refuses known (faults.Script x) old is = absurd is
 reader_fault Says Refuses known faults.Write old is = absurd is
 
 of_input : (known : Option (List ℕ)) (input : List ℕ) (Holds : List ℕ → Type 0) → IfSome known (λ all. input ≡ all)
@@ -53,6 +54,8 @@ input_fault Says Refuses known input (faults.Bind x) old long write all within i
     (refl, of_input known input (λ i. Refuses i (faults.Bind x)) all within is)
 input_fault Says Refuses known input (faults.Facts x) old long write all within is =
     (refl, of_input known input (λ i. Refuses i (faults.Facts x)) all within is)
+input_fault Says Refuses known input (faults.Script x) old long write all within is =
+    (refl, of_input known input (λ i. Refuses i (faults.Script x)) all within is)
 
 -- the same of each kind of input
 pub job_refused : {Answer : Type 0} (Says : Saying Answer) (known : Option (List ℕ)) (input : List ℕ) (given : List Given) (sides : Sides)

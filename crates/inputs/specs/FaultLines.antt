@@ -1,5 +1,5 @@
 -- The line that tells a fault, in bytes. Items, cases and reads are counted from 0.
-use Rattle.std.specs.Prelude.{ℕ, ℤ, Option, List, [], ◌∷◌, ◌++◌, codes, string_bytes, unwrap_or}
+use Rattle.std.specs.Prelude.{ℕ, ℤ, Option, Some, List, [], ◌∷◌, ◌++◌, codes, string_bytes, unwrap_or}
 use Rattle.std.specs.Fmt.{decimal, signed_decimal}
 use Rattle.std.specs.List.{flat_map}
 use Rattle.std.specs.Option.{option_map_or}
@@ -20,8 +20,11 @@ use Rattle.tile_fact.specs.FaultTable as files
 use Rattle.tile_fact.specs.declared.fault.FactFault.{FactFault}
 use Rattle.fact_lines.specs.declared.fault.LinesFault.{LinesFault}
 use Rattle.fact_lines.specs.declared.fault.LinesFault.TheVariants as facts
+use Rattle.gossip_events.specs.FaultTable as events
+use Rattle.gossip_events.specs.declared.fault.ScriptFault.{ScriptFault}
+use Rattle.gossip_events.specs.declared.fault.ScriptFault.TheVariants as scripts
 use Rattle.inputs.specs.declared.faults.StreamFault.{StreamFault}
-use Rattle.inputs.specs.declared.faults.StreamFault.TheVariants.{Read, TooLong, NoSeparator, Program, Picture, Check, Param, Bind, Facts, Memory, Write}
+use Rattle.inputs.specs.declared.faults.StreamFault.TheVariants.{Read, TooLong, NoSeparator, Program, Picture, Check, Param, Bind, Facts, Script, Memory, Write}
 use Rattle.inputs.specs.declared.lines.BindLine.{BindLine}
 use Rattle.inputs.specs.declared.lines.CheckLine.{CheckLine}
 use Rattle.inputs.specs.declared.lines.CheckLine.TheVariants as lines
@@ -131,6 +134,21 @@ facts_text (facts.BadHex line) = bad_hex_text line
 facts_text (facts.BadFile line fault) = bad_file_text line fault
 facts_text facts.Memory = codes "memory"
 
+-- ---- faults of scripts
+
+-- ` at LINE`, where one line is at fault; lines are counted from 1
+abbrev pub at_line_text : ScriptFault → List ℕ
+at_line_text (scripts.BadLine line) = offset_text (Some line)
+at_line_text (scripts.NoSuchJob line) = offset_text (Some line)
+at_line_text scripts.TooManyEvents = []
+at_line_text scripts.Memory = []
+
+abbrev pub script_head : ScriptFault → List ℕ
+script_head fault = head (codes "script") (events.number_of fault) (events.name_of fault)
+
+abbrev pub script_text : ScriptFault → List ℕ
+script_text fault = script_head fault ++ at_line_text fault
+
 -- ---- the whole
 
 -- a fault's line without its line feed
@@ -144,6 +162,7 @@ text_of (Check line) = check_text line
 text_of (Param line) = param_text line
 text_of (Bind line) = bind_text line
 text_of (Facts fault) = facts_text fault
+text_of (Script fault) = script_text fault
 text_of Memory = codes "memory"
 text_of Write = []
 

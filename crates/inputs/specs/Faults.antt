@@ -25,10 +25,10 @@ use Rattle.fact_lines.specs.declared.fault.LinesFault.{LinesFault}
 use Rattle.fact_lines.specs.declared.fault.LinesFault.TheVariants as lines
 use Rattle.job.specs.Pipeline.{Pipeline}
 use Rattle.inputs.specs.Giving.{Given, AreGiven, IsFirstRefused, unset_of}
-use Rattle.inputs.specs.Input.{IsAuditInput, IsInput, IsJobAt, MeansSomething, program_at}
+use Rattle.inputs.specs.Input.{IsInput, IsInputAround, IsInputInThree, MeansSomething, program_at}
 use Rattle.inputs.specs.Sections.{HasNoSeparator, IsParted, IsPartedInThree, LacksSeparator}
 use Rattle.inputs.specs.declared.faults.StreamFault.{StreamFault}
-use Rattle.inputs.specs.declared.faults.StreamFault.TheVariants.{Read, TooLong, NoSeparator, Program, Picture, Check, Param, Bind, Facts, Memory, Write}
+use Rattle.inputs.specs.declared.faults.StreamFault.TheVariants.{NoSeparator, Program, Picture, Check, Param, Bind, Facts, Memory}
 use Rattle.inputs.specs.declared.lines.BindLine.{BindLine}
 use Rattle.inputs.specs.declared.lines.CheckLine.{CheckLine}
 use Rattle.inputs.specs.declared.lines.CheckLine.TheVariants as check_lines
@@ -119,43 +119,41 @@ IsFaultOf input given sides (Param line) =
 IsFaultOf input given sides (Bind line) =
     (tree : List Declaration) × (source : Image) × IsInput input tree source × IsJobFault tree source given sides (Bind line)
 IsFaultOf input given sides Memory = Unit {0}
-IsFaultOf input given sides (Facts fault) = ⊥
-IsFaultOf input given sides Read = ⊥
-IsFaultOf input given sides TooLong = ⊥
-IsFaultOf input given sides Write = ⊥
+IsFaultOf input given sides _ = ⊥
+
+-- The first fault of the program, the picture and the job of an input of three sections, of which the middle one is not looked at;
+-- memory may run out for any.
+abbrev pub IsFaultAround : List ℕ → List Given → Sides → StreamFault → Type 0
+IsFaultAround input given sides NoSeparator = LacksSeparator input
+IsFaultAround input given sides (Program fault) =
+    (text middle spelling : List ℕ) × IsPartedInThree input text middle spelling × IsSpellingFault text spelling (Program fault)
+IsFaultAround input given sides (Picture fault) =
+    (text middle spelling : List ℕ) × IsPartedInThree input text middle spelling × IsSpellingFault text spelling (Picture fault)
+IsFaultAround input given sides (Check line) =
+    (tree : List Declaration) × (middle : List ℕ) × (source : Image) × IsInputInThree input tree middle source
+    × IsJobFault tree source given sides (Check line)
+IsFaultAround input given sides (Param line) =
+    (tree : List Declaration) × (middle : List ℕ) × (source : Image) × IsInputInThree input tree middle source
+    × IsJobFault tree source given sides (Param line)
+IsFaultAround input given sides (Bind line) =
+    (tree : List Declaration) × (middle : List ℕ) × (source : Image) × IsInputInThree input tree middle source
+    × IsJobFault tree source given sides (Bind line)
+IsFaultAround input given sides Memory = Unit {0}
+IsFaultAround input given sides _ = ⊥
 
 -- the first bad line of the middle section, where the program and the picture have a job at the values that are given
 pub record IsAuditFactsFault (input : List ℕ) (given : List Given) (sides : Sides) (fault : LinesFault) : Type 0 where
   pub tree : List Declaration
-  pub text : List ℕ
-  pub source : Image
   pub job : Pipeline
-  pub read : IsAuditInput input tree text source
-  pub made : IsJobAt tree source given sides job
+  pub text : List ℕ
+  pub around : IsInputAround input given sides tree job text
   pub bad : IsFactsFault text fault
 
--- the first fault of an input of three sections: a bad line waits for the program, the picture and the job; memory may run out for
--- any
+-- the first fault of an input of three sections, of which the middle one is fact files: a bad line waits for the program, the
+-- picture and the job
 abbrev pub IsAuditFault : List ℕ → List Given → Sides → StreamFault → Type 0
-IsAuditFault input given sides NoSeparator = LacksSeparator input
-IsAuditFault input given sides (Program fault) =
-    (text middle spelling : List ℕ) × IsPartedInThree input text middle spelling × IsSpellingFault text spelling (Program fault)
-IsAuditFault input given sides (Picture fault) =
-    (text middle spelling : List ℕ) × IsPartedInThree input text middle spelling × IsSpellingFault text spelling (Picture fault)
-IsAuditFault input given sides (Check line) =
-    (tree : List Declaration) × (middle : List ℕ) × (source : Image) × IsAuditInput input tree middle source
-    × IsJobFault tree source given sides (Check line)
-IsAuditFault input given sides (Param line) =
-    (tree : List Declaration) × (middle : List ℕ) × (source : Image) × IsAuditInput input tree middle source
-    × IsJobFault tree source given sides (Param line)
-IsAuditFault input given sides (Bind line) =
-    (tree : List Declaration) × (middle : List ℕ) × (source : Image) × IsAuditInput input tree middle source
-    × IsJobFault tree source given sides (Bind line)
 IsAuditFault input given sides (Facts fault) = IsAuditFactsFault input given sides fault
-IsAuditFault input given sides Memory = Unit {0}
-IsAuditFault input given sides Read = ⊥
-IsAuditFault input given sides TooLong = ⊥
-IsAuditFault input given sides Write = ⊥
+IsAuditFault input given sides fault = IsFaultAround input given sides fault
 
 -- the first fault of an input that is fact files alone; memory is refused only where no line before is bad
 abbrev pub IsMergeFault : List ℕ → StreamFault → Type 0

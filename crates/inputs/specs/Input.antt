@@ -36,11 +36,11 @@ pub record IsInput (input : List ℕ) (tree : List Declaration) (source : Image)
   pub parted : IsParted input text spelling
   pub spelled : IsSpelled text spelling tree source
 
--- a program, a separator line, lines that are to be fact files, a separator line and a picture
-pub record IsAuditInput (input : List ℕ) (tree : List Declaration) (lines : List ℕ) (source : Image) : Type 0 where
+-- a program, a separator line, a middle section, a separator line and a picture
+pub record IsInputInThree (input : List ℕ) (tree : List Declaration) (middle : List ℕ) (source : Image) : Type 0 where
   pub text : List ℕ
   pub spelling : List ℕ
-  pub parted : IsPartedInThree input text lines spelling
+  pub parted : IsPartedInThree input text middle spelling
   pub spelled : IsSpelled text spelling tree source
 
 -- ---- the program
@@ -82,16 +82,28 @@ pub record IsReadJob (input : List ℕ) (given : List Given) (sides : Sides) (jo
   pub of_input : IsInputJob input given sides tree (pipeline_in job)
   pub text : program_text_in job ≡ canonical tree
 
+-- ---- the job, and what stands between the program and the picture
+
+-- the input is a program of this tree, a middle section and a picture, and the job is the program's and the picture's
+pub record IsInputAround (input : List ℕ) (given : List Given) (sides : Sides) (tree : List Declaration) (job : Pipeline)
+    (middle : List ℕ) : Type 0 where
+  pub source : Image
+  pub read : IsInputInThree input tree middle source
+  pub made : IsJobAt tree source given sides job
+
+-- the job and the middle section of an input; the job keeps the canonical text of its program
+pub record IsReadAround (input : List ℕ) (given : List Given) (sides : Sides) (job : Job) (middle : List ℕ) : Type 0 where
+  pub tree : List Declaration
+  pub of_input : IsInputAround input given sides tree (pipeline_in job) middle
+  pub text : program_text_in job ≡ canonical tree
+
 -- ---- the job and the facts that are to be judged by it
 
--- the input is a program of this tree, fact files and a picture; the job is the program's and the picture's, and the facts are those
--- of all files, rising, each once
+-- the middle section is fact files, and the facts are those of all files, rising, each once
 pub record IsInputAudit (input : List ℕ) (given : List Given) (sides : Sides) (tree : List Declaration) (job : Pipeline)
     (facts : List Fact) : Type 0 where
   pub lines : List ℕ
-  pub source : Image
-  pub read : IsAuditInput input tree lines source
-  pub made : IsJobAt tree source given sides job
+  pub around : IsInputAround input given sides tree job lines
   pub union : IsUnion lines facts
 
 -- the job and the facts of an input; the job keeps the canonical text of its program

@@ -11,7 +11,7 @@ use Rattle.inputs.specs.Faults.{IsAuditFault, IsFaultOf, IsMergeFault}
 use Rattle.inputs.specs.Giving.{Given}
 use Rattle.inputs.specs.Input.{IsInputAudit, IsInputJob}
 use Rattle.inputs.specs.declared.faults.StreamFault.{StreamFault}
-use Rattle.inputs.specs.declared.faults.StreamFault.TheVariants.{Read, TooLong, NoSeparator, Program, Picture, Check, Param, Bind, Facts, Memory, Write}
+use Rattle.inputs.specs.declared.faults.StreamFault.TheVariants.{Read, TooLong, NoSeparator, Program, Picture, Check, Param, Bind, Facts, Script, Memory, Write}
 
 -- ---- what is read
 
@@ -139,6 +139,7 @@ status_of TooLong = 2
 status_of NoSeparator = 2
 status_of (Picture _) = 2
 status_of (Facts _) = 2
+status_of (Script _) = 2
 status_of (Program _) = 3
 status_of (Check _) = 3
 status_of (Bind _) = 3

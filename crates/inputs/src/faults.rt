@@ -2,6 +2,7 @@
 
 use crate::lines::{BindLine, CheckLine, ParamLine};
 use fact_lines::LinesFault;
+use gossip_events::ScriptFault;
 use netpbm::PicFault;
 use pipe_tree::ParseFault;
 use std::alloc::AllocError;
@@ -37,6 +38,9 @@ pub enum StreamFault {
     /// A line is no fact file.
     #[error("a line is no fact file: {0}")]
     Facts(LinesFault),
+    /// The section in the middle is no script.
+    #[error("the section in the middle is no script: {0}")]
+    Script(ScriptFault),
     /// Memory ran out.
     #[error("out of memory")]
     Memory,
@@ -58,7 +62,8 @@ impl StreamFault {
             StreamFault::TooLong
             | StreamFault::NoSeparator
             | StreamFault::Picture(_)
-            | StreamFault::Facts(_) => 2,
+            | StreamFault::Facts(_)
+            | StreamFault::Script(_) => 2,
             StreamFault::Program(_) | StreamFault::Check(_) | StreamFault::Bind(_) => 3,
             StreamFault::Read | StreamFault::Write => 4,
             StreamFault::Memory => 5,
@@ -115,6 +120,20 @@ impl From<LinesFault> for StreamFault {
         match fault {
             LinesFault::Memory => StreamFault::Memory,
             fault => StreamFault::Facts(fault),
+        }
+    }
+}
+
+impl From<ScriptFault> for StreamFault {
+    ghost use Rattle.std.specs.Prelude.{◌≡◌};
+    ghost use Rattle.inputs.specs.Told.{told_script};
+
+    ghost from_gives = { λ fault told. told ≡ told_script fault };
+
+    fn from(fault: ScriptFault) -> StreamFault {
+        match fault {
+            ScriptFault::Memory => StreamFault::Memory,
+            fault => StreamFault::Script(fault),
         }
     }
 }

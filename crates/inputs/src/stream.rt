@@ -7,9 +7,9 @@ ghost use Rattle.pipe_tree.specs.Content.{content};
 ghost use Rattle.job.specs.Kept.{pipeline_in, program_text_in};
 ghost use Rattle.job.specs.WellFormed.{IsJob, IsSmall};
 ghost use Rattle.fact_lines.specs.Texts.{IsUnion};
-ghost use Rattle.inputs.specs.Faults.{IsAuditFault, IsFaultOf, IsJobFault, IsMergeFault, IsSpellingFault};
+ghost use Rattle.inputs.specs.Faults.{IsAuditFault, IsFaultAround, IsFaultOf, IsJobFault, IsMergeFault, IsSpellingFault};
 ghost use Rattle.inputs.specs.Giving.{Given};
-ghost use Rattle.inputs.specs.Input.{IsInput, IsJobAt, IsReadAudit, IsReadJob, IsSpelled};
+ghost use Rattle.inputs.specs.Input.{IsInput, IsJobAt, IsReadAround, IsReadAudit, IsReadJob, IsSpelled};
 ghost use Rattle.inputs.specs.Outcomes.{CountsRead, CountsWritten, IsOfReader, most_input};
 
 use crate::accepted::accept;
@@ -61,6 +61,28 @@ pub fn job_of(
 {
     let (tree, picture) = read_all(alloc, input)?;
     job_at(alloc, sides, given, tree, picture)
+}
+
+/// The job of the program and the picture that an input of three sections spells, and the section between them, of which nothing is
+/// judged.
+pub fn job_and_middle<'a>(
+    alloc: Global,
+    sides: TileSides,
+    given: &[(String, i32)],
+    input: &'a [u8],
+) -> Result<(Job, &'a [u8]), StreamFault>
+    ensures of_input { IfOk result
+        (λ read. IsReadAround input.now given.now sides read.0 read.1.now) }
+    ensures job { IfOk result (λ read. IsJob (pipeline_in read.0)) }
+    ensures small { IfOk result (λ read. IsSmall (pipeline_in read.0)) }
+    ensures fault { IfErr result (IsFaultAround input.now given.now sides) }
+{
+    let Some((text, middle, spelling)) = split_sections(input) else {
+        return Err(StreamFault::NoSeparator);
+    };
+    let (tree, picture) = read_spelled(alloc, text, spelling)?;
+    let job = job_at(alloc, sides, given, tree, picture)?;
+    Ok((job, middle))
 }
 
 /// The job of the program and the picture that the input spells, and the facts of the fact files between them, rising, each
@@ -122,11 +144,7 @@ fn audit_in(
     ensures small { IfOk result (λ read. IsSmall (pipeline_in read.0)) }
     ensures fault { IfErr result (IsAuditFault input.now given.now sides) }
 {
-    let Some((text, middle, spelling)) = split_sections(input) else {
-        return Err(StreamFault::NoSeparator);
-    };
-    let (tree, picture) = read_spelled(alloc, text, spelling)?;
-    let job = job_at(alloc, sides, given, tree, picture)?;
+    let (job, middle) = job_and_middle(alloc, sides, given, input)?;
     let facts = union_of(alloc, middle)?;
     Ok((job, facts))
 }

@@ -9,6 +9,7 @@ use crate::check_lines::write_check;
 use crate::facts_lines::write_facts;
 use crate::faults::StreamFault;
 use crate::lines::ParamLine;
+use crate::script_lines::write_script;
 use crate::texts::{write_head, write_offset, write_text, write_texts};
 use pipe_bounds::ParamFault;
 use streams::{Sink, WriteFailed};
@@ -64,6 +65,7 @@ fn write_fault<W: Sink>(fault: &StreamFault, writer: &mut W) -> Result<(), Write
         StreamFault::Param(line) => write_param(writer, line),
         StreamFault::Bind(line) => write_bind(writer, line),
         StreamFault::Facts(fault) => write_facts(writer, *fault),
+        StreamFault::Script(fault) => write_script(writer, *fault),
         StreamFault::Memory => write_text(writer, b"memory"),
         StreamFault::Write => Ok(()),
     }

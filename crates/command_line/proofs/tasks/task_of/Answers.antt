@@ -12,3 +12,6 @@ returns-in-plan-clause-some c = (c.in_ok-word.word.now, sym c.in_ok-word.ensures
 
 pub returns-in-audit-clause-some : goal.returns-in-audit-clause-some
 returns-in-audit-clause-some c = (c.in_ok-word.word.now, sym c.in_ok-word.ensures.value, sym c.as_str.ensures.value ∙ c.in-audit.is)
+
+pub returns-in-world-clause-some : goal.returns-in-world-clause-some
+returns-in-world-clause-some c = (c.in_ok-word.word.now, sym c.in_ok-word.ensures.value, sym c.as_str.ensures.value ∙ c.in-world.is)

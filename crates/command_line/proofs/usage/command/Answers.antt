@@ -1,11 +1,11 @@
 use Rattle.std.proofs.Common.{◌≡◌, ◌||◌, ◌∙◌, ap, ap₂, true}
 use Rattle.std.proofs.lemmas.Result.{IfOk-weaker}
-use Rattle.clap.specs.Words.{App, app_of, new_app, with_rule}
+use Rattle.clap.specs.Words.{app_of, new_app, with_rule}
 use Rattle.clap.specs.Simple.{app_of_fields, on_top}
 use Rattle.command_line.proofs.usage.command.Goals as goal
 
-pub returns-clause-shape : goal.returns-clause-shape
-returns-clause-shape c =
+pub returns-clause-app : goal.returns-clause-app
+returns-clause-app c =
     let plain : app_of c.disable_help_flag.result ≡ on_top (λ s. record s { disable_help_flag = true }) (new_app c.args.name.now) =
     ap app_of_fields c.disable_help_flag.ensures ∙ ap (on_top (λ s. record s { disable_help_flag = true })) c.new.ensures.app in
     let rows = c.in_ok-arg.ensures.shape c.number.ensures.local ∙ ap₂ with_rule plain c.number.ensures.rule in
@@ -13,7 +13,7 @@ returns-clause-shape c =
     let percent = c.in_ok-arg-3.ensures.shape c.number-3.ensures.local ∙ ap₂ with_rule cols c.number-3.ensures.rule in
     let stored = c.in_ok-arg-4.ensures.shape c.flag.ensures.local ∙ ap₂ with_rule percent c.flag.ensures.rule in
     IfOk-weaker c.arg-5.result _ _
-    (λ r h. ap (λ (a : App). a.top) (h.shape c.parameters.ensures.local ∙ ap₂ with_rule stored c.parameters.ensures.rule))
+    (λ r h. h.shape c.parameters.ensures.local ∙ ap₂ with_rule stored c.parameters.ensures.rule)
     c.arg-5.ensures
 
 pub returns-clause-local : goal.returns-clause-local

@@ -3,7 +3,7 @@
 ghost use Rattle.std.specs.Prelude.{◌≡◌, IfOk};
 ghost use Rattle.grouping.specs.Inlining.{AllFitScratch, IsScheduleOf};
 ghost use Rattle.job.specs.Kept.{pipeline_in};
-ghost use Rattle.commands.specs.Planning.{inlining_asked};
+ghost use Rattle.one_job.specs.Asked.{inlining_asked};
 
 use command_line::Options;
 use grouping::Schedule;

@@ -1,0 +1,9 @@
+-- Which functions of a job are inlined where the options of a command ask for it.
+use Rattle.std.specs.Prelude.{ℕ, Bool, if◌then◌else◌, List}
+use Rattle.job.specs.Pipeline.{Pipeline}
+use Rattle.grouping.specs.Greedy.{greedy_inlining}
+use Rattle.grouping.specs.Schedules.{all_stored}
+
+-- none where all are to be stored, else those that the greedy rule inlines
+abbrev pub inlining_asked : Bool → ℕ → Pipeline → List Bool
+inlining_asked stored percent job = if stored then all_stored job else greedy_inlining job percent

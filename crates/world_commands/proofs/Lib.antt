@@ -1,0 +1,5 @@
+pub mod Ended
+pub mod Faults
+pub mod NodeCounts
+pub mod Nodes
+pub mod Schedules

@@ -1,0 +1,5 @@
+pub mod WorldInput
+pub mod WorldFaults
+pub mod WorldLines
+pub mod WorldSayings
+pub mod inside

@@ -1,0 +1,27 @@
+//! What the nodes of a world hold.
+
+ghost use Rattle.std.specs.List.{flat_map};
+ghost use Rattle.std.specs.Prelude.{◌≡◌, IfOk, length};
+ghost use Rattle.world_commands.specs.WorldLines.{node_lines};
+ghost use Rattle.world_commands.specs.inside.Outcomes.{held_line};
+
+use crate::held_facts::HeldFacts;
+use command_line::NodeCount;
+use std::alloc::{AllocError, Global};
+use worlds::World;
+
+/// What each of so many nodes holds.
+pub fn held_by(alloc: Global, nodes: NodeCount, world: &World) -> Result<Vec<HeldFacts>, AllocError>
+    requires { length world.now.network.nodes ≡ nodes }
+    ensures { IfOk result
+        (λ held. flat_map held_line held.items ≡ node_lines nodes world.now.network) }
+{
+    let mut held = Vec::new(alloc);
+    for node in 0..nodes.get() {
+        match world.node(node) {
+            Some(state) => held.push(HeldFacts::of(node, state)?)?,
+            None => unreachable!(),
+        }
+    }
+    Ok(held)
+}

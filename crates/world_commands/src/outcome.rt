@@ -1,0 +1,65 @@
+//! What becomes of a world.
+
+ghost use Rattle.std.specs.Prelude.{◌≡◌, [], IfErr, IfOk};
+ghost use Rattle.gossip_core.specs.Histories.{Leads};
+ghost use Rattle.world_commands.specs.WorldFaults.{IsWorldFault};
+ghost use Rattle.world_commands.specs.WorldSayings.{IsOutcome, IsSaidOfWorld};
+ghost use Rattle.world_commands.specs.inside.Outcomes.{outcome_lines};
+
+use crate::begun::begin;
+use crate::held_facts::HeldFacts;
+use crate::holding::held_by;
+use crate::world_input::world_of;
+use command_line::{NodeCount, Options};
+use gossip_events::Event;
+use inputs::StreamFault;
+use std::alloc::{AllocError, Global};
+use worlds::World;
+
+/// How many events there were, how many of these were refused, and what each node then holds.
+#[derive(Drop)]
+pub struct Outcome {
+    pub done: usize,
+    pub refused: usize,
+    pub nodes: Vec<HeldFacts>,
+}
+
+/// What becomes of so many nodes by the script of an input. The input is let go.
+pub fn outcome_of(
+    alloc: Global,
+    nodes: NodeCount,
+    options: &Options,
+    given: &[(String, i32)],
+    input: Vec<u8>,
+) -> Result<Outcome, StreamFault>
+    ensures said { IfOk result (λ outcome. IsSaidOfWorld nodes options.now given.now input.items
+        (outcome_lines outcome)) }
+    ensures fault { IfErr result (IsWorldFault input.items given.now options.now.sides) }
+{
+    let (catalog, events) = world_of(alloc, options.sides, given, input)?;
+    let world = begin(alloc, nodes, options, catalog)?;
+    Ok(outcome_after(alloc, nodes, world, &events)?)
+}
+
+/// What becomes of a world of so many nodes that hold nothing by the events.
+fn outcome_after(
+    alloc: Global,
+    nodes: NodeCount,
+    world: World,
+    events: &[Event],
+) -> Result<Outcome, AllocError>
+    requires { Leads world.work nodes [] [] world.network }
+    ensures { IfOk result
+        (λ outcome. IsOutcome world.work nodes events.now (outcome_lines outcome)) }
+{
+    let mut world = world;
+    let ran = world.run(events);
+    if ran.memory {
+        return Err(AllocError);
+    }
+    Ok(Outcome {
+        done: ran.done,
+        refused: ran.refused,
+        nodes: held_by(alloc, nodes, &world)?,
+    })
+}

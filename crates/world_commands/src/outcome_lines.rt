@@ -1,0 +1,114 @@
+//! What became of a world, as lines.
+
+ghost use Rattle.std.specs.Io.KnownBytes.{Appends};
+ghost use Rattle.std.specs.List.{flat_map};
+ghost use Rattle.std.specs.Prelude.{◌≡◌, IfErr, OnErr, OnOk};
+ghost use Rattle.inputs.specs.Outcomes.{CountsWritten};
+ghost use Rattle.inputs.specs.declared.faults.StreamFault.TheVariants.{Write};
+ghost use Rattle.streams.specs.Streams.{AppendsPart, CountsFailure};
+ghost use Rattle.world_commands.specs.WorldLines.{count_line, node_head};
+ghost use Rattle.world_commands.specs.inside.Outcomes.{held_line, outcome_lines};
+ghost use Rattle.write_buffer.specs.Passing.{Puts};
+
+use crate::held_facts::HeldFacts;
+use crate::outcome::Outcome;
+use fact_lines::put_union;
+use inputs::StreamFault;
+use itoa::Buffer;
+use streams::{Sink, WriteFailed};
+use write_buffer::WriteBuffer;
+
+/// Writes how many events there were and how many were refused, and a line for each node. No memory is taken: the lines go through a
+/// buffer of fixed size.
+pub fn write_outcome<W: Sink>(outcome: &Outcome, writer: &mut W) -> Result<(), StreamFault>
+    ensures ok { OnOk result
+        (Appends (W.contents writer.old) (W.contents writer.new) (outcome_lines outcome.now)) }
+    ensures part { OnErr result
+        (AppendsPart (W.contents writer.old) (W.contents writer.new) (outcome_lines outcome.now)) }
+    ensures fault { IfErr result (λ fault. fault ≡ Write) }
+    ensures write { CountsWritten result (W.failures writer.old) (W.failures writer.new) }
+{
+    match write_lines(outcome, writer) {
+        Ok(()) => Ok(()),
+        Err(_) => Err(StreamFault::Write),
+    }
+}
+
+fn write_lines<W: Sink>(outcome: &Outcome, writer: &mut W) -> Result<(), WriteFailed>
+    ensures ok { OnOk result
+        (Appends (W.contents writer.old) (W.contents writer.new) (outcome_lines outcome.now)) }
+    ensures part { OnErr result
+        (AppendsPart (W.contents writer.old) (W.contents writer.new) (outcome_lines outcome.now)) }
+    ensures failed { CountsFailure result (W.failures writer.old) (W.failures writer.new) }
+{
+    let mut buffer = WriteBuffer::new();
+    put_outcome(&mut buffer, writer, outcome)?;
+    buffer.flush(writer)
+}
+
+fn put_outcome<W: Sink>(
+    buffer: &mut WriteBuffer,
+    writer: &mut W,
+    outcome: &Outcome,
+) -> Result<(), WriteFailed>
+    ensures { Puts result (outcome_lines outcome.now) buffer.old buffer.new
+        (W.contents writer.old) (W.contents writer.new)
+        (W.failures writer.old) (W.failures writer.new) }
+{
+    put_counts(buffer, writer, outcome.done, outcome.refused)?;
+    put_nodes(buffer, writer, &outcome.nodes)
+}
+
+fn put_counts<W: Sink>(
+    buffer: &mut WriteBuffer,
+    writer: &mut W,
+    done: usize,
+    refused: usize,
+) -> Result<(), WriteFailed>
+    ensures { Puts result (count_line done refused) buffer.old buffer.new
+        (W.contents writer.old) (W.contents writer.new)
+        (W.failures writer.old) (W.failures writer.new) }
+{
+    let mut dones = Buffer::new();
+    let mut refusals = Buffer::new();
+    let done = dones.format(done).as_bytes();
+    let refused = refusals.format(refused).as_bytes();
+    buffer.put_parts(writer, &[b"done ", done, b" refused ", refused, b"\n"])
+}
+
+fn put_nodes<W: Sink>(
+    buffer: &mut WriteBuffer,
+    writer: &mut W,
+    nodes: &[HeldFacts],
+) -> Result<(), WriteFailed>
+    ensures { Puts result (flat_map held_line nodes.now) buffer.old buffer.new
+        (W.contents writer.old) (W.contents writer.new)
+        (W.failures writer.old) (W.failures writer.new) }
+{
+    for node in nodes {
+        put_node(buffer, writer, node)?;
+    }
+    Ok(())
+}
+
+fn put_node<W: Sink>(
+    buffer: &mut WriteBuffer,
+    writer: &mut W,
+    node: &HeldFacts,
+) -> Result<(), WriteFailed>
+    ensures { Puts result (held_line node.now) buffer.old buffer.new
+        (W.contents writer.old) (W.contents writer.new)
+        (W.failures writer.old) (W.failures writer.new) }
+{
+    put_head(buffer, writer, node.node)?;
+    put_union(buffer, writer, &node.facts, node.count)
+}
+
+fn put_head<W: Sink>(buffer: &mut WriteBuffer, writer: &mut W, node: u8) -> Result<(), WriteFailed>
+    ensures { Puts result (node_head node) buffer.old buffer.new
+        (W.contents writer.old) (W.contents writer.new)
+        (W.failures writer.old) (W.failures writer.new) }
+{
+    let mut digits = Buffer::new();
+    buffer.put_parts(writer, &[b"node ", digits.format(node).as_bytes(), b" "])
+}
