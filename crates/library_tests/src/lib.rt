@@ -13,11 +13,15 @@ mod given;
 #[cfg(test)]
 mod greedy;
 #[cfg(test)]
+mod histories;
+#[cfg(test)]
 mod identities;
 #[cfg(test)]
 mod jobs;
 #[cfg(test)]
 mod makes;
+#[cfg(test)]
+mod no_memory;
 #[cfg(test)]
 mod pictures;
 #[cfg(test)]
