@@ -113,7 +113,7 @@ impl<S: FactStore> Network<S> {
             Err(fault) => return Err(refusal_of(fault)),
         };
         let mut facts = NodeState::new(self.alloc);
-        facts.take(fact).map_err(AllocError::from)?;
+        facts.take(fact)?;
         self.post(n, facts)
     }
 
@@ -143,8 +143,7 @@ impl<S: FactStore> Network<S> {
         ensures unchanged { OnErr result (self.new ≡ self.old) }
     {
         let number = self.messages.len() as u64;
-        let message = Message { to, facts };
-        self.messages.push(message).map_err(AllocError::from)?;
+        self.messages.push(Message { to, facts })?;
         Ok(Done::Message(number))
     }
 
