@@ -14,7 +14,7 @@ ghost use Rattle.grouping.specs.inside.Trials.{grouping_of, kept_cost, IsCandida
 ghost use Rattle.grouping.specs.declared.standing.Standing.TheVariants.{Stored, Inlined};
 
 use crate::costs::costs_of;
-use crate::inlining::{InlinedStages, is_function, is_output};
+use crate::inlining::{InlinedStages, is_function};
 use crate::order::in_order;
 use crate::readers::readers_of;
 use crate::standing::Standing;
@@ -94,7 +94,7 @@ impl Grouper {
         ensures stand { OnOk result
             (AllStand (pipeline_in job.now) (grouping_of self.new) self.new.standings.items) }
     {
-        if !is_function(job, number) || is_output(job, number) {
+        if !is_function(job, number) || job.is_output(number) {
             return Ok(());
         }
         let readers = readers_of(alloc, job, order, number)?;

@@ -1,10 +1,8 @@
 #![tactic(auto)]
 //! Which stages are inlined.
 
-ghost use Rattle.std.specs.Prelude.{◌≡◌, ◌&&◌, ◌==◌, false, slice_set, IfOk, IfSome, IfNone};
-ghost use Rattle.std.specs.List.{list_any};
+ghost use Rattle.std.specs.Prelude.{◌≡◌, ◌&&◌, false, slice_set, IfOk, IfSome, IfNone};
 ghost use Rattle.job.specs.Kept.{pipeline_in};
-ghost use Rattle.job.specs.Answers.{is_output};
 ghost use Rattle.grouping.specs.Inlining.{StoresOutputs, IsInlinedOutput};
 ghost use Rattle.grouping.specs.Schedules.{is_inlined, is_function, inlining_for};
 
@@ -79,7 +77,7 @@ pub(crate) fn first_output_asked(job: &Job, asked: &[bool]) -> Option<usize>
         (StoresOutputs (pipeline_in job.now) (inlining_for (pipeline_in job.now) asked.now)) }
 {
     for number in 0..job.stages().len() {
-        if is_asked(job, asked, number) && is_output(job, number) {
+        if is_asked(job, asked, number) && job.is_output(number) {
             return Some(number);
         }
     }
@@ -106,20 +104,4 @@ pub(crate) fn is_function(job: &Job, number: usize) -> bool
     ensures { result ≡ is_function (pipeline_in job.now) number }
 {
     job.kind(number) == Some(StageKind::Function)
-}
-
-/// Whether the stage of this number is an output.
-pub(crate) fn is_output(job: &Job, number: usize) -> bool
-    ensures { result ≡ is_output (pipeline_in job.now) number }
-{
-    match job.output() {
-        Some(output) => is_among(output.stages(), number),
-        None => false,
-    }
-}
-
-fn is_among(numbers: &[usize], number: usize) -> bool
-    ensures { result ≡ list_any (λ n. n == number) numbers.now }
-{
-    numbers.iter().any(|other| *other == number)
 }

@@ -35,6 +35,7 @@ impl Schedule {
     ghost use Rattle.job.specs.Kept.{pipeline_in};
     ghost use Rattle.grouping.specs.Schedules.{is_inlined, inlining_for, all_stored, IsSchedule};
     ghost use Rattle.grouping.specs.Targets.{IsTarget, target_over, boxes};
+    ghost use Rattle.grouping.specs.inside.Walks.{target_of};
     ghost use Rattle.grouping.specs.Costs.{scratch};
     ghost use Rattle.grouping.specs.Greedy.{greedy_inlining};
     ghost use Rattle.grouping.specs.Inlining.{IsScheduleOf, IsScheduleFault, AllFitScratch, StoresOutputs};
@@ -143,6 +144,19 @@ impl Schedule {
         self.fits
     }
 
+    // A target over a region of its domain.
+    fn walk<'a>(&'a self, job: &'a Job, target: usize, region: Area) -> TargetWalk<'a>
+        ensures { target_of result
+            ≡ target_over (pipeline_in job.now) self.now.inlining target region }
+    {
+        TargetWalk {
+            job,
+            schedule: &self.inlining,
+            stage: target,
+            region,
+        }
+    }
+
     /// The functions of which a target needs something over a region of its domain, but the target itself, each with the
     /// area that is needed; in dependence order.
     ///
@@ -161,13 +175,7 @@ impl Schedule {
         ensures { IfOk result (λ found. found.items
             ≡ boxes (target_over (pipeline_in job.now) self.now.inlining target region)) }
     {
-        let walk = TargetWalk {
-            job,
-            schedule: &self.inlining,
-            stage: target,
-            region,
-        };
-        walk.boxes(alloc)
+        self.walk(job, target, region).boxes(alloc)
     }
 
     /// How many points the boxes of what is inlined have together, for a target over a region of its domain.
@@ -187,12 +195,7 @@ impl Schedule {
         ensures { IfOk result (λ n. n
             ≡ scratch (target_over (pipeline_in job.now) self.now.inlining target region)) }
     {
-        let walk = TargetWalk {
-            job,
-            schedule: &self.inlining,
-            stage: target,
-            region,
-        };
-        walk.scratch(alloc, &in_order(alloc, job.stages())?)
+        let order = in_order(alloc, job.stages())?;
+        self.walk(job, target, region).scratch(alloc, &order)
     }
 }

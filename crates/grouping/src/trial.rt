@@ -7,8 +7,8 @@ ghost use Rattle.job.specs.Kept.{pipeline_in};
 ghost use Rattle.grouping.specs.Costs.{most_scratch};
 ghost use Rattle.grouping.specs.Greedy.{group};
 ghost use Rattle.grouping.specs.inside.Standings.{areas_at, AllStand};
-ghost use Rattle.grouping.specs.Targets.{IsTarget, region, box, demands_by, target_over};
-ghost use Rattle.grouping.specs.inside.Trials.{grouping_of, kept_box, kept_scratch, points_of_box, IsCandidate, IsTrialOf};
+ghost use Rattle.grouping.specs.Targets.{region, box, demands_by, target_over};
+ghost use Rattle.grouping.specs.inside.Trials.{grouping_of, kept_box, kept_scratch, points_of_box, IsCandidate, IsOverTile, IsTrialOf};
 ghost use Rattle.grouping.specs.inside.Walks.{InDomainRanges, demanded_all, target_of};
 
 use crate::costs::{MOST_SCRATCH, areas_of_tiles};
@@ -168,12 +168,7 @@ impl Grouper {
         readers: &[usize],
         place: usize,
     )
-        requires target { IsTarget (target_of walk.now) }
-        requires inlining { walk.now.schedule.now ≡ self.now.inlining }
-        requires stand { AllStand (pipeline_in walk.now.job.now) (grouping_of self.now)
-            self.now.standings.items }
-        requires tile { slice_get (areas_at (pipeline_in walk.now.job.now) walk.now.stage) place
-            ≡ Some walk.now.region }
+        requires walk { IsOverTile self.now place walk.now }
         requires readers { All (λ r. r < length (pipeline_in walk.now.job.now).stages) readers.now }
         requires groups { All (λ r. group (grouping_of self.now) r ≡ walk.now.stage) readers.now }
         ensures { hulls.new
@@ -187,12 +182,7 @@ impl Grouper {
 
     // The region of a stage in a tile of its group.
     fn region_in(&self, walk: &TargetWalk<'_>, reader: usize, place: usize) -> Option<Area>
-        requires target { IsTarget (target_of walk.now) }
-        requires inlining { walk.now.schedule.now ≡ self.now.inlining }
-        requires stand { AllStand (pipeline_in walk.now.job.now) (grouping_of self.now)
-            self.now.standings.items }
-        requires tile { slice_get (areas_at (pipeline_in walk.now.job.now) walk.now.stage) place
-            ≡ Some walk.now.region }
+        requires walk { IsOverTile self.now place walk.now }
         requires there { reader < length (pipeline_in walk.now.job.now).stages }
         requires group { group (grouping_of self.now) reader ≡ walk.now.stage }
         ensures is { result ≡ region (target_of walk.now) reader }

@@ -79,8 +79,11 @@ tiles job g =
 abbrev pub is_output : Pipeline → ℕ → Bool
 is_output job g = option_map_or (λ o. list_any (λ h. h == g) o.stages) job.output false
 
+abbrev pub is_accumulator_at : Pipeline → ℕ → Bool
+is_accumulator_at job g = option_map_or (λ s. is_accumulator s.body) (slice_get job.stages g) false
+
 abbrev pub is_result : Pipeline → ℕ → Bool
-is_result job g = is_output job g || option_map_or (λ s. is_accumulator s.body) (slice_get job.stages g) false
+is_result job g = is_output job g || is_accumulator_at job g
 
 -- the tiles from which the answer is put together: those of outputs and accumulators, each once, stage by stage
 abbrev pub wanted : Pipeline → List Tile

@@ -108,10 +108,7 @@ impl Job {
     pub fn kind(&self, number: usize) -> Option<StageKind>
         ensures { result ≡ option_map kind_of (slice_get (pipeline_in self.now).stages number) }
     {
-        match self.stage(number) {
-            Some(stage) => Some(stage.kind()),
-            None => None,
-        }
+        Some(self.stage(number)?.kind())
     }
 
     /// The rank of the stage of this number.
@@ -119,10 +116,7 @@ impl Job {
         ensures { result
             ≡ option_map (λ s. s.rank) (slice_get (pipeline_in self.now).stages number) }
     {
-        match self.stage(number) {
-            Some(stage) => Some(stage.rank()),
-            None => None,
-        }
+        Some(self.stage(number)?.rank())
     }
 
     /// The domain of the stage of this number; of an accumulator the area that it reduces.
@@ -130,10 +124,7 @@ impl Job {
         ensures { result
             ≡ option_map (λ s. s.domain) (slice_get (pipeline_in self.now).stages number) }
     {
-        match self.stage(number) {
-            Some(stage) => Some(*stage.domain()),
-            None => None,
-        }
+        Some(*self.stage(number)?.domain())
     }
 
     /// The name of the stage of this number.
@@ -141,40 +132,28 @@ impl Job {
         ensures { result
             ≡ option_map (λ s. s.name) (slice_get (pipeline_in self.now).stages number) }
     {
-        match self.stage(number) {
-            Some(stage) => Some(*stage.name()),
-            None => None,
-        }
+        Some(*self.stage(number)?.name())
     }
 
     /// How the accumulator of this number joins the numbers of a bin.
     pub fn op(&self, number: usize) -> Option<Fold>
         ensures { result ≡ stage_fold (slice_get (pipeline_in self.now).stages number) }
     {
-        match self.stage(number) {
-            Some(stage) => stage.op(),
-            None => None,
-        }
+        self.stage(number)?.op()
     }
 
     /// The bins of the accumulator of this number.
     pub fn bins(&self, number: usize) -> Option<Span>
         ensures { result ≡ stage_bins (slice_get (pipeline_in self.now).stages number) }
     {
-        match self.stage(number) {
-            Some(stage) => stage.bins(),
-            None => None,
-        }
+        self.stage(number)?.bins()
     }
 
     /// The tiles of the function or accumulator of this number.
     pub fn grid(&self, number: usize) -> Option<Grid>
         ensures { result ≡ grid_at (pipeline_in self.now) number }
     {
-        match self.stage(number) {
-            Some(stage) => stage.grid(self.parts.sides),
-            None => None,
-        }
+        self.stage(number)?.grid(self.parts.sides)
     }
     /// The canonical text of the program.
     pub fn program_text(&self) -> &[u8]

@@ -10,6 +10,7 @@ pub mod laws;
 mod outputs;
 mod readers;
 mod reads;
+mod results;
 mod sameness;
 mod stage;
 pub mod worked;

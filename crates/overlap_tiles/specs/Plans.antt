@@ -46,6 +46,11 @@ pub record Plan : Type 0 where
   pub scratch : ℕ
   pub inlining : List Bool
 
+-- a layout with the keys of what it needs
+abbrev pub with_keys : List Key → Layout → Plan
+with_keys keys l =
+    record { needs = keys; steps = l.steps; points = l.points; ranges = l.ranges; scratch = l.scratch; inlining = l.inlining }
+
 -- the plan of a target, by the identity of its program
 pub record IsPlan (program : List ℕ) (t : Target) (p : Plan) : Type 0 where
   pub needs : p.needs ≡ needed_keys program t

@@ -1,11 +1,12 @@
 -- The tiles that are made of a job by a schedule, those from which its answer is put together, and those that lack room.
-use Rattle.std.specs.Prelude.{ℕ, ◌<◌, ◌≡◌, ◌⊎◌, Bool, true, false, ◌&&◌, ◌||◌, not, nat_lt, Option, List, map, filter, find, slice_get}
+use Rattle.std.specs.Prelude.{ℕ, ◌<◌, ◌≡◌, ◌⊎◌, Bool, true, false, ◌&&◌, ◌||◌, not, nat_lt, Option, List, map, filter, find}
 use Rattle.std.specs.List.{flat_map}
 use Rattle.std.specs.Option.{option_map_or}
 use Rattle.domains.specs.Tiles.{tile_rows, tile_cols, tile_area}
 use Rattle.domains.specs.declared.grid.Grid.{Grid}
 use Rattle.identity.specs.declared.key.Key.{Key}
-use Rattle.job.specs.Answers.{Tile, tiles, is_accumulator, wanted}
+use Rattle.job.specs.Answers.{Tile, tiles, wanted}
+pub use Rattle.job.specs.Answers.{is_accumulator_at}
 use Rattle.job.specs.Identity.{HasTileAt}
 use Rattle.job.specs.Pipeline.{Pipeline}
 use Rattle.job.specs.Readers.{grid_at}
@@ -20,9 +21,6 @@ use Rattle.overlap_tiles.specs.Needs.{key_of, key_tile}
 -- a function that is not inlined
 abbrev pub is_stored_function : Pipeline → List Bool → ℕ → Bool
 is_stored_function job inlining g = is_function job g && not (is_inlined inlining g)
-
-abbrev pub is_accumulator_at : Pipeline → ℕ → Bool
-is_accumulator_at job g = option_map_or (λ s. is_accumulator s.body) (slice_get job.stages g) false
 
 abbrev pub is_made : Pipeline → List Bool → ℕ → Bool
 is_made job inlining g = is_stored_function job inlining g || is_accumulator_at job g

@@ -28,22 +28,11 @@ pub struct TilePlan<'a> {
 }
 
 impl<'a> Model for TilePlan<'a> {
-    ghost use Rattle.overlap_tiles.specs.Plans.{Plan};
+    ghost use Rattle.overlap_tiles.specs.Plans.{Plan, with_keys};
 
     ghost Value = { Plan };
 
-    ghost view = { λ p. record {
-      needs =
-          p.needs.items;
-      steps =
-          p.layout.steps;
-      points =
-          p.layout.points;
-      ranges =
-          p.layout.ranges;
-      scratch = p.layout.scratch;
-      inlining = p.layout.inlining;
-    } };
+    ghost view = { λ p. with_keys p.needs.items p.layout };
 }
 
 impl<'a> TilePlan<'a> {

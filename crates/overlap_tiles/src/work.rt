@@ -1,14 +1,14 @@
 #![tactic(auto)]
 //! The tiles that are made of a job by a schedule, and those from which its answer is put together, by their keys.
 
-ghost use Rattle.std.specs.Prelude.{◌≡◌, ◌==◌, ◌++◌, map, filter, length, AllPairs, IfOk, OnOk};
-ghost use Rattle.std.specs.List.{flat_map, list_any, range_with_len};
+ghost use Rattle.std.specs.Prelude.{◌≡◌, ◌++◌, map, filter, length, AllPairs, IfOk, OnOk};
+ghost use Rattle.std.specs.List.{flat_map, range_with_len};
 ghost use Rattle.domains.specs.Tiles.{tiles_of};
-ghost use Rattle.job.specs.Answers.{tiles, is_output, is_result};
+ghost use Rattle.job.specs.Answers.{tiles, is_result};
 ghost use Rattle.job.specs.Kept.{pipeline_in, program_id_in};
 ghost use Rattle.grouping.specs.Order.{in_order};
 ghost use Rattle.overlap_tiles.specs.Needs.{key_of, IsKeyBefore};
-ghost use Rattle.overlap_tiles.specs.Work.{is_accumulator_at, is_made, work_keys, wanted_keys};
+ghost use Rattle.overlap_tiles.specs.Work.{is_made, work_keys, wanted_keys};
 ghost use Rattle.overlap_tiles.specs.inside.Keyed.{key_at, row_keys, Names};
 
 use domains::Grid;
@@ -74,37 +74,6 @@ fn made_stages(alloc: Global, job: &Job, schedule: &Schedule) -> Result<Vec<usiz
     Ok(made)
 }
 
-// Whether the tiles of a stage belong to the answer.
-fn is_result(job: &Job, stage: usize) -> bool
-    ensures { result ≡ is_result (pipeline_in job.now) stage }
-{
-    is_output(job, stage) || is_accumulator(job, stage)
-}
-
-fn is_output(job: &Job, stage: usize) -> bool
-    ensures { result ≡ is_output (pipeline_in job.now) stage }
-{
-    match job.output() {
-        Some(output) => is_among(output.stages(), stage),
-        None => false,
-    }
-}
-
-fn is_among(stages: &[usize], stage: usize) -> bool
-    ensures { result ≡ list_any (λ n. n == stage) stages.now }
-{
-    stages.iter().any(|other| *other == stage)
-}
-
-fn is_accumulator(job: &Job, stage: usize) -> bool
-    ensures { result ≡ is_accumulator_at (pipeline_in job.now) stage }
-{
-    match job.kind(stage) {
-        Some(StageKind::Accumulator) => true,
-        Some(StageKind::Plane | StageKind::Function) | None => false,
-    }
-}
-
 // The stages whose tiles belong to the answer, rising.
 #[tactic(auto, using(grouping::proofs::Lists::passes_more, grouping::proofs::Lists::fails_more))]
 fn result_stages(alloc: Global, job: &Job) -> Result<Vec<usize>, AllocError>
@@ -114,7 +83,7 @@ fn result_stages(alloc: Global, job: &Job) -> Result<Vec<usize>, AllocError>
 {
     let mut results = Vec::new(alloc);
     for stage in 0..job.stages().len() {
-        if is_result(job, stage) {
+        if job.is_result(stage) {
             results.push(stage)?;
         }
     }

@@ -11,3 +11,7 @@ pub record CheckedProgram : Type 0 where
   pub params : List Symbol
   pub graph : List Links
   pub ranks : List ℕ
+
+-- a program with its tables
+abbrev pub with_tables : Tree → List Symbol → List Symbol → List Links → List ℕ → CheckedProgram
+with_tables tree stages params graph ranks = record { tree = tree; stages = stages; params = params; graph = graph; ranks = ranks }

@@ -40,7 +40,7 @@ pub struct Checked {
 impl Model for Checked {
     ghost use Rattle.std.specs.Coded.{codes};
     ghost use Rattle.pipe_tree.specs.contracts.tree.Expr as expr;
-    ghost use Rattle.pipe_checks.specs.CheckedProgram.{CheckedProgram};
+    ghost use Rattle.pipe_checks.specs.CheckedProgram.{CheckedProgram, with_tables};
 
     ghost Value = { CheckedProgram };
 
@@ -48,27 +48,10 @@ impl Model for Checked {
 
     ghost use Rattle.pipe_checks.specs.Checking.{IsCheckedOf};
 
-    ghost view = { λ c. record {
-      tree =
-          c.tree;
-      stages =
-          c.stages.items;
-      params =
-          c.params.items;
-      graph = c.graph.items;
-      ranks = c.ranks.items;
-    } };
+    ghost view = { λ c. with_tables c.tree c.stages.items c.params.items c.graph.items c.ranks.items };
 
-    ghost invariant = { λ c. IsCheckedOf c.tree (record {
-      tree =
-          c.tree;
-      stages =
-          c.stages.items;
-      params =
-          c.params.items;
-      graph = c.graph.items;
-      ranks = c.ranks.items;
-    }) };
+    ghost invariant = { λ c. IsCheckedOf c.tree
+        (with_tables c.tree c.stages.items c.params.items c.graph.items c.ranks.items) };
 }
 
 impl Checked {

@@ -1,18 +1,21 @@
 -- How the code tries a function: its boxes in the tiles of the group of its readers, and what they add to cost and scratch memory.
-use Rattle.std.specs.Prelude.{ℕ, ◌+◌, ◌<◌, ◌≡◌, Bool, true, false, Option, Some, None, List, map, length, slice_index_or}
+use Rattle.std.specs.Prelude.{ℕ, ◌+◌, ◌<◌, ◌≡◌, Bool, true, false, Option, Some, None, List, map, length, slice_get, slice_index_or}
 use Rattle.std.specs.List.{sum}
 use Rattle.std.specs.Option.{option_map_or}
 use Rattle.domains.specs.Area.{point_count}
 use Rattle.domains.specs.declared.area.Area.{Area}
+use Rattle.job.specs.Kept.{pipeline_in}
 use Rattle.job.specs.Pipeline.{Pipeline}
 use Rattle.grouping.specs.Schedules.{is_inlined, is_function}
-use Rattle.grouping.specs.Targets.{box, target_over}
+use Rattle.grouping.specs.Targets.{IsTarget, box, target_over}
 use Rattle.grouping.specs.Costs.{scratch}
 use Rattle.grouping.specs.Greedy.{Grouping, readers, common_group}
-use Rattle.grouping.specs.inside.Standings.{areas_at, boxes_by_tile, NoneInlinedBelow}
+use Rattle.grouping.specs.inside.Standings.{AllStand, areas_at, boxes_by_tile, NoneInlinedBelow}
+use Rattle.grouping.specs.inside.Walks.{target_of}
 use Rattle.grouping.specs.declared.standing.Standing.{Standing}
 use Rattle.grouping.specs.declared.standing.Standing.TheVariants.{Stored, Inlined}
 use Rattle.grouping.specs.declared.greedy.Grouper.{Grouper}
+use Rattle.grouping.specs.declared.target.TargetWalk.{TargetWalk}
 use Rattle.grouping.specs.declared.trial.Candidate.{Candidate}
 use Rattle.grouping.specs.declared.trial.Trial.{Trial}
 
@@ -50,6 +53,13 @@ pub record IsCandidate (job : Pipeline) (c : Grouping) (k : Candidate) : Type 0 
   pub behind : NoneInlinedBelow job c.inlining k.number
   pub read : k.readers.items ≡ readers job k.number
   pub shared : common_group c k.readers.items ≡ Some k.group
+
+-- a walk over the tile of this number of a group, where all that is kept stands
+pub record IsOverTile (c : Grouper) (place : ℕ) (w : TargetWalk) : Type 0 where
+  pub target : IsTarget (target_of w)
+  pub inlining : w.schedule.now ≡ c.inlining
+  pub stand : AllStand (pipeline_in w.job.now) (grouping_of c) c.standings.items
+  pub tile : slice_get (areas_at (pipeline_in w.job.now) w.stage) place ≡ Some w.region
 
 -- the boxes of stage g in the tiles of stage h, their points, and what each tile has in scratch memory with them
 pub record IsTrialOf (job : Pipeline) (inlining : List Bool) (h g : ℕ) (t : Trial) : Type 0 where

@@ -1,4 +1,4 @@
-use Rattle.std.proofs.Common.{◌<◌, ℕ, List, Option, length, sym, ap, subst, ◌∙◌}
+use Rattle.std.proofs.Common.{◌<◌, ℕ, List, Option, length, refl, sym, ap, subst, ◌∙◌}
 use Rattle.std.specs.Prelude.{All}
 use Rattle.std.specs.List.{flat_map}
 use Rattle.domains.specs.declared.area.Area.{Area}
@@ -12,13 +12,21 @@ use Rattle.grouping.proofs.ReadersMakeBoxes.{cut_is_box}
 use Rattle.grouping.proofs.GreedyIsTheRule.{readers_there}
 use Rattle.grouping.proofs.greedy.Grouper.box_in.Goals as goal
 
-pub demand_all-requires-clause-target : goal.demand_all-requires-clause-target
-demand_all-requires-clause-target c =
+pub demand_all-requires-clause-walk : goal.demand_all-requires-clause-walk
+demand_all-requires-clause-walk c =
     let job = pipeline_in c.args.job.now in
     let inlining = c.args.self.now.inlining in
     let h = c.args.candidate.now.group in
-    all_at (λ a. IsTarget (target_over job inlining h a)) (areas_at job h) c.args.place c.args.tile.now
-    (areas_are_targets job inlining h c.args.job.now.well) c.requires.tile
+    record {
+      target =
+          all_at (λ a. IsTarget (target_over job inlining h a)) (areas_at job h) c.args.place c.args.tile.now
+          (areas_are_targets job inlining h c.args.job.now.well) c.requires.tile;
+      inlining =
+          refl;
+      stand =
+          c.requires.stand;
+      tile = c.requires.tile;
+    }
 
 pub demand_all-requires-clause-readers : goal.demand_all-requires-clause-readers
 demand_all-requires-clause-readers c =

@@ -17,14 +17,14 @@ is_region c =
     let job = pipeline_in c.args.walk.now.job.now in
     c.kept_box.ensures
     ∙ kept_is_region job (grouping_of c.args.self.now) c.args.self.now.standings.items c.args.walk.now.stage c.args.reader c.args.place
-    c.args.walk.now.region c.requires.stand c.requires.there c.requires.group
-    (not_equal c.args.reader c.args.walk.now.stage c.if-reader-walk.false) c.requires.tile
+    c.args.walk.now.region c.requires.walk.stand c.requires.there c.requires.group
+    (not_equal c.args.reader c.args.walk.now.stage c.if-reader-walk.false) c.requires.walk.tile
     ∙ ap (λ (inlining : List Bool). region (target_over job inlining c.args.walk.now.stage c.args.walk.now.region) c.args.reader)
-    (sym c.requires.inlining)
+    (sym c.requires.walk.inlining)
 
 pub returns-then-reader-walk-clause-near : goal.returns-then-reader-walk-clause-near
 returns-then-reader-walk-clause-near c =
-    let target = c.requires.target in
+    let target = c.requires.walk.target in
     let stage = c.args.walk.now.job.now.well.stages c.args.walk.now.stage target.owner target.there in
     near_subarea c.args.walk.now.region target.owner.domain (record { rows = stage.rows; cols = stage.cols }) target.area target.inside
 
@@ -33,4 +33,5 @@ returns-else-reader-walk-clause-is c = is_region c
 
 pub returns-else-reader-walk-clause-near : goal.returns-else-reader-walk-clause-near
 returns-else-reader-walk-clause-near c =
-    kept_is_near (target_of c.args.walk.now) c.args.reader c.kept_box.result c.args.walk.now.job.now.well c.requires.target (is_region c)
+    kept_is_near (target_of c.args.walk.now) c.args.reader c.kept_box.result c.args.walk.now.job.now.well c.requires.walk.target
+    (is_region c)
