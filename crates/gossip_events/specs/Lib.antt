@@ -1,4 +1,3 @@
-pub mod Codes
 pub mod FaultTable
 pub mod Scripts
 pub mod ScriptFaults

@@ -1,7 +1,10 @@
 //! Events.
 
-use crate::keys::Keys;
 use identity::Key;
+use sequences::Sequence;
+
+/// Keys in the order in which they were named, some of them more than once perhaps.
+pub type Keys = Sequence<Key>;
 
 /// What can happen to the nodes of a world. Nodes are counted from 0, and so are messages, in the order in which they were sent.
 #[derive(Debug, Drop)]

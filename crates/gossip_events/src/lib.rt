@@ -3,7 +3,6 @@
 
 mod event;
 mod fault;
-mod keys;
 mod line;
 mod naming;
 mod order;
@@ -14,8 +13,7 @@ mod script;
 mod verb;
 mod words;
 
-pub use event::Event;
+pub use event::{Event, Keys};
 pub use fault::ScriptFault;
-pub use keys::Keys;
 pub use line::MOST_EVENTS;
 pub use script::script_of;

@@ -6,8 +6,7 @@ ghost use Rattle.gossip_events.specs.declared.event.Event.{Event as EventType};
 ghost use Rattle.gossip_events.specs.declared.naming.NameFault.TheVariants.{Memory, NoSuchJob};
 ghost use Rattle.identity.specs.declared.key.Key.{Key as KeyType};
 
-use crate::event::Event;
-use crate::keys::Keys;
+use crate::event::{Event, Keys};
 use crate::order::Order;
 use crate::places::Place;
 use catalog::{Catalog, Ids};

@@ -65,6 +65,10 @@ abbrev pub separated : {X : Type 0} → List Token → (X → List Token) → Li
 separated separator tokens_of [] = []
 separated separator tokens_of (x ∷ xs) = tokens_of x ⌢ each_behind separator tokens_of xs
 
+-- the parts in brackets, with commas between neighbours
+abbrev pub bracketed : {X : Type 0} → (X → List Token) → List X → List Token
+bracketed tokens_of xs = mark OpenSquare ⌢ separated (mark Comma) tokens_of xs ⌢ mark CloseSquare
+
 -- ---- affine sums
 
 -- a name that is multiplied. A factor of 1 is left out
@@ -129,10 +133,10 @@ entry_tokens (pos n) = int n
 entry_tokens (negsuc n) = mark Minus ⌢ int (suc n)
 
 abbrev pub row_tokens : List ℤ → List Token
-row_tokens entries = mark OpenSquare ⌢ separated (mark Comma) entry_tokens entries ⌢ mark CloseSquare
+row_tokens entries = bracketed entry_tokens entries
 
 abbrev pub kernel_tokens : List (List ℤ) → List Token
-kernel_tokens rows = mark OpenSquare ⌢ separated (mark Comma) row_tokens rows ⌢ mark CloseSquare
+kernel_tokens rows = bracketed row_tokens rows
 
 abbrev pub read_tokens : List ℕ → Index → Index → List Token
 read_tokens x row column = name x ⌢ mark OpenRound ⌢ index_tokens row ⌢ mark Comma ⌢ index_tokens column ⌢ mark CloseRound

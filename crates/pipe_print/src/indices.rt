@@ -2,9 +2,9 @@
 //! Reads at an index, and stencils with a kernel.
 
 ghost use Rattle.std.specs.Prelude.{◌≡◌, ◌++◌, OnOk};
-ghost use Rattle.pipe_print.specs.Canonical.{◌⌢◌, separated, scaled_tokens, addend_tokens, divisor_tokens, index_tokens, read_tokens, stencil_tokens, kernel_tokens, row_tokens, entry_tokens};
-ghost use Rattle.pipe_print.specs.Canonical.{mark as mark_tokens};
+ghost use Rattle.pipe_print.specs.Canonical.{◌⌢◌, scaled_tokens, addend_tokens, divisor_tokens, index_tokens, read_tokens, stencil_tokens, row_tokens, entry_tokens};
 
+use crate::lists::Entry;
 use crate::printer::Printer;
 use pipe_tokens::{Keyword, Name, Punct};
 use pipe_tree::{Index, Kernel, Row};
@@ -76,62 +76,28 @@ impl Printer {
         self.mark(Punct::Comma)?;
         self.int(divisor)?;
         self.mark(Punct::Comma)?;
-        self.kernel(kernel)?;
+        self.bracketed(kernel.rows())?;
         self.mark(Punct::CloseRound)
     }
+}
 
-    fn kernel(&mut self, kernel: &Kernel) -> Result<(), AllocError>
-        ensures { OnOk result (self.new ≡ self.old ++ kernel_tokens kernel.now) }
-    {
-        self.mark(Punct::OpenSquare)?;
-        self.rows(kernel.rows())?;
-        self.mark(Punct::CloseSquare)
+// The row in brackets.
+impl Entry for Row {
+    ghost tokens = { row_tokens };
+
+    fn print(&self, printer: &mut Printer) -> Result<(), AllocError> {
+        printer.bracketed(self.entries())
     }
+}
 
-    fn rows(&mut self, rows: &[Row]) -> Result<(), AllocError>
-        ensures { OnOk result
-            (self.new ≡ self.old ++ separated (mark_tokens Punct.Comma) row_tokens rows.now) }
-    {
-        let [first, others @ ..] = rows else {
-            return Ok(());
-        };
-        self.row(first)?;
-        for row in others {
-            self.mark(Punct::Comma)?;
-            self.row(row)?;
+// The number with its sign, where this is a minus.
+impl Entry for i32 {
+    ghost tokens = { entry_tokens };
+
+    fn print(&self, printer: &mut Printer) -> Result<(), AllocError> {
+        if *self < 0 {
+            printer.mark(Punct::Minus)?;
         }
-        Ok(())
-    }
-
-    fn row(&mut self, row: &Row) -> Result<(), AllocError>
-        ensures { OnOk result (self.new ≡ self.old ++ row_tokens row.now) }
-    {
-        self.mark(Punct::OpenSquare)?;
-        self.entries(row.entries())?;
-        self.mark(Punct::CloseSquare)
-    }
-
-    fn entries(&mut self, entries: &[i32]) -> Result<(), AllocError>
-        ensures { OnOk result
-            (self.new ≡ self.old ++ separated (mark_tokens Punct.Comma) entry_tokens entries.now) }
-    {
-        let [first, others @ ..] = entries else {
-            return Ok(());
-        };
-        self.entry(*first)?;
-        for entry in others {
-            self.mark(Punct::Comma)?;
-            self.entry(*entry)?;
-        }
-        Ok(())
-    }
-
-    fn entry(&mut self, entry: i32) -> Result<(), AllocError>
-        ensures { OnOk result (self.new ≡ self.old ++ entry_tokens entry) }
-    {
-        if entry < 0 {
-            self.mark(Punct::Minus)?;
-        }
-        self.int(entry.unsigned_abs())
+        printer.int(self.unsigned_abs())
     }
 }

@@ -7,10 +7,11 @@ ghost use Rattle.std.specs.Option.{option_map};
 ghost use Rattle.pipe_tree.specs.Tree.{view, branches, function_of, accumulator_of, declaration};
 ghost use Rattle.pipe_print.specs.Canonical.{fold_word, param_tokens, names_tokens, image_tokens, variables_tokens, test_tokens, condition_tokens, value_tokens, case_tokens, otherwise_tokens, function_tokens, update_tokens, accumulator_tokens, output_tokens, item_tokens};
 
+use crate::lists::Entry;
 use crate::place::Place;
 use crate::printer::Printer;
 use domains::Fold;
-use pipe_tokens::{Keyword, Punct};
+use pipe_tokens::{Keyword, Punct, Token};
 use pipe_tree::{
     Accum, Case, Condition, Expr, Func, Image, Item, Names, Output, Param, Test, Variable,
 };
@@ -75,37 +76,10 @@ impl Printer {
         self.mark(Punct::CloseRound)
     }
 
-    fn test(&mut self, test: &Test) -> Result<(), AllocError>
-        ensures { OnOk result (self.new ≡ self.old ++ test_tokens test.now) }
-    {
-        match test {
-            Test::Compare(name, relation, bound) => {
-                self.name(name)?;
-                self.relation(*relation)?;
-                self.affine(bound)
-            }
-            Test::Remainder(name, modulus, remainder) => {
-                self.name(name)?;
-                self.mark(Punct::Percent)?;
-                self.int(*modulus)?;
-                self.mark(Punct::Equals)?;
-                self.int(*remainder)
-            }
-        }
-    }
-
     fn condition(&mut self, condition: &Condition) -> Result<(), AllocError>
         ensures { OnOk result (self.new ≡ self.old ++ condition_tokens condition.now) }
     {
-        let [first, others @ ..] = condition.tests() else {
-            return Ok(());
-        };
-        self.test(first)?;
-        for test in others {
-            self.word(Keyword::And)?;
-            self.test(test)?;
-        }
-        Ok(())
+        self.separated(&Token::Keyword(Keyword::And), condition.tests())
     }
 
     // `: VALUE;`
@@ -195,6 +169,28 @@ impl Printer {
             Item::Func(func) => self.func(func),
             Item::Accum(accum) => self.accum(accum),
             Item::Output(output) => self.output(output),
+        }
+    }
+}
+
+// A test of a condition.
+impl Entry for Test {
+    ghost tokens = { test_tokens };
+
+    fn print(&self, printer: &mut Printer) -> Result<(), AllocError> {
+        match self {
+            Test::Compare(name, relation, bound) => {
+                printer.name(name)?;
+                printer.relation(*relation)?;
+                printer.affine(bound)
+            }
+            Test::Remainder(name, modulus, remainder) => {
+                printer.name(name)?;
+                printer.mark(Punct::Percent)?;
+                printer.int(*modulus)?;
+                printer.mark(Punct::Equals)?;
+                printer.int(*remainder)
+            }
         }
     }
 }

@@ -7,6 +7,7 @@ mod expressions;
 mod indices;
 mod items;
 pub mod laws;
+mod lists;
 mod place;
 mod printer;
 mod text;

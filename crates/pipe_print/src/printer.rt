@@ -32,32 +32,35 @@ impl Printer {
         }
     }
 
+    pub fn token(&mut self, token: Token) -> Result<(), AllocError>
+        ensures { OnOk result (self.new ≡ self.old ++ token ∷ []) }
+    {
+        self.tokens.push(token)?;
+        Ok(())
+    }
+
     pub fn mark(&mut self, mark: Punct) -> Result<(), AllocError>
         ensures { OnOk result (self.new ≡ self.old ++ Token.Punct mark ∷ []) }
     {
-        self.tokens.push(Token::Punct(mark))?;
-        Ok(())
+        self.token(Token::Punct(mark))
     }
 
     pub fn word(&mut self, word: Keyword) -> Result<(), AllocError>
         ensures { OnOk result (self.new ≡ self.old ++ Token.Keyword word ∷ []) }
     {
-        self.tokens.push(Token::Keyword(word))?;
-        Ok(())
+        self.token(Token::Keyword(word))
     }
 
     pub fn int(&mut self, value: u32) -> Result<(), AllocError>
         ensures { OnOk result (self.new ≡ self.old ++ Token.Int value ∷ []) }
     {
-        self.tokens.push(Token::Int(value))?;
-        Ok(())
+        self.token(Token::Int(value))
     }
 
     pub fn name(&mut self, name: &Name) -> Result<(), AllocError>
         ensures { OnOk result (self.new ≡ self.old ++ Token.Name name.now ∷ []) }
     {
-        self.tokens.push(Token::Name(*name))?;
-        Ok(())
+        self.token(Token::Name(*name))
     }
 
     // `-` or `+`.

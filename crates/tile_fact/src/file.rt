@@ -12,43 +12,15 @@ ghost use Rattle.tile_fact.specs.Reading.{is_above, magic_read, head_read, body_
 use crate::fact::Fact;
 use crate::fault::FactFault;
 use crate::record::{Record, read_count, read_record};
+use sequences::Sequence;
 use std::alloc::{AllocError, Global};
 use std::cmp::Ordering;
-use std::marker::Model;
 
 /// The first bytes of a fact file.
 pub const MAGIC: [u8; 4] = *b"PTF1";
 
-/// Facts in order. Contracts see the list of them.
-#[derive(Debug, Drop)]
-pub struct Facts {
-    items: Vec<Fact>,
-}
-
-impl Model for Facts {
-    ghost use Rattle.std.specs.Prelude.{List};
-    ghost use Rattle.tile_fact.specs.Keyed.{Keyed};
-
-    ghost Value = { List Keyed };
-
-    ghost view = { λ facts. facts.items.items };
-}
-
-impl Facts {
-    /// The facts.
-    pub fn as_slice(&self) -> &[Fact]
-        ensures { result.now ≡ self.now }
-    {
-        &self.items
-    }
-
-    /// The facts, to be moved out of.
-    pub fn into_vec(self) -> Vec<Fact>
-        ensures { result.items ≡ self }
-    {
-        self.items
-    }
-}
+/// Facts in order.
+pub type Facts = Sequence<Fact>;
 
 /// What a fact file holds: its facts, which rise strictly.
 #[derive(Debug, Drop)]
@@ -70,7 +42,7 @@ pub fn decode(alloc: Global, bytes: &[u8]) -> Result<FactFile, FactFault>
 {
     let items = read_file(alloc, bytes)?;
     Ok(FactFile {
-        facts: Facts { items },
+        facts: Facts::new(items),
     })
 }
 

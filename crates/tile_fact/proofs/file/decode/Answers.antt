@@ -4,10 +4,11 @@ use Rattle.tile_fact.proofs.WholeLaws.{is_found, same_facts, is_memory, is_fault
 use Rattle.tile_fact.proofs.file.decode.Goals as goal
 
 pub returns-clause-found : goal.returns-clause-found
-returns-clause-found c = is_found c.args.bytes.now _ (λ i. omega (arith, c.type_inv.bytes i)) c.in_ok-items.ensures
+returns-clause-found c =
+    rw c.new.ensures (is_found c.args.bytes.now _ (λ i. omega (arith, c.type_inv.bytes i)) c.in_ok-items.ensures)
 
 pub returns-clause-only : goal.returns-clause-only
-returns-clause-only c = λ facts is. same_facts c.args.bytes.now _ facts c.in_ok-items.ensures is
+returns-clause-only c = λ facts is. rw c.new.ensures (same_facts c.args.bytes.now _ facts c.in_ok-items.ensures is)
 
 pub returns-in_err-items-clause-only : goal.returns-in_err-items-clause-only
 returns-in_err-items-clause-only c =

@@ -1,0 +1,6 @@
+//! Lists that contracts see.
+#![tactic(auto)]
+
+mod sequence;
+
+pub use sequence::Sequence;
