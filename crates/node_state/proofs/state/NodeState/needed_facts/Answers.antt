@@ -5,14 +5,14 @@ use Rattle.job.specs.Kept.{pipeline_in}
 use Rattle.node_state.proofs.ReadyNeeds.{facts_more, ready_more, ready_all, stops}
 use Rattle.node_state.proofs.state.NodeState.needed_facts.Goals as goal
 
-pub returns-in_err-needed_fact-clause-fault : goal.returns-in_err-needed_fact-clause-fault
-returns-in_err-needed_fact-clause-fault g c =
+pub returns-in_err-fact-clause-fault : goal.returns-in_err-fact-clause-fault
+returns-in_err-fact-clause-fault g c =
     let keys = c.args.needs.now in
     let here = slice_get_read keys (length keys) c.loop-need.need-index c.need-item.result refl c.loop-need-test.true c.need-item.is in
-    let p = err_from_is_err_and c.from_residual-in_err-needed_fact.result c.from_residual-in_err-needed_fact.ensures.1 in
+    let p = err_from_is_err_and c.from_residual-in_err-fact.result c.from_residual-in_err-fact.ensures.1 in
     rw (p.1, p.2)
     (stops c.args.self.now (pipeline_in c.args.job.now) keys c.loop-need.need-index c.need-item.result _ here c.loop-need.invariant.ready
-    c.in_err-needed_fact.ensures.fault)
+    c.in_err-fact.ensures.fault)
 
 pub loop-need-preserved : goal.loop-need-preserved
 loop-need-preserved g c =
@@ -21,14 +21,14 @@ loop-need-preserved g c =
     let keys = c.args.needs.now in
     let i = c.loop-need.need-index in
     let need = c.need-item.result in
-    let fact = c.in_ok-needed_fact.field-0 in
+    let fact = c.in_ok-fact.field-0 in
     let here = slice_get_read keys (length keys) i need refl c.loop-need-test.true c.need-item.is in
     let grown : c.push.new.self.items ≡ c.loop-need.facts.items ++ fact ∷ [] = search rules in
     record {
       facts =
           grown
-          ∙ facts_more s job keys i need c.loop-need.facts.items fact here c.loop-need.invariant.facts c.in_ok-needed_fact.ensures.one;
-      ready = ready_more s job keys i need fact here c.in_ok-needed_fact.ensures.one c.in_ok-needed_fact.ensures.fits
+          ∙ facts_more s job keys i need c.loop-need.facts.items fact here c.loop-need.invariant.facts c.in_ok-fact.ensures.one;
+      ready = ready_more s job keys i need fact here c.in_ok-fact.ensures.one c.in_ok-fact.ensures.fits
           c.loop-need.invariant.ready;
     }
 
