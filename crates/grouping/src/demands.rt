@@ -74,8 +74,8 @@ fn width(kernel: &Kernel) -> usize
     requires { IsKernel kernel.now }
     ensures { result ≡ length (factors kernel.now 0) }
 {
-    match kernel.rows().first() {
-        Some(row) => row.factors().len(),
+    match kernel.as_slice().first() {
+        Some(row) => row.as_slice().len(),
         None => 0,
     }
 }
@@ -86,7 +86,7 @@ fn image_of_kernel(kernel: &Kernel, region: &Area) -> Area
     ensures { result ≡ image_under (window 0 kernel.now) region.now }
 {
     Area {
-        rows: widened(&region.rows, kernel.rows().len() / 2),
+        rows: widened(&region.rows, kernel.as_slice().len() / 2),
         cols: widened(&region.cols, width(kernel) / 2),
     }
 }

@@ -4,8 +4,8 @@
 ghost use Rattle.std.specs.Prelude.{◌≡◌, IfOk};
 
 use domains::{BinaryOp, Index, LiteralOp, Relation};
-use std::alloc::{AllocError, Global};
-use std::marker::Model;
+use sequences::Sequence;
+use std::alloc::AllocError;
 
 /// One of the two coordinates of a point.
 #[derive(Clone, Copy, Debug, PartialEq, Eq)]
@@ -43,81 +43,15 @@ pub enum Test {
     Remainder(Axis, u32, u32),
 }
 
-/// The factors of a stencil. Contracts see the list of its rows.
-#[derive(Debug, Drop)]
-pub struct Kernel {
-    rows: Vec<Factors>,
-}
+/// The factors of a stencil: its rows from the top.
+pub type Kernel = Sequence<Factors>;
 
-impl Model for Kernel {
-    ghost use Rattle.std.specs.Prelude.{List, ℤ};
+/// One row of a kernel: its factors from the left.
+pub type Factors = Sequence<i32>;
 
-    ghost Value = { List (List ℤ) };
-
-    ghost view = { λ k. k.rows.items };
-}
-
-impl Kernel {
-    /// The kernel of these rows.
-    pub fn new(rows: Vec<Factors>) -> Self
-        ensures { result ≡ rows.items }
-    {
-        Kernel { rows }
-    }
-
-    /// The rows from the top.
-    pub fn rows(&self) -> &[Factors]
-        ensures { result.now ≡ self.now }
-    {
-        &self.rows
-    }
-
-    /// The same kernel once more.
-    pub(crate) fn copied(&self, alloc: Global) -> Result<Self, AllocError>
-        ensures { IfOk result (λ k. k ≡ self.now) }
-    {
-        let mut rows = Vec::new(alloc);
-        for row in self.rows() {
-            rows.push(row.copied(alloc)?)?;
-        }
-        Ok(Kernel { rows })
-    }
-}
-
-/// One row of a kernel. Contracts see the list of its factors.
-#[derive(Debug, Drop)]
-pub struct Factors {
-    factors: Vec<i32>,
-}
-
-impl Model for Factors {
-    ghost use Rattle.std.specs.Prelude.{List, ℤ};
-
-    ghost Value = { List ℤ };
-
-    ghost view = { λ f. f.factors.items };
-}
-
-impl Factors {
-    /// The row of these factors.
-    pub fn new(factors: Vec<i32>) -> Self
-        ensures { result ≡ factors.items }
-    {
-        Factors { factors }
-    }
-
-    /// The factors from the left.
-    pub fn factors(&self) -> &[i32]
-        ensures { result.now ≡ self.now }
-    {
-        &self.factors
-    }
-
-    fn copied(&self, alloc: Global) -> Result<Self, AllocError>
-        ensures { IfOk result (λ f. f ≡ self.now) }
-    {
-        Ok(Factors {
-            factors: self.factors().to_vec(alloc)?,
-        })
-    }
+/// The same kernel once more.
+pub fn copied_kernel(kernel: &Kernel) -> Result<Kernel, AllocError>
+    ensures { IfOk result (λ copy. copy ≡ kernel.now) }
+{
+    Ok(kernel.clone()?)
 }

@@ -16,7 +16,7 @@ mod stage;
 pub mod worked;
 
 pub use bound_pipeline::BoundPipeline;
-pub use formula::{Axis, Factors, Formula, Kernel, Test};
+pub use formula::{Axis, Factors, Formula, Kernel, Test, copied_kernel};
 pub use job::{Job, StageKind};
 pub use outputs::{Output, Parameter};
 pub use reads::Read;

@@ -9,7 +9,7 @@ ghost use Rattle.job.specs.Views.{formula_view, case_view, stage_view};
 ghost use Rattle.job.specs.Reads.{reads_in, reads_of, other_formula};
 ghost use Rattle.job.specs.ReadViews.{read_view};
 
-use crate::formula::{Formula, Kernel};
+use crate::formula::{Formula, Kernel, copied_kernel};
 use crate::stage::{Accumulator, Body, Function, JobCase, Stage};
 use domains::Index;
 use std::alloc::{AllocError, Global};
@@ -24,7 +24,7 @@ pub enum Read {
 }
 
 // Puts the reads of a formula behind those that were found.
-fn add_reads(alloc: Global, found: &mut Vec<Read>, formula: &Formula) -> Result<(), AllocError>
+fn add_reads(found: &mut Vec<Read>, formula: &Formula) -> Result<(), AllocError>
     ensures { OnOk result (map read_view found.new.items
         ≡ map read_view found.old.items ++ reads_in (formula_view formula.now)) }
 {
@@ -35,78 +35,74 @@ fn add_reads(alloc: Global, found: &mut Vec<Read>, formula: &Formula) -> Result<
             Ok(())
         }
         Formula::Neg(operand) | Formula::Abs(operand) | Formula::Literal(_, operand, _) => {
-            add_reads(alloc, found, operand)
+            add_reads(found, operand)
         }
         Formula::Binary(_, left, right) => {
-            add_reads(alloc, found, left)?;
-            add_reads(alloc, found, right)
+            add_reads(found, left)?;
+            add_reads(found, right)
         }
         Formula::Clamp(value, least, greatest) => {
-            add_reads(alloc, found, value)?;
-            add_reads(alloc, found, least)?;
-            add_reads(alloc, found, greatest)
+            add_reads(found, value)?;
+            add_reads(found, least)?;
+            add_reads(found, greatest)
         }
         Formula::Select(left, _, right, then, otherwise) => {
-            add_reads(alloc, found, left)?;
-            add_reads(alloc, found, right)?;
-            add_reads(alloc, found, then)?;
-            add_reads(alloc, found, otherwise)
+            add_reads(found, left)?;
+            add_reads(found, right)?;
+            add_reads(found, then)?;
+            add_reads(found, otherwise)
         }
         Formula::Stencil(stage, _, kernel) => {
-            found.push(Read::Window(*stage, kernel.copied(alloc)?))?;
+            found.push(Read::Window(*stage, copied_kernel(kernel)?))?;
             Ok(())
         }
     }
 }
 
-fn add_cases(alloc: Global, found: &mut Vec<Read>, cases: &[JobCase]) -> Result<(), AllocError>
+fn add_cases(found: &mut Vec<Read>, cases: &[JobCase]) -> Result<(), AllocError>
     ensures { OnOk result (map read_view found.new.items
         ≡ map read_view found.old.items
         ++ flat_map reads_in (map (λ p. p.formula) (map case_view cases.now))) }
 {
     for case in cases {
-        add_reads(alloc, found, case.formula())?;
+        add_reads(found, case.formula())?;
     }
     Ok(())
 }
 
-fn add_other(
-    alloc: Global,
-    found: &mut Vec<Read>,
-    other: &Option<Formula>,
-) -> Result<(), AllocError>
+fn add_other(found: &mut Vec<Read>, other: &Option<Formula>) -> Result<(), AllocError>
     ensures { OnOk result (map read_view found.new.items
         ≡ map read_view found.old.items
         ++ flat_map reads_in (other_formula (option_map formula_view other.now))) }
 {
     match other {
-        Some(formula) => add_reads(alloc, found, formula),
+        Some(formula) => add_reads(found, formula),
         None => Ok(()),
     }
 }
 
 impl Function {
     // Puts the reads of the cases, and then those of what holds elsewhere, behind those that were found.
-    fn add_reads(&self, alloc: Global, found: &mut Vec<Read>) -> Result<(), AllocError>
+    fn add_reads(&self, found: &mut Vec<Read>) -> Result<(), AllocError>
         ensures { OnOk result (map read_view found.new.items
             ≡ map read_view found.old.items
             ++ reads_of (function (map case_view self.now.cases.items)
             (option_map formula_view self.now.otherwise))) }
     {
-        add_cases(alloc, found, self.cases())?;
-        add_other(alloc, found, self.otherwise())
+        add_cases(found, self.cases())?;
+        add_other(found, self.otherwise())
     }
 }
 
 impl Accumulator {
-    fn add_reads(&self, alloc: Global, found: &mut Vec<Read>) -> Result<(), AllocError>
+    fn add_reads(&self, found: &mut Vec<Read>) -> Result<(), AllocError>
         ensures { OnOk result (map read_view found.new.items
             ≡ map read_view found.old.items
             ++ reads_of (accumulator self.now.fold self.now.bins (formula_view self.now.value)
             (formula_view self.now.bin))) }
     {
-        add_reads(alloc, found, self.value())?;
-        add_reads(alloc, found, self.bin())
+        add_reads(found, self.value())?;
+        add_reads(found, self.bin())
     }
 }
 
@@ -118,8 +114,8 @@ impl Stage {
         let mut found = Vec::new(alloc);
         match self.body() {
             Body::Plane(_) => {}
-            Body::Function(function) => function.add_reads(alloc, &mut found)?,
-            Body::Accumulator(accumulator) => accumulator.add_reads(alloc, &mut found)?,
+            Body::Function(function) => function.add_reads(&mut found)?,
+            Body::Accumulator(accumulator) => accumulator.add_reads(&mut found)?,
         }
         Ok(found)
     }
@@ -131,7 +127,7 @@ impl Formula {
         ensures { IfOk result (λ v. map read_view v.items ≡ reads_in (formula_view self.now)) }
     {
         let mut found = Vec::new(alloc);
-        add_reads(alloc, &mut found, self)?;
+        add_reads(&mut found, self)?;
         Ok(found)
     }
 }

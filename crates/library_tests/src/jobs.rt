@@ -61,11 +61,7 @@ fn tells_of_case(alloc: Global, case: &JobCase) -> Result<(), Fail> {
         &case.tests(),
         "[Compare(Row, AtLeast, 1), Remainder(Column, 2, 1)]",
     )?;
-    tells(
-        alloc,
-        &case.formula(),
-        "Stencil(0, 1, Kernel { rows: [Factors { factors: [1, 10, -100] }] })",
-    )
+    tells(alloc, &case.formula(), "Stencil(0, 1, [[1, 10, -100]])")
 }
 
 fn tells_of_function(alloc: Global, job: &Job) -> Result<(), Fail> {

@@ -18,10 +18,14 @@ abbrev pub ◌>>=◌ : {A B : Type 0} → Result A PicFault → (A → Result B 
 (Ok x) >>= f = f x
 (Err e) >>= f = Err e
 
+-- what is wrong where a number should stand: what stands there is none, or the bytes are cut
+abbrev pub stop : PicFault → List ℕ → ℕ → PicFault
+stop cut bytes at = if nat_lt at (length bytes) then BadNumber at else cut
+
 -- ---- the header
 
 abbrev pub header_stop : List ℕ → ℕ → PicFault
-header_stop bytes at = if nat_lt at (length bytes) then BadNumber at else HeaderCut at
+header_stop bytes at = stop (HeaderCut at) bytes at
 
 abbrev pub kind_of : ℕ → Result (Coding × ℕ) PicFault
 kind_of byte =
@@ -75,7 +79,7 @@ header_read bytes = do
 -- ---- a plain raster
 
 abbrev pub plain_stop : List ℕ → ℕ → PicFault
-plain_stop bytes at = if nat_lt at (length bytes) then BadNumber at else RasterCut at
+plain_stop bytes at = stop (RasterCut at) bytes at
 
 unfoldable pub sample_read : List ℕ → ℕ → ℕ → Result (ℕ × ℕ) PicFault
 sample_read bytes at max =

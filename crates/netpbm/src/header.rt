@@ -1,11 +1,11 @@
 //! What stands in front of the raster.
 ghost use Rattle.std.specs.Prelude.{◌≡◌, ◌≤◌, ◌⊎◌, length, IfOk};
 ghost use Rattle.netpbm.specs.Image.{InRange};
-ghost use Rattle.netpbm.specs.Reading.{header_stop, magic_read, number_read, size_read, max_read, white_read, header_read};
+ghost use Rattle.netpbm.specs.Reading.{magic_read, number_read, size_read, max_read, white_read, header_read};
 
 use crate::fault::PicFault;
 use crate::picture::LONGEST_SIDE;
-use crate::text::{digits_at, gap_end, is_white};
+use crate::text::{digits_at, gap_end, is_white, stop_at};
 
 /// How the samples of a raster are written.
 #[derive(Clone, Copy, Debug, PartialEq, Eq)]
@@ -99,18 +99,7 @@ fn number_at(bytes: &[u8], at: usize) -> Result<Number, PicFault>
     if start > at && end > start {
         return Ok(Number { value, start, end });
     }
-    Err(stop_at(bytes, start))
-}
-
-// The fault of a header that cannot go on at this place.
-fn stop_at(bytes: &[u8], at: usize) -> PicFault
-    ensures { result ≡ header_stop bytes.now at }
-{
-    if at < bytes.len() {
-        PicFault::BadNumber(at)
-    } else {
-        PicFault::HeaderCut(at)
-    }
+    Err(stop_at(bytes, start, PicFault::HeaderCut(start)))
 }
 
 // A gap and a side behind it, and where its digits end.
@@ -156,5 +145,5 @@ fn white_at(bytes: &[u8], at: usize) -> Result<usize, PicFault>
     if at < bytes.len() && bytes[at] == b'#' {
         return Err(PicFault::CommentBehindDigit(at));
     }
-    Err(stop_at(bytes, at))
+    Err(stop_at(bytes, at, PicFault::HeaderCut(at)))
 }

@@ -1,10 +1,10 @@
 //! Rasters in digits.
 ghost use Rattle.std.specs.Prelude.{◌≡◌, ◌≤◌, ℕ, List, [], length, vec_capacity, Ok, Err, IfOk, IfErr, OnOk};
 ghost use Rattle.netpbm.specs.Gives.{Gives, Checks};
-ghost use Rattle.netpbm.specs.Reading.{plain_stop, sample_read, end_read, plain_read};
+ghost use Rattle.netpbm.specs.Reading.{sample_read, end_read, plain_read};
 
 use crate::fault::PicFault;
-use crate::text::{digits_at, white_end};
+use crate::text::{digits_at, stop_at, white_end};
 use std::alloc::Global;
 
 /// Reads a plain raster that begins at a place and has so many samples.
@@ -74,23 +74,12 @@ fn sample_at(bytes: &[u8], at: usize, max: u16) -> Result<(u16, usize), PicFault
     let start = white_end(bytes, at);
     let (value, end) = digits_at(bytes, start);
     if end == start {
-        return Err(stop_at(bytes, start));
+        return Err(stop_at(bytes, start, PicFault::RasterCut(start)));
     }
     if value > u32::from(max) {
         return Err(PicFault::SampleTooBig(start));
     }
     Ok((value as u16, end))
-}
-
-// The fault of a raster that cannot go on at this place.
-fn stop_at(bytes: &[u8], at: usize) -> PicFault
-    ensures { result ≡ plain_stop bytes.now at }
-{
-    if at < bytes.len() {
-        PicFault::BadNumber(at)
-    } else {
-        PicFault::RasterCut(at)
-    }
 }
 
 // Only white space may stand behind the last sample.

@@ -3,6 +3,9 @@ ghost use Rattle.std.specs.Prelude.{◌≡◌, false, ◌+◌, ◌≤◌, length
 ghost use Rattle.std.specs.Str.Parse.{digits_value};
 ghost use Rattle.netpbm.specs.Text.{is_white as is_white_byte, white_len, digits_len, digits_in_front};
 ghost use Rattle.netpbm.specs.Scanning.{may_stand, is_open_behind, gap_len};
+ghost use Rattle.netpbm.specs.Reading.{stop};
+
+use crate::fault::PicFault;
 
 /// The least number that no picture has. Greater ones are read as it.
 pub const TOO_BIG: u32 = 65536;
@@ -75,4 +78,15 @@ pub fn digits_at(bytes: &[u8], start: usize) -> (u32, usize)
         at += 1;
     }
     (value, at)
+}
+
+/// The fault where a number should stand: what stands there is none, or the bytes are cut.
+pub fn stop_at(bytes: &[u8], at: usize, cut: PicFault) -> PicFault
+    ensures { result ≡ stop cut bytes.now at }
+{
+    if at < bytes.len() {
+        PicFault::BadNumber(at)
+    } else {
+        cut
+    }
 }

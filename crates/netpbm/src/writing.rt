@@ -32,8 +32,7 @@ pub fn raw(alloc: Global, picture: &Picture) -> Result<Vec<u8>, AllocError>
     let area = picture.area();
     let mut done = 0;
     while done < area {
-        let end = area.min(done + PIXELS);
-        let len = put_pixels(&mut piece, picture, done, end);
+        let (end, len) = put_next(&mut piece, picture, done);
         bytes.extend_from_slice(&piece[..len])?;
         done = end;
     }
@@ -55,8 +54,7 @@ pub fn write_raw<W: Sink>(picture: &Picture, writer: &mut W) -> Result<(), Write
     let area = picture.area();
     let mut done = 0;
     while done < area {
-        let end = area.min(done + PIXELS);
-        let len = put_pixels(&mut piece, picture, done, end);
+        let (end, len) = put_next(&mut piece, picture, done);
         write_whole(writer, &piece[..len])?;
         done = end;
     }
@@ -75,8 +73,7 @@ pub fn hash_raw<D: Digest>(picture: &Picture, hasher: &mut D)
     let area = picture.area();
     let mut done = 0;
     while done < area {
-        let end = area.min(done + PIXELS);
-        let len = put_pixels(&mut piece, picture, done, end);
+        let (end, len) = put_next(&mut piece, picture, done);
         hasher.update(&piece[..len]);
         done = end;
     }
@@ -87,6 +84,22 @@ fn raster_len(picture: &Picture) -> usize
     ensures { result ≤ 100663296 }
 {
     picture.planes().len() * (picture.area() * sample_width(picture.max()))
+}
+
+// Puts the bytes of the pixels from `start` on, of as many as are written at a time, into the front of `out`. Says where these pixels
+// end, and how many bytes they are.
+fn put_next(out: &mut [u8], picture: &Picture, start: usize) -> (usize, usize)
+    requires before { start < picture.now.rows * picture.now.cols }
+    requires room { 98304 ≤ length out.old }
+    ensures on { start < result.0 }
+    ensures within { result.0 ≤ picture.now.rows * picture.now.cols }
+    ensures len { result.1 ≤ 98304 }
+    ensures written { take result.1 out.new
+        ≡ raw_raster picture.now.max (pixels start result.0 picture.now.planes) }
+{
+    let end = picture.area().min(start + PIXELS);
+    let len = put_pixels(out, picture, start, end);
+    (end, len)
 }
 
 // Puts the bytes of these pixels into the front of `out`, and says how many they are.

@@ -90,11 +90,11 @@ impl Kernel3x3 {
         ensures square { IfSome result (λ s. Is3x3 kernel.now) }
         ensures none { IfNone result (¬ (Is3x3 kernel.now)) }
     {
-        match kernel.rows() {
+        match kernel.as_slice() {
             [top, middle, bottom] => Some(Kernel3x3 {
-                top: Triple::of(top.factors())?,
-                middle: Triple::of(middle.factors())?,
-                bottom: Triple::of(bottom.factors())?,
+                top: Triple::of(top.as_slice())?,
+                middle: Triple::of(middle.as_slice())?,
+                bottom: Triple::of(bottom.as_slice())?,
             }),
             _ => None,
         }

@@ -29,9 +29,9 @@ pub fn kernel_line<S: RowSource>(
     ensures { IsUnder kernel.now (S.samples source.now stage) points.now.row points.now.col a
         line.new }
 {
-    let rows = kernel.rows();
+    let rows = kernel.as_slice();
     let row = points.row_under(rows.len(), a);
-    let col = points.col_under(rows[0].factors().len());
+    let col = points.col_under(rows[0].as_slice().len());
     source.read_row(stage, row, col, line);
 }
 
@@ -52,9 +52,9 @@ fn borrowed_line<'a, S: RowSource>(
         × IsUnder kernel.now (S.samples source.now stage) points.now.row points.now.col a
         line.now) }
 {
-    let rows = kernel.rows();
+    let rows = kernel.as_slice();
     let row = points.row_under(rows.len(), a);
-    let col = points.col_under(rows[0].factors().len());
+    let col = points.col_under(rows[0].as_slice().len());
     source.borrow_row(stage, row, col, count)
 }
 
@@ -79,7 +79,7 @@ fn add_kernel_row<S: RowSource>(
         +ℤ row_sum kernel.now (S.samples source.now stage) points.now.row
         (points.now.col +ℤ pos k) a)) }
 {
-    let factors = kernel.rows()[a].factors();
+    let factors = kernel.as_slice()[a].as_slice();
     let count = out.len() + factors.len() - 1;
     match borrowed_line(source, stage, kernel, a, points, count) {
         Some(line) => add_taps(out, line, factors),
@@ -109,7 +109,7 @@ fn sums_by_rows<S: RowSource>(
         (points.now.col +ℤ pos k))) }
 {
     fill(out, 0);
-    for a in 0..kernel.rows().len() {
+    for a in 0..kernel.as_slice().len() {
         add_kernel_row(source, stage, kernel, a, points, out, temps);
     }
 }

@@ -15,11 +15,11 @@ pub loop-done-preserved : goal.loop-done-preserved
 loop-done-preserved c =
     let p = c.args.picture.now in
     let done = c.loop-done.done in
-    let piece = take c.put_pixels-len.result c.put_pixels-len.new.out in (
+    let piece = take c.put_next-end.result.1 c.put_next-end.new.out in (
       search rules,
       c.in_ok-extend_from_slice-2.ensures.items ∙ ap (λ (l : List ℕ). l ++ piece) c.loop-done.invariant.1
-          ∙ ap (λ (l : List ℕ). spelling_to done p ++ l) c.put_pixels-len.ensures.written
-          ∙ spelling_more p done c.min-end.result c.area-area.ensures.image (search rules) (search rules),
+          ∙ ap (λ (l : List ℕ). spelling_to done p ++ l) c.put_next-end.ensures.written
+          ∙ spelling_more p done c.put_next-end.result.0 c.area-area.ensures.image (search rules) (search rules),
     )
 
 pub returns : goal.returns

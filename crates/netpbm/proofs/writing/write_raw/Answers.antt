@@ -29,8 +29,8 @@ pub returns-in_err-write_whole-2-clause-part : goal.returns-in_err-write_whole-2
 returns-in_err-write_whole-2-clause-part g c =
     let p = c.args.picture.now in
     let done = c.loop-done.done in
-    let end = c.min-end.result in
-    let part = subst (AppendsPart _ _) c.put_pixels-len.ensures.written c.in_err-write_whole-2.ensures.part in
+    let end = c.put_next-end.result.0 in
+    let part = subst (AppendsPart _ _) c.put_next-end.ensures.written c.in_err-write_whole-2.ensures.part in
     on_err c.from_residual-in_err-write_whole-2.result _
     (AppendsPart-next _ _ _ (spelling_to done p) (raw_raster p.max (pixels done end p.planes))
     (raw_raster p.max (pixels end (p.rows * p.cols) p.planes)) (spelling p) c.loop-done.invariant.1 part
@@ -40,8 +40,8 @@ pub loop-done-preserved : goal.loop-done-preserved
 loop-done-preserved g c =
     let p = c.args.picture.now in
     let done = c.loop-done.done in
-    let end = c.min-end.result in
-    let piece = subst (Appends _ _) c.put_pixels-len.ensures.written c.in_ok-write_whole-2.ensures.ok in
+    let end = c.put_next-end.result.0 in
+    let piece = subst (Appends _ _) c.put_next-end.ensures.written c.in_ok-write_whole-2.ensures.ok in
     let more = spelling_more p done end c.area-area.ensures.image (search rules) (search rules) in
     (search rules, subst (Appends _ _) more (Appends-trans _ _ _ _ _ c.loop-done.invariant.1 piece), search rules)
 
