@@ -113,37 +113,13 @@ impl<'a> BufferView<'a> {
             (place_of self.now.area row (index_at col.now (points.now.col +ℤ pos k)))) }
     {
         if col.div() == 1 && !out.is_empty() {
-            self.step(row, col, points, out);
+            // the places of the columns lie at steps of one length
+            let place = self.place(row, points.col_at(col));
+            take_every(self.values, place, step_of(col), out);
         } else {
-            self.look_up(row, col, points, out);
-        }
-    }
-
-    // The same of an index that does not divide: the places of its columns lie at steps of one length.
-    fn step(&self, row: i32, col: &Index, points: &RowSpan, out: &mut [i32])
-        requires div { col.now.div ≡ pos 1 }
-        requires some { 0 < length out.old }
-        requires there { EachPlace (length out.old)
-            (λ k. HoldsPoint self.now.area row (index_at col.now (points.now.col +ℤ pos k))) }
-        ensures { EachPlace (length out.old) (λ k. at out.new k
-            ≡ at self.now.values.now
-            (place_of self.now.area row (index_at col.now (points.now.col +ℤ pos k)))) }
-    {
-        let place = self.place(row, points.col_at(col));
-        take_every(self.values, place, step_of(col), out);
-    }
-
-    // The same of any index, each place looked up.
-    fn look_up(&self, row: i32, col: &Index, points: &RowSpan, out: &mut [i32])
-        requires fits { length out.old ≡ points.now.len }
-        requires there { EachPlace (length out.old)
-            (λ k. HoldsPoint self.now.area row (index_at col.now (points.now.col +ℤ pos k))) }
-        ensures { EachPlace (length out.old) (λ k. at out.new k
-            ≡ at self.now.values.now
-            (place_of self.now.area row (index_at col.now (points.now.col +ℤ pos k)))) }
-    {
-        for k in 0..out.len() {
-            out[k] = self.sample(row, col.at(points.column(k)));
+            for k in 0..out.len() {
+                out[k] = self.sample(row, col.at(points.column(k)));
+            }
         }
     }
 

@@ -2,7 +2,7 @@ use Rattle.std.proofs.Common.{◌≡◌, ◌+ℤ◌, pos}
 use Rattle.domains.specs.Index.{index_at}
 use Rattle.row_kernels.specs.Rows.{EachPlace, at}
 use Rattle.row_kernels.specs.Places.{place_of}
-use Rattle.row_kernels.proofs.buffer_view.BufferView.look_up.Given as goal
+use Rattle.row_kernels.proofs.buffer_view.BufferView.gather.Given as goal
 
 abbrev pub invariant-loop-k : goal.invariant-loop-k
 invariant-loop-k l =
