@@ -2,6 +2,7 @@
 //! Worlds of nodes, over a catalog of one job.
 
 use crate::bound_jobs::job_of;
+use crate::plans::TOO_BIG;
 use crate::scheduling::{chosen, schedule_of};
 use crate::verdicts::admit;
 use crate::wanted::{holds, says, tells};
@@ -92,13 +93,19 @@ fn copying(alloc: Global) -> Result<World, Fail> {
     world_of(alloc, job, schedules)
 }
 
+// For two nodes, of which the first stores both functions of the job and the second inlines the first one.
+fn first_inlined_by_the_second(alloc: Global, job: &Job) -> Result<Vec<NodeSchedules>, Fail> {
+    let mut inlining = Vec::new(alloc);
+    inlining.push(schedule_of(alloc, job, &[false, true, false])?)?;
+    let mut schedules = planned(alloc, job, &[1])?;
+    schedules.push(NodeSchedules::new(inlining))?;
+    Ok(schedules)
+}
+
 // Two nodes, of which the first stores both functions and the second inlines the first one.
 pub(crate) fn halving(alloc: Global) -> Result<World, Fail> {
     let job = halved(alloc)?;
-    let mut inlining = Vec::new(alloc);
-    inlining.push(schedule_of(alloc, &job, &[false, true, false])?)?;
-    let mut schedules = planned(alloc, &job, &[1])?;
-    schedules.push(NodeSchedules::new(inlining))?;
+    let schedules = first_inlined_by_the_second(alloc, &job)?;
     world_of(alloc, job, schedules)
 }
 
@@ -228,6 +235,36 @@ fn has_no_events(world: &World) -> Result<(), Fail> {
 #[test]
 fn no_events_finish_what_is_not_there(rt: HostRuntime) -> Result<(), Fail> {
     has_no_events(&copying(rt.alloc())?)
+}
+
+fn too_big(alloc: Global) -> Result<Job, Fail> {
+    job_of(alloc, TOO_BIG, &[], b"P2 1 1 255 7", (1024, 1024))
+}
+
+// Two nodes, of which the first stores both functions and the second inlines the first one, which lacks the room for it.
+fn without_room(alloc: Global) -> Result<World, Fail> {
+    let job = too_big(alloc)?;
+    let schedules = first_inlined_by_the_second(alloc, &job)?;
+    world_of(alloc, job, schedules)
+}
+
+fn lacks_room(world: &World, job: &Job) -> Result<(), Fail> {
+    let key = job.key(2, 0, 0).ok_or("no key")?;
+    holds(
+        Some(world.finish(0, 0)?.len() == 164),
+        "82 makings and their deliveries",
+    )?;
+    let fault = world.finish(1, 0).err().ok_or("there are events")?;
+    holds(
+        Some(fault == FinishFault::ScratchTooBig(key)),
+        "the tile that lacks room",
+    )
+}
+
+#[test]
+fn a_tile_without_room_is_named(rt: HostRuntime) -> Result<(), Fail> {
+    let alloc = rt.alloc();
+    lacks_room(&without_room(alloc)?, &too_big(alloc)?)
 }
 
 // What an event did, or the name of its fault.
