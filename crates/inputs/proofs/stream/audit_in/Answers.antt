@@ -1,0 +1,25 @@
+use Rattle.std.proofs.lemmas.Result.{err_from_is_err_and}
+use Rattle.job.specs.Kept.{pipeline_in}
+use Rattle.inputs.proofs.Known.{audit_facts_fault, audit_fault_around}
+use Rattle.inputs.proofs.stream.audit_in.Goals as goal
+
+pub returns-in_err-job-clause-fault : goal.returns-in_err-job-clause-fault
+returns-in_err-job-clause-fault c =
+    let p = err_from_is_err_and c.from_residual.result c.from_residual.ensures.1 in
+    rw (p.1, p.2) (audit_fault_around c.args.input.now c.args.given.now c.args.sides c.in_err-job.field-0.0 c.in_err-job.ensures.fault)
+
+pub returns-in_err-facts-clause-fault : goal.returns-in_err-facts-clause-fault
+returns-in_err-facts-clause-fault c =
+    let p = err_from_is_err_and c.from_residual-in_err-facts.result c.from_residual-in_err-facts.ensures.1 in
+    let read = c.in_ok-job.ensures.of_input in
+    rw (p.1, p.2) (audit_facts_fault c.args.input.now c.in_ok-job.middle.now c.args.given.now c.args.sides read.tree
+    (pipeline_in c.in_ok-job.job) c.in_err-facts.field-0.0 read.of_input c.in_err-facts.ensures.fault)
+
+pub returns-clause-of_input : goal.returns-clause-of_input
+returns-clause-of_input c =
+    let read = c.in_ok-job.ensures.of_input in
+    record {
+      tree = read.tree;
+      of_input = record { lines = c.in_ok-job.middle.now; around = read.of_input; union = c.in_ok-facts.ensures.found };
+      text = read.text;
+    }
