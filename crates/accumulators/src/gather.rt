@@ -17,7 +17,7 @@ use crate::starts::starts;
 use domains::Area;
 use job::Accumulator;
 use std::alloc::{AllocError, Global};
-use tile_eval::{RowSource, RowSpan, formula_room, formula_row};
+use tile_eval::{RowSource, RowSpan, SourceRow, formula_room};
 
 // Room for the operands of both formulas at `n` points, if that many numbers can be counted.
 fn room_along(accumulator: &Accumulator, n: usize) -> Option<usize>
@@ -30,9 +30,8 @@ fn room_along(accumulator: &Accumulator, n: usize) -> Option<usize>
 
 // Takes a row of points into the bins.
 fn gather_row<S: RowSource>(
-    source: &S,
+    row: &SourceRow<'_, S>,
     accumulator: &Accumulator,
-    points: &RowSpan,
     bins: &mut [i64],
     values: &mut [i32],
     bins_of: &mut [i32],
@@ -41,16 +40,16 @@ fn gather_row<S: RowSource>(
     requires some { 0 < length values.old }
     requires one_length { length bins_of.old ≡ length values.old }
     requires bins { length bins.old ≡ len_of accumulator.now.bins }
-    requires fits { length values.old ≡ points.now.len }
+    requires fits { length values.old ≡ row.now.points.len }
     requires formulas { HasFormulas accumulator.now }
-    requires reads { EachPlace (length values.old)
-        (λ k. ReadsAt (S.has source.now) accumulator.now points.now.row (points.now.col +ℤ pos k)) }
+    requires reads { EachPlace (length values.old) (λ k. ReadsAt (S.has row.now.source.now)
+        accumulator.now row.now.points.row (row.now.points.col +ℤ pos k)) }
     requires room { HasRoomAlong accumulator.now (length values.old) (length temps.old) }
-    ensures { TookPoints (S.samples source.now) accumulator.now
-        (points_along points.now.row points.now.col (length values.old)) bins.old bins.new }
+    ensures { TookPoints (S.samples row.now.source.now) accumulator.now
+        (points_along row.now.points.row row.now.points.col (length values.old)) bins.old bins.new }
 {
-    formula_row(source, accumulator.value(), points, values, temps);
-    formula_row(source, accumulator.bin(), points, bins_of, temps);
+    row.evaluate(accumulator.value(), values, temps);
+    row.evaluate(accumulator.bin(), bins_of, temps);
     take_values(
         accumulator.fold(),
         accumulator.bins(),
@@ -84,7 +83,8 @@ fn gather_rows<S: RowSource>(
 {
     for i in 0..area.rows.len() as usize {
         let points = RowSpan::at(area, i);
-        gather_row(source, accumulator, &points, bins, values, bins_of, temps);
+        let row = SourceRow { source, points };
+        gather_row(&row, accumulator, bins, values, bins_of, temps);
     }
 }
 

@@ -20,4 +20,4 @@ pub use join::join_into;
 pub use partials::partial;
 pub use picture::image_of;
 pub use running::Gathering;
-pub use whole_totals::{partial_of, true_partial, whole};
+pub use whole_totals::{accumulator_tile, partial_of, true_partial, whole};

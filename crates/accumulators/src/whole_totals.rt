@@ -37,8 +37,9 @@ fn totals_on(
     }
 }
 
-// The area of an accumulator's tile; none of other stages.
-fn accumulator_tile(job: &Job, stage: usize, row: u32, col: u32) -> Option<Area>
+/// The area of an accumulator's tile in this row and column of its grid; none where it has no such tile, or no accumulator has this
+/// number.
+pub fn accumulator_tile(job: &Job, stage: usize, row: u32, col: u32) -> Option<Area>
     ensures some { IfSome result (IsAccumulatorTile (pipeline_in job.now) stage row col) }
     ensures area { IfSome result IsArea }
     ensures none { IfNone result

@@ -1,16 +1,15 @@
 //! Whether a fact could be true, by its kind and the count of its numbers.
 
 ghost use Rattle.std.specs.Prelude.{◌↔◌, IfSome, IfNone, IsTrue};
-ghost use Rattle.accumulators.specs.Partials.{IsAccumulatorTile};
 ghost use Rattle.domains.specs.Span.{Ends};
-ghost use Rattle.domains.specs.declared.area.Area.{Area};
 ghost use Rattle.fact_audit.specs.Shapes.{FitsJob, HasBins, IsPartialShape, IsTileShape};
 ghost use Rattle.job.specs.Kept.{pipeline_in};
-ghost use Rattle.tile_eval.specs.Buffer.{IsFunctionTile};
 
-use domains::{Area, Grid, Span};
+use accumulators::accumulator_tile;
+use domains::Span;
 use identity::Key;
 use job::Job;
+use tile_eval::function_tile;
 use tile_fact::{Body, Fact};
 
 /// Whether the job has the tile that the key names, whatever its identities, and the kind and the count of the numbers are those of
@@ -30,7 +29,7 @@ fn samples_fit(job: &Job, key: &Key, samples: &[i32]) -> bool
     ensures { IsTrue result
         ↔ IsTileShape (pipeline_in job.now) key.now.stage key.now.row key.now.col samples.now }
 {
-    match function_tile(job, key) {
+    match function_tile(job, usize::from(key.stage), key.row, key.col) {
         Some(area) => samples.len() as u64 == area.points(),
         None => false,
     }
@@ -47,20 +46,6 @@ fn bins_fit(job: &Job, key: &Key, bins: &[i64]) -> bool
     }
 }
 
-// The area of the function's tile that the key names; none of other stages.
-fn function_tile(job: &Job, key: &Key) -> Option<Area>
-    ensures some { IfSome result
-        (IsFunctionTile (pipeline_in job.now) key.now.stage key.now.row key.now.col) }
-    ensures none { IfNone result ((area : Area)
-        → ¬ (IsFunctionTile (pipeline_in job.now) key.now.stage key.now.row key.now.col area)) }
-{
-    let found = job.stage(usize::from(key.stage))?;
-    match found.body() {
-        job::Body::Function(_) => { Grid::new(*found.domain(), job.sides()).tile(key.row, key.col) }
-        job::Body::Plane(_) | job::Body::Accumulator(_) => None,
-    }
-}
-
 // The bins of the accumulator that has the tile that the key names; none of other stages.
 fn accumulator_bins(job: &Job, key: &Key) -> Option<Span>
     ensures some { IfSome result
@@ -68,24 +53,9 @@ fn accumulator_bins(job: &Job, key: &Key) -> Option<Span>
     ensures none { IfNone result ((ends : Ends)
         → ¬ (HasBins (pipeline_in job.now) key.now.stage key.now.row key.now.col ends)) }
 {
-    match accumulator_tile(job, key) {
-        Some(_) => job.bins(usize::from(key.stage)),
+    let stage = usize::from(key.stage);
+    match accumulator_tile(job, stage, key.row, key.col) {
+        Some(_) => job.bins(stage),
         None => None,
-    }
-}
-
-// The area of the accumulator's tile that the key names; none of other stages.
-fn accumulator_tile(job: &Job, key: &Key) -> Option<Area>
-    ensures some { IfSome result
-        (IsAccumulatorTile (pipeline_in job.now) key.now.stage key.now.row key.now.col) }
-    ensures none { IfNone result ((area : Area)
-        → ¬ (IsAccumulatorTile (pipeline_in job.now) key.now.stage key.now.row key.now.col area)) }
-{
-    let found = job.stage(usize::from(key.stage))?;
-    match found.body() {
-        job::Body::Accumulator(_) => {
-            Grid::new(*found.domain(), job.sides()).tile(key.row, key.col)
-        }
-        job::Body::Plane(_) | job::Body::Function(_) => None,
     }
 }

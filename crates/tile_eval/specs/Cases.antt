@@ -1,12 +1,14 @@
 -- What a function by cases is at a point, and where its cases lie.
-use Rattle.std.specs.Prelude.{ℤ, pos, Option, Some, None, List}
+use Rattle.std.specs.Prelude.{ℕ, ℤ, pos, Option, Some, None, List, All}
 use Rattle.std.specs.Option.{option_map_or}
 use Rattle.domains.specs.Area.{HoldsPoint, IsSubarea}
 use Rattle.domains.specs.declared.area.Area.{Area}
 use Rattle.job.specs.Formula.{Formula}
-use Rattle.job.specs.Pipeline.{JobCase, Body}
+use Rattle.job.specs.Pipeline.{JobCase, Body, function}
+use Rattle.job.specs.Reads.{BodyReads, formulas_of}
 use Rattle.job.specs.Values.{Valuation, formula_value, chosen}
 use Rattle.job.specs.Boxes.{AreBoxed}
+use Rattle.job.specs.WellFormed.{InDomainRange, IsFormula, IsTest}
 
 -- the point lies in the box, if there is one
 abbrev pub InBox : Option Area → ℤ → ℤ → Type 0
@@ -20,3 +22,14 @@ function_value env cases otherwise r c = option_map_or (λ f. formula_value env 
 -- the boxes of the cases are those of a domain in which the area lies
 abbrev pub AreBoxedAround : Area → Body → Type 0
 AreBoxedAround area body = (domain : Area) × IsSubarea area domain × AreBoxed domain body
+
+-- has tells of a stage, a row and a column whether a sample is there. A function can be computed at each point of an area: the area lies
+-- where domains do, the numbers of the text fit, the area lies in a domain in which the boxes of the cases are, and all that is read is
+-- there
+pub record IsComputable (has : ℕ → ℤ → ℤ → Type 0) (area : Area) (cases : List JobCase) (otherwise : Option Formula) : Type 0 where
+  pub rows : InDomainRange area.rows
+  pub cols : InDomainRange area.cols
+  pub tests : All (λ p. All IsTest p.tests) cases
+  pub formulas : All IsFormula (formulas_of (function cases otherwise))
+  pub boxes : AreBoxedAround area (function cases otherwise)
+  pub reads : (r c : ℤ) → HoldsPoint area r c → BodyReads has (function cases otherwise) r c

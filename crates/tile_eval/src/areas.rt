@@ -11,48 +11,48 @@ ghost use Rattle.tile_eval.specs.Reading.{HasRoom};
 ghost use Rattle.tile_eval.specs.Cases.{function_value};
 ghost use Rattle.tile_eval.specs.inside.Cases.{IsReady, IsRoomy};
 
-use crate::cases::cases_row;
 use crate::source::RowSource;
+use crate::source_row::SourceRow;
 use job::Function;
-use row_kernels::RowSpan;
 
-/// The values of a function over so many rows of points, each below the one before, row by row.
-pub fn function_area<S: RowSource>(
-    source: &S,
-    function: &Function,
-    points: &RowSpan,
-    rows: usize,
-    out: &mut [i32],
-    temps: &mut [i32],
-)
-    requires some { 0 < points.now.len }
-    requires row_most { (points.now.row +ℤ pos rows) ≤ℤ pos 16385 }
-    requires len { length out.old ≡ rows * points.now.len }
-    requires cases { All (λ p. ((i k : ℕ) → i < rows → k < points.now.len
-        → IsReady (S.has source.now) (case_view p) (points.now.row +ℤ pos i)
-        (points.now.col +ℤ pos k)) × IsRoomy points.now.len (length temps.old) (case_view p))
-        function.now.cases.items }
-    requires other { ForSome (option_map formula_view function.now.otherwise)
-        (λ f. ((i k : ℕ) → i < rows → k < points.now.len
-        → EachRead (S.has source.now) f (points.now.row +ℤ pos i) (points.now.col +ℤ pos k))
-        × IsFormula f × HasRoom f points.now.len (length temps.old)) }
-    ensures { (i : ℕ) → i < rows
-        → EachPlace points.now.len (λ k. at out.new (i * points.now.len + k)
-        ≡ function_value (S.samples source.now) (map case_view function.now.cases.items)
-        (option_map formula_view function.now.otherwise) (points.now.row +ℤ pos i)
-        (points.now.col +ℤ pos k)) }
-{
-    for i in 0..rows {
-        let from = i * points.len;
-        let line = &mut out[from..from + points.len];
-        let own = points.below(i);
-        cases_row(
-            source,
-            function.cases(),
-            function.otherwise(),
-            &own,
-            line,
-            temps,
-        );
+impl<S: RowSource> SourceRow<'_, S> {
+    /// The values of a function in this row and those below it, so many rows in all, row by row.
+    pub(crate) fn fill_rows(
+        &self,
+        function: &Function,
+        rows: usize,
+        out: &mut [i32],
+        temps: &mut [i32],
+    )
+        requires some { 0 < self.now.points.len }
+        requires row_most { (self.now.points.row +ℤ pos rows) ≤ℤ pos 16385 }
+        requires len { length out.old ≡ rows * self.now.points.len }
+        requires cases { All (λ p. ((i k : ℕ) → i < rows → k < self.now.points.len
+            → IsReady (S.has self.now.source.now) (case_view p) (self.now.points.row +ℤ pos i)
+            (self.now.points.col +ℤ pos k))
+            × IsRoomy self.now.points.len (length temps.old) (case_view p))
+            function.now.cases.items }
+        requires other { ForSome (option_map formula_view function.now.otherwise)
+            (λ f. ((i k : ℕ) → i < rows → k < self.now.points.len
+            → EachRead (S.has self.now.source.now) f (self.now.points.row +ℤ pos i)
+            (self.now.points.col +ℤ pos k))
+            × IsFormula f × HasRoom f self.now.points.len (length temps.old)) }
+        ensures { (i : ℕ) → i < rows
+            → EachPlace self.now.points.len (λ k. at out.new (i * self.now.points.len + k)
+            ≡ function_value (S.samples self.now.source.now)
+            (map case_view function.now.cases.items)
+            (option_map formula_view function.now.otherwise) (self.now.points.row +ℤ pos i)
+            (self.now.points.col +ℤ pos k)) }
+    {
+        for i in 0..rows {
+            let from = i * self.points.len;
+            let line = &mut out[from..from + self.points.len];
+            let points = self.points.below(i);
+            let own = SourceRow {
+                source: self.source,
+                points,
+            };
+            own.by_cases(function.cases(), function.otherwise(), line, temps);
+        }
     }
 }

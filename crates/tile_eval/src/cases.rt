@@ -13,8 +13,8 @@ ghost use Rattle.tile_eval.specs.Reading.{HasRoom};
 ghost use Rattle.tile_eval.specs.Cases.{InBox, function_value};
 ghost use Rattle.tile_eval.specs.inside.Cases.{IsReady, IsRoomy};
 
-use crate::rows::row;
 use crate::source::RowSource;
+use crate::source_row::SourceRow;
 use domains::Area;
 use job::{Formula, JobCase};
 use row_kernels::{RowMask, RowSpan, fill, take_where, where_passed};
@@ -36,118 +36,104 @@ fn overlap(area: &Area, points: &RowSpan) -> Option<(usize, usize)>
     Some((points.gap(common.lo()), points.gap(common.hi()) + 1))
 }
 
-// A case over a row that lies in its box.
-fn part_row<S: RowSource>(
-    source: &S,
-    case: &JobCase,
-    points: &RowSpan,
-    out: &mut [i32],
-    temps: &mut [i32],
-)
-    requires some { 0 < length out.old }
-    requires fits { length out.old ≡ points.now.len }
-    requires inside { EachPlace (length out.old)
-        (λ k. InBox (case_view case.now).box points.now.row (points.now.col +ℤ pos k)) }
-    requires ready { EachPlace (length out.old) (λ k. IsReady (S.has source.now)
-        (case_view case.now) points.now.row (points.now.col +ℤ pos k)) }
-    requires roomy { IsRoomy (length out.old) (length temps.old) (case_view case.now) }
-    ensures { EachPlace (length out.old) (λ k. at out.new k
-        ≡ (if all_passed (case_view case.now).tests points.now.row (points.now.col +ℤ pos k)
-        then formula_value (S.samples source.now) (case_view case.now).formula points.now.row
-        (points.now.col +ℤ pos k) else at out.old k)) }
-{
-    match where_passed(case.tests(), points) {
-        RowMask::Nowhere => {}
-        RowMask::Everywhere => row(source, case.formula(), points, out, temps),
-        passed => {
-            let (mine, rest) = temps.split_at_mut(out.len());
-            row(source, case.formula(), points, mine, rest);
-            take_where(out, mine, case.tests(), passed, points);
+impl<S: RowSource> SourceRow<'_, S> {
+    // A case over a row that lies in its box.
+    fn boxed_case(&self, case: &JobCase, out: &mut [i32], temps: &mut [i32])
+        requires some { 0 < length out.old }
+        requires fits { length out.old ≡ self.now.points.len }
+        requires inside { EachPlace (length out.old) (λ k. InBox (case_view case.now).box
+            self.now.points.row (self.now.points.col +ℤ pos k)) }
+        requires ready { EachPlace (length out.old) (λ k. IsReady (S.has self.now.source.now)
+            (case_view case.now) self.now.points.row (self.now.points.col +ℤ pos k)) }
+        requires roomy { IsRoomy (length out.old) (length temps.old) (case_view case.now) }
+        ensures { EachPlace (length out.old) (λ k. at out.new k
+            ≡ (if all_passed (case_view case.now).tests self.now.points.row
+            (self.now.points.col +ℤ pos k)
+            then formula_value (S.samples self.now.source.now) (case_view case.now).formula
+            self.now.points.row (self.now.points.col +ℤ pos k) else at out.old k)) }
+    {
+        match where_passed(case.tests(), &self.points) {
+            RowMask::Nowhere => {}
+            RowMask::Everywhere => self.evaluate(case.formula(), out, temps),
+            passed => {
+                let (mine, rest) = temps.split_at_mut(out.len());
+                self.evaluate(case.formula(), mine, rest);
+                take_where(out, mine, case.tests(), passed, &self.points);
+            }
         }
     }
-}
 
-/// Takes the values of a case along a row of points, where its tests hold.
-pub fn case_row<S: RowSource>(
-    source: &S,
-    case: &JobCase,
-    points: &RowSpan,
-    out: &mut [i32],
-    temps: &mut [i32],
-)
-    requires fits { length out.old ≡ points.now.len }
-    requires some { 0 < length out.old }
-    requires case { EachPlace (length out.old) (λ k. IsReady (S.has source.now) (case_view case.now)
-        points.now.row (points.now.col +ℤ pos k))
-        × IsRoomy (length out.old) (length temps.old) (case_view case.now) }
-    ensures { EachPlace (length out.old) (λ k. at out.new k
-        ≡ (if all_passed (case_view case.now).tests points.now.row (points.now.col +ℤ pos k)
-        then formula_value (S.samples source.now) (case_view case.now).formula points.now.row
-        (points.now.col +ℤ pos k) else at out.old k)) }
-{
-    let Some(area) = case.area() else {
-        return;
-    };
-    if let Some((from, to)) = overlap(area, points) {
-        part_row(
-            source,
-            case,
-            &points.part(from, to),
-            &mut out[from..to],
-            temps,
-        );
+    // Takes the values of a case, where its tests hold.
+    fn take_case(&self, case: &JobCase, out: &mut [i32], temps: &mut [i32])
+        requires fits { length out.old ≡ self.now.points.len }
+        requires some { 0 < length out.old }
+        requires case { EachPlace (length out.old) (λ k. IsReady (S.has self.now.source.now)
+            (case_view case.now) self.now.points.row (self.now.points.col +ℤ pos k))
+            × IsRoomy (length out.old) (length temps.old) (case_view case.now) }
+        ensures { EachPlace (length out.old) (λ k. at out.new k
+            ≡ (if all_passed (case_view case.now).tests self.now.points.row
+            (self.now.points.col +ℤ pos k)
+            then formula_value (S.samples self.now.source.now) (case_view case.now).formula
+            self.now.points.row (self.now.points.col +ℤ pos k) else at out.old k)) }
+    {
+        let Some(area) = case.area() else {
+            return;
+        };
+        if let Some((from, to)) = overlap(area, &self.points) {
+            let points = self.points.part(from, to);
+            let inner = SourceRow {
+                source: self.source,
+                points,
+            };
+            inner.boxed_case(case, &mut out[from..to], temps);
+        }
     }
-}
 
-// What holds where no case does: 0 if nothing is said.
-fn other_row<S: RowSource>(
-    source: &S,
-    otherwise: &Option<Formula>,
-    points: &RowSpan,
-    out: &mut [i32],
-    temps: &mut [i32],
-)
-    requires some { 0 < length out.old }
-    requires fits { length out.old ≡ points.now.len }
-    requires other { ForSome (option_map formula_view otherwise.now)
-        (λ f. EachPlace (length out.old)
-        (λ k. EachRead (S.has source.now) f points.now.row (points.now.col +ℤ pos k))
-        × IsFormula f × HasRoom f (length out.old) (length temps.old)) }
-    ensures { EachPlace (length out.old) (λ k. at out.new k
-        ≡ option_map_or
-        (λ f. formula_value (S.samples source.now) f points.now.row (points.now.col +ℤ pos k))
-        (option_map formula_view otherwise.now) (pos 0)) }
-{
-    match otherwise {
-        Some(formula) => row(source, formula, points, out, temps),
-        None => fill(out, 0),
+    // What holds where no case does: 0 if nothing is said.
+    fn elsewhere(&self, otherwise: &Option<Formula>, out: &mut [i32], temps: &mut [i32])
+        requires some { 0 < length out.old }
+        requires fits { length out.old ≡ self.now.points.len }
+        requires other { ForSome (option_map formula_view otherwise.now)
+            (λ f. EachPlace (length out.old) (λ k. EachRead (S.has self.now.source.now) f
+            self.now.points.row (self.now.points.col +ℤ pos k))
+            × IsFormula f × HasRoom f (length out.old) (length temps.old)) }
+        ensures { EachPlace (length out.old) (λ k. at out.new k
+            ≡ option_map_or (λ f. formula_value (S.samples self.now.source.now) f
+            self.now.points.row (self.now.points.col +ℤ pos k))
+            (option_map formula_view otherwise.now) (pos 0)) }
+    {
+        match otherwise {
+            Some(formula) => self.evaluate(formula, out, temps),
+            None => fill(out, 0),
+        }
     }
-}
 
-/// The values of a function along a row of points: first what holds elsewhere, then the cases from the last to the first.
-pub fn cases_row<S: RowSource>(
-    source: &S,
-    cases: &[JobCase],
-    otherwise: &Option<Formula>,
-    points: &RowSpan,
-    out: &mut [i32],
-    temps: &mut [i32],
-)
-    requires some { 0 < length out.old }
-    requires fits { length out.old ≡ points.now.len }
-    requires cases { All (λ p. EachPlace (length out.old)
-        (λ k. IsReady (S.has source.now) (case_view p) points.now.row (points.now.col +ℤ pos k))
-        × IsRoomy (length out.old) (length temps.old) (case_view p)) cases.now }
-    requires other { ForSome (option_map formula_view otherwise.now)
-        (λ f. EachPlace (length out.old)
-        (λ k. EachRead (S.has source.now) f points.now.row (points.now.col +ℤ pos k))
-        × IsFormula f × HasRoom f (length out.old) (length temps.old)) }
-    ensures { EachPlace (length out.old) (λ k. at out.new k
-        ≡ function_value (S.samples source.now) (map case_view cases.now)
-        (option_map formula_view otherwise.now) points.now.row (points.now.col +ℤ pos k)) }
-{
-    other_row(source, otherwise, points, out, temps);
-    for i in (0..cases.len()).rev() {
-        case_row(source, &cases[i], points, out, temps);
+    /// The values of a function: first what holds elsewhere, then the cases from the last to the first.
+    pub(crate) fn by_cases(
+        &self,
+        cases: &[JobCase],
+        otherwise: &Option<Formula>,
+        out: &mut [i32],
+        temps: &mut [i32],
+    )
+        requires some { 0 < length out.old }
+        requires fits { length out.old ≡ self.now.points.len }
+        requires cases { All (λ p. EachPlace (length out.old) (λ k. IsReady
+            (S.has self.now.source.now) (case_view p) self.now.points.row
+            (self.now.points.col +ℤ pos k))
+            × IsRoomy (length out.old) (length temps.old) (case_view p)) cases.now }
+        requires other { ForSome (option_map formula_view otherwise.now)
+            (λ f. EachPlace (length out.old) (λ k. EachRead (S.has self.now.source.now) f
+            self.now.points.row (self.now.points.col +ℤ pos k))
+            × IsFormula f × HasRoom f (length out.old) (length temps.old)) }
+        ensures { EachPlace (length out.old) (λ k. at out.new k
+            ≡ function_value (S.samples self.now.source.now) (map case_view cases.now)
+            (option_map formula_view otherwise.now) self.now.points.row
+            (self.now.points.col +ℤ pos k)) }
+    {
+        self.elsewhere(otherwise, out, temps);
+        for i in (0..cases.len()).rev() {
+            self.take_case(&cases[i], out, temps);
+        }
     }
 }

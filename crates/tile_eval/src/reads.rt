@@ -9,9 +9,9 @@ ghost use Rattle.row_kernels.specs.Rows.{EachPlace, at};
 ghost use Rattle.tile_eval.specs.Reading.{ReadsWithin};
 
 use crate::source::RowSource;
+use crate::source_row::SourceRow;
 use domains::Index;
 use job::Formula;
-use row_kernels::RowSpan;
 
 // Whether an index only adds, so that it takes columns side by side to columns side by side.
 fn only_adds(index: &Index) -> bool
@@ -20,69 +20,55 @@ fn only_adds(index: &Index) -> bool
     index.mul() == 1 && index.div() == 1
 }
 
-/// The samples that a read takes along a row of points.
-pub fn read_row<S: RowSource>(
-    source: &S,
-    stage: usize,
-    row: &Index,
-    col: &Index,
-    points: &RowSpan,
-    out: &mut [i32],
-)
-    requires fits { length out.old ≡ points.now.len }
-    requires reads { EachPlace (length out.old) (λ k. S.has source.now stage
-        (index_at row.now points.now.row) (index_at col.now (points.now.col +ℤ pos k))) }
-    ensures { EachPlace (length out.old) (λ k. at out.new k
-        ≡ S.samples source.now stage (index_at row.now points.now.row)
-        (index_at col.now (points.now.col +ℤ pos k))) }
-{
-    let own = points.row_at(row);
-    if only_adds(col) {
-        source.read_row(stage, own, points.col_at(col), out);
-    } else {
-        source.gather(stage, own, col, points, out);
-    }
-}
-
-// The samples at the columns of an index that only adds, where the source gives them.
-fn shifted<'a, S: RowSource>(
-    source: &'a S,
-    stage: usize,
-    row: &Index,
-    col: &Index,
-    points: &RowSpan,
-) -> Option<&'a [i32]>
-    requires mul { col.now.mul ≡ pos 1 }
-    requires div { col.now.div ≡ pos 1 }
-    requires reads { EachPlace points.now.len (λ k. S.has source.now stage
-        (index_at row.now points.now.row) (index_at col.now (points.now.col +ℤ pos k))) }
-    ensures { IfSome result (λ line. (length line.now ≡ points.now.len)
-        × EachPlace points.now.len (λ k. at line.now k
-        ≡ S.samples source.now stage (index_at row.now points.now.row)
-        (index_at col.now (points.now.col +ℤ pos k)))) }
-{
-    let row = points.row_at(row);
-    let first = points.col_at(col);
-    source.borrow_row(stage, row, first, points.len)
-}
-
-/// The values of a formula along a row of points, where it is a read whose samples the source gives side by side.
-pub fn given_row<'a, S: RowSource>(
-    source: &'a S,
-    formula: &Formula,
-    points: &RowSpan,
-) -> Option<&'a [i32]>
-    requires { ReadsWithin (S.has source.now) (formula_view formula.now) points.now.row
-        points.now.col points.now.len }
-    ensures { IfSome result (λ line. (length line.now ≡ points.now.len)
-        × EachPlace points.now.len (λ k. at line.now k
-        ≡ formula_value (S.samples source.now) (formula_view formula.now) points.now.row
-        (points.now.col +ℤ pos k))) }
-{
-    match formula {
-        Formula::Read(stage, row, col) if only_adds(col) => {
-            shifted(source, *stage, row, col, points)
+impl<'a, S: RowSource> SourceRow<'a, S> {
+    /// The samples that a read takes.
+    pub(crate) fn read(&self, stage: usize, row: &Index, col: &Index, out: &mut [i32])
+        requires fits { length out.old ≡ self.now.points.len }
+        requires reads { EachPlace (length out.old) (λ k. S.has self.now.source.now stage
+            (index_at row.now self.now.points.row)
+            (index_at col.now (self.now.points.col +ℤ pos k))) }
+        ensures { EachPlace (length out.old) (λ k. at out.new k
+            ≡ S.samples self.now.source.now stage (index_at row.now self.now.points.row)
+            (index_at col.now (self.now.points.col +ℤ pos k))) }
+    {
+        let own = self.points.row_at(row);
+        if only_adds(col) {
+            self.source
+                .read_row(stage, own, self.points.col_at(col), out);
+        } else {
+            self.source.gather(stage, own, col, &self.points, out);
         }
-        _ => None,
+    }
+
+    // The samples at the columns of an index that only adds, where the source gives them.
+    fn shifted(&self, stage: usize, row: &Index, col: &Index) -> Option<&'a [i32]>
+        requires mul { col.now.mul ≡ pos 1 }
+        requires div { col.now.div ≡ pos 1 }
+        requires reads { EachPlace self.now.points.len (λ k. S.has self.now.source.now stage
+            (index_at row.now self.now.points.row)
+            (index_at col.now (self.now.points.col +ℤ pos k))) }
+        ensures { IfSome result (λ line. (length line.now ≡ self.now.points.len)
+            × EachPlace self.now.points.len (λ k. at line.now k
+            ≡ S.samples self.now.source.now stage (index_at row.now self.now.points.row)
+            (index_at col.now (self.now.points.col +ℤ pos k)))) }
+    {
+        let row = self.points.row_at(row);
+        let first = self.points.col_at(col);
+        self.source.borrow_row(stage, row, first, self.points.len)
+    }
+
+    /// The values of a formula, where it is a read whose samples the source gives side by side.
+    pub(crate) fn given(&self, formula: &Formula) -> Option<&'a [i32]>
+        requires { ReadsWithin (S.has self.now.source.now) (formula_view formula.now)
+            self.now.points.row self.now.points.col self.now.points.len }
+        ensures { IfSome result (λ line. (length line.now ≡ self.now.points.len)
+            × EachPlace self.now.points.len (λ k. at line.now k
+            ≡ formula_value (S.samples self.now.source.now) (formula_view formula.now)
+            self.now.points.row (self.now.points.col +ℤ pos k))) }
+    {
+        match formula {
+            Formula::Read(stage, row, col) if only_adds(col) => self.shifted(*stage, row, col),
+            _ => None,
+        }
     }
 }

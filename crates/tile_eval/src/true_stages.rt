@@ -99,8 +99,8 @@ impl<'a> TrueStages<'a> {
     }
 }
 
-// The area of a function's tile; none of other stages.
-fn function_tile(job: &Job, stage: usize, row: u32, col: u32) -> Option<Area>
+/// The area of a function's tile in this row and column of its grid; none where it has no such tile, or no function has this number.
+pub fn function_tile(job: &Job, stage: usize, row: u32, col: u32) -> Option<Area>
     ensures some { IfSome result (IsFunctionTile (pipeline_in job.now) stage row col) }
     ensures none { IfNone result
         ((area : Area) → ¬ (IsFunctionTile (pipeline_in job.now) stage row col area)) }

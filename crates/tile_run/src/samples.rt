@@ -84,51 +84,13 @@ pub(crate) fn plane_gather(
         ≡ sample_at picture.now plane row (index_at col.now (points.now.col +ℤ pos k))) }
 {
     if col.div() == 1 && !out.is_empty() {
-        plane_steps(picture, plane, row, col, points, out);
+        // the places of the columns lie at steps of one length
+        let place = place_in(picture, row, points.col_at(col));
+        widen_every(plane_of(picture, plane), place, step_of(col), out);
     } else {
-        plane_samples(picture, plane, row, col, points, out);
-    }
-}
-
-// The same of an index that does not divide: the places of its columns lie at steps of one length.
-fn plane_steps(
-    picture: &Picture,
-    plane: usize,
-    row: i32,
-    col: &Index,
-    points: &RowSpan,
-    out: &mut [i32],
-)
-    requires plane { plane < length picture.now.planes }
-    requires div { col.now.div ≡ pos 1 }
-    requires some { 0 < length out.old }
-    requires there { EachPlace (length out.old) (λ k. HoldsPoint (picture_area picture.now) row
-        (index_at col.now (points.now.col +ℤ pos k))) }
-    ensures { EachPlace (length out.old) (λ k. at out.new k
-        ≡ sample_at picture.now plane row (index_at col.now (points.now.col +ℤ pos k))) }
-{
-    let place = place_in(picture, row, points.col_at(col));
-    widen_every(plane_of(picture, plane), place, step_of(col), out);
-}
-
-// The same of any index, each place looked up.
-fn plane_samples(
-    picture: &Picture,
-    plane: usize,
-    row: i32,
-    col: &Index,
-    points: &RowSpan,
-    out: &mut [i32],
-)
-    requires plane { plane < length picture.now.planes }
-    requires fits { length out.old ≡ points.now.len }
-    requires there { EachPlace (length out.old) (λ k. HoldsPoint (picture_area picture.now) row
-        (index_at col.now (points.now.col +ℤ pos k))) }
-    ensures { EachPlace (length out.old) (λ k. at out.new k
-        ≡ sample_at picture.now plane row (index_at col.now (points.now.col +ℤ pos k))) }
-{
-    for k in 0..out.len() {
-        out[k] = plane_sample(picture, plane, row, col.at(points.column(k)));
+        for k in 0..out.len() {
+            out[k] = plane_sample(picture, plane, row, col.at(points.column(k)));
+        }
     }
 }
 

@@ -6,58 +6,60 @@ use Rattle.tile_eval.specs.Cases.{function_value}
 use Rattle.tile_eval.proofs.Domains.{IsLaid, IsReadyOver, cases_ready, other_ready, raster_from}
 use Rattle.tile_eval.proofs.functions.fill_area.Goals as goal
 
-pub function_area-requires-clause-cases : goal.function_area-requires-clause-cases
-function_area-requires-clause-cases g c =
-    let laid : IsLaid c.args.area.now c.top-first.result.row c.top-first.result.col c.len-rows.result c.top-first.result.len =
+pub fill_rows-requires-clause-cases : goal.fill_rows-requires-clause-cases
+fill_rows-requires-clause-cases g c =
+    let laid : IsLaid c.args.area.now c.top-points.result.row c.top-points.result.col c.len-rows.result c.top-points.result.len =
     record {
       top =
-          c.top-first.ensures.row;
+          c.top-points.ensures.row;
       left =
-          c.top-first.ensures.col;
+          c.top-points.ensures.col;
       height =
           c.len-rows.ensures.number;
-      width = c.top-first.ensures.len;
-      near_rows = c.requires.rows;
-      near_cols = c.requires.cols;
+      width = c.top-points.ensures.len;
+      near_rows = c.requires.function.rows;
+      near_cols = c.requires.function.cols;
     } in
-    All-from_map (IsReadyOver (g.S.RowSource.has c.args.source.now) c.top-first.result.row c.top-first.result.col c.len-rows.result
-    c.top-first.result.len (length c.args.temps.now)) case_view c.args.function.now.cases.items
+    All-from_map (IsReadyOver (g.S.RowSource.has c.args.source.now) c.top-points.result.row c.top-points.result.col c.len-rows.result
+    c.top-points.result.len (length c.args.temps.now)) case_view c.args.function.now.cases.items
     (cases_ready (g.S.RowSource.has c.args.source.now) c.args.area.now (map case_view c.args.function.now.cases.items)
-    (option_map formula_view c.args.function.now.otherwise) _ _ _ _ (length c.args.temps.now) laid c.requires.tests c.requires.formulas
-    c.requires.boxes c.requires.reads c.requires.room)
+    (option_map formula_view c.args.function.now.otherwise) _ _ _ _ (length c.args.temps.now) laid c.requires.function.tests
+    c.requires.function.formulas
+    c.requires.function.boxes c.requires.function.reads c.requires.room)
 
-pub function_area-requires-clause-other : goal.function_area-requires-clause-other
-function_area-requires-clause-other g c =
-    let laid : IsLaid c.args.area.now c.top-first.result.row c.top-first.result.col c.len-rows.result c.top-first.result.len =
+pub fill_rows-requires-clause-other : goal.fill_rows-requires-clause-other
+fill_rows-requires-clause-other g c =
+    let laid : IsLaid c.args.area.now c.top-points.result.row c.top-points.result.col c.len-rows.result c.top-points.result.len =
     record {
       top =
-          c.top-first.ensures.row;
+          c.top-points.ensures.row;
       left =
-          c.top-first.ensures.col;
+          c.top-points.ensures.col;
       height =
           c.len-rows.ensures.number;
-      width = c.top-first.ensures.len;
-      near_rows = c.requires.rows;
-      near_cols = c.requires.cols;
+      width = c.top-points.ensures.len;
+      near_rows = c.requires.function.rows;
+      near_cols = c.requires.function.cols;
     } in
     other_ready (g.S.RowSource.has c.args.source.now) c.args.area.now (map case_view c.args.function.now.cases.items)
-    (option_map formula_view c.args.function.now.otherwise) _ _ _ _ (length c.args.temps.now) laid c.requires.formulas c.requires.reads
+    (option_map formula_view c.args.function.now.otherwise) _ _ _ _ (length c.args.temps.now) laid c.requires.function.formulas
+    c.requires.function.reads
     c.requires.room
 
 pub returns : goal.returns
 returns g c =
-    let laid : IsLaid c.args.area.now c.top-first.result.row c.top-first.result.col c.len-rows.result c.top-first.result.len =
+    let laid : IsLaid c.args.area.now c.top-points.result.row c.top-points.result.col c.len-rows.result c.top-points.result.len =
     record {
       top =
-          c.top-first.ensures.row;
+          c.top-points.ensures.row;
       left =
-          c.top-first.ensures.col;
+          c.top-points.ensures.col;
       height =
           c.len-rows.ensures.number;
-      width = c.top-first.ensures.len;
-      near_rows = c.requires.rows;
-      near_cols = c.requires.cols;
+      width = c.top-points.ensures.len;
+      near_rows = c.requires.function.rows;
+      near_cols = c.requires.function.cols;
     } in
     raster_from c.args.area.now (function_value (g.S.RowSource.samples c.args.source.now) (map case_view c.args.function.now.cases.items)
-    (option_map formula_view c.args.function.now.otherwise)) _ _ _ _ c.function_area.new.out laid
-    (c.function_area.auto.out ∙ c.requires.len) c.function_area.ensures
+    (option_map formula_view c.args.function.now.otherwise)) _ _ _ _ c.fill_rows.new.out laid
+    (c.fill_rows.auto.out ∙ c.requires.len) c.fill_rows.ensures

@@ -27,46 +27,35 @@ plane_values-requires c =
     subst (λ (p : Image). c.in-Plane.plane < length p.planes) (sym c.picture.ensures)
     (subst (IsBody job.picture s.domain) is (c.args.job.now.well.stages c.args.number s there).body).0
 
-pub function_values-requires-clause-rows : goal.function_values-requires-clause-rows
-function_values-requires-clause-rows c =
-    subst (λ (a : Area). InDomainRange a.rows) (sym c.domain.ensures)
-    (c.args.job.now.well.stages c.args.number (stage_view c.in-Some.stage.now) (sym c.in-Some.ensures)).rows
-
-pub function_values-requires-clause-cols : goal.function_values-requires-clause-cols
-function_values-requires-clause-cols c =
-    subst (λ (a : Area). InDomainRange a.cols) (sym c.domain.ensures)
-    (c.args.job.now.well.stages c.args.number (stage_view c.in-Some.stage.now) (sym c.in-Some.ensures)).cols
-
-pub function_values-requires-clause-tests : goal.function_values-requires-clause-tests
-function_values-requires-clause-tests c =
-    let s : Stage = stage_view c.in-Some.stage.now in
-    subst (IsBody (pipeline_in c.args.job.now).picture s.domain) (ap body_view (sym c.body.ensures ∙ c.in-Function.is))
-    (c.args.job.now.well.stages c.args.number s (sym c.in-Some.ensures)).body
-
-pub function_values-requires-clause-formulas : goal.function_values-requires-clause-formulas
-function_values-requires-clause-formulas c =
-    let s : Stage = stage_view c.in-Some.stage.now in
-    subst (λ (b : Body). All IsFormula (formulas_of b)) (ap body_view (sym c.body.ensures ∙ c.in-Function.is))
-    (c.args.job.now.well.stages c.args.number s (sym c.in-Some.ensures)).formulas
-
-pub function_values-requires-clause-boxes : goal.function_values-requires-clause-boxes
-function_values-requires-clause-boxes c =
-    let s : Stage = stage_view c.in-Some.stage.now in
-    subst (AreBoxed c.domain.result.now) (ap body_view (sym c.body.ensures ∙ c.in-Function.is))
-    (subst (λ (a : Area). AreBoxed a s.body) (sym c.domain.ensures)
-    (c.args.job.now.well.stages c.args.number s (sym c.in-Some.ensures)).boxes)
-
-pub function_values-requires-clause-reads : goal.function_values-requires-clause-reads
-function_values-requires-clause-reads c =
+pub function_values-requires : goal.function_values-requires
+function_values-requires c =
     let job : Pipeline = pipeline_in c.args.job.now in
     let s : Stage = stage_view c.in-Some.stage.now in
+    let there : slice_get job.stages c.args.number ≡ Some s = sym c.in-Some.ensures in
+    let own = c.args.job.now.well.stages c.args.number s there in
+    let is = ap body_view (sym c.body.ensures ∙ c.in-Function.is) in
     let buffers = c.args.self.now.buffers.items in
-    λ r k inside.
-    subst (λ (b : Body). BodyReads (IsKnownAt buffers) b r k) (ap body_view (sym c.body.ensures ∙ c.in-Function.is))
-    (reads_known job c.args.job.now.well (IsKnownAt buffers) (AreKnownOf job buffers) (known_there job buffers c.requires.right)
-    c.args.number s
-    (sym c.in-Some.ensures) (c.requires.inputs s (sym c.in-Some.ensures)) r k
-    (subst (λ (a : Area). HoldsPoint a r k) c.domain.ensures inside))
+    record {
+      rows =
+          subst (λ (a : Area). InDomainRange a.rows) (sym c.domain.ensures) own.rows;
+      cols =
+          subst (λ (a : Area). InDomainRange a.cols) (sym c.domain.ensures) own.cols;
+      tests =
+          subst (IsBody job.picture s.domain) is own.body;
+      formulas =
+          subst (λ (b : Body). All IsFormula (formulas_of b)) is own.formulas;
+      boxes = (
+        c.domain.result.now,
+        (λ r x h. h),
+        subst (AreBoxed c.domain.result.now) is (subst (λ (a : Area). AreBoxed a s.body) (sym c.domain.ensures) own.boxes),
+      );
+      reads =
+          λ r k inside.
+          subst (λ (b : Body). BodyReads (IsKnownAt buffers) b r k) is
+          (reads_known job c.args.job.now.well (IsKnownAt buffers) (AreKnownOf job buffers) (known_there job buffers c.requires.right)
+          c.args.number s there (c.requires.inputs s there) r k
+          (subst (λ (a : Area). HoldsPoint a r k) c.domain.ensures inside));
+    }
 
 pub returns-in-Plane : goal.returns-in-Plane
 returns-in-Plane c =

@@ -1,0 +1,12 @@
+#![tactic(auto)]
+//! Rows of points beside what gives the samples there.
+
+use crate::source::RowSource;
+use row_kernels::RowSpan;
+
+/// A row of points, and what gives the samples that are read there.
+#[derive(Drop)]
+pub struct SourceRow<'a, S: RowSource> {
+    pub source: &'a S,
+    pub points: RowSpan,
+}
