@@ -1,5 +1,5 @@
 -- Words that follow a verb and ask for nothing.
-use Rattle.std.proofs.Common.{◌≡◌, ◌×◌, ℕ, List, [], ◌∷◌, refl}
+use Rattle.std.proofs.Common.{◌≡◌, ℕ, List, [], ◌∷◌, refl}
 use Rattle.gossip_events.specs.Scripts.{AreTwo, FollowPlain, FollowVerb, SpellsNode, SpellsNumber}
 use Rattle.gossip_events.specs.declared.event.Event.{Event}
 use Rattle.gossip_events.specs.declared.event.Event.TheVariants as events
