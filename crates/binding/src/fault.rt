@@ -3,6 +3,7 @@
 
 ghost use Rattle.std.specs.Prelude.{◌≡◌};
 
+use fault_rows::{Fault, FaultRow, fault_row};
 use pipe_bounds::BoundFault;
 use std::alloc::AllocError;
 use thiserror::Error;
@@ -30,35 +31,17 @@ pub enum BindFault {
     Memory,
 }
 
-impl BindFault {
+impl Fault for BindFault {
     ghost use Rattle.binding.specs.BindFaults.{bind_number, bind_name};
 
-    /// The fault's number, from 1 to 6.
-    pub fn number(self) -> u8
-        ensures { result ≡ bind_number self }
-    {
-        match self {
-            BindFault::Bounds(_) => 1,
-            BindFault::Planes => 2,
-            BindFault::ExtentMismatch => 3,
-            BindFault::OutputShapes => 4,
-            BindFault::TooManyTiles(_) => 5,
-            BindFault::Memory => 6,
-        }
-    }
+    ghost number_of = { bind_number };
 
-    /// The fault's name, as it is printed.
-    pub fn name(self) -> &'static str
-        ensures { result.now ≡ bind_name self }
-    {
-        match self {
-            BindFault::Bounds(_) => "Bounds",
-            BindFault::Planes => "Planes",
-            BindFault::ExtentMismatch => "ExtentMismatch",
-            BindFault::OutputShapes => "OutputShapes",
-            BindFault::TooManyTiles(_) => "TooManyTiles",
-            BindFault::Memory => "Memory",
-        }
+    ghost name_of = { bind_name };
+
+    fn row(&self) -> FaultRow {
+        fault_row!(self, BindFault {
+            Bounds(_) = 1, Planes = 2, ExtentMismatch = 3, OutputShapes = 4, TooManyTiles(_) = 5, Memory = 6,
+        })
     }
 }
 
@@ -66,9 +49,9 @@ impl From<AllocError> for BindFault {
     ghost use Rattle.std.specs.Prelude.{◌≡◌};
     ghost use Rattle.binding.specs.declared.fault.BindFault.TheVariants.{Memory};
 
-    ghost from_gives = { λ _ e. e ≡ Memory };
+    ghost from_gives = { λ _ fault. fault ≡ Memory };
 
-    fn from(_e: AllocError) -> BindFault {
+    fn from(_fault: AllocError) -> BindFault {
         BindFault::Memory
     }
 }

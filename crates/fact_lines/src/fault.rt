@@ -1,7 +1,6 @@
 //! Why a text is not one of fact files.
 
 ghost use Rattle.std.specs.Prelude.{◌≡◌};
-ghost use Rattle.fact_lines.specs.declared.fault.LinesFault.TheVariants.{Memory};
 
 use std::alloc::AllocError;
 use thiserror::Error;
@@ -23,6 +22,9 @@ pub enum LinesFault {
 }
 
 impl From<AllocError> for LinesFault {
+    ghost use Rattle.std.specs.Prelude.{◌≡◌};
+    ghost use Rattle.fact_lines.specs.declared.fault.LinesFault.TheVariants.{Memory};
+
     ghost from_gives = { λ _ fault. fault ≡ Memory };
 
     fn from(_fault: AllocError) -> LinesFault {

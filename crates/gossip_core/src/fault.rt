@@ -1,8 +1,8 @@
 //! Why an event is refused.
 
 ghost use Rattle.std.specs.Prelude.{◌≡◌};
-ghost use Rattle.gossip_core.specs.declared.fault.StepFault.TheVariants.{Memory};
 
+use fault_rows::{Fault, FaultRow, fault_row};
 use identity::Key;
 use node_state::MakeFault;
 use std::alloc::{AllocError, AllocFailed};
@@ -31,37 +31,22 @@ pub enum StepFault {
     Memory,
 }
 
+impl Fault for StepFault {
+    ghost use Rattle.gossip_core.specs.StepTable.{number_of, name_of};
+
+    ghost number_of = { number_of };
+
+    ghost name_of = { name_of };
+
+    fn row(&self) -> FaultRow {
+        fault_row!(self, StepFault {
+            NoSuchNode = 1, NoSuchMessage = 2, WrongAddress = 3, Make(_) = 4, NotHeld(_) = 5, Memory = 6,
+        })
+    }
+}
+
 impl StepFault {
     ghost use Rattle.std.specs.Prelude.{◌↔◌, IsTrue};
-    ghost use Rattle.gossip_core.specs.StepTable.{name_of, number_of};
-
-    /// The fault's number, from 1 to 6.
-    pub fn number(self) -> u8
-        ensures { result ≡ number_of self }
-    {
-        match self {
-            StepFault::NoSuchNode => 1,
-            StepFault::NoSuchMessage => 2,
-            StepFault::WrongAddress => 3,
-            StepFault::Make(_) => 4,
-            StepFault::NotHeld(_) => 5,
-            StepFault::Memory => 6,
-        }
-    }
-
-    /// The fault's name.
-    pub fn name(self) -> &'static str
-        ensures { result.now ≡ name_of self }
-    {
-        match self {
-            StepFault::NoSuchNode => "NoSuchNode",
-            StepFault::NoSuchMessage => "NoSuchMessage",
-            StepFault::WrongAddress => "WrongAddress",
-            StepFault::Make(_) => "Make",
-            StepFault::NotHeld(_) => "NotHeld",
-            StepFault::Memory => "Memory",
-        }
-    }
 
     /// Whether memory was refused.
     pub fn is_memory(self) -> bool
@@ -72,6 +57,9 @@ impl StepFault {
 }
 
 impl From<AllocError> for StepFault {
+    ghost use Rattle.std.specs.Prelude.{◌≡◌};
+    ghost use Rattle.gossip_core.specs.declared.fault.StepFault.TheVariants.{Memory};
+
     ghost from_gives = { λ _ fault. fault ≡ Memory };
 
     fn from(_fault: AllocError) -> StepFault {
@@ -80,6 +68,9 @@ impl From<AllocError> for StepFault {
 }
 
 impl<T: Drop> From<AllocFailed<T>> for StepFault {
+    ghost use Rattle.std.specs.Prelude.{◌≡◌};
+    ghost use Rattle.gossip_core.specs.declared.fault.StepFault.TheVariants.{Memory};
+
     ghost from_gives = { λ _ fault. fault ≡ Memory };
 
     fn from(_fault: AllocFailed<T>) -> StepFault {

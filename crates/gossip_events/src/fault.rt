@@ -1,8 +1,8 @@
 //! Why a text is no script.
 
 ghost use Rattle.std.specs.Prelude.{◌≡◌};
-ghost use Rattle.gossip_events.specs.declared.fault.ScriptFault.TheVariants.{Memory};
 
+use fault_rows::{Fault, FaultRow, fault_row};
 use std::alloc::{AllocError, AllocFailed};
 use thiserror::Error;
 
@@ -23,36 +23,24 @@ pub enum ScriptFault {
     Memory,
 }
 
-impl ScriptFault {
-    ghost use Rattle.std.specs.Prelude.{codes};
-    ghost use Rattle.gossip_events.specs.FaultTable.{name_of, number_of};
+impl Fault for ScriptFault {
+    ghost use Rattle.gossip_events.specs.FaultTable.{number_of, name_of};
 
-    /// The fault's number, from 1 to 4.
-    pub fn number(self) -> u8
-        ensures { result ≡ number_of self }
-    {
-        match self {
-            ScriptFault::BadLine { .. } => 1,
-            ScriptFault::NoSuchJob { .. } => 2,
-            ScriptFault::TooManyEvents => 3,
-            ScriptFault::Memory => 4,
-        }
-    }
+    ghost number_of = { number_of };
 
-    /// The fault's name.
-    pub fn name(self) -> &'static str
-        ensures { result.now ≡ name_of self }
-    {
-        match self {
-            ScriptFault::BadLine { .. } => "BadLine",
-            ScriptFault::NoSuchJob { .. } => "NoSuchJob",
-            ScriptFault::TooManyEvents => "TooManyEvents",
-            ScriptFault::Memory => "Memory",
-        }
+    ghost name_of = { name_of };
+
+    fn row(&self) -> FaultRow {
+        fault_row!(self, ScriptFault {
+            BadLine { .. } = 1, NoSuchJob { .. } = 2, TooManyEvents = 3, Memory = 4,
+        })
     }
 }
 
 impl From<AllocError> for ScriptFault {
+    ghost use Rattle.std.specs.Prelude.{◌≡◌};
+    ghost use Rattle.gossip_events.specs.declared.fault.ScriptFault.TheVariants.{Memory};
+
     ghost from_gives = { λ _ fault. fault ≡ Memory };
 
     fn from(_fault: AllocError) -> ScriptFault {
@@ -61,6 +49,9 @@ impl From<AllocError> for ScriptFault {
 }
 
 impl<T: Drop> From<AllocFailed<T>> for ScriptFault {
+    ghost use Rattle.std.specs.Prelude.{◌≡◌};
+    ghost use Rattle.gossip_events.specs.declared.fault.ScriptFault.TheVariants.{Memory};
+
     ghost from_gives = { λ _ fault. fault ≡ Memory };
 
     fn from(_fault: AllocFailed<T>) -> ScriptFault {

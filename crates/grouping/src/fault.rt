@@ -3,6 +3,7 @@
 
 ghost use Rattle.std.specs.Prelude.{◌≡◌};
 
+use fault_rows::{Fault, FaultRow, fault_row};
 use std::alloc::AllocError;
 use thiserror::Error;
 
@@ -17,27 +18,15 @@ pub enum ScheduleFault {
     Memory,
 }
 
-impl ScheduleFault {
+impl Fault for ScheduleFault {
     ghost use Rattle.grouping.specs.Faults.{schedule_number, schedule_name};
 
-    /// The fault's number, 1 or 2.
-    pub fn number(self) -> u8
-        ensures { result ≡ schedule_number self }
-    {
-        match self {
-            ScheduleFault::OutputInlined(_) => 1,
-            ScheduleFault::Memory => 2,
-        }
-    }
+    ghost number_of = { schedule_number };
 
-    /// The fault's name, as it is printed.
-    pub fn name(self) -> &'static str
-        ensures { result.now ≡ schedule_name self }
-    {
-        match self {
-            ScheduleFault::OutputInlined(_) => "OutputInlined",
-            ScheduleFault::Memory => "Memory",
-        }
+    ghost name_of = { schedule_name };
+
+    fn row(&self) -> FaultRow {
+        fault_row!(self, ScheduleFault { OutputInlined(_) = 1, Memory = 2 })
     }
 }
 
@@ -45,9 +34,9 @@ impl From<AllocError> for ScheduleFault {
     ghost use Rattle.std.specs.Prelude.{◌≡◌};
     ghost use Rattle.grouping.specs.declared.fault.ScheduleFault.TheVariants.{Memory};
 
-    ghost from_gives = { λ _ e. e ≡ Memory };
+    ghost from_gives = { λ _ fault. fault ≡ Memory };
 
-    fn from(_e: AllocError) -> ScheduleFault {
+    fn from(_fault: AllocError) -> ScheduleFault {
         ScheduleFault::Memory
     }
 }

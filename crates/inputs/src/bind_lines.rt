@@ -7,6 +7,7 @@ ghost use Rattle.inputs.specs.Taking.{Takes};
 use crate::lines::BindLine;
 use crate::texts::{write_head, write_name, write_texts};
 use binding::BindFault;
+use fault_rows::Fault;
 use itoa::Buffer;
 use pipe_bounds::{Axis, BoundFault};
 use pipe_tokens::Name;

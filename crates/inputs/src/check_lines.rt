@@ -6,6 +6,7 @@ ghost use Rattle.inputs.specs.Taking.{Takes};
 
 use crate::lines::CheckLine;
 use crate::texts::{write_head, write_name, write_texts};
+use fault_rows::Fault;
 use itoa::Buffer;
 use pipe_checks::CheckFault;
 use pipe_tokens::Name;

@@ -5,6 +5,7 @@ ghost use Rattle.inputs.specs.Taking.{Takes};
 
 use crate::texts::{write_offset, write_text, write_texts};
 use fact_lines::LinesFault;
+use fault_rows::Fault;
 use itoa::Buffer;
 use streams::{Sink, WriteFailed};
 use tile_fact::FactFault;

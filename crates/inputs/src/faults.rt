@@ -77,9 +77,19 @@ impl From<AllocError> for StreamFault {
 
     ghost from_gives = { λ _ fault. fault ≡ Memory };
 
-    fn from(_error: AllocError) -> StreamFault {
+    fn from(_fault: AllocError) -> StreamFault {
         StreamFault::Memory
     }
+}
+
+// The fault of a step. A refusal of memory is the command's own, whichever step it comes from.
+macro_rules! told {
+    ($fault:expr, $Faults:ident => $Step:ident) => {
+        match $fault {
+            $Faults::Memory => StreamFault::Memory,
+            fault => StreamFault::$Step(fault),
+        }
+    };
 }
 
 impl From<ParseFault> for StreamFault {
@@ -89,10 +99,7 @@ impl From<ParseFault> for StreamFault {
     ghost from_gives = { λ fault told. told ≡ told_parse fault };
 
     fn from(fault: ParseFault) -> StreamFault {
-        match fault {
-            ParseFault::Memory => StreamFault::Memory,
-            fault => StreamFault::Program(fault),
-        }
+        told!(fault, ParseFault => Program)
     }
 }
 
@@ -103,10 +110,7 @@ impl From<PicFault> for StreamFault {
     ghost from_gives = { λ fault told. told ≡ told_picture fault };
 
     fn from(fault: PicFault) -> StreamFault {
-        match fault {
-            PicFault::Memory => StreamFault::Memory,
-            fault => StreamFault::Picture(fault),
-        }
+        told!(fault, PicFault => Picture)
     }
 }
 
@@ -117,10 +121,7 @@ impl From<LinesFault> for StreamFault {
     ghost from_gives = { λ fault told. told ≡ told_lines fault };
 
     fn from(fault: LinesFault) -> StreamFault {
-        match fault {
-            LinesFault::Memory => StreamFault::Memory,
-            fault => StreamFault::Facts(fault),
-        }
+        told!(fault, LinesFault => Facts)
     }
 }
 
@@ -131,9 +132,6 @@ impl From<ScriptFault> for StreamFault {
     ghost from_gives = { λ fault told. told ≡ told_script fault };
 
     fn from(fault: ScriptFault) -> StreamFault {
-        match fault {
-            ScriptFault::Memory => StreamFault::Memory,
-            fault => StreamFault::Script(fault),
-        }
+        told!(fault, ScriptFault => Script)
     }
 }

@@ -4,6 +4,7 @@ ghost use Rattle.inputs.specs.FaultLines.{at_line_text, script_head, script_text
 ghost use Rattle.inputs.specs.Taking.{Takes};
 
 use crate::texts::{write_head, write_offset};
+use fault_rows::Fault;
 use gossip_events::ScriptFault;
 use streams::{Sink, WriteFailed};
 

@@ -11,6 +11,7 @@ use crate::faults::StreamFault;
 use crate::lines::ParamLine;
 use crate::script_lines::write_script;
 use crate::texts::{write_head, write_offset, write_text, write_texts};
+use fault_rows::Fault;
 use pipe_bounds::ParamFault;
 use streams::{Sink, WriteFailed};
 

@@ -6,6 +6,7 @@ use crate::runs::{chosen, schedule_of};
 use crate::verdicts::admit;
 use crate::wanted::{holds, says, tells};
 use catalog::Catalog;
+use fault_rows::Fault;
 use gossip_core::{Done, StepFault};
 use gossip_events::{Event, ScriptFault};
 use identity::Key;

@@ -8,6 +8,7 @@ use crate::totals::{ONE_TO_NINE, REMAINDERS};
 use crate::verdicts::{admit, key_at, tile};
 use crate::wanted::{holds, tells};
 use catalog::Catalog;
+use fault_rows::Fault;
 use grouping::Schedule;
 use identity::{InputId, Key};
 use node_state::{MakeFault, NodeState};

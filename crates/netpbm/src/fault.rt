@@ -1,5 +1,6 @@
 //! Why bytes are no picture.
 
+use fault_rows::{Fault, FaultRow, fault_place, fault_row};
 use thiserror::Error;
 
 /// The first fault of the bytes from the left, with its offset from the first byte.
@@ -37,61 +38,32 @@ pub enum PicFault {
     Memory,
 }
 
+impl Fault for PicFault {
+    ghost use Rattle.netpbm.specs.FaultTable.{number_of, name_of};
+
+    ghost number_of = { number_of };
+
+    ghost name_of = { name_of };
+
+    fn row(&self) -> FaultRow {
+        fault_row!(self, PicFault {
+            OtherFormat(_) = 1, HeaderCut(_) = 2, BadNumber(_) = 3, BadSize(_) = 4, BadMax(_) = 5,
+            CommentBehindDigit(_) = 6, RasterCut(_) = 7, SampleTooBig(_) = 8, TrailingBytes(_) = 9, Memory = 10,
+        })
+    }
+}
+
 impl PicFault {
     ghost use Rattle.std.specs.Prelude.{◌≡◌};
-    ghost use Rattle.netpbm.specs.FaultTable.{number_of, name_of, offset_of};
-
-    /// The fault's number, from 1 to 10.
-    pub fn number(self) -> u8
-        ensures { result ≡ number_of self }
-    {
-        match self {
-            PicFault::OtherFormat(_) => 1,
-            PicFault::HeaderCut(_) => 2,
-            PicFault::BadNumber(_) => 3,
-            PicFault::BadSize(_) => 4,
-            PicFault::BadMax(_) => 5,
-            PicFault::CommentBehindDigit(_) => 6,
-            PicFault::RasterCut(_) => 7,
-            PicFault::SampleTooBig(_) => 8,
-            PicFault::TrailingBytes(_) => 9,
-            PicFault::Memory => 10,
-        }
-    }
-
-    /// The fault's name, as it is printed.
-    pub fn name(self) -> &'static str
-        ensures { result.now ≡ name_of self }
-    {
-        match self {
-            PicFault::OtherFormat(_) => "OtherFormat",
-            PicFault::HeaderCut(_) => "HeaderCut",
-            PicFault::BadNumber(_) => "BadNumber",
-            PicFault::BadSize(_) => "BadSize",
-            PicFault::BadMax(_) => "BadMax",
-            PicFault::CommentBehindDigit(_) => "CommentBehindDigit",
-            PicFault::RasterCut(_) => "RasterCut",
-            PicFault::SampleTooBig(_) => "SampleTooBig",
-            PicFault::TrailingBytes(_) => "TrailingBytes",
-            PicFault::Memory => "Memory",
-        }
-    }
+    ghost use Rattle.netpbm.specs.FaultTable.{offset_of};
 
     /// The place of the fault, counted from the first byte. Memory has none.
     pub fn offset(self) -> Option<usize>
         ensures { result ≡ offset_of self }
     {
-        match self {
-            PicFault::OtherFormat(at)
-            | PicFault::HeaderCut(at)
-            | PicFault::BadNumber(at)
-            | PicFault::BadSize(at)
-            | PicFault::BadMax(at)
-            | PicFault::CommentBehindDigit(at)
-            | PicFault::RasterCut(at)
-            | PicFault::SampleTooBig(at)
-            | PicFault::TrailingBytes(at) => Some(at),
-            PicFault::Memory => None,
-        }
+        fault_place!(self, PicFault {
+            OtherFormat | HeaderCut | BadNumber | BadSize | BadMax | CommentBehindDigit | RasterCut | SampleTooBig
+            | TrailingBytes
+        } else Memory)
     }
 }

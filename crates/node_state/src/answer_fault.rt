@@ -2,6 +2,7 @@
 
 ghost use Rattle.std.specs.Prelude.{◌≡◌};
 
+use fault_rows::{Fault, FaultRow, fault_row};
 use identity::Key;
 use std::alloc::AllocError;
 use thiserror::Error;
@@ -23,35 +24,22 @@ pub enum AnswerFault {
     Memory,
 }
 
-impl AnswerFault {
+impl Fault for AnswerFault {
     ghost use Rattle.node_state.specs.AnswerFaults.{number_of, name_of};
 
-    /// The fault's number, 1 to 4.
-    pub fn number(self) -> u8
-        ensures { result ≡ number_of self }
-    {
-        match self {
-            AnswerFault::Missing(_) => 1,
-            AnswerFault::Disputed(_) => 2,
-            AnswerFault::Misshapen(_) => 3,
-            AnswerFault::Memory => 4,
-        }
-    }
+    ghost number_of = { number_of };
 
-    /// The fault's name, as it is printed.
-    pub fn name(self) -> &'static str
-        ensures { result.now ≡ name_of self }
-    {
-        match self {
-            AnswerFault::Missing(_) => "Missing",
-            AnswerFault::Disputed(_) => "Disputed",
-            AnswerFault::Misshapen(_) => "Misshapen",
-            AnswerFault::Memory => "Memory",
-        }
+    ghost name_of = { name_of };
+
+    fn row(&self) -> FaultRow {
+        fault_row!(self, AnswerFault {
+            Missing(_) = 1, Disputed(_) = 2, Misshapen(_) = 3, Memory = 4,
+        })
     }
 }
 
 impl From<AllocError> for AnswerFault {
+    ghost use Rattle.std.specs.Prelude.{◌≡◌};
     ghost use Rattle.node_state.specs.declared.answer_fault.AnswerFault.TheVariants.{Memory};
 
     ghost from_gives = { λ _ fault. fault ≡ Memory };

@@ -1,10 +1,9 @@
 //! What a node answers of facts.
 
 ghost use Rattle.std.specs.Prelude.{◌≡◌};
-ghost use Rattle.node_state.specs.declared.answers.LendFault.TheVariants.{Memory};
 
 use identity::Key;
-use std::alloc::{AllocError, AllocFailed};
+use std::alloc::AllocError;
 use thiserror::Error;
 
 /// Whether a fact that was taken was new.
@@ -53,17 +52,12 @@ impl LendFault {
 }
 
 impl From<AllocError> for LendFault {
+    ghost use Rattle.std.specs.Prelude.{◌≡◌};
+    ghost use Rattle.node_state.specs.declared.answers.LendFault.TheVariants.{Memory};
+
     ghost from_gives = { λ _ fault. fault ≡ Memory };
 
     fn from(_fault: AllocError) -> LendFault {
-        LendFault::Memory
-    }
-}
-
-impl<T: Drop> From<AllocFailed<T>> for LendFault {
-    ghost from_gives = { λ _ fault. fault ≡ Memory };
-
-    fn from(_fault: AllocFailed<T>) -> LendFault {
         LendFault::Memory
     }
 }

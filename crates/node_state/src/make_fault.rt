@@ -1,8 +1,8 @@
 //! Why a node does not make a tile.
 
 ghost use Rattle.std.specs.Prelude.{◌≡◌};
-ghost use Rattle.node_state.specs.declared.make_fault.MakeFault.TheVariants.{Memory};
 
+use fault_rows::{Fault, FaultRow, fault_row};
 use identity::Key;
 use overlap_tiles::PlanFault;
 use std::alloc::{AllocError, AllocFailed};
@@ -34,41 +34,25 @@ pub enum MakeFault {
     Memory,
 }
 
-impl MakeFault {
+impl Fault for MakeFault {
     ghost use Rattle.node_state.specs.MakeFaults.{make_number, make_name};
 
-    /// The fault's number, 1 to 7.
-    pub fn number(self) -> u8
-        ensures { result ≡ make_number self }
-    {
-        match self {
-            MakeFault::Foreign => 1,
-            MakeFault::NoSuchTile => 2,
-            MakeFault::NeedMissing(_) => 3,
-            MakeFault::NeedDisputed(_) => 4,
-            MakeFault::NeedMisshapen(_) => 5,
-            MakeFault::ScratchTooBig => 6,
-            MakeFault::Memory => 7,
-        }
-    }
+    ghost number_of = { make_number };
 
-    /// The fault's name, as it is printed.
-    pub fn name(self) -> &'static str
-        ensures { result.now ≡ make_name self }
-    {
-        match self {
-            MakeFault::Foreign => "Foreign",
-            MakeFault::NoSuchTile => "NoSuchTile",
-            MakeFault::NeedMissing(_) => "NeedMissing",
-            MakeFault::NeedDisputed(_) => "NeedDisputed",
-            MakeFault::NeedMisshapen(_) => "NeedMisshapen",
-            MakeFault::ScratchTooBig => "ScratchTooBig",
-            MakeFault::Memory => "Memory",
-        }
+    ghost name_of = { make_name };
+
+    fn row(&self) -> FaultRow {
+        fault_row!(self, MakeFault {
+            Foreign = 1, NoSuchTile = 2, NeedMissing(_) = 3, NeedDisputed(_) = 4, NeedMisshapen(_) = 5,
+            ScratchTooBig = 6, Memory = 7,
+        })
     }
 }
 
 impl From<AllocError> for MakeFault {
+    ghost use Rattle.std.specs.Prelude.{◌≡◌};
+    ghost use Rattle.node_state.specs.declared.make_fault.MakeFault.TheVariants.{Memory};
+
     ghost from_gives = { λ _ fault. fault ≡ Memory };
 
     fn from(_fault: AllocError) -> MakeFault {
@@ -77,6 +61,9 @@ impl From<AllocError> for MakeFault {
 }
 
 impl<T: Drop> From<AllocFailed<T>> for MakeFault {
+    ghost use Rattle.std.specs.Prelude.{◌≡◌};
+    ghost use Rattle.node_state.specs.declared.make_fault.MakeFault.TheVariants.{Memory};
+
     ghost from_gives = { λ _ fault. fault ≡ Memory };
 
     fn from(_fault: AllocFailed<T>) -> MakeFault {

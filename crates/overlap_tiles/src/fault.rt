@@ -3,6 +3,7 @@
 
 ghost use Rattle.std.specs.Prelude.{◌≡◌};
 
+use fault_rows::{Fault, FaultRow, fault_row};
 use std::alloc::AllocError;
 use thiserror::Error;
 
@@ -20,29 +21,15 @@ pub enum PlanFault {
     Memory,
 }
 
-impl PlanFault {
+impl Fault for PlanFault {
     ghost use Rattle.overlap_tiles.specs.Faults.{plan_number, plan_name};
 
-    /// The fault's number, 1 to 3.
-    pub fn number(self) -> u8
-        ensures { result ≡ plan_number self }
-    {
-        match self {
-            PlanFault::NoSuchTile => 1,
-            PlanFault::ScratchTooBig => 2,
-            PlanFault::Memory => 3,
-        }
-    }
+    ghost number_of = { plan_number };
 
-    /// The fault's name, as it is printed.
-    pub fn name(self) -> &'static str
-        ensures { result.now ≡ plan_name self }
-    {
-        match self {
-            PlanFault::NoSuchTile => "NoSuchTile",
-            PlanFault::ScratchTooBig => "ScratchTooBig",
-            PlanFault::Memory => "Memory",
-        }
+    ghost name_of = { plan_name };
+
+    fn row(&self) -> FaultRow {
+        fault_row!(self, PlanFault { NoSuchTile = 1, ScratchTooBig = 2, Memory = 3 })
     }
 }
 
@@ -50,9 +37,9 @@ impl From<AllocError> for PlanFault {
     ghost use Rattle.std.specs.Prelude.{◌≡◌};
     ghost use Rattle.overlap_tiles.specs.declared.fault.PlanFault.TheVariants.{Memory};
 
-    ghost from_gives = { λ _ e. e ≡ Memory };
+    ghost from_gives = { λ _ fault. fault ≡ Memory };
 
-    fn from(_e: AllocError) -> PlanFault {
+    fn from(_fault: AllocError) -> PlanFault {
         PlanFault::Memory
     }
 }

@@ -3,6 +3,7 @@
 
 ghost use Rattle.std.specs.Prelude.{◌≡◌};
 
+use fault_rows::{Fault, FaultRow, fault_row};
 use std::alloc::AllocError;
 use thiserror::Error;
 
@@ -17,27 +18,15 @@ pub enum ParamFault {
     SetTwice,
 }
 
-impl ParamFault {
+impl Fault for ParamFault {
     ghost use Rattle.pipe_bounds.specs.FaultTable.{param_number, param_name};
 
-    /// The fault's number, 1 or 2.
-    pub fn number(self) -> u8
-        ensures { result ≡ param_number self }
-    {
-        match self {
-            ParamFault::NoSuchParam => 1,
-            ParamFault::SetTwice => 2,
-        }
-    }
+    ghost number_of = { param_number };
 
-    /// The fault's name, as it is printed.
-    pub fn name(self) -> &'static str
-        ensures { result.now ≡ param_name self }
-    {
-        match self {
-            ParamFault::NoSuchParam => "NoSuchParam",
-            ParamFault::SetTwice => "SetTwice",
-        }
+    ghost name_of = { param_name };
+
+    fn row(&self) -> FaultRow {
+        fault_row!(self, ParamFault { NoSuchParam = 1, SetTwice = 2 })
     }
 }
 
@@ -77,33 +66,17 @@ pub enum BoundFault {
     Memory,
 }
 
-impl BoundFault {
+impl Fault for BoundFault {
     ghost use Rattle.pipe_bounds.specs.FaultTable.{bound_number, bound_name};
 
-    /// The fault's number, from 1 to 5.
-    pub fn number(self) -> u8
-        ensures { result ≡ bound_number self }
-    {
-        match self {
-            BoundFault::ParamUnset(_) => 1,
-            BoundFault::EmptyDomain(_) => 2,
-            BoundFault::DomainTooWide(_) => 3,
-            BoundFault::OutOfBounds { .. } => 4,
-            BoundFault::Memory => 5,
-        }
-    }
+    ghost number_of = { bound_number };
 
-    /// The fault's name, as it is printed.
-    pub fn name(self) -> &'static str
-        ensures { result.now ≡ bound_name self }
-    {
-        match self {
-            BoundFault::ParamUnset(_) => "ParamUnset",
-            BoundFault::EmptyDomain(_) => "EmptyDomain",
-            BoundFault::DomainTooWide(_) => "DomainTooWide",
-            BoundFault::OutOfBounds { .. } => "OutOfBounds",
-            BoundFault::Memory => "Memory",
-        }
+    ghost name_of = { bound_name };
+
+    fn row(&self) -> FaultRow {
+        fault_row!(self, BoundFault {
+            ParamUnset(_) = 1, EmptyDomain(_) = 2, DomainTooWide(_) = 3, OutOfBounds { .. } = 4, Memory = 5,
+        })
     }
 }
 
@@ -111,9 +84,9 @@ impl From<AllocError> for BoundFault {
     ghost use Rattle.std.specs.Prelude.{◌≡◌};
     ghost use Rattle.pipe_bounds.specs.declared.fault.BoundFault.TheVariants.{Memory};
 
-    ghost from_gives = { λ _ e. e ≡ Memory };
+    ghost from_gives = { λ _ fault. fault ≡ Memory };
 
-    fn from(_e: AllocError) -> BoundFault {
+    fn from(_fault: AllocError) -> BoundFault {
         BoundFault::Memory
     }
 }

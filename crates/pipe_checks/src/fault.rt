@@ -3,6 +3,7 @@
 
 ghost use Rattle.std.specs.Prelude.{◌≡◌};
 
+use fault_rows::{Fault, FaultRow, fault_row};
 use std::alloc::AllocError;
 use std::marker::Model;
 use thiserror::Error;
@@ -69,39 +70,18 @@ pub enum CheckFault {
     Memory,
 }
 
-impl CheckFault {
+impl Fault for CheckFault {
     ghost use Rattle.pipe_checks.specs.FaultTable.{check_number, check_name};
 
-    /// The fault's number, from 1 to 8.
-    pub fn number(&self) -> u8
-        ensures { result ≡ check_number self.now }
-    {
-        match self {
-            CheckFault::Unknown(_) => 1,
-            CheckFault::Twice(_) => 2,
-            CheckFault::Kind(_) => 3,
-            CheckFault::BadKernel(_) => 4,
-            CheckFault::BadLiteral(_) => 5,
-            CheckFault::NoResult => 6,
-            CheckFault::Cycle(_) => 7,
-            CheckFault::Memory => 8,
-        }
-    }
+    ghost number_of = { check_number };
 
-    /// The fault's name, as it is printed.
-    pub fn name(&self) -> &'static str
-        ensures { result.now ≡ check_name self.now }
-    {
-        match self {
-            CheckFault::Unknown(_) => "Unknown",
-            CheckFault::Twice(_) => "Twice",
-            CheckFault::Kind(_) => "Kind",
-            CheckFault::BadKernel(_) => "BadKernel",
-            CheckFault::BadLiteral(_) => "BadLiteral",
-            CheckFault::NoResult => "NoResult",
-            CheckFault::Cycle(_) => "Cycle",
-            CheckFault::Memory => "Memory",
-        }
+    ghost name_of = { check_name };
+
+    fn row(&self) -> FaultRow {
+        fault_row!(self, CheckFault {
+            Unknown(_) = 1, Twice(_) = 2, Kind(_) = 3, BadKernel(_) = 4, BadLiteral(_) = 5, NoResult = 6, Cycle(_) = 7,
+            Memory = 8,
+        })
     }
 }
 
@@ -109,9 +89,9 @@ impl From<AllocError> for CheckFault {
     ghost use Rattle.std.specs.Prelude.{◌≡◌};
     ghost use Rattle.pipe_checks.specs.declared.fault.CheckFault.TheVariants.{Memory};
 
-    ghost from_gives = { λ _ e. e ≡ Memory };
+    ghost from_gives = { λ _ fault. fault ≡ Memory };
 
-    fn from(_e: AllocError) -> CheckFault {
+    fn from(_fault: AllocError) -> CheckFault {
         CheckFault::Memory
     }
 }

@@ -2,9 +2,9 @@
 //! Why a text has no tree.
 
 ghost use Rattle.std.specs.Prelude.{◌≡◌, ◌≤◌, Option, Some, None, IfSome};
-ghost use Rattle.pipe_tree.specs.declared.fault.ParseFault.TheVariants as faults;
-ghost use Rattle.pipe_tree.specs.FaultLine.{number_of, name_of, offset_of};
+ghost use Rattle.pipe_tree.specs.FaultLine.{offset_of};
 
+use fault_rows::{Fault, FaultRow, fault_place, fault_row};
 use std::alloc::AllocError;
 use thiserror::Error;
 
@@ -37,60 +37,39 @@ pub enum ParseFault {
     Memory,
 }
 
+impl Fault for ParseFault {
+    ghost use Rattle.pipe_tree.specs.FaultLine.{number_of, name_of};
+
+    ghost number_of = { number_of };
+
+    ghost name_of = { name_of };
+
+    fn row(&self) -> FaultRow {
+        fault_row!(self, ParseFault {
+            NotAscii(_) = 1, BadToken(_) = 2, Unexpected(_) = 3, NumberTooBig(_) = 4, TooDeep(_) = 5, TooLong(_) = 6,
+            TooMany(_) = 7, Memory = 8,
+        })
+    }
+}
+
 impl ParseFault {
-    /// The fault's number.
-    pub fn number(&self) -> u8
-        ensures { result ≡ number_of self.now }
-    {
-        match self {
-            ParseFault::NotAscii(_) => 1,
-            ParseFault::BadToken(_) => 2,
-            ParseFault::Unexpected(_) => 3,
-            ParseFault::NumberTooBig(_) => 4,
-            ParseFault::TooDeep(_) => 5,
-            ParseFault::TooLong(_) => 6,
-            ParseFault::TooMany(_) => 7,
-            ParseFault::Memory => 8,
-        }
-    }
-
-    /// The fault's name.
-    pub fn name(&self) -> &'static str
-        ensures { result.now ≡ name_of self.now }
-    {
-        match self {
-            ParseFault::NotAscii(_) => "NotAscii",
-            ParseFault::BadToken(_) => "BadToken",
-            ParseFault::Unexpected(_) => "Unexpected",
-            ParseFault::NumberTooBig(_) => "NumberTooBig",
-            ParseFault::TooDeep(_) => "TooDeep",
-            ParseFault::TooLong(_) => "TooLong",
-            ParseFault::TooMany(_) => "TooMany",
-            ParseFault::Memory => "Memory",
-        }
-    }
-
     /// Where the fault stands. Memory has no place.
     pub fn offset(&self) -> Option<usize>
         ensures { result ≡ offset_of self.now }
     {
-        match self {
-            ParseFault::NotAscii(offset)
-            | ParseFault::BadToken(offset)
-            | ParseFault::Unexpected(offset)
-            | ParseFault::NumberTooBig(offset)
-            | ParseFault::TooDeep(offset)
-            | ParseFault::TooLong(offset)
-            | ParseFault::TooMany(offset) => Some(*offset),
-            ParseFault::Memory => None,
-        }
+        fault_place!(*self, ParseFault {
+            NotAscii | BadToken | Unexpected | NumberTooBig | TooDeep | TooLong | TooMany
+        } else Memory)
     }
 }
 
 impl From<AllocError> for ParseFault {
-    ghost from_gives = { λ _ e. e ≡ faults.Memory };
+    ghost use Rattle.std.specs.Prelude.{◌≡◌};
+    ghost use Rattle.pipe_tree.specs.declared.fault.ParseFault.TheVariants.{Memory};
 
-    fn from(_e: AllocError) -> ParseFault {
+    ghost from_gives = { λ _ fault. fault ≡ Memory };
+
+    fn from(_fault: AllocError) -> ParseFault {
         ParseFault::Memory
     }
 }

@@ -1,8 +1,8 @@
 //! Why bytes are no fact file.
 
 ghost use Rattle.std.specs.Prelude.{◌≡◌};
-ghost use Rattle.tile_fact.specs.declared.fault.FactFault.TheVariants.{Memory};
 
+use fault_rows::{Fault, FaultRow, fault_place, fault_row};
 use std::alloc::AllocError;
 use thiserror::Error;
 
@@ -32,60 +32,42 @@ pub enum FactFault {
     Memory,
 }
 
-impl From<AllocError> for FactFault {
-    ghost from_gives = { λ _ e. e ≡ Memory };
+impl Fault for FactFault {
+    ghost use Rattle.tile_fact.specs.FaultTable.{number_of, name_of};
 
-    fn from(_e: AllocError) -> FactFault {
-        FactFault::Memory
+    ghost number_of = { number_of };
+
+    ghost name_of = { name_of };
+
+    fn row(&self) -> FaultRow {
+        fault_row!(self, FactFault {
+            BadMagic(_) = 1, Cut(_) = 2, NotRising(_) = 3, BadKind(_) = 4, TooLong(_) = 5, TrailingBytes(_) = 6,
+            Memory = 7,
+        })
     }
 }
 
 impl FactFault {
     ghost use Rattle.std.specs.Prelude.{◌≡◌};
-    ghost use Rattle.tile_fact.specs.FaultTable.{number_of, name_of, offset_of};
-
-    /// The fault's number, from 1 to 7.
-    pub fn number(self) -> u8
-        ensures { result ≡ number_of self }
-    {
-        match self {
-            FactFault::BadMagic(_) => 1,
-            FactFault::Cut(_) => 2,
-            FactFault::NotRising(_) => 3,
-            FactFault::BadKind(_) => 4,
-            FactFault::TooLong(_) => 5,
-            FactFault::TrailingBytes(_) => 6,
-            FactFault::Memory => 7,
-        }
-    }
-
-    /// The fault's name, as it is printed.
-    pub fn name(self) -> &'static str
-        ensures { result.now ≡ name_of self }
-    {
-        match self {
-            FactFault::BadMagic(_) => "BadMagic",
-            FactFault::Cut(_) => "Cut",
-            FactFault::NotRising(_) => "NotRising",
-            FactFault::BadKind(_) => "BadKind",
-            FactFault::TooLong(_) => "TooLong",
-            FactFault::TrailingBytes(_) => "TrailingBytes",
-            FactFault::Memory => "Memory",
-        }
-    }
+    ghost use Rattle.tile_fact.specs.FaultTable.{offset_of};
 
     /// The place of the fault, counted from the first byte. Memory has none.
     pub fn offset(self) -> Option<usize>
         ensures { result ≡ offset_of self }
     {
-        match self {
-            FactFault::BadMagic(at)
-            | FactFault::Cut(at)
-            | FactFault::NotRising(at)
-            | FactFault::BadKind(at)
-            | FactFault::TooLong(at)
-            | FactFault::TrailingBytes(at) => Some(at),
-            FactFault::Memory => None,
-        }
+        fault_place!(self, FactFault {
+            BadMagic | Cut | NotRising | BadKind | TooLong | TrailingBytes
+        } else Memory)
+    }
+}
+
+impl From<AllocError> for FactFault {
+    ghost use Rattle.std.specs.Prelude.{◌≡◌};
+    ghost use Rattle.tile_fact.specs.declared.fault.FactFault.TheVariants.{Memory};
+
+    ghost from_gives = { λ _ fault. fault ≡ Memory };
+
+    fn from(_fault: AllocError) -> FactFault {
+        FactFault::Memory
     }
 }

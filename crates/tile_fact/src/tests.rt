@@ -1,4 +1,5 @@
 use super::*;
+use fault_rows::Fault;
 use identity::{InputId, Key, ProgramId};
 use std::alloc::Global;
 use std::test::*;

@@ -3,8 +3,9 @@
 
 ghost use Rattle.std.specs.Prelude.{◌≡◌};
 
+use fault_rows::{Fault, FaultRow, fault_row};
 use identity::Key;
-use std::alloc::{AllocError, AllocFailed};
+use std::alloc::AllocError;
 use thiserror::Error;
 
 /// Why a tile is not computed.
@@ -18,27 +19,15 @@ pub enum EvalFault {
     Memory,
 }
 
-impl EvalFault {
+impl Fault for EvalFault {
     ghost use Rattle.tile_run.specs.Faults.{eval_number, eval_name};
 
-    /// The fault's number, 1 or 2.
-    pub fn number(self) -> u8
-        ensures { result ≡ eval_number self }
-    {
-        match self {
-            EvalFault::Missing(_) => 1,
-            EvalFault::Memory => 2,
-        }
-    }
+    ghost number_of = { eval_number };
 
-    /// The fault's name, as it is printed.
-    pub fn name(self) -> &'static str
-        ensures { result.now ≡ eval_name self }
-    {
-        match self {
-            EvalFault::Missing(_) => "Missing",
-            EvalFault::Memory => "Memory",
-        }
+    ghost name_of = { eval_name };
+
+    fn row(&self) -> FaultRow {
+        fault_row!(self, EvalFault { Missing(_) = 1, Memory = 2 })
     }
 }
 
@@ -46,9 +35,9 @@ impl From<AllocError> for EvalFault {
     ghost use Rattle.std.specs.Prelude.{◌≡◌};
     ghost use Rattle.tile_run.specs.declared.fault.EvalFault.TheVariants.{Memory};
 
-    ghost from_gives = { λ _ e. e ≡ Memory };
+    ghost from_gives = { λ _ fault. fault ≡ Memory };
 
-    fn from(_e: AllocError) -> EvalFault {
+    fn from(_fault: AllocError) -> EvalFault {
         EvalFault::Memory
     }
 }
@@ -65,27 +54,15 @@ pub enum RunFault {
     Memory,
 }
 
-impl RunFault {
+impl Fault for RunFault {
     ghost use Rattle.tile_run.specs.Faults.{run_number, run_name};
 
-    /// The fault's number, 1 or 2.
-    pub fn number(self) -> u8
-        ensures { result ≡ run_number self }
-    {
-        match self {
-            RunFault::ScratchTooBig(_) => 1,
-            RunFault::Memory => 2,
-        }
-    }
+    ghost number_of = { run_number };
 
-    /// The fault's name, as it is printed.
-    pub fn name(self) -> &'static str
-        ensures { result.now ≡ run_name self }
-    {
-        match self {
-            RunFault::ScratchTooBig(_) => "ScratchTooBig",
-            RunFault::Memory => "Memory",
-        }
+    ghost name_of = { run_name };
+
+    fn row(&self) -> FaultRow {
+        fault_row!(self, RunFault { ScratchTooBig(_) = 1, Memory = 2 })
     }
 }
 
@@ -93,9 +70,9 @@ impl From<AllocError> for RunFault {
     ghost use Rattle.std.specs.Prelude.{◌≡◌};
     ghost use Rattle.tile_run.specs.declared.fault.RunFault.TheVariants.{Memory};
 
-    ghost from_gives = { λ _ e. e ≡ Memory };
+    ghost from_gives = { λ _ fault. fault ≡ Memory };
 
-    fn from(_e: AllocError) -> RunFault {
+    fn from(_fault: AllocError) -> RunFault {
         RunFault::Memory
     }
 }

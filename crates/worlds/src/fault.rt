@@ -1,10 +1,10 @@
 //! Why there is no world, and no events that finish a job.
 
 ghost use Rattle.std.specs.Prelude.{◌≡◌};
-ghost use Rattle.worlds.specs.declared.fault.FinishFault.TheVariants as finish;
 
+use fault_rows::{Fault, FaultRow, fault_row};
 use identity::Key;
-use std::alloc::{AllocError, AllocFailed};
+use std::alloc::AllocError;
 use thiserror::Error;
 
 /// Why there is no world.
@@ -35,70 +35,39 @@ pub enum FinishFault {
     Memory,
 }
 
-impl WorldFault {
+impl Fault for WorldFault {
     ghost use Rattle.worlds.specs.FaultTable.{world_number, world_name};
 
-    /// The fault's number, 1 or 2.
-    pub fn number(self) -> u8
-        ensures { result ≡ world_number self }
-    {
-        match self {
-            WorldFault::BadCount => 1,
-            WorldFault::Memory => 2,
-        }
-    }
+    ghost number_of = { world_number };
 
-    /// The fault's name.
-    pub fn name(self) -> &'static str
-        ensures { result.now ≡ world_name self }
-    {
-        match self {
-            WorldFault::BadCount => "BadCount",
-            WorldFault::Memory => "Memory",
-        }
+    ghost name_of = { world_name };
+
+    fn row(&self) -> FaultRow {
+        fault_row!(self, WorldFault { BadCount = 1, Memory = 2 })
     }
 }
 
-impl FinishFault {
+impl Fault for FinishFault {
     ghost use Rattle.worlds.specs.FaultTable.{finish_number, finish_name};
 
-    /// The fault's number, from 1 to 4.
-    pub fn number(self) -> u8
-        ensures { result ≡ finish_number self }
-    {
-        match self {
-            FinishFault::NoSuchNode => 1,
-            FinishFault::NoSuchJob => 2,
-            FinishFault::ScratchTooBig(_) => 3,
-            FinishFault::Memory => 4,
-        }
-    }
+    ghost number_of = { finish_number };
 
-    /// The fault's name.
-    pub fn name(self) -> &'static str
-        ensures { result.now ≡ finish_name self }
-    {
-        match self {
-            FinishFault::NoSuchNode => "NoSuchNode",
-            FinishFault::NoSuchJob => "NoSuchJob",
-            FinishFault::ScratchTooBig(_) => "ScratchTooBig",
-            FinishFault::Memory => "Memory",
-        }
+    ghost name_of = { finish_name };
+
+    fn row(&self) -> FaultRow {
+        fault_row!(self, FinishFault {
+            NoSuchNode = 1, NoSuchJob = 2, ScratchTooBig(_) = 3, Memory = 4,
+        })
     }
 }
 
 impl From<AllocError> for FinishFault {
-    ghost from_gives = { λ _ fault. fault ≡ finish.Memory };
+    ghost use Rattle.std.specs.Prelude.{◌≡◌};
+    ghost use Rattle.worlds.specs.declared.fault.FinishFault.TheVariants.{Memory};
+
+    ghost from_gives = { λ _ fault. fault ≡ Memory };
 
     fn from(_fault: AllocError) -> FinishFault {
-        FinishFault::Memory
-    }
-}
-
-impl<T: Drop> From<AllocFailed<T>> for FinishFault {
-    ghost from_gives = { λ _ fault. fault ≡ finish.Memory };
-
-    fn from(_fault: AllocFailed<T>) -> FinishFault {
         FinishFault::Memory
     }
 }
