@@ -3,7 +3,7 @@
 ghost use Rattle.std.specs.Prelude.{◌≡◌};
 
 use fault_rows::{Fault, FaultRow, fault_row};
-use std::alloc::{AllocError, AllocFailed};
+use std::alloc::AllocError;
 use thiserror::Error;
 
 /// The first fault of a text. Lines are counted from 1, those that are passed over too.
@@ -44,17 +44,6 @@ impl From<AllocError> for ScriptFault {
     ghost from_gives = { λ _ fault. fault ≡ Memory };
 
     fn from(_fault: AllocError) -> ScriptFault {
-        ScriptFault::Memory
-    }
-}
-
-impl<T: Drop> From<AllocFailed<T>> for ScriptFault {
-    ghost use Rattle.std.specs.Prelude.{◌≡◌};
-    ghost use Rattle.gossip_events.specs.declared.fault.ScriptFault.TheVariants.{Memory};
-
-    ghost from_gives = { λ _ fault. fault ≡ Memory };
-
-    fn from(_fault: AllocFailed<T>) -> ScriptFault {
         ScriptFault::Memory
     }
 }

@@ -15,7 +15,7 @@ use crate::order::{Order, OrderFault};
 use crate::order_words::order_of;
 use crate::words::words_of;
 use catalog::Catalog;
-use std::alloc::Global;
+use std::alloc::{AllocError, Global};
 
 /// The most events of a script.
 pub const MOST_EVENTS: usize = 65_536;
@@ -43,7 +43,7 @@ pub fn add_line(
     }
     match event_on(alloc, jobs, line) {
         Ok(event) => {
-            events.push(event)?;
+            events.push(event).map_err(AllocError::from)?;
             Ok(())
         }
         Err(LineFault::Bad) => Err(ScriptFault::BadLine { line: number }),

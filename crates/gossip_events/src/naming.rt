@@ -12,7 +12,7 @@ use crate::order::Order;
 use crate::places::Place;
 use catalog::{Catalog, Ids};
 use identity::Key;
-use std::alloc::{AllocFailed, Global};
+use std::alloc::{AllocError, Global};
 
 /// Why tiles have no keys.
 #[derive(Clone, Copy, Debug, PartialEq, Eq)]
@@ -21,10 +21,10 @@ pub enum NameFault {
     Memory,
 }
 
-impl<T: Drop> From<AllocFailed<T>> for NameFault {
+impl From<AllocError> for NameFault {
     ghost from_gives = { λ _ fault. fault ≡ Memory };
 
-    fn from(_fault: AllocFailed<T>) -> NameFault {
+    fn from(_fault: AllocError) -> NameFault {
         NameFault::Memory
     }
 }
@@ -69,7 +69,7 @@ fn keys_of(alloc: Global, jobs: &Catalog, places: &[Place]) -> Result<Keys, Name
         let Some(key) = key_of(jobs, place) else {
             return Err(NameFault::NoSuchJob);
         };
-        keys.push(key)?;
+        keys.push(key).map_err(AllocError::from)?;
     }
     Ok(Keys::new(keys))
 }

@@ -1,10 +1,9 @@
 //! What lines ask for, before jobs are looked up.
 
 ghost use Rattle.std.specs.Prelude.{◌≡◌};
-ghost use Rattle.gossip_events.specs.declared.order.OrderFault.TheVariants.{Memory};
 
 use crate::places::{Place, Places};
-use std::alloc::{AllocError, AllocFailed};
+use std::alloc::AllocError;
 
 /// What a line asks for: an event whose tiles are named by the numbers of their jobs.
 #[derive(Debug, Drop)]
@@ -25,17 +24,12 @@ pub enum OrderFault {
 }
 
 impl From<AllocError> for OrderFault {
+    ghost use Rattle.std.specs.Prelude.{◌≡◌};
+    ghost use Rattle.gossip_events.specs.declared.order.OrderFault.TheVariants.{Memory};
+
     ghost from_gives = { λ _ fault. fault ≡ Memory };
 
     fn from(_fault: AllocError) -> OrderFault {
-        OrderFault::Memory
-    }
-}
-
-impl<T: Drop> From<AllocFailed<T>> for OrderFault {
-    ghost from_gives = { λ _ fault. fault ≡ Memory };
-
-    fn from(_fault: AllocFailed<T>) -> OrderFault {
         OrderFault::Memory
     }
 }

@@ -8,7 +8,7 @@ ghost use Rattle.gossip_events.specs.declared.places.Place.{Place as PlaceType};
 use crate::order::OrderFault;
 use crate::places::{Place, Places};
 use crate::words::{number, parts_of, stage};
-use std::alloc::Global;
+use std::alloc::{AllocError, Global};
 
 /// The tile that a word `JOB:STAGE:ROW:COL` names.
 pub fn place_of(alloc: Global, word: &[u8]) -> Result<Place, OrderFault>
@@ -48,7 +48,8 @@ pub fn places_of(alloc: Global, words: &[&[u8]]) -> Result<Places, OrderFault>
 {
     let mut items = Vec::new(alloc);
     for word in words {
-        items.push(place_of(alloc, word)?)?;
+        let place = place_of(alloc, word)?;
+        items.push(place).map_err(AllocError::from)?;
     }
     Ok(Places::new(items))
 }

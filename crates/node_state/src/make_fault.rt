@@ -5,7 +5,7 @@ ghost use Rattle.std.specs.Prelude.{◌≡◌};
 use fault_rows::{Fault, FaultRow, fault_row};
 use identity::Key;
 use overlap_tiles::PlanFault;
-use std::alloc::{AllocError, AllocFailed};
+use std::alloc::AllocError;
 use thiserror::Error;
 
 /// Why a node does not make a tile.
@@ -56,17 +56,6 @@ impl From<AllocError> for MakeFault {
     ghost from_gives = { λ _ fault. fault ≡ Memory };
 
     fn from(_fault: AllocError) -> MakeFault {
-        MakeFault::Memory
-    }
-}
-
-impl<T: Drop> From<AllocFailed<T>> for MakeFault {
-    ghost use Rattle.std.specs.Prelude.{◌≡◌};
-    ghost use Rattle.node_state.specs.declared.make_fault.MakeFault.TheVariants.{Memory};
-
-    ghost from_gives = { λ _ fault. fault ≡ Memory };
-
-    fn from(_fault: AllocFailed<T>) -> MakeFault {
         MakeFault::Memory
     }
 }

@@ -21,6 +21,7 @@ use grouping::Schedule;
 use identity::Key;
 use job::Job;
 use overlap_tiles::TilePlan;
+use std::alloc::AllocError;
 use tile_fact::Fact;
 
 impl<S: FactStore> NodeState<S> {
@@ -62,7 +63,8 @@ impl<S: FactStore> NodeState<S> {
     {
         let mut facts = Vec::with_capacity(self.alloc, needs.len())?;
         for need in needs {
-            facts.push(self.needed_fact(job, need)?)?;
+            let fact = self.needed_fact(job, need)?;
+            facts.push(fact).map_err(AllocError::from)?;
         }
         Ok(facts)
     }
