@@ -1,14 +1,11 @@
 //! Whether all tiles are ready that the answer of a job takes.
 
-ghost use Rattle.job.specs.Answers.{is_output, is_result};
 ghost use Rattle.job.specs.Kept.{pipeline_in, program_id_in};
 ghost use Rattle.node_state.specs.Answers.{known_of};
 ghost use Rattle.node_state.specs.HeldAnswers.{AllAreReady, IsAnswerFault, IsReady};
 ghost use Rattle.node_state.specs.declared.answers.Known.TheVariants.{One};
 ghost use Rattle.node_state.specs.inside.Judging.{IsFaultAt, RowIsReady, RowHasFault, StageIsReady, StageHasFault};
-ghost use Rattle.overlap_tiles.specs.Work.{is_accumulator_at};
-ghost use Rattle.std.specs.List.{list_any};
-ghost use Rattle.std.specs.Prelude.{◌≡◌, ◌<◌, ◌==◌, OnOk, IfErr};
+ghost use Rattle.std.specs.Prelude.{◌≡◌, ◌<◌, OnOk, IfErr};
 
 use crate::answer_fault::AnswerFault;
 use crate::answers::Known;
@@ -16,7 +13,6 @@ use crate::held::Held;
 use fact_audit::shape_ok;
 use fact_store::FactStore;
 use identity::Key;
-use job::{Job, StageKind};
 
 impl<S: FactStore> Held<'_, S> {
     /// Whether each wanted key is ready; if not, the fault of the least that is not. No memory is taken.
@@ -27,7 +23,7 @@ impl<S: FactStore> Held<'_, S> {
             (program_id_in self.now.job.now) (pipeline_in self.now.job.now)) }
     {
         for stage in 0..self.job.stages().len() {
-            if is_wanted(self.job, stage) {
+            if self.job.is_result(stage) {
                 self.check_stage(stage)?;
             }
         }
@@ -89,36 +85,5 @@ impl<S: FactStore> Held<'_, S> {
             Some(fact) if shape_ok(self.job, fact) => Ok(()),
             _ => Err(AnswerFault::Misshapen(*key)),
         }
-    }
-}
-
-// Whether the tiles of a stage belong to the answer.
-fn is_wanted(job: &Job, stage: usize) -> bool
-    ensures { result ≡ is_result (pipeline_in job.now) stage }
-{
-    is_output(job, stage) || is_accumulator(job, stage)
-}
-
-fn is_output(job: &Job, stage: usize) -> bool
-    ensures { result ≡ is_output (pipeline_in job.now) stage }
-{
-    match job.output() {
-        Some(output) => is_among(output.stages(), stage),
-        None => false,
-    }
-}
-
-fn is_among(stages: &[usize], stage: usize) -> bool
-    ensures { result ≡ list_any (λ n. n == stage) stages.now }
-{
-    stages.iter().any(|other| *other == stage)
-}
-
-fn is_accumulator(job: &Job, stage: usize) -> bool
-    ensures { result ≡ is_accumulator_at (pipeline_in job.now) stage }
-{
-    match job.kind(stage) {
-        Some(StageKind::Accumulator) => true,
-        Some(StageKind::Plane | StageKind::Function) | None => false,
     }
 }

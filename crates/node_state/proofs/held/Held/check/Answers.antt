@@ -6,7 +6,7 @@ use Rattle.job.specs.Kept.{pipeline_in, program_id_in}
 use Rattle.job.specs.Views.{stage_view}
 use Rattle.node_state.proofs.Judged.{all_ready, first_fault}
 use Rattle.node_state.proofs.held.Held.check.Goals as goal
-use Rattle.node_state.proofs.held.Held.check.Goals.{then-is_wanted+in_ok-check_stage, else-is_wanted}
+use Rattle.node_state.proofs.held.Held.check.Goals.{then-is_result+in_ok-check_stage, else-is_result}
 
 pub returns-in_err-check_stage-clause-fault : goal.returns-in_err-check_stage-clause-fault
 returns-in_err-check_stage-clause-fault g c =
@@ -23,7 +23,7 @@ returns-in_err-check_stage-clause-fault g c =
             c.loop-stage-test.true,
           );
       bad = record {
-        wanted = sym c.is_wanted.ensures ∙ c.if-is_wanted.true;
+        wanted = sym c.is_result.ensures ∙ c.if-is_result.true;
         stage = c.in_err-check_stage.ensures.fault;
       };
       before = c.loop-stage.invariant;
@@ -32,9 +32,9 @@ returns-in_err-check_stage-clause-fault g c =
 pub loop-stage-preserved : goal.loop-stage-preserved
 loop-stage-preserved g c =
     below_more _ _ c.loop-stage.invariant
-    (elim c.if-is_wanted.branch [
-      | then-is_wanted+in_ok-check_stage w ↦ λ wanted. w.in_ok-check_stage.ensures.ready
-      | else-is_wanted w ↦ λ wanted. absurd (true≢false (sym wanted ∙ sym c.is_wanted.ensures ∙ w.if-is_wanted.false))
+    (elim c.if-is_result.branch [
+      | then-is_result+in_ok-check_stage w ↦ λ wanted. w.in_ok-check_stage.ensures.ready
+      | else-is_result w ↦ λ wanted. absurd (true≢false (sym wanted ∙ sym c.is_result.ensures ∙ w.if-is_result.false))
     ])
 
 pub returns-clause-ready : goal.returns-clause-ready
