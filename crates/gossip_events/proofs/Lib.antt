@@ -1,4 +1,5 @@
 pub mod KeyLaws
+pub mod OrderLaws
 pub mod PlaceLaws
 pub mod VerbLaws
 pub mod ScriptLaws

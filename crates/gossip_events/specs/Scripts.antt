@@ -8,7 +8,7 @@ use Rattle.identity.specs.declared.key.Key.{Key}
 use Rattle.gossip_events.specs.declared.event.Event.{Event}
 use Rattle.gossip_events.specs.declared.event.Event.TheVariants as events
 use Rattle.gossip_events.specs.declared.order.Order.{Order}
-use Rattle.gossip_events.specs.declared.order.Order.TheVariants.{Make, Send, Deliver, Merge, Keep, Restart}
+use Rattle.gossip_events.specs.declared.order.Order.TheVariants.{Make, Send, Plain}
 use Rattle.gossip_events.specs.declared.places.Place.{Place}
 use Rattle.gossip_events.specs.declared.verb.Verb.{Verb}
 use Rattle.gossip_events.specs.declared.verb.Verb.TheVariants as verbs
@@ -87,14 +87,19 @@ abbrev pub AreSent : List (List ℕ) → ℕ → ℕ → List Place → Type 0
 AreSent (first ∷ second ∷ rest) node to places = SpellsNode first node × SpellsNode second to × SpellPlaces rest places
 AreSent _ node to places = ⊥
 
--- the words that follow a verb: `make N KEY`, `send N M KEY..`, `deliver N K`, `merge A B`, `keep N`, `restart N`
+-- the words that follow a verb that names no tile: `deliver N K`, `merge A B`, `keep N`, `restart N`
+abbrev pub FollowPlain : Verb → List (List ℕ) → Event → Type 0
+FollowPlain verbs.Deliver rest (events.Deliver node message) = AreTwo rest (λ w. SpellsNode w node) (λ w. SpellsNumber w message)
+FollowPlain verbs.Merge rest (events.Merge node other) = AreTwo rest (λ w. SpellsNode w node) (λ w. SpellsNode w other)
+FollowPlain verbs.Keep rest (events.Keep node) = IsLoneNode rest node
+FollowPlain verbs.Restart rest (events.Restart node) = IsLoneNode rest node
+FollowPlain _ rest _ = ⊥
+
+-- the words that follow a verb: `make N KEY`, `send N M KEY..`, or those of an event that names no tile
 abbrev pub FollowVerb : Verb → List (List ℕ) → Order → Type 0
 FollowVerb verbs.Make rest (Make node place) = AreTwo rest (λ w. SpellsNode w node) (λ w. SpellsPlace w place)
 FollowVerb verbs.Send rest (Send node to places) = AreSent rest node to places
-FollowVerb verbs.Deliver rest (Deliver node message) = AreTwo rest (λ w. SpellsNode w node) (λ w. SpellsNumber w message)
-FollowVerb verbs.Merge rest (Merge node other) = AreTwo rest (λ w. SpellsNode w node) (λ w. SpellsNode w other)
-FollowVerb verbs.Keep rest (Keep node) = IsLoneNode rest node
-FollowVerb verbs.Restart rest (Restart node) = IsLoneNode rest node
+FollowVerb verb rest (Plain event) = FollowPlain verb rest event
 FollowVerb _ rest _ = ⊥
 
 -- a verb and what follows it
@@ -124,10 +129,7 @@ AreKeysOf jobs (place ∷ places) [] = ⊥
 abbrev pub IsAsked : List Entry → Order → Event → Type 0
 IsAsked jobs (Make node place) event = (key : Key) × IsKeyOf jobs place key × (event ≡ events.Make node key)
 IsAsked jobs (Send node to places) event = (keys : List Key) × AreKeysOf jobs places keys × (event ≡ events.Send node to keys)
-IsAsked jobs (Deliver node message) event = event ≡ events.Deliver node message
-IsAsked jobs (Merge node other) event = event ≡ events.Merge node other
-IsAsked jobs (Keep node) event = event ≡ events.Keep node
-IsAsked jobs (Restart node) event = event ≡ events.Restart node
+IsAsked jobs (Plain told) event = event ≡ told
 
 -- the line asks for the event
 abbrev pub TellsEvent : List Entry → List ℕ → Event → Type 0

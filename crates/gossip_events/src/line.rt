@@ -88,7 +88,7 @@ fn event_on(alloc: Global, jobs: &Catalog, line: &[u8]) -> Result<Event, LineFau
     ensures lacks { IfErr result (λ fault. fault ≡ faults.NoSuchJob → LacksJob jobs.now line.now) }
 {
     let order = order_on(alloc, line)?;
-    match event_of(alloc, jobs, &order) {
+    match event_of(alloc, jobs, order) {
         Ok(event) => Ok(event),
         Err(NameFault::NoSuchJob) => Err(LineFault::NoSuchJob),
         Err(NameFault::Memory) => Err(LineFault::Memory),

@@ -30,31 +30,22 @@ impl<T: Drop> From<AllocFailed<T>> for NameFault {
 }
 
 /// The event that is asked for.
-pub fn event_of(alloc: Global, jobs: &Catalog, order: &Order) -> Result<Event, NameFault>
-    ensures some { IfOk result (IsAsked jobs.now order.now) }
+pub fn event_of(alloc: Global, jobs: &Catalog, order: Order) -> Result<Event, NameFault>
+    ensures some { IfOk result (IsAsked jobs.now order) }
     ensures none { IfErr result (λ fault. fault ≡ NoSuchJob
-        → (event : EventType) → ¬ IsAsked jobs.now order.now event) }
+        → (event : EventType) → ¬ IsAsked jobs.now order event) }
 {
     match order {
-        Order::Make { node, place } => match key_of(jobs, place) {
-            Some(key) => Ok(Event::Make { node: *node, key }),
+        Order::Make { node, place } => match key_of(jobs, &place) {
+            Some(key) => Ok(Event::Make { node, key }),
             None => Err(NameFault::NoSuchJob),
         },
         Order::Send { node, to, places } => Ok(Event::Send {
-            node: *node,
-            to: *to,
+            node,
+            to,
             keys: keys_of(alloc, jobs, places.as_slice())?,
         }),
-        Order::Deliver { node, message } => Ok(Event::Deliver {
-            node: *node,
-            message: u64::from(*message),
-        }),
-        Order::Merge { node, other } => Ok(Event::Merge {
-            node: *node,
-            other: *other,
-        }),
-        Order::Keep { node } => Ok(Event::Keep { node: *node }),
-        Order::Restart { node } => Ok(Event::Restart { node: *node }),
+        Order::Plain(event) => Ok(event),
     }
 }
 

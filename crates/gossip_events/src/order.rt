@@ -3,18 +3,16 @@
 ghost use Rattle.std.specs.Prelude.{◌≡◌};
 ghost use Rattle.gossip_events.specs.declared.order.OrderFault.TheVariants.{Memory};
 
+use crate::event::Event;
 use crate::places::{Place, Places};
 use std::alloc::{AllocError, AllocFailed};
 
-/// What a line asks for: an event whose tiles are named by the numbers of their jobs.
+/// What a line asks for: an event whose tiles are named by the numbers of their jobs, or one that names no tile.
 #[derive(Debug, Drop)]
 pub enum Order {
     Make { node: u8, place: Place },
     Send { node: u8, to: u8, places: Places },
-    Deliver { node: u8, message: u32 },
-    Merge { node: u8, other: u8 },
-    Keep { node: u8 },
-    Restart { node: u8 },
+    Plain(Event),
 }
 
 /// Why a line asks for nothing.

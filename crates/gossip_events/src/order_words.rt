@@ -1,11 +1,13 @@
 //! Words that ask for something.
 
 ghost use Rattle.std.specs.Prelude.{◌≡◌, IfErr, IfNone, IfOk, IfSome, ℕ, map};
-ghost use Rattle.gossip_events.specs.Scripts.{FollowVerb, IsLoneNode, SpellsOrder};
+ghost use Rattle.gossip_events.specs.Scripts.{AreTwo, FollowPlain, FollowVerb, IsLoneNode, SpellsNode, SpellsNumber, SpellsOrder};
+ghost use Rattle.gossip_events.specs.declared.event.Event.{Event as EventType};
 ghost use Rattle.gossip_events.specs.declared.order.Order.{Order as OrderType};
 ghost use Rattle.gossip_events.specs.declared.order.OrderFault.TheVariants.{NoOrder};
 ghost use Rattle.gossip_events.specs.declared.verb.Verb.TheVariants as verbs;
 
+use crate::event::Event;
 use crate::order::{Order, OrderFault};
 use crate::place::{place_of, places_of};
 use crate::verb::{Verb, verb_of};
@@ -36,10 +38,10 @@ fn order_by(alloc: Global, verb: Verb, words: &[&[u8]]) -> Result<Order, OrderFa
     match verb {
         Verb::Make => make(alloc, words),
         Verb::Send => send(alloc, words),
-        Verb::Deliver => deliver(words),
-        Verb::Merge => merge(words),
-        Verb::Keep => keep(words),
-        Verb::Restart => restart(words),
+        Verb::Deliver | Verb::Merge | Verb::Keep | Verb::Restart => match plain(verb, words) {
+            Some(event) => Ok(Order::Plain(event)),
+            None => Err(OrderFault::NoOrder),
+        },
     }
 }
 
@@ -80,57 +82,47 @@ fn send(alloc: Global, words: &[&[u8]]) -> Result<Order, OrderFault>
     })
 }
 
-// `N K`
-fn deliver(words: &[&[u8]]) -> Result<Order, OrderFault>
-    ensures some { IfOk result (FollowVerb verbs.Deliver (map (λ w. w.now) words.now)) }
-    ensures none { IfErr result (λ _. (order : OrderType)
-        → ¬ FollowVerb verbs.Deliver (map (λ w. w.now) words.now) order) }
+// The event that the words after a verb that names no tile tell: `deliver N K`, `merge A B`, `keep N` or `restart N`.
+fn plain(verb: Verb, words: &[&[u8]]) -> Option<Event>
+    ensures some { IfSome result (FollowPlain verb (map (λ w. w.now) words.now)) }
+    ensures none { IfNone result ((event : EventType)
+        → ¬ FollowPlain verb (map (λ w. w.now) words.now) event) }
 {
-    let [first, second] = words else {
-        return Err(OrderFault::NoOrder);
-    };
-    match (node(first), number(second)) {
-        (Some(node), Some(message)) => Ok(Order::Deliver { node, message }),
-        _ => Err(OrderFault::NoOrder),
+    match verb {
+        Verb::Make | Verb::Send => None,
+        Verb::Deliver => {
+            let (node, message) = two_numbers(words)?;
+            Some(Event::Deliver {
+                node,
+                message: u64::from(message),
+            })
+        }
+        Verb::Merge => {
+            let (node, other) = two_numbers(words)?;
+            Some(Event::Merge {
+                node,
+                other: u8::try_from(other).ok()?,
+            })
+        }
+        Verb::Keep => Some(Event::Keep {
+            node: lone_node(words)?,
+        }),
+        Verb::Restart => Some(Event::Restart {
+            node: lone_node(words)?,
+        }),
     }
 }
 
-// `A B`
-fn merge(words: &[&[u8]]) -> Result<Order, OrderFault>
-    ensures some { IfOk result (FollowVerb verbs.Merge (map (λ w. w.now) words.now)) }
-    ensures none { IfErr result (λ _. (order : OrderType)
-        → ¬ FollowVerb verbs.Merge (map (λ w. w.now) words.now) order) }
+// The node and the number that two words name.
+fn two_numbers(words: &[&[u8]]) -> Option<(u8, u32)>
+    ensures some { IfSome result (λ both. AreTwo (map (λ w. w.now) words.now)
+        (λ w. SpellsNode w both.0) (λ w. SpellsNumber w both.1)) }
+    ensures none { IfNone result ((m n : ℕ) → ¬ AreTwo (map (λ w. w.now) words.now)
+        (λ w. SpellsNode w m) (λ w. SpellsNumber w n)) }
 {
-    let [first, second] = words else {
-        return Err(OrderFault::NoOrder);
-    };
-    match (node(first), node(second)) {
-        (Some(node), Some(other)) => Ok(Order::Merge { node, other }),
-        _ => Err(OrderFault::NoOrder),
-    }
-}
-
-// `N`
-fn keep(words: &[&[u8]]) -> Result<Order, OrderFault>
-    ensures some { IfOk result (FollowVerb verbs.Keep (map (λ w. w.now) words.now)) }
-    ensures none { IfErr result (λ _. (order : OrderType)
-        → ¬ FollowVerb verbs.Keep (map (λ w. w.now) words.now) order) }
-{
-    match lone_node(words) {
-        Some(node) => Ok(Order::Keep { node }),
-        None => Err(OrderFault::NoOrder),
-    }
-}
-
-// `N`
-fn restart(words: &[&[u8]]) -> Result<Order, OrderFault>
-    ensures some { IfOk result (FollowVerb verbs.Restart (map (λ w. w.now) words.now)) }
-    ensures none { IfErr result (λ _. (order : OrderType)
-        → ¬ FollowVerb verbs.Restart (map (λ w. w.now) words.now) order) }
-{
-    match lone_node(words) {
-        Some(node) => Ok(Order::Restart { node }),
-        None => Err(OrderFault::NoOrder),
+    match words {
+        [first, second] => Some((node(first)?, number(second)?)),
+        _ => None,
     }
 }
 

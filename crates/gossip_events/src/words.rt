@@ -27,20 +27,9 @@ pub fn number(word: &[u8]) -> Option<u32>
     ensures none { IfNone result ((n : ℕ) → ¬ SpellsNumber word.now n) }
 {
     match std::str::from_utf8(word) {
-        Ok(text) => digits(text),
+        Ok(text) if text.starts_with('+') => None,
+        Ok(text) => text.parse().ok(),
         Err(_) => None,
-    }
-}
-
-// The number that the text spells in digits alone, within 32 bits.
-fn digits(text: &str) -> Option<u32>
-    ensures some { IfSome result (SpellsNumber text.now) }
-    ensures none { IfNone result ((n : ℕ) → ¬ SpellsNumber text.now n) }
-{
-    if text.starts_with('+') {
-        None
-    } else {
-        text.parse().ok()
     }
 }
 
