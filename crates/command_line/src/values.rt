@@ -1,16 +1,17 @@
 //! What single words spell: numbers of options, and values of parameters.
 
 ghost use Rattle.std.specs.Prelude.{◌≡◌, ℕ, ℤ, IfSome, IfNone, option_map};
-ghost use Rattle.command_line.specs.Values.{IsChosen, SpellsNumber, SpellsParameter, SpellsValue, is_true};
+ghost use Rattle.command_line.specs.Values.{IsChosen, SpellsParameter, SpellsValue, is_true};
 
-/// The number that an option was given, or the usual one where it was given none.
+/// The number that an option was given, in digits alone and within 32 bits, or the usual one where it was given none.
 pub fn number_of(given: Option<&str>, usual: u32) -> Option<u32>
     ensures some { IfSome result (IsChosen (option_map (λ t. t.now) given.entry) usual) }
     ensures none { IfNone result
         ((n : ℕ) → ¬ IsChosen (option_map (λ t. t.now) given.entry) usual n) }
 {
     match given {
-        Some(digits) => number(digits),
+        Some(digits) if digits.starts_with('+') => None,
+        Some(digits) => digits.parse().ok(),
         None => Some(usual),
     }
 }
@@ -22,18 +23,6 @@ pub fn is_true(given: Option<&str>) -> bool
     match given {
         Some(text) => text == "true",
         None => false,
-    }
-}
-
-/// The number that the text spells in digits alone, within 32 bits.
-fn number(text: &str) -> Option<u32>
-    ensures some { IfSome result (SpellsNumber text.now) }
-    ensures none { IfNone result ((n : ℕ) → ¬ SpellsNumber text.now n) }
-{
-    if text.starts_with('+') {
-        None
-    } else {
-        text.parse().ok()
     }
 }
 
