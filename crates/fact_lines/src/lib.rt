@@ -11,6 +11,3 @@ mod writing;
 pub use fault::LinesFault;
 pub use union::union_of;
 pub use writing::{count_facts, put_union, write_union};
-
-#[cfg(test)]
-mod tests;

@@ -2,12 +2,4 @@
 #![tactic(auto)]
 
 #[cfg(test)]
-mod calls;
-#[cfg(test)]
-mod cases;
-#[cfg(test)]
-mod desks;
-#[cfg(test)]
-mod histories;
-#[cfg(test)]
-mod threads;
+mod tests;

@@ -1,7 +1,7 @@
 #![tactic(auto)]
 //! Tiles by their plans, from what is given.
 
-ghost use Rattle.std.specs.Prelude.{◌≡◌, IfOk};
+ghost use Rattle.std.specs.Prelude.{◌≡◌, IfOk, IsTrue};
 ghost use Rattle.grouping.specs.Schedules.{is_function};
 ghost use Rattle.job.specs.Kept.{pipeline_in, program_id_in};
 ghost use Rattle.tile_run.specs.KnownTiles.{AreWhole};
@@ -12,7 +12,7 @@ ghost use Rattle.accumulators.specs.Partials.{IsAccumulatorPlan};
 
 use crate::bound_jobs::job_of;
 use crate::plans::{CHAIN, CORNERS, ONES, SIXTEEN};
-use crate::runs::{chosen, has_few_stages, run, schedule_of};
+use crate::scheduling::{chosen, has_few_stages, schedule_of};
 use crate::tiles::{PIPELINE, SAMPLES};
 use crate::totals::{ONE_TO_NINE, REMAINDERS};
 use crate::wanted::{holds, tells};
@@ -24,7 +24,7 @@ use overlap_tiles::TilePlan;
 use std::alloc::Global;
 use std::test::Fail;
 use std::thread::Threads;
-use tile_run::{EvalFault, Known, Scratch, Stored, run_tile};
+use tile_run::{EvalFault, Known, Scratch, Stored, run_all, run_tile};
 
 /// Gives no tile.
 struct Nothing;
@@ -49,6 +49,13 @@ fn is_accumulator(job: &Job, stage: usize) -> bool
     ensures { result ≡ is_accumulator_at (pipeline_in job.now) stage }
 {
     job.kind(stage) == Some(StageKind::Accumulator)
+}
+
+// Fails where this does not hold.
+fn needs(is_so: bool, what: &str) -> Result<(), Fail>
+    ensures { IfOk result (λ _. IsTrue is_so) }
+{
+    if is_so { Ok(()) } else { Err(Fail::new(what)) }
 }
 
 /// A tile: its stage, its row and its column.
@@ -78,11 +85,8 @@ impl<'a> Scheduled<'a> {
         ensures { IfOk result
             (IsFunctionPlan (program_id_in self.now.job.now) (pipeline_in self.now.job.now)) }
     {
-        if !is_function(self.job, tile.0) {
-            return Err(Fail::new("no function"));
-        }
-        let plan = TilePlan::of(self.alloc, self.job, self.schedule, tile.0, tile.1, tile.2)?;
-        Ok(plan)
+        needs(is_function(self.job, tile.0), "no function")?;
+        Ok(TilePlan::of(self.alloc, self.job, self.schedule, tile.0, tile.1, tile.2)?)
     }
 
     // The plan of a tile of an accumulator.
@@ -90,11 +94,8 @@ impl<'a> Scheduled<'a> {
         ensures { IfOk result
             (IsAccumulatorPlan (program_id_in self.now.job.now) (pipeline_in self.now.job.now)) }
     {
-        if !is_accumulator(self.job, tile.0) {
-            return Err(Fail::new("no accumulator"));
-        }
-        let plan = TilePlan::of(self.alloc, self.job, self.schedule, tile.0, tile.1, tile.2)?;
-        Ok(plan)
+        needs(is_accumulator(self.job, tile.0), "no accumulator")?;
+        Ok(TilePlan::of(self.alloc, self.job, self.schedule, tile.0, tile.1, tile.2)?)
     }
 
     // The numbers of a tile of a function, by its plan.
@@ -159,7 +160,7 @@ fn missing<T>(made: &Result<T, EvalFault>) -> Option<Key> {
 // Compares the tiles of two stored functions, each of which reads an inlined one.
 fn compare_both(rt: &(impl Threads + Sync), alloc: Global, job: &Job) -> Result<(), Fail> {
     let schedule = schedule_of(alloc, job, &[false, true, false, true, false])?;
-    let stored = run(rt, alloc, job, &schedule)?;
+    let stored = run_all(rt, alloc, job, &schedule)?;
     let scheduled = Scheduled::new(alloc, job, &schedule);
     scheduled.compare(&stored, 2)?;
     scheduled.compare(&stored, 4)

@@ -2,7 +2,7 @@
 //! Worlds of nodes, over a catalog of one job.
 
 use crate::bound_jobs::job_of;
-use crate::runs::{chosen, schedule_of};
+use crate::scheduling::{chosen, schedule_of};
 use crate::verdicts::admit;
 use crate::wanted::{holds, says, tells};
 use catalog::Catalog;
@@ -112,6 +112,12 @@ fn exported(world: &World, n: u8) -> Result<Vec<u8>, Fail> {
 // Compares what a node holds, as the digits of its fact file.
 pub(crate) fn exports(alloc: Global, world: &World, n: u8, wanted: &str) -> Result<(), Fail> {
     says(&hex::encode(alloc, exported(world, n)?.as_slice())?, wanted)
+}
+
+// Compares what each of two nodes holds.
+fn both_export(alloc: Global, world: &World, wanted: &str) -> Result<(), Fail> {
+    exports(alloc, world, 0, wanted)?;
+    exports(alloc, world, 1, wanted)
 }
 
 // Compares how far a run of such events went.
@@ -315,8 +321,7 @@ fn are_made(alloc: Global, world: &mut World) -> Result<(), Fail> {
         MAKES,
         "Ran { done: 20, refused: 0, memory: false }",
     )?;
-    exports(alloc, world, 0, NO_FACT)?;
-    exports(alloc, world, 1, NO_FACT)
+    both_export(alloc, world, NO_FACT)
 }
 
 // Whether the facts come to both nodes, which then have one file.
@@ -400,8 +405,7 @@ fn refuses(alloc: Global, world: &mut World) -> Result<(), Fail> {
         b"make 0 0:0:0:0\nmake 0 0:3:0:0\nmake 0 0:1:0:1\nmake 0 0:2:0:0\nmake 1 0:2:0:0",
         r#"["Make NoSuchTile", "Make NoSuchTile", "Make NoSuchTile", "Make NeedMissing", "Message(1)"]"#,
     )?;
-    exports(alloc, world, 0, NO_FACT)?;
-    exports(alloc, world, 1, NO_FACT)
+    both_export(alloc, world, NO_FACT)
 }
 
 #[test]
@@ -443,14 +447,12 @@ fn the_least_key_that_is_not_held_is_named(rt: HostRuntime) -> Result<(), Fail> 
 }
 
 fn takes_nothing_twice(alloc: Global, world: &mut World) -> Result<(), Fail> {
-    steps(
-        alloc,
-        world,
-        b"make 0 0:1:0:0\ndeliver 0 0\ndeliver 0 0\nmerge 0 0\nmerge 1 1\nsend 0 1\ndeliver 1 1\nmerge 0 1\nmerge 1 0\nmerge 1 0",
-        r#"["Message(0)", "New(1)", "New(0)", "New(0)", "New(0)", "Message(1)", "New(0)", "New(0)", "New(1)", "New(0)"]"#,
-    )?;
-    exports(alloc, world, 0, ONE_FACT)?;
-    exports(alloc, world, 1, ONE_FACT)
+    let text =
+        b"make 0 0:1:0:0\ndeliver 0 0\ndeliver 0 0\nmerge 0 0\nmerge 1 1\nsend 0 1\ndeliver 1 1\nmerge 0 1\nmerge 1 0\nmerge 1 0";
+    let told =
+        r#"["Message(0)", "New(1)", "New(0)", "New(0)", "New(0)", "Message(1)", "New(0)", "New(0)", "New(1)", "New(0)"]"#;
+    steps(alloc, world, text, told)?;
+    both_export(alloc, world, ONE_FACT)
 }
 
 #[test]

@@ -12,34 +12,35 @@ use std::test::Fail;
 const COPY: &str =
     "param R; param C; image I(R,C); func f(x in [0..R-1], y in [0..C-1]) { else : I(x,y); } output f max 255;";
 
-// The bytes of what a program is given, two digits of each.
-fn has_input(alloc: Global, job: &Job, wanted: &str) -> Result<(), Fail> {
-    let bytes = job.input_bytes(alloc)?;
-    says(&hex::encode(alloc, bytes.as_slice())?, wanted)
-}
+/// What is hashed of a job and its digests, two digits of each byte: the bytes of what its program is given, their digest, and that of the
+/// program's text.
+type Hashed = (&'static str, &'static str, &'static str);
 
-// The identities of what a job is given and of its program, two digits of each byte.
-fn has_identities(alloc: Global, job: &Job, input: &str, program: &str) -> Result<(), Fail> {
-    shows(alloc, &job.input_id(), input)?;
-    shows(alloc, &job.program_id(), program)
+const GREY: Hashed = (
+    "505449310000000200000002000201520000000201430000000250350a3220320a3235350a01020304",
+    "fd17eda6718699f8da71d309eb34c2ee2e0220a4b9694dd8c3c44b40c42d07d9",
+    "7609cadcb0ed4eaee5ebfe5f461d6a2841e6f0d0e0ee23c3dd1cd942a2385118",
+);
+
+const COLOURED: Hashed = (
+    "5054493100000003000004000002014efffffffe096c6f6e675f6e616d650000012c50360a3120310a3235360a000101000003",
+    "f115d67296cc102105aa0ad5d7603a20589441fed23c4cfa1b1e9fa2b141c52b",
+    "902fce8bccc9519eab9136ccd6bdeeefe2475d01905a7a71de27b871bc200a7f",
+);
+
+fn is_hashed(alloc: Global, job: &Job, wanted: Hashed) -> Result<(), Fail> {
+    let bytes = job.input_bytes(alloc)?;
+    says(&hex::encode(alloc, bytes.as_slice())?, wanted.0)?;
+    shows(alloc, &job.input_id(), wanted.1)?;
+    shows(alloc, &job.program_id(), wanted.2)
 }
 
 fn has_grey(alloc: Global, job: &Job) -> Result<(), Fail> {
-    has_input(
-        alloc,
-        job,
-        "505449310000000200000002000201520000000201430000000250350a3220320a3235350a01020304",
-    )?;
     reads(
         job.program_text(),
         "param R;param C;image I(R,C);func f(x in[0..R-1],y in[0..C-1]){else:I(x,y);}output f max 255;",
     )?;
-    has_identities(
-        alloc,
-        job,
-        "fd17eda6718699f8da71d309eb34c2ee2e0220a4b9694dd8c3c44b40c42d07d9",
-        "7609cadcb0ed4eaee5ebfe5f461d6a2841e6f0d0e0ee23c3dd1cd942a2385118",
-    )
+    is_hashed(alloc, job, GREY)
 }
 
 #[test]
@@ -49,20 +50,6 @@ fn bytes_of_a_grey_input(rt: HostRuntime) -> Result<(), Fail> {
     has_grey(alloc, &job)
 }
 
-fn has_colours(alloc: Global, job: &Job) -> Result<(), Fail> {
-    has_input(
-        alloc,
-        job,
-        "5054493100000003000004000002014efffffffe096c6f6e675f6e616d650000012c50360a3120310a3235360a000101000003",
-    )?;
-    has_identities(
-        alloc,
-        job,
-        "f115d67296cc102105aa0ad5d7603a20589441fed23c4cfa1b1e9fa2b141c52b",
-        "902fce8bccc9519eab9136ccd6bdeeefe2475d01905a7a71de27b871bc200a7f",
-    )
-}
-
 #[test]
 fn bytes_of_a_coloured_input(rt: HostRuntime) -> Result<(), Fail> {
     let alloc = rt.alloc();
@@ -70,7 +57,7 @@ fn bytes_of_a_coloured_input(rt: HostRuntime) -> Result<(), Fail> {
         "param N; param long_name; image r,g,b(1,1); func f(x in [0..0], y in [0..0]) { else : r(x,y); } output f max 1;";
     let values = [("long_name", 300), ("N", -2)];
     let job = job_of(alloc, text, &values, b"P3 1 1 256 1 256 3", (3, 1024))?;
-    has_colours(alloc, &job)
+    is_hashed(alloc, &job, COLOURED)
 }
 
 // The key of the last tile has the job's identities and the tile's place.
@@ -103,8 +90,8 @@ fn keys_of_tiles(rt: HostRuntime) -> Result<(), Fail> {
     has_keys(&job)
 }
 
-// A key whose identities are these bytes, each 32 times.
-fn key_of(program: u8, input: u8, place: (u16, u32, u32)) -> Key {
+/// A key whose identities are these bytes, each 32 times.
+pub(crate) fn key_of(program: u8, input: u8, place: (u16, u32, u32)) -> Key {
     Key {
         program: ProgramId::new([program; 32]),
         input: InputId::new([input; 32]),

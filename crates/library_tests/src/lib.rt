@@ -9,6 +9,12 @@ mod areas;
 #[cfg(test)]
 mod bound_jobs;
 #[cfg(test)]
+mod buffers;
+#[cfg(test)]
+mod fact_files;
+#[cfg(test)]
+mod full;
+#[cfg(test)]
 mod given;
 #[cfg(test)]
 mod greedy;
@@ -27,11 +33,13 @@ mod pictures;
 #[cfg(test)]
 mod plans;
 #[cfg(test)]
-mod runs;
-#[cfg(test)]
 mod schedules;
 #[cfg(test)]
+mod scheduling;
+#[cfg(test)]
 mod scripts;
+#[cfg(test)]
+mod states;
 #[cfg(test)]
 mod stops;
 #[cfg(test)]

@@ -3,7 +3,7 @@
 
 use crate::bound_jobs::job_of;
 use crate::plans::{CHAIN, ONES, TOO_BIG};
-use crate::runs::{has_few_stages, schedule_of};
+use crate::scheduling::{has_few_stages, schedule_of};
 use crate::totals::{ONE_TO_NINE, REMAINDERS};
 use crate::verdicts::{admit, key_at, tile};
 use crate::wanted::{holds, tells};
@@ -167,6 +167,7 @@ fn tells_the_least(alloc: Global, chain: &Scheduled) -> Result<(), Fail> {
     let key = chain.key(2, 0, 0)?;
     let first = chain.key(1, 0, 0)?;
     let second = chain.key(1, 0, 1)?;
+    chain.lacks(&state, &key, &MakeFault::NeedMissing(first))?;
     take_tile(alloc, &mut state, &second, &[9, 9, 9])?;
     chain.lacks(&state, &key, &MakeFault::NeedMissing(first))?;
     take_tile(alloc, &mut state, &first, &[9, 9, 9, 9])?;
@@ -179,18 +180,6 @@ fn tells_the_least(alloc: Global, chain: &Scheduled) -> Result<(), Fail> {
 fn the_least_need_that_is_not_ready_is_told(rt: HostRuntime) -> Result<(), Fail> {
     let alloc = rt.alloc();
     tells_the_least(alloc, &chain(alloc)?)
-}
-
-fn lacks_its_first_need(alloc: Global, chain: &Scheduled) -> Result<(), Fail> {
-    let first = chain.key(1, 0, 0)?;
-    let key = chain.key(2, 0, 0)?;
-    chain.lacks(&NodeState::new(alloc), &key, &MakeFault::NeedMissing(first))
-}
-
-#[test]
-fn a_tile_without_its_needs_is_not_made(rt: HostRuntime) -> Result<(), Fail> {
-    let alloc = rt.alloc();
-    lacks_its_first_need(alloc, &chain(alloc)?)
 }
 
 fn lacks_room(alloc: Global, big: &Scheduled) -> Result<(), Fail> {

@@ -1,13 +1,11 @@
 #![tactic(auto)]
-//! The spelling of pictures, and streams that fail.
+//! The spelling of pictures, and writers that are full.
 
+use crate::full::{full_at, took_front};
 use crate::wanted::holds;
 use netpbm::{Picture, raw, read, write_raw};
 use std::alloc::{AllocError, Global};
-use std::io;
-use std::io::Write;
 use std::test::Fail;
-use streams::Metered;
 
 #[test]
 fn picture_of_three_planes(rt: HostRuntime) -> Result<(), Fail> {
@@ -38,34 +36,11 @@ fn raw_bytes_of_a_million_samples(rt: HostRuntime) -> Result<(), Fail> {
     holds(Some(is_same), "the raw bytes of a million samples")
 }
 
-// A writer that takes so many bytes, three at a time, and then nothing.
-#[derive(Debug, Drop)]
-struct Full {
-    taken: Vec<u8>,
-    room: usize,
-}
-
-impl Write for Full {
-    fn write(&mut self, buf: &[u8]) -> io::Result<usize> {
-        let count = 3.min(self.room).min(buf.len());
-        self.taken.extend_from_slice(&buf[..count])?;
-        self.room -= count;
-        Ok(count)
-    }
-
-    fn flush(&mut self) -> io::Result<()> {
-        Ok(())
-    }
-}
-
-// Whether a picture is written but for what there is no room for, and one failure is counted where that is something.
+// Whether a picture is written but for what there is no room for, three bytes at a time.
 fn is_written(alloc: Global, picture: &Picture, whole: &[u8], room: usize) -> Option<bool> {
-    let taken = Vec::new(alloc);
-    let mut sink = Metered::new(Full { taken, room });
+    let mut sink = full_at(alloc, room, 3);
     let is_written = write_raw(picture, &mut sink).is_ok();
-    let failures = if is_written { 0 } else { 1 };
-    let is_told = is_written == (room == whole.len()) && sink.failures == failures;
-    Some(is_told && sink.inner.taken.as_slice() == whole.get(..room)?)
+    took_front(&sink, is_written, whole, room)
 }
 
 #[test]

@@ -5,7 +5,7 @@ ghost use Rattle.job.specs.Kept.{pipeline_in};
 
 use crate::areas::ends;
 use crate::bound_jobs::job_of;
-use crate::runs::{has_few_stages, schedule_of};
+use crate::scheduling::{has_few_stages, schedule_of};
 use crate::wanted::tells;
 use job::Job;
 use overlap_tiles::{Step, TilePlan};

@@ -6,7 +6,7 @@ ghost use Rattle.job.specs.Kept.{pipeline_in};
 use crate::areas::ends;
 use crate::bound_jobs::job_of;
 use crate::plans::ONES;
-use crate::runs::{chosen, schedule_of};
+use crate::scheduling::{chosen, schedule_of};
 use crate::wanted::tells;
 use domains::Area;
 use grouping::Schedule;

@@ -5,7 +5,7 @@ ghost use Rattle.job.specs.Kept.{pipeline_in};
 
 use crate::bound_jobs::job_of;
 use crate::plans::TOO_BIG;
-use crate::runs::{chosen, has_few_stages, run, schedule_of};
+use crate::scheduling::{chosen, has_few_stages, schedule_of};
 use crate::wanted::{holds, tells};
 use grouping::Schedule;
 use job::{Job, StageKind};
@@ -120,7 +120,7 @@ fn compare_at(
             "it inlines what is read",
         )?;
     }
-    let stored = run(rt, alloc, job, &schedule)?;
+    let stored = run_all(rt, alloc, job, &schedule)?;
     compare(alloc, job, &schedule, &stored)
 }
 
@@ -168,26 +168,23 @@ fn have_whole(alloc: Global, job: &Job) -> Result<(), Fail> {
     )
 }
 
-// The doubles by tiles, where the halves are stored or inlined.
-fn have_tiles(
-    rt: &(impl Threads + Sync),
-    alloc: Global,
-    job: &Job,
-    inlined: bool,
-) -> Result<(), Fail> {
-    let schedule = schedule_of(alloc, job, &[false, inlined, false])?;
-    let stored = run(rt, alloc, job, &schedule)?;
-    holds(
-        Some(stored.tile(1, 1, 1).is_some() != inlined),
-        "halves are stored or inlined",
-    )?;
-    holds(have(&stored, 2, (1, 1), 4, &DOUBLED), "tiles are doubled")
+// The doubles by tiles, where the halves are stored and where they are inlined.
+fn have_tiles(rt: &(impl Threads + Sync), alloc: Global, job: &Job) -> Result<(), Fail> {
+    for inlined in [false, true] {
+        let schedule = schedule_of(alloc, job, &[false, inlined, false])?;
+        let stored = run_all(rt, alloc, job, &schedule)?;
+        holds(
+            Some(stored.tile(1, 1, 1).is_some() != inlined),
+            "halves are stored or inlined",
+        )?;
+        holds(have(&stored, 2, (1, 1), 4, &DOUBLED), "tiles are doubled")?;
+    }
+    Ok(())
 }
 
 fn have_all(rt: &(impl Threads + Sync), alloc: Global, job: &Job) -> Result<(), Fail> {
     have_whole(alloc, job)?;
-    have_tiles(rt, alloc, job, false)?;
-    have_tiles(rt, alloc, job, true)
+    have_tiles(rt, alloc, job)
 }
 
 #[test]
@@ -198,23 +195,23 @@ fn halves_then_doubles(rt: HostRuntime) -> Result<(), Fail> {
     have_all(&rt, alloc, &job)
 }
 
-fn refusal(run: &Result<Stored, RunFault>) -> Option<RunFault> {
-    match run {
-        Err(fault) => Some(*fault),
+// Whether it was refused since the first tile of the stage behind an inlined function has no room.
+fn is_without_room<T>(job: &Job, made: &Result<T, RunFault>) -> Option<bool> {
+    match made {
+        Err(fault) => Some(*fault == RunFault::ScratchTooBig(job.key(2, 0, 0)?)),
         Ok(_) => None,
     }
 }
 
-// Whether a run was refused since the first tile of the second function has no room.
-fn is_without_room(job: &Job, run: &Result<Stored, RunFault>) -> Option<bool> {
-    Some(refusal(run)? == RunFault::ScratchTooBig(job.key(2, 0, 0)?))
+/// Fails where another tile than the first of the stage behind an inlined function has no room, or where all have.
+pub(crate) fn lacks_room<T>(job: &Job, made: &Result<T, RunFault>) -> Result<(), Fail> {
+    holds(is_without_room(job, made), "a tile has no room")
 }
 
 fn has_no_room(rt: &(impl Threads + Sync), alloc: Global, job: &Job) -> Result<(), Fail> {
     has_few_stages(job)?;
     let schedule = schedule_of(alloc, job, &[false, true, false])?;
-    let run = run_all(rt, alloc, job, &schedule);
-    holds(is_without_room(job, &run), "a tile has no room")
+    lacks_room(job, &run_all(rt, alloc, job, &schedule))
 }
 
 // A body of `run_all` that answers memory in place of this fault fails here.

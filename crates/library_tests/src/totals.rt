@@ -4,7 +4,8 @@
 ghost use Rattle.job.specs.Kept.{pipeline_in};
 
 use crate::bound_jobs::job_of;
-use crate::runs::{chosen, run, schedule_of};
+use crate::scheduling::{chosen, schedule_of};
+use crate::tiles::lacks_room;
 use crate::wanted::{holds, tells};
 use accumulators::{Answer, answer_of, join_into, whole};
 use domains::Fold;
@@ -12,7 +13,7 @@ use job::Job;
 use std::alloc::Global;
 use std::test::Fail;
 use std::thread::Threads;
-use tile_run::RunFault;
+use tile_run::run_all;
 
 /// How many samples leave each remainder by 4.
 pub(crate) const REMAINDERS: &str =
@@ -47,7 +48,7 @@ fn answer_by_tiles(
     inline: bool,
 ) -> Result<Answer, Fail> {
     let schedule = chosen(alloc, job, inline)?;
-    let stored = run(rt, alloc, job, &schedule)?;
+    let stored = run_all(rt, alloc, job, &schedule)?;
     Ok(answer_of(rt, alloc, job, &schedule, &stored)?)
 }
 
@@ -156,34 +157,27 @@ fn has_extremes_at(
     rt: &(impl Threads + Sync),
     alloc: Global,
     sides: (u32, u32),
-    inline: bool,
 ) -> Result<(), Fail> {
-    let answer = answer(rt, alloc, EXTREMES, SIXTEEN, sides, inline)?;
-    has_extremes(&answer)
+    for inline in [false, true] {
+        let answer = answer(rt, alloc, EXTREMES, SIXTEEN, sides, inline)?;
+        has_extremes(&answer)?;
+    }
+    Ok(())
 }
 
 #[test]
 fn extremes_at_every_schedule(rt: HostRuntime) -> Result<(), Fail> {
     for sides in [(1, 1), (1, 3), (2, 2), (64, 64)] {
-        has_extremes_at(&rt, rt.alloc(), sides, false)?;
-        has_extremes_at(&rt, rt.alloc(), sides, true)?;
+        has_extremes_at(&rt, rt.alloc(), sides)?;
     }
     Ok(())
 }
 
-// Whether an answer was refused since the first tile of the accumulator has no room.
-fn is_without_room(job: &Job, answer: &Result<Answer, RunFault>) -> Option<bool> {
-    match answer {
-        Err(fault) => Some(*fault == RunFault::ScratchTooBig(job.key(2, 0, 0)?)),
-        Ok(_) => None,
-    }
-}
-
 fn has_no_room(rt: &(impl Threads + Sync), alloc: Global, job: &Job) -> Result<(), Fail> {
     let schedule = schedule_of(alloc, job, &[false, true, false])?;
-    let stored = run(rt, alloc, job, &schedule)?;
+    let stored = run_all(rt, alloc, job, &schedule)?;
     let answer = answer_of(rt, alloc, job, &schedule, &stored);
-    holds(is_without_room(job, &answer), "a tile has no room")
+    lacks_room(job, &answer)
 }
 
 // A body of `answer_of` that answers memory in place of this fault fails here.

@@ -3,7 +3,7 @@
 
 use crate::bound_jobs::job_of;
 use crate::plans::{CORNERS, SIXTEEN, TOO_BIG};
-use crate::runs::schedule_of;
+use crate::scheduling::schedule_of;
 use crate::wanted::{holds, tells};
 use identity::Key;
 use job::Job;
@@ -55,31 +55,22 @@ fn functions_and_accumulators_are_work(rt: HostRuntime) -> Result<(), Fail> {
 fn work_goes_by_what_is_read_and_not_by_number(rt: HostRuntime) -> Result<(), Fail> {
     let alloc = rt.alloc();
     let job = job_of(alloc, BACKWARD, &[], ONE, (1, 1))?;
-    work_is(
-        alloc,
-        &job,
-        &[false, false, false],
-        "[(2, 0, 0), (1, 0, 0)]",
-    )
+    let all = "[(2, 0, 0), (1, 0, 0)]";
+    work_is(alloc, &job, &[false, false, false], all)
+}
+
+fn wants(alloc: Global, job: &Job, wanted: &str) -> Result<(), Fail> {
+    let keys = wanted_keys(alloc, job)?;
+    name_tiles(alloc, job, &keys, wanted)
 }
 
 #[test]
 fn outputs_and_accumulators_are_wanted_once(rt: HostRuntime) -> Result<(), Fail> {
     let alloc = rt.alloc();
     let corners = job_of(alloc, CORNERS, &[], SIXTEEN, (2, 2))?;
-    name_tiles(
-        alloc,
-        &corners,
-        &wanted_keys(alloc, &corners)?,
-        "[(2, 0, 0), (3, 0, 0)]",
-    )?;
+    wants(alloc, &corners, "[(2, 0, 0), (3, 0, 0)]")?;
     let backward = job_of(alloc, BACKWARD, &[], ONE, (1, 1))?;
-    name_tiles(
-        alloc,
-        &backward,
-        &wanted_keys(alloc, &backward)?,
-        "[(1, 0, 0), (2, 0, 0)]",
-    )
+    wants(alloc, &backward, "[(1, 0, 0), (2, 0, 0)]")
 }
 
 #[test]

@@ -20,6 +20,3 @@ pub use answer_fault::AnswerFault;
 pub use answers::{Known, LendFault, Taken};
 pub use make_fault::MakeFault;
 pub use state::NodeState;
-
-#[cfg(test)]
-mod tests;

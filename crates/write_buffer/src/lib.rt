@@ -4,6 +4,3 @@
 mod buffer;
 
 pub use buffer::WriteBuffer;
-
-#[cfg(test)]
-mod tests;

@@ -1,7 +1,7 @@
 //! What a book records.
 
-use crate::calls::{AnyDesk, key};
-use crate::cases::{BY_THE_CLOCK, RELEASED_BY_HOLDER, a_hundred_keys, play};
+use super::calls::{AnyDesk, key};
+use super::cases::{BY_THE_CLOCK, RELEASED_BY_HOLDER, a_hundred_keys, play};
 use leases::{DeskBook, Entry, Lease};
 
 fn granted(node: u8, from: u64, until: u64) -> Entry {

@@ -1,8 +1,11 @@
-use super::*;
+#![tactic(auto)]
+//! Texts of fact files, the union of what they hold, and the line of a union.
+
+use crate::full::{full_at, took_front};
+use crate::wanted::holds;
+use fact_lines::{LinesFault, count_facts, union_of, write_union};
 use std::alloc::Global;
-use std::io;
-use std::io::Write;
-use std::test::*;
+use std::test::Fail;
 use streams::Metered;
 use tile_fact::{Fact, FactFault};
 
@@ -26,10 +29,6 @@ const LONG_TILE: &[u8] = b"0001000000020000000300000003e8";
 // A partial of stage 258 at row 0 and column 16909060, with the number -3.
 const PARTIAL: &[u8] = b"010200000000010203040100000001fffffffffffffffd";
 
-fn holds(is_so: bool, what: &str) -> Result<(), Fail> {
-    if is_so { Ok(()) } else { Err(what.into()) }
-}
-
 // The parts, one behind the other.
 fn joined(alloc: Global, parts: &[&[u8]]) -> Result<Vec<u8>, Fail> {
     let mut bytes = Vec::new(alloc);
@@ -47,13 +46,13 @@ fn union(alloc: Global, text: &[u8]) -> Result<Vec<Fact>, Fail> {
     )
 }
 
-// Whether the union of the text is written as this line.
-fn is_merged(alloc: Global, text: &[u8], line: &[u8]) -> Result<bool, Fail> {
+// Fails where the union of the text is not written as this line.
+fn merges(alloc: Global, text: &[u8], line: &[u8], what: &str) -> Result<(), Fail> {
     let facts = union(alloc, text)?;
     let count = count_facts(&facts).ok_or("a file counts them")?;
     let mut writer = Metered::new(Vec::new(alloc));
     write_union(&facts, count, &mut writer)?;
-    Ok(writer.inner.as_slice() == line)
+    holds(Some(writer.inner.as_slice() == line), what)
 }
 
 #[test]
@@ -61,7 +60,7 @@ fn texts_of_no_fact(rt: HostRuntime) -> Result<(), Fail> {
     let line = b"5054463100000000\n".as_slice();
     let texts: [&[u8]; 4] = [b"", b"\n\n", b"5054463100000000", b"\n5054463100000000\n\n"];
     for text in texts {
-        holds(is_merged(rt.alloc(), text, line)?, "the list of no facts")?;
+        merges(rt.alloc(), text, line, "the list of no facts")?;
     }
     Ok(())
 }
@@ -74,17 +73,13 @@ fn union_of_three_files(rt: HostRuntime) -> Result<(), Fail> {
     let partial = joined(alloc, &[ONE, PROGRAM, INPUT, PARTIAL])?;
     let text = joined(alloc, &[&partial, b"\n\n", &tile, &partial])?;
     let both = [TWO, PROGRAM, INPUT, TILE, PROGRAM, INPUT, PARTIAL, b"\n"];
-    holds(
-        is_merged(alloc, &text, &joined(alloc, &both)?)?,
-        "both facts, rising, each once",
-    )
+    let line = joined(alloc, &both)?;
+    merges(alloc, &text, &line, "both facts, rising, each once")
 }
 
 fn has_fault(alloc: Global, text: &[u8], wanted: LinesFault) -> Result<(), Fail> {
-    match union_of(alloc, text) {
-        Ok(_) => Err("a fault is wanted".into()),
-        Err(fault) => holds(fault == wanted, "another fault is wanted"),
-    }
+    let fault = union_of(alloc, text).err().ok_or("a fault is wanted")?;
+    holds(Some(fault == wanted), "another fault is wanted")
 }
 
 #[test]
@@ -127,42 +122,19 @@ fn long_line(alloc: Global) -> Result<Vec<u8>, Fail> {
 #[test]
 fn long_files(rt: HostRuntime) -> Result<(), Fail> {
     let line = long_line(rt.alloc())?;
-    holds(is_merged(rt.alloc(), &line, &line)?, "a long file")
+    merges(rt.alloc(), &line, &line, "a long file")
 }
 
-// A writer that takes so many bytes, and then nothing.
-#[derive(Debug, Drop)]
-struct Full {
-    taken: Vec<u8>,
-    room: usize,
-}
-
-impl Write for Full {
-    fn write(&mut self, buf: &[u8]) -> io::Result<usize> {
-        let count = self.room.min(buf.len());
-        self.taken.extend_from_slice(&buf[..count])?;
-        self.room -= count;
-        Ok(count)
-    }
-
-    fn flush(&mut self) -> io::Result<()> {
-        Ok(())
-    }
-}
-
-// Whether a line is written but for what there is no room for, and one failure is counted where that is something.
+// Whether a line is written but for what there is no room for.
 fn is_written(alloc: Global, facts: &[Fact], line: &[u8], room: usize) -> Option<bool> {
     let count = count_facts(facts)?;
-    let taken = Vec::new(alloc);
-    let mut sink = Metered::new(Full { taken, room });
+    let mut sink = full_at(alloc, room, usize::MAX);
     let is_written = write_union(facts, count, &mut sink).is_ok();
-    let failures = if is_written { 0 } else { 1 };
-    let is_told = is_written == (room == line.len()) && sink.failures == failures;
-    Some(is_told && sink.inner.taken.as_slice() == line.get(..room)?)
+    took_front(&sink, is_written, line, room)
 }
 
 #[test]
-fn part_before_a_failed_write(rt: HostRuntime) -> Result<(), Fail> {
+fn part_of_a_line_before_a_full_writer(rt: HostRuntime) -> Result<(), Fail> {
     let line = long_line(rt.alloc())?;
     let facts = union(rt.alloc(), &line)?;
     for room in [
@@ -175,7 +147,7 @@ fn part_before_a_failed_write(rt: HostRuntime) -> Result<(), Fail> {
         line.len(),
     ] {
         holds(
-            is_written(rt.alloc(), &facts, &line, room) == Some(true),
+            is_written(rt.alloc(), &facts, &line, room),
             "the part before a failure",
         )?;
     }

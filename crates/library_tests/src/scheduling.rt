@@ -1,18 +1,14 @@
 #![tactic(auto)]
-//! Schedules, plans and runs of jobs, for the other tests.
+//! Schedules of jobs, for the other tests.
 
 ghost use Rattle.std.specs.Prelude.{◌≡◌, ◌≤◌, length, IfOk};
 ghost use Rattle.grouping.specs.Inlining.{IsScheduleOf};
 ghost use Rattle.job.specs.Kept.{pipeline_in};
-ghost use Rattle.tile_run.specs.KnownTiles.{AreTrue};
-ghost use Rattle.tile_run.specs.Stored.{stored_tiles, GivesAllTiles};
 
 use grouping::Schedule;
 use job::Job;
 use std::alloc::Global;
 use std::test::Fail;
-use std::thread::Threads;
-use tile_run::{Stored, run_all};
 
 /// Fails where a job has more stages than the tests' programs have.
 pub(crate) fn has_few_stages(job: &Job) -> Result<(), Fail>
@@ -43,22 +39,4 @@ pub(crate) fn chosen(alloc: Global, job: &Job, inline: bool) -> Result<Schedule,
     } else {
         Ok(Schedule::stored(alloc, job)?)
     }
-}
-
-/// The tiles of a job's stored functions.
-pub(crate) fn run(
-    rt: &(impl Threads + Sync),
-    alloc: Global,
-    job: &Job,
-    schedule: &Schedule,
-) -> Result<Stored, Fail>
-    requires schedule { IsScheduleOf (pipeline_in job.now) schedule.now }
-    ensures few { IfOk result (λ _. length (pipeline_in job.now).stages ≤ 64) }
-    ensures all { IfOk result (λ stored. GivesAllTiles (pipeline_in job.now) schedule.now.inlining
-        (stored_tiles stored.stages.items)) }
-    ensures values { IfOk result
-        (λ stored. AreTrue (pipeline_in job.now) (stored_tiles stored.stages.items)) }
-{
-    has_few_stages(job)?;
-    Ok(run_all(rt, alloc, job, schedule)?)
 }

@@ -1,9 +1,15 @@
-use super::*;
+#![tactic(auto)]
+//! States of nodes: what they take, merge and lend.
+
+use crate::identities::key_of;
+use crate::verdicts::tile;
+use crate::wanted::holds;
 use fact_store::{FactStore, SortedFacts};
-use identity::{InputId, Key, ProgramId};
+use identity::Key;
+use node_state::{Known, LendFault, NodeState, Taken};
 use std::alloc::Global;
-use std::test::*;
-use tile_fact::{Body, Fact, Samples};
+use std::test::Fail;
+use tile_fact::{Body, Fact};
 
 // Tiles of one point: row, column and number.
 const P: (u32, u32, i32) = (0, 0, 0);
@@ -12,23 +18,9 @@ const Q: (u32, u32, i32) = (0, 1, 2);
 
 const R: (u32, u32, i32) = (1, 0, 8);
 
+// The key of a tile of one stage.
 fn key(row: u32, col: u32) -> Key {
-    Key {
-        program: ProgramId::new([0x11; 32]),
-        input: InputId::new([0x22; 32]),
-        stage: 1,
-        row,
-        col,
-    }
-}
-
-fn holds(is_so: bool, what: &str) -> Result<(), Fail> {
-    if is_so { Ok(()) } else { Err(what.into()) }
-}
-
-fn tile(alloc: Global, key: Key, numbers: &[i32]) -> Result<Fact, Fail> {
-    let samples = Samples::new(Vec::from_slice(alloc, numbers)?)?;
-    Ok(Fact::new(key, Body::Tile(samples)).ok().ok_or("a tile")?)
+    key_of(0x11, 0x22, (1, row, col))
 }
 
 // Whether the fact is a tile of the column whose last number is this one.
@@ -45,7 +37,10 @@ fn takes<S: FactStore>(
     wanted: Taken,
 ) -> Result<(), Fail> {
     let fact = tile(alloc, key, numbers)?;
-    holds(state.take(fact).ok() == Some(wanted), "whether it was new")
+    holds(
+        Some(state.take(fact).ok() == Some(wanted)),
+        "whether it was new",
+    )
 }
 
 // The state that has taken these tiles, one after another.
@@ -68,9 +63,9 @@ fn merged<S: FactStore>(alloc: Global) -> Result<NodeState<S>, Fail> {
     let mut state: NodeState<S> = state_of(alloc, &[R, P])?;
     takes(alloc, &mut state, key(P.0, P.1), &[P.2], Taken::Already)?;
     let more: NodeState<S> = state_of(alloc, &[Q, R])?;
-    holds(state.merge(&more)? == 1, "Q is new")?;
+    holds(Some(state.merge(&more)? == 1), "Q is new")?;
     holds(
-        more.export()?.len() == 174,
+        Some(more.export()?.len() == 174),
         "the state that was merged is as it was",
     )?;
     Ok(state)
@@ -78,14 +73,14 @@ fn merged<S: FactStore>(alloc: Global) -> Result<NodeState<S>, Fail> {
 
 fn have_one_file<S: FactStore>(one: &NodeState<S>, other: &NodeState<S>) -> Result<(), Fail> {
     let file = one.export()?;
-    holds(file.len() == 257, "the file's length")?;
+    holds(Some(file.len() == 257), "the file's length")?;
     holds(
-        other.export()?.as_slice() == file.as_slice(),
+        Some(other.export()?.as_slice() == file.as_slice()),
         "the same file",
     )?;
     let copy = other.copy()?;
     holds(
-        copy.export()?.as_slice() == file.as_slice(),
+        Some(copy.export()?.as_slice() == file.as_slice()),
         "the copy's file",
     )
 }
@@ -104,7 +99,7 @@ fn states_forget_order(rt: HostRuntime) -> Result<(), Fail> {
 fn lends_both<S: FactStore>(state: &NodeState<S>) -> Result<(), Fail> {
     let lent = state.lend(&[key(0, 0)]).ok().ok_or("the key is held")?;
     holds(
-        matches!(lent.as_slice(), [a, b] if ends_with(a, 0, 4) && ends_with(b, 0, 5)),
+        Some(matches!(lent.as_slice(), [a, b] if ends_with(a, 0, 4) && ends_with(b, 0, 5))),
         "both are lent, rising",
     )
 }
@@ -113,18 +108,21 @@ fn lends_both<S: FactStore>(state: &NodeState<S>) -> Result<(), Fail> {
 fn is_disputed<S: FactStore>(alloc: Global, first: i32, second: i32) -> Result<(), Fail> {
     let mut state: NodeState<S> = NodeState::new(alloc);
     holds(
-        state.knows(&key(0, 0)) == Known::Nothing,
+        Some(state.knows(&key(0, 0)) == Known::Nothing),
         "no fact of the key",
     )?;
     takes(alloc, &mut state, key(0, 0), &[1, 2, 3, first], Taken::New)?;
-    holds(state.knows(&key(0, 0)) == Known::One, "one fact of the key")?;
+    holds(
+        Some(state.knows(&key(0, 0)) == Known::One),
+        "one fact of the key",
+    )?;
     takes(alloc, &mut state, key(0, 0), &[1, 2, 3, second], Taken::New)?;
     holds(
-        state.knows(&key(0, 0)) == Known::Disputed,
+        Some(state.knows(&key(0, 0)) == Known::Disputed),
         "two facts of the key",
     )?;
     lends_both(&state)?;
-    holds(state.export()?.len() == 198, "the file's length")
+    holds(Some(state.export()?.len() == 198), "the file's length")
 }
 
 #[test]
@@ -139,7 +137,7 @@ fn lends_by_keys(rt: HostRuntime) -> Result<(), Fail> {
     let keys = [key(0, 1), key(0, 0), key(0, 1)];
     let lent = state.lend(&keys).ok().ok_or("both keys are held")?;
     holds(
-        matches!(lent.as_slice(), [a, b] if ends_with(a, 0, 0) && ends_with(b, 1, 2)),
+        Some(matches!(lent.as_slice(), [a, b] if ends_with(a, 0, 0) && ends_with(b, 1, 2))),
         "each fact once, rising",
     )
 }
@@ -148,7 +146,7 @@ fn lends_by_keys(rt: HostRuntime) -> Result<(), Fail> {
 fn names_the_least_key_not_held(rt: HostRuntime) -> Result<(), Fail> {
     let state: NodeState = state_of(rt.alloc(), &[Q, P])?;
     match state.lend(&[key(2, 0), key(0, 1), key(1, 5)]) {
-        Err(LendFault::NotHeld(least)) => holds(least == key(1, 5), "the least key"),
+        Err(LendFault::NotHeld(least)) => holds(Some(least == key(1, 5)), "the least key"),
         _ => Err("two keys are not held".into()),
     }
 }
@@ -157,10 +155,13 @@ fn names_the_least_key_not_held(rt: HostRuntime) -> Result<(), Fail> {
 fn goes_from_fact_to_fact(rt: HostRuntime) -> Result<(), Fail> {
     let state: NodeState = state_of(rt.alloc(), &[Q, P])?;
     let least = state.least().ok_or("a fact")?;
-    holds(ends_with(least, 0, 0), "the least")?;
+    holds(Some(ends_with(least, 0, 0)), "the least")?;
     let next = state.least_above(least).ok_or("another fact")?;
-    holds(ends_with(next, 1, 2), "the next one")?;
-    holds(state.least_above(next).is_none(), "and none behind it")?;
-    holds(state.count(&key(0, 1)) == 1, "one fact of the key")?;
-    holds(state.nth(&key(0, 1), 1).is_none(), "and no second")
+    holds(Some(ends_with(next, 1, 2)), "the next one")?;
+    holds(
+        Some(state.least_above(next).is_none()),
+        "and none behind it",
+    )?;
+    holds(Some(state.count(&key(0, 1)) == 1), "one fact of the key")?;
+    holds(Some(state.nth(&key(0, 1), 1).is_none()), "and no second")
 }

@@ -1,6 +1,6 @@
 //! Cases that were worked by hand, for every desk.
 
-use crate::calls::{AnyDesk, key};
+use super::calls::{AnyDesk, key};
 use leases::{Claim, Release};
 use std::process::Abort;
 use std::sync::Wait;

@@ -1,6 +1,6 @@
 //! Threads that share a desk.
 
-use crate::calls::key;
+use super::calls::key;
 use leases::{Claim, LiveDesk};
 use std::test::Fail;
 use std::thread;

@@ -1,7 +1,7 @@
 //! Each case on each desk.
 
-use crate::calls::AnyDesk;
-use crate::cases::{
+use super::calls::AnyDesk;
+use super::cases::{
     BY_THE_CLOCK, END_OF_TIME, NO_TIME, RELEASED_BY_HOLDER, RENEWED_AFTER_REFUSAL, Step,
     TIME_GOES_BACK, a_hundred_keys, play,
 };

@@ -1,0 +1,5 @@
+mod calls;
+mod cases;
+mod desks;
+mod histories;
+mod threads;
