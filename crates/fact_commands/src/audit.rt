@@ -7,7 +7,7 @@ ghost use Rattle.fact_commands.specs.Auditing.{SaysVerdicts};
 ghost use Rattle.fact_commands.specs.Verdicts.{verdict_lines};
 
 use crate::found::{Found, found_in};
-use domains::TileSides;
+use command_line::Options;
 use fact_audit::{Verdict, audit_all};
 use inputs::{StreamFault, audit_of};
 use one_job::catalog_of;
@@ -25,17 +25,17 @@ pub struct Judged {
 /// Judges the facts of an input by its job. The input and the job are let go.
 pub fn judge(
     alloc: Global,
-    sides: TileSides,
+    options: &Options,
     given: &[(String, i32)],
     input: Vec<u8>,
 ) -> Result<Judged, StreamFault>
-    ensures said { IfOk result (λ judged. IsSaidOfAudit SaysVerdicts given.now sides judged.found
-        input.items (verdict_lines judged.facts.items judged.verdicts.items)) }
+    ensures said { IfOk result (λ judged. IsSaidOfAudit SaysVerdicts given.now options.now.sides
+        judged.found input.items (verdict_lines judged.facts.items judged.verdicts.items)) }
     ensures count { IfOk result
         (λ judged. length judged.verdicts.items ≡ length judged.facts.items) }
-    ensures fault { IfErr result (IsAuditFault input.items given.now sides) }
+    ensures fault { IfErr result (IsAuditFault input.items given.now options.now.sides) }
 {
-    let (job, facts) = audit_of(alloc, sides, given, input)?;
+    let (job, facts) = audit_of(alloc, options.sides, given, input)?;
     let catalog = catalog_of(alloc, job)?;
     let verdicts = audit_all(alloc, &catalog, &facts)?;
     let found = found_in(&verdicts);

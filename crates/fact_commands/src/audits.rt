@@ -37,7 +37,7 @@ pub fn audit_stream<H: AllocGlobal, R: Source, W: Sink>(
     ensures write { CountsWritten result (W.failures writer.old) (W.failures writer.new) }
 {
     let input = read_input(rt.alloc(), reader)?;
-    let judged = judge(rt.alloc(), options.sides, parameters, input)?;
+    let judged = judge(rt.alloc(), options, parameters, input)?;
     write_judged(&judged, writer)
 }
 

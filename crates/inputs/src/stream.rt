@@ -13,10 +13,11 @@ ghost use Rattle.inputs.specs.Input.{IsInput, IsJobAt, IsReadAround, IsReadAudit
 ghost use Rattle.inputs.specs.Outcomes.{CountsRead, CountsWritten, IsOfReader, most_input};
 
 use crate::accepted::accept;
-use crate::bound::bind;
+use crate::bound::told;
 use crate::faults::StreamFault;
 use crate::sections::{split_section, split_sections};
 use crate::settings::choose;
+use binding::bind;
 use domains::TileSides;
 use fact_lines::union_of;
 use job::Job;
@@ -99,7 +100,9 @@ pub fn audit_of(
     ensures small { IfOk result (λ read. IsSmall (pipeline_in read.0)) }
     ensures fault { IfErr result (IsAuditFault input.items given.now sides) }
 {
-    audit_in(alloc, sides, given, input.as_slice())
+    let (job, middle) = job_and_middle(alloc, sides, given, input.as_slice())?;
+    let facts = union_of(alloc, middle)?;
+    Ok((job, facts))
 }
 
 /// The facts of the fact files that the input is, rising, each once.
@@ -131,24 +134,6 @@ fn read_sections(alloc: Global, input: &[u8]) -> Result<(Tree, Picture), StreamF
     read_spelled(alloc, text, spelling)
 }
 
-/// The job and the facts that the input spells.
-fn audit_in(
-    alloc: Global,
-    sides: TileSides,
-    given: &[(String, i32)],
-    input: &[u8],
-) -> Result<(Job, Vec<Fact>), StreamFault>
-    ensures of_input { IfOk result
-        (λ read. IsReadAudit input.now given.now sides read.0 read.1.items) }
-    ensures job { IfOk result (λ read. IsJob (pipeline_in read.0)) }
-    ensures small { IfOk result (λ read. IsSmall (pipeline_in read.0)) }
-    ensures fault { IfErr result (IsAuditFault input.now given.now sides) }
-{
-    let (job, middle) = job_and_middle(alloc, sides, given, input)?;
-    let facts = union_of(alloc, middle)?;
-    Ok((job, facts))
-}
-
 /// The program of a text and the picture that is spelled.
 fn read_spelled(alloc: Global, text: &[u8], spelling: &[u8]) -> Result<(Tree, Picture), StreamFault>
     ensures ok { IfOk result (λ read. IsSpelled text.now spelling.now (content read.0) read.1) }
@@ -175,5 +160,8 @@ fn job_at(
 {
     let checked = accept(alloc, tree)?;
     let params = choose(alloc, &checked, given)?;
-    bind(alloc, checked, &params, picture, sides)
+    match bind(alloc, checked, &params, picture, sides) {
+        Ok(job) => Ok(job),
+        Err((program, _, fault)) => Err(told(&program, fault)),
+    }
 }

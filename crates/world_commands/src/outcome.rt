@@ -36,7 +36,7 @@ pub fn outcome_of(
         (outcome_lines outcome)) }
     ensures fault { IfErr result (IsWorldFault input.items given.now options.now.sides) }
 {
-    let (catalog, events) = world_of(alloc, options.sides, given, input)?;
+    let (catalog, events) = world_of(alloc, options, given, input)?;
     let world = begin(alloc, nodes, options, catalog)?;
     Ok(outcome_after(alloc, nodes, world, &events)?)
 }

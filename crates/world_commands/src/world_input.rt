@@ -5,7 +5,7 @@ ghost use Rattle.world_commands.specs.WorldFaults.{IsWorldFault};
 ghost use Rattle.world_commands.specs.WorldInput.{IsReadWorld};
 
 use catalog::Catalog;
-use domains::TileSides;
+use command_line::Options;
 use gossip_events::{Event, script_of};
 use inputs::{StreamFault, job_and_middle};
 use one_job::catalog_of;
@@ -15,29 +15,15 @@ use std::alloc::Global;
 /// them. A faulty line is told only where the program and the picture have a job. The input is let go.
 pub fn world_of(
     alloc: Global,
-    sides: TileSides,
+    options: &Options,
     given: &[(String, i32)],
     input: Vec<u8>,
 ) -> Result<(Catalog, Vec<Event>), StreamFault>
     ensures of_input { IfOk result
-        (λ read. IsReadWorld input.items given.now sides read.0 read.1.items) }
-    ensures fault { IfErr result (IsWorldFault input.items given.now sides) }
+        (λ read. IsReadWorld input.items given.now options.now.sides read.0 read.1.items) }
+    ensures fault { IfErr result (IsWorldFault input.items given.now options.now.sides) }
 {
-    world_in(alloc, sides, given, input.as_slice())
-}
-
-/// The job and the events that the input spells.
-fn world_in(
-    alloc: Global,
-    sides: TileSides,
-    given: &[(String, i32)],
-    input: &[u8],
-) -> Result<(Catalog, Vec<Event>), StreamFault>
-    ensures of_input { IfOk result
-        (λ read. IsReadWorld input.now given.now sides read.0 read.1.items) }
-    ensures fault { IfErr result (IsWorldFault input.now given.now sides) }
-{
-    let (job, script) = job_and_middle(alloc, sides, given, input)?;
+    let (job, script) = job_and_middle(alloc, options.sides, given, input.as_slice())?;
     let catalog = catalog_of(alloc, job)?;
     let events = script_of(alloc, &catalog, script)?;
     Ok((catalog, events))

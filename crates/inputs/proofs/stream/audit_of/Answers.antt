@@ -1,16 +1,34 @@
 use Rattle.std.proofs.Common.{List, ℕ, subst}
-use Rattle.std.specs.Prelude.{IfErr, IfOk}
-use Rattle.inputs.specs.Faults.{IsAuditFault}
-use Rattle.inputs.specs.Input.{IsReadAudit}
+use Rattle.std.proofs.lemmas.Result.{err_from_is_err_and}
+use Rattle.job.specs.Kept.{pipeline_in}
+use Rattle.inputs.specs.Faults.{IsFaultAround}
+use Rattle.inputs.specs.Input.{IsReadAround}
+use Rattle.inputs.proofs.Known.{audit_facts_fault, audit_fault_around}
 use Rattle.inputs.proofs.stream.audit_of.Goals as goal
+
+pub returns-in_err-job-clause-fault : goal.returns-in_err-job-clause-fault
+returns-in_err-job-clause-fault c =
+    let p = err_from_is_err_and c.from_residual.result c.from_residual.ensures.1 in
+    let fault = c.in_err-job.field-0.0 in
+    rw (p.1, p.2) (audit_fault_around c.args.input.items c.args.given.now c.args.sides fault
+    (subst (λ (input : List ℕ). IsFaultAround input c.args.given.now c.args.sides fault) c.as_slice.ensures.value c.in_err-job.ensures.fault))
+
+pub returns-in_err-facts-clause-fault : goal.returns-in_err-facts-clause-fault
+returns-in_err-facts-clause-fault c =
+    let p = err_from_is_err_and c.from_residual-in_err-facts.result c.from_residual-in_err-facts.ensures.1 in
+    let read =
+    subst (λ (input : List ℕ). IsReadAround input c.args.given.now c.args.sides c.in_ok-job.job c.in_ok-job.middle.now)
+    c.as_slice.ensures.value c.in_ok-job.ensures.of_input in
+    rw (p.1, p.2) (audit_facts_fault c.args.input.items c.in_ok-job.middle.now c.args.given.now c.args.sides read.tree
+    (pipeline_in c.in_ok-job.job) c.in_err-facts.field-0.0 read.of_input c.in_err-facts.ensures.fault)
 
 pub returns-clause-of_input : goal.returns-clause-of_input
 returns-clause-of_input c =
-    subst
-    (λ (input : List ℕ). IfOk c.audit_in.result (λ read. IsReadAudit input c.args.given.now c.args.sides read.0 read.1.items))
-    c.as_slice.ensures.value c.audit_in.ensures.of_input
-
-pub returns-clause-fault : goal.returns-clause-fault
-returns-clause-fault c =
-    subst (λ (input : List ℕ). IfErr c.audit_in.result (IsAuditFault input c.args.given.now c.args.sides)) c.as_slice.ensures.value
-    c.audit_in.ensures.fault
+    let read =
+    subst (λ (input : List ℕ). IsReadAround input c.args.given.now c.args.sides c.in_ok-job.job c.in_ok-job.middle.now)
+    c.as_slice.ensures.value c.in_ok-job.ensures.of_input in
+    record {
+      tree = read.tree;
+      of_input = record { lines = c.in_ok-job.middle.now; around = read.of_input; union = c.in_ok-facts.ensures.found };
+      text = read.text;
+    }

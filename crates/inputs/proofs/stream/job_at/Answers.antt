@@ -1,26 +1,26 @@
-use Rattle.std.proofs.lemmas.Result.{IfErr-weaker, IfOk-weaker}
+use Rattle.std.proofs.Common.{subst}
 use Rattle.job.specs.Kept.{pipeline_in, program_text_in}
+use Rattle.pipe_checks.specs.CheckedProgram.{CheckedProgram}
+use Rattle.pipe_checks.specs.Checking.{params_in, stages_in}
+use Rattle.inputs.specs.inside.Steps.{TellsBind}
 use Rattle.inputs.proofs.Known.{job_made, job_text, late_fault}
-use Rattle.inputs.proofs.Listed.{both_then}
 use Rattle.inputs.proofs.stream.job_at.Goals as goal
 
-pub returns-clause-made : goal.returns-clause-made
-returns-clause-made c =
-    both_then c.bind.result
-    (λ job bound says. job_made c.args.given.now c.args.sides c.args.tree c.args.picture c.in_ok-checked.checked c.in_ok-params.params
-    (pipeline_in job) c.in_ok-checked.ensures.ok c.in_ok-params.ensures.ok bound says)
-    c.bind.ensures.ok
-    c.bind.ensures.says
+pub returns-in-Ok-clause-made : goal.returns-in-Ok-clause-made
+returns-in-Ok-clause-made c =
+    job_made c.args.given.now c.args.sides c.args.tree c.args.picture c.in_ok-checked.checked c.in_ok-params.params
+    (pipeline_in c.in-Ok.job) c.in_ok-checked.ensures.ok c.in_ok-params.ensures.ok c.in-Ok.ensures.ok c.in-Ok.ensures.says
 
-pub returns-clause-text : goal.returns-clause-text
-returns-clause-text c =
-    IfOk-weaker c.bind.result _ _
-    (λ job is. job_text c.args.tree c.in_ok-checked.checked (program_text_in job) c.in_ok-checked.ensures.ok is)
-    c.bind.ensures.text
+pub returns-in-Ok-clause-text : goal.returns-in-Ok-clause-text
+returns-in-Ok-clause-text c =
+    job_text c.args.tree c.in_ok-checked.checked (program_text_in c.in-Ok.job) c.in_ok-checked.ensures.ok c.in-Ok.ensures.text
 
-pub returns-clause-fault : goal.returns-clause-fault
-returns-clause-fault c =
-    IfErr-weaker c.bind.result _ _
-    (λ f late. late_fault c.args.given.now c.args.sides c.args.tree c.args.picture c.in_ok-checked.checked c.in_ok-params.params f
-    c.in_ok-checked.ensures.ok c.in_ok-params.ensures.ok late)
-    c.bind.ensures.fault
+pub returns-in-Err-clause-fault : goal.returns-in-Err-clause-fault
+returns-in-Err-clause-fault c =
+    late_fault c.args.given.now c.args.sides c.args.tree c.args.picture c.in_ok-checked.checked c.in_ok-params.params c.told.result
+    c.in_ok-checked.ensures.ok c.in_ok-params.ensures.ok (
+      c.in-Err.fault,
+      c.in-Err.ensures.fault,
+      subst (λ (p : CheckedProgram). TellsBind (params_in p) (stages_in p) c.in-Err.fault c.told.result) c.in-Err.ensures.back.0
+          c.told.ensures,
+    )

@@ -1,19 +1,22 @@
-use Rattle.std.proofs.Common.{◌≡◌, ◌∙◌, List, [], ◌∷◌, ap, subst}
+use Rattle.std.proofs.Common.{◌≡◌, ◌∙◌, ℕ, List, [], ◌∷◌, ap, subst}
 use Rattle.std.proofs.lemmas.Result.{err_from_is_err_and}
 use Rattle.catalog.specs.Entries.{Entry}
 use Rattle.gossip_events.specs.ScriptFaults.{IsScriptFault}
+use Rattle.inputs.specs.Input.{IsReadAround}
 use Rattle.job.specs.Kept.{pipeline_in}
 use Rattle.one_job.specs.Alone.{catalog_of}
 use Rattle.world_commands.proofs.Faults.{script_fault}
-use Rattle.world_commands.proofs.world_input.world_in.Goals as goal
+use Rattle.world_commands.proofs.world_input.world_of.Goals as goal
 
 pub returns-in_err-events-clause-fault : goal.returns-in_err-events-clause-fault
 returns-in_err-events-clause-fault c =
     let p = err_from_is_err_and c.from_residual-in_err-events.result c.from_residual-in_err-events.ensures.1 in
-    let read = c.in_ok-job.ensures.of_input in
+    let read =
+    subst (λ (input : List ℕ). IsReadAround input c.args.given.now c.args.options.now.sides c.in_ok-job.job c.in_ok-job.script.now)
+    c.as_slice.ensures.value c.in_ok-job.ensures.of_input in
     let job = pipeline_in c.in_ok-job.job in
     let one : c.in_ok-catalog.catalog ≡ catalog_of read.tree job =
     c.in_ok-catalog.ensures ∙ ap (λ t. record { text = t; pipeline = job } ∷ []) read.text in
-    rw (p.1, p.2) (script_fault c.args.input.now c.in_ok-job.script.now c.args.given.now c.args.sides read.tree job
+    rw (p.1, p.2) (script_fault c.args.input.items c.in_ok-job.script.now c.args.given.now c.args.options.now.sides read.tree job
     c.in_err-events.field-0.0 read.of_input
     (subst (λ (jobs : List Entry). IsScriptFault jobs c.in_ok-job.script.now c.in_err-events.field-0.0) one c.in_err-events.ensures.fault))
