@@ -6,13 +6,13 @@ ghost use Rattle.inputs.specs.Outcomes.{CountsRead, CountsWritten, Writes, statu
 ghost use Rattle.inputs.specs.Taking.{Puts};
 ghost use Rattle.streams.specs.Streams.{one_more};
 ghost use Rattle.commands.specs.Endings.{AskFor, AskForNothing, HasSaid, HasSaidPart, HasTold, NamesCommand, usage_line};
-ghost use Rattle.commands.specs.Sayings.{refusing_by, refusing_of_task, saying_by, saying_of_task};
+ghost use Rattle.commands.specs.Sayings.{refusing_by, saying_by};
 ghost use Rattle.fact_commands.specs.declared.found.Found.TheVariants.{AFalse, NoFalse};
 ghost use Rattle.inputs.specs.declared.faults.StreamFault.TheVariants.{Memory, Read};
 
 use crate::found::none_false;
 use crate::task_stream::{check_stream, eval_stream, plan_stream};
-use command_line::{JobRequest, Refusal, Request, Task, request_of};
+use command_line::{Refusal, Request, Task, request_of};
 use fact_commands::{Found, audit_stream, merge_stream};
 use inputs::{StreamFault, write_line};
 use std::thread::Threads;
@@ -142,33 +142,18 @@ fn perform<H: AllocGlobal + Threads + Sync, R: Source, W: Sink>(
 {
     match request {
         Request::Merge => none_false(merge_stream(rt, reader, writer)),
-        Request::Job(request) => perform_task(rt, request, reader, writer),
-    }
-}
-
-/// Does the task that is asked for.
-fn perform_task<H: AllocGlobal + Threads + Sync, R: Source, W: Sink>(
-    rt: &H,
-    request: &JobRequest,
-    reader: &mut R,
-    writer: &mut W,
-) -> Result<Found, StreamFault>
-    ensures written { let asked = request.now in
-        Writes (saying_of_task asked.task asked.options asked.parameters.items)
-        (refusing_of_task asked.task asked.options asked.parameters.items)
-        (R.remaining reader.old) result (W.contents writer.old) (W.contents writer.new) }
-    ensures read { CountsRead result (R.failures reader.old) (R.failures reader.new) }
-    ensures write { CountsWritten result (W.failures writer.old) (W.failures writer.new) }
-{
-    let options = &request.options;
-    let parameters = request.parameters.as_slice();
-    match request.task {
-        Task::Eval => none_false(eval_stream(rt, options, parameters, reader, writer)),
-        Task::Check => none_false(check_stream(rt, options, parameters, reader, writer)),
-        Task::Plan => none_false(plan_stream(rt, options, parameters, reader, writer)),
-        Task::Audit => audit_stream(rt, options, parameters, reader, writer),
-        Task::World(nodes) => {
-            none_false(world_stream(rt, nodes, options, parameters, reader, writer))
+        Request::Job(request) => {
+            let options = &request.options;
+            let parameters = request.parameters.as_slice();
+            match request.task {
+                Task::Eval => none_false(eval_stream(rt, options, parameters, reader, writer)),
+                Task::Check => none_false(check_stream(rt, options, parameters, reader, writer)),
+                Task::Plan => none_false(plan_stream(rt, options, parameters, reader, writer)),
+                Task::Audit => audit_stream(rt, options, parameters, reader, writer),
+                Task::World(nodes) => {
+                    none_false(world_stream(rt, nodes, options, parameters, reader, writer))
+                }
+            }
         }
     }
 }

@@ -14,7 +14,6 @@ use crate::reply::{Reply, write_reply};
 use crate::task_reply::task_reply;
 use command_line::Options;
 use inputs::{StreamFault, job_of, read_input};
-use std::alloc::Global;
 use std::thread::Threads;
 use streams::{Sink, Source};
 
@@ -103,14 +102,13 @@ fn task_stream<H: AllocGlobal + Threads + Sync, R: Source, W: Sink>(
     ensures write { CountsWritten result (W.failures writer.old) (W.failures writer.new) }
 {
     let input = read_input(rt.alloc(), reader)?;
-    let reply = input_reply(rt, rt.alloc(), question, options, parameters, input)?;
+    let reply = input_reply(rt, question, options, parameters, input)?;
     write_reply(&reply, writer)
 }
 
 /// What is said of the job of the input where this is asked.
-fn input_reply(
-    rt: &(impl Threads + Sync),
-    alloc: Global,
+fn input_reply<H: AllocGlobal + Threads + Sync>(
+    rt: &H,
     question: Question,
     options: &Options,
     given: &[(String, i32)],
@@ -121,6 +119,6 @@ fn input_reply(
         input.items (reply_bytes reply)) }
     ensures fault { IfErr result (IsFaultOf input.items given.now options.now.sides) }
 {
-    let job = job_of(alloc, options.sides, given, input)?;
-    Ok(task_reply(rt, alloc, question, options, &job)?)
+    let job = job_of(rt.alloc(), options.sides, given, input)?;
+    Ok(task_reply(rt, rt.alloc(), question, options, &job)?)
 }
