@@ -20,7 +20,7 @@ use Rattle.std.proofs.lemmas.Bool.Decides.{Decides-eqb}
 use Rattle.pipe_checks.specs.declared.uses.Locals.{Locals}
 use Rattle.pipe_checks.specs.Twice.{are_same, is_declared, varies_again}
 use Rattle.pipe_checks.specs.declared.symbol.Symbol.{Symbol}
-use Rattle.pipe_checks.specs.declared.table.Declared.{Declared}
+use Rattle.pipe_checks.specs.declared.table.DeclaredNames.{DeclaredNames}
 use Rattle.pipe_checks.specs.Names.{number_of, names_of, item_names, names_from, declared_names}
 use Rattle.pipe_checks.specs.Checking.{DeclaresAgain}
 use Rattle.pipe_checks.specs.inside.Tables.{put, earlier, is_number, IsFirstAgain, IsTableOf}
@@ -160,7 +160,7 @@ module _ (names : List Symbol) (s : Symbol) where
 
 -- ---- one more
 
-module _ (names : List Symbol) (d : Declared) (s : Symbol) (h : IsTableOf names d) (known : Bool)
+module _ (names : List Symbol) (d : DeclaredNames) (s : Symbol) (h : IsTableOf names d) (known : Bool)
     (is : known ≡ is_some (number_of d.table s.name)) where
   known_more : (x : List ℕ) → is_some (number_of (put d.table s) x) ≡ is_some (number_of (names ++ s ∷ []) x)
   known_more x = known_put d.table s x ∙ known_append d.table names s x (h.known x)
@@ -186,7 +186,7 @@ module _ (names : List Symbol) (d : Declared) (s : Symbol) (h : IsTableOf names 
 pub table_none : IsTableOf [] (record { table = []; again = None })
 table_none = record { known = λ x. refl; whole = λ e. refl; first = λ n again. none-some again.again again.there }
 
-pub table_turn : (names : List Symbol) (i : ℕ) (s : Symbol) → i < length names → s ≡ get_or names i s → (d next : Declared)
+pub table_turn : (names : List Symbol) (i : ℕ) (s : Symbol) → i < length names → s ≡ get_or names i s → (d next : DeclaredNames)
     → IsTableOf (take i names) d → (known : Bool) → known ≡ is_some (number_of d.table s.name)
     → next.table ≡ put d.table s → next.again ≡ (if known then Some (earlier d.again s.item) else d.again)
     → IsTableOf (take (i + 1) names) next

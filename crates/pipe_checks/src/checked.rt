@@ -19,7 +19,7 @@ use crate::fault::{CheckFault, Cycle, Violation};
 use crate::graph::{Links, graph};
 use crate::ranks::ranks;
 use crate::symbol::{Symbol, params_of, stages_of};
-use crate::table::{Declared, NameTable, declare_all};
+use crate::table::{DeclaredNames, NameTable, declare_all};
 use crate::twice::{first_twice, locals_of};
 use crate::uses::judge_item;
 use pipe_tree::{Item, Tree};
@@ -146,7 +146,7 @@ fn judge_all(declared: &NameTable, items: &[Item]) -> Result<(), CheckFault>
 
 // Whether each name stands for one thing, and then whether each place gets what it wants.
 #[tactic(auto, using(crate::proofs::Faulting::judged_named, crate::proofs::Faulting::judged_fault))]
-fn judge_names(declared: &Declared, items: &[Item]) -> Result<(), CheckFault>
+fn judge_names(declared: &DeclaredNames, items: &[Item]) -> Result<(), CheckFault>
     requires { IsTableOf (declared_names (declarations items.now)) declared.now }
     ensures ok { OnOk result (IsNamed (declarations items.now)) }
     ensures same { OnOk result (declared.now.table ≡ declared_names (declarations items.now)) }

@@ -78,7 +78,7 @@ impl NameTable {
 
 /// The names of a program in a table, and the first item that declares a name again.
 #[derive(Drop)]
-pub(crate) struct Declared {
+pub(crate) struct DeclaredNames {
     pub table: NameTable,
     pub again: Option<usize>,
 }
@@ -92,7 +92,7 @@ fn earlier(again: Option<usize>, item: usize) -> usize
     }
 }
 
-fn table_of(alloc: Global, names: &[Symbol]) -> Result<Declared, AllocError>
+fn table_of(alloc: Global, names: &[Symbol]) -> Result<DeclaredNames, AllocError>
     ensures { IfOk result (IsTableOf names.now) }
 {
     let mut table = NameTable::new(alloc);
@@ -102,11 +102,11 @@ fn table_of(alloc: Global, names: &[Symbol]) -> Result<Declared, AllocError>
             again = Some(earlier(again, symbol.item));
         }
     }
-    Ok(Declared { table, again })
+    Ok(DeclaredNames { table, again })
 }
 
 /// The names that the items declare, each found in the table or put at its end.
-pub(crate) fn declare_all(alloc: Global, items: &[Item]) -> Result<Declared, AllocError>
+pub(crate) fn declare_all(alloc: Global, items: &[Item]) -> Result<DeclaredNames, AllocError>
     ensures { IfOk result (IsTableOf (declared_names (declarations items.now))) }
 {
     let names = declared_names(alloc, items)?;

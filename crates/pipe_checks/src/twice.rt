@@ -9,7 +9,7 @@ ghost use Rattle.pipe_checks.specs.inside.Tables.{is_number, IsTableOf};
 ghost use Rattle.pipe_checks.specs.Twice.{locals_of, is_declared, are_same, varies_again};
 
 use crate::symbol::is_same;
-use crate::table::{Declared, NameTable};
+use crate::table::{DeclaredNames, NameTable};
 use crate::uses::Locals;
 use pipe_tokens::Name;
 use pipe_tree::Item;
@@ -72,7 +72,7 @@ fn varies_again(names: &NameTable, locals: &Locals) -> bool
 }
 
 /// The first item with a name that stands for two things.
-pub(crate) fn first_twice(declared: &Declared, items: &[Item]) -> Option<usize>
+pub(crate) fn first_twice(declared: &DeclaredNames, items: &[Item]) -> Option<usize>
     requires { IsTableOf (declared_names (declarations items.now)) declared.now }
     ensures first { IfSome result
         (IsFirstTwice (declared_names (declarations items.now)) (declarations items.now)) }

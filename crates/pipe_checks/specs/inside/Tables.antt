@@ -2,7 +2,7 @@
 use Rattle.std.specs.Prelude.{ℕ, ◌<◌, ◌≡◌, ◌==◌, min, Bool, false, Option, Some, None, is_some, List, [], ◌∷◌, if◌then◌else◌}
 use Rattle.std.specs.Str.{bytes_eq}
 use Rattle.pipe_checks.specs.declared.symbol.Symbol.{Symbol}
-use Rattle.pipe_checks.specs.declared.table.Declared.{Declared}
+use Rattle.pipe_checks.specs.declared.table.DeclaredNames.{DeclaredNames}
 use Rattle.pipe_checks.specs.Names.{number_of}
 use Rattle.pipe_checks.specs.Checking.{DeclaresAgain}
 
@@ -25,7 +25,7 @@ IsFirstAgain names None = (n : ℕ) → ¬ (DeclaresAgain names n)
 IsFirstAgain names (Some n) = DeclaresAgain names n × ((k : ℕ) → k < n → ¬ (DeclaresAgain names k))
 
 -- the table has the declared names; where none is declared again, it is their list
-pub record IsTableOf (names : List Symbol) (d : Declared) : Type 0 where
+pub record IsTableOf (names : List Symbol) (d : DeclaredNames) : Type 0 where
   pub known : (x : List ℕ) → is_some (number_of d.table x) ≡ is_some (number_of names x)
   pub whole : d.again ≡ None → d.table ≡ names
   pub first : IsFirstAgain names d.again
