@@ -24,7 +24,7 @@ use tile_run::{Known, read_given_row};
 
 // A job with whatever lends the tiles of its functions.
 #[derive(Drop)]
-struct Lent<'a, K: Known> {
+struct KnownTiles<'a, K: Known> {
     job: &'a Job,
     known: &'a K,
 }
@@ -45,10 +45,10 @@ pub fn image_of<K: Known>(
         (λ picture. picture ≡ given_image (pipeline_in job.now) (K.given known.now)) }
     ensures image { IfOk result (λ picture. ForSome picture IsImage) }
 {
-    Lent { job, known }.image(alloc)
+    KnownTiles { job, known }.image(alloc)
 }
 
-impl<K: Known> Lent<'_, K> {
+impl<K: Known> KnownTiles<'_, K> {
     // The picture of a job that has an output.
     fn image(&self, alloc: Global) -> Result<Option<Picture>, AllocError>
         requires { GivesOutputs (pipeline_in self.now.job.now) (K.given self.now.known.now) }

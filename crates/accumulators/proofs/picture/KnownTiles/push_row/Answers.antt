@@ -8,7 +8,7 @@ use Rattle.job.specs.Kept.{pipeline_in}
 use Rattle.tile_run.specs.KnownTiles.{given_at}
 use Rattle.tile_eval.specs.Rows.{EachPlace, at}
 use Rattle.tile_eval.proofs.RowByRow.{line_is}
-use Rattle.accumulators.proofs.picture.Lent.push_row.Goals as goal
+use Rattle.accumulators.proofs.picture.KnownTiles.push_row.Goals as goal
 
 pub returns : goal.returns
 returns g c =

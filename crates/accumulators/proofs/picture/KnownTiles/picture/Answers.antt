@@ -9,7 +9,7 @@ use Rattle.job.specs.Views.{output_view}
 use Rattle.tile_run.specs.KnownTiles.{given_at}
 use Rattle.accumulators.specs.Pictures.{samples_from}
 use Rattle.accumulators.proofs.PictureOfAnswer.{is_picture, same_picture}
-use Rattle.accumulators.proofs.picture.Lent.picture.Goals as goal
+use Rattle.accumulators.proofs.picture.KnownTiles.picture.Goals as goal
 
 pub unreachable-requires : goal.unreachable-requires
 unreachable-requires g c =

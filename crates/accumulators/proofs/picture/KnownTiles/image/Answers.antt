@@ -1,7 +1,7 @@
 use Rattle.std.proofs.Common.{sym, ap, ◌∙◌}
 use Rattle.std.specs.Option.{option_map}
 use Rattle.job.specs.Views.{output_view}
-use Rattle.accumulators.proofs.picture.Lent.image.Goals as goal
+use Rattle.accumulators.proofs.picture.KnownTiles.image.Goals as goal
 
 pub picture-requires-clause-output : goal.picture-requires-clause-output
 picture-requires-clause-output g c =

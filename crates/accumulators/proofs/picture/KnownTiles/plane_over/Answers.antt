@@ -7,7 +7,7 @@ use Rattle.tile_run.specs.KnownTiles.{given_at}
 use Rattle.accumulators.proofs.PictureOfAnswer.{sample_at}
 use Rattle.tile_eval.proofs.RowByRow.{rest_of, none_made, row_made, all_made}
 use Rattle.accumulators.proofs.PlanesRowByRow.{row_lent}
-use Rattle.accumulators.proofs.picture.Lent.plane_over.Goals as goal
+use Rattle.accumulators.proofs.picture.KnownTiles.plane_over.Goals as goal
 
 pub loop-place-init : goal.loop-place-init
 loop-place-init g c =

@@ -4,7 +4,7 @@ use Rattle.std.specs.Global.{Vec}
 use Rattle.job.specs.Kept.{pipeline_in}
 use Rattle.tile_run.specs.KnownTiles.{given_at}
 use Rattle.accumulators.proofs.PlanesRowByRow.{no_plane, plane_is}
-use Rattle.accumulators.proofs.picture.Lent.plane.Goals as goal
+use Rattle.accumulators.proofs.picture.KnownTiles.plane.Goals as goal
 
 pub returns-in-None : goal.returns-in-None
 returns-in-None g c =

@@ -5,7 +5,7 @@ use Rattle.job.specs.Kept.{pipeline_in}
 use Rattle.tile_run.specs.KnownTiles.{given_at}
 use Rattle.accumulators.proofs.PictureOfAnswer.{sample_at}
 use Rattle.tile_eval.proofs.RowByRow.{rest_of}
-use Rattle.accumulators.proofs.picture.Lent.plane_over.Given as goal
+use Rattle.accumulators.proofs.picture.KnownTiles.plane_over.Given as goal
 
 abbrev pub invariant-loop-place : goal.invariant-loop-place
 invariant-loop-place g l =

@@ -3,7 +3,7 @@ use Rattle.netpbm.specs.Planes.{samples_of}
 use Rattle.job.specs.Kept.{pipeline_in}
 use Rattle.tile_run.specs.KnownTiles.{given_at}
 use Rattle.accumulators.specs.Pictures.{samples_from}
-use Rattle.accumulators.proofs.picture.Lent.planes.Given as goal
+use Rattle.accumulators.proofs.picture.KnownTiles.planes.Given as goal
 
 abbrev pub invariant-loop-stage : goal.invariant-loop-stage
 invariant-loop-stage g l =
