@@ -1,6 +1,5 @@
-use Rattle.std.proofs.Common.{List, ℕ, map, subst, sym}
+use Rattle.std.proofs.Common.{map, subst}
 use Rattle.gossip_events.specs.Scripts.{FollowPlain}
-use Rattle.gossip_events.specs.declared.event.Event.{Event}
 use Rattle.gossip_events.specs.declared.verb.Verb.{Verb}
 use Rattle.gossip_events.proofs.OrderLaws.{no_merge}
 use Rattle.gossip_events.proofs.order_words.plain.Goals as goal
