@@ -79,7 +79,8 @@ fn add_kernel_row<S: RowSource>(
         +ℤ row_sum kernel.now (S.samples source.now stage) points.now.row
         (points.now.col +ℤ pos k) a)) }
 {
-    let factors = kernel.as_slice()[a].as_slice();
+    let rows = kernel.as_slice();
+    let factors = rows[a].as_slice();
     let count = out.len() + factors.len() - 1;
     match borrowed_line(source, stage, kernel, a, points, count) {
         Some(line) => add_taps(out, line, factors),
