@@ -15,8 +15,8 @@ pub returns-in-Ok-clause-text : goal.returns-in-Ok-clause-text
 returns-in-Ok-clause-text c =
     job_text c.args.tree c.in_ok-checked.checked (program_text_in c.in-Ok.job) c.in_ok-checked.ensures.ok c.in-Ok.ensures.text
 
-pub returns-in-Err-clause-fault : goal.returns-in-Err-clause-fault
-returns-in-Err-clause-fault c =
+pub returns-clause-fault : goal.returns-clause-fault
+returns-clause-fault c =
     late_fault c.args.given.now c.args.sides c.args.tree c.args.picture c.in_ok-checked.checked c.in_ok-params.params c.told.result
     c.in_ok-checked.ensures.ok c.in_ok-params.ensures.ok (
       c.in-Err.fault,
