@@ -21,7 +21,7 @@ loop-need-preserved g c =
     let keys = c.args.needs.now in
     let i = c.loop-need.need-index in
     let need = c.need-item.result in
-    let fact = c.in_ok-fact.field-0 in
+    let fact = c.in_ok-fact.fact in
     let here = slice_get_read keys (length keys) i need refl c.loop-need-test.true c.need-item.is in
     let grown : c.push.new.self.items ≡ c.loop-need.facts.items ++ fact ∷ [] = search rules in
     record {
