@@ -1,10 +1,11 @@
 -- The end of a node: its seats, each with the receipts of its caller.
 use Rattle.std.specs.Global.{Vec}
+use Rattle.std.specs.List.{Contains}
 use Rattle.std.specs.Prelude.{◌≡◌, ℕ, List, All, length, map, sum_by}
-use Rattle.node_state.specs.Answers.{IsLendFault}
 use Rattle.node_state.specs.declared.answers.LendFault.{LendFault}
+use Rattle.node_state.specs.declared.answers.LendFault.TheVariants.{NotHeld, Memory}
 use Rattle.identity.specs.declared.key.Key.{Key}
-use Rattle.books.specs.Histories.{IsLegal, replay}
+use Rattle.books.specs.Histories.{IsLegal}
 use Rattle.books.specs.declared.event.Event.{Event}
 use Rattle.books.specs.declared.receipt.Receipt.{Receipt}
 use Rattle.receipts.specs.Accounts.{IsCloseFault}
@@ -27,9 +28,11 @@ calls_of ends = sum_by (λ end. end.0) ends
 
 -- ---- what is said where a lock hides the history
 
--- by some legal history
-abbrev pub IsSomeLendFault : List Key → LendFault → Type 0
-IsSomeLendFault keys fault = (history : List Event) × IsLegal history × IsLendFault (replay history).held keys fault
+-- a key of which nothing is held is one that was asked for
+abbrev pub IsAsked : List Key → LendFault → Type 0
+IsAsked keys (NotHeld key) = Contains keys key
+IsAsked keys Memory = Unit {0}
 
+-- by some legal history
 abbrev pub IsSomeCloseFault : List End → CloseFault → Type 0
 IsSomeCloseFault ends fault = (history : List Event) × IsLegal history × IsCloseFault history (receipts_of ends) fault

@@ -3,12 +3,11 @@
 ghost use Rattle.books.specs.Histories.{IsLegal, replay};
 ghost use Rattle.books.specs.Loans.{AreTrueFactsOf};
 ghost use Rattle.books.specs.Updates.{AreTrue};
-ghost use Rattle.books.specs.declared.event.Event.{Event};
 ghost use Rattle.books.specs.declared.event.Event.TheVariants.{Kept, Lent, Restarted, Took};
-ghost use Rattle.live_nodes.specs.Ends.{HaveAllReceipts, IsSomeCloseFault, IsSomeLendFault, calls_of, receipts_of};
+ghost use Rattle.live_nodes.specs.Ends.{HaveAllReceipts, IsAsked, IsSomeCloseFault, calls_of, receipts_of};
 ghost use Rattle.node_state.specs.HeldFacts.{HoldsTrueFacts};
 ghost use Rattle.receipts.specs.Accounts.{AccountFor};
-ghost use Rattle.std.specs.Prelude.{◌≡◌, ◌+◌, All, IfErr, IfOk, OnErr, OnOk, length, map, sum_by};
+ghost use Rattle.std.specs.Prelude.{◌≡◌, ◌+◌, All, IfErr, IfOk, OnErr, OnOk, length};
 
 use crate::closed::{Closed, close_book};
 use crate::seat::Seat;
@@ -66,7 +65,7 @@ impl<C: NamedCatalog> LiveNode<C> {
             (λ loan. AreTrueFactsOf C.catalog keys.now loan.facts.items) }
         ensures told { IfOk result (λ loan. loan.receipt.event ≡ Lent keys.now) }
         ensures counted { OnOk result (seat.new ≡ seat.old + 1) }
-        ensures fault { IfErr result (IsSomeLendFault keys.now) }
+        ensures fault { IfErr result (IsAsked keys.now) }
         ensures unchanged { OnErr result (seat.new ≡ seat.old) }
     {
         seat.calls.reserve(1)?;

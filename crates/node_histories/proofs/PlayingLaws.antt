@@ -1,5 +1,6 @@
 -- A history played in a world.
-use Rattle.std.proofs.Common.{ap, sym, ◌∙◌, subst, arith, refl, append_assoc, length-replicate}
+use Rattle.std.proofs.Common.{ap, sym, ◌∙◌, subst, arith, refl, append_assoc}
+use Rattle.std.proofs.lemmas.List.{length-replicate}
 use Rattle.std.proofs.lemmas.List.Elements.{All-cons, All-nil}
 use Rattle.std.specs.List.{All}
 use Rattle.std.specs.Prelude.{◌≡◌, ℕ, zero, suc, ◌+◌, ◌<◌, List, [], ◌∷◌, ◌++◌, Some, length, replicate, slice_get, slice_set, true}

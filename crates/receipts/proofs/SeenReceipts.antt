@@ -1,5 +1,5 @@
 -- One receipt more.
-use Rattle.std.proofs.Common.{◌≡◌, ℕ, zero, suc, ◌+◌, ◌<◌, ◌≤◌, ◌==◌, Bool, true, false, List, [], ◌∷◌, ◌++◌, Some, length, set, replicate, slice_get, slice_index_or, sym, refl, ap, ◌∙◌, arith, length-set, All, sum_by, if◌then◌else◌, take, drop}
+use Rattle.std.proofs.Common.{◌≡◌, ℕ, zero, suc, ◌+◌, ◌<◌, ◌≤◌, ◌==◌, Bool, true, false, List, [], ◌∷◌, ◌++◌, Some, length, set, replicate, slice_get, slice_index_or, sym, refl, ap, subst, ◌∙◌, arith, length-set, All, sum_by, if◌then◌else◌, take, drop, get_or, take-append-drop, drop-cons}
 use Rattle.std.specs.List.{AllPairs}
 use Rattle.std.proofs.lemmas.Bool.Decides.{nat_tests}
 use Rattle.std.proofs.lemmas.Grind.{common_steps}
@@ -37,8 +37,16 @@ longer (y ∷ xs) x = ap suc (longer xs x)
 
 all_below_last : (rs : List Receipt) (r : Receipt) → AllPairs IsBefore (rs ++ r ∷ []) → All (λ x. x.number < r.number) rs
 all_below_last rs r pairs =
-    λ k d low. let before = pairs k (length rs) d low (let more = longer rs r in omega (arith, more)) in
-    rw (sym (before_last rs r k d low), sym (at_last rs r d)) before
+    λ k d low.
+    let last : IsBefore (slice_index_or (rs ++ r ∷ []) k d) (slice_index_or (rs ++ r ∷ []) (length rs) d) =
+    pairs k (length rs) d low (let more = longer rs r in omega (arith, more)) in
+    subst (λ (x : Receipt). IsBefore x r) (before_last rs r k d low)
+    (subst (λ (y : Receipt). IsBefore (slice_index_or (rs ++ r ∷ []) k d) y) (at_last rs r d) last)
+
+-- a list, cut at one of its receipts
+pub cut : (rs : List Receipt) (i : ℕ) (r : Receipt) → i < length rs → r ≡ get_or rs i r → rs ≡ take i rs ++ r ∷ drop (suc i) rs
+cut rs i r low is =
+    sym (take-append-drop i rs) ∙ ap (λ (ys : List Receipt). take i rs ++ ys) (drop-cons rs i r low ∙ ap (λ (y : Receipt). y ∷ drop (suc i) rs) (sym is))
 
 -- ---- marks
 
@@ -60,7 +68,7 @@ unmarked zero k = refl
 unmarked (suc n) zero = refl
 unmarked (suc n) (suc k) = unmarked n k
 
-same_number : (n : ℕ) → (if n == n then 1 else 0) ≡ 1
+same_number : (n : ℕ) → ◌≡◌ {A = ℕ} (if n == n then 1 else 0) 1
 same_number n = grind (arith, nat_tests)
 
 -- ---- one receipt more, and one list more
@@ -153,13 +161,13 @@ module _ (history : List Event) where
     abbrev WithIt : Type 0
     WithIt = AreFit history (earlier ++ (rs ++ r ∷ []) ∷ [])
 
-    unshown : ¬ IsShown history r → WithIt → ⊥
+    pub unshown : ¬ IsShown history r → WithIt → ⊥
     unshown other fit = other (all_last (IsShown history) rs r (all_last IsListShown earlier (rs ++ r ∷ []) fit.shown))
 
-    not_above : (All (λ x. x.number < r.number) rs → ⊥) → WithIt → ⊥
+    pub not_above : (All (λ x. x.number < r.number) rs → ⊥) → WithIt → ⊥
     not_above high fit = high (all_below_last rs r (all_last (AllPairs IsBefore) earlier (rs ++ r ∷ []) fit.rising))
 
-    twice : (seen : List Bool) → AreSeen history (earlier ++ rs ∷ []) seen → slice_index_or seen r.number false ≡ true → WithIt → ⊥
+    pub twice : (seen : List Bool) → AreSeen history (earlier ++ rs ∷ []) seen → slice_index_or seen r.number false ≡ true → WithIt → ⊥
     twice seen is marked fit =
         let once = fit.once r.number in
         let one : mark seen r.number ≡ 1 = ap (λ (b : Bool). if b then 1 else 0) marked in
@@ -169,7 +177,7 @@ module _ (history : List Event) where
         absurd (omega (arith, once, one, m, more, same))
 
   -- the receipt at a place is the first that does not fit
-  pub first_unfit : (earlier later : List (List Receipt)) (all : List Receipt) (i : ℕ) (r : Receipt) → all ≡ take i all ++ r ∷ drop (i + 1) all
+  pub first_unfit : (earlier later : List (List Receipt)) (all : List Receipt) (i : ℕ) (r : Receipt) → all ≡ take i all ++ r ∷ drop (suc i) all
       → AreFit history (earlier ++ take i all ∷ []) → (AreFit history (earlier ++ (take i all ++ r ∷ []) ∷ []) → ⊥)
       → IsFirstUnfit history (earlier ++ all ∷ later) r.number
   first_unfit earlier later all i r parts fit unfit =
@@ -177,10 +185,43 @@ module _ (history : List Event) where
         earlier = earlier;
         before = take i all;
         receipt = r;
-        behind = drop (i + 1) all;
+        behind = drop (suc i) all;
         later = later;
         parts = ap (λ rs. earlier ++ rs ∷ later) parts;
         fit = fit;
         unfit = unfit;
         number = refl;
       }
+
+-- ---- all lists
+
+no_receipt : (b : Bool) (n : ℕ) → b ≡ false → (if b then 1 else 0) ≡ n → n ≡ 0
+no_receipt true n free is = cc
+no_receipt false n free is = sym is
+
+one_receipt : (b : Bool) (n : ℕ) → b ≡ true → (if b then 1 else 0) ≡ n → n ≡ 1
+one_receipt true n marked is = sym is
+one_receipt false n marked is = cc
+
+module _ (history : List Event) (lists : List (List Receipt)) (seen : List Bool) (are : AreSeen history lists seen) where
+  -- all numbers are marked
+  pub accounts : ((k : ℕ) → k < length seen → slice_index_or seen k false ≡ true) → AccountFor history lists
+  accounts all =
+      record {
+        fit = are.fit;
+        each = λ k below. one_receipt (slice_index_or seen k false) _ (all k (let e = are.each in omega (arith, below, e))) (are.marked k);
+      }
+
+  -- the first number that is not marked
+  pub first_missing : (n : ℕ) → n < length seen → slice_index_or seen n false ≡ false
+      → ((k : ℕ) → k < n → slice_index_or seen k false ≡ true) → IsFirstMissing history lists n
+  first_missing n within free first =
+      record {
+        fit = are.fit;
+        event = let e = are.each in omega (arith, within, e);
+        missing = no_receipt (slice_index_or seen n false) _ free (are.marked n);
+        first = λ k below. one_receipt (slice_index_or seen k false) _ (first k below) (are.marked k);
+      }
+
+pub written : (n : ℕ) (new old : List Bool) → length new ≡ n → length old ≡ n → take n (new ++ drop (length new) old) ≡ new
+written n new old e f = grind (arith, common_steps)

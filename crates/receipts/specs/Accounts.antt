@@ -35,7 +35,7 @@ pub record AccountFor (history : List Event) (lists : List (List Receipt)) : Typ
 
 -- list after list, the first receipt with which they do not fit: the history has another event there, or none, an earlier receipt has
 -- its number, or it is not above the one before it in its list
-pub record IsFirstUnfit (history : List Event) (lists : List (List Receipt)) (number : ℕ) : Type 0 where
+pub record IsFirstUnfit (history : List Event) (lists : List (List Receipt)) (n : ℕ) : Type 0 where
   pub earlier : List (List Receipt)
   pub before : List Receipt
   pub receipt : Receipt
@@ -44,7 +44,7 @@ pub record IsFirstUnfit (history : List Event) (lists : List (List Receipt)) (nu
   pub parts : lists ≡ earlier ++ (before ++ receipt ∷ behind) ∷ later
   pub fit : AreFit history (earlier ++ before ∷ [])
   pub unfit : ¬ AreFit history (earlier ++ (before ++ receipt ∷ []) ∷ [])
-  pub number : receipt.number ≡ number
+  pub number : receipt.number ≡ n
 
 -- all fit, and this is the least number of an event without a receipt
 pub record IsFirstMissing (history : List Event) (lists : List (List Receipt)) (number : ℕ) : Type 0 where

@@ -3,6 +3,7 @@
 ghost use Rattle.books.specs.declared.receipt.Receipt.{Receipt as ReceiptType};
 ghost use Rattle.receipts.specs.Accounts.{AccountFor, IsCloseFault, IsFirstUnfit, IsShown};
 ghost use Rattle.receipts.specs.inside.Marks.{AreSeen};
+ghost use Rattle.std.specs.Bool.{OnTrue};
 ghost use Rattle.std.specs.Prelude.{◌≡◌, ◌↔◌, ◌<◌, ◌++◌, ◌∷◌, [], ℕ, List, IfErr, IfNone, IfSome, IsTrue, OnOk, false, length, map, slice_index_or, true};
 
 use crate::fault::CloseFault;
@@ -50,7 +51,13 @@ fn match_list(history: &[Event], receipts: &[Receipt], seen: &mut [bool]) -> Res
     let mut least: u64 = 0;
     for receipt in receipts {
         let number = receipt.number;
-        if number < least || !is_shown(history, receipt) || seen[number as usize] {
+        if number < least {
+            return Err(number);
+        }
+        if !is_shown(history, receipt) {
+            return Err(number);
+        }
+        if seen[number as usize] {
             return Err(number);
         }
         seen[number as usize] = true;
@@ -61,7 +68,8 @@ fn match_list(history: &[Event], receipts: &[Receipt], seen: &mut [bool]) -> Res
 
 // Whether the history has the receipt's event at its number.
 fn is_shown(history: &[Event], receipt: &Receipt) -> bool
-    ensures { IsTrue result ↔ IsShown history.now receipt.now }
+    ensures shown { IsTrue result ↔ IsShown history.now receipt.now }
+    ensures within { OnTrue result (receipt.now.number < length history.now) }
 {
     match history.get(receipt.number as usize) {
         Some(event) => is_same(event, &receipt.event),

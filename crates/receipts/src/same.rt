@@ -4,7 +4,9 @@ ghost use Rattle.std.specs.Prelude.{◌≡◌, ◌↔◌, IsTrue};
 
 use books::Event;
 use identity::Key;
+use identity::laws::order_of_keys;
 use tile_fact::Fact;
+use tile_fact::laws::order_of_facts;
 
 pub(crate) fn is_same(a: &Event, b: &Event) -> bool
     ensures { IsTrue result ↔ (a.now ≡ b.now) }
@@ -25,11 +27,27 @@ pub(crate) fn is_same(a: &Event, b: &Event) -> bool
 fn same_keys(a: &[Key], b: &[Key]) -> bool
     ensures { IsTrue result ↔ (a.now ≡ b.now) }
 {
-    a == b
+    if a.len() != b.len() {
+        return false;
+    }
+    for i in 0..a.len() {
+        if !order_of_keys(&a[i], &b[i]).is_eq() {
+            return false;
+        }
+    }
+    true
 }
 
 fn same_facts(a: &[Fact], b: &[Fact]) -> bool
     ensures { IsTrue result ↔ (a.now ≡ b.now) }
 {
-    a == b
+    if a.len() != b.len() {
+        return false;
+    }
+    for i in 0..a.len() {
+        if !order_of_facts(&a[i], &b[i]).is_eq() {
+            return false;
+        }
+    }
+    true
 }
