@@ -65,7 +65,7 @@ impl<C: NamedCatalog> LiveNode<C> {
             (λ loan. AreTrueFactsOf C.catalog keys.now loan.facts.items) }
         ensures told { IfOk result (λ loan. loan.receipt.event ≡ Lent keys.now) }
         ensures counted { OnOk result (seat.new ≡ seat.old + 1) }
-        ensures fault { IfErr result (IsAsked keys.now) }
+        ensures asked { IfErr result (IsAsked keys.now) }
         ensures unchanged { OnErr result (seat.new ≡ seat.old) }
     {
         seat.calls.reserve(1)?;
