@@ -1,5 +1,5 @@
 -- A history played in a world.
-use Rattle.std.proofs.Common.{ap, sym, ◌∙◌, subst, arith, refl, append_assoc}
+use Rattle.std.proofs.Common.{ap, sym, ◌∙◌, subst, arith, refl, append_assoc, append-nil}
 use Rattle.std.proofs.lemmas.List.{length-replicate}
 use Rattle.std.proofs.lemmas.List.Elements.{All-cons, All-nil}
 use Rattle.std.specs.List.{All}
@@ -11,11 +11,12 @@ use Rattle.books.specs.Updates.{Update, state_of}
 use Rattle.books.specs.declared.event.Event.{Event}
 use Rattle.books.specs.declared.event.Event.TheVariants.{Lent, Took, Kept, Restarted}
 use Rattle.fact_store.proofs.SetLaws.{holds-nothing}
-use Rattle.gossip_core.proofs.Following.{Follows, follows_step, none_kept, none_took, no_clash, within_first}
+use Rattle.gossip_core.proofs.Following.{Follows, follows_start, follows_step}
 use Rattle.gossip_core.proofs.StateLaws.{states_set, states_start}
 use Rattle.gossip_core.specs.Networks.{Network, NodeStates, Sent}
 use Rattle.gossip_core.specs.Steps.{Accepts, HasNodes, Work, held, kept, no_states, states_at, with_held, with_kept}
-use Rattle.gossip_core.specs.Taking.{IsTaken, IsTakenAtKeep}
+use Rattle.gossip_core.proofs.TakingLaws.{kept_ungrown, ungrown}
+use Rattle.gossip_core.specs.Taking.{IsTaken, IsTakenAtKeep, Took as TookFact, TookAtKeep}
 use Rattle.gossip_events.specs.declared.event.Event.{Event as Step}
 use Rattle.gossip_events.specs.declared.event.Event.TheVariants.{Deliver, Keep, Restart}
 use Rattle.node_histories.specs.Playing.{Brings, Plays, Runs, newest_first, node_in, with_node}
@@ -154,16 +155,33 @@ no_work = record { jobs = []; schedules = [] }
 abbrev beside : List Sent → ℕ → Network
 beside ms size = record { nodes = replicate size no_states; messages = ms }
 
+holds_none : (f : Fact) → holds nothing f ≡ true → ⊥
+holds_none f has = let none = holds-nothing f in cc
+
+module _ (f : Fact) (n : ℕ) where
+  -- more messages give nothing where no event was
+  none_took : (ms more : List Sent) → (TookFact ms f [] n → ⊥) → TookFact (ms ++ more) f [] n → ⊥
+  none_took ms [] none took = none (subst (λ (all : List Sent). TookFact all f [] n) (append-nil ms) took)
+  none_took ms (m ∷ more) none took =
+      none_took (ms ++ m ∷ []) more (λ t. none (ungrown ms m f [] n tt t))
+      (subst (λ (all : List Sent). TookFact all f [] n) (sym (append_assoc ms (m ∷ []) more)) took)
+
+  none_kept : (ms more : List Sent) → (TookAtKeep ms f [] n → ⊥) → TookAtKeep (ms ++ more) f [] n → ⊥
+  none_kept ms [] none took = none (subst (λ (all : List Sent). TookAtKeep all f [] n) (append-nil ms) took)
+  none_kept ms (m ∷ more) none took =
+      none_kept (ms ++ m ∷ []) more (λ t. none (kept_ungrown ms m f [] n tt t))
+      (subst (λ (all : List Sent). TookAtKeep all f [] n) (sym (append_assoc ms (m ∷ []) more)) took)
+
 follows_none : (ms : List Sent) (size : ℕ) → Follows [] (beside ms size)
 follows_none ms size =
     record {
       holds = λ n f. (
-        (λ has. no_clash (holds nothing f) (holds-nothing f) (ap (λ (q : NodeStates). holds q.held f) (sym (states_start size n)) ∙ has)),
-        λ took. absurd (none_took ms f [] n refl took),
+        (λ has. absurd (holds_none f (ap (λ (q : NodeStates). holds q.held f) (sym (states_start size n)) ∙ has))),
+        λ took. absurd (none_took f n [] ms (λ t. holds_none f (((follows_start 0).holds n f).1 t)) took),
       );
       keeps = λ n f. (
-        (λ has. no_clash (holds nothing f) (holds-nothing f) (ap (λ (q : NodeStates). holds q.kept f) (sym (states_start size n)) ∙ has)),
-        λ t. absurd (none_kept t.between t.before n t.parts),
+        (λ has. absurd (holds_none f (ap (λ (q : NodeStates). holds q.kept f) (sym (states_start size n)) ∙ has))),
+        λ took. absurd (none_kept f n [] ms (λ t. holds_none f (((follows_start 0).keeps n f).1 t)) took),
       );
       sent = tt;
     }
