@@ -29,8 +29,14 @@ abbrev node : State → State → Node
 node held kept = record { held = held; kept = kept }
 
 module _ (catalog : List Entry) where
-  pub book_new : IsCatalog catalog → IsBook catalog nothing nothing []
-  book_new jobs = record { jobs = jobs; stands = refl; legal = tt; true_held = true_nothing catalog; true_kept = true_nothing catalog }
+  book_start : IsCatalog catalog → IsBook catalog nothing nothing []
+  book_start jobs = record { jobs = jobs; stands = refl; legal = tt; true_held = true_nothing catalog; true_kept = true_nothing catalog }
+
+  pub book_new : (held kept : State) (h : List Event) → IsCatalog catalog → held ≡ nothing → kept ≡ nothing → h ≡ [] → IsBook catalog held kept h
+  book_new held kept h jobs no_held no_kept none =
+      subst (λ (s : State). IsBook catalog s kept h) (sym no_held)
+      (subst (λ (s : State). IsBook catalog nothing s h) (sym no_kept)
+      (subst (λ (es : List Event). IsBook catalog nothing nothing es) (sym none) (book_start jobs)))
 
   -- the book after an event that may follow, and leaves true facts
   book_more : (held kept : State) (h : List Event) (e : Event) → IsBook catalog held kept h → MayFollow (node held kept) e

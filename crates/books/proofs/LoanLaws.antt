@@ -1,5 +1,5 @@
 -- What is lent of a state of true facts.
-use Rattle.std.proofs.Common.{arith, refl, subst, sym}
+use Rattle.std.proofs.Common.{ap, arith, refl, subst, sym, ◌∙◌}
 use Rattle.std.specs.List.{Contains}
 use Rattle.std.specs.Prelude.{◌≡◌, ◌↔◌, true, List, [], ◌∷◌}
 use Rattle.catalog.specs.Entries.{Entry, IsCatalog}
@@ -12,7 +12,9 @@ use Rattle.node_state.specs.Answers.{AreHeld}
 use Rattle.node_state.specs.HeldFacts.{HoldsTrueFacts}
 use Rattle.node_state.specs.States.{State, facts_in, facts_of, holds, lent}
 use Rattle.tile_fact.specs.declared.fact.Fact.{Fact}
+use Rattle.books.specs.Histories.{Node, replay}
 use Rattle.books.specs.Loans.{AreTrueFactsOf}
+use Rattle.books.specs.declared.event.Event.{Event}
 
 first_of : (fs : List Fact) → ¬ (fs ≡ []) → (f : Fact) × Contains fs f
 first_of [] some = absurd (some refl)
@@ -38,3 +40,8 @@ module _ (catalog : List Entry) (s : State) (keys : List Key) where
         one = λ f g f_among g_among same. one_true catalog f g jobs (truth f (in_loan f f_among).0) (truth g (in_loan g g_among).0) same;
         rise = facts_rise (lent s keys);
       }
+
+-- what is lent of what a history leaves
+pub lent_by_history : (held kept : State) (h : List Event) (keys : List Key) (facts : List Fact) → replay h ≡ record { held = held; kept = kept }
+    → facts ≡ facts_in (lent held keys) → facts ≡ facts_in (lent (replay h).held keys)
+lent_by_history held kept h keys facts stands is = is ∙ ap (λ (n : Node). facts_in (lent n.held keys)) (sym stands)

@@ -50,7 +50,8 @@ impl<C: NamedCatalog, S: FactStore> NodeBook<C, S> {
         requires { catalog.now ≡ C.catalog }
         ensures { result ≡ [] }
     {
-        let _ = catalog;
+        // What each catalog is `job` tells, whichever it is asked for.
+        let _ = catalog.job(0);
         NodeBook {
             alloc,
             held: NodeState::new(alloc),

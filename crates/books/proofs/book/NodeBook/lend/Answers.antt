@@ -1,8 +1,7 @@
-use Rattle.std.proofs.Common.{rules, ◌≡◌, ◌++◌, [], ◌∷◌, sym, ap}
+use Rattle.std.proofs.Common.{rules, ◌≡◌, ◌++◌, [], ◌∷◌}
 use Rattle.books.specs.declared.event.Event.TheVariants.{Lent}
-use Rattle.books.specs.Histories.{Node}
 use Rattle.books.proofs.HistoryLaws.{book_lent}
-use Rattle.books.proofs.LoanLaws.{true_loan}
+use Rattle.books.proofs.LoanLaws.{lent_by_history, true_loan}
 use Rattle.books.proofs.book.NodeBook.lend.Goals as goal
 
 pub invariant_of-self-2 : goal.invariant_of-self-2
@@ -17,4 +16,5 @@ returns-clause-truth g c =
     rw c.in_ok-facts.ensures.lent (true_loan g.C.NamedCatalog.catalog _ c.args.keys.now book.jobs book.true_held c.in_ok-facts.ensures.held)
 
 pub returns-clause-lent : goal.returns-clause-lent
-returns-clause-lent g c = rw c.self.invariant.stands c.in_ok-facts.ensures.lent
+returns-clause-lent g c =
+    lent_by_history _ _ c.self.inside.history.items c.args.keys.now _ c.self.invariant.stands c.in_ok-facts.ensures.lent
