@@ -1,5 +1,6 @@
-use Rattle.std.proofs.Common.{rules, ◌≡◌, ◌++◌, [], ◌∷◌}
+use Rattle.std.proofs.Common.{rules, ◌≡◌, ◌++◌, [], ◌∷◌, ap, ◌∙◌}
 use Rattle.books.specs.declared.event.Event.TheVariants.{Lent}
+use Rattle.books.specs.Histories.{replay}
 use Rattle.books.proofs.HistoryLaws.{book_lent}
 use Rattle.books.proofs.LoanLaws.{lent_by_history, true_loan}
 use Rattle.books.proofs.book.NodeBook.lend.Goals as goal
@@ -17,4 +18,5 @@ returns-clause-truth g c =
 
 pub returns-clause-lent : goal.returns-clause-lent
 returns-clause-lent g c =
-    lent_by_history _ _ c.self.inside.history.items c.args.keys.now _ c.self.invariant.stands c.in_ok-facts.ensures.lent
+    let same : c.args.self.now ≡ c.self.inside.history.items = search rules in
+    lent_by_history _ _ c.args.self.now c.args.keys.now _ (ap replay same ∙ c.self.invariant.stands) c.in_ok-facts.ensures.lent
