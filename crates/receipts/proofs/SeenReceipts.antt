@@ -1,8 +1,10 @@
 -- One receipt more.
-use Rattle.std.proofs.Common.{◌≡◌, ℕ, zero, suc, ◌+◌, ◌<◌, ◌≤◌, ◌==◌, Bool, true, false, List, [], ◌∷◌, ◌++◌, Some, length, set, replicate, slice_get, slice_index_or, sym, refl, ap, subst, ◌∙◌, arith, length-set, All, sum_by, if◌then◌else◌, take, drop, get_or, take-append-drop, drop-cons}
+use Rattle.std.proofs.Common.{◌≡◌, ℕ, zero, suc, ◌+◌, ◌<◌, ◌≤◌, ◌==◌, Bool, true, false, List, [], ◌∷◌, ◌++◌, Some, length, set, replicate, slice_get, slice_index_or, sym, refl, ap, subst, ◌∙◌, arith, length-set, All, sum_by, if◌then◌else◌, take, drop, get_or, map, ap₂, take-append-drop, drop-cons}
+use Rattle.std.specs.Global.{Vec}
 use Rattle.std.specs.List.{AllPairs}
 use Rattle.std.proofs.lemmas.Bool.Decides.{nat_tests}
 use Rattle.std.proofs.lemmas.Grind.{common_steps}
+use Rattle.std.proofs.lemmas.List.{map-append, take_more}
 use Rattle.std.proofs.lemmas.List.Elements.{All-cons, All-head, All-nil, All-push, All-tail}
 use Rattle.std.proofs.lemmas.List.Quantifiers.{all_pairs_push}
 use Rattle.std.proofs.lemmas.List.Sums.{sum_by-append}
@@ -43,10 +45,10 @@ all_below_last rs r pairs =
     subst (λ (x : Receipt). IsBefore x r) (before_last rs r k d low)
     (subst (λ (y : Receipt). IsBefore (slice_index_or (rs ++ r ∷ []) k d) y) (at_last rs r d) last)
 
--- a list, cut at one of its receipts
-pub cut : (rs : List Receipt) (i : ℕ) (r : Receipt) → i < length rs → r ≡ get_or rs i r → rs ≡ take i rs ++ r ∷ drop (suc i) rs
-cut rs i r low is =
-    sym (take-append-drop i rs) ∙ ap (λ (ys : List Receipt). take i rs ++ ys) (drop-cons rs i r low ∙ ap (λ (y : Receipt). y ∷ drop (suc i) rs) (sym is))
+-- a list, cut at one of its items
+pub cut : {X : Type 0} (xs : List X) (i : ℕ) (x : X) → i < length xs → x ≡ get_or xs i x → xs ≡ take i xs ++ x ∷ drop (suc i) xs
+cut {X} xs i x low is =
+    sym (take-append-drop i xs) ∙ ap (λ (ys : List X). take i xs ++ ys) (drop-cons xs i x low ∙ ap (λ (y : X). y ∷ drop (suc i) xs) (sym is))
 
 -- ---- marks
 
@@ -225,3 +227,46 @@ module _ (history : List Event) (lists : List (List Receipt)) (seen : List Bool)
 
 pub written : (n : ℕ) (new old : List Bool) → length new ≡ n → length old ≡ n → take n (new ++ drop (length new) old) ≡ new
 written n new old e f = grind (arith, common_steps)
+
+-- ---- lists of receipts, each beside whose it is
+
+module _ (T : Type 0) where
+  abbrev pub Beside : Type 0
+  Beside = T × Vec Receipt
+
+  abbrev pub receipts_in : List Beside → List (List Receipt)
+  receipts_in lists = map (λ list. list.1.items) lists
+
+  pub one_list_more : (lists : List Beside) (i : ℕ) (list : Beside) → i < length lists → list ≡ get_or lists i list
+      → receipts_in (take (i + 1) lists) ≡ receipts_in (take i lists) ++ list.1.items ∷ []
+  one_list_more lists i list low is =
+      ap receipts_in (take_more lists i list low ∙ ap (λ (x : Beside). take i lists ++ x ∷ []) (sym is))
+      ∙ map-append (λ (x : Beside). x.1.items) (take i lists) (list ∷ [])
+
+  pub cut_lists : (lists : List Beside) (i : ℕ) (list : Beside) → i < length lists → list ≡ get_or lists i list
+      → receipts_in lists ≡ receipts_in (take i lists) ++ list.1.items ∷ receipts_in (drop (suc i) lists)
+  cut_lists lists i list low is =
+      ap receipts_in (cut lists i list low is) ∙ map-append (λ (x : Beside). x.1.items) (take i lists) (list ∷ drop (suc i) lists)
+
+module _ (history : List Event) where
+  pub seen_list : (before after : List (List Receipt)) (rs items : List Receipt) (seen now : List Bool) → after ≡ before ++ items ∷ [] → rs ≡ items
+      → now ≡ seen → AreSeen history (before ++ rs ∷ []) seen → AreSeen history after now
+  seen_list before after rs items seen now more same kept are =
+      subst (λ (ls : List (List Receipt)). AreSeen history ls now) (sym more)
+      (subst (λ (xs : List Receipt). AreSeen history (before ++ xs ∷ []) now) same (subst (AreSeen history (before ++ rs ∷ [])) (sym kept) are))
+
+  pub unfit_list : (before later all : List (List Receipt)) (rs items : List Receipt) (n : ℕ) → all ≡ before ++ items ∷ later → rs ≡ items
+      → IsFirstUnfit history (before ++ rs ∷ later) n → IsFirstUnfit history all n
+  unfit_list before later all rs items n parts same unfit =
+      subst (λ (ls : List (List Receipt)). IsFirstUnfit history ls n) (sym parts)
+      (subst (λ (xs : List Receipt). IsFirstUnfit history (before ++ xs ∷ later) n) same unfit)
+
+-- ---- lists that are one
+
+pub same_lists : {X : Type 0} (a b : List X) → length a ≡ length b → ((k : ℕ) (d : X) → k < length a → slice_index_or a k d ≡ slice_index_or b k d)
+    → a ≡ b
+same_lists [] [] len each = refl
+same_lists [] (y ∷ b) len each = absurd (omega (arith, len))
+same_lists (x ∷ a) [] len each = absurd (omega (arith, len))
+same_lists (x ∷ a) (y ∷ b) len each =
+    ap₂ (λ z zs. z ∷ zs) (each 0 x (omega arith)) (same_lists a b (omega (arith, len)) (λ k d low. each (suc k) d (omega (arith, low))))

@@ -5,7 +5,7 @@ use Rattle.receipts.proofs.SeenReceipts.{Goes, cut, first_unfit, goes_more, goes
 use Rattle.receipts.proofs.matching.match_list.Goals as goal
 
 pub loop-receipt-init : goal.loop-receipt-init
-loop-receipt-init c = goes_none c.args.history.now c.args.seen.old c.requires
+loop-receipt-init c = goes_none c.args.history.now c.args.seen.now c.requires
 
 pub loop-receipt-preserved : goal.loop-receipt-preserved
 loop-receipt-preserved c =
