@@ -1,5 +1,5 @@
 -- Seats count as many calls as their receipts tell.
-use Rattle.std.proofs.Common.{arith, sym, ◌∙◌, refl, map}
+use Rattle.std.proofs.Common.{arith, subst, sym, ◌∙◌, refl, map}
 use Rattle.std.proofs.lemmas.List.Elements.{All-head, All-tail}
 use Rattle.std.proofs.lemmas.List.Sums.{sum_by-append}
 use Rattle.std.specs.Prelude.{◌≡◌, List, [], ◌∷◌, All, length, sum_by}
@@ -35,3 +35,10 @@ all_counted history ends have account = as_long history (receipts_of ends) accou
 pub asked_of : (s : State) (keys : List Key) (fault : LendFault) → IsLendFault s keys fault → IsAsked keys fault
 asked_of s keys (NotHeld key) is = is.asked
 asked_of s keys Memory is = tt
+
+-- the same history and ends, under other names
+pub same_account : (h shown : List Event) (ends given : List End) → shown ≡ h → ends ≡ given → AccountFor h (receipts_of ends)
+    → AccountFor shown (receipts_of given)
+same_account h shown ends given same_history same_ends account =
+    subst (λ (es : List Event). AccountFor es (receipts_of given)) (sym same_history)
+    (subst (λ (xs : List End). AccountFor h (receipts_of xs)) same_ends account)

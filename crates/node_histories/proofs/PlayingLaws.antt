@@ -46,7 +46,7 @@ set_length [] n a = refl
 set_length (x ∷ nodes) zero a = refl
 set_length (x ∷ nodes) (suc n) a = ap suc (set_length nodes n a)
 
-with_nodes : Network → List NodeStates → Network
+abbrev with_nodes : Network → List NodeStates → Network
 with_nodes w nodes = record w { nodes = nodes }
 
 -- the world is as it was with its own node in the node's place
