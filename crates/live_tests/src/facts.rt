@@ -14,12 +14,13 @@ use netpbm::read;
 use pipe_bounds::Params;
 use pipe_checks::check;
 use pipe_lang::parse;
-use std::alloc::Global;
+use std::alloc::{AllocError, Global};
 use std::test::Fail;
 use tile_fact::{Body, Fact, Samples};
 
 /// A program that copies a grey picture.
-const COPY: &[u8] = b"image I(2,2); func f(x in [0..1], y in [0..1]) { else : I(x,y); } output f max 255;";
+const COPY: &[u8] =
+    b"image I(2,2); func f(x in [0..1], y in [0..1]) { else : I(x,y); } output f max 255;";
 
 const PICTURE: &[u8] = b"P2\n2 2\n255\n1 2\n3 4\n";
 
@@ -72,11 +73,11 @@ pub fn whole(alloc: Global, catalog: &Catalog) -> Result<Vec<Fact>, Fail>
     ensures { IfOk result (λ facts. AreTrue catalog.now facts.items) }
 {
     let key = key_of(catalog, 0, 0)?;
-    one(alloc, true_fact(alloc, catalog, key, &[1, 2, 3, 4])?)
+    Ok(one(alloc, true_fact(alloc, catalog, key, &[1, 2, 3, 4])?)?)
 }
 
 /// A list of one fact.
-pub fn one(alloc: Global, fact: Fact) -> Result<Vec<Fact>, Fail>
+pub fn one(alloc: Global, fact: Fact) -> Result<Vec<Fact>, AllocError>
     ensures { IfOk result (λ facts. facts.items ≡ fact ∷ []) }
 {
     let mut facts = Vec::with_capacity(alloc, 1)?;

@@ -6,7 +6,7 @@ ghost use Rattle.std.specs.Prelude.{◌≡◌};
 
 use crate::callers::{next_caller, with_end};
 use crate::facts::{catalog_of, key_of, whole};
-use crate::wanted::{Told, has, holds, told};
+use crate::wanted::{Told, has, holds, what_is_told};
 use books::{Loan, NodeBook, Receipt};
 use catalog::Catalog;
 use identity::Key;
@@ -20,10 +20,7 @@ use std::test::Fail;
 use tile_fact::Fact;
 
 // Takes updates, again where memory was refused and they have come back.
-fn take_at_last<C: NamedCatalog>(
-    book: &mut NodeBook<C>,
-    facts: Vec<Fact>,
-) -> Result<Receipt, Fail>
+fn take_at_last<C: NamedCatalog>(book: &mut NodeBook<C>, facts: Vec<Fact>) -> Result<Receipt, Fail>
     requires { AreTrue C.catalog facts.items }
 {
     let before = book.history().len();
@@ -79,10 +76,16 @@ fn book_goes_on<C: NamedCatalog>(alloc: Global, catalog: &Catalog) -> Result<(),
     let loan = lend_at_last(&mut book, &key)?;
     let kept = keep_at_last(&mut book)?;
     let restarted = restart_at_last(&mut book)?;
-    holds(told(&took) == (0, Told::Took(1)), "the take")?;
-    holds(told(&loan.receipt) == (1, Told::Lent(1)), "the lending")?;
-    holds(told(&kept) == (2, Told::Kept), "the keeping")?;
-    holds(told(&restarted) == (3, Told::Restarted), "the restart")?;
+    holds(what_is_told(&took) == (0, Told::Took(1)), "the take")?;
+    holds(
+        what_is_told(&loan.receipt) == (1, Told::Lent(1)),
+        "the lending",
+    )?;
+    holds(what_is_told(&kept) == (2, Told::Kept), "the keeping")?;
+    holds(
+        what_is_told(&restarted) == (3, Told::Restarted),
+        "the restart",
+    )?;
     holds(has(book.held(), &key, 1), "the fact is held")
 }
 

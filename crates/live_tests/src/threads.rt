@@ -52,7 +52,7 @@ impl<C: NamedCatalog> TrueFact<C> {
         }
     }
 
-    fn list(&self, alloc: Global) -> Result<Vec<Fact>, Fail>
+    fn list(&self, alloc: Global) -> Result<Vec<Fact>, AllocError>
         ensures { IfOk result (λ facts. AreTrue C.catalog facts.items) }
     {
         one(alloc, self.fact.clone()?)
@@ -69,12 +69,12 @@ struct Worker<'a, C: NamedCatalog> {
 
 impl<C: NamedCatalog> Worker<'_, C> {
     // Takes its fact, lends it unless another thread restarted the node meanwhile, keeps, and now and then restarts.
-    fn round<R: Wait>(&mut self, rt: &R, alloc: Global, round: u32) -> Result<(), Fail> {
+    fn round<R: Wait>(&mut self, rt: &R, alloc: Global, round: u32) -> Result<(), AllocError> {
+        let key = *self.fact.fact.key();
         let facts = self.fact.list(alloc)?;
-        let key = *facts.first().ok_or("a fact")?.key();
         self.caller.take(rt, self.node, facts)?;
         if let Err(LendFault::Memory) = self.caller.lend(rt, self.node, &[key]) {
-            return Err(Fail::new("memory"));
+            return Err(AllocError);
         }
         self.caller.keep(rt, self.node)?;
         if round % 5 == 0 {

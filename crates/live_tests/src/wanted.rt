@@ -27,7 +27,7 @@ pub enum Told {
 }
 
 /// What the receipt tells, and its number.
-pub fn told(receipt: &Receipt) -> (u64, Told) {
+pub fn what_is_told(receipt: &Receipt) -> (u64, Told) {
     let told = match &receipt.event {
         Event::Lent(keys) => Told::Lent(keys.as_slice().len()),
         Event::Took(updates) => Told::Took(updates.as_slice().len()),
@@ -43,7 +43,7 @@ pub fn tell(receipts: &[Receipt], wanted: &[(u64, Told)]) -> bool {
         return false;
     }
     for i in 0..receipts.len() {
-        if told(&receipts[i]) != wanted[i] {
+        if what_is_told(&receipts[i]) != wanted[i] {
             return false;
         }
     }

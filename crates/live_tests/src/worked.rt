@@ -4,7 +4,7 @@ ghost use Rattle.std.specs.Prelude.{◌≡◌};
 
 use crate::callers::{Caller, next_caller, with_end};
 use crate::facts::{catalog_of, key_of, whole};
-use crate::wanted::{Told, has, holds, is_one, tell, told};
+use crate::wanted::{Told, has, holds, is_one, tell, what_is_told};
 use books::NodeBook;
 use catalog::Catalog;
 use live_nodes::LiveNode;
@@ -39,7 +39,10 @@ fn book_answers<C: NamedCatalog>(alloc: Global, catalog: &Catalog) -> Result<(),
     let kept = book.keep()?;
     let restarted = book.restart()?;
     for (receipt, wanted) in [took, loan.receipt, kept, restarted].iter().zip(WORKED) {
-        holds(told(receipt) == wanted, "each receipt tells its call")?;
+        holds(
+            what_is_told(receipt) == wanted,
+            "each receipt tells its call",
+        )?;
     }
     holds(has(book.held(), &key, 1), "what was kept is held")?;
     holds(book.history().len() == 4, "four events")
@@ -73,12 +76,19 @@ fn calls<C: NamedCatalog, R: Wait>(
     holds(is_one(&lent, &key), "the fact is lent")?;
     caller.keep(rt, node)?;
     caller.restart(rt, node)?;
-    holds(tell(&caller.receipts, &WORKED), "each receipt tells its call")
+    holds(
+        tell(&caller.receipts, &WORKED),
+        "each receipt tells its call",
+    )
 }
 
 // No clause says that a shared node asks its book. A body of `state` that gives nothing, one of `lend` that holds nothing, and one of
 // `take` that lets its book take nothing fail here.
-fn node_closes<C: NamedCatalog, R: Wait>(rt: &R, alloc: Global, catalog: &Catalog) -> Result<(), Fail>
+fn node_closes<C: NamedCatalog, R: Wait>(
+    rt: &R,
+    alloc: Global,
+    catalog: &Catalog,
+) -> Result<(), Fail>
     requires { catalog.now ≡ C.catalog }
 {
     let key = key_of(catalog, 0, 0)?;

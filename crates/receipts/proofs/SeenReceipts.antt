@@ -1,5 +1,5 @@
 -- One receipt more.
-use Rattle.std.proofs.Common.{◌≡◌, ℕ, zero, suc, ◌+◌, ◌<◌, ◌≤◌, ◌==◌, Bool, true, false, List, [], ◌∷◌, ◌++◌, Some, length, set, replicate, slice_get, slice_index_or, sym, refl, ap, subst, ◌∙◌, arith, length-set, All, sum_by, if◌then◌else◌, take, drop, get_or, map, ap₂, take-append-drop, drop-cons}
+use Rattle.std.proofs.Common.{◌≡◌, ℕ, zero, suc, ◌+◌, ◌<◌, ◌≤◌, ◌==◌, Bool, true, false, List, [], ◌∷◌, ◌++◌, length, set, replicate, slice_index_or, sym, refl, ap, subst, ◌∙◌, arith, length-set, All, if◌then◌else◌, take, drop, get_or, map, ap₂, take-append-drop, drop-cons}
 use Rattle.std.specs.Global.{Vec}
 use Rattle.std.specs.List.{AllPairs}
 use Rattle.std.proofs.lemmas.Bool.Decides.{nat_tests}

@@ -1,7 +1,6 @@
-use Rattle.std.proofs.Common.{rules, ◌≡◌, ℕ, suc, List, ◌+◌, ◌<◌, take, drop, length, arith, sym, refl}
+use Rattle.std.proofs.Common.{◌≡◌, take, sym}
 use Rattle.std.proofs.lemmas.List.{take_more, take_all}
-use Rattle.books.specs.declared.receipt.Receipt.{Receipt}
-use Rattle.receipts.proofs.SeenReceipts.{Goes, cut, first_unfit, goes_more, goes_none, not_above, twice, unshown}
+use Rattle.receipts.proofs.SeenReceipts.{cut, first_unfit, goes_more, goes_none, not_above, twice, unshown}
 use Rattle.receipts.proofs.matching.match_list.Goals as goal
 
 pub loop-receipt-init : goal.loop-receipt-init

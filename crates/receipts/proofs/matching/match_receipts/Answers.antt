@@ -1,4 +1,4 @@
-use Rattle.std.proofs.Common.{rules, ◌≡◌, ◌++◌, ◌∷◌, [], ℕ, suc, ◌+◌, length, take, drop, sym, subst, inl, inr, ap, ◌∙◌}
+use Rattle.std.proofs.Common.{rules, ◌≡◌, suc, ◌+◌, length, take, drop, sym, subst, inl, inr}
 use Rattle.std.proofs.lemmas.List.{take_all}
 use Rattle.receipts.specs.inside.Marks.{AreSeen}
 use Rattle.receipts.proofs.SeenReceipts.{cut_lists, first_missing, one_list_more, receipts_in, seen_list, seen_none, unfit_list, written}
