@@ -3,23 +3,23 @@ use Rattle.std.proofs.Common.{ap, sym, ◌∙◌, subst, arith, refl, append_ass
 use Rattle.std.proofs.lemmas.List.{length-replicate}
 use Rattle.std.proofs.lemmas.List.Elements.{All-cons, All-nil}
 use Rattle.std.specs.List.{All}
-use Rattle.std.specs.Prelude.{◌≡◌, ℕ, zero, suc, ◌+◌, ◌<◌, List, [], ◌∷◌, ◌++◌, Some, length, replicate, slice_get, slice_set, true}
+use Rattle.std.specs.Prelude.{◌≡◌, ℕ, zero, suc, ◌<◌, List, [], ◌∷◌, ◌++◌, Some, length, replicate, slice_get, slice_set, true}
 use Rattle.tile_fact.specs.declared.fact.Fact.{Fact}
-use Rattle.node_state.specs.States.{State, holds, join, nothing}
-use Rattle.books.specs.Histories.{Node, after, new_node, replay, replay_from}
-use Rattle.books.specs.Updates.{Update, state_of}
+use Rattle.node_state.specs.States.{holds, join, nothing}
+use Rattle.books.specs.Histories.{Node, after, replay, replay_from}
+use Rattle.books.specs.Updates.{state_of}
 use Rattle.books.specs.declared.event.Event.{Event}
 use Rattle.books.specs.declared.event.Event.TheVariants.{Lent, Took, Kept, Restarted}
 use Rattle.fact_store.proofs.SetLaws.{holds-nothing}
 use Rattle.gossip_core.proofs.Following.{Follows, follows_start, follows_step}
-use Rattle.gossip_core.proofs.StateLaws.{states_set, states_start}
+use Rattle.gossip_core.proofs.StateLaws.{states_start}
 use Rattle.gossip_core.specs.Networks.{Network, NodeStates, Sent}
-use Rattle.gossip_core.specs.Steps.{Accepts, HasNodes, Work, held, kept, no_states, states_at, with_held, with_kept}
+use Rattle.gossip_core.specs.Steps.{Work, held, no_states, states_at, with_held}
 use Rattle.gossip_core.proofs.TakingLaws.{kept_ungrown, ungrown}
 use Rattle.gossip_core.specs.Taking.{IsTaken, IsTakenAtKeep, Took as TookFact, TookAtKeep}
 use Rattle.gossip_events.specs.declared.event.Event.{Event as Step}
 use Rattle.gossip_events.specs.declared.event.Event.TheVariants.{Deliver, Keep, Restart}
-use Rattle.node_histories.specs.Playing.{Brings, Plays, Runs, newest_first, node_in, with_node}
+use Rattle.node_histories.specs.Playing.{Plays, Runs, newest_first, node_in, with_node}
 
 -- ---- nodes in place of nodes
 
