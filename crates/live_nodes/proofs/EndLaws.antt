@@ -1,8 +1,8 @@
 -- Seats count as many calls as their receipts tell.
-use Rattle.std.proofs.Common.{arith, subst, sym, ◌∙◌, refl, map}
+use Rattle.std.proofs.Common.{arith, subst, sym, ◌∙◌, refl}
 use Rattle.std.proofs.lemmas.List.Elements.{All-head, All-tail}
 use Rattle.std.proofs.lemmas.List.Sums.{sum_by-append}
-use Rattle.std.specs.Prelude.{◌≡◌, List, [], ◌∷◌, All, length, sum_by}
+use Rattle.std.specs.Prelude.{◌≡◌, List, [], ◌∷◌, length, sum_by}
 use Rattle.books.specs.declared.event.Event.{Event}
 use Rattle.books.specs.declared.receipt.Receipt.{Receipt}
 use Rattle.receipts.proofs.LongAccounts.{as_long}
