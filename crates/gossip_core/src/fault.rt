@@ -47,6 +47,7 @@ impl Fault for StepFault {
 
 impl StepFault {
     ghost use Rattle.std.specs.Prelude.{◌↔◌, IsTrue};
+    ghost use Rattle.gossip_core.specs.declared.fault.StepFault.TheVariants.{Memory};
 
     /// Whether memory was refused.
     pub fn is_memory(self) -> bool
