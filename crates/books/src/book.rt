@@ -10,7 +10,7 @@ ghost use Rattle.node_state.specs.HeldFacts.{HoldsTrueFacts};
 ghost use Rattle.node_state.specs.States.{facts_in, lent};
 ghost use Rattle.std.specs.Prelude.{◌≡◌, ◌++◌, ◌∷◌, [], IfErr, IfOk, OnErr, OnOk, length};
 
-use crate::event::{Event, Keys, Updates};
+use crate::event::{Event, Updates, keys_of, updates_of};
 use crate::receipt::{Loan, Receipt};
 use catalog::Catalog;
 use fact_store::{FactStore, SortedFacts};
@@ -101,8 +101,8 @@ impl<C: NamedCatalog, S: FactStore> NodeBook<C, S> {
         ensures unchanged { OnErr result (self.new ≡ self.old) }
     {
         let facts = self.held.lend(keys)?;
-        let lent = Keys::copy_of(self.alloc, keys)?;
-        let told = Keys::copy_of(self.alloc, keys)?;
+        let lent = keys_of(self.alloc, keys)?;
+        let told = keys_of(self.alloc, keys)?;
         self.history.reserve(1)?;
         let number = self.history.len() as u64;
         self.history.push_reserved(Event::Lent(lent));
@@ -136,7 +136,7 @@ impl<C: NamedCatalog, S: FactStore> NodeBook<C, S> {
         ensures number { IfOk result (λ number. number ≡ length self.old) }
         ensures unchanged { OnErr result (self.new ≡ self.old) }
     {
-        let taken = Updates::copy_of(self.alloc, updates)?;
+        let taken = updates_of(self.alloc, updates)?;
         let state: NodeState<S> = state_of(self.alloc, updates)?;
         self.history.reserve(1)?;
         self.held.merge(&state)?;
