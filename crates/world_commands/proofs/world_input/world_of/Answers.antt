@@ -2,11 +2,20 @@ use Rattle.std.proofs.Common.{◌≡◌, ◌∙◌, ℕ, List, [], ◌∷◌, ap
 use Rattle.std.proofs.lemmas.Result.{err_from_is_err_and}
 use Rattle.catalog.specs.Entries.{Entry}
 use Rattle.gossip_events.specs.ScriptFaults.{IsScriptFault}
+use Rattle.inputs.specs.Faults.{IsFaultAround}
 use Rattle.inputs.specs.Input.{IsReadAround}
 use Rattle.job.specs.Kept.{pipeline_in}
 use Rattle.one_job.specs.Alone.{catalog_of}
-use Rattle.world_commands.proofs.Faults.{script_fault}
+use Rattle.world_commands.proofs.Faults.{script_fault, world_fault_around}
 use Rattle.world_commands.proofs.world_input.world_of.Goals as goal
+
+pub returns-in_err-job-clause-fault : goal.returns-in_err-job-clause-fault
+returns-in_err-job-clause-fault c =
+    let p = err_from_is_err_and c.from_residual.result c.from_residual.ensures.1 in
+    let fault = c.in_err-job.field-0.0 in
+    rw (p.1, p.2) (world_fault_around c.args.input.items c.args.given.now c.args.options.now.sides fault
+    (subst (λ (input : List ℕ). IsFaultAround input c.args.given.now c.args.options.now.sides fault) c.as_slice.ensures.value
+        c.in_err-job.ensures.fault))
 
 pub returns-in_err-events-clause-fault : goal.returns-in_err-events-clause-fault
 returns-in_err-events-clause-fault c =
