@@ -1,5 +1,6 @@
 -- Words that spell parameters, one after the other.
-use Rattle.std.proofs.Common.{◌≡◌, ◌∙◌, ℕ, ℤ, zero, suc, ◌+◌, ◌<◌, ◌++◌, List, [], ◌∷◌, Bor, length, get_or, map, take, sym, ap, subst, arith, add-one}
+use Rattle.std.proofs.Common.{◌≡◌, ◌∙◌, ℕ, ℤ, zero, suc, ◌+◌, ◌<◌, ◌++◌, List, [], ◌∷◌, Bor, length, get_or, map, take, sym, ap}
+use Rattle.std.proofs.Common.{subst, arith, add-one}
 use Rattle.std.specs.Prelude.{string_bytes}
 use Rattle.std.proofs.Math.Seq.{take-suc}
 use Rattle.std.proofs.lemmas.List.{map-append}

@@ -4,7 +4,8 @@ ghost use Rattle.std.specs.Prelude.{◌≡◌, ◌≢◌, ◌↔◌, IsTrue, IfO
 ghost use Rattle.std.specs.List.{list_any};
 ghost use Rattle.clap.specs.Words.{first_of, found_of, kind_of, rows_of};
 ghost use Rattle.clap.specs.declared.error.kind.ErrorKind.TheVariants.{OutOfMemory};
-ghost use Rattle.command_line.specs.Asking.{AreOptions, AreParameters, AreParametersIn, AskForMerge, Given, HasNodes, IsJobRequestOf, IsRequestOf, NamesTask, is_separator};
+ghost use Rattle.command_line.specs.Asking.{AreOptions, AreParameters, AreParametersIn, AskForMerge, Given, HasNodes};
+ghost use Rattle.command_line.specs.Asking.{IsJobRequestOf, IsRequestOf, NamesTask, is_separator};
 ghost use Rattle.command_line.specs.Tasks.{word_of};
 ghost use Rattle.command_line.specs.Values.{IsChosen, is_true};
 ghost use Rattle.command_line.specs.declared.options.Options.{Options as OptionsType};

@@ -1,12 +1,14 @@
 -- Areas as products of spans.
-use Rattle.std.proofs.Common.{ℕ, ℤ, ◌≡◌, ◌*◌, zero, suc, sym, ◌∙◌, subst, arith, inl, inr, ◌≤ℤ◌, ◌<ℤ◌, ◌+ℤ◌, Bool, true, false, IsTrue, ◌↔◌, [], ◌∷◌, length, pos}
+use Rattle.std.proofs.Common.{ℕ, ℤ, ◌≡◌, ◌*◌, zero, suc, sym, ◌∙◌, subst, arith, inl, inr, ◌≤ℤ◌, ◌<ℤ◌, ◌+ℤ◌, Bool, true, false}
+use Rattle.std.proofs.Common.{IsTrue, ◌↔◌, [], ◌∷◌, length, pos}
 use Rattle.std.proofs.lemmas.Int.{ints, by_lt_z}
 use Rattle.std.proofs.lemmas.List.Elements.{Contains-append_right, All-weaker, All-contains_itself}
 use Rattle.std.proofs.lemmas.List.Kept.{AllPairs-cons}
 use Rattle.std.specs.Prelude.{AllPairs, Contains}
 use Rattle.domains.specs.declared.area.Area.{Area}
 use Rattle.domains.specs.Span.{Ends, Holds, IsSpan, IsSubspan, IsHull, hull_of, len_of, numbers_from, numbers_of}
-use Rattle.domains.specs.Area.{HoldsPoint, IsArea, IsSubarea, IsCommon, IsAreaHull, IsPointBefore, common_of, area_hull, point_count, points_of}
+use Rattle.domains.specs.Area.{HoldsPoint, IsArea, IsSubarea, IsCommon}
+use Rattle.domains.specs.Area.{IsAreaHull, IsPointBefore, common_of, area_hull, point_count, points_of}
 use Rattle.domains.proofs.PairLists.{length-pairs, Contains-here, Contains-cases, Contains-pairs, Contains-from_pairs, AllPairs-pairs}
 use Rattle.domains.proofs.Lengths.{len_is}
 use Rattle.domains.proofs.Spans.{inside_ends, length-numbers_from, meet_is, hull_is, hull_fits}

@@ -12,8 +12,11 @@ use Rattle.domains.specs.Span.{Ends, Holds, IsSpan, len_of}
 use Rattle.domains.specs.Area.{HoldsPoint, AreDisjoint, IsArea}
 use Rattle.domains.specs.Sides.{IsSides}
 use Rattle.domains.specs.Pairs.{pairs}
-use Rattle.domains.specs.Tiles.{part_of, part_count, spans_meet, areas_meet, tile_rows, tile_cols, tile_area, tile_at, tiles_of, IsGrid, HasTile, IsTileOf, MeetsTile, IsBefore, cover}
-use Rattle.domains.proofs.PairLists.{filter-pairs, filter-range, AllPairs-pairs, AllPairs-range, Contains-filter, Contains-from_filter, Contains-pairs, Contains-from_pairs, Contains-range, Contains-from_range}
+use Rattle.domains.specs.Tiles.{part_of, part_count, spans_meet, areas_meet, tile_rows, tile_cols, tile_area, tile_at, tiles_of}
+use Rattle.domains.specs.Tiles.{IsGrid, HasTile, IsTileOf, MeetsTile, IsBefore, cover}
+use Rattle.domains.proofs.PairLists.{filter-pairs, filter-range, AllPairs-pairs, AllPairs-range, Contains-filter}
+use Rattle.domains.proofs.PairLists.{Contains-from_filter, Contains-pairs, Contains-from_pairs, Contains-range}
+use Rattle.domains.proofs.PairLists.{Contains-from_range}
 use Rattle.domains.proofs.PartsOfSpans.{part_fits, part_inside, place_is, place_only, starts_within, starts_in}
 use Rattle.domains.proofs.Lengths.{len_is}
 use Rattle.domains.proofs.Meetings.{common_number, meets_where_both_hold}

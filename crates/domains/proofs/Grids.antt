@@ -23,7 +23,8 @@ tile_from g r c r' c' height width i j er ec eh ew p q =
     let row =
     subst (λ (z : ℤ). Holds g.area.rows z × IsPlace g.area.rows g.sides.height z i) er
     (subst (λ (n : ℕ). Holds g.area.rows r' × IsPlace g.area.rows n r' i) eh p) in
-    let col = subst (λ (z : ℤ). Holds g.area.cols z × IsPlace g.area.cols g.sides.width z j) ec (subst (λ (n : ℕ). Holds g.area.cols c' × IsPlace g.area.cols n c' j) ew q) in (
+    let col = subst (λ (z : ℤ). Holds g.area.cols z × IsPlace g.area.cols g.sides.width z j) ec
+    (subst (λ (n : ℕ). Holds g.area.cols c' × IsPlace g.area.cols n c' j) ew q) in (
       (row.0, col.0),
       record {
         there = (row.1.there, col.1.there);

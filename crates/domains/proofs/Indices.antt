@@ -1,5 +1,6 @@
 -- An index never falls, so its image of a span goes from the index at one end to that at the other.
-use Rattle.std.proofs.Common.{ℤ, pos, negsuc, ◌≡◌, ◌+◌, ◌≤◌, ◌+ℤ◌, ◌*ℤ◌, ◌≤ℤ◌, refl, sym, ap, ◌∙◌, subst, arith, FitsSigned, unsigned_abs, w32, to_z, of_z, lit≤, le_trans}
+use Rattle.std.proofs.Common.{ℤ, pos, negsuc, ◌≡◌, ◌+◌, ◌≤◌, ◌+ℤ◌, ◌*ℤ◌, ◌≤ℤ◌, refl, sym, ap, ◌∙◌, subst, arith, FitsSigned}
+use Rattle.std.proofs.Common.{unsigned_abs, w32, to_z, of_z, lit≤, le_trans}
 use Rattle.std.proofs.Math.Nat.{mul-le-mul, mul-le-mul_left}
 use Rattle.std.proofs.lemmas.Int.{to_z-of_z, ints, clamps, unsigned_abs-mul, by_lt_z}
 use Rattle.std.specs.Int.{int_min, int_max}

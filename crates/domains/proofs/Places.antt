@@ -1,5 +1,6 @@
 -- Places of lists: what stands where, after a change, before a loop's place and at the end.
-use Rattle.std.proofs.Common.{ℕ, zero, suc, ◌+◌, ◌++◌, ◌<◌, ◌≤◌, ◌≡◌, ◌≢◌, ◌⊎◌, inl, inr, List, [], ◌∷◌, All, Option, Some, Result, Ok, Err, IfOk, length, drop, set, get_or, slice_get, subst, sym, ◌∙◌, ap, refl, arith}
+use Rattle.std.proofs.Common.{ℕ, zero, suc, ◌+◌, ◌++◌, ◌<◌, ◌≤◌, ◌≡◌, ◌≢◌, ◌⊎◌, inl, inr, List, [], ◌∷◌, All, Option, Some}
+use Rattle.std.proofs.Common.{Result, Ok, Err, IfOk, length, drop, set, get_or, slice_get, subst, sym, ◌∙◌, ap, refl, arith}
 use Rattle.std.proofs.lemmas.Bool.{cases_lt}
 use Rattle.std.proofs.lemmas.List.{drop_more}
 use Rattle.std.proofs.lemmas.Option.{slice_get_read, slice_get_within, get_or_from_slice_get, same_Some}

@@ -1,5 +1,6 @@
 -- The meet and the hull of spans are the intersection and the least span that holds both.
-use Rattle.std.proofs.Common.{ℕ, ℤ, pos, zero, suc, ◌≡◌, ◌+ℤ◌, ◌≤ℤ◌, refl, sym, ap, ◌∙◌, subst, arith, Option, Some, None, IfSome, IfNone, length, Bool, IsTrue, ◌↔◌}
+use Rattle.std.proofs.Common.{ℕ, ℤ, pos, zero, suc, ◌≡◌, ◌+ℤ◌, ◌≤ℤ◌, refl, sym, ap, ◌∙◌, subst, arith, Option, Some, None, IfSome}
+use Rattle.std.proofs.Common.{IfNone, length, Bool, IsTrue, ◌↔◌}
 use Rattle.std.proofs.lemmas.Int.{ints, clamps}
 use Rattle.domains.specs.Span.{Ends, Holds, IsSpan, IsSubspan, IsMeet, AreApart, IsHull, meet_of, hull_of, len_of, numbers_from, numbers_of}
 

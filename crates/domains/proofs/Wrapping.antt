@@ -1,5 +1,6 @@
 -- What it means to wrap a whole number at a signed type.
-use Rattle.std.proofs.Common.{ℕ, ℤ, pos, negsuc, ◌≡◌, ◌-◌, ◌*◌, ◌/◌, ◌%◌, ◌^◌, ◌<◌, ◌+ℤ◌, ◌*ℤ◌, suc, refl, sym, ap, ◌∙◌, arith, FitsSigned, unsigned_abs, w32, w64, to_z, of_z, Bool, true, false, cond}
+use Rattle.std.proofs.Common.{ℕ, ℤ, pos, negsuc, ◌≡◌, ◌-◌, ◌*◌, ◌/◌, ◌%◌, ◌^◌, ◌<◌, ◌+ℤ◌, ◌*ℤ◌, suc, refl, sym, ap, ◌∙◌, arith}
+use Rattle.std.proofs.Common.{FitsSigned, unsigned_abs, w32, w64, to_z, of_z, Bool, true, false, cond}
 use Rattle.std.specs.Int.{Width, int_wrap, cast_signed}
 use mir.Val.{bits, hbits}
 use borrow.Author.Differences.{sum_is_lem}

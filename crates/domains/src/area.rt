@@ -10,7 +10,8 @@ pub struct Area {
 }
 
 impl Area {
-    ghost use Rattle.domains.specs.Area.{HoldsPoint, IsArea, IsSubarea, IsCommon, AreDisjoint, IsAreaHull, common_of, area_hull, point_count, points_of};
+    ghost use Rattle.domains.specs.Area.{HoldsPoint, IsArea, IsSubarea, IsCommon};
+    ghost use Rattle.domains.specs.Area.{AreDisjoint, IsAreaHull, common_of, area_hull, point_count, points_of};
 
     /// How many points there are.
     pub fn points(&self) -> u64

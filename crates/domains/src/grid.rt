@@ -72,7 +72,8 @@ impl Grid {
     ghost use Rattle.domains.specs.Span.{IsSpan};
     ghost use Rattle.domains.specs.Area.{HoldsPoint, IsArea};
     ghost use Rattle.domains.specs.Sides.{IsSides};
-    ghost use Rattle.domains.specs.Tiles.{IsGrid, HasTile, IsTileOf, MeetsTile, IsBefore, tile_rows, tile_cols, tile_area, tile_at, tiles_of, cover};
+    ghost use Rattle.domains.specs.Tiles.{IsGrid, HasTile, IsTileOf, MeetsTile, IsBefore, tile_rows, tile_cols, tile_area};
+    ghost use Rattle.domains.specs.Tiles.{tile_at, tiles_of, cover};
 
     /// The tiles of these sides that part the area.
     pub fn new(area: Area, sides: TileSides) -> Grid

@@ -3,7 +3,8 @@ use Rattle.std.proofs.Common.{◌≡◌, ◌++◌, ◌+◌, ◌<◌, ℕ, List, 
 use Rattle.std.specs.Prelude.{◌≢◌}
 use Rattle.std.specs.List.{All, Contains}
 use Rattle.std.proofs.lemmas.List.{drop_more, length-take-le, take-append-drop, take_all, take_more}
-use Rattle.std.proofs.lemmas.List.Elements.{All-nil, All-append, Contains-append_cases, Contains-append_left, Contains-append_right, Contains-push, Contains-push_cases, All-cons}
+use Rattle.std.proofs.lemmas.List.Elements.{All-nil, All-append, Contains-append_cases, Contains-append_left}
+use Rattle.std.proofs.lemmas.List.Elements.{Contains-append_right, Contains-push, Contains-push_cases, All-cons}
 use Rattle.hex.proofs.HexLemmas.{decode_of-ok, decode_of-same}
 use Rattle.tile_fact.specs.FactFile.{IsFactFile}
 use Rattle.tile_fact.proofs.WholeLaws.{file_again, same_facts}
@@ -46,7 +47,14 @@ good_of line old new (inr some) = inr (some.0, some.1)
 
 on_more : (all : List (List ℕ)) (line : List ℕ) (fact : Fact) → IsOnLines all fact → IsOnLines (all ++ line ∷ []) fact
 on_more all line fact on =
-    record { line = on.line; facts = on.facts; stands = Contains-append_left all (line ∷ []) on.line on.stands; file = on.file; has = on.has }
+    record {
+      line = on.line;
+      facts = on.facts;
+      stands = Contains-append_left all (line ∷ []) on.line on.stands;
+      file = on.file;
+      has
+          = on.has;
+    }
 
 on_last : (all : List (List ℕ)) (line : List ℕ) (facts : List Fact) (fact : Fact) → IsFileLine line facts → Contains facts fact
     → IsOnLines (all ++ line ∷ []) fact
@@ -78,10 +86,11 @@ gathers_more all line old new before (inl none) = record {
   good = gathers_good all line before.good (inl none.0);
   same = λ fact. (
     (λ has. on_more all line fact ((before.same fact).0 (subst (λ (l : List Fact). Contains l fact) none.1 has))),
-    λ on. subst (λ (l : List Fact). Contains l fact) (sym none.1) ((before.same fact).1 (elim (Contains-push_cases all line on.line on.stands) [
-      | inl front ↦ record { line = on.line; facts = on.facts; stands = front; file = on.file; has = on.has }
-      | inr last ↦ absurd (no_empty_file on.facts (subst (λ (l : List ℕ). IsFileLine l on.facts) (sym last ∙ none.0) on.file))
-    ])),
+    λ on. subst (λ (l : List Fact). Contains l fact) (sym none.1)
+        ((before.same fact).1 (elim (Contains-push_cases all line on.line on.stands) [
+          | inl front ↦ record { line = on.line; facts = on.facts; stands = front; file = on.file; has = on.has }
+          | inr last ↦ absurd (no_empty_file on.facts (subst (λ (l : List ℕ). IsFileLine l on.facts) (sym last ∙ none.0) on.file))
+        ])),
   );
 }
 gathers_more all line old new before (inr some) = record {

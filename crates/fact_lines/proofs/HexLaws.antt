@@ -19,7 +19,8 @@ pub digits_are : (line : List ℕ) (all : Bool) → length line % 2 ≡ 0
     → MatchBool all (AllWithin (λ c. is_ascii_hexdigit c ≡ true) line 0 (length line))
     ((k : ℕ) × (k < length line) × HoldsAt (λ c. is_ascii_hexdigit c ≡ false) line k)
     → IsTrue all ↔ HaveBytes line
-digits_are line true even passes = ((λ _. decode_of-digits line even (λ k d below. sym (same_digit (get_or line k d)) ∙ passes k d (omega arith) below)), (λ _. refl))
+digits_are line true even passes =
+    ((λ _. decode_of-digits line even (λ k d below. sym (same_digit (get_or line k d)) ∙ passes k d (omega arith) below)), (λ _. refl))
 digits_are line false even fails = (
   (λ is. cc),
   λ has. let one = same_digit (get_or line fails.0 0) ∙ (decode_of-ok line has.0 has.1).1 fails.0 0 fails.1 in let none = fails.2 0 in cc,

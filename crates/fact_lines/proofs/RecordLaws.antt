@@ -18,20 +18,23 @@ tile_record : (fact : Fact) (samples : List ℤ) → fact.body ≡ Tile samples
     → fact_record fact ≡ label_bytes fact ++ flat_map (number_bytes w32) samples
 tile_record fact samples is =
     let F : Body → Type 0 =
-    λ body. key_bytes fact.key ++ body_bytes body ≡ (key_bytes fact.key ++ kind body ∷ to_be_bytes w32 (length (numbers body))) ++ flat_map (number_bytes w32) samples in
+    λ body. key_bytes fact.key ++ body_bytes body ≡ (key_bytes fact.key ++ kind body ∷ to_be_bytes w32 (length (numbers body))) ++
+    flat_map (number_bytes w32) samples in
     subst F (sym is) (sym (append_assoc (key_bytes fact.key) (0 ∷ to_be_bytes w32 (length samples)) (flat_map (number_bytes w32) samples)))
 
 partial_record : (fact : Fact) (bins : List ℤ) → fact.body ≡ Partial bins
     → fact_record fact ≡ label_bytes fact ++ flat_map (number_bytes w64) bins
 partial_record fact bins is =
     let F : Body → Type 0 =
-    λ body. key_bytes fact.key ++ body_bytes body ≡ (key_bytes fact.key ++ kind body ∷ to_be_bytes w32 (length (numbers body))) ++ flat_map (number_bytes w64) bins in
+    λ body. key_bytes fact.key ++ body_bytes body ≡ (key_bytes fact.key ++ kind body ∷ to_be_bytes w32 (length (numbers body))) ++
+    flat_map (number_bytes w64) bins in
     subst F (sym is) (sym (append_assoc (key_bytes fact.key) (1 ∷ to_be_bytes w32 (length bins)) (flat_map (number_bytes w64) bins)))
 
 record_parts : (fact : Fact) → (behind : List ℕ) × (fact_record fact ≡ label_bytes fact ++ behind)
 record_parts fact =
     let F : Body → Type 0 =
-    λ body. (behind : List ℕ) × (key_bytes fact.key ++ body_bytes body ≡ (key_bytes fact.key ++ kind body ∷ to_be_bytes w32 (length (numbers body))) ++ behind) in
+    λ body. (behind : List ℕ) × (key_bytes fact.key ++ body_bytes body ≡
+    (key_bytes fact.key ++ kind body ∷ to_be_bytes w32 (length (numbers body))) ++ behind) in
     elim (fact.body) as F [
       | Tile samples ↦ (
         flat_map (number_bytes w32) samples,
@@ -47,7 +50,8 @@ pub label_breaks : (fact : Fact) (was : List ℕ) (a b : Option (List ℕ)) (n m
     → Breaks (encode_lower (fact_record fact)) was a b n m
 label_breaks fact was a b n m first =
     let parts = record_parts fact in
-    subst (λ bytes. Breaks (encode_lower bytes) was a b n m) (sym parts.1) (breaks_digits_front (label_bytes fact) parts.0 was a b n m first)
+    subst (λ bytes. Breaks (encode_lower bytes) was a b n m) (sym parts.1)
+    (breaks_digits_front (label_bytes fact) parts.0 was a b n m first)
 
 -- the numbers of a body are put behind its label
 puts_numbers : {X E : Type 0} (r : Result X E) (fact : Fact) (spelled : ℤ → List ℕ) (xs : List ℤ) (was mid waits : List ℕ)
@@ -59,7 +63,8 @@ puts_numbers r fact spelled xs was mid waits a b c n m k is first second =
     (puts_digits_then r (label_bytes fact) (flat_map spelled xs) was mid waits a b c n m k first
     (subst (λ digits. Puts r digits mid waits b c m k) (sym (lower_all spelled xs)) second))
 
-pub puts_samples : {X E : Type 0} (r : Result X E) (fact : Fact) (samples : List ℤ) (was mid waits : List ℕ) (a b c : Option (List ℕ)) (n m k : ℕ)
+pub puts_samples : {X E : Type 0} (r : Result X E) (fact : Fact) (samples : List ℤ) (was mid waits : List ℕ)
+    (a b c : Option (List ℕ)) (n m k : ℕ)
     → fact.body ≡ Tile samples → Passes (encode_lower (label_bytes fact)) was mid a b n m
     → Puts r (flat_map (λ sample. encode_lower (number_bytes w32 sample)) samples) mid waits b c m k
     → Puts r (encode_lower (fact_record fact)) was waits a c n k

@@ -23,7 +23,8 @@ use Rattle.node_state.proofs.HeldPictures.{outputs_held}
 use Rattle.node_state.proofs.TrueStates.{no_dispute, stage_gathers, true_answer, true_body, true_fault, true_tiles}
 use Rattle.node_state.proofs.WantedTiles.{wanted_key}
 use Rattle.node_state.specs.Answers.{AreHeld, IsLeastNotHeld, IsNotHeld, counted}
-use Rattle.node_state.specs.HeldAnswers.{AllAreReady, HoldsTrueFacts, IsAnswerFault, IsFaultOfTrueFacts, IsFirstUnready, IsHeldAnswer, IsReady, held_partials, held_tiles, held_totals}
+use Rattle.node_state.specs.HeldAnswers.{AllAreReady, HoldsTrueFacts, IsAnswerFault, IsFaultOfTrueFacts, IsFirstUnready}
+use Rattle.node_state.specs.HeldAnswers.{IsHeldAnswer, IsReady, held_partials, held_tiles, held_totals}
 use Rattle.node_state.specs.declared.answer_fault.AnswerFault.{AnswerFault}
 use Rattle.node_state.specs.declared.answer_fault.AnswerFault.TheVariants as fault
 use Rattle.node_state.specs.States.{State, facts_of}

@@ -1,5 +1,6 @@
 -- The events that make and deliver what a node lacks of a job, one after another.
-use Rattle.std.proofs.Common.{arith, ℕ, suc, ◌<◌, ◌≡◌, ◌⊎◌, inl, inr, refl, sym, ap, ◌∙◌, subst, Bool, true, false, cond, List, [], ◌∷◌, map, filter, length}
+use Rattle.std.proofs.Common.{arith, ℕ, suc, ◌<◌, ◌≡◌, ◌⊎◌, inl, inr, refl, sym, ap, ◌∙◌, subst, Bool, true, false, cond, List}
+use Rattle.std.proofs.Common.{[], ◌∷◌, map, filter, length}
 use Rattle.std.specs.Prelude.{AllPairs, Some, slice_get}
 use Rattle.std.specs.List.{Contains}
 use Rattle.catalog.specs.Entries.{Entry, IsCatalog, ids_of}

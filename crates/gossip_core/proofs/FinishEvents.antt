@@ -1,5 +1,6 @@
 -- What accepted makings and deliveries do, and that they are accepted.
-use Rattle.std.proofs.Common.{arith, ℕ, suc, ◌<◌, ◌≤◌, ◌≡◌, inl, inr, refl, sym, ap, ◌∙◌, subst, true, cond, Some, List, [], ◌∷◌, ◌++◌, length}
+use Rattle.std.proofs.Common.{arith, ℕ, suc, ◌<◌, ◌≤◌, ◌≡◌, inl, inr, refl}
+use Rattle.std.proofs.Common.{sym, ap, ◌∙◌, subst, true, cond, Some, List, [], ◌∷◌, ◌++◌, length}
 use Rattle.std.specs.Prelude.{◌≢◌, ◌==◌, slice_get}
 use Rattle.std.specs.List.{Any}
 use Rattle.std.proofs.lemmas.Bool.{eq-eqb}

@@ -1,5 +1,6 @@
 -- Lists of what is left to make, and facts of keys in states that grow.
-use Rattle.std.proofs.Common.{arith, ℕ, ◌≡◌, ◌⊎◌, inl, inr, refl, sym, ap, ◌∙◌, subst, Bool, true, false, cond, Some, None, List, [], ◌∷◌, length}
+use Rattle.std.proofs.Common.{arith, ℕ, ◌≡◌, ◌⊎◌, inl, inr, refl, sym, ap, ◌∙◌, subst, Bool, true, false, cond, Some, None, List}
+use Rattle.std.proofs.Common.{[], ◌∷◌, length}
 use Rattle.std.specs.Prelude.{◌==◌, find, slice_get}
 use Rattle.std.specs.List.{Contains}
 use Rattle.std.proofs.lemmas.Bool.{true≢false}

@@ -1,5 +1,6 @@
 -- What a tile needs is made before it, and one true fact of it is ready.
-use Rattle.std.proofs.Common.{arith, ℕ, ◌<◌, ◌≡◌, ◌&&◌, ◌||◌, inl, inr, refl, sym, ap, subst, Bool, true, false, not, Option, List, [], ◌∷◌, length}
+use Rattle.std.proofs.Common.{arith, ℕ, ◌<◌, ◌≡◌, ◌&&◌, ◌||◌, inl, inr, refl, sym, ap, subst, Bool, true, false, not, Option}
+use Rattle.std.proofs.Common.{List, [], ◌∷◌, length}
 use Rattle.std.specs.Prelude.{◌==◌, AllPairs, IsSomeAnd}
 use Rattle.std.specs.List.{Contains}
 use Rattle.std.proofs.lemmas.Bool.{and_parts}

@@ -4,7 +4,8 @@ use Rattle.std.proofs.lemmas.Bool.{eq-eqb, eqb-true, eqb-false}
 use Rattle.std.proofs.lemmas.List.{length_push}
 use Rattle.std.proofs.lemmas.List.Elements.{All-head}
 use Rattle.std.specs.List.{All}
-use Rattle.std.specs.Prelude.{◌≡◌, ◌≢◌, ℕ, ◌+◌, ◌<◌, ◌==◌, ◌↔◌, ◌⊎◌, Bool, true, false, cond, if◌then◌else◌, List, [], ◌∷◌, ◌++◌, Some, length, refl, slice_get}
+use Rattle.std.specs.Prelude.{◌≡◌, ◌≢◌, ℕ, ◌+◌, ◌<◌, ◌==◌, ◌↔◌, ◌⊎◌, Bool, true, false, cond, if◌then◌else◌, List, [], ◌∷◌, ◌++◌}
+use Rattle.std.specs.Prelude.{Some, length, refl, slice_get}
 use Rattle.fact_store.proofs.SetLaws.{holds-nothing, in_join, join_has, same_holders}
 use Rattle.identity.specs.declared.key.Key.{Key}
 use Rattle.tile_fact.specs.declared.fact.Fact.{Fact}
@@ -16,7 +17,8 @@ use Rattle.gossip_core.specs.Networks.{Network, NodeStates, Sent}
 use Rattle.gossip_core.specs.Steps.{Accepts, Work, facts_at, held, kept, with_held, with_kept, with_message}
 use Rattle.gossip_core.specs.Taking.{IsTaken, IsTakenAtKeep, Took, TookAtKeep, By_delivery, By_merge, By_keep}
 use Rattle.gossip_core.proofs.StateLaws.{facts_found, found_within, held_keep, held_set, kept_keep, kept_set, states_start}
-use Rattle.gossip_core.proofs.TakingLaws.{AreSent, Gives, all_sent_more, gives_took, grown, kept_grown, kept_here, kept_later, kept_newly, kept_ungrown, took_later, took_newly, ungrown}
+use Rattle.gossip_core.proofs.TakingLaws.{AreSent, Gives, all_sent_more, gives_took, grown, kept_grown, kept_here, kept_later}
+use Rattle.gossip_core.proofs.TakingLaws.{kept_newly, kept_ungrown, took_later, took_newly, ungrown}
 
 -- each node holds what it took, and keeps what it had taken at its last keep; and what came was sent
 pub record Follows (h : List Event) (w : Network) : Type 0 where
@@ -107,17 +109,20 @@ follows_message h w e to s no_restart no_keep no_gift sent is =
     record {
       holds = λ n. taken_later (w.messages ++ m ∷ []) e h n (held w n) (no_restart n) (λ f. no_gift (w.messages ++ m ∷ []) f n)
           (taken_grown w.messages m h n (held w n) is.sent (is.holds n));
-      keeps = λ n. kept_as_before (w.messages ++ m ∷ []) e h n (kept w n) (no_keep n) (kept_is_grown w.messages m h n (kept w n) is.sent (is.keeps n));
+      keeps = λ n. kept_as_before (w.messages ++ m ∷ []) e h n (kept w n) (no_keep n)
+          (kept_is_grown w.messages m h n (kept w n) is.sent (is.keeps n));
       sent = subst (λ count. AreSent count (e ∷ h)) (sym (length_push w.messages m)) sent;
     }
 
 follows_held : (h : List Event) (w : Network) (e : Event) (a : ℕ) (s : State) → a < length w.nodes → ((n : ℕ) → e ≢ Keep n)
-    → (a ≡ a → IsTaken w.messages (e ∷ h) a s) → ((n : ℕ) → a ≢ n → IsTaken w.messages (e ∷ h) n (held w n)) → AreSent (length w.messages) (e ∷ h)
+    → (a ≡ a → IsTaken w.messages (e ∷ h) a s) → ((n : ℕ) → a ≢ n → IsTaken w.messages (e ∷ h) n (held w n))
+    → AreSent (length w.messages) (e ∷ h)
     → Follows h w → Follows (e ∷ h) (with_held w a s)
 follows_held h w e a s within no_keep here there sent is =
     record {
       holds = λ n. subst (IsTaken w.messages (e ∷ h) n) (sym (held_set w a s n within))
-          (picked (IsTaken w.messages (e ∷ h) n) a n s (held w n) (λ same. subst (λ i. IsTaken w.messages (e ∷ h) i s) same (here refl)) (there n));
+          (picked (IsTaken w.messages (e ∷ h) n) a n s (held w n)
+          (λ same. subst (λ i. IsTaken w.messages (e ∷ h) i s) same (here refl)) (there n));
       keeps = λ n. subst (IsTakenAtKeep w.messages (e ∷ h) n) (sym (kept_set w a s n within))
           (kept_as_before w.messages e h n (kept w n) (no_keep n) (is.keeps n));
       sent = sent;
@@ -152,7 +157,8 @@ follows_merge h w a b within is =
     (λ n other. taken_later w.messages (Merge a b) h n (held w n) (λ e. cc) (λ f gives. other gives.0) (is.holds n))
     (tt, is.sent) is
 
-follows_restart : (h : List Event) (w : Network) (a : ℕ) → a < length w.nodes → Follows h w → Follows (Restart a ∷ h) (with_held w a (kept w a))
+follows_restart : (h : List Event) (w : Network) (a : ℕ) → a < length w.nodes → Follows h w
+    → Follows (Restart a ∷ h) (with_held w a (kept w a))
 follows_restart h w a within is =
     follows_held h w (Restart a) a (kept w a) within (λ n e. cc)
     (λ same f. (
@@ -187,13 +193,16 @@ within_first w a more all = All-head (λ n. n < length w.nodes) a more all
 pub follows_step : (u : Work) (h : List Event) (w new : Network) (e : Event) → Follows h w → Accepts u w e new → Follows (e ∷ h) new
 follows_step u h w new (Make a key) is ok =
     subst (Follows (Make a key ∷ h)) (sym ok.1.2)
-    (follows_message h w (Make a key) a _ (λ n e. cc) (λ n e. cc) (λ ms f n gives. gives) (tt, all_sent_more (length w.messages) h is.sent) is)
+    (follows_message h w (Make a key) a _ (λ n e. cc) (λ n e. cc) (λ ms f n gives. gives)
+    (tt, all_sent_more (length w.messages) h is.sent) is)
 follows_step u h w new (Send a m keys) is ok =
     subst (Follows (Send a m keys ∷ h)) (sym ok.1.1)
-    (follows_message h w (Send a m keys) m _ (λ n e. cc) (λ n e. cc) (λ ms f n gives. gives) (tt, all_sent_more (length w.messages) h is.sent) is)
+    (follows_message h w (Send a m keys) m _ (λ n e. cc) (λ n e. cc) (λ ms f n gives. gives)
+    (tt, all_sent_more (length w.messages) h is.sent) is)
 follows_step u h w new (Deliver a k) is ok =
     subst (Follows (Deliver a k ∷ h)) (sym ok.1.3) (follows_deliver h w a k ok.1.0 (within_first w a [] ok.0) ok.1.1 is)
-follows_step u h w new (Merge a b) is ok = subst (Follows (Merge a b ∷ h)) (sym ok.1) (follows_merge h w a b (within_first w a (b ∷ []) ok.0) is)
+follows_step u h w new (Merge a b) is ok = subst (Follows (Merge a b ∷ h)) (sym ok.1)
+    (follows_merge h w a b (within_first w a (b ∷ []) ok.0) is)
 follows_step u h w new (Keep a) is ok = subst (Follows (Keep a ∷ h)) (sym ok.1) (follows_keep h w a (within_first w a [] ok.0) is)
 follows_step u h w new (Restart a) is ok = subst (Follows (Restart a ∷ h)) (sym ok.1) (follows_restart h w a (within_first w a [] ok.0) is)
 
@@ -201,9 +210,11 @@ pub leads_follows : (u : Work) (size : ℕ) (h accepted : List Event) (w : Netwo
 leads_follows u size [] accepted w leads =
     subst (λ (es : List Event). Follows es w) (sym leads.0) (subst (Follows []) (sym leads.1) (follows_start size))
 leads_follows u size (e ∷ h) accepted w (old, earlier, before, inl goes) =
-    subst (λ (es : List Event). Follows es w) (sym goes.1) (follows_step u earlier old w e (leads_follows u size h earlier old before) goes.0)
+    subst (λ (es : List Event). Follows es w) (sym goes.1)
+    (follows_step u earlier old w e (leads_follows u size h earlier old before) goes.0)
 leads_follows u size (e ∷ h) accepted w (old, earlier, before, inr stays) =
-    subst (λ (es : List Event). Follows es w) (sym stays.2) (subst (Follows earlier) (sym stays.1) (leads_follows u size h earlier old before))
+    subst (λ (es : List Event). Follows es w) (sym stays.2)
+    (subst (Follows earlier) (sym stays.1) (leads_follows u size h earlier old before))
 
 pub same_takings : (h : List Event) (w : Network) (n m : ℕ) → Follows h w
     → ((f : Fact) → Took w.messages f h n ↔ Took w.messages f h m) → held w n ≡ held w m

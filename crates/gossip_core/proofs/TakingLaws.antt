@@ -1,7 +1,8 @@
 -- What a node took, event by event.
 use Rattle.std.proofs.Common.{ap, sym, ◌∙◌, subst, arith, inl, inr}
 use Rattle.std.proofs.lemmas.Bool.{eqb-true, eqb-false}
-use Rattle.std.specs.Prelude.{◌≡◌, ◌≢◌, ℕ, ◌+◌, ◌<◌, ◌==◌, ◌↔◌, ◌⊎◌, Bool, true, false, cond, if◌then◌else◌, List, [], ◌∷◌, ◌++◌, length, refl}
+use Rattle.std.specs.Prelude.{◌≡◌, ◌≢◌, ℕ, ◌+◌, ◌<◌, ◌==◌, ◌↔◌, ◌⊎◌}
+use Rattle.std.specs.Prelude.{Bool, true, false, cond, if◌then◌else◌, List, [], ◌∷◌, ◌++◌, length, refl}
 use Rattle.fact_store.proofs.SetLaws.{in_join, join_has}
 use Rattle.tile_fact.specs.declared.fact.Fact.{Fact}
 use Rattle.node_state.specs.States.{State, holds, join}

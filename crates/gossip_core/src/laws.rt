@@ -18,8 +18,8 @@ ghost use Rattle.node_state.specs.States.{IsSubset, State};
 ghost use Rattle.overlap_tiles.specs.Work.{first_without_room, wanted_keys, work_keys};
 ghost use Rattle.tile_fact.specs.declared.fact.Fact.{Fact};
 
-/// Whatever list of events leads to a world, refused ones among them, each node holds just the facts that it took, and keeps just those that
-/// it had taken at its last keep.
+/// Whatever list of events leads to a world, refused ones among them, each node holds just the facts that it took, and keeps just those
+/// that it had taken at its last keep.
 pub fn nodes_hold_what_they_took()
     ensures held { (u : Work) (size : ℕ) (h accepted : List Event) (w : Network)
         → Leads u size h accepted w → (n : ℕ) → IsTaken w.messages accepted n (held w n) }

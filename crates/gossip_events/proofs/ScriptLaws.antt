@@ -1,5 +1,6 @@
 -- The events of lines, one line after the other.
-use Rattle.std.proofs.Common.{◌≡◌, ◌∙◌, ◌++◌, ◌+◌, ◌<◌, ◌≤◌, ℕ, Bool, true, false, List, [], ◌∷◌, ◌⊎◌, inl, inr, cond, length, take, drop, get_or, refl, sym, ap, subst, arith}
+use Rattle.std.proofs.Common.{◌≡◌, ◌∙◌, ◌++◌, ◌+◌, ◌<◌, ◌≤◌, ℕ, Bool, true, false, List, [], ◌∷◌, ◌⊎◌, inl, inr, cond, length}
+use Rattle.std.proofs.Common.{take, drop, get_or, refl, sym, ap, subst, arith}
 use Rattle.std.specs.Prelude.{filter, not}
 use Rattle.std.proofs.lemmas.List.{append-nil, drop_more, length-take-le, take-append-drop, take_all, take_more}
 use Rattle.std.proofs.lemmas.List.Elements.{filter-append}
@@ -43,7 +44,8 @@ pub takes_line : (jobs : List Entry) (all : List (List ℕ)) (n : ℕ) (line : L
 takes_line jobs all n line old new here before adds few =
     let more = take_more all n line here.0 ∙ ap (λ (l : List ℕ). take n all ++ l ∷ []) (sym here.1) in
     record {
-      told = subst (λ (ls : List (List ℕ)). TellEvents jobs (event_lines ls) new) (sym more) (more_told jobs (take n all) line old new before.told adds);
+      told = subst (λ (ls : List (List ℕ)). TellEvents jobs (event_lines ls) new) (sym more)
+          (more_told jobs (take n all) line old new before.told adds);
       few = few;
     }
 

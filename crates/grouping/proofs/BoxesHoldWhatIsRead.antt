@@ -1,5 +1,6 @@
 -- All that a stage in a target reads at a point of its region lies in the box of what it reads.
-use Rattle.std.proofs.Common.{ℕ, ◌+◌, ◌<◌, ◌≤◌, ◌≡◌, arith, ℤ, nat_eq, Bool, true, false, Option, Some, None, List, [], ◌∷◌, length, map, reverse, refl, sym, ap, ◌∙◌, subst}
+use Rattle.std.proofs.Common.{ℕ, ◌+◌, ◌<◌, ◌≤◌, ◌≡◌, arith, ℤ, nat_eq, Bool, true, false, Option, Some, None, List, [], ◌∷◌}
+use Rattle.std.proofs.Common.{length, map, reverse, refl, sym, ap, ◌∙◌, subst}
 use Rattle.std.specs.Prelude.{All, Contains, slice_get, if◌then◌else◌}
 use Rattle.std.specs.List.{flat_map, range_with_len}
 use Rattle.std.specs.Option.{ForSome}
@@ -21,8 +22,10 @@ use Rattle.job.proofs.Steps.{All-from_map, All-both}
 use Rattle.job.proofs.Solving.{ranked_is}
 use Rattle.grouping.specs.Order.{greatest_rank, with_rank, in_order, backward}
 use Rattle.grouping.specs.Schedules.{is_inlined}
-use Rattle.grouping.specs.Demands.{Demand, meet_of_box, read_demand, hull_of_all, formula_demands, demands_if, case_demands, other_demands, body_demands, areas_of}
-use Rattle.grouping.specs.Targets.{Target, IsTarget, stage_demands, demands_by, all_demands_by, cut_to, box, region, IsInBox, HasWhatItReads}
+use Rattle.grouping.specs.Demands.{Demand, meet_of_box, read_demand, hull_of_all, formula_demands, demands_if, case_demands}
+use Rattle.grouping.specs.Demands.{other_demands, body_demands, areas_of}
+use Rattle.grouping.specs.Targets.{Target, IsTarget, stage_demands, demands_by}
+use Rattle.grouping.specs.Targets.{all_demands_by, cut_to, box, region, IsInBox, HasWhatItReads}
 use Rattle.grouping.proofs.AreasMeet.{if_some-is}
 use Rattle.grouping.proofs.HullsAreLeast.{InHull, demand_in_hull, meet_holds}
 use Rattle.grouping.proofs.ImagesHold.{IsRead, reads_are, image_holds}

@@ -13,7 +13,8 @@ use Rattle.job.proofs.Solving.{ranked_is}
 use Rattle.grouping.specs.Order.{in_order}
 use Rattle.grouping.specs.Schedules.{is_inlined, is_function_body, is_function, all_stored}
 use Rattle.grouping.specs.Demands.{hull_of_all, areas_of}
-use Rattle.grouping.specs.Targets.{Target, IsTarget, IsListed, all_demands_by, cut_to, box, region, with_number, is_boxed, numbered_box, boxes}
+use Rattle.grouping.specs.Targets.{Target, IsTarget, IsListed, all_demands_by}
+use Rattle.grouping.specs.Targets.{cut_to, box, region, with_number, is_boxed, numbered_box, boxes}
 use Rattle.grouping.specs.Costs.{scratch, points}
 use Rattle.grouping.specs.inside.Walks.{InDomainRanges}
 use Rattle.grouping.proofs.AreasMeet.{near_meet}

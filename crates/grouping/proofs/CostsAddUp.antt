@@ -1,16 +1,19 @@
 -- How costs are added up.
 use Rattle.std.specs.Prelude.{All, slice_get}
 use Rattle.std.specs.List.{Contains, range_with_len, list_all, sum, flat_map}
-use Rattle.std.proofs.Common.{not, subst, ◌<◌, length, get_or, ℕ, ◌+◌, arith, ◌≡◌, Bool, true, false, cond, ◌&&◌, if◌then◌else◌, Option, Some, None, List, [], ◌∷◌, ◌++◌, map, filter, refl, ap, sym, ◌∙◌, append_assoc}
+use Rattle.std.proofs.Common.{not, subst, ◌<◌, length, get_or, ℕ, ◌+◌, arith, ◌≡◌, Bool, true, false, cond, ◌&&◌, if◌then◌else◌}
+use Rattle.std.proofs.Common.{Option, Some, None, List, [], ◌∷◌, ◌++◌, map, filter, refl, ap, sym, ◌∙◌, append_assoc}
 use Rattle.std.proofs.Math.Bool.{and-true}
 use Rattle.std.proofs.lemmas.Bool.{leb-true}
 use Rattle.std.proofs.lemmas.Option.{slice_get_within}
 use Rattle.std.proofs.lemmas.List.Sums.{AllPass-from_list_all, sum-map, sum_by-append, sum_by-cons}
 use Rattle.std.proofs.lemmas.List.Folds.{list_all-append, list_all-map}
 use Rattle.std.proofs.lemmas.List.FromFn.{length-range_with_len, get_or-range_with_len}
-use Rattle.grouping.specs.Costs.{most_scratch, FitsScratch, has_scratch, stage_fits, tile_targets, cost_of, stage_cost, cost, points_in, inner_steps, scratch, points}
+use Rattle.grouping.specs.Costs.{most_scratch, FitsScratch, has_scratch, stage_fits, tile_targets, cost_of, stage_cost, cost}
+use Rattle.grouping.specs.Costs.{points_in, inner_steps, scratch, points}
 use Rattle.grouping.specs.Inlining.{AllFitScratch}
-use Rattle.grouping.specs.inside.Tallies.{all_have_scratch, all_stages_fit, over_domain, areas_of_tiles, row_areas, over, inner_points, points_over}
+use Rattle.grouping.specs.inside.Tallies.{all_have_scratch, all_stages_fit, over_domain, areas_of_tiles, row_areas, over}
+use Rattle.grouping.specs.inside.Tallies.{inner_points, points_over}
 use Rattle.grouping.proofs.Lists.{range_more, map_range_more}
 use Rattle.grouping.proofs.TilesAreTargets.{gridded, tile_of_stage_is_target}
 use Rattle.std.proofs.lemmas.List.{map-append}

@@ -1,5 +1,6 @@
 -- What stays and what grows where one function more is inlined.
-use Rattle.std.proofs.Common.{ℕ, zero, suc, ◌+◌, ◌<◌, ◌≤◌, ◌⊎◌, inl, inr, arith, ◌≡◌, nat_eq, nat_le, Bool, true, false, ◌&&◌, not, Option, Some, None, List, [], ◌∷◌, map, length, refl, ap, sym, subst, ◌∙◌}
+use Rattle.std.proofs.Common.{ℕ, zero, suc, ◌+◌, ◌<◌, ◌≤◌, ◌⊎◌, inl, inr, arith, ◌≡◌, nat_eq, nat_le, Bool, true, false, ◌&&◌}
+use Rattle.std.proofs.Common.{not, Option, Some, None, List, [], ◌∷◌, map, length, refl, ap, sym, subst, ◌∙◌}
 use Rattle.std.specs.Prelude.{All, AllPairs, Contains, slice_get, slice_set, if◌then◌else◌}
 use Rattle.std.specs.List.{sum, list_all}
 use Rattle.std.specs.Option.{option_map_or}

@@ -1,5 +1,6 @@
 -- What a stage demands is demanded of stages of lower rank.
-use Rattle.std.proofs.Common.{ℕ, arith, ◌<◌, ◌≤◌, ◌≡◌, nat_eq, Bool, true, false, Option, Some, None, List, [], ◌∷◌, ◌++◌, map, filter, refl, ap, subst}
+use Rattle.std.proofs.Common.{ℕ, arith, ◌<◌, ◌≤◌, ◌≡◌, nat_eq, Bool, true, false, Option, Some, None, List, [], ◌∷◌, ◌++◌, map}
+use Rattle.std.proofs.Common.{filter, refl, ap, subst}
 use Rattle.std.specs.Prelude.{All, slice_get, if◌then◌else◌}
 use Rattle.std.specs.List.{flat_map}
 use Rattle.std.proofs.lemmas.List.Elements.{All-nil, All-head, All-tail, All-append, All-map}
@@ -11,7 +12,8 @@ use Rattle.job.specs.Pipeline.{JobCase, Body, plane, function, accumulator, Stag
 use Rattle.job.specs.Reads.{Read, stage_read, reads_in, reads_of, other_formula, IsRanked}
 use Rattle.job.proofs.Agreeing.{All-left, All-right}
 use Rattle.job.proofs.Unrolling.{reads_fall}
-use Rattle.grouping.specs.Demands.{Demand, meet_of_box, read_demand, formula_demands, demands_if, case_demands, other_demands, body_demands, areas_of}
+use Rattle.grouping.specs.Demands.{Demand, meet_of_box, read_demand}
+use Rattle.grouping.specs.Demands.{formula_demands, demands_if, case_demands, other_demands, body_demands, areas_of}
 use Rattle.grouping.specs.Targets.{Target, region_by, stage_demands, demands_by}
 
 -- ---- what holds of the stages that are read holds of those of which something is demanded

@@ -1,5 +1,6 @@
 -- The greedy rule as visits, one after the other: what holds before each, and what all of them give.
-use Rattle.std.proofs.Common.{ℕ, zero, suc, ◌<◌, ◌≤◌, ◌≡◌, nat_eq, Bool, true, false, ◌&&◌, not, Option, Some, None, List, [], ◌∷◌, ◌++◌, ◌⊎◌, inl, inr, map, length, arith, refl, sym, ap, subst, ◌∙◌}
+use Rattle.std.proofs.Common.{ℕ, zero, suc, ◌<◌, ◌≤◌, ◌≡◌, nat_eq, Bool, true, false, ◌&&◌, not, Option, Some, None, List, []}
+use Rattle.std.proofs.Common.{◌∷◌, ◌++◌, ◌⊎◌, inl, inr, map, length, arith, refl, sym, ap, subst, ◌∙◌}
 use Rattle.std.specs.Prelude.{All, slice_get, slice_index_or, if◌then◌else◌}
 use Rattle.std.specs.List.{fold, list_all}
 use Rattle.std.specs.Option.{option_map_or}
@@ -19,7 +20,9 @@ use Rattle.grouping.specs.declared.standing.Standing.{Standing}
 use Rattle.grouping.specs.declared.standing.Standing.TheVariants.{Stored, Inlined}
 use Rattle.grouping.proofs.AskedIsSchedule.{stored_is}
 use Rattle.grouping.proofs.KeptIsBox.{standing_there}
-use Rattle.grouping.proofs.VisitsMakeSchedules.{Falls, IsBehind, backward_falls, backward_there, visited_is, not_yet, group_at_first, stored_at_first, scratch_at_first, room_at_first, cost_at, all_have_room}
+use Rattle.grouping.proofs.VisitsMakeSchedules.{Falls, IsBehind, backward_falls, backward_there, visited_is, not_yet}
+use Rattle.grouping.proofs.VisitsMakeSchedules.{group_at_first, stored_at_first, scratch_at_first, room_at_first, cost_at}
+use Rattle.grouping.proofs.VisitsMakeSchedules.{all_have_room}
 
 pub readers_there : (job : Pipeline) (g : ℕ) → All (λ r. r < length job.stages) (readers job g)
 readers_there job g = All-filter (does_read job g) (λ r. r < length job.stages) (backward job.stages) (backward_there job.stages)

@@ -1,5 +1,6 @@
 -- Groups follow chains of reads.
-use Rattle.std.proofs.Common.{ℕ, zero, suc, ◌+◌, ◌<◌, ◌≤◌, ◌⊎◌, inl, inr, ◌↔◌, arith, ◌≡◌, ◌≢◌, nat_eq, Bool, true, false, Option, Some, None, List, [], ◌∷◌, length, refl, sym, ap, subst, ◌∙◌}
+use Rattle.std.proofs.Common.{ℕ, zero, suc, ◌+◌, ◌<◌, ◌≤◌, ◌⊎◌, inl, inr, ◌↔◌, arith, ◌≡◌, ◌≢◌, nat_eq, Bool, true, false, Option}
+use Rattle.std.proofs.Common.{Some, None, List, [], ◌∷◌, length, refl, sym, ap, subst, ◌∙◌}
 use Rattle.std.specs.Prelude.{All, Contains, ◌&&◌, slice_get, slice_set, take, if◌then◌else◌}
 use Rattle.std.specs.List.{fold, list_all, list_any}
 use Rattle.std.specs.Option.{option_map_or}
@@ -15,14 +16,16 @@ use Rattle.job.specs.Reads.{stage_read, reads_of}
 use Rattle.job.specs.WellFormed.{IsJob}
 use Rattle.grouping.specs.Order.{greatest_rank, in_order, backward}
 use Rattle.grouping.specs.Schedules.{is_inlined}
-use Rattle.grouping.specs.Greedy.{does_read, readers, Grouping, initial_grouping, group, common_group, with_inlined, visited, greedy_grouping, greedy_inlining}
+use Rattle.grouping.specs.Greedy.{does_read, readers, Grouping, initial_grouping}
+use Rattle.grouping.specs.Greedy.{group, common_group, with_inlined, visited, greedy_grouping, greedy_inlining}
 use Rattle.grouping.specs.inside.Standings.{NoneInlinedBelow}
 use Rattle.grouping.specs.Chains.{ChainLeads, itself, on, grouping_after}
 use Rattle.grouping.proofs.BoxesFollowTheRule.{rank_below, enough_left, all_enough}
 use Rattle.grouping.proofs.BoxesHoldWhatIsRead.{ordered, Contains-reverse}
 use Rattle.grouping.proofs.AskedIsSchedule.{stored_is}
 use Rattle.grouping.proofs.ReadersMakeBoxes.{reader_is_behind, readers_read, group_shared}
-use Rattle.grouping.proofs.VisitsMakeSchedules.{visited_by, Falls, IsBehind, backward_falls, backward_there, group_at_first, stored_at_first}
+use Rattle.grouping.proofs.VisitsMakeSchedules.{visited_by, Falls, IsBehind, backward_falls, backward_there, group_at_first}
+use Rattle.grouping.proofs.VisitsMakeSchedules.{stored_at_first}
 use Rattle.grouping.proofs.InlinedStands.{ranks_differ}
 use Rattle.grouping.proofs.GreedyIsTheRule.{IsFree, free_at_first, all_free_still}
 

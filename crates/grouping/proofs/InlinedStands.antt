@@ -1,5 +1,6 @@
 -- One function more is inlined: how the stages stand then.
-use Rattle.std.proofs.Common.{ℕ, ◌+◌, ◌*◌, ◌<◌, ◌≤◌, ◌⊎◌, inl, inr, arith, ◌≡◌, ◌≢◌, nat_eq, true, false, Option, Some, None, List, [], ◌∷◌, map, length, refl, sym, ap, subst, ◌∙◌}
+use Rattle.std.proofs.Common.{ℕ, ◌+◌, ◌*◌, ◌<◌, ◌≤◌, ◌⊎◌, inl, inr, arith, ◌≡◌, ◌≢◌, nat_eq, true, false, Option, Some, None}
+use Rattle.std.proofs.Common.{List, [], ◌∷◌, map, length, refl, sym, ap, subst, ◌∙◌}
 use Rattle.std.specs.Prelude.{All, nat_le, slice_get, slice_set, slice_index_or, if◌then◌else◌}
 use Rattle.std.specs.List.{sum, list_all}
 use Rattle.std.specs.Option.{option_map_or}

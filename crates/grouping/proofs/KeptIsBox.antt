@@ -1,5 +1,6 @@
 -- What is kept of each stage, and what is read there.
-use Rattle.std.proofs.Common.{ℕ, ◌<◌, ◌≡◌, nat_eq, false, Option, Some, None, List, [], ◌∷◌, map, length, arith, refl, sym, ap, subst, ◌∙◌, get_or}
+use Rattle.std.proofs.Common.{ℕ, ◌<◌, ◌≡◌, nat_eq, false, Option, Some, None, List, [], ◌∷◌, map, length, arith, refl, sym, ap}
+use Rattle.std.proofs.Common.{subst, ◌∙◌, get_or}
 use Rattle.std.specs.Prelude.{slice_get, slice_index_or, if◌then◌else◌, ◌&&◌, IfSome}
 use Rattle.std.specs.List.{list_all}
 use Rattle.std.specs.Option.{option_map}

@@ -1,5 +1,6 @@
 -- What a function's readers demand of it makes its box.
-use Rattle.std.proofs.Common.{ℕ, ◌<◌, arith, ◌≡◌, nat_eq, Bool, true, false, Option, Some, None, List, [], ◌∷◌, ◌++◌, filter, length, refl, sym, ap, ◌∙◌, subst}
+use Rattle.std.proofs.Common.{ℕ, ◌<◌, arith, ◌≡◌, nat_eq, Bool, true, false, Option, Some, None, List, [], ◌∷◌, ◌++◌, filter}
+use Rattle.std.proofs.Common.{length, refl, sym, ap, ◌∙◌, subst}
 use Rattle.std.specs.Prelude.{All, slice_get, slice_set, ◌||◌, if◌then◌else◌}
 use Rattle.std.specs.List.{flat_map, fold, list_any, list_all}
 use Rattle.std.proofs.lemmas.List.{length-set, get_or-set_same}

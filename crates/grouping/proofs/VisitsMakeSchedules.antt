@@ -1,5 +1,6 @@
 -- What holds of every grouping.
-use Rattle.std.proofs.Common.{ℕ, ◌+◌, ◌<◌, ◌≤◌, ◌⊎◌, inl, inr, arith, ◌≡◌, ◌≢◌, nat_eq, Bool, true, false, Option, Some, None, List, [], ◌∷◌, ◌++◌, map, length, reverse, refl, sym, ap, subst, ◌∙◌, get_or}
+use Rattle.std.proofs.Common.{ℕ, ◌+◌, ◌<◌, ◌≤◌, ◌⊎◌, inl, inr, arith, ◌≡◌, ◌≢◌, nat_eq, Bool, true, false, Option, Some, None}
+use Rattle.std.proofs.Common.{List, [], ◌∷◌, ◌++◌, map, length, reverse, refl, sym, ap, subst, ◌∙◌, get_or}
 use Rattle.std.specs.Prelude.{All, AllPairs, Contains, ◌&&◌, not, nat_le, slice_get, slice_set, slice_index_or, if◌then◌else◌}
 use Rattle.std.specs.List.{list_all, range_with_len}
 use Rattle.std.proofs.lemmas.Bool.{cases_lt, ne_eqb}
@@ -8,7 +9,8 @@ use Rattle.std.proofs.lemmas.Option.{slice_get_past}
 use Rattle.std.proofs.lemmas.List.{reverse-append, length-set, get_or-set_other, get_or_past}
 use Rattle.std.proofs.lemmas.List.Elements.{All-nil, All-cons, All-head, All-tail, All-append, All-weaker, All-contains_itself}
 use Rattle.std.proofs.lemmas.List.Sums.{list_all-from_AllPass}
-use Rattle.std.proofs.lemmas.List.FromFn.{length-range_with_len, get_or-range_with_len, length-map-range_with_len, get_or-map-range_with_len}
+use Rattle.std.proofs.lemmas.List.FromFn.{length-range_with_len, get_or-range_with_len, length-map-range_with_len}
+use Rattle.std.proofs.lemmas.List.FromFn.{get_or-map-range_with_len}
 use Rattle.domains.specs.declared.area.Area.{Area}
 use Rattle.job.specs.Pipeline.{Stage, Pipeline, rank_of}
 use Rattle.job.specs.Answers.{is_output, grid_of, has_tiles}
@@ -19,7 +21,8 @@ use Rattle.grouping.specs.Targets.{Target, target_over}
 use Rattle.grouping.specs.Costs.{tile_targets, scratch, most_scratch, stage_cost, cost, has_scratch, stage_fits}
 use Rattle.grouping.specs.Inlining.{costs_of, AllFitScratch}
 use Rattle.grouping.specs.inside.Tallies.{areas_of_tiles, over, over_domain}
-use Rattle.grouping.specs.Greedy.{Grouping, initial_grouping, group, readers, common_group, with_inlined, pays, has_room, inlined_if, visited}
+use Rattle.grouping.specs.Greedy.{Grouping, initial_grouping, group, readers}
+use Rattle.grouping.specs.Greedy.{common_group, with_inlined, pays, has_room, inlined_if, visited}
 use Rattle.grouping.specs.inside.Standings.{areas_at, scratch_by_tile}
 use Rattle.grouping.proofs.RanksNeverRise.{All-reverse}
 use Rattle.grouping.proofs.OrderHasEachStage.{order_pairs, order_has}

@@ -1,5 +1,7 @@
 -- A walk from the last stage to the first meets each stage when all that is demanded of it has come in.
-use Rattle.std.proofs.Common.{ℕ, suc, zero, ◌<◌, ◌≤◌, ◌⊎◌, inl, inr, arith, ◌≡◌, nat_eq, Bool, true, false, Option, None, List, [], ◌∷◌, ◌++◌, length, map, filter, slice_index_or, slice_set, ◌≢◌, refl, sym, ap, ◌∙◌, subst, append_assoc}
+use Rattle.std.proofs.Common.{ℕ, suc, zero, ◌<◌, ◌≤◌, ◌⊎◌, inl, inr, arith, ◌≡◌, nat_eq, Bool, true, false, Option, None, List}
+use Rattle.std.proofs.Common.{[], ◌∷◌, ◌++◌, length, map, filter, slice_index_or}
+use Rattle.std.proofs.Common.{slice_set, ◌≢◌, refl, sym, ap, ◌∙◌, subst, append_assoc}
 use Rattle.std.specs.Prelude.{All, slice_get, if◌then◌else◌}
 use Rattle.std.specs.List.{flat_map, fold}
 use Rattle.std.proofs.Math.Nat.{le_refl}

@@ -1,5 +1,6 @@
 -- How many points a tile computes.
-use Rattle.std.specs.Prelude.{ℕ, ◌≤◌, nat_le, Bool, true, ◌&&◌, not, if◌then◌else◌, Option, Some, None, List, [], ◌∷◌, ◌++◌, map, filter, slice_get, All}
+use Rattle.std.specs.Prelude.{ℕ, ◌≤◌, nat_le, Bool, true, ◌&&◌, not, if◌then◌else◌, Option, Some, None, List, [], ◌∷◌, ◌++◌, map}
+use Rattle.std.specs.Prelude.{filter, slice_get, All}
 use Rattle.std.specs.List.{sum, list_all}
 use Rattle.domains.specs.Area.{point_count}
 use Rattle.domains.specs.Tiles.{tile_area, tiles_of}

@@ -1,6 +1,7 @@
 -- The greedy grouping: functions are visited from the last to the first in dependence order, and each is inlined where all its
 -- readers are computed in the tiles of one stage, that pays, and there is room.
-use Rattle.std.specs.Prelude.{ℕ, ◌+◌, ◌*◌, ◌==◌, nat_le, Bool, true, ◌&&◌, not, if◌then◌else◌, Option, Some, None, List, [], ◌∷◌, filter, length, slice_get, slice_set, slice_index_or}
+use Rattle.std.specs.Prelude.{ℕ, ◌+◌, ◌*◌, ◌==◌, nat_le, Bool, true, ◌&&◌, not, if◌then◌else◌, Option, Some, None, List, [], ◌∷◌}
+use Rattle.std.specs.Prelude.{filter, length, slice_get, slice_set, slice_index_or}
 use Rattle.std.specs.List.{fold, list_any, list_all, range_with_len}
 use Rattle.std.specs.Option.{option_map_or}
 use Rattle.job.specs.Pipeline.{Pipeline}

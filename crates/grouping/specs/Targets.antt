@@ -1,5 +1,6 @@
 -- Boxes. A target is a stage over a region of its domain; with it go the inlined functions that it needs, each over its box.
-use Rattle.std.specs.Prelude.{ℕ, zero, suc, ◌==◌, ℤ, ◌≡◌, Bool, true, ◌&&◌, not, if◌then◌else◌, Option, Some, None, List, [], ◌∷◌, slice_get}
+use Rattle.std.specs.Prelude.{ℕ, zero, suc, ◌==◌, ℤ, ◌≡◌, Bool, true}
+use Rattle.std.specs.Prelude.{◌&&◌, not, if◌then◌else◌, Option, Some, None, List, [], ◌∷◌, slice_get}
 use Rattle.std.specs.List.{flat_map}
 use Rattle.domains.specs.Area.{HoldsPoint, IsArea, IsSubarea}
 use Rattle.domains.specs.declared.area.Area.{Area}

@@ -9,7 +9,8 @@ ghost use Rattle.job.specs.Reads.{window, formulas_of};
 ghost use Rattle.job.specs.Values.{factors};
 ghost use Rattle.job.specs.Views.{formula_view, case_view, body_view};
 ghost use Rattle.job.specs.WellFormed.{InDomainRange, IsKernel, IsFormula};
-ghost use Rattle.grouping.specs.Demands.{meet_of_areas, widened, image_under, grown_by, formula_demands, case_demands, other_demands, body_demands};
+ghost use Rattle.grouping.specs.Demands.{meet_of_areas, widened, image_under, grown_by, formula_demands, case_demands};
+ghost use Rattle.grouping.specs.Demands.{other_demands, body_demands};
 ghost use Rattle.grouping.specs.inside.Walks.{InDomainRanges, demanded, demanded_all};
 
 use domains::{Area, Index, Span};

@@ -1,7 +1,8 @@
 #![tactic(auto)]
 //! Which functions the greedy rule inlines.
 
-ghost use Rattle.std.specs.Prelude.{◌≡◌, ◌≤◌, ◌<◌, ◌+◌, ◌*◌, ◌==◌, false, nat_le, map, length, slice_set, slice_get, slice_index_or, IfOk, OnOk, Some, None};
+ghost use Rattle.std.specs.Prelude.{◌≡◌, ◌≤◌, ◌<◌, ◌+◌, ◌*◌, ◌==◌, false, nat_le, map, length, slice_set, slice_get};
+ghost use Rattle.std.specs.Prelude.{slice_index_or, IfOk, OnOk, Some, None};
 ghost use Rattle.std.specs.Option.{option_map_or};
 ghost use Rattle.std.specs.List.{list_all};
 ghost use Rattle.job.specs.Kept.{pipeline_in};

@@ -25,7 +25,8 @@ pub(crate) struct TargetWalk<'a> {
 impl TargetWalk<'_> {
     ghost use Rattle.job.specs.Kept.{pipeline_in};
     ghost use Rattle.grouping.specs.Targets.{IsTarget, region_by, stage_demands, with_number, is_boxed, boxes};
-    ghost use Rattle.grouping.specs.inside.Walks.{InDomainRanges, target_of, demanded_all, no_hulls, cut_hull, walked_one, walked, numbered_hull};
+    ghost use Rattle.grouping.specs.inside.Walks.{InDomainRanges, target_of, demanded_all, no_hulls, cut_hull, walked_one};
+    ghost use Rattle.grouping.specs.inside.Walks.{walked, numbered_hull};
 
     // The hull of what is demanded of a stage, cut to its domain.
     pub(crate) fn box_of(&self, hulls: &[Option<Area>], number: usize) -> Option<Area>

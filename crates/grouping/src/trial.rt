@@ -1,7 +1,8 @@
 #![tactic(auto)]
 //! What inlining a function would take.
 
-ghost use Rattle.std.specs.Prelude.{◌≡◌, ◌<◌, ◌+◌, ◌^◌, ◌++◌, ◌∷◌, [], nat_le, length, slice_get, slice_set, Some, None, All, IfOk, OnOk, IfSome};
+ghost use Rattle.std.specs.Prelude.{◌≡◌, ◌<◌, ◌+◌, ◌^◌, ◌++◌, ◌∷◌, [], nat_le, length, slice_get, slice_set, Some, None, All};
+ghost use Rattle.std.specs.Prelude.{IfOk, OnOk, IfSome};
 ghost use Rattle.std.specs.List.{flat_map, list_all};
 ghost use Rattle.job.specs.Kept.{pipeline_in};
 ghost use Rattle.grouping.specs.Costs.{most_scratch};

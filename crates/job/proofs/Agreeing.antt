@@ -1,5 +1,6 @@
 -- Two valuations that have one value for all that is read give one value.
-use Rattle.std.proofs.Common.{ℕ, suc, zero, arith, ◌<◌, ◌≡◌, ℤ, pos, neg_ℤ, ◌+ℤ◌, ◌*ℤ◌, unsigned_abs, List, [], ◌∷◌, ◌++◌, length, ap, ◌∙◌, refl}
+use Rattle.std.proofs.Common.{ℕ, suc, zero, arith, ◌<◌, ◌≡◌, ℤ, pos, neg_ℤ, ◌+ℤ◌, ◌*ℤ◌, unsigned_abs, List, [], ◌∷◌, ◌++◌, length}
+use Rattle.std.proofs.Common.{ap, ◌∙◌, refl}
 use Rattle.std.specs.Prelude.{All, if◌then◌else◌, slice_index_or}
 use Rattle.std.proofs.lemmas.List.Elements.{All-nil, All-cons, All-head, All-tail}
 use Rattle.domains.specs.Arithmetic.{wrapped, floor_div, clamped}

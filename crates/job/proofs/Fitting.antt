@@ -1,5 +1,6 @@
 -- Values fit 32 bits.
-use Rattle.std.proofs.Common.{ℕ, zero, suc, arith, ◌≡◌, ◌≤◌, ◌<◌, ◌^◌, ◌*◌, ◌+◌, ℤ, pos, negsuc, ◌≤ℤ◌, ◌<ℤ◌, FitsSigned, w32, List, [], ◌∷◌, ◌++◌, Bool, true, false, Option, Some, None, ◌∙◌, refl}
+use Rattle.std.proofs.Common.{ℕ, zero, suc, arith, ◌≡◌, ◌≤◌, ◌<◌, ◌^◌, ◌*◌, ◌+◌, ℤ, pos, negsuc, ◌≤ℤ◌, ◌<ℤ◌, FitsSigned, w32}
+use Rattle.std.proofs.Common.{List, [], ◌∷◌, ◌++◌, Bool, true, false, Option, Some, None, ◌∙◌, refl}
 use Rattle.std.specs.Prelude.{All, map, if◌then◌else◌, slice_index, slice_index_or, unsigned_abs}
 use Rattle.std.specs.Int.{int_min, int_max}
 use Rattle.std.specs.Option.{option_map_or, ForSome}
@@ -17,7 +18,8 @@ use Rattle.domains.specs.Area.{HoldsPoint}
 use Rattle.domains.specs.declared.area.Area.{Area}
 use Rattle.job.specs.Formula.{Axis, row, column, Formula, number, coordinate, read, neg, binary, literal, abs, clamp, select, stencil}
 use Rattle.job.specs.Pipeline.{JobCase, Body, plane, function, accumulator}
-use Rattle.job.specs.Values.{Valuation, binary_value, literal_value, is_related, along, weighted_sum, formula_value, all_passed, chosen, sample_at, body_value}
+use Rattle.job.specs.Values.{Valuation, binary_value, literal_value, is_related, along, weighted_sum, formula_value, all_passed}
+use Rattle.job.specs.Values.{chosen, sample_at, body_value}
 use Rattle.job.specs.Reads.{Read, point, reads_in, EachTaken, EachRead, CaseReads, BodyReads, other_formula, formulas_of}
 use Rattle.job.specs.Boxes.{box_of, AreBoxed}
 use Rattle.job.specs.WellFormed.{IsDivisor, IsLiteral, IsFormula}

@@ -10,7 +10,8 @@ use Rattle.domains.specs.Index.{index_at}
 use Rattle.job.specs.Formula.{Formula}
 use Rattle.job.specs.Pipeline.{Body, plane, function, accumulator, Stage, Pipeline, rank_of}
 use Rattle.job.specs.Values.{Valuation, kernel_row, kernel_column, body_value, stage_value, value}
-use Rattle.job.specs.Reads.{Read, point, window, stage_read, reads_in, EachTaken, SameAt, CaseReads, BodyReads, other_formula, reads_of, IsRanked}
+use Rattle.job.specs.Reads.{Read, point, window, stage_read, reads_in}
+use Rattle.job.specs.Reads.{EachTaken, SameAt, CaseReads, BodyReads, other_formula, reads_of, IsRanked}
 use Rattle.job.specs.Boxes.{box_of, AreBoxed}
 use Rattle.job.specs.WellFormed.{IsReadable, InDomainRange, IsStage, IsJob, Solves}
 use Rattle.job.proofs.Agreeing.{All-left, All-right, formula_value-agrees}

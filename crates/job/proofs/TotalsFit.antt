@@ -1,5 +1,6 @@
 -- Totals fit 64 bits.
-use Rattle.std.proofs.Common.{ℕ, arith, ◌≡◌, ℤ, pos, negsuc, FitsSigned, w32, w64, List, [], ◌∷◌, Option, Some, None, inl, inr, subst, sym, refl}
+use Rattle.std.proofs.Common.{ℕ, arith, ◌≡◌, ℤ, pos, negsuc, FitsSigned, w32, w64, List, [], ◌∷◌, Option, Some, None, inl, inr}
+use Rattle.std.proofs.Common.{subst, sym, refl}
 use Rattle.std.specs.Prelude.{◌⊎◌, All, Contains, map, filter, fold, slice_get}
 use Rattle.std.specs.Int.{int_min, int_max}
 use Rattle.std.specs.Option.{option_map_or}

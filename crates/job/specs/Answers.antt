@@ -1,5 +1,6 @@
 -- What a job answers: the picture of its output, and the tiles that it takes.
-use Rattle.std.specs.Prelude.{ℕ, ◌==◌, ℤ, pos, unsigned_abs, Bool, true, false, ◌||◌, if◌then◌else◌, Option, List, [], map, filter, length, slice_get, slice_index}
+use Rattle.std.specs.Prelude.{ℕ, ◌==◌, ℤ, pos, unsigned_abs, Bool, true, false, ◌||◌, if◌then◌else◌, Option, List, [], map}
+use Rattle.std.specs.Prelude.{filter, length, slice_get, slice_index}
 use Rattle.std.specs.List.{flat_map, list_any, range_with_len}
 use Rattle.std.specs.Option.{option_map, option_map_or}
 use Rattle.domains.specs.Arithmetic.{clamped}

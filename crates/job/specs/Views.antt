@@ -5,7 +5,8 @@ use Rattle.domains.specs.declared.area.Area.{Area}
 use Rattle.job.specs.declared.formula.Axis.{Axis as KeptAxis}
 use Rattle.job.specs.declared.formula.Axis.TheVariants.{Row, Column}
 use Rattle.job.specs.declared.formula.Formula.{Formula as KeptFormula}
-use Rattle.job.specs.declared.formula.Formula.TheVariants.{Number, Coordinate, Read, Neg', Binary', Literal', Abs', Clamp', Select', Stencil}
+use Rattle.job.specs.declared.formula.Formula.TheVariants.{Number, Coordinate, Read, Neg'}
+use Rattle.job.specs.declared.formula.Formula.TheVariants.{Binary', Literal', Abs', Clamp', Select', Stencil}
 use Rattle.job.specs.declared.formula.Test.{Test as KeptTest}
 use Rattle.job.specs.declared.formula.Test.TheVariants.{Compare, Remainder}
 use Rattle.job.specs.declared.stage.JobCase.{JobCase as KeptCase}
@@ -15,7 +16,8 @@ use Rattle.job.specs.declared.stage.Stage.{Stage as KeptStage}
 use Rattle.job.specs.declared.outputs.Output.{Output as KeptOutput}
 use Rattle.job.specs.declared.outputs.Parameter.{Parameter as KeptParameter}
 use Rattle.job.specs.declared.bound_pipeline.BoundPipeline.{BoundPipeline}
-use Rattle.job.specs.Formula.{Axis, row, column, Formula, number, coordinate, read, neg, binary, literal, abs, clamp, select, stencil, Test, compare, remainder}
+use Rattle.job.specs.Formula.{Axis, row, column, Formula, number, coordinate, read, neg, binary, literal, abs, clamp, select}
+use Rattle.job.specs.Formula.{stencil, Test, compare, remainder}
 use Rattle.job.specs.Pipeline.{JobCase, Body, plane, function, accumulator, Stage, Output, Parameter, Pipeline}
 
 abbrev pub axis_view : KeptAxis → Axis

@@ -1,5 +1,6 @@
 -- What holds of each job of the program.
-use Rattle.std.specs.Prelude.{ℕ, ◌*◌, ◌%◌, ◌^◌, ◌<◌, ◌≤◌, ◌≡◌, ◌⊎◌, ℤ, pos, negsuc, ◌-ℤ◌, ◌≤ℤ◌, IsTrue, Some, List, length, slice_get, slice_index, FitsSigned, All}
+use Rattle.std.specs.Prelude.{ℕ, ◌*◌, ◌%◌, ◌^◌, ◌<◌, ◌≤◌, ◌≡◌, ◌⊎◌, ℤ, pos, negsuc, ◌-ℤ◌, ◌≤ℤ◌, IsTrue, Some, List, length}
+use Rattle.std.specs.Prelude.{slice_get, slice_index, FitsSigned, All}
 use Rattle.std.specs.Int.{w32}
 use Rattle.std.specs.Option.{ForSome}
 use Rattle.domains.specs.Span.{Ends, IsSpan, len_of}
@@ -11,7 +12,8 @@ use Rattle.domains.specs.declared.area.Area.{Area}
 use Rattle.netpbm.specs.Image.{Image, InRange, IsImage}
 use Rattle.domains.specs.declared.operators.LiteralOp.{LiteralOp}
 use Rattle.domains.specs.declared.operators.LiteralOp.TheVariants.{Div, Rem, Shl, Shr}
-use Rattle.job.specs.Formula.{Formula, number, coordinate, read, neg, binary, literal, abs, clamp, select, stencil, Test, compare, remainder}
+use Rattle.job.specs.Formula.{Formula, number, coordinate, read, neg, binary}
+use Rattle.job.specs.Formula.{literal, abs, clamp, select, stencil, Test, compare, remainder}
 use Rattle.job.specs.Pipeline.{Body, plane, function, accumulator, Stage, Output, Pipeline}
 use Rattle.job.specs.Values.{Valuation, factors, body_value}
 use Rattle.job.specs.Reads.{BodyReads, formulas_of, rank_by}

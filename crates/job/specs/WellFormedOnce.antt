@@ -13,10 +13,12 @@ use Rattle.domains.specs.Area.{HoldsPoint}
 use Rattle.domains.specs.declared.area.Area.{Area}
 use Rattle.netpbm.specs.Image.{Image, IsImage}
 use Rattle.job.specs.Boxes.{AreBoxed}
-use Rattle.job.specs.Formula.{Formula, number, coordinate, read, neg, binary, literal, abs, clamp, select, stencil, Test, compare, remainder}
+use Rattle.job.specs.Formula.{Formula, number, coordinate, read, neg, binary}
+use Rattle.job.specs.Formula.{literal, abs, clamp, select, stencil, Test, compare, remainder}
 use Rattle.job.specs.Pipeline.{Body, plane, function, accumulator, Stage, Output, Pipeline}
 use Rattle.job.specs.Reads.{Read, point, window, EachTaken, BodyReads}
-use Rattle.job.specs.WellFormed.{IsLiteral, IsFormula, IsTest, IsValued, IsFunction, IsReadable, IsBody, IsStage, IsOutputPlane, IsOutput, IsJob}
+use Rattle.job.specs.WellFormed.{IsLiteral, IsFormula, IsTest, IsValued}
+use Rattle.job.specs.WellFormed.{IsFunction, IsReadable, IsBody, IsStage, IsOutputPlane, IsOutput, IsJob}
 
 -- ---- what a place holds
 

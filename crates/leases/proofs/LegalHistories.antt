@@ -1,5 +1,6 @@
 -- What the rules keep of a history, and what is in force after one entry more.
-use Rattle.std.proofs.Common.{◌≡◌, ◌==◌, ℕ, ◌≤◌, min, Bool, true, false, if◌then◌else◌, List, [], ◌∷◌, ◌++◌, map, Option, Some, None, refl, ap, sym, subst, arith, All, AllPairs}
+use Rattle.std.proofs.Common.{◌≡◌, ◌==◌, ℕ, ◌≤◌, min, Bool, true, false, if◌then◌else◌, List, [], ◌∷◌, ◌++◌, map, Option, Some}
+use Rattle.std.proofs.Common.{None, refl, ap, sym, subst, arith, All, AllPairs}
 use Rattle.std.specs.Option.{option_to_list}
 use Rattle.std.specs.Ordering.{is_eq}
 use Rattle.std.specs.declared.cmp.Ordering.{Ordering}
@@ -17,7 +18,8 @@ use Rattle.leases.specs.declared.entry.Lease.{Lease}
 use Rattle.leases.specs.declared.entry.Entry.{Entry}
 use Rattle.leases.specs.declared.entry.Entry.TheVariants.{Granted, Renewed, Held, Released}
 use Rattle.leases.specs.Leases.{same, time_of, ends, given, leases_of, in_force}
-use Rattle.leases.specs.Rules.{until_of, claim_by, release_by, claim_entry, release_entry, recorded, IsLegal, empty, later, claimed, released}
+use Rattle.leases.specs.Rules.{until_of, claim_by, release_by, claim_entry}
+use Rattle.leases.specs.Rules.{release_entry, recorded, IsLegal, empty, later, claimed, released}
 use Rattle.leases.proofs.LeaseLists.{Apart, cut, leases_of-more, all_over, apart_cut, apart_push}
 
 pub record Kept (h : List Entry) (t : ℕ) : Type 0 where

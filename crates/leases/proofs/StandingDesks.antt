@@ -1,5 +1,6 @@
 -- Desks that stand for a history, at a later time and after one call more.
-use Rattle.std.proofs.Common.{◌≡◌, ◌==◌, ℕ, ◌≤◌, inl, inr, max, min, Bool, true, false, if◌then◌else◌, cond, List, [], ◌∷◌, ◌++◌, map, Option, Some, None, refl, ap, sym, ◌∙◌, subst, arith, nat_lt}
+use Rattle.std.proofs.Common.{◌≡◌, ◌==◌, ℕ, ◌≤◌, inl, inr, max, min, Bool, true, false, if◌then◌else◌, cond, List, [], ◌∷◌, ◌++◌}
+use Rattle.std.proofs.Common.{map, Option, Some, None, refl, ap, sym, ◌∙◌, subst, arith, nat_lt}
 use Rattle.std.specs.List.{find}
 use Rattle.std.specs.BTreeMap.{get}
 use Rattle.std.specs.Option.{option_or, option_to_list}
@@ -17,7 +18,8 @@ use Rattle.leases.specs.declared.entry.Lease.{Lease}
 use Rattle.leases.specs.declared.entry.Entry.{Entry}
 use Rattle.leases.specs.declared.entry.Entry.TheVariants.{Granted, Renewed, Held, Released}
 use Rattle.leases.specs.Leases.{same, time_of, ends, given, leases_of, lasts, in_force}
-use Rattle.leases.specs.Rules.{until_of, claim_by, claim_answer, release_by, release_answer, lease_of, claim_entry, release_entry, recorded, time_after, later, claimed, released}
+use Rattle.leases.specs.Rules.{until_of, claim_by, claim_answer, release_by, release_answer, lease_of, claim_entry, release_entry}
+use Rattle.leases.specs.Rules.{recorded, time_after, later, claimed, released}
 use Rattle.leases.specs.Standing.{unless_over, shown_at, StandsFor}
 use Rattle.leases.proofs.LeaseLists.{cut, leases_of-more, none_lasts, find_later, lasts_begun}
 use Rattle.leases.proofs.LegalHistories.{Kept, kept, MayCome, given_over, cut_over}

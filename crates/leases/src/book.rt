@@ -29,7 +29,8 @@ impl Model for DeskBook {
 }
 
 impl DeskBook {
-    ghost use Rattle.leases.specs.Rules.{IsLegal, claim_answer, release_answer, holder_of, recorded, claim_entry, release_entry, time_after};
+    ghost use Rattle.leases.specs.Rules.{IsLegal, claim_answer, release_answer};
+    ghost use Rattle.leases.specs.Rules.{holder_of, recorded, claim_entry, release_entry, time_after};
     ghost use Rattle.leases.specs.Standing.{StandsFor};
 
     /// A desk with no leases, at time 0, of which nothing is recorded.

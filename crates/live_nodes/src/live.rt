@@ -22,7 +22,8 @@ use std::sync::{Mutex, Wait};
 use tile_fact::Fact;
 
 /// A node that threads share: a book under a lock. Each thread calls it with a seat of its own, and is answered a receipt for each call
-/// that is recorded. A call tells nothing of what other threads do; that calls of all threads are one history, `close` finds by the receipts.
+/// that is recorded. A call tells nothing of what other threads do; that calls of all threads are one history, `close` finds by the
+/// receipts.
 #[derive(Drop)]
 pub struct LiveNode<C: NamedCatalog> {
     alloc: Global,

@@ -72,7 +72,8 @@ module _ (u : Work) (n : ℕ) where
   settled : (w : Network) (node : Node) (h : List Event) → n < length w.nodes
       → with_node (with_node w n node) n (replay_from (node_in (with_node w n node) n) h) ≡ with_node w n (replay_from node h)
   settled w node h within =
-      node_again w n node (replay_from (node_in (with_node w n node) n) h) ∙ ap (λ (x : Node). with_node w n (replay_from x h)) (node_at w n node within)
+      node_again w n node (replay_from (node_in (with_node w n node) n) h) ∙ ap (λ (x : Node). with_node w n (replay_from x h))
+      (node_at w n node within)
 
   pub runs : (w : Network) (h : List Event) (events : List Step) → n < length w.nodes → Plays w.messages n h events
       → Runs u w events (with_node w n (replay_from (node_in w n) h))
@@ -83,27 +84,31 @@ module _ (u : Work) (n : ℕ) where
       subst (λ (es : List Step). Runs u w es (with_node w n (replay_from node h))) (sym same) (
         with_node w n node,
         (has_node w within, (record { to = n; facts = state_of us }, brings, refl, refl)),
-        subst (Runs u (with_node w n node) rest) (settled w node h within) (runs (with_node w n node) h rest (kept_length w n node within) plays),
+        subst (Runs u (with_node w n node) rest) (settled w node h within)
+            (runs (with_node w n node) h rest (kept_length w n node within) plays),
       )
   runs w (Kept ∷ h) events within (rest, same, plays) =
       let node = after (node_in w n) Kept in
       subst (λ (es : List Step). Runs u w es (with_node w n (replay_from node h))) (sym same) (
         with_node w n node,
         (has_node w within, refl),
-        subst (Runs u (with_node w n node) rest) (settled w node h within) (runs (with_node w n node) h rest (kept_length w n node within) plays),
+        subst (Runs u (with_node w n node) rest) (settled w node h within)
+            (runs (with_node w n node) h rest (kept_length w n node within) plays),
       )
   runs w (Restarted ∷ h) events within (rest, same, plays) =
       let node = after (node_in w n) Restarted in
       subst (λ (es : List Step). Runs u w es (with_node w n (replay_from node h))) (sym same) (
         with_node w n node,
         (has_node w within, refl),
-        subst (Runs u (with_node w n node) rest) (settled w node h within) (runs (with_node w n node) h rest (kept_length w n node within) plays),
+        subst (Runs u (with_node w n node) rest) (settled w node h within)
+            (runs (with_node w n node) h rest (kept_length w n node within) plays),
       )
 
   same_message : (ms : List Sent) (k : ℕ) (a b : Sent) → slice_get ms k ≡ Some a → slice_get ms k ≡ Some b → a ≡ b
   same_message ms k a b first second = cc
 
-  pub only : (w new : Network) (h : List Event) (events : List Step) → n < length w.nodes → Plays w.messages n h events → Runs u w events new
+  pub only : (w new : Network) (h : List Event) (events : List Step) → n < length w.nodes → Plays w.messages n h events
+      → Runs u w events new
       → new ≡ with_node w n (replay_from (node_in w n) h)
   only w new [] events within plays run =
       let there : new ≡ w = subst (λ (es : List Step). Runs u w es new) plays run in there ∙ sym (own_node w n within)

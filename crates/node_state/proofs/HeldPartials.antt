@@ -1,5 +1,6 @@
 -- The partials that are held of a stage, row by row and tile by tile.
-use Rattle.std.proofs.Common.{ℕ, ℤ, ◌+◌, ◌≡◌, ◌||◌, refl, sym, ap, ◌∙◌, subst, Bool, true, false, Option, Some, None, List, [], ◌∷◌, ◌++◌, append_assoc, map}
+use Rattle.std.proofs.Common.{ℕ, ℤ, ◌+◌, ◌≡◌, ◌||◌, refl, sym, ap, ◌∙◌, subst, Bool, true, false, Option, Some, None, List, []}
+use Rattle.std.proofs.Common.{◌∷◌, ◌++◌, append_assoc, map}
 use Rattle.std.specs.List.{flat_map, range_with_len}
 use Rattle.std.specs.Option.{option_map_or}
 use Rattle.std.specs.Prelude.{slice_get}
@@ -60,7 +61,8 @@ module _ (job : Pipeline) (g : ℕ) where
   }
 
   pub one_came : (xs : List (List ℤ)) (x : List ℤ) (before after now : Gathering) → xs ≡ x ∷ [] → now ≡ after → after.span ≡ before.span
-      → ((partials : List (List ℤ)) → HasTaken job g partials before → HasTaken job g (partials ++ x ∷ []) after) → CameIn job g xs before now
+      → ((partials : List (List ℤ)) → HasTaken job g partials before → HasTaken job g (partials ++ x ∷ []) after)
+      → CameIn job g xs before now
   one_came xs x before after now is same span takes = record {
     span = ap (λ (y : Gathering). y.span) same ∙ span;
     taken = λ partials had.
@@ -69,7 +71,8 @@ module _ (job : Pipeline) (g : ℕ) where
   }
 
   -- the next piece of a list that is made of pieces
-  pub more_came : (f : ℕ → List (List ℤ)) (n : ℕ) (start before now : Gathering) → CameIn job g (flat_map f (range_with_len 0 n)) start before
+  pub more_came : (f : ℕ → List (List ℤ)) (n : ℕ) (start before now : Gathering)
+      → CameIn job g (flat_map f (range_with_len 0 n)) start before
       → CameIn job g (f n) before now → CameIn job g (flat_map f (range_with_len 0 (n + 1))) start now
   more_came f n start before now first next = record {
     span = next.span ∙ first.span;

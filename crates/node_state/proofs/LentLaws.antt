@@ -1,5 +1,6 @@
 -- What is lent, key by key.
-use Rattle.std.specs.Prelude.{◌≡◌, ◌↔◌, ℕ, ◌+◌, ◌<◌, ◌≤◌, ◌&&◌, ◌||◌, Bool, true, false, cond, List, Option, Some, None, refl, slice_get, length}
+use Rattle.std.specs.Prelude.{◌≡◌, ◌↔◌, ℕ, ◌+◌, ◌<◌, ◌≤◌, ◌&&◌, ◌||◌}
+use Rattle.std.specs.Prelude.{Bool, true, false, cond, List, Option, Some, None, refl, slice_get, length}
 use Rattle.std.proofs.Common.{ap, sym, ◌∙◌, arith, take}
 use Rattle.std.specs.FinMap as map
 use Rattle.std.specs.FinMap.{get-retain_keys}

@@ -1,5 +1,6 @@
 -- The body of a tile: its kind, its size, and that it is true where what is given is.
-use Rattle.std.proofs.Common.{arith, ℕ, ℤ, ◌≡◌, ◌+◌, ◌*◌, ◌<◌, ◌≤◌, Bool, true, false, List, [], Option, Some, None, length, refl, sym, ap, ◌∙◌, subst}
+use Rattle.std.proofs.Common.{arith, ℕ, ℤ, ◌≡◌, ◌+◌, ◌*◌, ◌<◌, ◌≤◌, Bool, true, false, List, [], Option, Some, None, length, refl}
+use Rattle.std.proofs.Common.{sym, ap, ◌∙◌, subst}
 use Rattle.std.specs.Option.{option_map, option_map_or}
 use Rattle.std.specs.Prelude.{slice_get}
 use Rattle.std.proofs.Math.Nat.{mul-le-mul_left, mul-le-mul_right}
@@ -158,7 +159,9 @@ few_totals : (job : Pipeline) (inlining : List Bool) (given : KnownTiles) (area 
     → length (local_totals job inlining given area g) ≤ 4096
 few_totals job inlining given area g good = by (slice_get job.stages g) refl
   where
-    by : (o : Option Stage) → slice_get job.stages g ≡ o → length (option_map_or (λ s. body_totals (read_from job inlining given (local_value job inlining given)) area s.body) o []) ≤ 4096
+    by : (o : Option Stage) → slice_get job.stages g ≡ o
+        → length (option_map_or (λ s. body_totals (read_from job inlining given (local_value job inlining given)) area s.body) o [])
+        ≤ 4096
     by None there = omega arith
     by (Some s) there =
         few_bins job.picture s.domain area (read_from job inlining given (local_value job inlining given)) s.body

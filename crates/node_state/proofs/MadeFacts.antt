@@ -30,7 +30,8 @@ use Rattle.node_state.specs.declared.make_fault.MakeFault.{MakeFault}
 use Rattle.node_state.specs.declared.make_fault.MakeFault.TheVariants as fault
 use Rattle.node_state.specs.Answers.{known_of}
 use Rattle.node_state.specs.MakeFaults.{of_plan}
-use Rattle.node_state.specs.Making.{HasTarget, HasTargetIn, needs_for, tiles_in, needed_tiles, IsMisshapen, IsLocalBody, IsMadeOf, IsMade, AreNeedsTrue, IsFirstUnready, IsMakeFault}
+use Rattle.node_state.specs.Making.{HasTarget, HasTargetIn, needs_for, tiles_in, needed_tiles, IsMisshapen, IsLocalBody, IsMadeOf}
+use Rattle.node_state.specs.Making.{IsMade, AreNeedsTrue, IsFirstUnready, IsMakeFault}
 use Rattle.node_state.specs.inside.Needing.{AreReady, IsStoppedAt, IsNeedsFault}
 use Rattle.node_state.specs.States.{State, facts_of}
 use Rattle.node_state.proofs.AskedLaws.{not_below_itself}

@@ -1,5 +1,6 @@
 -- What facts tell of tiles.
-use Rattle.std.proofs.Common.{arith, ℕ, ℤ, ◌≡◌, ◌==◌, Bool, true, false, cond, List, [], ◌∷◌, ◌&&◌, Option, Some, None, refl, sym, ap, ◌∙◌, subst, inl, inr}
+use Rattle.std.proofs.Common.{arith, ℕ, ℤ, ◌≡◌, ◌==◌, Bool, true, false, cond, List, [], ◌∷◌, ◌&&◌, Option, Some, None, refl, sym}
+use Rattle.std.proofs.Common.{ap, ◌∙◌, subst, inl, inr}
 use Rattle.std.specs.Option.{option_and_then}
 use Rattle.std.specs.Prelude.{Contains, find, slice_get}
 use Rattle.std.proofs.lemmas.Bool.{and_parts, eqb-true, false≢true}

@@ -1,5 +1,6 @@
 -- States that hold true facts alone.
-use Rattle.std.proofs.Common.{ℕ, ℤ, ◌≡◌, ◌||◌, refl, sym, ap, ◌∙◌, subst, Bool, true, false, cond, Option, Some, None, List, [], ◌∷◌, ◌++◌, map, filter}
+use Rattle.std.proofs.Common.{ℕ, ℤ, ◌≡◌, ◌||◌, refl, sym, ap, ◌∙◌, subst, Bool, true, false, cond, Option, Some, None, List, []}
+use Rattle.std.proofs.Common.{◌∷◌, ◌++◌, map, filter}
 use Rattle.std.specs.Prelude.{slice_get, length}
 use Rattle.std.specs.List.{Contains, flat_map, list_any, range_with_len}
 use Rattle.std.specs.Option.{option_map_or}
@@ -42,7 +43,9 @@ use Rattle.tile_fact.specs.declared.fact.Fact.{Fact}
 use Rattle.tile_fact.specs.Order.{fact_cmp}
 use Rattle.tile_run.specs.KnownTiles.{AreTrue}
 use Rattle.node_state.specs.Answers.{IsNotHeld, counted}
-use Rattle.node_state.specs.HeldAnswers.{HoldsTrueFacts, IsReady, AllAreReady, IsDisputed, IsMisshapen, IsAnswerFault, IsHeldAnswer, IsFaultOfTrueFacts, held_partials, held_tiles, partials_of, samples_in, bins_in}
+use Rattle.node_state.specs.HeldAnswers.{HoldsTrueFacts, IsReady, AllAreReady, IsDisputed, IsMisshapen, IsAnswerFault}
+use Rattle.node_state.specs.HeldAnswers.{IsHeldAnswer, IsFaultOfTrueFacts, held_partials, held_tiles, partials_of, samples_in}
+use Rattle.node_state.specs.HeldAnswers.{bins_in}
 use Rattle.node_state.specs.States.{State, facts_in, same_key}
 use Rattle.node_state.specs.declared.answer_fault.AnswerFault.{AnswerFault}
 use Rattle.node_state.specs.declared.answer_fault.AnswerFault.TheVariants as fault
@@ -186,7 +189,8 @@ module _ (catalog : List Entry) (entry : Entry) (s : State) (is : IsCatalog cata
         ∙ ap (λ xs. xs ∷ []) (true_bins g i j stage fits.0 at (subst (BodyIsTrue job key) fits.1 told))
 
     true_partials : (g : ℕ) (stage : Stage) → slice_get job.stages g ≡ Some stage → is_accumulator stage.body ≡ true
-        → held_partials s program job g ≡ map (λ t. totals_over job (tile_area (grid_of job stage) t.0 t.1) g) (tiles_of (grid_of job stage))
+        → held_partials s program job g ≡ map (λ t. totals_over job (tile_area (grid_of job stage) t.0 t.1) g)
+        (tiles_of (grid_of job stage))
     true_partials g stage at kind =
         let grid = grid_of job stage in
         let there = grid_there job g stage at (tiled_too stage.body kind) in

@@ -71,7 +71,8 @@ wanted_key program job key has =
     let from = Contains-from_map (key_of program job) (wanted job) key has in
     record { tile = from.0; wanted = wanted_tile job from.0 from.1; is = from.2 }
 
-pub key_wanted : (program : List ℕ) (job : Pipeline) (t : Tile) → IsWantedTile job t → Contains (wanted_keys program job) (key_of program job t)
+pub key_wanted : (program : List ℕ) (job : Pipeline) (t : Tile) → IsWantedTile job t
+    → Contains (wanted_keys program job) (key_of program job t)
 key_wanted program job t is = Contains-map (key_of program job) (wanted job) t (tile_wanted job t is)
 
 -- ---- the order of keys is that of tiles
@@ -110,7 +111,8 @@ pub tile_before : (program : List ℕ) (job : Pipeline) (m n : Tile) → IsKeyBe
 tile_before program job m n h = elim (tile_order m n) [
   | inl before ↦ before
   | inr rest ↦ absurd (elim rest [
-    | inl same ↦ not_before_itself (key_of program job m) (subst (λ t. IsKeyBefore (key_of program job m) (key_of program job t)) (sym same) h)
+    | inl same ↦ not_before_itself (key_of program job m)
+        (subst (λ t. IsKeyBefore (key_of program job m) (key_of program job t)) (sym same) h)
     | inr behind ↦ not_behind (key_of program job m) (key_of program job n) h (key_before program job n m behind)
   ])
 ]

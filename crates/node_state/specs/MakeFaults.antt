@@ -3,7 +3,8 @@ use Rattle.std.specs.Prelude.{ℕ, List, codes}
 use Rattle.overlap_tiles.specs.declared.fault.PlanFault.{PlanFault}
 use Rattle.overlap_tiles.specs.declared.fault.PlanFault.TheVariants as plan
 use Rattle.node_state.specs.declared.make_fault.MakeFault.{MakeFault}
-use Rattle.node_state.specs.declared.make_fault.MakeFault.TheVariants.{Foreign, NoSuchTile, NeedMissing, NeedDisputed, NeedMisshapen, ScratchTooBig, Memory}
+use Rattle.node_state.specs.declared.make_fault.MakeFault.TheVariants.{Foreign, NoSuchTile, NeedMissing, NeedDisputed}
+use Rattle.node_state.specs.declared.make_fault.MakeFault.TheVariants.{NeedMisshapen, ScratchTooBig, Memory}
 
 abbrev pub make_number : MakeFault → ℕ
 make_number Foreign = 1

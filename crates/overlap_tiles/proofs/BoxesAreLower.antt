@@ -1,5 +1,6 @@
 -- What has a box in a target has a lower rank than the target.
-use Rattle.std.proofs.Common.{ℕ, zero, suc, arith, ◌<◌, ◌≤◌, ◌≡◌, eqb, Bool, true, false, Option, Some, None, List, [], ◌∷◌, map, refl, ap, subst}
+use Rattle.std.proofs.Common.{ℕ, zero, suc, arith, ◌<◌, ◌≤◌, ◌≡◌, eqb, Bool, true, false, Option, Some, None, List, [], ◌∷◌, map}
+use Rattle.std.proofs.Common.{refl, ap, subst}
 use Rattle.std.specs.Prelude.{All, slice_get, filter, if◌then◌else◌}
 use Rattle.std.proofs.lemmas.Bool.{eqb-true}
 use Rattle.std.proofs.lemmas.List.Elements.{All-nil, All-head, All-tail, All-weaker, All-contains}

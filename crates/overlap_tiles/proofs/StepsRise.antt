@@ -1,5 +1,6 @@
 -- Ranks rise along the steps of a target.
-use Rattle.std.proofs.Common.{ℕ, arith, ◌≤◌, ◌≡◌, inl, inr, Bool, true, false, not, eqb, Option, Some, None, [], ◌∷◌, refl, sym, ap, ◌∙◌, subst}
+use Rattle.std.proofs.Common.{ℕ, arith, ◌≤◌, ◌≡◌, inl, inr, Bool, true, false, not, eqb, Option, Some, None, [], ◌∷◌, refl, sym}
+use Rattle.std.proofs.Common.{ap, ◌∙◌, subst}
 use Rattle.std.specs.Prelude.{AllPairs, Contains, if◌then◌else◌}
 use Rattle.std.proofs.lemmas.Bool.{and_parts, not-true, eq-eqb}
 use Rattle.std.proofs.lemmas.List.Elements.{Contains-append_cases}

@@ -1,11 +1,13 @@
 -- A text is cut in one way only.
-use Rattle.std.proofs.Common.{◌≡◌, ℕ, suc, ◌+◌, ◌<◌, Bool, true, false, cond, eqb, leb, List, [], ◌∷◌, ◌++◌, length, drop, map, Option, Some, None, refl, sym, ap, ◌∙◌, subst, inl, inr, arith, append_assoc}
+use Rattle.std.proofs.Common.{◌≡◌, ℕ, suc, ◌+◌, ◌<◌, Bool, true, false, cond, eqb, leb, List, [], ◌∷◌, ◌++◌, length, drop, map}
+use Rattle.std.proofs.Common.{Option, Some, None, refl, sym, ap, ◌∙◌, subst, inl, inr, arith, append_assoc}
 use Rattle.std.specs.Prelude.{◌&&◌, ◌⊎◌, take_while, unwrap_or}
 use Rattle.std.specs.Option.{option_map}
 use Rattle.std.specs.Str.Parse.{digits_value}
 use Rattle.std.specs.Char.{is_ascii_alphabetic, is_ascii_digit}
 use Rattle.std.specs.List.{prefix_len, list_all}
-use Rattle.std.proofs.lemmas.Bool.{cond-true, cond-false, and_parts, and_right, ne_eqb, le-leb, lt-leb, leb-true, leb-false, false_from_ne_true}
+use Rattle.std.proofs.lemmas.Bool.{cond-true, cond-false, and_parts, and_right}
+use Rattle.std.proofs.lemmas.Bool.{ne_eqb, le-leb, lt-leb, leb-true, leb-false, false_from_ne_true}
 use Rattle.std.proofs.lemmas.Bool.Decides.{when_true, when_false}
 use Rattle.std.proofs.lemmas.List.Folds.{length-prefix_len}
 use Rattle.std.proofs.lemmas.List.{length-append, append-nil, drop_at}
@@ -17,10 +19,13 @@ use Rattle.pipe_tokens.specs.declared.piece.Piece.{Piece}
 use Rattle.pipe_tokens.specs.Character.{is_white, is_comment_byte, is_name_byte}
 use Rattle.pipe_tokens.specs.Naming.{is_identifier, is_name}
 use Rattle.pipe_tokens.specs.Spelled.{word_of, bytes_of_mark, mark_at}
-use Rattle.pipe_tokens.specs.Lexing.{gap, lexeme, token_of_word, token_of_digits, word_piece, digits_piece, mark_piece, piece_of, Lexeme, is_fault, lexemes_with, lexemes_from, tokens_of, starts_of}
-use Rattle.pipe_tokens.specs.Cutting.{Gap, nothing, white, comment, IsDigits, Spells, IsLongest, BeginsNothing, BeginsLongName, BeginsDigitsAndLetter, BeginsNotAscii, StandsAt, CutsInto}
+use Rattle.pipe_tokens.specs.Lexing.{gap, lexeme, token_of_word, token_of_digits, word_piece, digits_piece, mark_piece, piece_of}
+use Rattle.pipe_tokens.specs.Lexing.{Lexeme, is_fault, lexemes_with, lexemes_from, tokens_of, starts_of}
+use Rattle.pipe_tokens.specs.Cutting.{Gap, nothing, white, comment, IsDigits, Spells, IsLongest, BeginsNothing, BeginsLongName}
+use Rattle.pipe_tokens.specs.Cutting.{BeginsDigitsAndLetter, BeginsNotAscii, StandsAt, CutsInto}
 use Rattle.pipe_tokens.proofs.Symbols.{word_is_identifier, word_of-bytes_of_word, mark_is_piece, mark_len, word_short}
-use Rattle.pipe_tokens.proofs.Characters.{digit_in_name, letter_above, letter_below, digit_above, digit_below, digit_no_letter, no_white, no_comment}
+use Rattle.pipe_tokens.proofs.Characters.{digit_in_name, letter_above, letter_below, digit_above, digit_below, digit_no_letter}
+use Rattle.pipe_tokens.proofs.Characters.{no_white, no_comment}
 use Rattle.pipe_tokens.proofs.Pieces.{mark_stands}
 use Rattle.pipe_tokens.proofs.Runs.{run_is, run_within}
 use Rattle.pipe_tokens.proofs.Shortest.{word_is}

@@ -1,5 +1,6 @@
 -- A text is no shorter than the spelling of its tokens.
-use Rattle.std.proofs.Common.{◌≡◌, ℕ, zero, suc, ◌+◌, ◌-◌, ◌<◌, ◌≤◌, Bool, true, false, cond, eqb, leb, List, [], ◌∷◌, length, drop, map, Option, Some, None, refl, sym, ap, ◌∙◌, subst, arith}
+use Rattle.std.proofs.Common.{◌≡◌, ℕ, zero, suc, ◌+◌, ◌-◌, ◌<◌, ◌≤◌, Bool, true, false, cond, eqb, leb, List, [], ◌∷◌, length}
+use Rattle.std.proofs.Common.{drop, map, Option, Some, None, refl, sym, ap, ◌∙◌, subst, arith}
 use Rattle.std.specs.Prelude.{◌&&◌, take_while, unwrap_or}
 use Rattle.std.specs.Option.{option_map}
 use Rattle.std.specs.Fmt.{decimal}
@@ -21,7 +22,8 @@ use Rattle.pipe_tokens.specs.declared.piece.Piece.{Piece}
 use Rattle.pipe_tokens.specs.Character.{is_name_byte}
 use Rattle.pipe_tokens.specs.Naming.{is_name}
 use Rattle.pipe_tokens.specs.Spelled.{bytes_of_word, word_of, all_words, bytes_of_mark, mark_at}
-use Rattle.pipe_tokens.specs.Lexing.{lexeme, token_of_word, token_of_digits, piece_of, Lexeme, is_fault, lexemes_with, lexemes_from, tokens_of}
+use Rattle.pipe_tokens.specs.Lexing.{lexeme, token_of_word, token_of_digits}
+use Rattle.pipe_tokens.specs.Lexing.{piece_of, Lexeme, is_fault, lexemes_with, lexemes_from, tokens_of}
 use Rattle.pipe_tokens.specs.Spelling.{bytes_of, begins_word, blank_behind, spelling, IsReadable}
 use Rattle.pipe_tokens.proofs.PieceKinds.{Kind, at_white, at_comment, at_letter, at_digit, at_not_ascii, at_other, kind_of}
 use Rattle.pipe_tokens.proofs.Characters.{letter_in_name, digit_in_name}

@@ -1,7 +1,9 @@
 use Rattle.std.proofs.Common.{arith, ℕ, ◌≡◌, ◌+◌, ◌-◌, ◌*◌, ◌/◌, ◌%◌, ◌^◌, add-one, ◌<◌, ◌≤◌, suc, ap, sym, ◌∙◌, le_trans, le_of_eq}
 use Rattle.row_kernels.specs.inside.Reciprocal.{IsReciprocal}
 use Rattle.std.proofs.lemmas.Nat.{one_shl, pow-add}
-use Rattle.std.proofs.Math.Nat.{mul_assoc, mul_comm, mul_right_comm, mul-add, suc-mul, mul-le-mul_right, mul-le-mul_left, mul-lt-mul_of_pos_right, le-div_iff_mul-le, div-lt_iff_lt-mul, le_antisymm, lt_of_mul-lt-mul_right, div-add-mod', div-mul-le_self, mod-lt}
+use Rattle.std.proofs.Math.Nat.{mul_assoc, mul_comm, mul_right_comm, mul-add, suc-mul, mul-le-mul_right, mul-le-mul_left}
+use Rattle.std.proofs.Math.Nat.{mul-lt-mul_of_pos_right, le-div_iff_mul-le, div-lt_iff_lt-mul, le_antisymm}
+use Rattle.std.proofs.Math.Nat.{lt_of_mul-lt-mul_right, div-add-mod', div-mul-le_self, mod-lt}
 
 below_suc : (a b : ℕ) → a < suc b → a ≤ b
 below_suc a b h = omega arith

@@ -1,5 +1,6 @@
 -- Sums of factors and numbers of a line, wrapped at each step and at the end.
-use Rattle.std.proofs.Common.{arith, ℕ, ℤ, ◌≡◌, ◌+◌, ◌<◌, ◌≤◌, ◌-◌, pos, ◌+ℤ◌, ◌*ℤ◌, w32, List, [], ◌∷◌, length, take, drop, ◌∙◌, ap, sym, add-one, add-zero}
+use Rattle.std.proofs.Common.{arith, ℕ, ℤ, ◌≡◌, ◌+◌, ◌<◌, ◌≤◌, ◌-◌, pos, ◌+ℤ◌, ◌*ℤ◌, w32, List, [], ◌∷◌, length, take, drop, ◌∙◌}
+use Rattle.std.proofs.Common.{ap, sym, add-one, add-zero}
 use Rattle.std.proofs.Math.IntN.{+ℤ_assoc, +ℤ_idr, +ℤ_idl, *ℤ_comm, *ℤ-one, zero-*ℤ, one}
 use Rattle.std.proofs.lemmas.Int.{int_wrap-add_left, int_wrap-add_right}
 use Rattle.std.proofs.lemmas.Grind.{common_steps}

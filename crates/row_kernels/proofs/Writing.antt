@@ -1,5 +1,6 @@
 -- Rows that are written place by place.
-use Rattle.std.proofs.Common.{arith, ℕ, ℤ, ◌≡◌, ◌≢◌, ◌+◌, ◌<◌, List, length, slice_set, below_more, get_or-set_other, get_or-set_same, pos, ◌∙◌}
+use Rattle.std.proofs.Common.{arith, ℕ, ℤ, ◌≡◌, ◌≢◌, ◌+◌, ◌<◌, List, length, slice_set, below_more, get_or-set_other}
+use Rattle.std.proofs.Common.{get_or-set_same, pos, ◌∙◌}
 use Rattle.row_kernels.specs.Rows.{EachPlace, at}
 
 -- a row that is right below k stays so, and is right at k once the number is written there

@@ -1,5 +1,6 @@
 -- What is found first in lists, one after another.
-use Rattle.std.proofs.Common.{arith, ℕ, zero, suc, ◌+◌, ◌<◌, ◌≡◌, ◌⊎◌, inl, inr, refl, ap, sym, ◌∙◌, subst, Bool, true, false, cond, List, [], ◌∷◌, map, filter, drop, length, get_or, Option, Some, None}
+use Rattle.std.proofs.Common.{arith, ℕ, zero, suc, ◌+◌, ◌<◌, ◌≡◌, ◌⊎◌, inl, inr, refl, ap, sym, ◌∙◌, subst, Bool, true, false}
+use Rattle.std.proofs.Common.{cond, List, [], ◌∷◌, map, filter, drop, length, get_or, Option, Some, None}
 use Rattle.std.specs.Prelude.{find, Contains}
 use Rattle.std.specs.Option.{option_map, option_or, is_some}
 use Rattle.std.specs.List.{flat_map, range_with_len}

@@ -1,5 +1,6 @@
 -- Which tiles have room in scratch memory.
-use Rattle.std.proofs.Common.{arith, ℕ, ◌≤◌, ◌<◌, ◌≡◌, refl, ap, sym, ◌∙◌, subst, Bool, true, false, not, List, [], map, Option, Some, None, slice_get, filter}
+use Rattle.std.proofs.Common.{arith, ℕ, ◌≤◌, ◌<◌, ◌≡◌, refl, ap, sym, ◌∙◌, subst, Bool, true, false, not, List, [], map, Option}
+use Rattle.std.proofs.Common.{Some, None, slice_get, filter}
 use Rattle.std.specs.Prelude.{Contains, find, nat_le, if◌then◌else◌}
 use Rattle.std.specs.Option.{option_map, option_map_or}
 use Rattle.std.proofs.lemmas.Bool.{and_from, and_parts, not-true, false≢true, le-leb, leb-true}

@@ -14,7 +14,8 @@ use Rattle.job.specs.Values.{value}
 use Rattle.job.specs.WellFormed.{IsJob}
 use Rattle.tile_eval.specs.Rows.{EachPlace}
 use Rattle.tile_eval.proofs.Rasters.{raster_at}
-use Rattle.tile_run.specs.KnownTiles.{KnownTiles, number_in, number_at, given_number, given_at, AreTrue, IsGivenAt, IsGivenStage, IsGivenLine}
+use Rattle.tile_run.specs.KnownTiles.{KnownTiles, number_in, number_at, given_number}
+use Rattle.tile_run.specs.KnownTiles.{given_at, AreTrue, IsGivenAt, IsGivenStage, IsGivenLine}
 use Rattle.tile_run.proofs.LocalValuesUnroll.{grid_is}
 
 -- the tiles of a stage are those of its grid

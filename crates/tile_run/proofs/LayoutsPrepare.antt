@@ -1,5 +1,6 @@
 -- What the layout of a tile tells of its steps, where all that it needs is given.
-use Rattle.std.proofs.Common.{arith, ℕ, suc, ℤ, ◌≡◌, ◌⊎◌, inl, inr, refl, length, Bool, true, false, List, [], ◌∷◌, ◌++◌, map, Option, Some, None, cond, ap, sym, ◌∙◌, subst}
+use Rattle.std.proofs.Common.{arith, ℕ, suc, ℤ, ◌≡◌, ◌⊎◌, inl, inr, refl, length, Bool, true, false, List, [], ◌∷◌, ◌++◌, map}
+use Rattle.std.proofs.Common.{Option, Some, None, cond, ap, sym, ◌∙◌, subst}
 use Rattle.std.specs.Prelude.{AllPairs, Contains, find, unwrap_or}
 use Rattle.std.specs.Option.{is_none}
 use Rattle.std.proofs.lemmas.Bool.{false≢true, true≢false}

@@ -20,7 +20,8 @@ use Rattle.tile_eval.specs.Buffer.{place_of}
 use Rattle.tile_eval.proofs.Rasters.{raster_at}
 use Rattle.grouping.specs.Schedules.{is_inlined}
 use Rattle.tile_run.specs.KnownTiles.{KnownTiles, number_in, given_number, AreTrue, IsGivenAt}
-use Rattle.tile_run.specs.Local.{body_given, stage_given, read_from, local_within, local_value, FunctionAtHand, BodyAtHand, StageAtHand, IsAtHand, IsClosed}
+use Rattle.tile_run.specs.Local.{body_given, stage_given, read_from, local_within, local_value, FunctionAtHand, BodyAtHand}
+use Rattle.tile_run.specs.Local.{StageAtHand, IsAtHand, IsClosed}
 
 below_both : (k g n : ℕ) → k < g → g < suc n → k < n
 below_both k g n a b = omega arith

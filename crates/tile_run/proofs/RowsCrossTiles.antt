@@ -1,5 +1,6 @@
 -- Tiles that are given, and rows of points that cross their borders.
-use Rattle.std.proofs.Common.{arith, ℕ, zero, suc, ℤ, pos, ◌≡◌, ◌+◌, ◌-◌, ◌<◌, ◌≤◌, ◌+ℤ◌, ◌≤ℤ◌, ◌⊎◌, inl, inr, ap, ◌∙◌, sym, subst, List, ◌++◌, take, drop, length, Option, Some, None, Bor}
+use Rattle.std.proofs.Common.{arith, ℕ, zero, suc, ℤ, pos, ◌≡◌, ◌+◌, ◌-◌, ◌<◌, ◌≤◌, ◌+ℤ◌, ◌≤ℤ◌, ◌⊎◌, inl, inr, ap, ◌∙◌, sym}
+use Rattle.std.proofs.Common.{subst, List, ◌++◌, take, drop, length, Option, Some, None, Bor}
 use Rattle.std.specs.Prelude.{IfSome, IfNone}
 use Rattle.std.proofs.Math.IntN.{+ℤ_idr}
 use Rattle.std.proofs.lemmas.Int.{ints, clamps}

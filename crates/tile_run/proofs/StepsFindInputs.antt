@@ -1,5 +1,6 @@
 -- Where all needs are given, each step of a target finds what it reads among what the steps before it computed.
-use Rattle.std.proofs.Common.{arith, ℕ, ℤ, ◌≡◌, ◌<◌, inl, inr, refl, length, Bool, true, false, not, eqb, List, [], ◌∷◌, Option, Some, None, slice_get, ap, sym, ◌∙◌, subst}
+use Rattle.std.proofs.Common.{arith, ℕ, ℤ, ◌≡◌, ◌<◌, inl, inr, refl, length, Bool, true, false, not, eqb, List, [], ◌∷◌, Option}
+use Rattle.std.proofs.Common.{Some, None, slice_get, ap, sym, ◌∙◌, subst}
 use Rattle.std.specs.Prelude.{Contains, unwrap_or, if◌then◌else◌}
 use Rattle.std.specs.Option.{option_map_or}
 use Rattle.std.proofs.lemmas.Bool.{and_parts, not-true, false≢true}

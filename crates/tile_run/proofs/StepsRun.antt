@@ -1,5 +1,6 @@
 -- Steps, one after another.
-use Rattle.std.proofs.Common.{arith, ℕ, ℤ, ◌≡◌, ◌≢◌, ◌<◌, ◌≤◌, ◌+◌, inl, inr, refl, length, replicate, map, Bool, List, ◌++◌, Option, Some, None, slice_get, slice_index_or, ap, sym, ◌∙◌, subst}
+use Rattle.std.proofs.Common.{arith, ℕ, ℤ, ◌≡◌, ◌≢◌, ◌<◌, ◌≤◌, ◌+◌, inl, inr, refl, length, replicate, map, Bool, List, ◌++◌}
+use Rattle.std.proofs.Common.{Option, Some, None, slice_get, slice_index_or, ap, sym, ◌∙◌, subst}
 use Rattle.std.specs.Option.{option_map}
 use Rattle.std.proofs.lemmas.Bool.{cases_eq, cases_lt}
 use Rattle.std.proofs.lemmas.List.{get_or_append_left, get_or-replicate, length-append, length-replicate}

@@ -1,5 +1,6 @@
 -- Functions over areas, computed from what is at hand.
-use Rattle.std.proofs.Common.{arith, ℕ, ℤ, ◌≡◌, ◌<◌, ◌⊎◌, inl, inr, refl, length, slice_set, Bool, List, Option, Some, slice_get, ap, sym, ◌∙◌, subst}
+use Rattle.std.proofs.Common.{arith, ℕ, ℤ, ◌≡◌, ◌<◌, ◌⊎◌, inl, inr, refl, length, slice_set, Bool, List, Option, Some, slice_get}
+use Rattle.std.proofs.Common.{ap, sym, ◌∙◌, subst}
 use Rattle.std.specs.Prelude.{All, unwrap_or}
 use Rattle.std.proofs.lemmas.Int.{ints}
 use Rattle.std.proofs.lemmas.Bool.{cases_eq}

@@ -56,9 +56,11 @@ impl<K: Known> TileInputs<'_, K> {
 }
 
 impl<K: Known> RowSource for TileInputs<'_, K> {
-    ghost has = { λ inputs g r c. IsInputAt (pipeline_in inputs.tile.job.now) inputs.tile.layout.now.inlining (K.given inputs.tile.known.now) inputs.boxes.now g r c };
+    ghost has = { λ inputs g r c. IsInputAt (pipeline_in inputs.tile.job.now) inputs.tile.layout.now.inlining
+        (K.given inputs.tile.known.now) inputs.boxes.now g r c };
 
-    ghost samples = { λ inputs g r c. input_at (pipeline_in inputs.tile.job.now) inputs.tile.layout.now.inlining (K.given inputs.tile.known.now) inputs.boxes.now g r c };
+    ghost samples = { λ inputs g r c. input_at (pipeline_in inputs.tile.job.now) inputs.tile.layout.now.inlining
+        (K.given inputs.tile.known.now) inputs.boxes.now g r c };
 
     fn read_row(&self, stage: usize, row: i32, first: i32, out: &mut [i32]) {
         let Some(found) = self.tile.job.stage(stage) else {

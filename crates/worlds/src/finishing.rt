@@ -22,13 +22,15 @@ use overlap_tiles::{first_without_room, work_keys};
 use std::alloc::{AllocError, Global};
 
 impl<S: FactStore> World<S> {
-    /// Events after which node n holds all tiles of the stored functions and accumulators of a job: for each of these tiles of which it holds
+    /// Events after which node n holds all tiles of the stored functions and accumulators of a job: for each of these tiles of which it
+    /// holds
     /// nothing a making, and the delivery of what was made, in the order in which they can be made. If they come next, none of them
     /// is refused, unless memory is; whatever was lost or restarted before.
     ///
     /// # Errors
     ///
-    /// The first of `NoSuchNode`, `NoSuchJob` and `ScratchTooBig`, which is told of the tiles of which nothing is held. Memory may be refused
+    /// The first of `NoSuchNode`, `NoSuchJob` and `ScratchTooBig`, which is told of the tiles of which nothing is held. Memory may be
+    /// refused
     /// wherever there are the node and the job.
     pub fn finish(&self, n: u8, job: usize) -> Result<Vec<Event>, FinishFault>
         ensures finishes { IfOk result (λ events. Finishes self.now n job events.items) }

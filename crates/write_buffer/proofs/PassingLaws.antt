@@ -1,5 +1,6 @@
 -- Bytes that pass through a buffer in several parts.
-use Rattle.std.proofs.Common.{◌≡◌, ◌++◌, ◌+◌, ◌<◌, ℕ, List, [], Option, None, Some, Result, Ok, Err, OnOk, length, take, drop, get_or, refl, sym, ap, subst, ◌∙◌, append_assoc, arith}
+use Rattle.std.proofs.Common.{◌≡◌, ◌++◌, ◌+◌, ◌<◌, ℕ, List, [], Option, None, Some, Result, Ok, Err, OnOk, length, take, drop}
+use Rattle.std.proofs.Common.{get_or, refl, sym, ap, subst, ◌∙◌, append_assoc, arith}
 use Rattle.std.specs.Prelude.{IsErr, OnErr}
 use Rattle.std.specs.Io.KnownBytes.{Appends}
 use Rattle.std.specs.List.{flat_map}
@@ -45,7 +46,8 @@ breaks_then front back was mid a b c n m k first second =
     }
 
 -- the earlier bytes fail
-pub breaks_front : (front back was : List ℕ) (a b : Option (List ℕ)) (n m : ℕ) → Breaks front was a b n m → Breaks (front ++ back) was a b n m
+pub breaks_front : (front back was : List ℕ) (a b : Option (List ℕ)) (n m : ℕ) → Breaks front was a b n m
+    → Breaks (front ++ back) was a b n m
 breaks_front front back was a b n m first =
     record {
       taken =
@@ -104,7 +106,8 @@ breaks_more f xs i d was mid a b c n m k within first second =
 
 pub passes_each : {X : Type 0} (f : X → List ℕ) (xs : List X) (i : ℕ) (was waits : List ℕ) (a b : Option (List ℕ)) (n m : ℕ)
     → i ≡ length xs → Passes (flat_map f (take i xs)) was waits a b n m → Passes (flat_map f xs) was waits a b n m
-passes_each f xs i was waits a b n m all passes = subst (λ l. Passes (flat_map f l) was waits a b n m) (take_all i xs (omega (arith, all))) passes
+passes_each f xs i was waits a b n m all passes = subst (λ l. Passes (flat_map f l) was waits a b n m)
+    (take_all i xs (omega (arith, all))) passes
 
 -- ---- an empty buffer that is emptied again
 

@@ -15,11 +15,13 @@ returns c =
     let helpless =
     ap app_of_fields c.disable_help_subcommand.ensures ∙ ap (on_top (λ s. record s { disable_help_subcommand = true })) flagless in
     let empty = ap app_of_fields c.subcommand_required.ensures ∙ ap (on_top (λ s. record s { subcommand_required = true })) helpless in
-    let eval = c.in_ok-subcommand.ensures.shape c.in_ok-command.ensures.local ∙ ap₂ with_subcommand empty (top _ _ c.in_ok-command.ensures.app) in
+    let eval = c.in_ok-subcommand.ensures.shape c.in_ok-command.ensures.local ∙ ap₂ with_subcommand empty
+    (top _ _ c.in_ok-command.ensures.app) in
     let check =
     c.in_ok-subcommand-2.ensures.shape c.in_ok-command-2.ensures.local ∙ ap₂ with_subcommand eval (top _ _ c.in_ok-command-2.ensures.app) in
     let plan =
-    c.in_ok-subcommand-3.ensures.shape c.in_ok-command-3.ensures.local ∙ ap₂ with_subcommand check (top _ _ c.in_ok-command-3.ensures.app) in
+    c.in_ok-subcommand-3.ensures.shape c.in_ok-command-3.ensures.local ∙ ap₂ with_subcommand check
+    (top _ _ c.in_ok-command-3.ensures.app) in
     let audit =
     c.in_ok-subcommand-4.ensures.shape c.in_ok-command-4.ensures.local ∙ ap₂ with_subcommand plan (top _ _ c.in_ok-command-4.ensures.app) in
     IfOk-weaker c.subcommand-5.result _ _

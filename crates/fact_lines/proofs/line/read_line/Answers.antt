@@ -8,5 +8,6 @@ pub returns-clause-fault : goal.returns-clause-fault
 returns-clause-fault c =
     let file = rw c.deref.ensures.value at c.in-Err-decode.ensures.fault in
     subst (λ (fault : LinesFault). IsLineFault c.args.number c.args.line.now fault) (sym c.told.ensures)
-    (line_fault c.args.number c.args.line.now c.in-Ok.bytes.items c.in-Err-decode.fault (λ none. let len = ap length none in omega (arith, len))
+    (line_fault c.args.number c.args.line.now c.in-Ok.bytes.items c.in-Err-decode.fault
+    (λ none. let len = ap length none in omega (arith, len))
     c.in-Ok.ensures.ok file)

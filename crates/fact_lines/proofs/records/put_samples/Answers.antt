@@ -12,7 +12,8 @@ returns-in_err-put_hex g c =
     let fits : SFits w32 number = search rules in
     let exact = to_z-of_z {w = w32} {z = number} fits in
     puts_err c.from_residual.result _ _ _ _ _ _ _ c.from_residual.ensures.0
-    (breaks_more (λ sample. encode_lower (number_bytes w32 sample)) c.args.samples.now c.loop-sample.sample-index (pos 0) _ _ _ _ _ _ _ _ (omega arith) c.loop-sample.invariant
+    (breaks_more (λ sample. encode_lower (number_bytes w32 sample)) c.args.samples.now c.loop-sample.sample-index (pos 0) _ _ _ _ _
+    _ _ _ (omega arith) c.loop-sample.invariant
     (rw (c.to_be_bytes.ensures, exact) at c.in_err-put_hex.ensures))
 
 pub loop-sample-preserved : goal.loop-sample-preserved
@@ -20,5 +21,6 @@ loop-sample-preserved g c =
     let number = get_or c.args.samples.now c.loop-sample.sample-index (pos 0) in
     let fits : SFits w32 number = search rules in
     let exact = to_z-of_z {w = w32} {z = number} fits in
-    passes_more (λ sample. encode_lower (number_bytes w32 sample)) c.args.samples.now c.loop-sample.sample-index (pos 0) _ _ _ _ _ _ _ _ _ (omega arith) c.loop-sample.invariant
+    passes_more (λ sample. encode_lower (number_bytes w32 sample)) c.args.samples.now c.loop-sample.sample-index (pos 0) _ _ _ _ _ _
+    _ _ _ (omega arith) c.loop-sample.invariant
     (rw (c.to_be_bytes.ensures, exact) at c.in_ok-put_hex.ensures)

@@ -10,5 +10,6 @@ pub returns-clause-found : goal.returns-clause-found
 unfolding fact_cmp
 returns-clause-found c =
     let cmp : Fact → Fact → Ordering = λ a b. order.ghosts.cmp a b in
-    ordered_union cmp (λ a b. search rules) c.args.text.now _ _ c.in_ok-facts.ensures.found c.sort_once.ensures.sorted c.sort_once.ensures.kept
+    ordered_union cmp (λ a b. search rules) c.args.text.now _ _ c.in_ok-facts.ensures.found c.sort_once.ensures.sorted
+    c.sort_once.ensures.kept
     c.sort_once.ensures.none_new

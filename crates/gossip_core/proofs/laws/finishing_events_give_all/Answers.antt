@@ -12,4 +12,5 @@ returns-clause-work c u w n j entry inlining is jobs truth here planned room =
 
 pub returns-clause-wanted : goal.returns-clause-wanted
 returns-clause-wanted c u w n j entry inlining is jobs truth here planned room stores =
-    wanted_given u w n j entry inlining is (jobs j entry planned.there) truth (λ v new e. accepted_true u v new e is jobs) here planned room stores
+    wanted_given u w n j entry inlining is (jobs j entry planned.there) truth (λ v new e. accepted_true u v new e is jobs) here
+    planned room stores

@@ -3,4 +3,8 @@ use Rattle.gossip_events.specs.Scripts.{AreEvents, lines}
 use Rattle.gossip_events.proofs.script.script_of.Given as goal
 
 abbrev pub invariant-loop-line : goal.invariant-loop-line
-invariant-loop-line l = record { count : l.number ≡ length l.yielded; told : AreEvents l.jobs (take l.number (lines l.text)) l.events.items }
+invariant-loop-line l = record {
+  count : l.number ≡ length l.yielded;
+  told : AreEvents l.jobs (take l.number (lines l.text))
+      l.events.items;
+}

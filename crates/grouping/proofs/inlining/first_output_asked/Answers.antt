@@ -5,7 +5,8 @@ use Rattle.job.specs.Kept.{pipeline_in}
 use Rattle.job.specs.Views.{stage_view}
 use Rattle.grouping.proofs.AskedIsSchedule.{none_more, first_is, none_at_all}
 use Rattle.grouping.proofs.inlining.first_output_asked.Goals as goal
-use Rattle.grouping.proofs.inlining.first_output_asked.Goals.{else-is_asked-via-then-is_asked+else-is_output, else-is_asked-via-else-is_asked}
+use Rattle.grouping.proofs.inlining.first_output_asked.Goals.{else-is_asked-via-then-is_asked+else-is_output}
+use Rattle.grouping.proofs.inlining.first_output_asked.Goals.{else-is_asked-via-else-is_asked}
 
 pub returns-then-is_output-clause-some : goal.returns-then-is_output-clause-some
 returns-then-is_output-clause-some c =

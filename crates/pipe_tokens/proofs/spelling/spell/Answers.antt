@@ -1,7 +1,9 @@
 use Rattle.std.proofs.Common.{◌≡◌, ◌++◌, ◌∙◌}
 use Rattle.pipe_tokens.proofs.Spelt.{blank, with_blank, first_no_blank, next_no_blank, goes_on, is_done}
 use Rattle.pipe_tokens.proofs.spelling.spell.Goals as goal
-use Rattle.pipe_tokens.proofs.spelling.spell.Goals.{In_ok-push_token, then-behind_word+then-is_word+in_ok-push, else-behind_word, else-behind_word-via-then-behind_word+else-is_word, else-behind_word-via-else-behind_word}
+use Rattle.pipe_tokens.proofs.spelling.spell.Goals.{In_ok-push_token, then-behind_word+then-is_word+in_ok-push, else-behind_word}
+use Rattle.pipe_tokens.proofs.spelling.spell.Goals.{else-behind_word-via-then-behind_word+else-is_word}
+use Rattle.pipe_tokens.proofs.spelling.spell.Goals.{else-behind_word-via-else-behind_word}
 
 -- the blank is there where it is needed
 spaced : (c : In_ok-push_token)

@@ -3,7 +3,8 @@ use Rattle.std.proofs.lemmas.Int.{to_z-of_z}
 use Rattle.std.specs.Int.{w32}
 use Rattle.std.specs.Ordering.{int_cmp}
 use Rattle.tile_fact.specs.Numbers.{number_in}
-use Rattle.tile_fact.proofs.NumberLaws.{sample_step, sample_end, unequal_first, equal_first, longer_first, shorter_first, both_end, is_equal, is_unequal}
+use Rattle.tile_fact.proofs.NumberLaws.{sample_step, sample_end, unequal_first, equal_first, longer_first, shorter_first}
+use Rattle.tile_fact.proofs.NumberLaws.{both_end, is_equal, is_unequal}
 use Rattle.tile_fact.proofs.number_bytes.compare_samples.Goals as goal
 use Rattle.tile_fact.proofs.number_bytes.compare_samples.Goals.{then-loop-a_rest-test+else-b_rest-ge4, else-loop-a_rest-test}
 

@@ -1,4 +1,5 @@
-use Rattle.std.proofs.Common.{rules, arith, ℤ, ◌≡◌, ◌+ℤ◌, ◌<◌, ◌+◌, ◌*◌, pos, unsigned_abs, length, to_z, of_z, w32, FitsSigned, ap, ◌∙◌, sym, subst}
+use Rattle.std.proofs.Common.{rules, arith, ℤ, ◌≡◌, ◌+ℤ◌, ◌<◌, ◌+◌, ◌*◌, pos, unsigned_abs, length, to_z, of_z, w32, FitsSigned}
+use Rattle.std.proofs.Common.{ap, ◌∙◌, sym, subst}
 use Rattle.std.proofs.Math.IntN.{+ℤ_idr}
 use Rattle.std.proofs.lemmas.Int.{to_z-of_z}
 use Rattle.domains.specs.Area.{HoldsPoint}

@@ -1,7 +1,9 @@
 use Rattle.std.proofs.Common.{◌+◌, sym, ◌∙◌, subst, take}
 use Rattle.node_state.proofs.AskedLaws.{IsFound, found_first, found_later, found_held}
 use Rattle.node_state.proofs.state.NodeState.least_not_held.Goals as goal
-use Rattle.node_state.proofs.state.NodeState.least_not_held.Goals.{then-count-eq0+then-is_first, else-count-eq0, else-count-eq0-via-then-count-eq0+else-is_first, else-count-eq0-via-else-count-eq0}
+use Rattle.node_state.proofs.state.NodeState.least_not_held.Goals.{then-count-eq0+then-is_first, else-count-eq0}
+use Rattle.node_state.proofs.state.NodeState.least_not_held.Goals.{else-count-eq0-via-then-count-eq0+else-is_first}
+use Rattle.node_state.proofs.state.NodeState.least_not_held.Goals.{else-count-eq0-via-else-count-eq0}
 
 pub loop-key-preserved : goal.loop-key-preserved
 loop-key-preserved g c =

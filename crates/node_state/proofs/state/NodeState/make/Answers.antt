@@ -49,7 +49,8 @@ local_body-requires-clause-given g c =
     let job = c.in-Some.job.now in
     let keys = c.needs.result.now in
     let is = c.in_ok-plan.ensures.plan in
-    let asked : keys ≡ needed_keys (program_id_in job) (target_over (pipeline_in job) c.args.schedule.now.inlining c.from-stage.result is.area) =
+    let asked : keys ≡ needed_keys (program_id_in job)
+    (target_over (pipeline_in job) c.args.schedule.now.inlining c.from-stage.result is.area) =
     c.needs.ensures ∙ is.plan.plan.needs in
     subst (λ (fs : List Fact). first_missing (tiles_in fs) c.in_ok-plan.plan.needs ≡ None) (sym c.in_ok-facts.ensures.facts)
     (subst (λ (ks : List Key). first_missing (needed_tiles s keys) ks ≡ None) c.needs.ensures

@@ -9,7 +9,8 @@ use Rattle.job.specs.Views.{stage_view}
 use Rattle.job.specs.Values.{sample_at}
 use Rattle.job.specs.WellFormed.{picture_area}
 use Rattle.tile_eval.specs.Buffer.{sample_in, IsKnownAt}
-use Rattle.tile_run.proofs.InputsAreRead.{plane_body, function_body, of_plane, of_inlined, of_stored, read_plane, read_inlined, read_stored, given_by, number_by}
+use Rattle.tile_run.proofs.InputsAreRead.{plane_body, function_body, of_plane, of_inlined, of_stored, read_plane, read_inlined}
+use Rattle.tile_run.proofs.InputsAreRead.{read_stored, given_by, number_by}
 use Rattle.tile_run.proofs.StepsRun.{planes_lie}
 use Rattle.tile_run.proofs.tile_inputs.TileInputsRowSource.gather.Goals as goal
 

@@ -7,7 +7,8 @@ use Rattle.job.specs.Kept.{pipeline_in}
 use Rattle.job.specs.Views.{stage_view}
 use Rattle.job.specs.WellFormed.{picture_area}
 use Rattle.tile_eval.specs.Buffer.{sample_in, IsKnownAt}
-use Rattle.tile_run.proofs.InputsAreRead.{plane_body, function_body, of_plane, of_inlined, of_stored, read_inlined, read_stored, given_by, number_by}
+use Rattle.tile_run.proofs.InputsAreRead.{plane_body, function_body, of_plane}
+use Rattle.tile_run.proofs.InputsAreRead.{of_inlined, of_stored, read_inlined, read_stored, given_by, number_by}
 use Rattle.tile_run.proofs.StepsRun.{planes_lie}
 use Rattle.tile_run.proofs.tile_inputs.TileInputsRowSource.read_row.Goals as goal
 

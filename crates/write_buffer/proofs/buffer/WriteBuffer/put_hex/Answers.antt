@@ -17,4 +17,5 @@ loop-byte-preserved g c =
     c.loop-byte.invariant (rw c.digits_of.ensures at c.in_ok-put.ensures)
 
 pub returns : goal.returns
-returns g c = rw (lower_each c.args.bytes.now) (passes_each (λ byte. encode_lower (byte ∷ [])) c.args.bytes.now _ _ _ _ _ _ _ (omega arith) c.loop-byte.invariant)
+returns g c = rw (lower_each c.args.bytes.now)
+    (passes_each (λ byte. encode_lower (byte ∷ [])) c.args.bytes.now _ _ _ _ _ _ _ (omega arith) c.loop-byte.invariant)

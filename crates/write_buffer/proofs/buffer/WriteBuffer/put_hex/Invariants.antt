@@ -6,5 +6,6 @@ use Rattle.write_buffer.proofs.buffer.WriteBuffer.put_hex.Given as goal
 
 abbrev pub invariant-loop-byte : goal.invariant-loop-byte
 invariant-loop-byte g l =
-    Passes (flat_map (λ byte. encode_lower (byte ∷ [])) (take l.byte-index l.bytes)) l.initial.self l.self (g.W.Sink.contents l.initial.writer)
+    Passes (flat_map (λ byte. encode_lower (byte ∷ [])) (take l.byte-index l.bytes)) l.initial.self l.self
+    (g.W.Sink.contents l.initial.writer)
     (g.W.Sink.contents l.writer) (g.W.Sink.failures l.initial.writer) (g.W.Sink.failures l.writer)

@@ -17,4 +17,5 @@ loop-part-preserved g c =
     c.loop-part.invariant c.in_ok-put_hex.ensures
 
 pub returns : goal.returns
-returns g c = rw (lower_all (λ part. part.now) c.args.parts.now) (passes_each (λ part. encode_lower part.now) c.args.parts.now _ _ _ _ _ _ _ (omega arith) c.loop-part.invariant)
+returns g c = rw (lower_all (λ part. part.now) c.args.parts.now)
+    (passes_each (λ part. encode_lower part.now) c.args.parts.now _ _ _ _ _ _ _ (omega arith) c.loop-part.invariant)
