@@ -1,0 +1,3 @@
+pub mod UpdateLaws
+pub mod HistoryLaws
+pub mod LoanLaws

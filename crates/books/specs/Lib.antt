@@ -1,0 +1,4 @@
+pub mod Updates
+pub mod Histories
+pub mod Loans
+pub mod Books

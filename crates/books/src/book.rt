@@ -1,0 +1,201 @@
+//! A node with its history.
+
+ghost use Rattle.books.specs.Books.{IsRecorded};
+ghost use Rattle.books.specs.Histories.{IsLegal, replay};
+ghost use Rattle.books.specs.Loans.{AreTrueFactsOf};
+ghost use Rattle.books.specs.Updates.{AreTrue, state_of};
+ghost use Rattle.books.specs.declared.event.Event.TheVariants.{Kept, Lent, Restarted, Took};
+ghost use Rattle.node_state.specs.Answers.{IsLendFault};
+ghost use Rattle.node_state.specs.HeldFacts.{HoldsTrueFacts};
+ghost use Rattle.node_state.specs.States.{facts_in, lent};
+ghost use Rattle.std.specs.Prelude.{◌≡◌, ◌++◌, ◌∷◌, [], IfErr, IfOk, OnErr, OnOk, length};
+
+use crate::event::{Event, Keys, Updates};
+use crate::receipt::{Loan, Receipt};
+use catalog::Catalog;
+use fact_store::{FactStore, SortedFacts};
+use identity::Key;
+use named_catalogs::NamedCatalog;
+use node_state::{LendFault, NodeState};
+use std::alloc::{AllocError, AllocFailed, Global};
+use std::marker::{Model, PhantomData};
+use tile_fact::Fact;
+
+/// What one node holds and what it keeps, over any store, with the history of all that happened to it. Contracts see the history: what
+/// is held and kept is what it leaves, it is legal, and each fact that is held or kept is true of the catalog that the type names.
+#[derive(Drop)]
+pub struct NodeBook<C: NamedCatalog, S: FactStore = SortedFacts> {
+    alloc: Global,
+    held: NodeState<S>,
+    kept: NodeState<S>,
+    history: Vec<Event>,
+    of: PhantomData<C>,
+}
+
+impl<C: NamedCatalog, S: FactStore> Model for NodeBook<C, S> {
+    ghost use Rattle.books.specs.Books.{IsBook};
+    ghost use Rattle.books.specs.declared.event.Event.{Event};
+    ghost use Rattle.std.specs.Prelude.{List};
+
+    ghost Value = { List Event };
+
+    ghost view = { λ book. book.history.items };
+
+    ghost invariant = { λ book. IsBook C.catalog book.held book.kept book.history.items };
+}
+
+impl<C: NamedCatalog, S: FactStore> NodeBook<C, S> {
+    /// A node that holds and keeps nothing, and to which nothing happened yet. No memory is taken.
+    pub fn new(alloc: Global, catalog: &Catalog) -> NodeBook<C, S>
+        requires { catalog.now ≡ C.catalog }
+        ensures { result ≡ [] }
+    {
+        // What each catalog is `job` tells, whichever it is asked for.
+        let _ = catalog.job(0);
+        NodeBook {
+            alloc,
+            held: NodeState::new(alloc),
+            kept: NodeState::new(alloc),
+            history: Vec::new(alloc),
+            of: PhantomData,
+        }
+    }
+
+    /// What is held.
+    pub fn held(&self) -> &NodeState<S>
+        ensures stands { result.now ≡ (replay self.now).held }
+        ensures truth { HoldsTrueFacts C.catalog result.now }
+    {
+        &self.held
+    }
+
+    /// What is kept for a restart.
+    pub fn kept(&self) -> &NodeState<S>
+        ensures stands { result.now ≡ (replay self.now).kept }
+        ensures truth { HoldsTrueFacts C.catalog result.now }
+    {
+        &self.kept
+    }
+
+    /// All events so far.
+    pub fn history(&self) -> &[Event]
+        ensures events { result.now ≡ self.now }
+        ensures legal { IsLegal self.now }
+    {
+        &self.history
+    }
+
+    /// Lends the facts of the keys, which may stand in any order and more than once, and records it.
+    ///
+    /// # Errors
+    ///
+    /// Fails at the least key of which nothing is held, and where memory is refused. Then nothing is recorded.
+    pub fn lend(&mut self, keys: &[Key]) -> Result<Loan, LendFault>
+        ensures lent { IfOk result
+            (λ loan. loan.facts.items ≡ facts_in (lent (replay self.old).held keys.now)) }
+        ensures truth { IfOk result
+            (λ loan. AreTrueFactsOf C.catalog keys.now loan.facts.items) }
+        ensures recorded { IfOk result
+            (λ loan. IsRecorded self.old self.new (Lent keys.now) loan.receipt) }
+        ensures fault { IfErr result (IsLendFault (replay self.old).held keys.now) }
+        ensures unchanged { OnErr result (self.new ≡ self.old) }
+    {
+        let facts = self.held.lend(keys)?;
+        let lent = Keys::copy_of(self.alloc, keys)?;
+        let told = Keys::copy_of(self.alloc, keys)?;
+        self.history.reserve(1)?;
+        let number = self.history.len() as u64;
+        self.history.push_reserved(Event::Lent(lent));
+        let receipt = Receipt {
+            number,
+            event: Event::Lent(told),
+        };
+        Ok(Loan { facts, receipt })
+    }
+
+    /// Takes updates into what is held, and records it. Where memory is refused they come back, and all is as before.
+    pub fn take(&mut self, updates: Vec<Fact>) -> Result<Receipt, AllocFailed<Vec<Fact>>>
+        requires { AreTrue C.catalog updates.items }
+        ensures recorded { IfOk result (IsRecorded self.old self.new (Took updates.items)) }
+        ensures handed_back { IfErr result (λ back. back.value ≡ updates) }
+        ensures unchanged { OnErr result (self.new ≡ self.old) }
+    {
+        match self.take_copies(&updates) {
+            Ok(number) => Ok(Receipt {
+                number,
+                event: Event::Took(Updates::new(updates)),
+            }),
+            Err(_) => Err(AllocFailed { value: updates }),
+        }
+    }
+
+    // Takes copies of updates, and gives the number of the event.
+    fn take_copies(&mut self, updates: &[Fact]) -> Result<u64, AllocError>
+        requires { AreTrue C.catalog updates.now }
+        ensures recorded { OnOk result (self.new ≡ self.old ++ Took updates.now ∷ []) }
+        ensures number { IfOk result (λ number. number ≡ length self.old) }
+        ensures unchanged { OnErr result (self.new ≡ self.old) }
+    {
+        let taken = Updates::copy_of(self.alloc, updates)?;
+        let state: NodeState<S> = state_of(self.alloc, updates)?;
+        self.history.reserve(1)?;
+        self.held.merge(&state)?;
+        let number = self.history.len() as u64;
+        self.history.push_reserved(Event::Took(taken));
+        Ok(number)
+    }
+
+    /// Keeps what is held, and records it. What is kept shares its facts with what is held.
+    pub fn keep(&mut self) -> Result<Receipt, AllocError>
+        ensures recorded { IfOk result (IsRecorded self.old self.new Kept) }
+        ensures unchanged { OnErr result (self.new ≡ self.old) }
+    {
+        let kept = self.held.copy()?;
+        self.history.reserve(1)?;
+        let number = self.history.len() as u64;
+        self.kept = kept;
+        self.history.push_reserved(Event::Kept);
+        Ok(Receipt {
+            number,
+            event: Event::Kept,
+        })
+    }
+
+    /// Holds what was kept, and nothing else, and records it.
+    pub fn restart(&mut self) -> Result<Receipt, AllocError>
+        ensures recorded { IfOk result (IsRecorded self.old self.new Restarted) }
+        ensures unchanged { OnErr result (self.new ≡ self.old) }
+    {
+        let held = self.kept.copy()?;
+        self.history.reserve(1)?;
+        let number = self.history.len() as u64;
+        self.held = held;
+        self.history.push_reserved(Event::Restarted);
+        Ok(Receipt {
+            number,
+            event: Event::Restarted,
+        })
+    }
+
+    /// What is held in the end, and all events.
+    pub fn into_parts(self) -> (NodeState<S>, Vec<Event>)
+        ensures stands { result.0 ≡ (replay self).held }
+        ensures truth { HoldsTrueFacts C.catalog result.0 }
+        ensures events { result.1.items ≡ self }
+        ensures legal { IsLegal self }
+    {
+        let NodeBook { held, history, .. } = self;
+        (held, history)
+    }
+}
+
+// What these updates alone make.
+fn state_of<S: FactStore>(alloc: Global, updates: &[Fact]) -> Result<NodeState<S>, AllocError>
+    ensures { IfOk result (λ state. state ≡ state_of updates.now) }
+{
+    let mut state = NodeState::new(alloc);
+    for update in updates {
+        state.take(update.clone()?)?;
+    }
+    Ok(state)
+}

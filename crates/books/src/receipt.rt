@@ -1,0 +1,19 @@
+//! What a call that is recorded answers.
+
+use crate::event::Event;
+use tile_fact::Fact;
+
+/// An event, and its number in the history, from 0 on.
+#[derive(Debug, Drop)]
+pub struct Receipt {
+    pub number: u64,
+    pub event: Event,
+}
+
+/// What a node lends.
+#[derive(Debug, Drop)]
+pub struct Loan {
+    /// The facts, rising.
+    pub facts: Vec<Fact>,
+    pub receipt: Receipt,
+}

@@ -1,0 +1,38 @@
+-- The end of a node: its seats, each with the receipts of its caller.
+use Rattle.std.specs.Global.{Vec}
+use Rattle.std.specs.List.{Contains}
+use Rattle.std.specs.Prelude.{◌≡◌, ℕ, List, All, length, map, sum_by}
+use Rattle.node_state.specs.declared.answers.LendFault.{LendFault}
+use Rattle.node_state.specs.declared.answers.LendFault.TheVariants.{NotHeld, Memory}
+use Rattle.identity.specs.declared.key.Key.{Key}
+use Rattle.books.specs.Histories.{IsLegal}
+use Rattle.books.specs.declared.event.Event.{Event}
+use Rattle.books.specs.declared.receipt.Receipt.{Receipt}
+use Rattle.receipts.specs.Accounts.{IsCloseFault}
+use Rattle.receipts.specs.declared.fault.CloseFault.{CloseFault}
+
+-- a seat's count, and the receipts beside it
+abbrev pub End : Type 0
+End = ℕ × Vec Receipt
+
+abbrev pub receipts_of : List End → List (List Receipt)
+receipts_of ends = map (λ end. end.1.items) ends
+
+-- beside each seat stand as many receipts as it counts calls
+abbrev pub HaveAllReceipts : List End → Type 0
+HaveAllReceipts ends = All (λ end. length end.1.items ≡ end.0) ends
+
+-- the calls that all seats count together
+abbrev pub calls_of : List End → ℕ
+calls_of ends = sum_by (λ end. end.0) ends
+
+-- ---- what is said where a lock hides the history
+
+-- a key of which nothing is held is one that was asked for
+abbrev pub IsAsked : List Key → LendFault → Type 0
+IsAsked keys (NotHeld key) = Contains keys key
+IsAsked keys Memory = Unit {0}
+
+-- by some legal history
+abbrev pub IsSomeCloseFault : List End → CloseFault → Type 0
+IsSomeCloseFault ends fault = (history : List Event) × IsLegal history × IsCloseFault history (receipts_of ends) fault

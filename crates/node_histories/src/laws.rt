@@ -1,0 +1,34 @@
+//! What the definitions amount to. A law is a function whose clauses are the law.
+
+ghost use Rattle.books.specs.Histories.{replay, replay_from};
+ghost use Rattle.books.specs.declared.event.Event.{Event};
+ghost use Rattle.gossip_core.specs.Networks.{Network, Sent};
+ghost use Rattle.gossip_core.specs.Steps.{Work};
+ghost use Rattle.gossip_core.specs.Taking.{IsTaken, IsTakenAtKeep};
+ghost use Rattle.gossip_events.specs.declared.event.Event.{Event as Step};
+ghost use Rattle.node_histories.specs.Playing.{Plays, Runs, newest_first, node_in, with_node};
+ghost use Rattle.std.specs.Prelude.{◌≡◌, ◌<◌, ℕ, [], List, length};
+
+/// The replay of a history is what deliveries, keeps and restarts do to one node of a world: such events are accepted, they leave the
+/// node as the replay does, and change nothing else. For each history there are messages and events that do to a node what it did.
+pub fn histories_replay_in_worlds()
+    ensures runs { (u : Work) (w : Network) (n : ℕ) (h : List Event) (events : List Step)
+        → n < length w.nodes → Plays w.messages n h events
+        → Runs u w events (with_node w n (replay_from (node_in w n) h)) }
+    ensures only { (u : Work) (w new : Network) (n : ℕ) (h : List Event) (events : List Step)
+        → n < length w.nodes → Plays w.messages n h events → Runs u w events new
+        → new ≡ with_node w n (replay_from (node_in w n) h) }
+    ensures each { (n : ℕ) (h : List Event)
+        → (messages : List Sent) × (events : List Step) × Plays messages n h events }
+{}
+
+/// So what a history leaves held is what the node took by those events, and what it leaves kept is what the node had taken at its last
+/// keep.
+pub fn histories_leave_what_was_taken()
+    ensures held { (messages : List Sent) (n : ℕ) (h : List Event) (events : List Step)
+        → Plays messages n h events
+        → IsTaken messages (newest_first events []) n (replay h).held }
+    ensures kept { (messages : List Sent) (n : ℕ) (h : List Event) (events : List Step)
+        → Plays messages n h events
+        → IsTakenAtKeep messages (newest_first events []) n (replay h).kept }
+{}

@@ -1,0 +1,2 @@
+pub mod SeenReceipts
+pub mod LongAccounts
