@@ -1,0 +1,2 @@
+pub mod LeftTiles
+pub mod Roomy

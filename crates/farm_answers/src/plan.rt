@@ -1,0 +1,84 @@
+//! How the tiles of a job are made, and its answer.
+
+ghost use Rattle.std.specs.Option.{ForSome};
+ghost use Rattle.std.specs.Prelude.{◌≡◌, IfOk, []};
+ghost use Rattle.accumulators.specs.Answers.{IsAnswer};
+ghost use Rattle.catalog.specs.Entries.{entry_of};
+ghost use Rattle.fact_audit.specs.TrueFacts.{IsTrueFact};
+ghost use Rattle.farm_answers.specs.inside.Missing.{CanMake, HoldsAnswerOf, IsLeft};
+ghost use Rattle.gossip_core.specs.Finishing.{lacked_work};
+ghost use Rattle.job.specs.Kept.{pipeline_in};
+ghost use Rattle.netpbm.specs.Image.{IsImage};
+
+use accumulators::Answer;
+use catalog::Catalog;
+use grouping::Schedule;
+use identity::Key;
+use job::Job;
+use node_state::{AnswerFault, MakeFault, NodeState};
+use overlap_tiles::work_keys;
+use std::alloc::{AllocError, Global};
+use tile_fact::Fact;
+
+/// A job of a catalog, and a schedule of it.
+#[derive(Clone, Copy)]
+pub struct Plan<'a> {
+    pub catalog: &'a Catalog,
+    pub job: &'a Job,
+    pub schedule: &'a Schedule,
+}
+
+impl Plan<'_> {
+    /// The keys of the work tiles of which nothing is held.
+    pub fn lacked(&self, alloc: Global, state: &NodeState) -> Result<Vec<Key>, AllocError>
+        ensures { IfOk result (λ keys. keys.items
+            ≡ lacked_work state.now (entry_of self.now.job.now) self.now.schedule.now.inlining) }
+    {
+        let mut keys = work_keys(alloc, self.job, self.schedule)?;
+        keys.retain(|key| state.count(key) == 0);
+        Ok(keys)
+    }
+
+    /// Makes the tiles of these keys one after another, which are all that is missing of the job's work, and adds their facts.
+    pub fn make_all(&self, state: NodeState, keys: &[Key]) -> Result<NodeState, AllocError>
+        requires { IsLeft self.now.catalog.now (entry_of self.now.job.now)
+            self.now.schedule.now.inlining state keys.now }
+        ensures { IfOk result (λ full. IsLeft self.now.catalog.now (entry_of self.now.job.now)
+            self.now.schedule.now.inlining full []) }
+    {
+        let mut state = state;
+        for key in keys {
+            let fact = self.make(&state, key)?;
+            state.take(fact)?;
+        }
+        Ok(state)
+    }
+
+    /// The fact of a key that nothing but memory keeps from being made.
+    fn make(&self, state: &NodeState, key: &Key) -> Result<Fact, AllocError>
+        requires { CanMake self.now.catalog.now state.now self.now.schedule.now.inlining key.now }
+        ensures key { IfOk result (λ fact. fact.key ≡ key.now) }
+        ensures is_true { IfOk result (IsTrueFact self.now.catalog.now) }
+    {
+        match state.make(self.catalog, self.schedule, key) {
+            Ok(fact) => Ok(fact),
+            Err(MakeFault::Memory) => Err(AllocError),
+            Err(_) => unreachable!(),
+        }
+    }
+
+    /// The answer of the job from a state that holds true facts alone, and all that the answer is put together from.
+    pub fn answer(&self, state: &NodeState) -> Result<Answer, AllocError>
+        requires { HoldsAnswerOf self.now.catalog.now state.now (entry_of self.now.job.now) }
+        ensures answer { IfOk result (IsAnswer (pipeline_in self.now.job.now)) }
+        ensures image { IfOk result (λ answer. ForSome answer.picture IsImage) }
+    {
+        match state.answer(self.job) {
+            Ok(answer) => Ok(answer),
+            Err(AnswerFault::Memory) => Err(AllocError),
+            Err(AnswerFault::Missing(_)) => unreachable!(),
+            Err(AnswerFault::Disputed(_)) => unreachable!(),
+            Err(AnswerFault::Misshapen(_)) => unreachable!(),
+        }
+    }
+}

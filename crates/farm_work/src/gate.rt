@@ -1,0 +1,23 @@
+//! What the workers of a farm pass.
+
+use tile_fact::Fact;
+
+/// What each worker of a farm calls as it goes: a place to watch a farm from, or to let its workers wait for one another. No lock of the
+/// farm is held at a call.
+pub trait Gate {
+    /// A worker enters a turn. Workers count from 0, turns from 1.
+    fn enter(&self, worker: u8, turn: u32);
+
+    /// A worker has made a fact, which its node does not hold yet.
+    fn made(&self, worker: u8, turn: u32, fact: &Fact);
+}
+
+/// A gate that lets all pass.
+#[derive(Clone, Copy, Debug)]
+pub struct Open;
+
+impl Gate for Open {
+    fn enter(&self, _worker: u8, _turn: u32) {}
+
+    fn made(&self, _worker: u8, _turn: u32, _fact: &Fact) {}
+}

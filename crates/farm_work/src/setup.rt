@@ -1,0 +1,60 @@
+//! How a farm runs.
+
+ghost use Rattle.std.specs.Prelude.{◌≡◌, IfNone, IfSome};
+ghost use Rattle.farm_work.specs.Setups.{IsWithin};
+
+/// The most nodes of a farm.
+pub const MOST_NODES: u8 = 8;
+
+/// The most turns of a worker.
+pub const MOST_TURNS: u32 = 65_536;
+
+/// The most parcels for which a mailbox has room.
+pub const MOST_PARCELS: u32 = 1_024;
+
+/// The faults that a farm makes on purpose, each of them never where its number is 0.
+#[derive(Clone, Copy, Debug, PartialEq, Eq)]
+pub struct Faults {
+    /// Of the parcels that a worker would send, each one of this many is lost.
+    pub lose: u32,
+    /// Of the parcels that a worker has received, each one of this many is given to its node twice.
+    pub repeat: u32,
+    /// In turns that are multiples of it, a worker restarts its node.
+    pub restart: u32,
+}
+
+/// How many nodes a farm has, how many turns each worker goes through, for how many parcels a mailbox has room, and which faults are
+/// made: 1 to 8 nodes, at most 65,536 turns, and room for 1 to 1,024 parcels.
+#[derive(Clone, Copy)]
+pub struct FarmSetup {
+    pub nodes: u8,
+    pub turns: u32,
+    pub capacity: u32,
+    pub faults: Faults,
+    ghost within: { IsWithin nodes turns capacity },
+}
+
+impl FarmSetup {
+    /// A farm of so many nodes, if all numbers are within their limits. No memory is taken.
+    pub fn new(nodes: u8, turns: u32, capacity: u32, faults: Faults) -> Option<FarmSetup>
+        ensures nodes { IfSome result (λ setup. setup.nodes ≡ nodes) }
+        ensures turns { IfSome result (λ setup. setup.turns ≡ turns) }
+        ensures capacity { IfSome result (λ setup. setup.capacity ≡ capacity) }
+        ensures faults { IfSome result (λ setup. setup.faults ≡ faults) }
+        ensures within { IfSome result (λ _. IsWithin nodes turns capacity) }
+        ensures refused { IfNone result (¬ (IsWithin nodes turns capacity)) }
+    {
+        if nodes == 0 || nodes > MOST_NODES || turns > MOST_TURNS {
+            return None;
+        }
+        if capacity == 0 || capacity > MOST_PARCELS {
+            return None;
+        }
+        Some(FarmSetup {
+            nodes,
+            turns,
+            capacity,
+            faults,
+        })
+    }
+}

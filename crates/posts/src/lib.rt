@@ -1,0 +1,11 @@
+//! Mailboxes for facts, which threads share. Only parcels of true facts are put into one, so each that is taken out has true facts.
+#![tactic(auto)]
+
+mod line;
+mod parcel;
+mod post;
+mod rule;
+
+pub use line::Line;
+pub use parcel::{Moves, Parcel};
+pub use post::{Pass, Post};

@@ -1,0 +1,43 @@
+//! A mailbox and a pass of it.
+
+ghost use Rattle.std.specs.Prelude.{◌≡◌, IfErr, IfSome};
+ghost use Rattle.crossbeam_queue.specs.Passes.{IsPassOf};
+ghost use Rattle.posts.specs.Parcels.{IsTrueParcel};
+
+use crate::parcel::Parcel;
+use crate::post::{Pass, Post};
+use named_catalogs::NamedCatalog;
+use std::sync::Wait;
+
+/// One thread's way to a mailbox: the mailbox, and a pass that is one of it.
+#[derive(Drop)]
+pub struct Line<'a, C: NamedCatalog> {
+    post: &'a Post<C>,
+    pass: Pass<C>,
+    ghost of_this: { IsPassOf post.now.queue pass.seat },
+}
+
+impl<'a, C: NamedCatalog> Line<'a, C> {
+    /// A way to this mailbox, by a new pass. No memory is taken.
+    pub fn to(post: &'a Post<C>) -> Line<'a, C> {
+        Line {
+            post,
+            pass: post.pass(),
+        }
+    }
+
+    /// Puts a parcel of true facts in, as `Post::put` does.
+    pub fn put<R: Wait>(&mut self, rt: &R, parcel: Parcel) -> Result<(), Parcel>
+        requires is_true { IsTrueParcel C.catalog parcel }
+        ensures handed_back { IfErr result (λ back. back ≡ parcel) }
+    {
+        self.post.put(rt, &mut self.pass, parcel)
+    }
+
+    /// Takes a parcel out, as `Post::take` does. Its facts are true.
+    pub fn take<R: Wait>(&mut self, rt: &R) -> Option<Parcel>
+        ensures is_true { IfSome result (IsTrueParcel C.catalog) }
+    {
+        self.post.take(rt, &mut self.pass)
+    }
+}

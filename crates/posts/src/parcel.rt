@@ -1,0 +1,17 @@
+//! What goes through a mailbox.
+
+use std::collections::LinkedList;
+use tile_fact::Fact;
+
+/// Facts on their way, and the node that they come from.
+#[derive(Debug, Drop)]
+pub struct Parcel {
+    pub from: u8,
+    pub facts: Vec<Fact>,
+}
+
+/// What was put and taken by one pass, in order. Contracts alone speak of it: no value of it is made.
+pub struct Moves {
+    pub puts: LinkedList<Parcel>,
+    pub takes: LinkedList<Parcel>,
+}
