@@ -1,5 +1,6 @@
 -- The picture of a job, from the planes of its output's functions.
-use Rattle.std.proofs.Common.{◌≡◌, ◌≤◌, ◌*◌, ◌||◌, ℕ, ℤ, pos, inl, inr, Bool, true, false, eqb, List, [], ◌∷◌, Option, Some, length, map, unsigned_abs, refl, sym, ap, ◌∙◌, subst, arith}
+use Rattle.std.proofs.Common.{◌≡◌, ◌≤◌, ◌*◌, ◌||◌, ℕ, ℤ, pos, inl, inr, Bool, true, false, eqb, List, [], ◌∷◌, Option, Some}
+use Rattle.std.proofs.Common.{length, map, unsigned_abs, refl, sym, ap, ◌∙◌, subst, arith}
 use Rattle.std.specs.Prelude.{Contains, slice_get, slice_index, slice_index_or}
 use Rattle.std.specs.Int.{int_min, int_max}
 use Rattle.std.specs.List.{list_any}

@@ -1,5 +1,6 @@
 -- Bins that take in values: one, a row of them, and rows of points.
-use Rattle.std.proofs.Common.{arith, get_or-set_other, inl, inr, get_or-set_same, ℕ, zero, suc, ◌≡◌, ◌-◌, ◌<◌, ℤ, pos, ◌+ℤ◌, Bool, true, false, cond, List, [], ◌∷◌, ◌++◌, drop, length, ap, sym, ◌∙◌, refl, replicate}
+use Rattle.std.proofs.Common.{arith, get_or-set_other, inl, inr, get_or-set_same, ℕ, zero, suc, ◌≡◌, ◌-◌, ◌<◌, ℤ, pos, ◌+ℤ◌, Bool}
+use Rattle.std.proofs.Common.{true, false, cond, List, [], ◌∷◌, ◌++◌, drop, length, ap, sym, ◌∙◌, refl, replicate}
 use Rattle.std.specs.Prelude.{◌⊎◌, slice_set, map, filter, zip}
 use Rattle.std.specs.Ordering.{int_eq}
 use Rattle.std.proofs.Math.IntN.{+ℤ_idr}

@@ -1,5 +1,6 @@
 -- Totals over the tiles of an area join to the total over all of it.
-use Rattle.std.proofs.Common.{arith, ℕ, zero, suc, ◌≡◌, ◌+◌, ◌-◌, ◌*◌, ◌<◌, ◌≤◌, ◌⊎◌, inl, inr, ℤ, pos, ◌+ℤ◌, Bool, List, [], ◌∷◌, ◌++◌, append_assoc, ap, sym, ◌∙◌, refl}
+use Rattle.std.proofs.Common.{arith, ℕ, zero, suc, ◌≡◌, ◌+◌, ◌-◌, ◌*◌, ◌<◌, ◌≤◌, ◌⊎◌, inl, inr, ℤ, pos, ◌+ℤ◌, Bool, List, [], ◌∷◌}
+use Rattle.std.proofs.Common.{◌++◌, append_assoc, ap, sym, ◌∙◌, refl}
 use Rattle.std.specs.Prelude.{map, fold, IsPermutation}
 use Rattle.std.specs.List.{flat_map, range_with_len}
 use Rattle.std.proofs.lemmas.Bool.{cases_lt}
@@ -17,7 +18,8 @@ use Rattle.domains.proofs.PairLists.{row_of}
 use Rattle.domains.proofs.PartsOfSpans.{part_fits, starts_in}
 use Rattle.domains.specs.declared.operators.Fold.{Fold}
 use Rattle.job.specs.Totals.{start_of, joined}
-use Rattle.accumulators.proofs.TotalsInAnyOrder.{total_by_values, total_of-none, joined-exchange, starts_join, total_among, total_among-append, total_of-permuted}
+use Rattle.accumulators.proofs.TotalsInAnyOrder.{total_by_values, total_of-none, joined-exchange, starts_join, total_among}
+use Rattle.accumulators.proofs.TotalsInAnyOrder.{total_among-append, total_of-permuted}
 
 -- ---- the numbers of a span, part by part
 

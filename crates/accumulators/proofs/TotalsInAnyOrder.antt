@@ -1,9 +1,11 @@
 -- Totals one value after the other, in parts, and in any order.
-use Rattle.std.proofs.Common.{arith, ℕ, suc, ◌+◌, ◌≡◌, ℤ, pos, negsuc, ◌+ℤ◌, ◌-ℤ◌, ◌≤ℤ◌, inl, inr, ⊎_elim, subst, w64, List, [], ◌∷◌, ◌++◌, ap, sym, ◌∙◌, refl}
+use Rattle.std.proofs.Common.{arith, ℕ, suc, ◌+◌, ◌≡◌, ℤ, pos, negsuc, ◌+ℤ◌, ◌-ℤ◌, ◌≤ℤ◌, inl, inr, ⊎_elim, subst, w64, List, []}
+use Rattle.std.proofs.Common.{◌∷◌, ◌++◌, ap, sym, ◌∙◌, refl}
 use Rattle.std.specs.Prelude.{◌⊎◌, All, Contains, Bool, map, filter, fold, IsPermutation}
 use Rattle.std.specs.Int.{int_wrap, int_min, int_max}
 use Rattle.std.specs.List.{sum_by}
-use Rattle.std.proofs.lemmas.Int.{ints, clamps, int_wrap-add_left, int_wrap-add_right, fold-int_min_bounds, fold-int_max_bounds, fold-int_min_reached, fold-int_max_reached}
+use Rattle.std.proofs.lemmas.Int.{ints, clamps, int_wrap-add_left, int_wrap-add_right, fold-int_min_bounds, fold-int_max_bounds}
+use Rattle.std.proofs.lemmas.Int.{fold-int_min_reached, fold-int_max_reached}
 use Rattle.std.proofs.lemmas.List.{map-append}
 use Rattle.std.proofs.lemmas.List.Elements.{All-contains, filter-append}
 use Rattle.std.proofs.lemmas.List.Sorted.{IsPermutation-sym, Contains-permutation, sum_by-IsPermutation}

@@ -1,5 +1,6 @@
 -- The domains of stages are those of their items, and what they read stays in bounds.
-use Rattle.std.proofs.Common.{ℕ, suc, arith, ◌+◌, ◌<◌, ◌≤◌, ◌%◌, ◌/◌, ◌≡◌, ℤ, pos, ◌+ℤ◌, ◌-ℤ◌, Bool, true, false, List, [], ◌∷◌, ◌++◌, length, Option, Some, None, Ok, map, slice_get, subst, ap, sym, ◌∙◌, refl}
+use Rattle.std.proofs.Common.{ℕ, suc, arith, ◌+◌, ◌<◌, ◌≤◌, ◌%◌, ◌/◌, ◌≡◌, ℤ, pos, ◌+ℤ◌, ◌-ℤ◌, Bool, true, false, List, [], ◌∷◌}
+use Rattle.std.proofs.Common.{◌++◌, length, Option, Some, None, Ok, map, slice_get, subst, ap, sym, ◌∙◌, refl}
 use Rattle.std.specs.Prelude.{All, if◌then◌else◌}
 use Rattle.std.specs.List.{flat_map, AllZip}
 use Rattle.std.specs.Option.{option_map, ForSome}
@@ -29,7 +30,8 @@ use Rattle.pipe_checks.specs.Accesses.{width_of, accesses_of}
 use Rattle.pipe_bounds.specs.Boxes as boxes
 use Rattle.pipe_bounds.specs.Boxes.{Meets}
 use Rattle.domains.specs.Cuts.{IsCutArea}
-use Rattle.pipe_bounds.specs.InBounds.{ReadCase, branch_case, whole_case, otherwise_cases, item_cases, declared_cases, IsInBox, IsAbout, TakesRow, TakesColumn, IsWithin, AllStay, StageStays, AreInBounds, scale_of}
+use Rattle.pipe_bounds.specs.InBounds.{ReadCase, branch_case, whole_case, otherwise_cases, item_cases, declared_cases, IsInBox}
+use Rattle.pipe_bounds.specs.InBounds.{IsAbout, TakesRow, TakesColumn, IsWithin, AllStay, StageStays, AreInBounds, scale_of}
 use Rattle.pipe_checks.proofs.Accepted.{IsReadableKind, IsSound, IsSoundBranch, IsSoundItem}
 use Rattle.pipe_bounds.proofs.Stages.{some_within}
 use Rattle.job.specs.Formula.{row, column}
@@ -37,7 +39,8 @@ use Rattle.job.specs.Pipeline.{Stage}
 use Rattle.job.specs.Values.{along, factors, kernel_row, kernel_column}
 use Rattle.job.specs.Reads.{Read, point, window, reads_in, EachTaken, EachRead, CaseReads, BodyReads}
 use Rattle.job.specs.Boxes.{Relates, BoundsHold}
-use Rattle.binding.specs.Binding.{Program, Variables, variables_of, axis_of, formula_of, test_of, case_of, area_of, item_stages, function_stage, accumulator_stage}
+use Rattle.binding.specs.Binding.{Program, Variables, variables_of, axis_of}
+use Rattle.binding.specs.Binding.{formula_of, test_of, case_of, area_of, item_stages, function_stage, accumulator_stage}
 use Rattle.job.specs.WellFormed.{IsValued, IsReadable, InDomainRange}
 use Rattle.job.proofs.Agreeing.{All-left, All-right}
 use Rattle.job.proofs.BoxLaws.{box_is_cut}

@@ -1,5 +1,6 @@
 -- Values that are taken from the picture are small, and a program says one job.
-use Rattle.std.proofs.Common.{ℕ, zero, suc, arith, ◌≤◌, ◌≡◌, ℤ, pos, FitsSigned, w32, Bool, true, false, List, [], ◌∷◌, length, Option, Some, None, subst, ap, sym, ◌∙◌, refl}
+use Rattle.std.proofs.Common.{ℕ, zero, suc, arith, ◌≤◌, ◌≡◌, ℤ, pos, FitsSigned, w32, Bool, true, false, List, [], ◌∷◌, length}
+use Rattle.std.proofs.Common.{Option, Some, None, subst, ap, sym, ◌∙◌, refl}
 use Rattle.std.specs.Prelude.{slice_index, if◌then◌else◌}
 use Rattle.std.proofs.lemmas.Int.{ints}
 use Rattle.std.proofs.lemmas.Option.{none-some, same_Some}

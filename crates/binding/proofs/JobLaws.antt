@@ -1,5 +1,7 @@
 -- What a program says at parameters, a picture and sides of tiles that fit is a job, and there is only one.
-use Rattle.std.proofs.Common.{ℕ, zero, suc, arith, ◌+◌, ◌*◌, ◌<◌, ◌≤◌, ◌≡◌, ◌⊎◌, inl, inr, ℤ, pos, ◌-ℤ◌, ◌≤ℤ◌, FitsSigned, w32, Bool, true, false, cond, List, [], ◌∷◌, length, Option, Some, None, Ok, map, filter, slice_get, subst, ap, sym, ◌∙◌, refl}
+use Rattle.std.proofs.Common.{ℕ, zero, suc, arith, ◌+◌, ◌*◌, ◌<◌, ◌≤◌, ◌≡◌, ◌⊎◌, inl, inr, ℤ, pos, ◌-ℤ◌, ◌≤ℤ◌, FitsSigned, w32}
+use Rattle.std.proofs.Common.{Bool, true, false, cond, List, [], ◌∷◌, length, Option, Some, None, Ok, map, filter, slice_get}
+use Rattle.std.proofs.Common.{subst, ap, sym, ◌∙◌, refl}
 use Rattle.std.specs.Prelude.{All, not, slice_index, unwrap_or}
 use Rattle.std.specs.List.{flat_map}
 use Rattle.std.specs.Option.{option_map, option_map_or, ForSome}
@@ -40,9 +42,11 @@ use Rattle.job.specs.Pipeline.{Stage, Output, Pipeline}
 use Rattle.job.specs.Reads.{other_formula, formulas_of}
 use Rattle.job.specs.Boxes.{box_of, AreBoxed}
 use Rattle.job.specs.Answers.{grid_of, has_tiles, height_of, width_of}
-use Rattle.binding.specs.Binding.{Program, Variables, variables_of, stage_number, plane_number, formula_of, case_of, area_of, plane_stage, names_in, item_stages, item_outputs, item_images, parameter_of, job_of, AreSmall}
+use Rattle.binding.specs.Binding.{Program, Variables, variables_of, stage_number, plane_number, formula_of, case_of, area_of}
+use Rattle.binding.specs.Binding.{plane_stage, names_in, item_stages, item_outputs, item_images, parameter_of, job_of, AreSmall}
 use Rattle.binding.specs.Fits.{PlanesFit, ExtentsFit, HasSides, IsShaped, ShapesFit, TilesFit}
-use Rattle.job.specs.WellFormed.{IsFormula, IsTest, IsFunction, InDomainRange, picture_area, IsBody, IsStage, IsOutputPlane, IsOutput, IsJob}
+use Rattle.job.specs.WellFormed.{IsFormula, IsTest, IsFunction, InDomainRange}
+use Rattle.job.specs.WellFormed.{picture_area, IsBody, IsStage, IsOutputPlane, IsOutput, IsJob}
 use Rattle.job.proofs.Agreeing.{All-left, All-right}
 use Rattle.job.proofs.Steps.{All-both}
 use Rattle.binding.proofs.NumberLaws.{stage_named}

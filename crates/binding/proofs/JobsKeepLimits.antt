@@ -1,5 +1,6 @@
 -- The limits of a text are limits of its job.
-use Rattle.std.proofs.Common.{ℕ, arith, ◌+◌, ◌≤◌, ◌≡◌, Bool, List, [], ◌∷◌, length, Option, Some, None, map, filter, subst, ap, sym, ◌∙◌, refl}
+use Rattle.std.proofs.Common.{ℕ, arith, ◌+◌, ◌≤◌, ◌≡◌, Bool, List, [], ◌∷◌, length, Option, Some, None, map, filter, subst, ap}
+use Rattle.std.proofs.Common.{sym, ◌∙◌, refl}
 use Rattle.std.specs.Prelude.{sum_by}
 use Rattle.std.specs.List.{flat_map}
 use Rattle.std.proofs.lemmas.List.{length-append, length-map}
@@ -17,7 +18,8 @@ use Rattle.pipe_checks.specs.declared.symbol.Symbol.{Symbol}
 use Rattle.pipe_bounds.specs.declared.params.Setting.{Setting}
 use Rattle.pipe_checks.specs.Names.{names_of, item_names, names_from, is_param, params_of, stages_of}
 use Rattle.job.specs.Pipeline.{Stage, Pipeline}
-use Rattle.binding.specs.Binding.{Program, variables_of, area_of, case_of, function_stage, plane_stage, names_in, item_stages, settings_for, parameter_of, IsJobOf}
+use Rattle.binding.specs.Binding.{Program, variables_of, area_of, case_of, function_stage, plane_stage, names_in, item_stages}
+use Rattle.binding.specs.Binding.{settings_for, parameter_of, IsJobOf}
 use Rattle.job.specs.WellFormed.{case_count, IsSmall}
 use Rattle.domains.proofs.Places.{all_at}
 use Rattle.binding.proofs.StageLaws.{IsStageOf, stage_at}

@@ -1,5 +1,6 @@
 -- What an accepted item says is a formula, and its tests are tests.
-use Rattle.std.proofs.Common.{ℕ, arith, ◌≤◌, ◌≡◌, ℤ, pos, FitsSigned, w32, Bool, true, false, List, [], ◌∷◌, length, Option, Some, None, slice_get, subst, ◌∙◌, refl}
+use Rattle.std.proofs.Common.{ℕ, arith, ◌≤◌, ◌≡◌, ℤ, pos, FitsSigned, w32, Bool, true, false, List, [], ◌∷◌, length, Option, Some}
+use Rattle.std.proofs.Common.{None, slice_get, subst, ◌∙◌, refl}
 use Rattle.std.specs.Prelude.{All, if◌then◌else◌, map, unwrap_or}
 use Rattle.std.specs.Str.{bytes_eq}
 use Rattle.std.proofs.lemmas.Int.{ints}

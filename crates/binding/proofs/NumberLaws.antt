@@ -1,5 +1,6 @@
 -- The numbers of names, in lists where no name stands twice.
-use Rattle.std.proofs.Common.{ℕ, zero, suc, arith, ◌+◌, ◌<◌, ◌≡◌, inl, Bool, true, false, cond, List, [], ◌∷◌, length, Option, Some, None, is_some, position, filter, take, slice_get, get_or, subst, ap, sym, ◌∙◌, refl}
+use Rattle.std.proofs.Common.{ℕ, zero, suc, arith, ◌+◌, ◌<◌, ◌≡◌, inl, Bool, true, false, cond, List, [], ◌∷◌, length, Option}
+use Rattle.std.proofs.Common.{Some, None, is_some, position, filter, take, slice_get, get_or, subst, ap, sym, ◌∙◌, refl}
 use Rattle.std.specs.Prelude.{All, not}
 use Rattle.std.specs.List.{position_from, find, AllPairs}
 use Rattle.std.specs.Str.{bytes_eq}

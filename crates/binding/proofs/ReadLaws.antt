@@ -1,5 +1,6 @@
 -- What a stage reads is what its item reads: the same stages, and in bounds.
-use Rattle.std.proofs.Common.{ℕ, ◌+◌, ◌≡◌, Bool, true, false, cond, List, [], ◌∷◌, ◌++◌, length, Option, Some, None, map, slice_get, subst, ap, sym, ◌∙◌, refl}
+use Rattle.std.proofs.Common.{ℕ, ◌+◌, ◌≡◌, Bool, true, false, cond, List, [], ◌∷◌, ◌++◌, length, Option, Some, None, map}
+use Rattle.std.proofs.Common.{slice_get, subst, ap, sym, ◌∙◌, refl}
 use Rattle.std.specs.Prelude.{All, not, slice_index, unwrap_or, if◌then◌else◌}
 use Rattle.std.specs.List.{flat_map, AllZip}
 use Rattle.std.specs.Option.{option_map, ForSome}
@@ -19,7 +20,8 @@ use Rattle.domains.specs.Greatest.{greatest}
 use Rattle.pipe_checks.specs.inside.Search.{rank_over}
 use Rattle.pipe_checks.specs.Names.{is_param, declared_names, stages_of, number_of}
 use Rattle.pipe_checks.specs.Accesses as accesses
-use Rattle.pipe_checks.specs.Accesses.{width_of, read_at, stencil_at, accesses_of, branch_accesses, otherwise_accesses, item_accesses, is_plane, links_of, graph_of}
+use Rattle.pipe_checks.specs.Accesses.{width_of, read_at, stencil_at, accesses_of, branch_accesses, otherwise_accesses}
+use Rattle.pipe_checks.specs.Accesses.{item_accesses, is_plane, links_of, graph_of}
 use Rattle.pipe_checks.specs.Checking.{NoneTwice}
 use Rattle.pipe_checks.proofs.Accepted.{IsReadableKind, IsNameOf, IsSoundKernel, IsSound, IsSoundBranch, IsSoundItem}
 use Rattle.pipe_bounds.specs.Settings.{param_value}

@@ -1,5 +1,6 @@
 -- The items of a checked program that is in bounds have numbers in range, and what was found of their stages stands under their names.
-use Rattle.std.proofs.Common.{ℕ, zero, suc, Bool, arith, ◌+◌, ◌≡◌, List, [], ◌∷◌, ◌++◌, length, Option, Some, filter, map, slice_get, subst, ap, sym, ◌∙◌, refl}
+use Rattle.std.proofs.Common.{ℕ, zero, suc, Bool, arith, ◌+◌, ◌≡◌, List, [], ◌∷◌, ◌++◌, length, Option, Some, filter, map}
+use Rattle.std.proofs.Common.{slice_get, subst, ap, sym, ◌∙◌, refl}
 use Rattle.std.specs.Prelude.{All, IfSome, not, slice_index_or, unwrap_or}
 use Rattle.std.specs.Option.{option_map}
 use Rattle.std.proofs.lemmas.List.{length-map}
@@ -21,7 +22,8 @@ use Rattle.pipe_bounds.proofs.BoundFaultsAreDetermined.{same_list}
 use Rattle.pipe_bounds.proofs.Sounding.{index_is}
 use Rattle.pipe_bounds.proofs.Stages.{some_within}
 use Rattle.binding.specs.Binding.{Program, Variables, variables_of, stage_number, names_in}
-use Rattle.binding.specs.inside.Ranges.{IsRanged, IsRangedBranch, IsRangedItem, HasBounds, box_in, IsPlaneBounds, IsFunctionBounds, IsAccumulatorBounds, HavePlanes, IsBoundItem, AreReady}
+use Rattle.binding.specs.inside.Ranges.{IsRanged, IsRangedBranch, IsRangedItem, HasBounds, box_in, IsPlaneBounds}
+use Rattle.binding.specs.inside.Ranges.{IsFunctionBounds, IsAccumulatorBounds, HavePlanes, IsBoundItem, AreReady}
 use Rattle.binding.proofs.BoundLaws.{ends_are, sides_are, area_is, span_near}
 use Rattle.binding.proofs.Boxing.{part_is}
 use Rattle.binding.proofs.NumberLaws.{number_at}

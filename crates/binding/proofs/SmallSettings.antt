@@ -1,5 +1,6 @@
 -- Settings with values from the picture, and settings whose values are numbers of 32 bits.
-use Rattle.std.proofs.Common.{ℕ, zero, suc, ℤ, ◌≡◌, List, [], ◌∷◌, ◌++◌, Option, Some, IfSome, FitsSigned, w32, slice_get, take, subst, ap, ◌∙◌}
+use Rattle.std.proofs.Common.{ℕ, zero, suc, ℤ, ◌≡◌, List, [], ◌∷◌, ◌++◌, Option, Some, IfSome, FitsSigned, w32, slice_get, take}
+use Rattle.std.proofs.Common.{subst, ap, ◌∙◌}
 use Rattle.std.proofs.lemmas.Option.{none-some, same_Some}
 use Rattle.pipe_bounds.specs.declared.params.Setting.{Setting}
 use Rattle.netpbm.specs.Image.{Image as Picture}

@@ -1,5 +1,6 @@
 -- The stages of a job, one for each that the program declares, and their ranks.
-use Rattle.std.proofs.Common.{ℕ, zero, suc, arith, ◌+◌, ◌<◌, ◌≤◌, ◌≡◌, ◌⊎◌, inl, inr, List, [], ◌∷◌, ◌++◌, length, Option, Some, None, filter, map, slice_get, get_or, subst, ap, sym, ◌∙◌, refl}
+use Rattle.std.proofs.Common.{ℕ, zero, suc, arith, ◌+◌, ◌<◌, ◌≤◌, ◌≡◌, ◌⊎◌, inl, inr, List, [], ◌∷◌, ◌++◌, length, Option, Some}
+use Rattle.std.proofs.Common.{None, filter, map, slice_get, get_or, subst, ap, sym, ◌∙◌, refl}
 use Rattle.std.specs.Prelude.{not, slice_index, unwrap_or}
 use Rattle.std.specs.List.{flat_map, AllZip}
 use Rattle.std.specs.Option.{option_map, option_map_or}

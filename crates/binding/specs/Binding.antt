@@ -1,5 +1,6 @@
 -- What a program is at the values of its parameters: names become numbers of stages, extents become numbers.
-use Rattle.std.specs.Prelude.{ℕ, ◌==◌, ℤ, pos, ◌-ℤ◌, ◌≡◌, Bool, false, not, ◌&&◌, if◌then◌else◌, Option, Some, None, unwrap_or, List, [], ◌∷◌, map, filter, slice_get, slice_index, FitsSigned}
+use Rattle.std.specs.Prelude.{ℕ, ◌==◌, ℤ, pos, ◌-ℤ◌, ◌≡◌, Bool, false, not, ◌&&◌, if◌then◌else◌, Option, Some, None, unwrap_or}
+use Rattle.std.specs.Prelude.{List, [], ◌∷◌, map, filter, slice_get, slice_index, FitsSigned}
 use Rattle.std.specs.Int.{w32}
 use Rattle.std.specs.List.{flat_map}
 use Rattle.std.specs.Option.{option_map, option_map_or}
@@ -27,7 +28,8 @@ use Rattle.pipe_checks.specs.Checking.{IsNamed}
 use Rattle.pipe_bounds.specs.Within.{AllSet}
 use Rattle.pipe_checks.specs.Graph.{IsRanking}
 use Rattle.pipe_checks.specs.Accesses.{graph_of, is_plane}
-use Rattle.job.specs.Formula.{Axis, row, column, Formula, number, coordinate, read, neg, binary, literal, abs, clamp, select, stencil, Test, compare, remainder}
+use Rattle.job.specs.Formula.{Axis, row, column, Formula, number, coordinate, read, neg, binary, literal, abs, clamp, select}
+use Rattle.job.specs.Formula.{stencil, Test, compare, remainder}
 use Rattle.job.specs.Pipeline.{JobCase, plane, function, accumulator, Stage, Output, Parameter, Pipeline}
 use Rattle.job.specs.Boxes.{box_of}
 

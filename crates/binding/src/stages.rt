@@ -4,8 +4,10 @@
 ghost use Rattle.std.specs.Prelude.{◌≡◌, ◌<◌, ◌++◌, All, Some, IfOk, OnOk, length, map, slice_get};
 ghost use Rattle.std.specs.List.{flat_map};
 ghost use Rattle.std.specs.Option.{option_map, ForSome};
-ghost use Rattle.pipe_tree.specs.Tree.{function, accumulator, view, branch, branches, function_of, accumulator_of, declaration, declarations};
-ghost use Rattle.binding.specs.Binding.{stage_number, rank_named, variables_of, formula_of, case_of, plane_stage, function_stage, accumulator_stage, names_in, item_stages};
+ghost use Rattle.pipe_tree.specs.Tree.{function, accumulator, view, branch};
+ghost use Rattle.pipe_tree.specs.Tree.{branches, function_of, accumulator_of, declaration, declarations};
+ghost use Rattle.binding.specs.Binding.{stage_number, rank_named, variables_of, formula_of, case_of, plane_stage, function_stage};
+ghost use Rattle.binding.specs.Binding.{accumulator_stage, names_in, item_stages};
 ghost use Rattle.binding.specs.inside.Ranges.{IsRanged, IsRangedBranch, HasBounds, box_in, IsPlaneBounds, HavePlanes, IsReady, AreReady};
 ghost use Rattle.job.specs.Views.{formula_view, case_view, stage_view};
 ghost use Rattle.binding.specs.inside.Resolving.{program_in, variables_in};

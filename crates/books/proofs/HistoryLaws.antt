@@ -17,11 +17,13 @@ pub replay_from-more : (n : Node) (h : List Event) (e : Event) → replay_from n
 replay_from-more n [] e = refl
 replay_from-more n (x ∷ h) e = replay_from-more (after n x) h e
 
-pub legal_from_more : (n : Node) (h : List Event) (e : Event) → IsLegalFrom n h → MayFollow (replay_from n h) e → IsLegalFrom n (h ++ e ∷ [])
+pub legal_from_more : (n : Node) (h : List Event) (e : Event) → IsLegalFrom n h → MayFollow (replay_from n h) e
+    → IsLegalFrom n (h ++ e ∷ [])
 legal_from_more n [] e legal may = (may, tt)
 legal_from_more n (x ∷ h) e legal may = (legal.0, legal_from_more (after n x) h e legal.1 may)
 
-pub legal_from_less : (n : Node) (h : List Event) (e : Event) → IsLegalFrom n (h ++ e ∷ []) → IsLegalFrom n h × MayFollow (replay_from n h) e
+pub legal_from_less : (n : Node) (h : List Event) (e : Event) → IsLegalFrom n (h ++ e ∷ []) → IsLegalFrom n h
+    × MayFollow (replay_from n h) e
 legal_from_less n [] e legal = (tt, legal.0)
 legal_from_less n (x ∷ h) e legal = let rest = legal_from_less (after n x) h e legal.1 in ((legal.0, rest.0), rest.1)
 
@@ -32,7 +34,8 @@ module _ (catalog : List Entry) where
   book_start : IsCatalog catalog → IsBook catalog nothing nothing []
   book_start jobs = record { jobs = jobs; stands = refl; legal = tt; true_held = true_nothing catalog; true_kept = true_nothing catalog }
 
-  pub book_new : (held kept : State) (h : List Event) → IsCatalog catalog → held ≡ nothing → kept ≡ nothing → h ≡ [] → IsBook catalog held kept h
+  pub book_new : (held kept : State) (h : List Event) → IsCatalog catalog → held ≡ nothing → kept ≡ nothing → h ≡ []
+      → IsBook catalog held kept h
   book_new held kept h jobs no_held no_kept none =
       subst (λ (s : State). IsBook catalog s kept h) (sym no_held)
       (subst (λ (s : State). IsBook catalog nothing s h) (sym no_kept)

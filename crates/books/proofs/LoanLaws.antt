@@ -42,6 +42,7 @@ module _ (catalog : List Entry) (s : State) (keys : List Key) where
       }
 
 -- what is lent of what a history leaves
-pub lent_by_history : (held kept : State) (h : List Event) (keys : List Key) (facts : List Fact) → replay h ≡ record { held = held; kept = kept }
+pub lent_by_history : (held kept : State) (h : List Event) (keys : List Key) (facts : List Fact)
+    → replay h ≡ record { held = held; kept = kept }
     → facts ≡ facts_in (lent held keys) → facts ≡ facts_in (lent (replay h).held keys)
 lent_by_history held kept h keys facts stands is = is ∙ ap (λ (n : Node). facts_in (lent n.held keys)) (sym stands)

@@ -27,7 +27,8 @@ module _ (catalog : List Entry) where
   true_with : (s : State) (us : List Update) → HoldsTrueFacts catalog s → AreTrue catalog us → HoldsTrueFacts catalog (with_updates s us)
   true_with s [] before are = before
   true_with s (u ∷ us) before are =
-      true_with (with_update s u) us (true_more s u before (All-head (IsTrueFact catalog) u us are)) (All-tail (IsTrueFact catalog) u us are)
+      true_with (with_update s u) us (true_more s u before (All-head (IsTrueFact catalog) u us are))
+      (All-tail (IsTrueFact catalog) u us are)
 
   pub true_state_of : (us : List Update) → AreTrue catalog us → HoldsTrueFacts catalog (state_of us)
   true_state_of us are = true_with nothing us true_nothing are

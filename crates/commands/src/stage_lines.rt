@@ -4,7 +4,8 @@ ghost use Rattle.std.specs.Prelude.{◌≡◌, ◌∷◌, ◌++◌, IfOk, OnOk, 
 ghost use Rattle.job.specs.Answers.{tiles};
 ghost use Rattle.job.specs.Kept.{pipeline_in, program_text_in};
 ghost use Rattle.job.specs.Views.{body_view, stage_view};
-ghost use Rattle.commands.specs.Listing.{check_bytes, identity_line, kind_word, span_text, stage_head, stage_line_at, stage_lines, stage_tail};
+ghost use Rattle.commands.specs.Listing.{check_bytes, identity_line, kind_word, span_text, stage_head, stage_line_at};
+ghost use Rattle.commands.specs.Listing.{stage_lines, stage_tail};
 
 use domains::{Area, Span};
 use job::{Body, Job, Stage};

@@ -1,5 +1,6 @@
 -- A tile has one area and one list of numbers, and these fit.
-use Rattle.std.proofs.Common.{ℕ, ℤ, ◌≡◌, Bool, true, false, List, [], Option, Some, None, length, slice_get, subst, sym, ap, ◌∙◌, refl, true≢false, eq-eqb}
+use Rattle.std.proofs.Common.{ℕ, ℤ, ◌≡◌, Bool, true, false, List, [], Option, Some, None, length, slice_get, subst, sym, ap, ◌∙◌}
+use Rattle.std.proofs.Common.{refl, true≢false, eq-eqb}
 use Rattle.std.specs.Prelude.{◌↔◌, ◌==◌, IsTrue, IfSome, IfNone}
 use Rattle.std.proofs.lemmas.Bool.{eqb-true}
 use Rattle.std.specs.Option.{option_map_or}

@@ -1,5 +1,6 @@
 -- Lists whose elements at equal places belong together.
-use Rattle.std.proofs.Common.{ℕ, zero, suc, ◌+◌, ◌++◌, ◌<◌, ◌≡◌, ◌⊎◌, inl, inr, List, [], ◌∷◌, Some, length, get_or, slice_get, subst, sym, ◌∙◌, ap, refl, arith}
+use Rattle.std.proofs.Common.{ℕ, zero, suc, ◌+◌, ◌++◌, ◌<◌, ◌≡◌, ◌⊎◌, inl, inr, List, [], ◌∷◌, Some, length, get_or, slice_get}
+use Rattle.std.proofs.Common.{subst, sym, ◌∙◌, ap, refl, arith}
 use Rattle.std.proofs.lemmas.List.{length_push}
 use Rattle.std.proofs.lemmas.Option.{slice_get-get_or, same_Some, none-some}
 

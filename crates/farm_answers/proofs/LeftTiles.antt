@@ -1,5 +1,6 @@
 -- What is left of a job's work while it is made, tile by tile.
-use Rattle.std.proofs.Common.{ℕ, zero, suc, ◌≡◌, ◌⊎◌, inl, inr, refl, sym, ap, ◌∙◌, subst, Bool, true, false, cond, Option, Some, List, [], ◌∷◌, map, filter, replicate, drop, ◌+◌}
+use Rattle.std.proofs.Common.{ℕ, zero, suc, ◌≡◌, ◌⊎◌, inl, inr, refl, sym, ap, ◌∙◌, subst, Bool, true, false, cond, Option, Some}
+use Rattle.std.proofs.Common.{List, [], ◌∷◌, map, filter, replicate, drop, ◌+◌}
 use Rattle.std.specs.Prelude.{◌≢◌, slice_get}
 use Rattle.std.specs.Option.{option_map_or}
 use Rattle.std.specs.List.{Contains}
@@ -49,7 +50,8 @@ map_filter p f [] = refl
 map_filter p f (x ∷ xs) = by (p (f x)) (map_filter p f xs)
   where
     by : (b : Bool) → filter p (map f xs) ≡ map f (filter (λ y. p (f y)) xs)
-        → cond b (f x ∷ filter p (map f xs)) (filter p (map f xs)) ≡ map f (cond b (x ∷ filter (λ y. p (f y)) xs) (filter (λ y. p (f y)) xs))
+        → cond b (f x ∷ filter p (map f xs)) (filter p (map f xs)) ≡ map f
+        (cond b (x ∷ filter (λ y. p (f y)) xs) (filter (λ y. p (f y)) xs))
     by true rest = ap (λ ys. f x ∷ ys) rest
     by false rest = rest
 

@@ -1,5 +1,6 @@
 -- What a writer takes in several parts.
-use Rattle.std.proofs.Common.{◌++◌, ◌+◌, ◌<◌, ℕ, List, [], Option, Some, None, Result, Ok, Err, length, take, drop, get_or, refl, sym, ap, subst, ◌∙◌}
+use Rattle.std.proofs.Common.{◌++◌, ◌+◌, ◌<◌, ℕ, List, [], Option, Some, None, Result, Ok, Err, length, take, drop, get_or, refl}
+use Rattle.std.proofs.Common.{sym, ap, subst, ◌∙◌}
 use Rattle.std.specs.Prelude.{IsErr}
 use Rattle.std.specs.Io.KnownBytes.{Appends}
 use Rattle.std.specs.List.{flat_map}

@@ -8,7 +8,8 @@ use Rattle.inputs.specs.declared.faults.StreamFault.{StreamFault}
 use Rattle.inputs.specs.declared.faults.StreamFault.TheVariants as faults
 use Rattle.inputs.specs.Faults.{IsAuditFault, IsFaultOf, IsMergeFault}
 use Rattle.inputs.specs.Giving.{Given}
-use Rattle.inputs.specs.Outcomes.{AppendsSaid, IsOfInput, IsOfReader, Refusing, Saying, Writes, most_input, refusing_audit, refusing_job, refusing_merge}
+use Rattle.inputs.specs.Outcomes.{AppendsSaid, IsOfInput, IsOfReader, Refusing}
+use Rattle.inputs.specs.Outcomes.{Saying, Writes, most_input, refusing_audit, refusing_job, refusing_merge}
 
 -- ---- nothing was written
 

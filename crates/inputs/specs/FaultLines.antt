@@ -24,7 +24,8 @@ use Rattle.gossip_events.specs.FaultTable as events
 use Rattle.gossip_events.specs.declared.fault.ScriptFault.{ScriptFault}
 use Rattle.gossip_events.specs.declared.fault.ScriptFault.TheVariants as scripts
 use Rattle.inputs.specs.declared.faults.StreamFault.{StreamFault}
-use Rattle.inputs.specs.declared.faults.StreamFault.TheVariants.{Read, TooLong, NoSeparator, Program, Picture, Check, Param, Bind, Facts, Script, Memory, Write}
+use Rattle.inputs.specs.declared.faults.StreamFault.TheVariants.{Read, TooLong, NoSeparator, Program, Picture, Check, Param, Bind}
+use Rattle.inputs.specs.declared.faults.StreamFault.TheVariants.{Facts, Script, Memory, Write}
 use Rattle.inputs.specs.declared.lines.BindLine.{BindLine}
 use Rattle.inputs.specs.declared.lines.CheckLine.{CheckLine}
 use Rattle.inputs.specs.declared.lines.CheckLine.TheVariants as lines

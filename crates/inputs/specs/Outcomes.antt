@@ -11,7 +11,8 @@ use Rattle.inputs.specs.Faults.{IsAuditFault, IsFaultOf, IsMergeFault}
 use Rattle.inputs.specs.Giving.{Given}
 use Rattle.inputs.specs.Input.{IsInputAudit, IsInputJob}
 use Rattle.inputs.specs.declared.faults.StreamFault.{StreamFault}
-use Rattle.inputs.specs.declared.faults.StreamFault.TheVariants.{Read, TooLong, NoSeparator, Program, Picture, Check, Param, Bind, Facts, Script, Memory, Write}
+use Rattle.inputs.specs.declared.faults.StreamFault.TheVariants.{Read, TooLong, NoSeparator, Program, Picture, Check, Param, Bind}
+use Rattle.inputs.specs.declared.faults.StreamFault.TheVariants.{Facts, Script, Memory, Write}
 
 -- ---- what is read
 

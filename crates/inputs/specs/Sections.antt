@@ -1,6 +1,7 @@
 -- The sections of the input, parted by lines that are exactly the separator: the first one, and where there are three sections the
 -- first one behind it.
-use Rattle.std.specs.Prelude.{◌≡◌, ◌⊎◌, ℕ, ◌+◌, ◌-◌, ◌<◌, ◌==◌, ◌||◌, ◌&&◌, Bool, IsTrue, List, [], ◌∷◌, length, take, drop, slice_index, nat_eq}
+use Rattle.std.specs.Prelude.{◌≡◌, ◌⊎◌, ℕ, ◌+◌, ◌-◌, ◌<◌, ◌==◌, ◌||◌}
+use Rattle.std.specs.Prelude.{◌&&◌, Bool, IsTrue, List, [], ◌∷◌, length, take, drop, slice_index, nat_eq}
 use Rattle.std.specs.List.{starts_with}
 
 -- two percent signs and a line feed

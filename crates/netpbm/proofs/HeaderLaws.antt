@@ -1,5 +1,6 @@
 -- Reading a header: what it says, or its first fault.
-use Rattle.std.proofs.Common.{◌≡◌, ℕ, ◌+◌, ◌<◌, ◌≤◌, ◌⊎◌, inl, inr, Bool, true, false, cond, not, eqb, ltb, List, [], ◌∷◌, ◌++◌, length, drop, Result, Ok, Err, refl, sym, ap, subst, ◌∙◌, arith, drop_at, append_assoc, append-nil}
+use Rattle.std.proofs.Common.{◌≡◌, ℕ, ◌+◌, ◌<◌, ◌≤◌, ◌⊎◌, inl, inr, Bool, true, false, cond, not, eqb, ltb, List, [], ◌∷◌, ◌++◌}
+use Rattle.std.proofs.Common.{length, drop, Result, Ok, Err, refl, sym, ap, subst, ◌∙◌, arith, drop_at, append_assoc, append-nil}
 use Rattle.std.specs.Prelude.{MatchResult}
 use Rattle.std.proofs.lemmas.Bool.{cond-true, cond-false, le-ltb, eq-eqb, ne_eqb, cases_eq}
 use Rattle.std.proofs.lemmas.List.{length-append}
@@ -16,7 +17,8 @@ use Rattle.netpbm.specs.Faults.{ended, Fit, IsHeaderFront, EndsInHeader, HasBadH
 use Rattle.netpbm.specs.Reading.{◌>>=◌, kind_of, magic_read, size_read, max_read, white_read, header_read}
 use Rattle.netpbm.proofs.Gaps.{filler_scans}
 use Rattle.netpbm.proofs.TextLaws.{white_no_digit, gap_no_digit}
-use Rattle.netpbm.proofs.NumberLaws.{behind, nil_or_cons, StopThere, FieldThere, BadThere, FieldFails, WhiteThere, WhiteFails, size_view, max_view, white_view, size_complete, max_complete, white_complete}
+use Rattle.netpbm.proofs.NumberLaws.{behind, nil_or_cons, StopThere, FieldThere, BadThere, FieldFails, WhiteThere, WhiteFails}
+use Rattle.netpbm.proofs.NumberLaws.{size_view, max_view, white_view, size_complete, max_complete, white_complete}
 
 -- ---- the first two bytes
 

@@ -1,9 +1,12 @@
 -- Reading a number of the header: what stands at its place, or why none does.
-use Rattle.std.proofs.Common.{◌≡◌, ℕ, ◌+◌, ◌<◌, ◌≤◌, ◌⊎◌, inl, inr, min, Bool, true, false, cond, ltb, eqb, ◌&&◌, ◌||◌, List, [], ◌∷◌, ◌++◌, length, get_or, take, drop, Result, Ok, Err, refl, sym, ap, subst, ◌∙◌, arith, drop-drop, drop_at, take_at}
+use Rattle.std.proofs.Common.{◌≡◌, ℕ, ◌+◌, ◌<◌, ◌≤◌, ◌⊎◌, inl, inr, min, Bool, true, false, cond, ltb, eqb, ◌&&◌, ◌||◌, List, []}
+use Rattle.std.proofs.Common.{◌∷◌, ◌++◌, length, get_or, take, drop, Result, Ok}
+use Rattle.std.proofs.Common.{Err, refl, sym, ap, subst, ◌∙◌, arith, drop-drop, drop_at, take_at}
 use Rattle.std.specs.Prelude.{MatchResult}
 use Rattle.std.specs.Char.{is_ascii_digit}
 use Rattle.std.specs.Str.Parse.{IsNumeral, digits_value}
-use Rattle.std.proofs.lemmas.Bool.{cases_Bool, cond-true, cond-false, and_cases, or_cases, or_parts, or_from, lt-ltb, le-ltb, ltb-true, ltb-false, eqb-true, and_parts}
+use Rattle.std.proofs.lemmas.Bool.{cases_Bool, cond-true, cond-false, and_cases, or_cases, or_parts, or_from, lt-ltb, le-ltb}
+use Rattle.std.proofs.lemmas.Bool.{ltb-true, ltb-false, eqb-true, and_parts}
 use Rattle.std.proofs.lemmas.List.{take-append-drop, length-take-le, length-drop, get_or-drop}
 use Rattle.std.proofs.lemmas.List.Sums.{prefix_len-le-length}
 use Rattle.netpbm.specs.declared.fault.PicFault.{PicFault}
@@ -16,7 +19,8 @@ use Rattle.netpbm.specs.Grammar.{IsNumber, Filler, IsGap, NoDigit}
 use Rattle.netpbm.specs.Faults.{CutFiller}
 use Rattle.netpbm.specs.Reading.{◌>>=◌, header_stop, number_read, size_read, max_read, white_read}
 use Rattle.netpbm.proofs.Gaps.{filler_from, filler_scans, cut_from}
-use Rattle.netpbm.proofs.TextLaws.{gap_cut, gap_whole, gap_len-append, gap_len-le, digits_all, digits_stop, digits_len-append, starts_no_filler}
+use Rattle.netpbm.proofs.TextLaws.{gap_cut, gap_whole, gap_len-append}
+use Rattle.netpbm.proofs.TextLaws.{gap_len-le, digits_all, digits_stop, digits_len-append, starts_no_filler}
 
 pub nil_or_cons : (xs : List ℕ) → (xs ≡ []) ⊎ ((x : ℕ) × (rest : List ℕ) × (xs ≡ x ∷ rest))
 nil_or_cons [] = inl refl

@@ -1,5 +1,6 @@
 -- Reading a number digit by digit, where greater numbers than pictures have are all read as one.
-use Rattle.std.proofs.Common.{◌≡◌, ℕ, suc, ◌+◌, ◌*◌, ◌<◌, min, true, cond, List, [], ◌∷◌, length, get_or, drop, sym, ap, ◌∙◌, drop-cons, add-one, arith}
+use Rattle.std.proofs.Common.{◌≡◌, ℕ, suc, ◌+◌, ◌*◌, ◌<◌, min, true, cond, List, [], ◌∷◌, length, get_or, drop, sym, ap, ◌∙◌}
+use Rattle.std.proofs.Common.{drop-cons, add-one, arith}
 use Rattle.std.specs.Char.{is_ascii_digit, digit_value}
 use Rattle.std.specs.Str.Parse.{digits_value_after}
 use Rattle.std.proofs.lemmas.List.Sums.{take_while-cons}

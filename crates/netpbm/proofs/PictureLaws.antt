@@ -1,5 +1,6 @@
 -- What is read is a picture's spelling, what spells a picture is read, and each fault is the first one.
-use Rattle.std.proofs.Common.{◌≡◌, ℕ, ◌+◌, ◌*◌, ◌≤◌, ◌⊎◌, inl, inr, List, [], ◌∷◌, ◌++◌, length, drop, All, Result, Ok, Err, refl, sym, ap, subst, ◌∙◌, arith, drop_at, append_assoc, append-nil}
+use Rattle.std.proofs.Common.{◌≡◌, ℕ, ◌+◌, ◌*◌, ◌≤◌, ◌⊎◌, inl, inr, List, [], ◌∷◌, ◌++◌, length, drop, All, Result, Ok, Err, refl}
+use Rattle.std.proofs.Common.{sym, ap, subst, ◌∙◌, arith, drop_at, append_assoc, append-nil}
 use Rattle.std.specs.Prelude.{MatchResult}
 use Rattle.std.specs.List.{list_all}
 use Rattle.std.proofs.lemmas.Bool.{and_parts}
@@ -13,7 +14,8 @@ use Rattle.netpbm.specs.Colours.{interleaved, separated}
 use Rattle.netpbm.specs.Raw.{raw_raster}
 use Rattle.netpbm.specs.Text.{is_white}
 use Rattle.netpbm.specs.Grammar.{magic, NoDigit, IsWhite, IsRaster, IsPicture}
-use Rattle.netpbm.specs.Faults.{IsRasterFront, LeavesWhole, HasSamples, EndsInRaster, HasBadRasterByte, HasBigSample, HasTrailingByte, IsFault}
+use Rattle.netpbm.specs.Faults.{IsRasterFront, LeavesWhole, HasSamples, EndsInRaster, HasBadRasterByte, HasBigSample}
+use Rattle.netpbm.specs.Faults.{HasTrailingByte, IsFault}
 use Rattle.netpbm.specs.Reading.{◌>>=◌, header_read, samples_read, end_read, plain_read, raw_read, raster_read, picture_read}
 use Rattle.netpbm.proofs.TextLaws.{white_no_digit}
 use Rattle.netpbm.proofs.NumberLaws.{behind}

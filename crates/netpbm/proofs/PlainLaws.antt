@@ -1,5 +1,7 @@
 -- Reading a plain raster: its samples, or its first fault.
-use Rattle.std.proofs.Common.{◌≡◌, ℕ, zero, suc, ◌+◌, ◌-◌, ◌<◌, ◌≤◌, ◌⊎◌, inl, inr, min, false, cond, eqb, ltb, List, [], ◌∷◌, ◌++◌, length, take, drop, All, Result, Ok, Err, refl, sym, ap, subst, ◌∙◌, arith, drop-drop, take_at, append_assoc, append-nil}
+use Rattle.std.proofs.Common.{◌≡◌, ℕ, zero, suc, ◌+◌, ◌-◌, ◌<◌, ◌≤◌, ◌⊎◌, inl, inr, min, false, cond, eqb, ltb, List, [], ◌∷◌}
+use Rattle.std.proofs.Common.{◌++◌, length, take, drop, All, Result, Ok, Err, refl, sym, ap, subst, ◌∙◌, arith, drop-drop}
+use Rattle.std.proofs.Common.{take_at, append_assoc, append-nil}
 use Rattle.std.specs.Prelude.{MatchResult}
 use Rattle.std.specs.Char.{is_ascii_digit}
 use Rattle.std.specs.Str.Parse.{IsNumeral, digits_value}
@@ -12,7 +14,8 @@ use Rattle.netpbm.specs.declared.fault.PicFault.TheVariants.{BadNumber, RasterCu
 use Rattle.netpbm.specs.Text.{is_white, white_len, digits_len, digits_in_front}
 use Rattle.netpbm.specs.Grammar.{IsNumber, NoDigit, IsWhite, IsSamples}
 use Rattle.netpbm.specs.Reading.{◌>>=◌, plain_stop, sample_read, samples_read, end_read}
-use Rattle.netpbm.proofs.TextLaws.{NoWhite, white_all, white_stops, white_len-append, digits_all, digits_stop, digits_len-append, starts_not_white}
+use Rattle.netpbm.proofs.TextLaws.{NoWhite, white_all, white_stops}
+use Rattle.netpbm.proofs.TextLaws.{white_len-append, digits_all, digits_stop, digits_len-append, starts_not_white}
 use Rattle.netpbm.proofs.NumberLaws.{nil_or_cons, behind}
 
 -- ---- one sample

@@ -1,5 +1,6 @@
 -- Reading a raw raster: its whole samples, and the first one above the greatest.
-use Rattle.std.proofs.Common.{◌≡◌, ℕ, zero, suc, ◌+◌, ◌-◌, ◌*◌, ◌/◌, ◌<◌, ◌≤◌, inl, inr, min, cond, ltb, leb, List, [], ◌∷◌, length, get_or, take, drop, All, Ok, Err, refl, sym, ap, subst, ◌∙◌, arith}
+use Rattle.std.proofs.Common.{◌≡◌, ℕ, zero, suc, ◌+◌, ◌-◌, ◌*◌, ◌/◌, ◌<◌, ◌≤◌, inl, inr, min, cond, ltb, leb, List, [], ◌∷◌}
+use Rattle.std.proofs.Common.{length, get_or, take, drop, All, Ok, Err, refl, sym, ap, subst, ◌∙◌, arith}
 use Rattle.std.specs.Bool.{OnTrue}
 use Rattle.std.proofs.lemmas.Bool.{cases_lt, lt-ltb, le-ltb, OnTrue_from, leb-true}
 use Rattle.std.proofs.lemmas.List.{take_min, take_rest}

@@ -1,7 +1,8 @@
 -- The numbers and the printed names of the faults, and where each is.
 use Rattle.std.specs.Prelude.{ℕ, List, codes, Option, Some, None}
 use Rattle.netpbm.specs.declared.fault.PicFault.{PicFault}
-use Rattle.netpbm.specs.declared.fault.PicFault.TheVariants.{OtherFormat, HeaderCut, BadNumber, BadSize, BadMax, CommentBehindDigit, RasterCut, SampleTooBig, TrailingBytes, Memory}
+use Rattle.netpbm.specs.declared.fault.PicFault.TheVariants.{OtherFormat, HeaderCut, BadNumber, BadSize, BadMax}
+use Rattle.netpbm.specs.declared.fault.PicFault.TheVariants.{CommentBehindDigit, RasterCut, SampleTooBig, TrailingBytes, Memory}
 
 abbrev pub number_of : PicFault → ℕ
 number_of (OtherFormat at) = 1

@@ -3,7 +3,8 @@ use Rattle.std.specs.List.{list_all}
 use Rattle.std.specs.Prelude.{◌≡◌, ◌≢◌, ℕ, ◌+◌, ◌*◌, ◌<◌, ◌≤◌, ◌⊎◌, false, true, List, [], ◌∷◌, ◌++◌, length, All}
 use Rattle.std.specs.Char.{is_ascii_digit}
 use Rattle.netpbm.specs.declared.fault.PicFault.{PicFault}
-use Rattle.netpbm.specs.declared.fault.PicFault.TheVariants.{OtherFormat, HeaderCut, BadNumber, BadSize, BadMax, CommentBehindDigit, RasterCut, SampleTooBig, TrailingBytes, Memory}
+use Rattle.netpbm.specs.declared.fault.PicFault.TheVariants.{OtherFormat, HeaderCut, BadNumber, BadSize, BadMax}
+use Rattle.netpbm.specs.declared.fault.PicFault.TheVariants.{CommentBehindDigit, RasterCut, SampleTooBig, TrailingBytes, Memory}
 use Rattle.netpbm.specs.declared.header.Coding.{Coding}
 use Rattle.netpbm.specs.declared.header.Coding.TheVariants.{Plain, Raw}
 use Rattle.netpbm.specs.Grammar.{magic, IsNumber, Filler, IsGap, IsFields, NoDigit, IsWhite, IsSamples, IsPicture}

@@ -1,8 +1,10 @@
 -- What the steps of the reader answer: a value and the place behind it, or the fault at a place.
-use Rattle.std.specs.Prelude.{ℕ, zero, suc, ◌+◌, ◌*◌, min, nat_lt, false, not, ◌==◌, ◌&&◌, ◌||◌, if◌then◌else◌, List, [], ◌∷◌, length, take, drop, slice_index, Result, Ok, Err}
+use Rattle.std.specs.Prelude.{ℕ, zero, suc, ◌+◌, ◌*◌, min, nat_lt, false, not, ◌==◌, ◌&&◌, ◌||◌, if◌then◌else◌, List, [], ◌∷◌}
+use Rattle.std.specs.Prelude.{length, take, drop, slice_index, Result, Ok, Err}
 use Rattle.std.specs.Str.Parse.{digits_value}
 use Rattle.netpbm.specs.declared.fault.PicFault.{PicFault}
-use Rattle.netpbm.specs.declared.fault.PicFault.TheVariants.{OtherFormat, HeaderCut, BadNumber, BadSize, BadMax, CommentBehindDigit, RasterCut, SampleTooBig, TrailingBytes}
+use Rattle.netpbm.specs.declared.fault.PicFault.TheVariants.{OtherFormat, HeaderCut, BadNumber, BadSize, BadMax}
+use Rattle.netpbm.specs.declared.fault.PicFault.TheVariants.{CommentBehindDigit, RasterCut, SampleTooBig, TrailingBytes}
 use Rattle.netpbm.specs.declared.header.Coding.{Coding}
 use Rattle.netpbm.specs.declared.header.Coding.TheVariants.{Plain, Raw}
 use Rattle.netpbm.specs.declared.header.Header.{Header}

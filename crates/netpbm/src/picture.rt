@@ -1,5 +1,6 @@
 //! A picture: its sides, its greatest sample and its planes.
-ghost use Rattle.std.specs.Prelude.{◌≡◌, ◌≤◌, ◌<◌, ◌+◌, ◌*◌, ◌↔◌, ℕ, All, length, slice_index, slice_index_or, [], IsTrue, IsOk, IfOk, IfErr};
+ghost use Rattle.std.specs.Prelude.{◌≡◌, ◌≤◌, ◌<◌, ◌+◌, ◌*◌, ◌↔◌, ℕ};
+ghost use Rattle.std.specs.Prelude.{All, length, slice_index, slice_index_or, [], IsTrue, IsOk, IfOk, IfErr};
 ghost use Rattle.netpbm.specs.Image.{Image, InRange, IsPlane, IsImage, image};
 ghost use Rattle.netpbm.specs.Planes.{samples_of};
 

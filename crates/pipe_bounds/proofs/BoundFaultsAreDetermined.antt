@@ -1,5 +1,6 @@
 -- At the values of its parameters a program has one fault, but for memory, or none.
-use Rattle.std.proofs.Common.{ℕ, suc, ℤ, ◌<◌, ◌≤◌, ◌≡◌, ◌≢◌, ◌⊎◌, inl, inr, Ok, Err, List, [], ◌∷◌, Some, None, length, get_or, slice_get, refl, sym, ◌∙◌, ap, subst, arith}
+use Rattle.std.proofs.Common.{ℕ, suc, ℤ, ◌<◌, ◌≤◌, ◌≡◌, ◌≢◌, ◌⊎◌, inl, inr, Ok, Err, List, [], ◌∷◌, Some, None, length, get_or}
+use Rattle.std.proofs.Common.{slice_get, refl, sym, ◌∙◌, ap, subst, arith}
 use Rattle.std.proofs.lemmas.Bool.{cases_lt}
 use Rattle.std.proofs.lemmas.Int.{ints}
 use Rattle.std.proofs.lemmas.Option.{same_Some, none-some, slice_get_within, slice_get_cases}
@@ -20,7 +21,9 @@ use Rattle.pipe_checks.specs.declared.access.Access.TheVariants.{Read, Stencil}
 use Rattle.pipe_checks.specs.Names.{stages_of}
 use Rattle.pipe_checks.specs.Accesses.{stage_read}
 use Rattle.pipe_bounds.specs.Within.{AllSet, IsFirstUnset, IsStageDomain, HaveDomains, IsFirstFaultyDomain}
-use Rattle.pipe_bounds.specs.InBounds.{ReadCase, IsInBox, TakesRow, TakesColumn, Stays, AllStay, StageStays, StaysAt, AreInBounds, StaysAlong, AreExtremes, Leaves, TellsRead, IsFirstRead, IsFirstCase, IsFirstStage, IsFirstDeparture, IsBoundFault, IsInBounds, stage_cases, scale_of}
+use Rattle.pipe_bounds.specs.InBounds.{ReadCase, IsInBox, TakesRow, TakesColumn, Stays, AllStay, StageStays, StaysAt, AreInBounds}
+use Rattle.pipe_bounds.specs.InBounds.{StaysAlong, AreExtremes, Leaves, TellsRead, IsFirstRead, IsFirstCase, IsFirstStage}
+use Rattle.pipe_bounds.specs.InBounds.{IsFirstDeparture, IsBoundFault, IsInBounds, stage_cases, scale_of}
 use Rattle.pipe_bounds.specs.inside.Taken.{TellsDomain, domain_fault}
 use Rattle.pipe_bounds.proofs.OneDomain.{not_ok_and_err, same_area, same_fault}
 

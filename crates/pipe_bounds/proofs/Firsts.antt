@@ -1,5 +1,6 @@
 -- The first read of a case, the first case of a stage and the first stage that is wrong, where a loop stops.
-use Rattle.std.proofs.Common.{ℕ, zero, suc, ℤ, ◌<◌, ◌≤◌, ◌≡◌, ◌⊎◌, ◌↔◌, inl, inr, List, [], ◌∷◌, ◌++◌, Some, Result, Ok, Err, map, length, get_or, slice_get, refl, sym, ◌∙◌, ap, subst, arith}
+use Rattle.std.proofs.Common.{ℕ, zero, suc, ℤ, ◌<◌, ◌≤◌, ◌≡◌, ◌⊎◌, ◌↔◌, inl, inr, List, [], ◌∷◌, ◌++◌, Some, Result, Ok, Err, map}
+use Rattle.std.proofs.Common.{length, get_or, slice_get, refl, sym, ◌∙◌, ap, subst, arith}
 use Rattle.std.specs.Option.{option_map}
 use Rattle.std.proofs.lemmas.Bool.{cases_lt}
 use Rattle.std.proofs.lemmas.List.{length_push, length-map}
@@ -15,7 +16,8 @@ use Rattle.pipe_bounds.specs.declared.fault.BoundFault.{BoundFault}
 use Rattle.pipe_bounds.specs.declared.fault.BoundFault.TheVariants.{Memory}
 use Rattle.pipe_bounds.specs.declared.params.Setting.{Setting}
 use Rattle.pipe_checks.specs.declared.access.Access.{Access}
-use Rattle.pipe_bounds.specs.InBounds.{ReadCase, IsInBox, Stays, AllStay, StageStays, StaysAt, IsTakenAlong, Leaves, TellsRead, IsFirstRead, IsFirstCase, IsFirstStage, stage_cases, branch_case, whole_case}
+use Rattle.pipe_bounds.specs.InBounds.{ReadCase, IsInBox, Stays, AllStay, StageStays, StaysAt, IsTakenAlong, Leaves, TellsRead}
+use Rattle.pipe_bounds.specs.InBounds.{IsFirstRead, IsFirstCase, IsFirstStage, stage_cases, branch_case, whole_case}
 use Rattle.pipe_bounds.specs.inside.Taken.{AnswersReads, AnswersCases}
 use Rattle.domains.proofs.Places.{slice_get-end}
 

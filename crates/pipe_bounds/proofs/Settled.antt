@@ -1,5 +1,6 @@
 -- Parameters that have a value, and those that have none.
-use Rattle.std.proofs.Common.{ℕ, ℤ, ◌≡◌, true, false, List, Option, Some, None, is_some, length, get_or, slice_get, refl, sym, ◌∙◌, ap, subst}
+use Rattle.std.proofs.Common.{ℕ, ℤ, ◌≡◌, true, false, List, Option, Some, None, is_some, length, get_or, slice_get, refl, sym}
+use Rattle.std.proofs.Common.{◌∙◌, ap, subst}
 use Rattle.std.specs.Str.{bytes_eq}
 use Rattle.std.proofs.lemmas.Bool.{false≢true}
 use Rattle.std.proofs.lemmas.Option.{same_Some, none-some, slice_get_read}

@@ -1,5 +1,6 @@
 -- What `check` accepts can be taken: indices lie in their ranges, and each read is of a stage.
-use Rattle.std.proofs.Common.{ℕ, zero, suc, ◌+◌, ◌<◌, ◌≤◌, ℤ, pos, ◌≤ℤ◌, ◌≡◌, Bool, true, false, cond, Option, Some, None, List, [], ◌∷◌, ◌++◌, map, filter, length, slice_get, refl, sym, subst, arith}
+use Rattle.std.proofs.Common.{ℕ, zero, suc, ◌+◌, ◌<◌, ◌≤◌, ℤ, pos, ◌≤ℤ◌, ◌≡◌, Bool, true, false, cond, Option, Some, None, List}
+use Rattle.std.proofs.Common.{[], ◌∷◌, ◌++◌, map, filter, length, slice_get, refl, sym, subst, arith}
 use Rattle.std.specs.Prelude.{All}
 use Rattle.std.specs.List.{AllByRecursion}
 use Rattle.std.specs.Option.{ForSome}
@@ -9,7 +10,8 @@ use Rattle.std.proofs.lemmas.Int.{ints}
 use Rattle.std.proofs.lemmas.Option.{same_Some, none-some}
 use Rattle.domains.specs.Index.{IsIndex}
 use Rattle.pipe_tree.specs.declared.tree.Index.{Index}
-use Rattle.pipe_tree.specs.Tree.{Node, number, variable, read, neg, binary, literal, abs, clamp, select, stencil, Branch, Declaration, param, image, function, accumulator, output}
+use Rattle.pipe_tree.specs.Tree.{Node, number, variable, read, neg, binary, literal, abs, clamp, select, stencil, Branch}
+use Rattle.pipe_tree.specs.Tree.{Declaration, param, image, function, accumulator, output}
 use Rattle.pipe_tree.specs.declared.tree.Names.{Names}
 use Rattle.pipe_tree.specs.declared.tree.Names.TheVariants.{One, Three}
 use Rattle.pipe_checks.specs.declared.symbol.Symbol.{Symbol}

@@ -1,5 +1,6 @@
 -- Parameters that all have values, and stages that all have domains.
-use Rattle.std.proofs.Common.{ℕ, zero, suc, ℤ, ◌<◌, ◌≡◌, ◌⊎◌, inl, inr, true, Option, Some, None, is_some, Result, Ok, Err, List, [], ◌∷◌, length, slice_get, refl, sym, ◌∙◌, ap, subst, arith}
+use Rattle.std.proofs.Common.{ℕ, zero, suc, ℤ, ◌<◌, ◌≡◌, ◌⊎◌, inl, inr, true, Option, Some, None, is_some, Result, Ok, Err, List}
+use Rattle.std.proofs.Common.{[], ◌∷◌, length, slice_get, refl, sym, ◌∙◌, ap, subst, arith}
 use Rattle.std.specs.Option.{option_map}
 use Rattle.std.proofs.lemmas.Bool.{false≢true}
 use Rattle.std.proofs.lemmas.List.{length-map}

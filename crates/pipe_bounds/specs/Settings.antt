@@ -1,5 +1,6 @@
 -- The values of parameters, and of affine sums at them.
-use Rattle.std.specs.Prelude.{ℕ, ℤ, pos, neg_ℤ, ◌+ℤ◌, ◌*ℤ◌, ◌≡◌, if◌then◌else◌, Option, Some, None, unwrap_or, List, [], ◌∷◌, slice_get, slice_set, position}
+use Rattle.std.specs.Prelude.{ℕ, ℤ, pos, neg_ℤ, ◌+ℤ◌, ◌*ℤ◌, ◌≡◌, if◌then◌else◌, Option, Some, None, unwrap_or, List, [], ◌∷◌}
+use Rattle.std.specs.Prelude.{slice_get, slice_set, position}
 use Rattle.std.specs.Str.{bytes_eq}
 use Rattle.pipe_tree.specs.declared.tree.Term.{Term}
 use Rattle.pipe_bounds.specs.declared.params.Setting.{Setting}

@@ -1,5 +1,6 @@
 -- What is known of an item whose places hold what they want.
-use Rattle.std.proofs.Common.{ℕ, arith, ◌<◌, ◌≤◌, ◌%◌, ◌≡◌, ℤ, pos, negsuc, ◌≤ℤ◌, Bool, true, false, List, [], ◌∷◌, length, ◌++◌, Option, Some, None, is_none, refl, sym, ◌∙◌}
+use Rattle.std.proofs.Common.{ℕ, arith, ◌<◌, ◌≤◌, ◌%◌, ◌≡◌, ℤ, pos, negsuc, ◌≤ℤ◌, Bool, true, false, List, [], ◌∷◌, length, ◌++◌}
+use Rattle.std.proofs.Common.{Option, Some, None, is_none, refl, sym, ◌∙◌}
 use Rattle.std.specs.Prelude.{All, if◌then◌else◌, ◌&&◌, ◌==◌, nat_le, nat_lt, int_le}
 use Rattle.std.specs.List.{list_all}
 use Rattle.std.specs.Option.{ForSome}
@@ -30,7 +31,11 @@ use Rattle.pipe_checks.specs.Names.{declared_at}
 use Rattle.pipe_checks.specs.Accesses.{width_of}
 use Rattle.pipe_checks.specs.Twice.{locals_of}
 use Rattle.pipe_checks.specs.Checking.{is_good}
-use Rattle.pipe_checks.specs.Uses.{Place, name, ranged, remainder, shift, kernel, is_it, role_of, declared_role, allows, wrong_name, greatest_number, wrong_range, wrong_remainder, wrong_shift, is_side, wrong_kernel, role_at, wrong_at, is_served, are_served, span_places, index_places, least_literal, greatest_literal, read_places, stencil_places, expr_places, test_places, tests_places, branch_places, branches_places, otherwise_places, output_places, places_of}
+use Rattle.pipe_checks.specs.Uses.{Place, name, ranged, remainder, shift, kernel, is_it, role_of, declared_role, allows}
+use Rattle.pipe_checks.specs.Uses.{wrong_name, greatest_number, wrong_range, wrong_remainder, wrong_shift, is_side, wrong_kernel}
+use Rattle.pipe_checks.specs.Uses.{role_at, wrong_at, is_served, are_served, span_places, index_places, least_literal}
+use Rattle.pipe_checks.specs.Uses.{greatest_literal, read_places, stencil_places, expr_places, test_places, tests_places}
+use Rattle.pipe_checks.specs.Uses.{branch_places, branches_places, otherwise_places, output_places, places_of}
 
 -- ---- what is known
 

@@ -1,5 +1,7 @@
 -- One more declaration in a table of names.
-use Rattle.std.proofs.Common.{◌≡◌, ℕ, zero, suc, ◌+◌, ◌<◌, ◌≤◌, ◌⊎◌, inl, inr, min, ◌++◌, arith, Bool, true, false, cond, ◌||◌, List, [], ◌∷◌, Option, None, Some, is_some, IsTrue, if◌then◌else◌, length, take, slice_get, get_or, position, refl, sym, ap, subst, ◌∙◌}
+use Rattle.std.proofs.Common.{◌≡◌, ℕ, zero, suc, ◌+◌, ◌<◌, ◌≤◌, ◌⊎◌, inl, inr, min, ◌++◌, arith, Bool, true, false, cond, ◌||◌}
+use Rattle.std.proofs.Common.{List, [], ◌∷◌, Option, None, Some, is_some, IsTrue, if◌then◌else◌, length, take, slice_get, get_or}
+use Rattle.std.proofs.Common.{position, refl, sym, ap, subst, ◌∙◌}
 use Rattle.std.specs.List.{position_from, list_any}
 use Rattle.std.specs.Str.{bytes_eq}
 use Rattle.std.proofs.lemmas.Bool.{false≢true, cases_lt}

@@ -1,5 +1,6 @@
 -- Judging places in turn answers what is wrong at the first that is not served.
-use Rattle.std.proofs.Common.{ℕ, ◌+◌, ◌<◌, drop, length, get_or, ◌≡◌, true, false, ◌&&◌, Option, Some, None, is_none, Ok, Err, OnOk, IfErr, List, [], ◌∷◌, ◌++◌, refl, sym, ◌∙◌, ap}
+use Rattle.std.proofs.Common.{ℕ, ◌+◌, ◌<◌, drop, length, get_or, ◌≡◌, true, false, ◌&&◌, Option, Some, None, is_none, Ok, Err}
+use Rattle.std.proofs.Common.{OnOk, IfErr, List, [], ◌∷◌, ◌++◌, refl, sym, ◌∙◌, ap}
 use Rattle.std.proofs.lemmas.Bool.{false≢true}
 use Rattle.pipe_checks.specs.declared.symbol.Symbol.{Symbol}
 use Rattle.pipe_checks.specs.declared.fault.Violation.{Violation}

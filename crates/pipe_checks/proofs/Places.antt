@@ -1,5 +1,6 @@
 -- Places in lists.
-use Rattle.std.proofs.Common.{ℕ, ◌+◌, ◌<◌, ◌≤◌, ◌≡◌, Bool, List, ◌∷◌, Some, ◌||◌, refl, length, drop, get_or, slice_get, position, sym, ◌∙◌, ap, subst, arith, nat_lt}
+use Rattle.std.proofs.Common.{ℕ, ◌+◌, ◌<◌, ◌≤◌, ◌≡◌, Bool, List, ◌∷◌, Some, ◌||◌, refl, length, drop, get_or, slice_get, position}
+use Rattle.std.proofs.Common.{sym, ◌∙◌, ap, subst, arith, nat_lt}
 use Rattle.std.specs.List.{position_or_len, list_any}
 use Rattle.std.specs.Option.{option_map}
 use Rattle.std.proofs.lemmas.List.{length-map}

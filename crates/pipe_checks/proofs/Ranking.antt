@@ -1,10 +1,13 @@
 -- Ranks are found for all stages exactly where no stage leads back to itself.
-use Rattle.std.proofs.Common.{ℕ, zero, suc, ◌+◌, ◌-◌, ◌<◌, ◌≤◌, max, ◌≡◌, ◌≢◌, ◌⊎◌, inl, inr, Bool, true, false, cond, eqb, List, [], ◌∷◌, Option, Some, None, unwrap_or, map, length, drop, set, get_or, slice_get, slice_index, replicate, ◌||◌, sym, ◌∙◌, ap, refl, subst, arith}
+use Rattle.std.proofs.Common.{ℕ, zero, suc, ◌+◌, ◌-◌, ◌<◌, ◌≤◌, max, ◌≡◌, ◌≢◌, ◌⊎◌, inl, inr, Bool, true, false, cond, eqb, List}
+use Rattle.std.proofs.Common.{[], ◌∷◌, Option, Some, None, unwrap_or, map, length, drop, set, get_or, slice_get, slice_index}
+use Rattle.std.proofs.Common.{replicate, ◌||◌, sym, ◌∙◌, ap, refl, subst, arith}
 use Rattle.std.specs.List.{IsDistinct, AllByRecursion, list_any}
 use Rattle.std.proofs.lemmas.Bool.{cases_eq, cases_lt}
 use Rattle.std.proofs.lemmas.Bool.Decides.{eqb_tells}
 use Rattle.std.proofs.lemmas.Option.{slice_get_within, slice_get-get_or, get_or_from_slice_get, same_Some, none-some}
-use Rattle.std.proofs.lemmas.List.{get_or-set_other, get_or_past, get_or_read, get_or_default, get_or-map, length-set, length-map, length-replicate, at_drop_more}
+use Rattle.std.proofs.lemmas.List.{get_or-set_other, get_or_past, get_or_read}
+use Rattle.std.proofs.lemmas.List.{get_or_default, get_or-map, length-set, length-map, length-replicate, at_drop_more}
 use Rattle.std.proofs.lemmas.Map.Keys.{IsDistinct-cons}
 use Rattle.std.proofs.lemmas.Map.Steps.{length-le_from_distinct_below}
 use Rattle.pipe_checks.specs.Links.{Links}

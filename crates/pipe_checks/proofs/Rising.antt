@@ -1,5 +1,6 @@
 -- Stages that have ranks lie on no cycle.
-use Rattle.std.proofs.Common.{ℕ, zero, suc, ◌+◌, ◌-◌, ◌<◌, ◌≤◌, ◌≡◌, ◌⊎◌, inl, inr, true, List, [], ◌∷◌, map, length, Some, None, get_or, slice_get, slice_index, sym, ◌∙◌, ap, refl, subst, arith}
+use Rattle.std.proofs.Common.{ℕ, zero, suc, ◌+◌, ◌-◌, ◌<◌, ◌≤◌, ◌≡◌, ◌⊎◌, inl, inr, true, List, [], ◌∷◌, map, length, Some, None}
+use Rattle.std.proofs.Common.{get_or, slice_get, slice_index, sym, ◌∙◌, ap, refl, subst, arith}
 use Rattle.std.specs.Prelude.{All, Contains}
 use Rattle.std.specs.List.{AllByRecursion}
 use Rattle.std.specs.Option.{option_map}

@@ -1,5 +1,6 @@
 -- Tables of names: what is found by hashes is what a search from the front finds.
-use Rattle.std.proofs.Common.{◌≡◌, ℕ, ◌+◌, ◌-◌, ◌++◌, arith, Bool, true, false, cond, ◌&&◌, List, [], ◌∷◌, Option, None, Some, is_some, if◌then◌else◌, length, map, take, position, refl, sym, ap, subst, ◌∙◌}
+use Rattle.std.proofs.Common.{◌≡◌, ℕ, ◌+◌, ◌-◌, ◌++◌, arith, Bool, true, false, cond, ◌&&◌, List, [], ◌∷◌, Option, None, Some}
+use Rattle.std.proofs.Common.{is_some, if◌then◌else◌, length, map, take, position, refl, sym, ap, subst, ◌∙◌}
 use Rattle.std.specs.Prelude.{replicate}
 use Rattle.std.specs.Bool.{Decides}
 use Rattle.std.specs.List.{position_from}

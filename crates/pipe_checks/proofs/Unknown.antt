@@ -1,5 +1,6 @@
 -- Lists of which some elements are not known yet.
-use Rattle.std.proofs.Common.{ℕ, zero, ◌++◌, IfNone, subst, suc, ◌+◌, ◌<◌, ◌≤◌, ◌≡◌, List, [], ◌∷◌, Option, Some, None, length, set, get_or, slice_get, sym, ◌∙◌, ap, refl, arith, is_none, is_some, cond, true, false}
+use Rattle.std.proofs.Common.{ℕ, zero, ◌++◌, IfNone, subst, suc, ◌+◌, ◌<◌, ◌≤◌, ◌≡◌, List, [], ◌∷◌, Option, Some, None, length}
+use Rattle.std.proofs.Common.{set, get_or, slice_get, sym, ◌∙◌, ap, refl, arith, is_none, is_some, cond, true, false}
 use Rattle.std.proofs.lemmas.Bool.{false≢true}
 use Rattle.std.proofs.lemmas.Option.{slice_get_within, slice_get-get_or, get_or_from_slice_get, same_Some, none-some}
 use Rattle.std.proofs.lemmas.List.Sums.{sum_by-set, count_by-le-length}

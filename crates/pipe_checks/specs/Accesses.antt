@@ -1,7 +1,8 @@
 -- The reads and stencils of expressions, and what each stage reads.
 use Rattle.std.specs.Prelude.{ℕ, ℤ, Bool, true, false, Option, Some, None, List, [], ◌∷◌, ◌++◌, map, length, slice_get}
 use Rattle.pipe_tree.specs.declared.tree.Index.{Index}
-use Rattle.pipe_tree.specs.Tree.{Node, number, variable, read, neg, binary, literal, abs, clamp, select, stencil, Branch, Declaration, param, image, function, accumulator, output}
+use Rattle.pipe_tree.specs.Tree.{Node, number, variable, read, neg, binary, literal, abs, clamp, select, stencil, Branch}
+use Rattle.pipe_tree.specs.Tree.{Declaration, param, image, function, accumulator, output}
 use Rattle.pipe_checks.specs.declared.symbol.NameKind.{NameKind}
 use Rattle.pipe_checks.specs.declared.symbol.NameKind.TheVariants.{Param, Plane, Func, Accum}
 use Rattle.pipe_checks.specs.declared.symbol.Symbol.{Symbol}

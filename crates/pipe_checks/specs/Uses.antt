@@ -1,5 +1,6 @@
 -- The places of an item in the order of the text, each with what it wants, and what is wrong where a place does not get it.
-use Rattle.std.specs.Prelude.{ℕ, ◌%◌, ◌≡◌, ℤ, pos, negsuc, int_le, Bool, true, false, ◌&&◌, ◌==◌, nat_le, nat_lt, if◌then◌else◌, Option, Some, None, is_none, List, [], ◌∷◌, ◌++◌, length}
+use Rattle.std.specs.Prelude.{ℕ, ◌%◌, ◌≡◌, ℤ, pos, negsuc, int_le, Bool, true, false, ◌&&◌, ◌==◌, nat_le, nat_lt, if◌then◌else◌}
+use Rattle.std.specs.Prelude.{Option, Some, None, is_none, List, [], ◌∷◌, ◌++◌, length}
 use Rattle.std.specs.List.{list_all}
 use Rattle.std.specs.Str.{bytes_eq}
 use Rattle.pipe_tree.specs.declared.tree.Term.{Term}
@@ -11,7 +12,8 @@ use Rattle.pipe_tree.specs.declared.tree.Test.{Test}
 use Rattle.pipe_tree.specs.declared.tree.Test.TheVariants.{Compare, Remainder}
 use Rattle.pipe_tree.specs.declared.tree.Names.{Names}
 use Rattle.pipe_tree.specs.declared.tree.Names.TheVariants.{One, Three}
-use Rattle.pipe_tree.specs.Tree.{Node, number, variable, read, neg, binary, literal, abs, clamp, select, stencil, Branch, Function, Accumulator, Declaration, param, image, function, accumulator, output}
+use Rattle.pipe_tree.specs.Tree.{Node, number, variable, read, neg, binary, literal, abs, clamp, select, stencil, Branch}
+use Rattle.pipe_tree.specs.Tree.{Function, Accumulator, Declaration, param, image, function, accumulator, output}
 use Rattle.pipe_checks.specs.declared.symbol.NameKind.{NameKind}
 use Rattle.pipe_checks.specs.declared.symbol.NameKind.TheVariants as kind
 use Rattle.pipe_checks.specs.declared.symbol.Symbol.{Symbol}

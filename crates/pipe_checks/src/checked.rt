@@ -10,7 +10,8 @@ ghost use Rattle.pipe_checks.specs.Names.{declared_names};
 ghost use Rattle.pipe_checks.specs.Graph.{IsRanking};
 ghost use Rattle.pipe_checks.specs.Twice.{locals_of};
 ghost use Rattle.pipe_checks.specs.Uses.{places_of, IsFirstUnserved};
-ghost use Rattle.pipe_checks.specs.Checking.{IsNamed, IsFault, IsCheckedOf, tree_in, stages_in, params_in, graph_in, ranks_in, is_result, is_good, reads_at};
+ghost use Rattle.pipe_checks.specs.Checking.{IsNamed, IsFault, IsCheckedOf, tree_in, stages_in, params_in, graph_in, ranks_in};
+ghost use Rattle.pipe_checks.specs.Checking.{is_result, is_good, reads_at};
 ghost use Rattle.pipe_checks.specs.inside.Tables.{IsTableOf};
 ghost use Rattle.pipe_checks.specs.inside.Search.{IsCyclic, IsJudged, IsFound, fault_of};
 

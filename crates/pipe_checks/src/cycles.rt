@@ -1,7 +1,8 @@
 #![tactic(auto)]
 //! The shortest cycle of reads.
 
-ghost use Rattle.std.specs.Prelude.{◌≡◌, ℕ, suc, ◌<◌, ◌≤◌, ◌+◌, ◌↔◌, Option, Some, None, if◌then◌else◌, ◌==◌, IsTrue, IfSome, IfNone, IfOk, length, slice_get, Contains};
+ghost use Rattle.std.specs.Prelude.{◌≡◌, ℕ, suc, ◌<◌, ◌≤◌, ◌+◌, ◌↔◌, Option, Some, None, if◌then◌else◌, ◌==◌, IsTrue, IfSome};
+ghost use Rattle.std.specs.Prelude.{IfNone, IfOk, length, slice_get, Contains};
 ghost use Rattle.pipe_checks.specs.Graph.{links_at, Way, IsAcyclic, IsShortestFrom, IsShortestCycle};
 ghost use Rattle.pipe_checks.specs.inside.Search.{SomeAt, LeadsOn, AreDistances, IsStepAt, IsStepFrom, IsWayBack};
 

@@ -5,7 +5,11 @@ ghost use Rattle.std.specs.Prelude.{◌≡◌, ◌==◌, length};
 ghost use Rattle.std.specs.List.{list_all};
 ghost use Rattle.std.specs.Option.{option_map};
 ghost use Rattle.pipe_tree.specs.Tree.{view, branch, branches, function_of, accumulator_of, declaration};
-ghost use Rattle.pipe_checks.specs.Uses.{is_it, allows, role_of, role_at, wrong_name, wrong_range, wrong_remainder, wrong_shift, is_side, wrong_kernel, factor_places, affine_places, span_places, index_places, least_literal, greatest_literal, read_places, stencil_places, expr_places, test_places, tests_places, branch_places, branches_places, otherwise_places, function_places, accumulator_places, output_places, places_of};
+ghost use Rattle.pipe_checks.specs.Uses.{is_it, allows, role_of, role_at, wrong_name, wrong_range, wrong_remainder, wrong_shift};
+ghost use Rattle.pipe_checks.specs.Uses.{is_side, wrong_kernel, factor_places, affine_places, span_places, index_places};
+ghost use Rattle.pipe_checks.specs.Uses.{least_literal, greatest_literal, read_places, stencil_places, expr_places, test_places};
+ghost use Rattle.pipe_checks.specs.Uses.{tests_places, branch_places, branches_places, otherwise_places, function_places};
+ghost use Rattle.pipe_checks.specs.Uses.{accumulator_places, output_places, places_of};
 ghost use Rattle.pipe_checks.specs.inside.Judging.{verdict, judged};
 
 use crate::access::width_of;

@@ -14,7 +14,8 @@ use Rattle.pipe_tree.specs.declared.tree.Test.{Test}
 use Rattle.pipe_tree.specs.Limits.{most_levels}
 use Rattle.pipe_tree.specs.Lookahead.{is_word_at}
 use Rattle.pipe_tree.specs.Tree.{Node, Branch, Declaration, declaration, declarations}
-use Rattle.pipe_tree.specs.Reading.{At, Answer, ◌>>=◌, gives, choose, while, next_behind, word, a_test, condition, value, a_case, item, goes_on, other, others, value_of}
+use Rattle.pipe_tree.specs.Reading.{At, Answer, ◌>>=◌, gives, choose, while, next_behind, word, a_test, condition, value, a_case}
+use Rattle.pipe_tree.specs.Reading.{item, goes_on, other, others, value_of}
 use Rattle.pipe_terms.specs.Answers.{Fails, Reads}
 use Rattle.pipe_tree.proofs.ItemLaws as laws
 use Rattle.pipe_tree.proofs.ProgramLaws as programs

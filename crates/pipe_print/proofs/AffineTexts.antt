@@ -1,5 +1,6 @@
 -- The canonical texts of affine sums, spans and variables.
-use Rattle.std.proofs.Common.{◌≡◌, ℕ, Bool, true, false, List, [], ◌∷◌, ◌++◌, Option, Some, refl, sym, ap, subst, ◌∙◌, append_assoc, ◌⊎◌, inl, inr}
+use Rattle.std.proofs.Common.{◌≡◌, ℕ, Bool, true, false, List, [], ◌∷◌, ◌++◌, Option, Some, refl, sym, ap, subst, ◌∙◌}
+use Rattle.std.proofs.Common.{append_assoc, ◌⊎◌, inl, inr}
 use Rattle.std.specs.List.{flat_map}
 use Rattle.std.proofs.lemmas.Bool.Decides.{eqb_tells}
 use Rattle.std.proofs.lemmas.List.{append-nil}
@@ -13,8 +14,10 @@ use Rattle.pipe_tree.specs.Limits.{Tagged, plain}
 use Rattle.pipe_tree.specs.Grammar.{Rule, Then, Gives, minus, factor_end, scaled_name, term, next_term, affine, span, a_variable}
 use Rattle.pipe_tree.specs.Grammar as g
 use Rattle.pipe_print.specs.Canonical as c
-use Rattle.pipe_print.specs.Canonical.{◌⌢◌, product_tokens, scaled_tokens, term_tokens, next_term_tokens, affine_tokens, signed_tokens, span_tokens, variable_tokens}
-use Rattle.pipe_print.proofs.Printed.{Printed, Drops, then_dropped, joined, at_text, chain, gives, gives_none, gives_dropped, takes, relabel, becomes, skip, takes_dropped, Adds, adds_one, many_adds}
+use Rattle.pipe_print.specs.Canonical.{◌⌢◌, product_tokens, scaled_tokens, term_tokens, next_term_tokens, affine_tokens}
+use Rattle.pipe_print.specs.Canonical.{signed_tokens, span_tokens, variable_tokens}
+use Rattle.pipe_print.proofs.Printed.{Printed, Drops, then_dropped, joined, at_text, chain, gives, gives_none, gives_dropped}
+use Rattle.pipe_print.proofs.Printed.{takes, relabel, becomes, skip, takes_dropped, Adds, adds_one, many_adds}
 use Rattle.pipe_print.proofs.SingleTokens.{name_printed, sign_printed, int_printed, int_dropped}
 
 -- a factor of 1 is left out, and no other

@@ -1,5 +1,6 @@
 -- The canonical texts of expressions: no deeper than the text that was read, wherever they stand.
-use Rattle.std.proofs.Common.{◌≡◌, ℕ, zero, suc, ◌≤◌, Bool, true, false, List, [], ◌∷◌, ◌++◌, Some, refl, sym, ap, subst, ◌∙◌, append_assoc, arith, inl, inr}
+use Rattle.std.proofs.Common.{◌≡◌, ℕ, zero, suc, ◌≤◌, Bool, true, false, List, [], ◌∷◌, ◌++◌, Some, refl, sym, ap, subst, ◌∙◌}
+use Rattle.std.proofs.Common.{append_assoc, arith, inl, inr}
 use Rattle.std.proofs.lemmas.List.{append-nil}
 use Rattle.pipe_tokens.specs.declared.token.Token.{Token}
 use Rattle.pipe_tokens.specs.declared.token.Token.TheVariants as token
@@ -14,13 +15,16 @@ use Rattle.domains.specs.declared.operators.LiteralOp.TheVariants.{Div, Rem, Shl
 use Rattle.pipe_tree.specs.Limits.{Tagged, plain}
 use Rattle.pipe_tree.specs.Operators.{factor_at}
 use Rattle.pipe_tree.specs.Tree.{Node, binary, literal}
-use Rattle.pipe_tree.specs.Grammar.{Rule, Then, Gives, Takes, Some_of, times, many, leaf, literal_number, named, a_stencil, operand, product_more, product, sum_op, sum_more, sums, negation, group, pair, absolute, clamped, selected, opened, Unary, Product, Expression}
+use Rattle.pipe_tree.specs.Grammar.{Rule, Then, Gives, Takes, Some_of, times, many, leaf, literal_number, named, a_stencil}
+use Rattle.pipe_tree.specs.Grammar.{operand, product_more, product, sum_op, sum_more, sums, negation, group, pair, absolute}
+use Rattle.pipe_tree.specs.Grammar.{clamped, selected, opened, Unary, Product, Expression}
 use Rattle.pipe_tree.specs.Grammar as g
 use Rattle.pipe_print.specs.declared.place.Place.{Place}
 use Rattle.pipe_print.specs.declared.place.Place.TheVariants as place
 use Rattle.pipe_print.specs.Canonical as c
 use Rattle.pipe_print.specs.Canonical.{◌⌢◌, grouped, expression_tokens, literal_mark, relation_mark}
-use Rattle.pipe_print.proofs.Printed.{Shortens, nothing, leaves_out, Shortens-append, Printed, fused, joined, at_text, chain, rechain, ended, gives, takes, gives_dropped, relabel, becomes, skip_back}
+use Rattle.pipe_print.proofs.Printed.{Shortens, nothing, leaves_out, Shortens-append, Printed, fused, joined, at_text, chain}
+use Rattle.pipe_print.proofs.Printed.{rechain, ended, gives, takes, gives_dropped, relabel, becomes, skip_back}
 use Rattle.pipe_print.proofs.SingleTokens.{means, sign_printed, relation_printed, int_printed, some_is}
 use Rattle.pipe_print.proofs.IndexTexts.{named_printed, stencil_printed}
 

@@ -1,5 +1,6 @@
 -- The canonical texts of indices, reads, kernels and stencils.
-use Rattle.std.proofs.Common.{◌≡◌, ℕ, zero, suc, Bool, true, false, List, [], ◌∷◌, ◌++◌, refl, sym, ap, subst, ◌∙◌, append_assoc, ◌⊎◌, inl, inr}
+use Rattle.std.proofs.Common.{◌≡◌, ℕ, zero, suc, Bool, true, false, List, [], ◌∷◌, ◌++◌, refl, sym, ap, subst, ◌∙◌, append_assoc}
+use Rattle.std.proofs.Common.{◌⊎◌, inl, inr}
 use Rattle.std.specs.Prelude.{ℤ, pos, negsuc, ◌==◌}
 use Rattle.std.proofs.lemmas.Bool.Decides.{eqb_tells}
 use Rattle.std.proofs.lemmas.List.{append-nil}
@@ -9,12 +10,16 @@ use Rattle.pipe_tokens.specs.declared.token.Punct.TheVariants as mark
 use Rattle.pipe_tree.specs.declared.tree.Index.{Index}
 use Rattle.pipe_tree.specs.Limits.{Tagged, plain}
 use Rattle.pipe_tree.specs.Tree.{Node}
-use Rattle.pipe_tree.specs.Grammar.{Rule, Then, Gives, Takes, signed, minus, scaled, addend, divisor, index_end, grouped_index, index, name_end, named, entry, row, kernel, next_behind, many, separated, a_stencil}
+use Rattle.pipe_tree.specs.Grammar.{Rule, Then, Gives, Takes, signed, minus, scaled, addend, divisor, index_end, grouped_index}
+use Rattle.pipe_tree.specs.Grammar.{index, name_end, named, entry, row, kernel, next_behind, many, separated, a_stencil}
 use Rattle.pipe_tree.specs.Grammar as g
 use Rattle.pipe_print.specs.Canonical as c
-use Rattle.pipe_print.specs.Canonical.{◌⌢◌, each_behind, scaled_tokens, addend_tokens, divisor_tokens, is_zero, grouped, grouped_if, index_tokens, entry_tokens, row_tokens, kernel_tokens, expression_tokens, signed_tokens}
+use Rattle.pipe_print.specs.Canonical.{◌⌢◌, each_behind, scaled_tokens, addend_tokens, divisor_tokens, is_zero, grouped}
+use Rattle.pipe_print.specs.Canonical.{grouped_if, index_tokens, entry_tokens, row_tokens, kernel_tokens, expression_tokens}
+use Rattle.pipe_print.specs.Canonical.{signed_tokens}
 use Rattle.pipe_print.specs.declared.place.Place.{Place}
-use Rattle.pipe_print.proofs.Printed.{Printed, Drops, joined, at_text, chain, ended, gives, gives_none, gives_dropped, takes, takes_dropped, then_dropped, relabel, becomes, skip, skip_back, Adds, adds_one, many_adds}
+use Rattle.pipe_print.proofs.Printed.{Printed, Drops, joined, at_text, chain, ended, gives, gives_none, gives_dropped, takes}
+use Rattle.pipe_print.proofs.Printed.{takes_dropped, then_dropped, relabel, becomes, skip, skip_back, Adds, adds_one, many_adds}
 use Rattle.pipe_print.proofs.SingleTokens.{name_printed, sign_printed, int_printed, int_dropped, sign_dropped}
 use Rattle.pipe_print.proofs.AffineTexts.{scaled_is, minus_printed, minus_dropped}
 

@@ -13,9 +13,12 @@ use Rattle.pipe_tree.specs.declared.tree.Output.{Output}
 use Rattle.pipe_tree.specs.declared.tree.Variable.{Variable}
 use Rattle.pipe_tree.specs.Limits.{Tagged}
 use Rattle.pipe_tree.specs.Tree.{Node, Branch, Function, Accumulator, Declaration, param, image, function, accumulator, output}
-use Rattle.pipe_tree.specs.Grammar.{names, a_param, an_image, variables, a_test, condition, value, a_case, otherwise, a_function, an_accumulator, an_output, FirstOutput, other, Program}
+use Rattle.pipe_tree.specs.Grammar.{names, a_param, an_image, variables, a_test, condition, value, a_case, otherwise, a_function}
+use Rattle.pipe_tree.specs.Grammar.{an_accumulator, an_output, FirstOutput, other, Program}
 use Rattle.pipe_print.specs.Canonical as c
-use Rattle.pipe_print.specs.Canonical.{names_tokens, variables_tokens, test_tokens, condition_tokens, value_tokens, case_tokens, otherwise_tokens, param_tokens, image_tokens, function_tokens, accumulator_tokens, output_tokens, item_tokens, canonical_tokens}
+use Rattle.pipe_print.specs.Canonical.{names_tokens, variables_tokens, test_tokens, condition_tokens, value_tokens, case_tokens}
+use Rattle.pipe_print.specs.Canonical.{otherwise_tokens, param_tokens, image_tokens, function_tokens, accumulator_tokens}
+use Rattle.pipe_print.specs.Canonical.{output_tokens, item_tokens, canonical_tokens}
 use Rattle.pipe_print.proofs.Printed.{Printed, chain, gives, takes, relabel, becomes, Adds, adds_one, many_adds, flat_map-append}
 use Rattle.pipe_print.proofs.SingleTokens.{name_printed, relation_printed, fold_printed, int_printed}
 use Rattle.pipe_print.proofs.AffineTexts.{affine_printed, span_printed, variable_printed}

@@ -11,7 +11,8 @@ use Rattle.pipe_tree.specs.Operators.{name_at, sign_at, relation_at, fold_at}
 use Rattle.pipe_tree.specs.Grammar as g
 use Rattle.pipe_tree.specs.Grammar.{Rule, Takes, Means, Some_of}
 use Rattle.pipe_print.specs.Canonical as c
-use Rattle.pipe_print.proofs.Printed.{Shortens, Shortens-refl, nothing, leaves_out, puts_zero, Printed, Drops, becomes, relabel, takes, takes_dropped}
+use Rattle.pipe_print.proofs.Printed.{Shortens, Shortens-refl, nothing, leaves_out}
+use Rattle.pipe_print.proofs.Printed.{puts_zero, Printed, Drops, becomes, relabel, takes, takes_dropped}
 
 -- one token that means something
 pub means : {X : Type 0} {meaning : Option Token → Option X} {role : _} {text : List Tagged} {x : X} (p : Means meaning role text x)

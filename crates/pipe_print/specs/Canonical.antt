@@ -1,11 +1,14 @@
 -- The canonical text of a tree: its tokens in the fewest bytes. No factor of 1 before a name, no addend of 0 and no
 -- divisor of 1 is among them, and no parenthesis that the grammar does not need.
-use Rattle.std.specs.Prelude.{ℕ, zero, suc, ℤ, pos, negsuc, Bool, true, false, not, ◌&&◌, ◌==◌, List, [], ◌∷◌, ◌++◌, Option, Some, None, if◌then◌else◌}
+use Rattle.std.specs.Prelude.{ℕ, zero, suc, ℤ, pos, negsuc, Bool, true, false}
+use Rattle.std.specs.Prelude.{not, ◌&&◌, ◌==◌, List, [], ◌∷◌, ◌++◌, Option, Some, None, if◌then◌else◌}
 use Rattle.std.specs.List.{flat_map}
 use Rattle.pipe_tokens.specs.declared.token.Token.{Token}
 use Rattle.pipe_tokens.specs.declared.token.Token.TheVariants as tokens
 use Rattle.pipe_tokens.specs.declared.token.Punct.{Punct}
-use Rattle.pipe_tokens.specs.declared.token.Punct.TheVariants.{OpenRound, CloseRound, OpenSquare, CloseSquare, OpenCurly, CloseCurly, Comma, Semicolon, Colon, Plus, Minus, Star, Slash, Percent, ShiftLeft, ShiftRight, AtMost, AtLeast, Equals, DotDot}
+use Rattle.pipe_tokens.specs.declared.token.Punct.TheVariants.{OpenRound, CloseRound, OpenSquare, CloseSquare, OpenCurly}
+use Rattle.pipe_tokens.specs.declared.token.Punct.TheVariants.{CloseCurly, Comma, Semicolon, Colon, Plus, Minus, Star, Slash}
+use Rattle.pipe_tokens.specs.declared.token.Punct.TheVariants.{Percent, ShiftLeft, ShiftRight, AtMost, AtLeast, Equals, DotDot}
 use Rattle.pipe_tokens.specs.declared.token.Keyword.{Keyword}
 use Rattle.pipe_tokens.specs.declared.token.Keyword.TheVariants as words
 use Rattle.pipe_tokens.specs.Spelling.{spelling}
@@ -27,7 +30,8 @@ use Rattle.pipe_tree.specs.declared.tree.Names.TheVariants.{One, Three}
 use Rattle.pipe_tree.specs.declared.tree.Param.{Param}
 use Rattle.pipe_tree.specs.declared.tree.Image.{Image}
 use Rattle.pipe_tree.specs.declared.tree.Output.{Output}
-use Rattle.pipe_tree.specs.Tree.{Node, number, variable, read, neg, binary, literal, abs, clamp, select, stencil, Branch, Function, Accumulator, Declaration, param, image, function, accumulator, output}
+use Rattle.pipe_tree.specs.Tree.{Node, number, variable, read, neg, binary, literal, abs, clamp, select, stencil, Branch}
+use Rattle.pipe_tree.specs.Tree.{Function, Accumulator, Declaration, param, image, function, accumulator, output}
 use Rattle.pipe_print.specs.declared.place.Place.{Place}
 use Rattle.pipe_print.specs.declared.place.Place.TheVariants as places
 

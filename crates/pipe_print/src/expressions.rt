@@ -3,7 +3,8 @@
 
 ghost use Rattle.std.specs.Prelude.{◌≡◌, ◌++◌, OnOk};
 ghost use Rattle.pipe_tree.specs.Tree.{view, binary};
-ghost use Rattle.pipe_print.specs.Canonical.{mark as mark_tokens, ◌⌢◌, grouped_if, literal_mark, relation_mark, pair_tokens, expression_tokens};
+ghost use Rattle.pipe_print.specs.Canonical.{mark as mark_tokens, ◌⌢◌, grouped_if, literal_mark, relation_mark, pair_tokens};
+ghost use Rattle.pipe_print.specs.Canonical.{expression_tokens};
 
 use crate::place::Place;
 use crate::printer::Printer;

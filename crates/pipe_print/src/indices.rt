@@ -2,7 +2,8 @@
 //! Reads at an index, and stencils with a kernel.
 
 ghost use Rattle.std.specs.Prelude.{◌≡◌, ◌++◌, OnOk};
-ghost use Rattle.pipe_print.specs.Canonical.{◌⌢◌, scaled_tokens, addend_tokens, divisor_tokens, index_tokens, read_tokens, stencil_tokens, row_tokens, entry_tokens};
+ghost use Rattle.pipe_print.specs.Canonical.{◌⌢◌, scaled_tokens, addend_tokens, divisor_tokens, index_tokens, read_tokens};
+ghost use Rattle.pipe_print.specs.Canonical.{stencil_tokens, row_tokens, entry_tokens};
 
 use crate::lists::Entry;
 use crate::printer::Printer;

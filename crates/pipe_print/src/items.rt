@@ -5,7 +5,9 @@ ghost use Rattle.std.specs.Prelude.{◌≡◌, ◌++◌, OnOk};
 ghost use Rattle.std.specs.List.{flat_map};
 ghost use Rattle.std.specs.Option.{option_map};
 ghost use Rattle.pipe_tree.specs.Tree.{view, branches, function_of, accumulator_of, declaration};
-ghost use Rattle.pipe_print.specs.Canonical.{fold_word, param_tokens, names_tokens, image_tokens, variables_tokens, test_tokens, condition_tokens, value_tokens, case_tokens, otherwise_tokens, function_tokens, update_tokens, accumulator_tokens, output_tokens, item_tokens};
+ghost use Rattle.pipe_print.specs.Canonical.{fold_word, param_tokens, names_tokens, image_tokens, variables_tokens, test_tokens};
+ghost use Rattle.pipe_print.specs.Canonical.{condition_tokens, value_tokens, case_tokens, otherwise_tokens, function_tokens};
+ghost use Rattle.pipe_print.specs.Canonical.{update_tokens, accumulator_tokens, output_tokens, item_tokens};
 
 use crate::lists::Entry;
 use crate::place::Place;

@@ -9,11 +9,13 @@ use Rattle.pipe_tree.specs.declared.tree.Term.{Term}
 use Rattle.pipe_tree.specs.Operators.{name_at, sign_at}
 use Rattle.pipe_tree.specs.Lookahead.{is_mark_at, is_number_at}
 use Rattle.pipe_tree.specs.Grammar as g
-use Rattle.pipe_tree.specs.Reading.{At, ◌>>=◌, gives, choose, while, minus, factor_end, scaled_name, term, is_sign_at, next_term, affine, span, a_variable}
+use Rattle.pipe_tree.specs.Reading.{At, ◌>>=◌, gives, choose, while, minus, factor_end, scaled_name, term, is_sign_at, next_term}
+use Rattle.pipe_tree.specs.Reading.{affine, span, a_variable}
 use Rattle.pipe_tree.proofs.Laws.{Follow, Any, Parses, Starts, parses_then, parses_next, parses_gives, parses_choose}
 use Rattle.pipe_tree.proofs.TokenLaws.{parses_mark, parses_word, parses_name, parses_sign, parses_int}
 use Rattle.pipe_tree.proofs.LoopLaws.{Turns, loop_unroll, parses_loop, loop_follows}
-use Rattle.pipe_tree.proofs.StartLaws.{Passing, Failing, starts_then, starts_by, starts_with, starts_means, starts_int, starts_gives, starts_or, long_front, long_means}
+use Rattle.pipe_tree.proofs.StartLaws.{Passing, Failing, starts_then, starts_by, starts_with, starts_means, starts_int}
+use Rattle.pipe_tree.proofs.StartLaws.{starts_gives, starts_or, long_front, long_means}
 
 -- ---- what may follow
 

@@ -1,5 +1,6 @@
 -- Expressions are read as the grammar says, within any levels.
-use Rattle.std.proofs.Common.{Bool, true, false, ◌≡◌, ℕ, zero, suc, ◌<◌, List, [], ◌∷◌, Option, Some, None, Ok, Err, refl, subst, arith, ◌⊎◌, inl, inr}
+use Rattle.std.proofs.Common.{Bool, true, false, ◌≡◌, ℕ, zero, suc, ◌<◌, List, [], ◌∷◌, Option, Some, None, Ok, Err, refl, subst}
+use Rattle.std.proofs.Common.{arith, ◌⊎◌, inl, inr}
 use Rattle.pipe_tokens.specs.declared.token.Token.{Token}
 use Rattle.pipe_tokens.specs.declared.token.Token.TheVariants as token
 use Rattle.pipe_tokens.specs.declared.token.Punct.{Punct}
@@ -27,11 +28,17 @@ use Rattle.pipe_tree.specs.Grammar as g
 use Rattle.pipe_tree.specs.Grammar.{Rule, Then, Gives, many, ◌or◌, leaf, Unary, Product, Expression}
 use Rattle.pipe_tree.specs.Faults.{GoesOn}
 use Rattle.pipe_tree.specs.Tree.{Node}
-use Rattle.pipe_tree.specs.Reading.{At, Answer, Reader, ◌>>=◌, gives, stop, by_key, choose, while, mark, is_factor_at, is_sign_at, literal_number, named, a_stencil, operand, product_more, product_of, sum_more, sum_of, negation, group, word_of, pair, absolute, clamped, selected, opened, unary_by, unary_at, product_at, expression_at}
-use Rattle.pipe_tree.proofs.Laws.{on, state, tagged, Within, Sound, HasText, Follow, Any, Ends, All, Parses, Starts, widen, refuse_sound, or_all, or_wider, all_weaker, then_has, has_within, token_rule, parses_then, parses_next, parses_gives}
+use Rattle.pipe_tree.specs.Reading.{At, Answer, Reader, ◌>>=◌, gives, stop, by_key, choose, while, mark, is_factor_at, is_sign_at}
+use Rattle.pipe_tree.specs.Reading.{literal_number, named, a_stencil, operand, product_more, product_of, sum_more, sum_of}
+use Rattle.pipe_tree.specs.Reading.{negation, group, word_of, pair, absolute}
+use Rattle.pipe_tree.specs.Reading.{clamped, selected, opened, unary_by, unary_at, product_at, expression_at}
+use Rattle.pipe_tree.proofs.Laws.{on, state, tagged, Within, Sound, HasText, Follow, Any, Ends, All, Parses, Starts, widen}
+use Rattle.pipe_tree.proofs.Laws.{refuse_sound, or_all, or_wider, all_weaker}
+use Rattle.pipe_tree.proofs.Laws.{then_has, has_within, token_rule, parses_then, parses_next, parses_gives}
 use Rattle.pipe_tree.proofs.TokenLaws.{parses_mark, parses_word, parses_sign, parses_factor, parses_relation, parses_int}
 use Rattle.pipe_tree.proofs.LoopLaws.{Turns, loop_unroll, parses_loop, loop_follows}
-use Rattle.pipe_tree.proofs.StartLaws.{Passing, starts_by, starts_with, starts_means, starts_int, starts_gives, long_front, long_means, key_sound, key_all}
+use Rattle.pipe_tree.proofs.StartLaws.{Passing, starts_by, starts_with, starts_means, starts_int, starts_gives, long_front}
+use Rattle.pipe_tree.proofs.StartLaws.{long_means, key_sound, key_all}
 use Rattle.pipe_tree.proofs.AffineLaws.{sign_is_sign}
 use Rattle.pipe_tree.proofs.IndexLaws.{NoOpen, parses_named, parses_stencil, parses_literal_number}
 

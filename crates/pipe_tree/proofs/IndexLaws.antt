@@ -10,10 +10,13 @@ use Rattle.pipe_tree.specs.Operators.{name_at, sign_at}
 use Rattle.pipe_tree.specs.Lookahead.{is_mark_at, is_number_at}
 use Rattle.pipe_tree.specs.Grammar as g
 use Rattle.pipe_tree.specs.Tree.{variable, number}
-use Rattle.pipe_tree.specs.Reading.{At, ◌>>=◌, gives, choose, while, next_behind, mark, minus, is_sign_at, scaled, addend, divisor, index_end, grouped_index, index, name_end, named, entry, row, kernel, a_stencil, literal_number}
+use Rattle.pipe_tree.specs.Reading.{At, ◌>>=◌, gives, choose, while, next_behind, mark, minus, is_sign_at, scaled, addend}
+use Rattle.pipe_tree.specs.Reading.{divisor, index_end, grouped_index, index, name_end}
+use Rattle.pipe_tree.specs.Reading.{named, entry, row, kernel, a_stencil, literal_number}
 use Rattle.pipe_tree.proofs.Laws.{Follow, Any, Parses, Starts, parses_then, parses_next, parses_gives, parses_any, parses_choose}
 use Rattle.pipe_tree.proofs.TokenLaws.{parses_mark, parses_word, parses_name, parses_sign, parses_int}
-use Rattle.pipe_tree.proofs.StartLaws.{Behind, Passing, Failing, starts_then, starts_by, starts_with, starts_means, starts_int, starts_gives, starts_or, parses_separated, separated_unroll}
+use Rattle.pipe_tree.proofs.StartLaws.{Behind, Passing, Failing, starts_then, starts_by, starts_with, starts_means, starts_int}
+use Rattle.pipe_tree.proofs.StartLaws.{starts_gives, starts_or, parses_separated, separated_unroll}
 use Rattle.pipe_tree.proofs.AffineLaws.{NoMinus, name_is_no_number, sign_is_sign, parses_minus}
 
 -- ---- what may follow

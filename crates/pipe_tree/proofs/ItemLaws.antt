@@ -12,11 +12,14 @@ use Rattle.pipe_tree.specs.Operators.{relation_at}
 use Rattle.pipe_tree.specs.Lookahead.{is_mark_at, is_word_at}
 use Rattle.pipe_tree.specs.Tree.{Branch}
 use Rattle.pipe_tree.specs.Grammar as g
-use Rattle.pipe_tree.specs.Reading.{At, ◌>>=◌, gives, choose, while, word, names_end, names, a_param, an_image, variables, test_end, a_test, condition, next_behind, value, a_case, cases_at, otherwise, a_function, an_accumulator, an_output}
+use Rattle.pipe_tree.specs.Reading.{At, ◌>>=◌, gives, choose, while, word, names_end, names, a_param, an_image, variables}
+use Rattle.pipe_tree.specs.Reading.{test_end, a_test, condition, next_behind}
+use Rattle.pipe_tree.specs.Reading.{value, a_case, cases_at, otherwise, a_function, an_accumulator, an_output}
 use Rattle.pipe_tree.proofs.Laws.{Follow, Any, Parses, Starts, parses_then, parses_next, parses_gives, parses_choose}
 use Rattle.pipe_tree.proofs.TokenLaws.{parses_mark, parses_word, parses_name, parses_int, parses_relation, parses_fold}
 use Rattle.pipe_tree.proofs.LoopLaws.{Turns, loop_unroll, parses_loop}
-use Rattle.pipe_tree.proofs.StartLaws.{Passing, Failing, starts_then, starts_by, starts_with, starts_means, starts_gives, starts_or, long_front, long_token, parses_separated, separated_unroll}
+use Rattle.pipe_tree.proofs.StartLaws.{Passing, Failing, starts_then, starts_by, starts_with, starts_means, starts_gives}
+use Rattle.pipe_tree.proofs.StartLaws.{starts_or, long_front, long_token, parses_separated, separated_unroll}
 use Rattle.pipe_tree.proofs.AffineLaws.{NoTerm, parses_affine, parses_span, parses_variable}
 use Rattle.pipe_tree.proofs.ExpressionLaws.{NoOperator, parses_expression}
 

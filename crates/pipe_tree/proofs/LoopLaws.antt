@@ -1,12 +1,14 @@
 -- What loops of readers find, and readers that go by the token ahead.
-use Rattle.std.proofs.Common.{Bool, true, false, ◌≡◌, ℕ, zero, suc, ◌+◌, ◌<◌, List, [], ◌∷◌, ◌++◌, length, Option, Ok, Err, refl, sym, ap, subst, ◌∙◌, arith}
+use Rattle.std.proofs.Common.{Bool, true, false, ◌≡◌, ℕ, zero, suc, ◌+◌, ◌<◌, List, [], ◌∷◌, ◌++◌, length, Option, Ok, Err, refl}
+use Rattle.std.proofs.Common.{sym, ap, subst, ◌∙◌, arith}
 use Rattle.std.specs.Prelude.{if◌then◌else◌}
 use Rattle.pipe_tokens.specs.declared.token.Token.{Token}
 use Rattle.pipe_tree.specs.Tokens.{head}
 use Rattle.pipe_tree.specs.Limits.{Tagged}
 use Rattle.pipe_tree.specs.Grammar.{Rule, Then, many, times}
 use Rattle.pipe_tree.specs.Reading.{At, Answer, Reader, on_ok, ◌>>=◌, gives, choose, turns, loop}
-use Rattle.pipe_tree.proofs.Laws.{on, on-append, state, Within, Sound, HasText, Follow, Ends, All, Parses, Starts, retarget, widen, then_at, then_wider, first_ends, ok_is}
+use Rattle.pipe_tree.proofs.Laws.{on, on-append, state, Within, Sound, HasText, Follow, Ends, All, Parses, Starts, retarget}
+use Rattle.pipe_tree.proofs.Laws.{widen, then_at, then_wider, first_ends, ok_is}
 
 -- ---- loops
 

@@ -1,5 +1,6 @@
 -- Programs are read as the grammar says: the items up to an image, the image, and the items up to the end.
-use Rattle.std.proofs.Common.{Bool, true, false, ◌≡◌, ℕ, zero, suc, ◌<◌, List, [], ◌∷◌, ◌++◌, length, Option, None, Ok, Err, refl, sym, ap, subst, ◌∙◌, inl, inr}
+use Rattle.std.proofs.Common.{Bool, true, false, ◌≡◌, ℕ, zero, suc, ◌<◌, List, [], ◌∷◌, ◌++◌, length, Option, None, Ok, Err, refl}
+use Rattle.std.proofs.Common.{sym, ap, subst, ◌∙◌, inl, inr}
 use Rattle.std.specs.Prelude.{if◌then◌else◌}
 use Rattle.std.specs.List.{list_any}
 use Rattle.std.proofs.lemmas.List.{append-nil}
@@ -16,8 +17,11 @@ use Rattle.pipe_tree.specs.Limits.{Tagged}
 use Rattle.pipe_tree.specs.Tree.{Declaration, param, image, function, accumulator, output}
 use Rattle.pipe_tree.specs.Grammar as g
 use Rattle.pipe_tree.specs.Grammar.{Rule, Then, Gives, FirstOutput, is_output, ◌or◌}
-use Rattle.pipe_tree.specs.Reading.{At, Answer, Reader, on_ok, ◌>>=◌, gives, refuse, choose, turns, loop, a_param, a_function, an_accumulator, an_output, item_by, item, goes_on_by, goes_on, other, others, program_at}
-use Rattle.pipe_tree.proofs.Laws.{on, state, Within, Sound, HasText, Follow, Any, Ends, All, Parses, Starts, retarget, widen, has_within, or_wider, or_all, refuse_sound, parses_then, parses_next, parses_gives, parses_weaker, parses_same}
+use Rattle.pipe_tree.specs.Reading.{At, Answer, Reader, on_ok, ◌>>=◌, gives, refuse, choose, turns, loop, a_param, a_function}
+use Rattle.pipe_tree.specs.Reading.{an_accumulator, an_output, item_by, item, goes_on_by, goes_on, other, others, program_at}
+use Rattle.pipe_tree.proofs.Laws.{on, state, Within, Sound, HasText, Follow, Any, Ends, All, Parses, Starts, retarget, widen}
+use Rattle.pipe_tree.proofs.Laws.{has_within, or_wider, or_all}
+use Rattle.pipe_tree.proofs.Laws.{refuse_sound, parses_then, parses_next, parses_gives, parses_weaker, parses_same}
 use Rattle.pipe_tree.proofs.LoopLaws.{Turns, loop_unroll, parses_loop}
 use Rattle.pipe_tree.proofs.StartLaws.{starts_by, starts_with, long_front, long_token}
 use Rattle.pipe_tree.proofs.ItemLaws.{parses_param, parses_image, parses_function, parses_accumulator, parses_output}

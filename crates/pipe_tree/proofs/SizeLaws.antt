@@ -1,5 +1,6 @@
 -- What is counted in a text is what its tree has.
-use Rattle.std.proofs.Common.{Bool, true, false, ◌≡◌, ℕ, zero, suc, ◌+◌, ◌≤◌, List, [], ◌∷◌, ◌++◌, Option, Some, None, refl, sym, ap, subst, ◌∙◌, arith, inl, inr}
+use Rattle.std.proofs.Common.{Bool, true, false, ◌≡◌, ℕ, zero, suc, ◌+◌, ◌≤◌, List, [], ◌∷◌, ◌++◌, Option, Some, None, refl, sym}
+use Rattle.std.proofs.Common.{ap, subst, ◌∙◌, arith, inl, inr}
 use Rattle.std.specs.Prelude.{if◌then◌else◌, nat_lt, All}
 use Rattle.std.proofs.lemmas.List.Elements.{All-push}
 use Rattle.std.proofs.lemmas.List.Sums.{sum_by_push, sum_by-cons}
@@ -19,8 +20,10 @@ use Rattle.pipe_tree.specs.Limits.{Tagged, fits, counted, counted_next, counted_
 use Rattle.pipe_tree.specs.Grammar as g
 use Rattle.pipe_tree.specs.Grammar.{Rule, Then, Gives, Takes, Means, Some_of, many, times, ◌or◌}
 use Rattle.pipe_tree.specs.Faults.{IsText}
-use Rattle.pipe_tree.specs.Sizes.{Weights, nodes, stages, params, cases, node_size, cases_size, optional_size, names_size, item_size, size, KeepsLimits}
-use Rattle.pipe_tree.specs.Tree.{Node, number, variable, read, neg, binary, literal, abs, clamp, select, stencil, Branch, Function, Declaration, image, param, function, accumulator, output}
+use Rattle.pipe_tree.specs.Sizes.{Weights, nodes, stages, params, cases, node_size, cases_size, optional_size, names_size}
+use Rattle.pipe_tree.specs.Sizes.{item_size, size, KeepsLimits}
+use Rattle.pipe_tree.specs.Tree.{Node, number, variable, read, neg, binary, literal, abs, clamp, select, stencil, Branch}
+use Rattle.pipe_tree.specs.Tree.{Function, Declaration, image, param, function, accumulator, output}
 use Rattle.pipe_tree.proofs.Laws.{counted_all-append, counted_all-none}
 
 -- ---- the weight of a text

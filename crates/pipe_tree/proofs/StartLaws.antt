@@ -1,5 +1,6 @@
 -- What texts begin with, lists with separators, and readers by a key of the token ahead.
-use Rattle.std.proofs.Common.{Bool, true, false, ◌≡◌, ℕ, ◌<◌, List, [], ◌∷◌, ◌++◌, length, Option, Some, sym, ap, subst, length-append, arith, inl, inr}
+use Rattle.std.proofs.Common.{Bool, true, false, ◌≡◌, ℕ, ◌<◌, List, [], ◌∷◌, ◌++◌, length, Option, Some, sym, ap, subst}
+use Rattle.std.proofs.Common.{length-append, arith, inl, inr}
 use Rattle.pipe_tokens.specs.declared.token.Token.{Token}
 use Rattle.pipe_tokens.specs.declared.token.Token.TheVariants as token
 use Rattle.pipe_tree.specs.declared.limits.Role.{Role}
@@ -9,7 +10,8 @@ use Rattle.pipe_tree.specs.Limits.{Tagged}
 use Rattle.pipe_tree.specs.Grammar as g
 use Rattle.pipe_tree.specs.Grammar.{Rule, Then, Gives, Takes, Means, Some_of, many, ◌or◌}
 use Rattle.pipe_tree.specs.Reading.{At, Reader, ◌>>=◌, gives, by_key, choose, while, next_behind, separated, expect}
-use Rattle.pipe_tree.proofs.Laws.{on, on-append, state, Sound, Follow, Any, Ends, All, Parses, Starts, retarget, parses_then, parses_next, parses_gives, token_rule}
+use Rattle.pipe_tree.proofs.Laws.{on, on-append, state, Sound, Follow, Any, Ends, All, Parses, Starts, retarget, parses_then}
+use Rattle.pipe_tree.proofs.Laws.{parses_next, parses_gives, token_rule}
 use Rattle.pipe_tree.proofs.LoopLaws.{Turns, loop_unroll, parses_loop, loop_follows}
 
 -- ---- what texts begin with

@@ -1,6 +1,7 @@
 -- What the reading of all tokens says of the grammar: what is read is a text, each text is read, and the fault that is
 -- answered is the one that the tokens have.
-use Rattle.std.proofs.Common.{Bool, true, false, ◌≡◌, ℕ, suc, ◌<◌, List, [], ◌∷◌, ◌++◌, length, Option, Some, None, Result, Ok, Err, refl, sym, ap, subst, ◌∙◌, arith, ◌⊎◌, inl, inr}
+use Rattle.std.proofs.Common.{Bool, true, false, ◌≡◌, ℕ, suc, ◌<◌, List, [], ◌∷◌, ◌++◌, length, Option, Some, None, Result, Ok}
+use Rattle.std.proofs.Common.{Err, refl, sym, ap, subst, ◌∙◌, arith, ◌⊎◌, inl, inr}
 use Rattle.std.specs.Prelude.{if◌then◌else◌, is_some}
 use Rattle.std.proofs.lemmas.List.{append-nil}
 use Rattle.pipe_tokens.specs.declared.token.Token.{Token}
@@ -14,7 +15,9 @@ use Rattle.pipe_tree.specs.Limits.{most_levels, Tagged, untagged, fits, counted_
 use Rattle.pipe_tree.specs.Grammar.{Rule, Then, Gives, Program}
 use Rattle.pipe_tree.specs.Faults.{Text, AnyProgram, GoesOn, Wrong, IsHalt}
 use Rattle.pipe_tree.specs.Reading.{At, Answer, on_ok, gives, refuse, at_end, whole, program_at, value_of, program_of}
-use Rattle.pipe_tree.proofs.Laws.{on, on-untagged, counted_all-append, counted_all-none, state, Sound, Found, Failed, Reaches, Any, Ends, All, Passes, Parses, retarget, refuse_sound, parses_gives, parses_then, parses_same, ok_is}
+use Rattle.pipe_tree.proofs.Laws.{on, on-untagged, counted_all-append, counted_all-none, state, Sound, Found, Failed, Reaches}
+use Rattle.pipe_tree.proofs.Laws.{Any, Ends, All, Passes, Parses}
+use Rattle.pipe_tree.proofs.Laws.{retarget, refuse_sound, parses_gives, parses_then, parses_same, ok_is}
 use Rattle.pipe_tree.proofs.ProgramLaws.{AtEnd, program_parses}
 
 -- ---- all of the tokens

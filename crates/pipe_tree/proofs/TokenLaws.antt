@@ -27,8 +27,11 @@ use Rattle.pipe_tree.specs.Operators.{name_at, sign_at, factor_at, relation_at, 
 use Rattle.pipe_tree.specs.Lookahead.{is_mark_at, is_word_at}
 use Rattle.pipe_tree.specs.Grammar as g
 use Rattle.pipe_tree.specs.Grammar.{Rule, Then, Gives, Takes, Means, Some_of, ◌or◌}
-use Rattle.pipe_tree.specs.Reading.{At, ◌>>=◌, gives, stop, refuse, begin, mark, word, meant, means, name, sign, factor, relation, fold, int_by, int}
-use Rattle.pipe_tree.proofs.Laws.{on, state, tagged, Within, Sound, HasText, Any, Ends, Parses, retarget, widen, then_at, parses_expect, token_rule, begin_sound, begin_all, refuse_sound, then_all, parses_gives, not_counted}
+use Rattle.pipe_tree.specs.Reading.{At, ◌>>=◌, gives, stop, refuse, begin, mark, word, meant, means, name, sign, factor, relation}
+use Rattle.pipe_tree.specs.Reading.{fold, int_by, int}
+use Rattle.pipe_tree.proofs.Laws.{on, state, tagged, Within, Sound, HasText, Any, Ends, Parses, retarget, widen, then_at}
+use Rattle.pipe_tree.proofs.Laws.{parses_expect, token_rule, begin_sound}
+use Rattle.pipe_tree.proofs.Laws.{begin_all, refuse_sound, then_all, parses_gives, not_counted}
 
 -- ---- marks and words
 

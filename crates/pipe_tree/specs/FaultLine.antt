@@ -1,7 +1,8 @@
 -- How a fault is told: its number, its name and where it stands.
 use Rattle.std.specs.Prelude.{ℕ, List, codes, Option, Some, None}
 use Rattle.pipe_tree.specs.declared.fault.ParseFault.{ParseFault}
-use Rattle.pipe_tree.specs.declared.fault.ParseFault.TheVariants.{NotAscii, BadToken, Unexpected, NumberTooBig, TooDeep, TooLong, TooMany, Memory}
+use Rattle.pipe_tree.specs.declared.fault.ParseFault.TheVariants.{NotAscii, BadToken, Unexpected, NumberTooBig, TooDeep, TooLong}
+use Rattle.pipe_tree.specs.declared.fault.ParseFault.TheVariants.{TooMany, Memory}
 
 abbrev pub number_of : ParseFault → ℕ
 number_of (NotAscii offset) = 1

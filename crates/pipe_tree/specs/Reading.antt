@@ -1,9 +1,12 @@
 -- Reading tokens from left to right, with one token ahead and the first fault that is met. Only the contracts of
 -- functions inside the parser cite this. What is read is what the grammar says: that is proved of each reader.
-use Rattle.std.specs.Prelude.{◌≡◌, ℕ, zero, suc, nat_le, ℤ, pos, Bool, true, false, List, [], ◌∷◌, ◌++◌, length, Option, Some, None, is_some, Result, Ok, Err, if◌then◌else◌}
+use Rattle.std.specs.Prelude.{◌≡◌, ℕ, zero, suc, nat_le, ℤ, pos, Bool, true, false, List, [], ◌∷◌, ◌++◌, length, Option, Some}
+use Rattle.std.specs.Prelude.{None, is_some, Result, Ok, Err, if◌then◌else◌}
 use Rattle.std.specs.List.{list_any}
 use Rattle.pipe_tokens.specs.declared.token.Punct.{Punct}
-use Rattle.pipe_tokens.specs.declared.token.Punct.TheVariants.{OpenRound, CloseRound, OpenSquare, CloseSquare, OpenCurly, CloseCurly, Comma, Semicolon, Colon, Minus, Star, Slash, Percent, Equals, DotDot}
+use Rattle.pipe_tokens.specs.declared.token.Punct.TheVariants.{OpenRound, CloseRound, OpenSquare, CloseSquare, OpenCurly}
+use Rattle.pipe_tokens.specs.declared.token.Punct.TheVariants.{CloseCurly, Comma, Semicolon, Colon}
+use Rattle.pipe_tokens.specs.declared.token.Punct.TheVariants.{Minus, Star, Slash, Percent, Equals, DotDot}
 use Rattle.pipe_tokens.specs.declared.token.Keyword.{Keyword}
 use Rattle.pipe_tokens.specs.declared.token.Keyword.TheVariants as words
 use Rattle.pipe_tokens.specs.declared.token.Token.{Token}
@@ -42,7 +45,8 @@ use Rattle.pipe_tree.specs.Limits.{most_levels, counted, none_yet}
 use Rattle.pipe_tree.specs.Operators.{name_at, sign_at, factor_at, relation_at, fold_at}
 use Rattle.pipe_tree.specs.Lookahead.{is_mark_at, is_word_at, is_number_at, start_at, item_at}
 use Rattle.pipe_tree.specs.Grammar.{signed, sum_op, is_output}
-use Rattle.pipe_tree.specs.Tree.{Node, number, variable, read, neg, binary, literal, abs, clamp, select, stencil, Branch, Function, Accumulator, Declaration, param, image, function, accumulator, output}
+use Rattle.pipe_tree.specs.Tree.{Node, number, variable, read, neg, binary, literal, abs, clamp, select, stencil, Branch}
+use Rattle.pipe_tree.specs.Tree.{Function, Accumulator, Declaration, param, image, function, accumulator, output}
 
 -- where a reader is: what was counted so far, and the tokens that remain
 pub record At : Type 0 where

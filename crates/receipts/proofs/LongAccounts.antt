@@ -1,5 +1,6 @@
 -- A history for which receipts account is as long as their lists together: its receipts are counted by their numbers.
-use Rattle.std.proofs.Common.{◌≡◌, ℕ, zero, suc, ◌+◌, ◌<◌, ◌==◌, List, [], ◌∷◌, length, sym, refl, ◌∙◌, arith, All, sum_by, nat_lt, if◌then◌else◌}
+use Rattle.std.proofs.Common.{◌≡◌, ℕ, zero, suc, ◌+◌, ◌<◌, ◌==◌, List}
+use Rattle.std.proofs.Common.{[], ◌∷◌, length, sym, refl, ◌∙◌, arith, All, sum_by, nat_lt, if◌then◌else◌}
 use Rattle.std.proofs.lemmas.Bool.Decides.{nat_tests}
 use Rattle.std.proofs.lemmas.List.Elements.{All-head, All-tail}
 use Rattle.std.proofs.lemmas.List.Sums.{sum_by-append}
@@ -77,7 +78,8 @@ module _ (history : List Event) where
       let rest = list_shown rs (All-tail (IsShown history) r rs all) in
       omega (arith, one, rest, sum_by-append (low (length history)) (r ∷ []) rs)
 
-  lows_shown : (lists : List (List Receipt)) → All (λ rs. All (IsShown history) rs) lists → lows (length history) lists ≡ sum_by length lists
+  lows_shown : (lists : List (List Receipt)) → All (λ rs. All (IsShown history) rs) lists
+      → lows (length history) lists ≡ sum_by length lists
   lows_shown [] all = refl
   lows_shown (rs ∷ lists) all =
       let one = list_shown rs (All-head (λ xs. All (IsShown history) xs) rs lists all) in

@@ -1,5 +1,7 @@
 -- One receipt more.
-use Rattle.std.proofs.Common.{◌≡◌, ℕ, zero, suc, ◌+◌, ◌<◌, ◌≤◌, ◌==◌, Bool, true, false, List, [], ◌∷◌, ◌++◌, length, set, replicate, slice_index_or, sym, refl, ap, subst, ◌∙◌, arith, length-set, All, if◌then◌else◌, take, drop, get_or, map, ap₂, take-append-drop, drop-cons}
+use Rattle.std.proofs.Common.{◌≡◌, ℕ, zero, suc, ◌+◌, ◌<◌, ◌≤◌, ◌==◌, Bool, true, false, List, [], ◌∷◌, ◌++◌, length, set}
+use Rattle.std.proofs.Common.{replicate, slice_index_or, sym, refl, ap, subst, ◌∙◌, arith, length-set, All, if◌then◌else◌, take}
+use Rattle.std.proofs.Common.{drop, get_or, map, ap₂, take-append-drop, drop-cons}
 use Rattle.std.specs.Global.{Vec}
 use Rattle.std.specs.List.{AllPairs}
 use Rattle.std.proofs.lemmas.Bool.Decides.{nat_tests}
@@ -48,7 +50,8 @@ all_below_last rs r pairs =
 -- a list, cut at one of its items
 pub cut : {X : Type 0} (xs : List X) (i : ℕ) (x : X) → i < length xs → x ≡ get_or xs i x → xs ≡ take i xs ++ x ∷ drop (suc i) xs
 cut {X} xs i x low is =
-    sym (take-append-drop i xs) ∙ ap (λ (ys : List X). take i xs ++ ys) (drop-cons xs i x low ∙ ap (λ (y : X). y ∷ drop (suc i) xs) (sym is))
+    sym (take-append-drop i xs) ∙ ap (λ (ys : List X). take i xs ++ ys)
+    (drop-cons xs i x low ∙ ap (λ (y : X). y ∷ drop (suc i) xs) (sym is))
 
 -- ---- marks
 
@@ -125,12 +128,15 @@ module _ (history : List Event) where
         each = each;
       }
 
-  seen_more : (earlier : List (List Receipt)) (rs : List Receipt) (r : Receipt) (seen : List Bool) → AreSeen history (earlier ++ rs ∷ []) seen
+  seen_more : (earlier : List (List Receipt)) (rs : List Receipt) (r : Receipt) (seen : List Bool)
+      → AreSeen history (earlier ++ rs ∷ []) seen
       → IsShown history r → All (λ x. x.number < r.number) rs → slice_index_or seen r.number false ≡ false
       → AreSeen history (earlier ++ (rs ++ r ∷ []) ∷ []) (set seen r.number true)
   seen_more earlier rs r seen is shown below free =
-      let within : r.number < length seen = let w = slice_get_within history r.number r.event shown in let e = is.each in omega (arith, w, e) in
-      let marked : (k : ℕ) → mark (set seen r.number true) k ≡ times_all k (earlier ++ (rs ++ r ∷ []) ∷ []) = λ k. mark-set seen r.number k within free ∙ ap (λ n. n + (if r.number == k then 1 else 0)) (is.marked k)
+      let within : r.number < length seen = let w = slice_get_within history r.number r.event shown in let e = is.each in omega
+      (arith, w, e) in
+      let marked : (k : ℕ) → mark (set seen r.number true) k ≡ times_all k (earlier ++ (rs ++ r ∷ []) ∷ []) = λ k. mark-set seen
+      r.number k within free ∙ ap (λ n. n + (if r.number == k then 1 else 0)) (is.marked k)
       ∙ sym (times_more k earlier rs r) in
       record {
         fit = record {
@@ -152,7 +158,8 @@ module _ (history : List Event) where
   goes_more rs r least old new is shown up free =
       record {
         seen = λ earlier before. seen_more earlier rs r new (is.seen earlier before) shown (all_lower rs least r.number up is.below) free;
-        below = All-push (λ (x : Receipt). x.number < r.number + 1) rs r (all_lower rs least (r.number + 1) (omega (arith, up)) is.below) (omega arith);
+        below = All-push (λ (x : Receipt). x.number < r.number + 1) rs r
+            (all_lower rs least (r.number + 1) (omega (arith, up)) is.below) (omega arith);
         high = λ n low all. let last = all_last (λ (x : Receipt). x.number < n) rs r all in absurd (omega (arith, low, last));
         each = length-set new _ _ ∙ is.each;
       }
@@ -179,7 +186,8 @@ module _ (history : List Event) where
         absurd (omega (arith, once, one, m, more, same))
 
   -- the receipt at a place is the first that does not fit
-  pub first_unfit : (earlier later : List (List Receipt)) (all : List Receipt) (i : ℕ) (r : Receipt) → all ≡ take i all ++ r ∷ drop (suc i) all
+  pub first_unfit : (earlier later : List (List Receipt)) (all : List Receipt) (i : ℕ) (r : Receipt)
+      → all ≡ take i all ++ r ∷ drop (suc i) all
       → AreFit history (earlier ++ take i all ∷ []) → (AreFit history (earlier ++ (take i all ++ r ∷ []) ∷ []) → ⊥)
       → IsFirstUnfit history (earlier ++ all ∷ later) r.number
   first_unfit earlier later all i r parts fit unfit =
@@ -249,11 +257,13 @@ module _ (T : Type 0) where
       ap receipts_in (cut lists i list low is) ∙ map-append (λ (x : Beside). x.1.items) (take i lists) (list ∷ drop (suc i) lists)
 
 module _ (history : List Event) where
-  pub seen_list : (before after : List (List Receipt)) (rs items : List Receipt) (seen now : List Bool) → after ≡ before ++ items ∷ [] → rs ≡ items
+  pub seen_list : (before after : List (List Receipt)) (rs items : List Receipt) (seen now : List Bool)
+      → after ≡ before ++ items ∷ [] → rs ≡ items
       → now ≡ seen → AreSeen history (before ++ rs ∷ []) seen → AreSeen history after now
   seen_list before after rs items seen now more same kept are =
       subst (λ (ls : List (List Receipt)). AreSeen history ls now) (sym more)
-      (subst (λ (xs : List Receipt). AreSeen history (before ++ xs ∷ []) now) same (subst (AreSeen history (before ++ rs ∷ [])) (sym kept) are))
+      (subst (λ (xs : List Receipt). AreSeen history (before ++ xs ∷ []) now) same
+      (subst (AreSeen history (before ++ rs ∷ [])) (sym kept) are))
 
   pub unfit_list : (before later all : List (List Receipt)) (rs items : List Receipt) (n : ℕ) → all ≡ before ++ items ∷ later → rs ≡ items
       → IsFirstUnfit history (before ++ rs ∷ later) n → IsFirstUnfit history all n
@@ -263,7 +273,8 @@ module _ (history : List Event) where
 
 -- ---- lists that are one
 
-pub same_lists : {X : Type 0} (a b : List X) → length a ≡ length b → ((k : ℕ) (d : X) → k < length a → slice_index_or a k d ≡ slice_index_or b k d)
+pub same_lists : {X : Type 0} (a b : List X) → length a ≡ length b
+    → ((k : ℕ) (d : X) → k < length a → slice_index_or a k d ≡ slice_index_or b k d)
     → a ≡ b
 same_lists [] [] len each = refl
 same_lists [] (y ∷ b) len each = absurd (omega (arith, len))

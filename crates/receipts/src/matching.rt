@@ -4,7 +4,8 @@ ghost use Rattle.books.specs.declared.receipt.Receipt.{Receipt as ReceiptType};
 ghost use Rattle.receipts.specs.Accounts.{AccountFor, IsCloseFault, IsFirstUnfit, IsShown};
 ghost use Rattle.receipts.specs.inside.Marks.{AreSeen};
 ghost use Rattle.std.specs.Bool.{OnTrue};
-ghost use Rattle.std.specs.Prelude.{◌≡◌, ◌↔◌, ◌<◌, ◌++◌, ◌∷◌, [], ℕ, List, IfErr, IfNone, IfSome, IsTrue, OnOk, false, length, map, slice_index_or, true};
+ghost use Rattle.std.specs.Prelude.{◌≡◌, ◌↔◌, ◌<◌, ◌++◌, ◌∷◌, [], ℕ, List, IfErr, IfNone, IfSome, IsTrue, OnOk, false, length};
+ghost use Rattle.std.specs.Prelude.{map, slice_index_or, true};
 
 use crate::fault::CloseFault;
 use crate::same::is_same;

@@ -1,5 +1,6 @@
 -- Stages that are known give the values of the job.
-use Rattle.std.proofs.Common.{arith, ℕ, zero, suc, ◌≡◌, ◌<◌, ◌⊎◌, inl, inr, ℤ, List, [], ◌∷◌, Option, Some, None, length, set, replicate, slice_get, Bor, true, subst, sym, ap, ◌∙◌, refl}
+use Rattle.std.proofs.Common.{arith, ℕ, zero, suc, ◌≡◌, ◌<◌, ◌⊎◌, inl, inr, ℤ, List, [], ◌∷◌, Option, Some, None, length, set}
+use Rattle.std.proofs.Common.{replicate, slice_get, Bor, true, subst, sym, ap, ◌∙◌, refl}
 use Rattle.std.specs.Prelude.{All, IfSome}
 use Rattle.std.specs.Option.{is_some, option_map_or}
 use Rattle.std.proofs.lemmas.Bool.{cases_eq, true≢false}
@@ -18,7 +19,8 @@ use Rattle.job.specs.WellFormed.{IsReadable, IsValued, IsBody, IsJob, picture_ar
 use Rattle.job.proofs.Solving.{body_value-agrees_there, BodyReads-both, ranked_is, value_solves}
 use Rattle.row_kernels.specs.Rows.{at}
 use Rattle.tile_eval.specs.Cases.{function_value}
-use Rattle.tile_eval.specs.Buffer.{raster, values_on, stage_values, place_of, sample_in, body_area, stage_area, IsKnown, IsKnownAt, IsWholeOf, AreTrue, AreKnownOf, BodyServed, IsServed}
+use Rattle.tile_eval.specs.Buffer.{raster, values_on, stage_values, place_of, sample_in, body_area, stage_area, IsKnown}
+use Rattle.tile_eval.specs.Buffer.{IsKnownAt, IsWholeOf, AreTrue, AreKnownOf, BodyServed, IsServed}
 use Rattle.tile_eval.specs.inside.Kept.{IsKept, HasInputs, KnowsMore}
 use Rattle.tile_eval.specs.declared.buffers.Buffer.{Buffer}
 use Rattle.tile_eval.proofs.Rasters.{raster_len, raster_at, raster_same}

@@ -1,5 +1,6 @@
 -- The values at the points of an area, row by row.
-use Rattle.std.proofs.Common.{arith, ℕ, zero, suc, ℤ, pos, negsuc, ◌≡◌, ◌+◌, ◌-◌, ◌*◌, ◌/◌, ◌%◌, ◌<◌, ◌≤◌, ◌+ℤ◌, ◌<ℤ◌, refl, sym, ap, ◌∙◌, List, [], ◌∷◌, ◌++◌, map, length, ext_get_or}
+use Rattle.std.proofs.Common.{arith, ℕ, zero, suc, ℤ, pos, negsuc, ◌≡◌, ◌+◌, ◌-◌, ◌*◌, ◌/◌, ◌%◌, ◌<◌, ◌≤◌, ◌+ℤ◌, ◌<ℤ◌, refl, sym}
+use Rattle.std.proofs.Common.{ap, ◌∙◌, List, [], ◌∷◌, ◌++◌, map, length, ext_get_or}
 use Rattle.std.proofs.Math.IntN.{+ℤ_idr}
 use Rattle.std.proofs.Math.Nat.{mod-lt, div-lt_iff_lt-mul, suc-mul}
 use Rattle.std.proofs.lemmas.Nat.{div-add-mod'}

@@ -1,5 +1,6 @@
 -- Planes of a picture as values.
-use Rattle.std.proofs.Common.{arith, ℕ, ℤ, pos, ◌≡◌, ◌+◌, ◌-◌, ◌*◌, ◌<◌, ◌+ℤ◌, ◌-ℤ◌, sym, ap, ◌∙◌, List, [], map, length, slice_index, slice_index_or, get_or}
+use Rattle.std.proofs.Common.{arith, ℕ, ℤ, pos, ◌≡◌, ◌+◌, ◌-◌, ◌*◌, ◌<◌, ◌+ℤ◌, ◌-ℤ◌, sym, ap, ◌∙◌, List, [], map, length}
+use Rattle.std.proofs.Common.{slice_index, slice_index_or, get_or}
 use Rattle.std.specs.Global.{Vec}
 use Rattle.std.proofs.Math.IntN.{+ℤ_idl}
 use Rattle.std.proofs.Math.ListN.{get_or-map}

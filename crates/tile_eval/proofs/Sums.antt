@@ -1,5 +1,6 @@
 -- What rows of kernels add at points.
-use Rattle.std.proofs.Common.{arith, ℕ, ℤ, ◌≡◌, ◌+◌, ◌<◌, ◌≤◌, ◌-◌, pos, ◌+ℤ◌, ◌*ℤ◌, w32, to_z, of_z, FitsSigned, subst, lit<, List, length, ◌∙◌, ap, sym}
+use Rattle.std.proofs.Common.{arith, ℕ, ℤ, ◌≡◌, ◌+◌, ◌<◌, ◌≤◌, ◌-◌, pos, ◌+ℤ◌, ◌*ℤ◌, w32, to_z, of_z, FitsSigned, subst, lit<}
+use Rattle.std.proofs.Common.{List, length, ◌∙◌, ap, sym}
 use Rattle.std.proofs.Math.IntN.{+ℤ_idl}
 use Rattle.std.proofs.lemmas.Int.{ints, to_z-of_z}
 use Rattle.domains.specs.Arithmetic.{wrapped}

@@ -7,7 +7,8 @@ use Rattle.job.specs.Answers.{grid_of}
 use Rattle.job.specs.Pipeline.{Body, Stage, Pipeline, plane, function, accumulator}
 use Rattle.job.specs.Values.{value}
 use Rattle.job.specs.WellFormed.{IsFunction}
-use Rattle.tile_eval.specs.Buffer.{raster, buffer_value, place_of, IsKnown, IsTileOver, IsFunctionTile, IsTrueTile, AreTrue, BodyServed, IsServed}
+use Rattle.tile_eval.specs.Buffer.{raster, buffer_value, place_of, IsKnown}
+use Rattle.tile_eval.specs.Buffer.{IsTileOver, IsFunctionTile, IsTrueTile, AreTrue, BodyServed, IsServed}
 use Rattle.tile_eval.specs.declared.buffers.Buffer.{Buffer}
 use Rattle.row_kernels.specs.Rows.{at}
 use Rattle.tile_eval.proofs.Knowing.{whole_is}

@@ -17,7 +17,8 @@ use Rattle.worlds.specs.inside.Making.{IsRoomFault}
 
 module _ (w : WorldView) (n j : ℕ) (entry : Entry) (inlining : List Bool) (s : State) (planned : IsPlanned w.work n j entry inlining)
     (held_is : s ≡ held w.network n) where
-  pub room_fault : IsFinishFault w n j finish.Memory → (fault : FinishFault) → IsRoomFault s entry inlining fault → IsFinishFault w n j fault
+  pub room_fault : IsFinishFault w n j finish.Memory → (fault : FinishFault) → IsRoomFault s entry inlining fault
+      → IsFinishFault w n j fault
   room_fault there (finish.ScratchTooBig key) h = record {
     entry = entry;
     inlining = inlining;
@@ -28,7 +29,8 @@ module _ (w : WorldView) (n j : ℕ) (entry : Entry) (inlining : List Bool) (s :
   room_fault there finish.NoSuchNode h = absurd h
   room_fault there finish.NoSuchJob h = absurd h
 
-  module _ (is : IsWorld w.work w.network) (here : n < length w.network.nodes) (keys : List Key) (keys_are : keys ≡ lacked_work s entry inlining)
+  module _ (is : IsWorld w.work w.network) (here : n < length w.network.nodes) (keys : List Key)
+      (keys_are : keys ≡ lacked_work s entry inlining)
       (room : first_without_room entry.pipeline inlining keys ≡ None) (events : List Event)
       (events_are : events ≡ makings n (length w.network.messages) keys) where
     lacked_is : keys ≡ lacked_work (held w.network n) entry inlining

@@ -1,5 +1,6 @@
 -- How far a run has gone after each event.
-use Rattle.std.proofs.Common.{arith, ℕ, suc, ◌≡◌, ◌≢◌, ◌+◌, ◌<◌, List, [], ◌∷◌, ◌++◌, get_or, length, reverse, take, refl, sym, ap, ◌∙◌, subst, inl, inr}
+use Rattle.std.proofs.Common.{arith, ℕ, suc, ◌≡◌, ◌≢◌, ◌+◌, ◌<◌, List, [], ◌∷◌, ◌++◌, get_or, length, reverse, take, refl, sym}
+use Rattle.std.proofs.Common.{ap, ◌∙◌, subst, inl, inr}
 use Rattle.std.proofs.Common.{take-suc, length-take-le, Option, Some, None, Ok, SomeIff, ok_or, Bool, true, false, IsTrue}
 use Rattle.std.proofs.lemmas.List.{length-append, reverse-append}
 use Rattle.gossip_core.specs.Histories.{Leads}
@@ -72,13 +73,15 @@ both_more : {X : Type 0} (xs : List X) (a b : X) → (xs ++ a ∷ []) ++ b ∷ [
 both_more [] a b = refl
 both_more (x ∷ xs) a b = ap (λ ys. x ∷ ys) (both_more xs a b)
 
-pub makings_taken : (n sent : ℕ) (keys : List Key) (i : ℕ) (key : Key) (message : ℕ) → message ≡ sent + i → i < length keys → key ≡ get_or keys i key
+pub makings_taken : (n sent : ℕ) (keys : List Key) (i : ℕ) (key : Key) (message : ℕ) → message ≡ sent + i → i < length keys
+    → key ≡ get_or keys i key
     → (makings n sent (take i keys) ++ Make n key ∷ []) ++ Deliver n message ∷ [] ≡ makings n sent (take (i + 1) keys)
 makings_taken n sent keys i key message is within there =
     both_more (makings n sent (take i keys)) (Make n key) (Deliver n message)
     ∙ sym (makings_more n sent (take i keys) key message (is ∙ ap (λ k. sent + k) (sym (length-take-le i keys (omega (arith, within))))))
     ∙ ap (makings n sent) (next_taken keys i key within there)
 
-pub added_one : (m limit next : ℕ) (o : Option ℕ) → SomeIff o (m + 1 < limit) (m + 1) → Ok next ≡ ok_or {E = AllocError} o record {} → next ≡ m + 1
+pub added_one : (m limit next : ℕ) (o : Option ℕ) → SomeIff o (m + 1 < limit) (m + 1) → Ok next ≡ ok_or {E = AllocError} o record {}
+    → next ≡ m + 1
 added_one m limit next None says e = cc
 added_one m limit next (Some x) says e = let same : next ≡ x = cc in same ∙ says.1

@@ -1,5 +1,6 @@
 -- What events need of the nodes and the jobs, over plain variables.
-use Rattle.std.proofs.Common.{arith, ℕ, ◌==◌, cond, get_or, ◌≡◌, ◌≢◌, ◌<◌, ◌≤◌, Bool, List, [], ◌∷◌, Option, Some, None, Result, Ok, Err, IfOk, IfErr, IfSome, IfNone, option_map, length, refl, sym, ap, ◌∙◌, subst, zero, suc}
+use Rattle.std.proofs.Common.{arith, ℕ, ◌==◌, cond, get_or, ◌≡◌, ◌≢◌, ◌<◌, ◌≤◌, Bool, List, [], ◌∷◌, Option, Some, None, Result}
+use Rattle.std.proofs.Common.{Ok, Err, IfOk, IfErr, IfSome, IfNone, option_map, length, refl, sym, ap, ◌∙◌, subst, zero, suc}
 use Rattle.std.specs.List.{All}
 use Rattle.std.proofs.lemmas.Bool.{eq-eqb}
 use Rattle.std.specs.Prelude.{slice_get, slice_set, unwrap_or}
@@ -13,7 +14,8 @@ use Rattle.node_state.specs.Making.{IsMade, IsMakeFault}
 use Rattle.node_state.specs.States.{State, join, lacked, nothing, with_fact}
 use Rattle.tile_fact.specs.declared.fact.Fact.{Fact}
 use Rattle.gossip_core.specs.Networks.{Network, NodeStates, Sent}
-use Rattle.gossip_core.specs.Steps.{Accepts, CannotMake, HasNodes, IsDone, IsScheduleFor, IsStepFault, Makes, Refuses, Work, held, no_states, states_at, with_message}
+use Rattle.gossip_core.specs.Steps.{Accepts, CannotMake, HasNodes, IsDone, IsScheduleFor, IsStepFault, Makes, Refuses, Work, held}
+use Rattle.gossip_core.specs.Steps.{no_states, states_at, with_message}
 use Rattle.gossip_core.specs.declared.done.Done.TheVariants as does
 use Rattle.gossip_core.specs.declared.fault.StepFault.TheVariants as faults
 use Rattle.gossip_core.proofs.StateLaws.{states_set}
@@ -30,7 +32,8 @@ one_within n size within (suc k) d inside = absurd (omega (arith, inside))
 module _ (u v : Work) (view : v ≡ u) (n job : ℕ) (key : Key) (ids : Ids) (ids_are : ids ≡ ids_in key) (schedules : List (List Bool))
     (within : n < length u.schedules) (of_node : schedules ≡ get_or v.schedules n schedules) (stands : StandsAt v.jobs ids job) where
   node_has : slice_get v.schedules n ≡ Some schedules
-  node_has = slice_get-get_or v.schedules n schedules (subst (λ (x : Work). n < length x.schedules) (sym view) within) ∙ ap Some (sym of_node)
+  node_has = slice_get-get_or v.schedules n schedules (subst (λ (x : Work). n < length x.schedules) (sym view) within) ∙ ap Some
+      (sym of_node)
 
   -- what is found is the schedule
   pub scheduled : {X : Type 0} (f : X → List Bool) (o : Option X) → option_map f o ≡ slice_get schedules job
@@ -46,7 +49,8 @@ module _ (u v : Work) (view : v ≡ u) (n job : ℕ) (key : Key) (ids : Ids) (id
       })
 
   -- a node with schedules for all jobs has one for each
-  pub none_lacking : HasSchedules v → {X : Type 0} (P : Type 0) (f : X → List Bool) (o : Option X) → option_map f o ≡ slice_get schedules job
+  pub none_lacking : HasSchedules v → {X : Type 0} (P : Type 0) (f : X → List Bool) (o : Option X)
+      → option_map f o ≡ slice_get schedules job
       → IfNone o P
   none_lacking each P f (Some s) e = tt
   none_lacking each P f None e =
@@ -56,7 +60,8 @@ module _ (u v : Work) (view : v ≡ u) (n job : ℕ) (key : Key) (ids : Ids) (id
 
 -- ---- making
 
-cannot_make : (u : Work) (w : Network) (n : ℕ) (key : Key) (fault : MakeFault) → CannotBeMade u n (held w n) key fault → CannotMake u w n key fault
+cannot_make : (u : Work) (w : Network) (n : ℕ) (key : Key) (fault : MakeFault) → CannotBeMade u n (held w n) key fault
+    → CannotMake u w n key fault
 cannot_make u w n key makes.Foreign h = h
 cannot_make u w n key makes.NoSuchTile h = h
 cannot_make u w n key makes.ScratchTooBig h = h
@@ -78,10 +83,18 @@ cannot_be_made u n s key inlining makes.Memory schedule h = (inlining, schedule,
 makes_by : (u : Work) (w : Network) (n : ℕ) (key : Key) (fact : Fact) → IsMadeBy u n (held w n) key fact → Makes u w n key fact
 makes_by u w n key fact is = record { of_key = is.of_key; inlining = is.inlining; schedule = is.schedule; made = is.made }
 
-module _ (u v : Work) (view : v ≡ u) (n : ℕ) (s : State) (key : Key) (inlining : List Bool) (schedule : IsScheduleFor u n key inlining) where
-  pub made_by : (r : Result Fact MakeFault) → IfOk r (λ fact. fact.key ≡ key) → IfOk r (IsMade v.jobs s inlining) → IfOk r (IsMadeBy u n s key)
+module _ (u v : Work) (view : v ≡ u) (n : ℕ) (s : State) (key : Key) (inlining : List Bool)
+    (schedule : IsScheduleFor u n key inlining) where
+  pub made_by : (r : Result Fact MakeFault) → IfOk r (λ fact. fact.key ≡ key) → IfOk r (IsMade v.jobs s inlining)
+      → IfOk r (IsMadeBy u n s key)
   made_by (Ok fact) of_key made' =
-      record { of_key = of_key; inlining = inlining; schedule = schedule; made = subst (λ (x : Work). IsMade x.jobs s inlining fact) view made' }
+      record {
+        of_key = of_key;
+        inlining = inlining;
+        schedule = schedule;
+        made = subst (λ (x : Work). IsMade x.jobs s inlining fact)
+            view made';
+      }
   made_by (Err fault) of_key made' = tt
 
   pub never_made : (r : Result Fact MakeFault) → IfErr r (IsMakeFault v.jobs s inlining key) → IfErr r (CannotBeMade u n s key)

@@ -53,12 +53,15 @@ module _ (v w : WorldView) (view : v ≡ w) (n : ℕ) (b q : NodeStates) (node :
   kept_is = ap (λ o. (unwrap_or o no_states).kept) there ∙ ap (λ (x : NodeStates). x.kept) (sym node)
 
   pub held_true : AllTrue v.work.jobs v.network → HoldsTrueFacts w.work.jobs b.held
-  held_true truth = subst (λ (x : WorldView). HoldsTrueFacts x.work.jobs b.held) view (subst (HoldsTrueFacts v.work.jobs) held_is (truth.holds n))
+  held_true truth = subst (λ (x : WorldView). HoldsTrueFacts x.work.jobs b.held) view
+      (subst (HoldsTrueFacts v.work.jobs) held_is (truth.holds n))
 
   pub kept_true : AllTrue v.work.jobs v.network → HoldsTrueFacts w.work.jobs b.kept
-  kept_true truth = subst (λ (x : WorldView). HoldsTrueFacts x.work.jobs b.kept) view (subst (HoldsTrueFacts v.work.jobs) kept_is (truth.keeps n))
+  kept_true truth = subst (λ (x : WorldView). HoldsTrueFacts x.work.jobs b.kept) view
+      (subst (HoldsTrueFacts v.work.jobs) kept_is (truth.keeps n))
 
-  pub held_taken : (size : ℕ) (h accepted : List Event) → Leads w.work size h accepted w.network → IsTaken w.network.messages accepted n b.held
+  pub held_taken : (size : ℕ) (h accepted : List Event) → Leads w.work size h accepted w.network
+      → IsTaken w.network.messages accepted n b.held
   held_taken size h accepted leads =
       subst (IsTaken w.network.messages accepted n) (ap (λ (x : WorldView). held x.network n) (sym view) ∙ held_is)
       ((leads_follows w.work size h accepted w.network leads).holds n)

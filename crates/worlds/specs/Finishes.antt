@@ -21,7 +21,8 @@ pub record Finishes (w : WorldView) (n j : ℕ) (events : List Event) : Type 0 w
   pub are : events ≡ makings n (length w.network.messages) (lacked_work (held w.network n) entry inlining)
   pub accepted : NoneRefused w.work w.network events
   pub work : GivesAll w.work w.network n events (work_keys (ids_of entry).program entry.pipeline inlining)
-  pub wanted : StoresOutputs entry.pipeline inlining → GivesAll w.work w.network n events (wanted_keys (ids_of entry).program entry.pipeline)
+  pub wanted : StoresOutputs entry.pipeline inlining
+      → GivesAll w.work w.network n events (wanted_keys (ids_of entry).program entry.pipeline)
 
 -- the tile of this key is the first of those that are lacked that takes too much scratch memory
 pub record LacksRoom (w : WorldView) (n j : ℕ) (key : Key) : Type 0 where

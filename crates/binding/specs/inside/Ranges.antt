@@ -6,7 +6,8 @@ use Rattle.domains.specs.declared.area.Area.{Area}
 use Rattle.pipe_tree.specs.declared.tree.Image.{Image}
 use Rattle.pipe_tree.specs.declared.tree.Names.{Names}
 use Rattle.pipe_tree.specs.declared.tree.Names.TheVariants.{One, Three}
-use Rattle.pipe_tree.specs.Tree.{Function, Accumulator, Node, number, variable, read, neg, binary, literal, abs, clamp, select, stencil, Branch, Declaration, param, image, function, accumulator, output}
+use Rattle.pipe_tree.specs.Tree.{Function, Accumulator, Node, number, variable, read, neg, binary, literal, abs, clamp, select}
+use Rattle.pipe_tree.specs.Tree.{stencil, Branch, Declaration, param, image, function, accumulator, output}
 use Rattle.pipe_bounds.specs.StageBounds.{StageBounds}
 use Rattle.job.specs.Boxes.{box_of}
 use Rattle.binding.specs.Binding.{Program, Variables, variables_of, stage_number, test_of, ends_of, area_of, plane_area}

@@ -1,5 +1,6 @@
 -- What reads take over areas, by spans, and what the parts of `bounds` answer. Only inner contracts cite this.
-use Rattle.std.specs.Prelude.{ℕ, ◌<◌, ◌≤◌, ◌/◌, ℤ, pos, negsuc, ◌+ℤ◌, ◌≤ℤ◌, ◌≡◌, ◌⊎◌, Option, Some, None, Result, Ok, Err, List, length, slice_get}
+use Rattle.std.specs.Prelude.{ℕ, ◌<◌, ◌≤◌, ◌/◌, ℤ, pos, negsuc, ◌+ℤ◌, ◌≤ℤ◌}
+use Rattle.std.specs.Prelude.{◌≡◌, ◌⊎◌, Option, Some, None, Result, Ok, Err, List, length, slice_get}
 use Rattle.domains.specs.Span.{Ends, Holds, IsSubspan}
 use Rattle.domains.specs.Index.{IsIndex, IsImage}
 use Rattle.domains.specs.declared.area.Area.{Area}

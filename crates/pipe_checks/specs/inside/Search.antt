@@ -1,5 +1,6 @@
 -- What the searches for ranks and for cycles know on their way: only contracts of private functions cite this.
-use Rattle.std.specs.Prelude.{ℕ, ◌+◌, ◌-◌, ◌<◌, ◌≤◌, ◌≡◌, ◌⊎◌, true, if◌then◌else◌, Option, Some, None, is_none, unwrap_or, count_by, Result, Ok, Err, List, map, length, slice_get, slice_index, slice_index_or, Any}
+use Rattle.std.specs.Prelude.{ℕ, ◌+◌, ◌-◌, ◌<◌, ◌≤◌, ◌≡◌, ◌⊎◌, true, if◌then◌else◌, Option, Some, None, is_none, unwrap_or}
+use Rattle.std.specs.Prelude.{count_by, Result, Ok, Err, List, map, length, slice_get, slice_index, slice_index_or, Any}
 use Rattle.pipe_tree.specs.Tree.{Declaration}
 use Rattle.std.specs.List.{list_any}
 use Rattle.pipe_checks.specs.declared.fault.CheckFault.{CheckFault}

@@ -34,6 +34,7 @@ refusal_of fault = faults.Make fault
 
 -- the first of the tiles that are lacked that has no room
 abbrev pub IsRoomFault : State → Entry → List Bool → FinishFault → Type 0
-IsRoomFault s entry inlining (finish.ScratchTooBig key) = first_without_room entry.pipeline inlining (lacked_work s entry inlining) ≡ Some key
+IsRoomFault s entry inlining (finish.ScratchTooBig key) = first_without_room entry.pipeline inlining (lacked_work s entry inlining)
+    ≡ Some key
 IsRoomFault s entry inlining finish.Memory = Unit {0}
 IsRoomFault s entry inlining _ = ⊥

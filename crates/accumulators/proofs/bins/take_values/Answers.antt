@@ -1,4 +1,5 @@
-use Rattle.std.proofs.Common.{rules, arith, ◌<◌, ◌+ℤ◌, pos, suc, drop, length, ℕ, ℤ, w32, to_z, of_z, FitsSigned, List, ap, sym, ◌∙◌, add-one}
+use Rattle.std.proofs.Common.{rules, arith, ◌<◌, ◌+ℤ◌, pos, suc, drop, length}
+use Rattle.std.proofs.Common.{ℕ, ℤ, w32, to_z, of_z, FitsSigned, List, ap, sym, ◌∙◌, add-one}
 use Rattle.std.proofs.lemmas.Int.{to_z-of_z}
 use Rattle.std.specs.Ordering.{int_eq}
 use Rattle.tile_eval.specs.Rows.{at}

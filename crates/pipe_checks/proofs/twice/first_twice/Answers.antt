@@ -8,7 +8,8 @@ use Rattle.pipe_checks.proofs.Places.{all_of_them, declaration_at, declarations_
 use Rattle.pipe_checks.proofs.Declaring.{varies_same, is_again, passed_again, not_number, none_again}
 use Rattle.domains.proofs.Places.{all_more}
 use Rattle.pipe_checks.proofs.twice.first_twice.Goals as goal
-use Rattle.pipe_checks.proofs.twice.first_twice.Goals.{then-is_number-via-then-is_number, then-is_number-via-else-is_number+then-varies_again}
+use Rattle.pipe_checks.proofs.twice.first_twice.Goals.{then-is_number-via-then-is_number}
+use Rattle.pipe_checks.proofs.twice.first_twice.Goals.{then-is_number-via-else-is_number+then-varies_again}
 
 pub returns-then-is_number-clause-first : goal.returns-then-is_number-clause-first
 returns-then-is_number-clause-first c =

@@ -11,7 +11,8 @@ loop-key-preserved c =
     record {
       message =
           let m = before.message in
-          let one = added_one c.loop-key.message _ c.in_ok-message.message c.checked_add.result c.checked_add.ensures c.in_ok-message.ensures.value in
+          let one = added_one c.loop-key.message _ c.in_ok-message.message c.checked_add.result c.checked_add.ensures
+          c.in_ok-message.ensures.value in
           omega (arith, m, one);
       events =
           c.in_ok-push-2.ensures.items

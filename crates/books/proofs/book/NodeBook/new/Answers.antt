@@ -5,4 +5,5 @@ use Rattle.books.proofs.book.NodeBook.new.Goals as goal
 
 pub invariant_of-result : goal.invariant_of-result
 invariant_of-result g c =
-    book_new g.C.NamedCatalog.catalog _ _ _ (subst IsCatalog c.requires c.job.ensures.catalog) c.new.ensures c.new-2.ensures c.new-3.ensures.items
+    book_new g.C.NamedCatalog.catalog _ _ _ (subst IsCatalog c.requires c.job.ensures.catalog) c.new.ensures c.new-2.ensures
+    c.new-3.ensures.items

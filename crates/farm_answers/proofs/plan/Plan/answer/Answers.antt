@@ -15,7 +15,8 @@ unreachable-requires-in-Err-Disputed c =
 
 pub unreachable-requires-in-Err-Misshapen : goal.unreachable-requires-in-Err-Misshapen
 unreachable-requires-in-Err-Misshapen c =
-    no_misshapen c.args.self.now.catalog.now c.args.state.now (entry_of c.args.self.now.job.now) c.requires _ _ c.in-Err-Misshapen.field-0-is
+    no_misshapen c.args.self.now.catalog.now c.args.state.now (entry_of c.args.self.now.job.now) c.requires _ _
+    c.in-Err-Misshapen.field-0-is
     c.in-Err-Misshapen.ensures.fault
 
 pub returns-in-Ok-clause-answer : goal.returns-in-Ok-clause-answer

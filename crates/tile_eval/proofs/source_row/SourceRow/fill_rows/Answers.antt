@@ -1,4 +1,5 @@
-use Rattle.std.proofs.Common.{rules, arith, ℕ, ℤ, ◌≡◌, ◌+ℤ◌, ◌+◌, ◌*◌, ◌≤◌, ◌<◌, ◌-◌, take, drop, pos, List, length, map, ap, ◌∙◌, sym, subst}
+use Rattle.std.proofs.Common.{rules, arith, ℕ, ℤ, ◌≡◌, ◌+ℤ◌, ◌+◌, ◌*◌, ◌≤◌}
+use Rattle.std.proofs.Common.{◌<◌, ◌-◌, take, drop, pos, List, length, map, ap, ◌∙◌, sym, subst}
 use Rattle.std.specs.Prelude.{Option, All}
 use Rattle.std.specs.Option.{option_map}
 use Rattle.std.proofs.lemmas.List.Elements.{All-weaker}

@@ -5,7 +5,8 @@ use Rattle.worlds.proofs.network.Network.deliver.Goals as goal
 
 pub returns-then-message-n-clause-refused : goal.returns-then-message-n-clause-refused
 returns-then-message-n-clause-refused g c = λ u.
-    misaddressed u _ _ c.self.view_is c.args.n (subst (λ x. c.args.n < x) (c.len.ensures ∙ c.self.inside.nodes.ok.0) c.if-n-len.false) c.args.k _ _
+    misaddressed u _ _ c.self.view_is c.args.n
+    (subst (λ x. c.args.n < x) (c.len.ensures ∙ c.self.inside.nodes.ok.0) c.if-n-len.false) c.args.k _ _
     c.message.view_is (subst (λ x. c.args.k < x) (c.len-2.ensures ∙ c.self.inside.messages.ok.0) c.if-k-len.false) c.index-message.ensures
     c.if-message-n.true
 
@@ -13,13 +14,16 @@ pub returns-in_err-count-clause-refused : goal.returns-in_err-count-clause-refus
 returns-in_err-count-clause-refused g c = λ u.
     let p = err_from_is_err_and c.from_residual.result c.from_residual.ensures.1 in
     rw (p.1, p.2)
-    (not_delivered u _ _ c.self.view_is c.args.n (subst (λ x. c.args.n < x) (c.len.ensures ∙ c.self.inside.nodes.ok.0) c.if-n-len.false) c.args.k
-    _ _ c.message.view_is (subst (λ x. c.args.k < x) (c.len-2.ensures ∙ c.self.inside.messages.ok.0) c.if-k-len.false) c.index-message.ensures
+    (not_delivered u _ _ c.self.view_is c.args.n
+    (subst (λ x. c.args.n < x) (c.len.ensures ∙ c.self.inside.nodes.ok.0) c.if-n-len.false) c.args.k
+    _ _ c.message.view_is (subst (λ x. c.args.k < x) (c.len-2.ensures ∙ c.self.inside.messages.ok.0) c.if-k-len.false)
+    c.index-message.ensures
     _ _ c.node.view_is c.index_mut-node.ensures.value c.if-message-n.false c.merge.new.self c.in_err-count.ensures.unchanged)
 
 pub returns-clause-done : goal.returns-clause-done
 returns-clause-done g c = λ u.
-    delivered u _ _ c.self.view_is c.args.n (subst (λ x. c.args.n < x) (c.len.ensures ∙ c.self.inside.nodes.ok.0) c.if-n-len.false) c.args.k _ _
+    delivered u _ _ c.self.view_is c.args.n (subst (λ x. c.args.n < x) (c.len.ensures ∙ c.self.inside.nodes.ok.0) c.if-n-len.false)
+    c.args.k _ _
     c.message.view_is (subst (λ x. c.args.k < x) (c.len-2.ensures ∙ c.self.inside.messages.ok.0) c.if-k-len.false) c.index-message.ensures
     _ _ c.node.view_is c.index_mut-node.ensures.value c.if-message-n.false c.merge.new.self c.in_ok-count.ensures.joined
 

@@ -18,5 +18,6 @@ returns-clause-done g c =
     IfOk-weaker c.post.result _ _ (λ d sent. made c.args.jobs.now _ _ c.self.view_is c.args.n
     (subst (λ x. c.args.n < x) (c.len.ensures ∙ c.self.inside.nodes.ok.0) c.if-n-len.false) c.args.key.now _ _ c.node.view_is
     c.index-node.ensures c.in-Ok.fact c.post.new.self c.in-Ok.ensures.made
-    (sent ∙ ap (with_message c.args.self.now c.args.n) (c.in_ok-take.ensures.added ∙ ap (λ s. with_fact s c.in-Ok.fact) c.new-facts.ensures)))
+    (sent ∙ ap (with_message c.args.self.now c.args.n)
+    (c.in_ok-take.ensures.added ∙ ap (λ s. with_fact s c.in-Ok.fact) c.new-facts.ensures)))
     c.post.ensures.sent

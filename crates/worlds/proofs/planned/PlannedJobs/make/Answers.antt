@@ -9,5 +9,6 @@ returns-in-Some-clause-made g c =
 
 pub returns-in-Some-clause-fault : goal.returns-in-Some-clause-fault
 returns-in-Some-clause-fault g c =
-    never_made c.args.self.now _ c.self.view_is c.args.n c.args.state.now c.args.key.now c.in-Some.schedule.now.inlining c.in-Some.ensures.some
+    never_made c.args.self.now _ c.self.view_is c.args.n c.args.state.now c.args.key.now c.in-Some.schedule.now.inlining
+    c.in-Some.ensures.some
     c.make.result c.make.ensures.fault

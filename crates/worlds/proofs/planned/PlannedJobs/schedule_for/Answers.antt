@@ -18,5 +18,6 @@ returns-clause-some c =
 
 pub returns-clause-none : goal.returns-clause-none
 returns-clause-none c =
-    none_lacking c.args.self.now _ c.self.view_is c.args.n c.in_ok-job.job c.args.key.now c.of_key.result c.of_key.ensures c.index.result.now
+    none_lacking c.args.self.now _ c.self.view_is c.args.n c.in_ok-job.job c.args.key.now c.of_key.result c.of_key.ensures
+    c.index.result.now
     c.requires c.index.ensures c.in_ok-job.ensures.some c.self.invariant.each _ (λ s. s.now.inlining) c.schedule.result c.schedule.ensures

@@ -12,7 +12,8 @@ invariant_of-self g c =
 
 pub returns-clause-truth : goal.returns-clause-truth
 returns-clause-truth g c =
-    (world_after c.self.inside.jobs c.self.inside.network c.step.new.self c.args.event.now c.step.result c.self.invariant c.step.ensures.done
+    (world_after c.self.inside.jobs c.self.inside.network c.step.new.self c.args.event.now c.step.result c.self.invariant
+    c.step.ensures.done
     c.step.ensures.refused).truth
 
 pub returns-clause-led : goal.returns-clause-led
