@@ -12,7 +12,7 @@ returns-in_err-job-clause-fault c =
     let fault = c.in_err-job.field-0.0 in
     rw (p.1, p.2) (audit_fault_around c.args.input.items c.args.given.now c.args.sides fault
     (subst (λ (input : List ℕ). IsFaultAround input c.args.given.now c.args.sides fault) c.as_slice.ensures.value
-            c.in_err-job.ensures.fault))
+    c.in_err-job.ensures.fault))
 
 pub returns-in_err-facts-clause-fault : goal.returns-in_err-facts-clause-fault
 returns-in_err-facts-clause-fault c =

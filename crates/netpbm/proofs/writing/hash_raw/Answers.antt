@@ -9,7 +9,7 @@ loop-done-preserved g c =
     let done = c.loop-done.done in
     let end = c.put_next-end.result.0 in
     let more = ap (λ (l : List ℕ). spelling_to done p ++ l) c.put_next-end.ensures.written ∙ spelling_more p done end
-            c.area-area.ensures.image (search rules) (search rules) in (
+    c.area-area.ensures.image (search rules) (search rules) in (
       search rules,
       λ message held. subst (g.D.Digest.holds c.update-in-loop-done.new.self)
           (append_assoc message (spelling_to done p) _ ∙ ap (λ (l : List ℕ). message ++ l) more)
