@@ -137,11 +137,11 @@ fn workers_of<'a, C: NamedCatalog>(
     requires { catalog.now ≡ C.catalog }
 {
     let mut workers = Vec::new(alloc);
-    let mut number: u32 = 0;
+    let mut number: u8 = 0;
     for caller in callers {
-        let key = key_of(catalog, number / 2, number % 2)?;
+        let key = key_of(catalog, u32::from(number / 2), u32::from(number % 2))?;
         number = number.saturating_add(1);
-        let fact = true_fact(alloc, catalog, key, &[number as i32])?;
+        let fact = true_fact(alloc, catalog, key, &[i32::from(number)])?;
         workers.push(Worker {
             node,
             caller,
