@@ -1,15 +1,15 @@
 #![tactic(auto)]
 //! What a node answers for a job from the facts that it holds.
 
-use test_jobs::programs::{CHAIN, COPY, ONES, ONE_TO_NINE, REMAINDERS};
-use test_jobs::job_of;
-use test_checks::{holds, tells};
 use accumulators::Answer;
 use identity::Key;
 use job::Job;
 use node_state::{AnswerFault, NodeState};
 use std::alloc::Global;
 use std::test::Fail;
+use test_checks::{holds, tells};
+use test_jobs::job_of;
+use test_jobs::programs::{CHAIN, COPY, ONE_TO_NINE, ONES, REMAINDERS};
 use tile_fact::{Bins, Body, Fact, Samples};
 
 fn copied(alloc: Global, sides: (u32, u32)) -> Result<Job, Fail> {

@@ -1,9 +1,6 @@
 #![tactic(auto)]
 //! Facts that a node makes of what it holds.
 
-use test_jobs::programs::{CHAIN, ONES, ONE_TO_NINE, REMAINDERS, TOO_BIG};
-use test_jobs::{admit, has_few_stages, job_of, key_at, schedule_of, tile};
-use test_checks::{holds, tells};
 use catalog::Catalog;
 use fault_rows::Fault;
 use grouping::Schedule;
@@ -11,6 +8,9 @@ use identity::{InputId, Key};
 use node_state::{MakeFault, NodeState};
 use std::alloc::Global;
 use std::test::Fail;
+use test_checks::{holds, tells};
+use test_jobs::programs::{CHAIN, ONE_TO_NINE, ONES, REMAINDERS, TOO_BIG};
+use test_jobs::{admit, has_few_stages, job_of, key_at, schedule_of, tile};
 use tile_fact::{Body, Fact};
 
 /// A catalog of one job, and a schedule of it.

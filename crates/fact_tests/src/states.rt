@@ -1,13 +1,13 @@
 #![tactic(auto)]
 //! States of nodes: what they take, merge and lend.
 
-use test_jobs::{key_of, tile};
-use test_checks::holds;
 use fact_store::{FactStore, SortedFacts};
 use identity::Key;
 use node_state::{Known, LendFault, NodeState, Taken};
 use std::alloc::Global;
 use std::test::Fail;
+use test_checks::holds;
+use test_jobs::{key_of, tile};
 use tile_fact::{Body, Fact};
 
 // Tiles of one point: row, column and number.

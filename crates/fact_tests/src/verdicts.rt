@@ -1,15 +1,15 @@
 #![tactic(auto)]
 //! Catalogs of jobs, and verdicts on facts by them.
 
-use test_jobs::programs::{COPY, REMAINDERS};
-use test_jobs::{admit, fact, job_of, key_at, tile};
-use test_checks::{holds, tells};
 use catalog::{AdmitFault, Catalog, Ids};
 use fact_audit::{audit, audit_all, shape_ok};
 use identity::{Key, ProgramId};
 use job::Job;
 use std::alloc::Global;
 use std::test::Fail;
+use test_checks::{holds, tells};
+use test_jobs::programs::{COPY, REMAINDERS};
+use test_jobs::{admit, fact, job_of, key_at, tile};
 use tile_fact::{Bins, Body, Fact, Samples};
 
 fn copied(alloc: Global) -> Result<Job, Fail> {

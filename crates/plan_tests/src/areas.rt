@@ -1,11 +1,11 @@
 #![tactic(auto)]
 //! Tiles and sums of small cases that were worked by hand.
 
-use test_checks::{holds, tells};
 use domains::arithmetic::add_widened;
 use domains::{Area, Grid, Span, TileSides};
 use std::alloc::Global;
 use std::test::Fail;
+use test_checks::{holds, tells};
 
 fn area(rows: (i32, i32), cols: (i32, i32)) -> Option<Area> {
     let rows = Span::new(rows.0, rows.1)?;

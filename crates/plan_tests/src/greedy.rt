@@ -4,13 +4,13 @@
 ghost use Rattle.std.specs.Prelude.{◌≤◌};
 ghost use Rattle.job.specs.Kept.{pipeline_in};
 
-use test_jobs::programs::{CHAIN, FULL, TOO_BIG};
-use test_jobs::job_of;
-use test_checks::{holds, tells};
 use grouping::{Schedule, ScheduleFault};
 use job::Job;
 use std::alloc::Global;
 use std::test::Fail;
+use test_checks::{holds, tells};
+use test_jobs::job_of;
+use test_jobs::programs::{CHAIN, FULL, TOO_BIG};
 
 /// A picture of six rows and six columns, and one of one point.
 const SIX: &[u8] =

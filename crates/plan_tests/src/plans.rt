@@ -3,14 +3,14 @@
 
 ghost use Rattle.job.specs.Kept.{pipeline_in};
 
-use test_jobs::programs::{CHAIN, COPY, CORNERS, FULL, ONES, SIXTEEN, TOO_BIG};
-use test_jobs::{has_few_stages, job_of, schedule_of};
 use crate::areas::ends;
-use test_checks::tells;
 use job::Job;
 use overlap_tiles::{Step, TilePlan};
 use std::alloc::Global;
 use std::test::Fail;
+use test_checks::tells;
+use test_jobs::programs::{CHAIN, COPY, CORNERS, FULL, ONES, SIXTEEN, TOO_BIG};
+use test_jobs::{has_few_stages, job_of, schedule_of};
 
 /// Four functions, each of which copies the one before it.
 const COPIES: &str = "image I(2,2);

@@ -3,15 +3,15 @@
 
 ghost use Rattle.job.specs.Kept.{pipeline_in};
 
-use test_jobs::programs::ONES;
-use test_jobs::{chosen, job_of, schedule_of};
 use crate::areas::ends;
-use test_checks::tells;
 use domains::Area;
 use grouping::Schedule;
 use job::Job;
 use std::alloc::Global;
 use std::test::Fail;
+use test_checks::tells;
+use test_jobs::programs::ONES;
+use test_jobs::{chosen, job_of, schedule_of};
 
 /// Two stencils of three by three in a chain; what is read is declared behind what reads it.
 const CHAIN: &str = "image I(6,6);

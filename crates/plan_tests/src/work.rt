@@ -1,14 +1,14 @@
 #![tactic(auto)]
 //! The tiles that are made of jobs, those that are wanted, and those that lack room.
 
-use test_jobs::programs::{CORNERS, SIXTEEN, TOO_BIG};
-use test_jobs::{job_of, schedule_of};
-use test_checks::{holds, tells};
 use identity::Key;
 use job::Job;
 use overlap_tiles::{first_without_room, lacks_room, wanted_keys, work_keys};
 use std::alloc::Global;
 use std::test::Fail;
+use test_checks::{holds, tells};
+use test_jobs::programs::{CORNERS, SIXTEEN, TOO_BIG};
+use test_jobs::{job_of, schedule_of};
 
 /// A function that stands before the one that it reads.
 const BACKWARD: &str = "image I(1,1);

@@ -2,10 +2,10 @@
 //! Bytes on their way into a writer, through a buffer.
 
 use crate::full::{Full, full_at, took_front};
-use test_checks::holds;
 use std::alloc::{AllocError, Global};
 use std::test::Fail;
 use streams::{Metered, WriteFailed};
+use test_checks::holds;
 use write_buffer::WriteBuffer;
 
 #[test]

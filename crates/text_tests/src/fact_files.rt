@@ -2,11 +2,11 @@
 //! Texts of fact files, the union of what they hold, and the line of a union.
 
 use crate::full::{full_at, took_front};
-use test_checks::holds;
 use fact_lines::{LinesFault, count_facts, union_of, write_union};
 use std::alloc::Global;
 use std::test::Fail;
 use streams::Metered;
+use test_checks::holds;
 use tile_fact::{Fact, FactFault};
 
 // The heads of files of one fact and of two.

@@ -2,10 +2,10 @@
 //! The spelling of pictures, and writers that are full.
 
 use crate::full::{full_at, took_front};
-use test_checks::holds;
 use netpbm::{Picture, raw, read, write_raw};
 use std::alloc::{AllocError, Global};
 use std::test::Fail;
+use test_checks::holds;
 
 #[test]
 fn picture_of_three_planes(rt: HostRuntime) -> Result<(), Fail> {

@@ -3,12 +3,12 @@
 
 ghost use Rattle.std.specs.Prelude.{◌≤◌, IfOk};
 
-use test_checks::holds;
 use std::alloc::Global;
 use std::io;
 use std::io::{ErrorKind, Read, Write};
 use std::test::Fail;
 use streams::{Metered, Sink, Source, SourceFault, WriteFailed, read_whole, write_whole};
+use test_checks::holds;
 
 /// Moves at most three bytes at a time, and fails once after so many. Later calls would succeed, so a call that is made again shows.
 #[derive(Clone, Copy, Debug)]

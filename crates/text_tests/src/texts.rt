@@ -1,12 +1,12 @@
 #![tactic(auto)]
 //! What trees are printed as.
 
-use test_checks::reads;
 use pipe_lang::parse;
 use pipe_print::print;
 use pipe_tree::Tree;
 use std::alloc::Global;
 use std::test::Fail;
+use test_checks::reads;
 
 fn is_printed(alloc: Global, tree: &Tree, wanted: &str) -> Result<(), Fail> {
     let text = print(alloc, tree)?;

@@ -10,10 +10,7 @@ ghost use Rattle.tile_run.specs.Stored.{stored_tiles};
 ghost use Rattle.tile_run.specs.Work.{is_accumulator_at};
 ghost use Rattle.accumulators.specs.Partials.{IsAccumulatorPlan};
 
-use test_jobs::programs::{CHAIN, CORNERS, ONES, ONE_TO_NINE, REMAINDERS, SIXTEEN};
-use test_jobs::{chosen, has_few_stages, job_of, schedule_of};
 use crate::tiles::{PIPELINE, SAMPLES};
-use test_checks::{holds, tells};
 use accumulators::partial;
 use grouping::Schedule;
 use identity::Key;
@@ -22,6 +19,9 @@ use overlap_tiles::TilePlan;
 use std::alloc::Global;
 use std::test::Fail;
 use std::thread::Threads;
+use test_checks::{holds, tells};
+use test_jobs::programs::{CHAIN, CORNERS, ONE_TO_NINE, ONES, REMAINDERS, SIXTEEN};
+use test_jobs::{chosen, has_few_stages, job_of, schedule_of};
 use tile_run::{EvalFault, Known, Scratch, Stored, run_all, run_tile};
 
 /// Gives no tile.

@@ -1,13 +1,13 @@
 #![tactic(auto)]
 //! The identities of jobs, beside digests that another program computed of the same bytes, and the keys of their tiles.
 
-use test_jobs::programs::COPY;
-use test_jobs::{job_of, key_of};
-use test_checks::{holds, reads, says, shows};
 use identity::{InputId, Key, ProgramId};
 use job::Job;
 use std::alloc::Global;
 use std::test::Fail;
+use test_checks::{holds, reads, says, shows};
+use test_jobs::programs::COPY;
+use test_jobs::{job_of, key_of};
 
 /// What is hashed of a job and its digests, two digits of each byte: the bytes of what its program is given, their digest, and that of the
 /// program's text.

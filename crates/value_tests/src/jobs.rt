@@ -1,12 +1,12 @@
 #![tactic(auto)]
 //! What is read of a program that is bound to a picture.
 
-use test_jobs::job_of;
-use test_checks::{holds, tells};
 use domains::Fold;
 use job::{Body, Function, Job, JobCase, StageKind};
 use std::alloc::Global;
 use std::test::Fail;
+use test_checks::{holds, tells};
+use test_jobs::job_of;
 
 /// A program of a plane, a function and an accumulator, in this order.
 const PROGRAM: &str = "param N; image I(N,3);

@@ -3,14 +3,14 @@
 
 ghost use Rattle.job.specs.Kept.{pipeline_in};
 
-use test_jobs::programs::TOO_BIG;
-use test_jobs::{chosen, has_few_stages, job_of, schedule_of};
-use test_checks::{holds, tells};
 use grouping::Schedule;
 use job::{Job, StageKind};
 use std::alloc::Global;
 use std::test::Fail;
 use std::thread::Threads;
+use test_checks::{holds, tells};
+use test_jobs::programs::TOO_BIG;
+use test_jobs::{chosen, has_few_stages, job_of, schedule_of};
 use tile_eval::plain;
 use tile_run::{Known, RunFault, Stored, run_all};
 

@@ -3,16 +3,16 @@
 
 ghost use Rattle.job.specs.Kept.{pipeline_in};
 
-use test_jobs::programs::{ONE_TO_NINE, REMAINDERS};
-use test_jobs::{chosen, job_of, schedule_of};
 use crate::tiles::lacks_room;
-use test_checks::{holds, tells};
 use accumulators::{Answer, answer_of, join_into, whole};
 use domains::Fold;
 use job::Job;
 use std::alloc::Global;
 use std::test::Fail;
 use std::thread::Threads;
+use test_checks::{holds, tells};
+use test_jobs::programs::{ONE_TO_NINE, REMAINDERS};
+use test_jobs::{chosen, job_of, schedule_of};
 use tile_run::run_all;
 
 /// How many samples of the first tile of two rows and two columns leave each remainder by 4.

@@ -5,11 +5,11 @@ ghost use Rattle.std.specs.Prelude.{IfOk};
 ghost use Rattle.job.specs.Kept.{pipeline_in};
 ghost use Rattle.job.specs.WellFormed.{IsJob};
 
-use test_jobs::job_of;
-use test_checks::tells;
 use job::Job;
 use std::alloc::Global;
 use std::test::Fail;
+use test_checks::tells;
+use test_jobs::job_of;
 use tile_eval::{plain, plain_all};
 
 /// Half a picture, as big as it was.

@@ -1,9 +1,6 @@
 #![tactic(auto)]
 //! Worlds of nodes, over a catalog of one job.
 
-use test_jobs::programs::TOO_BIG;
-use test_jobs::{admit, chosen, job_of, schedule_of};
-use test_checks::{holds, says, tells};
 use catalog::Catalog;
 use fault_rows::Fault;
 use gossip_core::{Done, StepFault};
@@ -13,6 +10,9 @@ use job::Job;
 use node_state::MakeFault;
 use std::alloc::Global;
 use std::test::Fail;
+use test_checks::{holds, says, tells};
+use test_jobs::programs::TOO_BIG;
+use test_jobs::{admit, chosen, job_of, schedule_of};
 use worlds::{FinishFault, NodeSchedules, World, WorldFault};
 
 /// A program that copies a grey picture.

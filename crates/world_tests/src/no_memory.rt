@@ -5,13 +5,13 @@
 use crate::histories::{
     NO_FACT, ONE_FACT, SCRIPT, catalog_of, copied, events_of, exports, halving, planned, told,
 };
-use test_checks::{holds, tells};
 use catalog::Catalog;
 use gossip_core::StepFault;
 use gossip_events::Event;
 use node_state::NodeState;
 use std::alloc::{AllocError, Global};
 use std::test::Fail;
+use test_checks::{holds, tells};
 use worlds::{FinishFault, NodeSchedules, Ran, World};
 
 fn add_file(bytes: &mut Vec<u8>, state: Option<&NodeState>) -> Result<(), AllocError> {

@@ -1,13 +1,13 @@
 #![tactic(auto)]
 //! Scripts of events, over a catalog of one job.
 
-use test_jobs::job_of;
-use test_checks::{holds, tells};
 use catalog::{Catalog, Ids};
 use gossip_events::{Event, MOST_EVENTS, ScriptFault, script_of};
 use identity::Key;
 use std::alloc::Global;
 use std::test::Fail;
+use test_checks::{holds, tells};
+use test_jobs::job_of;
 
 const ONE: &str =
     "image I(1,1); func f(x in [0..0], y in [0..0]) { else : I(x,y); } output f max 255;";
