@@ -2,10 +2,4 @@
 #![tactic(auto)]
 
 #[cfg(test)]
-mod answers;
-#[cfg(test)]
-mod makes;
-#[cfg(test)]
-mod states;
-#[cfg(test)]
-mod verdicts;
+mod tests;

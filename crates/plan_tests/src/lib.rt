@@ -2,12 +2,4 @@
 #![tactic(auto)]
 
 #[cfg(test)]
-mod areas;
-#[cfg(test)]
-mod greedy;
-#[cfg(test)]
-mod plans;
-#[cfg(test)]
-mod schedules;
-#[cfg(test)]
-mod work;
+mod tests;

@@ -2,14 +2,4 @@
 #![tactic(auto)]
 
 #[cfg(test)]
-mod buffers;
-#[cfg(test)]
-mod fact_files;
-#[cfg(test)]
-mod full;
-#[cfg(test)]
-mod pictures;
-#[cfg(test)]
-mod stops;
-#[cfg(test)]
-mod texts;
+mod tests;

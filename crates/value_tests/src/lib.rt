@@ -2,14 +2,4 @@
 #![tactic(auto)]
 
 #[cfg(test)]
-mod given;
-#[cfg(test)]
-mod identities;
-#[cfg(test)]
-mod jobs;
-#[cfg(test)]
-mod tiles;
-#[cfg(test)]
-mod totals;
-#[cfg(test)]
-mod values;
+mod tests;

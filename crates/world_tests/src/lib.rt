@@ -2,8 +2,4 @@
 #![tactic(auto)]
 
 #[cfg(test)]
-mod histories;
-#[cfg(test)]
-mod no_memory;
-#[cfg(test)]
-mod scripts;
+mod tests;

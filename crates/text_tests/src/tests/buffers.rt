@@ -1,7 +1,7 @@
 #![tactic(auto)]
 //! Bytes on their way into a writer, through a buffer.
 
-use crate::full::{Full, full_at, took_front};
+use crate::tests::full::{Full, full_at, took_front};
 use std::alloc::{AllocError, Global};
 use std::test::Fail;
 use streams::{Metered, WriteFailed};

@@ -3,7 +3,7 @@
 
 ghost use Rattle.job.specs.Kept.{pipeline_in};
 
-use crate::areas::ends;
+use crate::tests::areas::ends;
 use job::Job;
 use overlap_tiles::{Step, TilePlan};
 use std::alloc::Global;

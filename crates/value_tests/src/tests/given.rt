@@ -10,7 +10,7 @@ ghost use Rattle.tile_run.specs.Stored.{stored_tiles};
 ghost use Rattle.tile_run.specs.Work.{is_accumulator_at};
 ghost use Rattle.accumulators.specs.Partials.{IsAccumulatorPlan};
 
-use crate::tiles::{PIPELINE, SAMPLES};
+use crate::tests::tiles::{PIPELINE, SAMPLES};
 use accumulators::partial;
 use grouping::Schedule;
 use identity::Key;

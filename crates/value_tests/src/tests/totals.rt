@@ -3,7 +3,7 @@
 
 ghost use Rattle.job.specs.Kept.{pipeline_in};
 
-use crate::tiles::lacks_room;
+use crate::tests::tiles::lacks_room;
 use accumulators::{Answer, answer_of, join_into, whole};
 use domains::Fold;
 use job::Job;

@@ -2,7 +2,7 @@
 //! Worlds where memory is refused. Each test passes wherever one growth of memory is refused to what it is about, and fails by that
 //! refusal where one is refused elsewhere.
 
-use crate::histories::{
+use crate::tests::histories::{
     NO_FACT, ONE_FACT, SCRIPT, catalog_of, copied, events_of, exports, halving, planned, told,
 };
 use catalog::Catalog;

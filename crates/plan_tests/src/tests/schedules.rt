@@ -3,7 +3,7 @@
 
 ghost use Rattle.job.specs.Kept.{pipeline_in};
 
-use crate::areas::ends;
+use crate::tests::areas::ends;
 use domains::Area;
 use grouping::Schedule;
 use job::Job;

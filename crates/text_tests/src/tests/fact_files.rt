@@ -1,7 +1,7 @@
 #![tactic(auto)]
 //! Texts of fact files, the union of what they hold, and the line of a union.
 
-use crate::full::{full_at, took_front};
+use crate::tests::full::{full_at, took_front};
 use fact_lines::{LinesFault, count_facts, union_of, write_union};
 use std::alloc::Global;
 use std::test::Fail;

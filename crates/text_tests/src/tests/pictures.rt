@@ -1,7 +1,7 @@
 #![tactic(auto)]
 //! The spelling of pictures, and writers that are full.
 
-use crate::full::{full_at, took_front};
+use crate::tests::full::{full_at, took_front};
 use netpbm::{Picture, raw, read, write_raw};
 use std::alloc::{AllocError, Global};
 use std::test::Fail;

@@ -1,0 +1,6 @@
+//! What is known of tiles.
+
+mod answers;
+mod makes;
+mod states;
+mod verdicts;

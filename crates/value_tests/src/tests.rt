@@ -1,0 +1,8 @@
+//! What jobs are and compute.
+
+mod given;
+mod identities;
+mod jobs;
+mod tiles;
+mod totals;
+mod values;

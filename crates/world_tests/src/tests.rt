@@ -1,0 +1,5 @@
+//! What events do.
+
+mod histories;
+mod no_memory;
+mod scripts;
