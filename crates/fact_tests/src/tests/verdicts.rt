@@ -84,11 +84,18 @@ fn has_key_verdicts(alloc: Global, jobs: &Catalog, key: Key) -> Result<(), Fail>
 }
 
 #[test]
-fn facts_of_a_tile(rt: HostRuntime) -> Result<(), Fail> {
+fn disputed_facts(rt: HostRuntime) -> Result<(), Fail> {
     let alloc = rt.alloc();
     let jobs = two_jobs(alloc)?;
     let key = key_at(&jobs, 0, 1, 0, 0).ok_or("no key")?;
-    has_verdicts(alloc, &jobs, key)?;
+    has_verdicts(alloc, &jobs, key)
+}
+
+#[test]
+fn facts_of_other_keys(rt: HostRuntime) -> Result<(), Fail> {
+    let alloc = rt.alloc();
+    let jobs = two_jobs(alloc)?;
+    let key = key_at(&jobs, 0, 1, 0, 0).ok_or("no key")?;
     has_key_verdicts(alloc, &jobs, key)
 }
 
