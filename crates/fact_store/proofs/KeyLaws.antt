@@ -56,7 +56,7 @@ pub any_of_key : (s : FactSet) (key : Key) (g : Fact) → list_any (eq_by_cmp fa
 unfolding facts_of
 any_of_key s key g = any_filter (λ f. same_key key f.key) g (facts_in s) ∙ ap (λ b. b && same_key key g.key) (sym (holds-facts_in s g))
 
-any_lacked : (s t : FactSet) (g : Fact) → list_any (eq_by_cmp fact_cmp g) (lacked s t) ≡ (holds t g && not (holds s g))
+pub any_lacked : (s t : FactSet) (g : Fact) → list_any (eq_by_cmp fact_cmp g) (lacked s t) ≡ (holds t g && not (holds s g))
 unfolding lacked
 any_lacked s t g = any_filter (λ f. not (holds s f)) g (facts_in t) ∙ ap (λ b. b && not (holds s g)) (sym (holds-facts_in t g))
 

@@ -4,3 +4,6 @@ pub mod JoinLaws
 pub mod CutLaws
 pub mod KeyLaws
 pub mod Walks
+pub mod TableLaws
+pub mod TableWalks
+pub mod GrowthLaws

@@ -15,7 +15,7 @@ use Rattle.fact_store.specs.inside.SortedLists.{rises, below_each}
 abbrev above : Fact → Fact → Bool
 above f g = is_lt (fact_cmp f g)
 
-first_above : (x : Fact) (xs : List Fact) → below_each x xs ≡ true → find (above x) xs ≡ slice_get xs 0
+pub first_above : (x : Fact) (xs : List Fact) → below_each x xs ≡ true → find (above x) xs ≡ slice_get xs 0
 first_above x [] h = refl
 first_above x (y ∷ ys) h = ap (λ b. cond b (Some y) (find (above x) ys)) ((split (is_lt (fact_cmp x y)) (below_each x ys) h).0)
 

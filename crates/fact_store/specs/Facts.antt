@@ -95,7 +95,7 @@ body_back (Partial bins) = refl
 abbrev coded_body : Coded Body
 coded_body = code_by ((List ℤ) ⊎ (List ℤ)) (coded⊎ (coded_list coded_ℤ) (coded_list coded_ℤ)) parts_of body_of body_back
 
-abbrev coded_fact : Coded Fact
+abbrev pub coded_fact : Coded Fact
 coded_fact = code_by (Key × Body) (coded× coded_key coded_body) (λ f. (f.key, f.body)) (λ p. record { key = p.0; body = p.1 }) (λ _. refl)
 
 abbrev pub coded_set : Coded FactSet

@@ -4,9 +4,11 @@
 pub mod laws;
 mod sorted;
 mod store;
+mod tables;
 
 pub use sorted::SortedFacts;
 pub use store::FactStore;
+pub use tables::TableFacts;
 
 #[cfg(test)]
 mod tests;

@@ -98,3 +98,8 @@ fn keeps_facts<S: FactStore>(alloc: Global) -> Result<(), Fail> {
 fn sorted_facts(rt: HostRuntime) -> Result<(), Fail> {
     keeps_facts::<SortedFacts>(rt.alloc())
 }
+
+#[test]
+fn table_facts(rt: HostRuntime) -> Result<(), Fail> {
+    keeps_facts::<TableFacts>(rt.alloc())
+}
