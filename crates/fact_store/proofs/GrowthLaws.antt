@@ -9,8 +9,8 @@ use Rattle.tile_fact.specs.declared.fact.Fact.{Fact}
 use Rattle.tile_fact.specs.Order.{fact_cmp}
 use Rattle.fact_store.proofs.JoinLaws.{filter_same}
 use Rattle.fact_store.proofs.KeyLaws.{any_filter, any_lacked}
-use Rattle.fact_store.proofs.SetLaws.{same_set, same_fact, holds-facts_in, holds-with_fact, holds-with_facts, holds-nothing, holds-join, with_held}
-use Rattle.fact_store.proofs.SetLaws.{join_nothing, subset_left, with_fact_has, rises-facts_in, split}
+use Rattle.fact_store.proofs.SetLaws.{same_set, same_fact, holds-facts_in, holds-with_fact, holds-with_facts, holds-nothing}
+use Rattle.fact_store.proofs.SetLaws.{holds-join, with_held, join_nothing, subset_left, with_fact_has, rises-facts_in, split}
 use Rattle.fact_store.proofs.SortedLaws.{both, facts_in-set_of, holds-set_of, set_of-none}
 use Rattle.fact_store.specs.Facts.{FactSet, holds, facts_in, with_fact, join, lacked, IsSubset}
 use Rattle.fact_store.specs.inside.SortedLists.{rises, below_each, set_of}

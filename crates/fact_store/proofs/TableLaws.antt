@@ -212,7 +212,8 @@ or_swap true false c = refl
 or_swap false b c = refl
 
 any_put : (p : Fact → Bool) (a : Bool) (es : Tables) (k : Key) (xs : List Fact) → stand es ≡ true
-    → list_any p xs ≡ (a || list_any p (table_at es k)) → list_any p (all_facts (insert_entry key_cmp es k xs)) ≡ (a || list_any p (all_facts es))
+    → list_any p xs ≡ (a || list_any p (table_at es k))
+    → list_any p (all_facts (insert_entry key_cmp es k xs)) ≡ (a || list_any p (all_facts es))
 any_put p a [] k xs h is = ap (list_any p) (append-nil xs) ∙ is
 any_put p a (e ∷ es) k xs h is =
     let s = first e es h in

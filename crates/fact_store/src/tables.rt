@@ -50,7 +50,7 @@ impl Clone for Table {
 }
 
 impl Table {
-    // Copies of facts, and among them that of another one, which comes to a place.
+    // Copies of facts, with that of another one at a place.
     fn with_copy(
         alloc: Global,
         facts: &[Fact],
@@ -60,11 +60,9 @@ impl Table {
         requires { place ≤ length facts.now }
         ensures { IfOk result (λ table. table ≡ insert facts.now place fact.now) }
     {
-        let (front, behind) = facts.split_at(place);
-        let mut copies = Vec::new(alloc);
-        push_copies(&mut copies, front)?;
-        copies.push(fact.clone()?)?;
-        push_copies(&mut copies, behind)?;
+        let mut copies = Vec::with_capacity(alloc, facts.len() + 1)?;
+        push_copies(&mut copies, facts)?;
+        copies.insert(place, fact.clone()?)?;
         Ok(Table { facts: copies })
     }
 
@@ -109,16 +107,14 @@ impl FactStore for TableFacts {
         }
     }
 
-    // A copy of this store takes the facts of the other one, in their order, and then the place of this store.
+    // A copy of this store takes the facts of the other one, in their order, and then the place of this store. Facts that are
+    // too many to be counted would not fit into memory.
     fn join(&mut self, other: &TableFacts) -> Result<usize, AllocError> {
         let mut both = self.copy()?;
         let mut new: usize = 0;
         for (_, table) in &other.tables {
             let more = both.add_copies(table.as_slice())?;
-            let Some(sum) = new.checked_add(more) else {
-                return Err(AllocError);
-            };
-            new = sum;
+            new = new.checked_add(more).ok_or(AllocError)?;
         }
         *self = both;
         Ok(new)
@@ -162,7 +158,8 @@ impl TableFacts {
 
     // The least fact of the keys above the key.
     fn least_behind(&self, key: &Key) -> Option<&Fact>
-        ensures { option_copied result ≡ slice_get (all_facts (tables_above key.now self.now.tables.entries)) 0 }
+        ensures { option_copied result
+            ≡ slice_get (all_facts (tables_above key.now self.now.tables.entries)) 0 }
     {
         let above = (Bound::Excluded(*key), Bound::Unbounded);
         match self.tables.range(above).next() {
@@ -177,7 +174,8 @@ impl TableFacts {
             (set_in self.new.tables.entries ≡ with_fact (set_in self.old.tables.entries) fact.now) }
         ensures new { IfOk result
             (λ new. new ≡ not (holds (set_in self.old.tables.entries) fact.now)) }
-        ensures only_new { IfErr result (λ _. holds (set_in self.old.tables.entries) fact.now ≡ false) }
+        ensures only_new { IfErr result
+            (λ _. holds (set_in self.old.tables.entries) fact.now ≡ false) }
         ensures unchanged { OnErr result (self.new.tables.entries ≡ self.old.tables.entries) }
     {
         let facts = self.table(fact.key());
@@ -192,7 +190,8 @@ impl TableFacts {
     // Adds copies of facts, and tells how many are new. Where memory runs out some are added.
     fn add_copies(&mut self, facts: &[Fact]) -> Result<usize, AllocError>
         ensures added { OnOk result
-            (set_in self.new.tables.entries ≡ join (set_in self.old.tables.entries) (set_of facts.now)) }
+            (set_in self.new.tables.entries
+            ≡ join (set_in self.old.tables.entries) (set_of facts.now)) }
         ensures new { IfOk result (λ new. new
             ≡ length (lacked (set_in self.old.tables.entries) (set_in self.new.tables.entries))) }
     {
