@@ -13,7 +13,7 @@ ghost use Rattle.std.specs.Prelude.{◌≡◌, ◌++◌, ◌∷◌, [], IfErr, I
 use crate::event::{Event, Updates, keys_of, updates_of};
 use crate::receipt::{Loan, Receipt};
 use catalog::Catalog;
-use fact_store::{FactStore, SortedFacts};
+use fact_store::{FactStore, TableFacts};
 use identity::Key;
 use named_catalogs::NamedCatalog;
 use node_state::{LendFault, NodeState};
@@ -24,7 +24,7 @@ use tile_fact::Fact;
 /// What one node holds and what it keeps, over any store, with the history of all that happened to it. Contracts see the history: what
 /// is held and kept is what it leaves, it is legal, and each fact that is held or kept is true of the catalog that the type names.
 #[derive(Drop)]
-pub struct NodeBook<C: NamedCatalog, S: FactStore = SortedFacts> {
+pub struct NodeBook<C: NamedCatalog, S: FactStore = TableFacts> {
     alloc: Global,
     held: NodeState<S>,
     kept: NodeState<S>,

@@ -8,7 +8,7 @@ ghost use Rattle.std.specs.Prelude.{◌≡◌, IfErr, IfOk};
 
 use crate::seat::Seat;
 use books::{Event, NodeBook, Receipt};
-use fact_store::{FactStore, SortedFacts};
+use fact_store::{FactStore, TableFacts};
 use named_catalogs::NamedCatalog;
 use node_state::NodeState;
 use receipts::{CloseFault, match_receipts};
@@ -18,7 +18,7 @@ use std::marker::Model;
 /// A node at its end: what it holds, and all that happened to it. Contracts see the history, which is legal and leaves what is held.
 /// Only the end of a node makes one.
 #[derive(Drop)]
-pub struct Closed<S: FactStore = SortedFacts> {
+pub struct Closed<S: FactStore = TableFacts> {
     state: NodeState<S>,
     history: Vec<Event>,
 }

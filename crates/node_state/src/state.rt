@@ -7,7 +7,7 @@ ghost use Rattle.std.specs.Prelude.{◌≡◌, ◌<◌, ◌^◌, OnOk, OnErr, If
 ghost use Rattle.tile_fact.specs.FactFile.{fact_file};
 
 use crate::answers::{Known, Taken};
-use fact_store::{FactStore, SortedFacts};
+use fact_store::{FactStore, TableFacts};
 use identity::Key;
 use std::alloc::{AllocError, AllocFailed, Global};
 use std::marker::Model;
@@ -16,7 +16,7 @@ use tile_fact::{Fact, encode};
 /// What a node holds: facts, each once, true or not. Contracts see the set of them. A state takes its memory from the allocator
 /// that it is made with.
 #[derive(Drop)]
-pub struct NodeState<S: FactStore = SortedFacts> {
+pub struct NodeState<S: FactStore = TableFacts> {
     pub(crate) alloc: Global,
     store: S,
 }

@@ -19,7 +19,7 @@ use crate::planned::PlannedJobs;
 use crate::ran::Ran;
 use crate::schedules::NodeSchedules;
 use catalog::Catalog;
-use fact_store::{FactStore, SortedFacts};
+use fact_store::{FactStore, TableFacts};
 use gossip_core::{Done, StepFault};
 use gossip_events::{Event, ScriptFault, script_of};
 use node_state::NodeState;
@@ -32,7 +32,7 @@ const MOST_NODES: usize = 16;
 /// Nodes that make tiles of jobs, each by its own schedules, and send, merge, keep and restart. All facts that they hold and keep, and all
 /// that were sent, are true. Only events change it.
 #[derive(Drop)]
-pub struct World<S: FactStore = SortedFacts> {
+pub struct World<S: FactStore = TableFacts> {
     pub(crate) alloc: Global,
     pub(crate) jobs: PlannedJobs,
     pub(crate) network: Network<S>,
