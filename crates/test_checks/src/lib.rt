@@ -1,5 +1,5 @@
-#![tactic(auto)]
 //! What is found beside what was wanted. Each is proved once here, where an assertion is proved again in each test that makes it.
+#![tactic(auto)]
 
 use std::alloc::Global;
 use std::fmt::{Debug, Display};
