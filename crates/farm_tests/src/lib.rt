@@ -1,0 +1,7 @@
+//! Tests of farms.
+#![tactic(auto)]
+
+#[cfg(test)]
+mod given;
+#[cfg(test)]
+mod runs;
