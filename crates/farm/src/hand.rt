@@ -1,8 +1,8 @@
 //! A worker's place at its node.
 
-ghost use Rattle.std.specs.Prelude.{◌≡◌, IfOk, length};
-ghost use Rattle.books.specs.Loans.{AreTrueFactsOf};
+ghost use Rattle.std.specs.Prelude.{◌≡◌, All, IfOk, length};
 ghost use Rattle.books.specs.Updates.{AreTrue};
+ghost use Rattle.fact_audit.specs.TrueFacts.{IsTrueFact};
 
 use books::Receipt;
 use identity::Key;
@@ -44,7 +44,7 @@ pub struct Hand<'a, C: NamedCatalog> {
 
 impl<'a, C: NamedCatalog> Hand<'a, C> {
     pub fn lend<R: Wait>(&mut self, rt: &R, keys: &[Key]) -> Result<Vec<Fact>, LendFault>
-        ensures { IfOk result (λ facts. AreTrueFactsOf C.catalog keys.now facts.items) }
+        ensures { IfOk result (λ facts. All (IsTrueFact C.catalog) facts.items) }
     {
         let End { seat, receipts, .. } = &mut self.end;
         receipts.reserve(1)?;
