@@ -154,24 +154,28 @@ fn run_all<'a, C: NamedCatalog + Send + Sync, G: Gate + Sync, R: Threads + Wait 
     workers: Vec<Worker<'a, C>>,
     gate: &G,
 ) -> Result<Vec<End>, FarmFault> {
-    thread::scope(thread::scope_env(), rt, |scope| -> Result<Vec<End>, FarmFault> {
-        let mut handles = Vec::new(alloc);
-        let mut ends = Vec::new(alloc);
-        handles.reserve(workers.len())?;
-        ends.reserve(workers.len())?;
-        for worker in workers {
-            let Ok(handle) = scope.spawn(move || worker.run(rt, alloc, gate)) else {
-                return Err(FarmFault::SpawnFailed);
-            };
-            if handles.push(handle).is_err() {
-                return Err(FarmFault::Memory);
+    thread::scope(
+        thread::scope_env(),
+        rt,
+        |scope| -> Result<Vec<End>, FarmFault> {
+            let mut handles = Vec::new(alloc);
+            let mut ends = Vec::new(alloc);
+            handles.reserve(workers.len())?;
+            ends.reserve(workers.len())?;
+            for worker in workers {
+                let Ok(handle) = scope.spawn(move || worker.run(rt, alloc, gate)) else {
+                    return Err(FarmFault::SpawnFailed);
+                };
+                if handles.push(handle).is_err() {
+                    return Err(FarmFault::Memory);
+                }
             }
-        }
-        for handle in handles {
-            if ends.push(handle.join(rt)).is_err() {
-                return Err(FarmFault::Memory);
+            for handle in handles {
+                if ends.push(handle.join(rt)).is_err() {
+                    return Err(FarmFault::Memory);
+                }
             }
-        }
-        Ok(ends)
-    })
+            Ok(ends)
+        },
+    )
 }
