@@ -4,4 +4,6 @@
 #[cfg(test)]
 mod given;
 #[cfg(test)]
+mod meeting;
+#[cfg(test)]
 mod runs;
