@@ -1,0 +1,67 @@
+//! Work in threads.
+
+use crate::fault::FarmFault;
+use crate::hand::End;
+use farm_work::Gate;
+use std::alloc::Global;
+use std::sync::Wait;
+use std::thread;
+use std::thread::{JoinHandle, Scope, Threads};
+
+/// What one thread does.
+pub trait Task {
+    /// Goes through all turns, up to the first in which memory is refused.
+    fn run<R: Wait, G: Gate>(self, rt: &R, alloc: Global, gate: &G) -> End;
+}
+
+/// Runs each task in a thread of its own, and joins them all.
+pub fn run_all<T: Task + Send + Drop, G: Gate + Sync, R: Threads + Wait + Sync>(
+    rt: &R,
+    alloc: Global,
+    tasks: Vec<T>,
+    gate: &G,
+) -> Result<Vec<End>, FarmFault> {
+    thread::scope(
+        thread::scope_env(),
+        rt,
+        |scope| -> Result<Vec<End>, FarmFault> {
+            let handles = start_all(scope, rt, alloc, tasks, gate)?;
+            let mut ends = Vec::new(alloc);
+            for handle in handles {
+                ends.reserve(1)?;
+                ends.push_reserved(handle.join(rt));
+            }
+            Ok(ends)
+        },
+    )
+}
+
+// Starts each task in a thread of its own.
+fn start_all<'s, E, T: Task + Send + Drop + 's, G: Gate + Sync, R: Wait + Sync>(
+    scope: &Scope<'s, E>,
+    rt: &'s R,
+    alloc: Global,
+    tasks: Vec<T>,
+    gate: &'s G,
+) -> Result<Vec<JoinHandle<End>>, FarmFault> {
+    let mut handles = Vec::new(alloc);
+    for task in tasks {
+        handles.reserve(1)?;
+        handles.push_reserved(start(scope, rt, alloc, task, gate)?);
+    }
+    Ok(handles)
+}
+
+// Starts a task in a thread of its own.
+fn start<'s, E, T: Task + Send + Drop + 's, G: Gate + Sync, R: Wait + Sync>(
+    scope: &Scope<'s, E>,
+    rt: &'s R,
+    alloc: Global,
+    task: T,
+    gate: &'s G,
+) -> Result<JoinHandle<End>, FarmFault> {
+    match scope.spawn(move || task.run(rt, alloc, gate)) {
+        Ok(handle) => Ok(handle),
+        Err(_) => Err(FarmFault::SpawnFailed),
+    }
+}
