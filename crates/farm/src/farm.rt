@@ -11,6 +11,7 @@ use crate::fault::FarmFault;
 use crate::hand::{End, Hand};
 use crate::node::{Node, WORKERS, lines_to, open_all};
 use crate::report::FarmReport;
+use crate::threads::run_all;
 use crate::worker::Worker;
 use catalog::Catalog;
 use farm_answers::finish;
@@ -25,7 +26,6 @@ use overlap_tiles::work_keys;
 use std::alloc::{AllocError, Global};
 use std::marker::Brand;
 use std::sync::Wait;
-use std::thread;
 use std::thread::Threads;
 
 /// Nodes that make the tiles of a job together, each with a mailbox and two workers in threads of their own.
@@ -153,37 +153,4 @@ fn workers<'a, C: NamedCatalog>(
         }
     }
     Ok(workers)
-}
-
-// Runs each worker in a thread of its own, and joins them all.
-fn run_all<'a, C: NamedCatalog + Send + Sync, G: Gate + Sync, R: Threads + Wait + Sync>(
-    rt: &R,
-    alloc: Global,
-    workers: Vec<Worker<'a, C>>,
-    gate: &G,
-) -> Result<Vec<End>, FarmFault> {
-    thread::scope(
-        thread::scope_env(),
-        rt,
-        |scope| -> Result<Vec<End>, FarmFault> {
-            let mut handles = Vec::new(alloc);
-            let mut ends = Vec::new(alloc);
-            handles.reserve(workers.len())?;
-            ends.reserve(workers.len())?;
-            for worker in workers {
-                let Ok(handle) = scope.spawn(move || worker.run(rt, alloc, gate)) else {
-                    return Err(FarmFault::SpawnFailed);
-                };
-                if handles.push(handle).is_err() {
-                    return Err(FarmFault::Memory);
-                }
-            }
-            for handle in handles {
-                if ends.push(handle.join(rt)).is_err() {
-                    return Err(FarmFault::Memory);
-                }
-            }
-            Ok(ends)
-        },
-    )
 }

@@ -8,6 +8,7 @@ mod fault;
 mod hand;
 mod node;
 mod report;
+mod threads;
 mod worker;
 
 pub use farm::Farm;

@@ -4,6 +4,7 @@ ghost use Rattle.std.specs.Prelude.{IfOk, IfSome};
 ghost use Rattle.fact_audit.specs.TrueFacts.{IsTrueFact};
 
 use crate::hand::{End, Hand};
+use crate::threads::Task;
 use farm_work::{Every, FarmSetup, Gate, Work, copies_of, copy_of};
 use identity::Key;
 use leases::{Claim, LiveDesk};
@@ -40,9 +41,8 @@ pub struct Worker<'a, C: NamedCatalog> {
     pub repeated: Every,
 }
 
-impl<'a, C: NamedCatalog> Worker<'a, C> {
-    /// Goes through all turns, up to the first in which memory is refused.
-    pub fn run<R: Wait, G: Gate>(self, rt: &R, alloc: Global, gate: &G) -> End {
+impl<'a, C: NamedCatalog> Task for Worker<'a, C> {
+    fn run<R: Wait, G: Gate>(self, rt: &R, alloc: Global, gate: &G) -> End {
         let mut worker = self;
         for turn in 1..=worker.setup.turns {
             gate.enter(worker.number, turn);
@@ -55,7 +55,9 @@ impl<'a, C: NamedCatalog> Worker<'a, C> {
         let Hand { node: _, end } = hand;
         end
     }
+}
 
+impl<'a, C: NamedCatalog> Worker<'a, C> {
     fn turn<R: Wait, G: Gate>(
         &mut self,
         rt: &R,
