@@ -1,7 +1,8 @@
 -- What the nodes of a farm hold in the end is true, and what is lent is true.
-use Rattle.std.proofs.Common.{rules, ◌≡◌}
-use Rattle.std.proofs.lemmas.List.Elements.{All-head, All-tail, All-weaker, All-contains_itself}
-use Rattle.std.specs.Prelude.{List, [], ◌∷◌, All, Contains, fold}
+use Rattle.std.proofs.Common.{rules, refl, ◌≡◌, length}
+use Rattle.std.proofs.lemmas.List.{length-append}
+use Rattle.std.proofs.lemmas.List.Elements.{All-nil, All-cons, All-append, All-head, All-tail, All-weaker, All-contains_itself}
+use Rattle.std.specs.Prelude.{List, [], ◌∷◌, ◌++◌, All, Contains, fold}
 use Rattle.books.proofs.UpdateLaws.{true_join, true_nothing}
 use Rattle.books.specs.Histories.{replay}
 use Rattle.books.specs.Loans.{AreTrueFactsOf}
@@ -30,3 +31,12 @@ module _ (catalog : List Entry) where
   pub true_loan_all : (keys : List Key) (facts : List Fact) → AreTrueFactsOf catalog keys facts → All (IsTrueFact catalog) facts
   true_loan_all keys facts are =
       All-weaker (Contains facts) (IsTrueFact catalog) are.is_true facts (All-contains_itself facts)
+
+-- a list of ends with one more, beside its nodes with one more
+pub one_more : {X N : Type 0} (P : X → Type 0) (xs old new : List X) (ns : List N) (x : X) (n : N)
+    → All P xs × (length xs ≡ length ns) → old ≡ xs → new ≡ old ++ x ∷ [] → P x → All P new × (length new ≡ length (ns ++ n ∷ []))
+one_more P xs old new ns x n both held grown holds =
+    rw (grown, held) (
+      All-append P xs (x ∷ []) both.0 (All-cons P x [] holds (All-nil P)),
+      rw (length-append xs (x ∷ []), length-append ns (n ∷ []), both.1) refl,
+    )

@@ -113,7 +113,7 @@ fn work_all<'a, C: NamedCatalog + Send + Sync, G: Gate + Sync, R: Threads + Wait
         nodes,
     };
     let workers = workers(alloc, setup, &shared, seats)?;
-    let ends = run_all(rt, alloc, workers, gate)?;
+    let ends = run_workers(rt, alloc, workers, gate)?;
     let memory = ends.iter().any(|end| end.memory);
     let Shared { nodes, .. } = shared;
     let closed = close_all(alloc, nodes, ends)?;
@@ -121,6 +121,16 @@ fn work_all<'a, C: NamedCatalog + Send + Sync, G: Gate + Sync, R: Threads + Wait
         return Err(FarmFault::Memory);
     }
     Ok(closed)
+}
+
+// Runs all workers in threads of their own.
+fn run_workers<'a, C: NamedCatalog + Send + Sync, G: Gate + Sync, R: Threads + Wait + Sync>(
+    rt: &R,
+    alloc: Global,
+    workers: Vec<Worker<'a, C>>,
+    gate: &G,
+) -> Result<Vec<End>, FarmFault> {
+    run_all(rt, alloc, workers, gate)
 }
 
 // The workers of all nodes, before their first turn.

@@ -6,7 +6,7 @@ use farm_work::Gate;
 use std::alloc::Global;
 use std::sync::Wait;
 use std::thread;
-use std::thread::Threads;
+use std::thread::{JoinHandle, Scope, Threads};
 
 /// What one thread does.
 pub trait Task {
@@ -25,24 +25,43 @@ pub fn run_all<T: Task + Send + Drop, G: Gate + Sync, R: Threads + Wait + Sync>(
         thread::scope_env(),
         rt,
         |scope| -> Result<Vec<End>, FarmFault> {
-            let mut handles = Vec::new(alloc);
+            let handles = start_all(scope, rt, alloc, tasks, gate)?;
             let mut ends = Vec::new(alloc);
-            handles.reserve(tasks.len())?;
-            ends.reserve(tasks.len())?;
-            for task in tasks {
-                let Ok(handle) = scope.spawn(move || task.run(rt, alloc, gate)) else {
-                    return Err(FarmFault::SpawnFailed);
-                };
-                if handles.push(handle).is_err() {
-                    return Err(FarmFault::Memory);
-                }
-            }
             for handle in handles {
-                if ends.push(handle.join(rt)).is_err() {
-                    return Err(FarmFault::Memory);
-                }
+                ends.reserve(1)?;
+                ends.push_reserved(handle.join(rt));
             }
             Ok(ends)
         },
     )
+}
+
+// Starts each task in a thread of its own.
+fn start_all<'s, E, T: Task + Send + Drop + 's, G: Gate + Sync, R: Wait + Sync>(
+    scope: &Scope<'s, E>,
+    rt: &'s R,
+    alloc: Global,
+    tasks: Vec<T>,
+    gate: &'s G,
+) -> Result<Vec<JoinHandle<End>>, FarmFault> {
+    let mut handles = Vec::new(alloc);
+    for task in tasks {
+        handles.reserve(1)?;
+        handles.push_reserved(start(scope, rt, alloc, task, gate)?);
+    }
+    Ok(handles)
+}
+
+// Starts a task in a thread of its own.
+fn start<'s, E, T: Task + Send + Drop + 's, G: Gate + Sync, R: Wait + Sync>(
+    scope: &Scope<'s, E>,
+    rt: &'s R,
+    alloc: Global,
+    task: T,
+    gate: &'s G,
+) -> Result<JoinHandle<End>, FarmFault> {
+    match scope.spawn(move || task.run(rt, alloc, gate)) {
+        Ok(handle) => Ok(handle),
+        Err(_) => Err(FarmFault::SpawnFailed),
+    }
 }
