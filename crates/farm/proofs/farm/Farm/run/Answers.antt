@@ -6,4 +6,4 @@ use Rattle.farm.proofs.farm.Farm.run.Goals as goal
 pub finish-requires-clause-is_true : goal.finish-requires-clause-is_true
 finish-requires-clause-is_true g c =
     subst (HoldsTrueFacts c.args.catalog.now) (sym c.in_ok-state.ensures)
-    (true_together c.args.catalog.now c.in_ok-closed.closed.items c.in_ok-closed.ensures.sound)
+    (true_together c.args.catalog.now c.deref-2.result.now (rw c.deref-2.ensures c.in_ok-closed.ensures.sound))
