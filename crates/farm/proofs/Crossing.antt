@@ -6,7 +6,6 @@ use denote.Hole.{as_row}
 use denote.Hole.FixLaws.{layer_row}
 use denote.Hole.FixSend.{Syncs, fix_sync}
 use denote.Struct.Field.{Field, u8-field, i32-field, u32-field, usize-field, row_field, shr_ref_field, shr_slice_field}
-use denote.Enum.Declared as E
 use denote.Param.Send.{IsSend, IsSync, sendable, shr_send, shr_sync, shr_slice_sync}
 use denote.Param.SendFields.{as_row_send, as_row_sync, declared_send, declared_sync, variants_sync}
 use Rattle.std.proofs.Crossing as owners
@@ -148,11 +147,28 @@ module _ (a : NamedLft) (R : RattleType) (one : One R.mir) (y : IsSync R) where
 
 module _ (a : NamedLft) (T : RattleType) (g : Ghosts T.Denot) where
   pub work_sync : IsSync (Work.the_row a T g)
-  work_sync = declared_sync (Work.the_type a T g)
-      (reference_sync a Catalog.the_row tt catalog_sync, (reference_sync a Job.the_row tt job_sync, (reference_sync a Schedule.the_row tt schedule_sync,
-      (as_row_sync (shr_slice_field a Key.the_row tt) (shr_slice_sync a.mir a.lft Key.the_row key_sync), (phantom_sync T, tt)))))
+  work_sync = declared_sync (Work.the_type a T g) (
+    reference_sync a Catalog.the_row tt catalog_sync,
+    (
+      reference_sync a Job.the_row tt job_sync,
+      (
+        reference_sync a Schedule.the_row tt schedule_sync,
+        (as_row_sync (shr_slice_field a Key.the_row tt) (shr_slice_sync a.mir a.lft Key.the_row key_sync), (phantom_sync T, tt)),
+      ),
+    ),
+  )
 
   pub worker_send : IsSend (Worker.the_row a T g)
-  worker_send = declared_send (Worker.the_type a T g)
-      (as_row_send u8-field (search sendable), (as_row_send u8-field (search sendable), (setup_send, (reference_send a (Work.the_row a T g) tt work_sync,
-      (reference_send a LiveDesk.the_row tt Desk.the_sync, (Hand.the_send a T g, (owners.Vec-send (Line.the_row a T g) (Line'.the_send a T g), (every_send, (every_send, tt)))))))))
+  worker_send = declared_send (Worker.the_type a T g) (
+    as_row_send u8-field (search sendable),
+    (
+      as_row_send u8-field (search sendable),
+      (
+        setup_send,
+        (
+          reference_send a (Work.the_row a T g) tt work_sync,
+          (reference_send a LiveDesk.the_row tt Desk.the_sync, (Hand.the_send a T g, (owners.Vec-send (Line.the_row a T g) (Line'.the_send a T g), (every_send, (every_send, tt))))),
+        ),
+      ),
+    ),
+  )

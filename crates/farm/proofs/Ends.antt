@@ -1,5 +1,5 @@
 -- What the nodes of a farm hold in the end is true, and what is lent is true.
-use Rattle.std.proofs.Common.{rules, refl, ◌≡◌, length}
+use Rattle.std.proofs.Common.{refl, ◌≡◌, length}
 use Rattle.std.proofs.lemmas.List.{length-append}
 use Rattle.std.proofs.lemmas.List.Elements.{All-nil, All-cons, All-append, All-head, All-tail, All-weaker, All-contains_itself}
 use Rattle.std.specs.Prelude.{List, [], ◌∷◌, ◌++◌, All, Contains, fold}
