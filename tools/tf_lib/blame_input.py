@@ -74,7 +74,8 @@ def is_value(text: str) -> bool:
 
 def no_separator(found: re.Match[str], at: Situation) -> Blame:
     name = at.text().name
-    cure = f"The input has no line that is exactly %%: name the picture behind the program, as tf eval {name} photo.png."
+    command = at.words[0] if at.words else "eval"
+    cure = f"The input has no line that is exactly %%: name the picture behind the program, as tf {command} {name} photo.png."
     if at.words[:1] == ["audit"]:
         cure = f"The input has no two lines that are exactly %%: name picture and facts, as tf audit {name} photo.png some.facts."
     if at.words[:1] == ["world"]:
@@ -95,6 +96,8 @@ def memory(found: re.Match[str], at: Situation) -> Blame:
         return Blame([], "Memory ran out: end other programs, or merge fewer files: what stands in the union is held at once.")
     if at.words[:1] == ["world"]:
         return Blame([], "Memory ran out: end other programs, or take fewer nodes and events: all that was ever sent is held.")
+    if at.words[:1] == ["run"]:
+        return Blame([], "Memory ran out: end other programs, or take fewer nodes: each holds its facts, and the history of its calls.")
     return Blame([], "Memory ran out: end other programs, or take a smaller picture; without --stored less is held at once.")
 
 
