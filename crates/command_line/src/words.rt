@@ -4,8 +4,8 @@ ghost use Rattle.std.specs.Prelude.{◌≡◌, ◌≢◌, ◌↔◌, IsTrue, IfO
 ghost use Rattle.std.specs.List.{list_any};
 ghost use Rattle.clap.specs.Words.{first_of, found_of, kind_of, rows_of};
 ghost use Rattle.clap.specs.declared.error.kind.ErrorKind.TheVariants.{OutOfMemory};
-ghost use Rattle.command_line.specs.Asking.{AreFarmOptions, AreFaults, AreOptions, AreParameters, AreParametersIn, AskForMerge, Given, HasOwn};
-ghost use Rattle.command_line.specs.Asking.{IsJobRequestOf, IsRequestOf, NamesTask, is_separator};
+ghost use Rattle.command_line.specs.Asking.{AreFarmOptions, AreFaults, AreOptions, AreParameters, AreParametersIn, AskForMerge, Given};
+ghost use Rattle.command_line.specs.Asking.{HasOwn, IsJobRequestOf, IsRequestOf, NamesTask, is_separator};
 ghost use Rattle.command_line.specs.Tasks.{word_of};
 ghost use Rattle.command_line.specs.Values.{IsChosen, is_true};
 ghost use Rattle.command_line.specs.declared.farm.FarmFaults.{FarmFaults as FarmFaultsType};
