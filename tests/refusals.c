@@ -34,7 +34,7 @@ __attribute__((destructor)) static void end(void) {
 }
 
 static int is_refused(void) {
-    return is_ready && ++asked == refused;
+    return is_ready && __atomic_add_fetch(&asked, 1, __ATOMIC_RELAXED) == refused;
 }
 
 static void *no_memory(void) {

@@ -11,6 +11,8 @@ from .scripts import another_script, worlded
 from .values import Meaning
 
 SEPARATOR = b"%%\n"
+FARMS = {"--nodes": (1, 2, 3, 8), "--turns": (0, 1, 3, 20), "--capacity": (1, 2, 8, 1024), "--lose": (0, 1, 2, 7), "--repeat": (0, 1, 3),
+         "--restart": (0, 1, 4, 5)}
 
 
 @dataclass(frozen=True)
@@ -27,6 +29,12 @@ class Case:
 def some_options(random: Random) -> list[str]:
     options = ["--rows", str(random.choice([1, 2, 3, 5, 64, 1024])), "--cols", str(random.choice([1, 2, 4, 7, 64, 1024]))]
     return options + random.choice([["--stored"], ["--percent", str(random.choice([0, 40, 300, 10000]))], []])
+
+
+def some_farm(random: Random) -> list[str]:
+    """The options of a farm; it goes through few turns, so that it ends soon."""
+    kept = [name for name in FARMS if name == "--turns" or random.random() < 0.6]
+    return [word for name in kept for word in (name, str(random.choice(FARMS[name])))]
 
 
 def judged(program: Program, random: Random) -> str:
@@ -48,6 +56,7 @@ def judged(program: Program, random: Random) -> str:
         meaning = Meaning(written.tokens, known, taken)
         audited(program, *(case.text, case.picture, case.words), meaning, random)
         worlded(program, *(case.text, case.picture, case.words), meaning, random)
+    farmed(program, case, answer, random)
     return "refused" if answer.is_refusal else "evaluated"
 
 
@@ -63,6 +72,13 @@ def of_one_case(program: Program, case: Case, taken: Picture, random: Random) ->
             other = Case(case.text, taken.raw(), case.words)
             demand(program.call(other.stdin, "eval", *case.words) == evaluated, "another spelling of the picture gives another result")
     return evaluated
+
+
+def farmed(program: Program, case: Case, evaluated: Answer, random: Random) -> None:
+    """A farm of any size and with any faults writes the same result, and refuses in the same words."""
+    options = some_farm(random) + ([] if evaluated.is_refusal else some_options(random))
+    answer = program.call(case.stdin, "run", *options, *case.words)
+    demand(answer == evaluated, f"run {' '.join(options)} differs from eval: {answer.shown()}, {evaluated.shown()}")
 
 
 def agreeing(program: Program, case: Case) -> tuple[Answer, Answer]:

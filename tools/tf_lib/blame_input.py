@@ -6,7 +6,9 @@ from .netpbm import header_of
 from .text import Place
 from .usage import COMMANDS, OPTIONS
 
-RANGES = {"--rows": (1, 1024), "--cols": (1, 1024), "--percent": (0, 10000), "--nodes": (1, 16)}
+RANGES = {"--rows": (1, 1024), "--cols": (1, 1024), "--percent": (0, 10000), "--nodes": (1, 16), "--turns": (0, 65536),
+          "--capacity": (1, 1024)}
+FEWER = {("run", "--nodes"): (1, 8)}
 PICTURE_CURES = {
     "OtherFormat": "This is no picture that tf knows: PGM and PPM begin with P2, P3, P5 or P6, and PNG, JPEG and TIFF are converted.",
     "HeaderCut": "The file ends inside its header: kind, width, height, greatest sample, and one white byte.",
@@ -48,10 +50,10 @@ def refused_word(words: list[str]) -> tuple[str, str]:
 
 def option_fault(command: str, name: str, value: str | None, rest: list[str], seen: set[str]) -> str:
     """What is wrong with an option of a command, if something is. Its value is taken from the words behind it."""
-    known = {it.name: it.value for it in OPTIONS if it.only in ("", command)}
-    other = next((it.only for it in OPTIONS if it.name == name and name not in known), "")
+    known = {it.name: it.value for it in OPTIONS if not it.only or command in it.only}
+    other = next((it.only for it in OPTIONS if it.name == name and name not in known), ())
     if other:
-        return f"{name} is an option of {other} alone."
+        return f"{name} is an option of {' and '.join(other)} alone."
     if name not in known:
         return f"There is no option {name}: there are {', '.join(known)}."
     if name in seen:
@@ -60,7 +62,7 @@ def option_fault(command: str, name: str, value: str | None, rest: list[str], se
     if not known[name]:
         return f"{name} takes no value." if value is not None else ""
     value = rest.pop(0) if value is None and rest else value
-    least, most = RANGES.get(name, (0, 4294967295))
+    least, most = FEWER.get((command, name), RANGES.get(name, (0, 4294967295)))
     right = value is not None and value.isdigit() and least <= int(value) <= most
     return "" if right else f"{name} takes a number from {least} to {most}, in digits alone."
 
@@ -72,7 +74,8 @@ def is_value(text: str) -> bool:
 
 def no_separator(found: re.Match[str], at: Situation) -> Blame:
     name = at.text().name
-    cure = f"The input has no line that is exactly %%: name the picture behind the program, as tf eval {name} photo.png."
+    command = at.words[0] if at.words else "eval"
+    cure = f"The input has no line that is exactly %%: name the picture behind the program, as tf {command} {name} photo.png."
     if at.words[:1] == ["audit"]:
         cure = f"The input has no two lines that are exactly %%: name picture and facts, as tf audit {name} photo.png some.facts."
     if at.words[:1] == ["world"]:
@@ -93,7 +96,17 @@ def memory(found: re.Match[str], at: Situation) -> Blame:
         return Blame([], "Memory ran out: end other programs, or merge fewer files: what stands in the union is held at once.")
     if at.words[:1] == ["world"]:
         return Blame([], "Memory ran out: end other programs, or take fewer nodes and events: all that was ever sent is held.")
+    if at.words[:1] == ["run"]:
+        return Blame([], "Memory ran out: end other programs, or take fewer nodes: each holds its facts, and the history of its calls.")
     return Blame([], "Memory ran out: end other programs, or take a smaller picture; without --stored less is held at once.")
+
+
+def farm_spawn_failed(found: re.Match[str], at: Situation) -> Blame:
+    return Blame([], "The system started no further thread: end other programs, or take fewer nodes, each of which has two threads.")
+
+
+def farm_close(found: re.Match[str], at: Situation) -> Blame:
+    return Blame([], "A node did not hold what its receipts promise: this is a fault of tilefarm itself; eval computes the same result.")
 
 
 def picture(found: re.Match[str], at: Situation) -> Blame:

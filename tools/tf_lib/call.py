@@ -17,6 +17,8 @@ from .words import asked
 
 # the status of an audit that found a False, with its verdicts as usual
 FOUND_FALSE = 6
+# the commands that write the result of a job
+RESULTS = ("eval", "run")
 
 
 class Failed(Exception):
@@ -70,7 +72,7 @@ class Call:
         ended = self.run()
         if ended.status not in (0, FOUND_FALSE):
             return self.explain(ended)
-        if self.asked.name == "eval":
+        if self.asked.name in RESULTS:
             self.warn_of_samples()
         self.deliver(ended.written)
         return ended.status

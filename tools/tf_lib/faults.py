@@ -19,6 +19,8 @@ TABLE: dict[str, Callable[[re.Match[str], Situation], Blame]] = {
     r"input: too long": of_input.input_too_long,
     r"input failed": of_input.input_failed,
     r"memory": of_input.memory,
+    r"farm: 1 SpawnFailed": of_input.farm_spawn_failed,
+    r"farm: 3 Close": of_input.farm_close,
     r"picture: \d+ (?P<fault>\w+)" + OFFSET: of_input.picture,
     r"facts: line (?P<line>\d+) bad hex": of_facts.bad_hex,
     r"facts: line (?P<line>\d+) \d+ (?P<fault>\w+)" + OFFSET: of_facts.bad_file,

@@ -24,12 +24,12 @@ class Command(NamedTuple):
 
 
 class Option(NamedTuple):
-    """An option, the word for its value if it takes one, what it says, and the command that takes it, if it is of one alone."""
+    """An option, the word for its value if it takes one, what it says, and the commands that take it, if not all do."""
 
     name: str
     value: str
     says: str
-    only: str = ""
+    only: tuple[str, ...] = ()
 
 
 class Status(NamedTuple):
@@ -48,6 +48,7 @@ COMMANDS = {
                 "line `stage N KIND NAME R0..R1 C0..C1 tiles T`"),
         Command("plan", ONE, ONE, "for each function and accumulator `inlined NAME`, or `stored NAME cost C` with the number of points "
                 "that its tiles compute"),
+        Command("run", ONE, ONE, "what `eval` writes, by a farm of nodes"),
         Command("merge", (FACTS,), (FACTS,), "the union of fact files, as a line of hexadecimal digits"),
         Command("audit", (*ONE, FACTS), ("program", FACTS, "picture"), "for each fact of the union of fact files, rising, a line "
                 "`VERDICT STAGE ROW COL`, with `True`, `False`, `Misshapen` or `Foreign`"),
@@ -60,14 +61,22 @@ OPTIONS = (
     Option("--cols", "W", "columns of a tile, 1 to 1024; 64 unless given"),
     Option("--percent", "P", "how many percent more points may be computed where a function is inlined, 0 to 10,000; 40 unless given"),
     Option("--stored", "", "inlines nothing"),
-    Option("--nodes", "N", "of `world` alone: how many nodes there are, 1 to 16; 2 unless given", only="world"),
+    Option("--nodes", "N", "of `world` and `run`: how many nodes there are, 1 to 16, and of `run` 1 to 8; 2 unless given",
+           only=("world", "run")),
+    Option("--turns", "T", "of `run` alone: how many turns each worker goes through, 0 to 65,536; 1000 unless given", only=("run",)),
+    Option("--capacity", "C", "of `run` alone: for how many parcels a node's mailbox has room, 1 to 1024; 8 unless given", only=("run",)),
+    Option("--lose", "K", "of `run` alone: each K-th parcel that a worker would send is lost; none at 0 and unless given", only=("run",)),
+    Option("--repeat", "K", "of `run` alone: each K-th parcel that a worker has received is given to its node twice; none at 0 and unless "
+           "given", only=("run",)),
+    Option("--restart", "K", "of `run` alone: in turns that are multiples of K a worker restarts its node; never at 0 and unless given",
+           only=("run",)),
 )
 STATUSES = (
     Status(0, "done", "what the command writes"),
     Status(1, "the command line is refused", "`usage: ..`, or `parameter: N NAME P`"),
     Status(2, "the input cannot be read", "`input: no separator`, `input: too long`, `picture: N NAME at OFFSET`"),
     Status(3, "the program is refused", "`program: N NAME at OFFSET`, `check: ..`, `bounds: ..`, `bind: ..`"),
-    Status(4, "input or output failed", "`input failed`; nothing where the output failed"),
+    Status(4, "input, output or farm failed", "`input failed`; `farm: N NAME`; nothing where the output failed"),
     Status(5, "memory ran out", "`memory`"),
 )
 # what `merge`, `audit` and `world` end with besides
@@ -107,6 +116,7 @@ LIMITS = (
     ("ends of an interval; bins", "within 16,384 of 0; 4,096"),
     ("tiles of a stage", "65,536"),
     ("nodes of a world; events of a script", "1 to 16; 65,536"),
+    ("nodes of a farm; turns; parcels in a mailbox", "1 to 8; 65,536; 1 to 1024"),
 )
 
 
@@ -118,6 +128,7 @@ def valued() -> dict[str, str]:
 def help_text() -> str:
     """What `tf --help` prints."""
     lines = ["usage: tf COMMAND PROGRAM [PICTURE] [-o FILE] [OPTIONS] [NAME=VALUE]...",
+             "       tf run PROGRAM [PICTURE] [-o FILE] [--nodes N] [--turns T] [--lose K] [OPTIONS] [NAME=VALUE]...",
              "       tf audit PROGRAM PICTURE FACTS... [-o FILE] [OPTIONS] [NAME=VALUE]...",
              "       tf world PROGRAM PICTURE SCRIPT [-o FILE] [--nodes N] [OPTIONS] [NAME=VALUE]...",
              "       tf merge FACTS... [-o FILE]", "",

@@ -1,4 +1,5 @@
 pub mod Asking
+pub mod Farms
 pub mod Nodes
 pub mod Tasks
 pub mod Usage

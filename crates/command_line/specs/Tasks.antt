@@ -3,12 +3,13 @@ use Rattle.std.specs.Prelude.{◌≡◌, ℕ, Some, List, codes, slice_get, stri
 use Rattle.std.specs.declared.alloc.Global.{Global}
 use Rattle.std.specs.declared.string.String.{String}
 use Rattle.command_line.specs.declared.tasks.Task.{Task}
-use Rattle.command_line.specs.declared.tasks.Task.TheVariants.{Eval, Check, Plan, Audit, World}
+use Rattle.command_line.specs.declared.tasks.Task.TheVariants.{Eval, Check, Plan, Run, Audit, World}
 
 abbrev pub word_of : Task → List ℕ
 word_of Eval = codes "eval"
 word_of Check = codes "check"
 word_of Plan = codes "plan"
+word_of (Run farm) = codes "run"
 word_of Audit = codes "audit"
 word_of (World nodes) = codes "world"
 

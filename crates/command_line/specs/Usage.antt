@@ -29,6 +29,13 @@ command_app name =
     (number_option (codes "rows"))) (number_option (codes "cols"))) (number_option (codes "percent")))
     (flag_option (codes "stored"))) parameter_words
 
+-- `run` takes `[--nodes N] [--turns N] [--capacity N] [--lose N] [--repeat N] [--restart N]` too
+abbrev pub run_app : App
+run_app =
+    with_rule (with_rule (with_rule (with_rule (with_rule (with_rule (command_app (codes "run"))
+    (number_option (codes "nodes"))) (number_option (codes "turns"))) (number_option (codes "capacity")))
+    (number_option (codes "lose"))) (number_option (codes "repeat"))) (number_option (codes "restart"))
+
 -- `world` takes `[--nodes N]` too
 abbrev pub world_app : App
 world_app = with_rule (command_app (codes "world")) (number_option (codes "nodes"))
@@ -36,10 +43,10 @@ world_app = with_rule (command_app (codes "world")) (number_option (codes "nodes
 abbrev pub command_shape : Text → Shape
 command_shape name = (command_app name).top
 
--- one of the five commands, without the program's name and without help
+-- one of the six commands, without the program's name and without help
 abbrev pub usage : App
 usage =
-    with_subcommand (with_subcommand (with_subcommand (with_subcommand (with_subcommand
+    with_subcommand (with_subcommand (with_subcommand (with_subcommand (with_subcommand (with_subcommand
     (on_top (λ s. record s {
       no_binary_name = true;
       disable_help_flag = true;
@@ -47,4 +54,4 @@ usage =
       subcommand_required = true;
     }) (new_app (codes "tilefarm")))
     (command_shape (codes "eval"))) (command_shape (codes "check"))) (command_shape (codes "plan"))) (command_shape (codes "audit")))
-    world_app.top
+    world_app.top) run_app.top

@@ -4,10 +4,11 @@ ghost use Rattle.std.specs.Prelude.{IfNone, IfSome};
 ghost use Rattle.command_line.specs.Tasks.{AsksFor};
 ghost use Rattle.command_line.specs.declared.tasks.Task.{Task as TaskType};
 
+use crate::farm::FarmOptions;
 use crate::nodes::NodeCount;
 
 /// What the program is asked to do with a program and a picture.
-#[derive(Clone, Copy, Debug, PartialEq, Eq)]
+#[derive(Clone, Copy, Debug)]
 pub enum Task {
     /// To run a program on a picture.
     Eval,
@@ -15,13 +16,15 @@ pub enum Task {
     Check,
     /// To tell which functions are stored, and what that costs.
     Plan,
+    /// To run a program on a picture by a farm.
+    Run(FarmOptions),
     /// To judge the facts of fact files.
     Audit,
     /// To tell what so many nodes hold after a script.
     World(NodeCount),
 }
 
-/// What the first word asks for; a world has the usual number of nodes.
+/// What the first word asks for; a farm and a world are as usual.
 pub fn task_of(words: &[String]) -> Option<Task>
     ensures some { IfSome result (AsksFor words.now) }
     ensures none { IfNone result ((task : TaskType) → ¬ AsksFor words.now task) }
@@ -31,6 +34,7 @@ pub fn task_of(words: &[String]) -> Option<Task>
         "eval" => Some(Task::Eval),
         "check" => Some(Task::Check),
         "plan" => Some(Task::Plan),
+        "run" => Some(Task::Run(FarmOptions::usual())),
         "audit" => Some(Task::Audit),
         "world" => Some(Task::World(NodeCount::usual())),
         _ => None,

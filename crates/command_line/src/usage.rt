@@ -3,7 +3,7 @@
 ghost use Rattle.std.specs.Prelude.{◌≡◌, IfOk, false};
 ghost use Rattle.clap.specs.Words.{app_of, rule_of};
 ghost use Rattle.clap.specs.declared.builder.Command.TheViews.{out-Command as fields_of};
-ghost use Rattle.command_line.specs.Usage.{command_app, flag_option, number_option, parameter_words, usage, world_app};
+ghost use Rattle.command_line.specs.Usage.{command_app, flag_option, number_option, parameter_words, run_app, usage, world_app};
 
 use clap::{Arg, ArgAction, Command};
 use std::alloc::{AllocError, Global};
@@ -21,7 +21,8 @@ pub fn usage<'a>(alloc: Global) -> Result<Command<'a>, AllocError>
         .subcommand(command(alloc, "check")?)?
         .subcommand(command(alloc, "plan")?)?
         .subcommand(command(alloc, "audit")?)?
-        .subcommand(world(alloc)?)
+        .subcommand(world(alloc)?)?
+        .subcommand(run(alloc)?)
 }
 
 /// A command that takes options and values of parameters.
@@ -44,6 +45,20 @@ fn world<'a>(alloc: Global) -> Result<Command<'a>, AllocError>
     ensures local { IfOk result (λ c. (fields_of c).has_globals ≡ false) }
 {
     command(alloc, "world")?.arg(number(alloc, "nodes"))
+}
+
+/// The command that takes how a farm runs too.
+fn run<'a>(alloc: Global) -> Result<Command<'a>, AllocError>
+    ensures app { IfOk result (λ c. app_of c ≡ run_app) }
+    ensures local { IfOk result (λ c. (fields_of c).has_globals ≡ false) }
+{
+    command(alloc, "run")?
+        .arg(number(alloc, "nodes"))?
+        .arg(number(alloc, "turns"))?
+        .arg(number(alloc, "capacity"))?
+        .arg(number(alloc, "lose"))?
+        .arg(number(alloc, "repeat"))?
+        .arg(number(alloc, "restart"))
 }
 
 /// An option that takes a number.

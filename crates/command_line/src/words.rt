@@ -4,10 +4,12 @@ ghost use Rattle.std.specs.Prelude.{◌≡◌, ◌≢◌, ◌↔◌, IsTrue, IfO
 ghost use Rattle.std.specs.List.{list_any};
 ghost use Rattle.clap.specs.Words.{first_of, found_of, kind_of, rows_of};
 ghost use Rattle.clap.specs.declared.error.kind.ErrorKind.TheVariants.{OutOfMemory};
-ghost use Rattle.command_line.specs.Asking.{AreOptions, AreParameters, AreParametersIn, AskForMerge, Given, HasNodes};
-ghost use Rattle.command_line.specs.Asking.{IsJobRequestOf, IsRequestOf, NamesTask, is_separator};
+ghost use Rattle.command_line.specs.Asking.{AreFarmOptions, AreFaults, AreOptions, AreParameters, AreParametersIn, AskForMerge, Given};
+ghost use Rattle.command_line.specs.Asking.{HasOwn, IsJobRequestOf, IsRequestOf, NamesTask, is_separator};
 ghost use Rattle.command_line.specs.Tasks.{word_of};
 ghost use Rattle.command_line.specs.Values.{IsChosen, is_true};
+ghost use Rattle.command_line.specs.declared.farm.FarmFaults.{FarmFaults as FarmFaultsType};
+ghost use Rattle.command_line.specs.declared.farm.FarmOptions.{FarmOptions as FarmOptionsType};
 ghost use Rattle.command_line.specs.declared.options.Options.{Options as OptionsType};
 ghost use Rattle.command_line.specs.declared.tasks.Task.{Task as TaskType};
 ghost use Rattle.command_line.specs.declared.tasks.Task.TheVariants.{World};
@@ -15,6 +17,7 @@ ghost use Rattle.command_line.specs.declared.words.JobRequest.{JobRequest as Job
 ghost use Rattle.command_line.specs.declared.words.Request.{Request as RequestType};
 ghost use Rattle.command_line.specs.declared.words.Refusal.TheVariants as refusals;
 
+use crate::farm::{FarmFaults, FarmOptions};
 use crate::nodes::NodeCount;
 use crate::options::{Options, Percent};
 use crate::tasks::{Task, task_of};
@@ -118,7 +121,7 @@ fn job_request_of(alloc: Global, words: &[String]) -> Result<JobRequest, Refusal
     let Some((_, given)) = matches.subcommand() else {
         return Err(Refusal::Usage);
     };
-    let Some(task) = counted(named, given) else {
+    let Some(task) = with_own(named, given) else {
         return Err(Refusal::Usage);
     };
     let Some(options) = options_of(given) else {
@@ -143,24 +146,52 @@ fn has_separator(words: &[String]) -> bool
     false
 }
 
-/// The task that is named, where it is a world with the number of nodes that is given.
-fn counted(named: Task, given: &ArgMatches) -> Option<Task>
+/// The task that is named; a farm and a world are as the options say that are given.
+fn with_own(named: Task, given: &ArgMatches) -> Option<Task>
     ensures same { IfSome result (λ task. word_of task ≡ word_of named) }
-    ensures nodes { IfSome result (HasNodes (rows_of (found_of given.now))) }
+    ensures own { IfSome result (HasOwn (rows_of (found_of given.now))) }
     ensures none { IfNone result ((task : TaskType) → word_of task ≡ word_of named
-        → ¬ HasNodes (rows_of (found_of given.now)) task) }
+        → ¬ HasOwn (rows_of (found_of given.now)) task) }
 {
     match named {
+        Task::Run(_) => Some(Task::Run(farm_of(given)?)),
         Task::World(_) => Some(Task::World(nodes_of(given)?)),
         task => Some(task),
     }
 }
 
+/// How the farm is to run; what is not given is as usual.
+fn farm_of(given: &ArgMatches) -> Option<FarmOptions>
+    ensures some { IfSome result (AreFarmOptions (rows_of (found_of given.now))) }
+    ensures none { IfNone result ((farm : FarmOptionsType)
+        → ¬ AreFarmOptions (rows_of (found_of given.now)) farm) }
+{
+    let usual = FarmOptions::usual();
+    let nodes = number_in(given, "nodes", u32::from(usual.nodes))?;
+    let turns = number_in(given, "turns", usual.turns)?;
+    let capacity = number_in(given, "capacity", usual.capacity)?;
+    FarmOptions::new(nodes, turns, capacity, faults_of(given)?)
+}
+
+/// How often the farm is to make faults; what is not given is as usual.
+fn faults_of(given: &ArgMatches) -> Option<FarmFaults>
+    ensures some { IfSome result (AreFaults (rows_of (found_of given.now))) }
+    ensures none { IfNone result ((faults : FarmFaultsType)
+        → ¬ AreFaults (rows_of (found_of given.now)) faults) }
+{
+    let usual = FarmOptions::usual().faults;
+    Some(FarmFaults {
+        lose: number_in(given, "lose", usual.lose)?,
+        repeat: number_in(given, "repeat", usual.repeat)?,
+        restart: number_in(given, "restart", usual.restart)?,
+    })
+}
+
 /// How many nodes the world is to have; what is not given is as usual.
 fn nodes_of(given: &ArgMatches) -> Option<NodeCount>
-    ensures some { IfSome result (λ nodes. HasNodes (rows_of (found_of given.now)) (World nodes)) }
+    ensures some { IfSome result (λ nodes. HasOwn (rows_of (found_of given.now)) (World nodes)) }
     ensures none { IfNone result ((nodes : ℕ)
-        → ¬ HasNodes (rows_of (found_of given.now)) (World nodes)) }
+        → ¬ HasOwn (rows_of (found_of given.now)) (World nodes)) }
 {
     NodeCount::new(number_in(given, "nodes", u32::from(NodeCount::usual().get()))?)
 }

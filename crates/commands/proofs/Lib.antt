@@ -2,4 +2,3 @@ pub mod Fitting
 pub mod Ranging
 pub mod Replying
 pub mod Telling
-pub mod TotalLines

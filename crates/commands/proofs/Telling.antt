@@ -1,16 +1,20 @@
 -- What the words name, and which fault is told.
-use Rattle.std.proofs.Common.{◌≡◌, inl, inr, ℕ, List, Option, Err, refl, subst, sym, ◌∙◌}
+use Rattle.std.proofs.Common.{◌≡◌, ◌⊎◌, inl, inr, ℕ, List, [], Option, Err, arith, refl, subst, sym, take, ◌∙◌}
+use Rattle.std.specs.Io.KnownBytes.{Appends}
+use Rattle.std.proofs.KnownBytes.{Appends-trans}
+use Rattle.std.proofs.lemmas.List.{append-nil}
 use Rattle.std.specs.declared.alloc.Global.{Global}
 use Rattle.std.specs.declared.string.String.{String}
 use Rattle.command_line.specs.Asking.{IsRequestOf}
 use Rattle.command_line.specs.declared.words.Request.{Request}
 use Rattle.command_line.specs.declared.words.Request.TheVariants.{Merge, Job}
 use Rattle.inputs.specs.FaultLines.{line_of}
-use Rattle.inputs.specs.Outcomes.{CountsWritten, IsFirstFault, Refusing, Saying, Writes, status_of}
+use Rattle.inputs.specs.Outcomes.{CountsRead, CountsWritten, IsFirstFault, Refusing, Saying, Writes, status_of}
 use Rattle.inputs.specs.Taking.{Puts}
 use Rattle.inputs.specs.declared.faults.StreamFault.{StreamFault}
 use Rattle.inputs.specs.declared.faults.StreamFault.TheVariants as faults
-use Rattle.commands.specs.Endings.{HasTold, NamesCommand}
+use Rattle.streams.specs.Streams.{AppendsPart, one_more}
+use Rattle.commands.specs.Endings.{HasFarmFailed, HasSaidPart, HasTold, NamesCommand}
 use Rattle.commands.specs.Sayings.{refusing_by, saying_by}
 use Rattle.fact_commands.specs.declared.found.Found.{Found}
 
@@ -35,6 +39,7 @@ told_first Says Refuses known (faults.Param x) old new other wrote = wrote
 told_first Says Refuses known (faults.Bind x) old new other wrote = wrote
 told_first Says Refuses known (faults.Facts x) old new other wrote = wrote
 told_first Says Refuses known (faults.Script x) old new other wrote = wrote
+told_first Says Refuses known (faults.Farm x) old new other wrote = absurd (other refl)
 told_first Says Refuses known faults.Memory old new other wrote = wrote
 
 -- and the writer had not failed
@@ -50,6 +55,7 @@ none_failed (faults.Param x) before after other counts = counts
 none_failed (faults.Bind x) before after other counts = counts
 none_failed (faults.Facts x) before after other counts = counts
 none_failed (faults.Script x) before after other counts = counts
+none_failed (faults.Farm x) before after other counts = counts
 none_failed faults.Memory before after other counts = counts
 
 -- so its line alone was written
@@ -69,3 +75,60 @@ told_at status request known f old mid new before between after ends four wrote 
           subst (λ (m : Option (List ℕ)). Puts (line_of f) m new before after) first.0
           (subst (λ (n : ℕ). Puts (line_of f) mid new n after) (none_failed f before between other counts) line);
     }
+
+-- ---- status 4
+
+-- a part that was written, and nothing behind it
+nothing_behind : (a b c : Option (List ℕ)) (bytes : List ℕ) → AppendsPart a b bytes → Appends b c [] → AppendsPart a c bytes
+nothing_behind a b c bytes (n, less, part) none =
+    (n, less, subst (λ (bs : List ℕ). Appends a c bs) (append-nil (take n bytes)) (Appends-trans a b c (take n bytes) [] part none))
+
+-- what is told where the reader, the writer or the farm failed
+abbrev FailedAt : Request → Option (List ℕ) → Option (List ℕ) → Option (List ℕ) → ℕ → ℕ → ℕ → ℕ → Type 0
+FailedAt request known old new r ra w wa =
+    ((ra ≡ one_more r) × Puts (line_of faults.Read) old new w wa)
+    ⊎ ((wa ≡ one_more w) × HasSaidPart request known old new)
+    ⊎ ((ra ≡ r) × HasFarmFailed request known old new w wa)
+
+line_alone : (line : List ℕ) (old mid new : Option (List ℕ)) (w wm wa : ℕ) → mid ≡ old → wm ≡ w → Puts line mid new wm wa
+    → Puts line old new w wa
+line_alone line old mid new w wm wa kept counted told =
+    subst (λ (m : Option (List ℕ)). Puts line m new w wa) kept (subst (λ (n : ℕ). Puts line mid new n wa) counted told)
+
+pub failed_at : (request : Request) (known : Option (List ℕ)) (f : StreamFault) (old mid new : Option (List ℕ)) (r ra w wm wa : ℕ)
+    → status_of f ≡ 4 → Writes {Answer = Found} (saying_by request) (refusing_by request) known (Err f) old mid
+    → CountsRead {X = Found} (Err f) r ra → CountsWritten {X = Found} (Err f) w wm → Puts (line_of f) mid new wm wa
+    → FailedAt request known old new r ra w wa
+failed_at request known faults.Read old mid new r ra w wm wa four wrote read counts line =
+    inl (read, line_alone (line_of faults.Read) old mid new w wm wa wrote.0 counts line)
+failed_at request known faults.Write old mid new r ra w wm wa four wrote read counts (inl all) =
+    inr (inl (
+      all.failures ∙ counts,
+      record {
+        answer = wrote.answer;
+        bytes = wrote.bytes;
+        said = wrote.said;
+        taken = nothing_behind old mid new wrote.bytes wrote.taken all.taken;
+      },
+    ))
+failed_at request known faults.Write old mid new r ra w wm wa four wrote read counts (inr part) =
+    let less = part.taken.1 in absurd (omega arith)
+failed_at request known (faults.Farm x) old mid new r ra w wm wa four wrote read counts line =
+    inr (inr (
+      read,
+      record {
+        fault = x;
+        first = wrote.1;
+        line = line_alone (line_of (faults.Farm x)) old mid new w wm wa wrote.0 counts line;
+      },
+    ))
+failed_at request known faults.TooLong old mid new r ra w wm wa four wrote read counts line = absurd (omega (arith, four))
+failed_at request known faults.NoSeparator old mid new r ra w wm wa four wrote read counts line = absurd (omega (arith, four))
+failed_at request known (faults.Program x) old mid new r ra w wm wa four wrote read counts line = absurd (omega (arith, four))
+failed_at request known (faults.Picture x) old mid new r ra w wm wa four wrote read counts line = absurd (omega (arith, four))
+failed_at request known (faults.Check x) old mid new r ra w wm wa four wrote read counts line = absurd (omega (arith, four))
+failed_at request known (faults.Param x) old mid new r ra w wm wa four wrote read counts line = absurd (omega (arith, four))
+failed_at request known (faults.Bind x) old mid new r ra w wm wa four wrote read counts line = absurd (omega (arith, four))
+failed_at request known (faults.Facts x) old mid new r ra w wm wa four wrote read counts line = absurd (omega (arith, four))
+failed_at request known (faults.Script x) old mid new r ra w wm wa four wrote read counts line = absurd (omega (arith, four))
+failed_at request known faults.Memory old mid new r ra w wm wa four wrote read counts line = absurd (omega (arith, four))

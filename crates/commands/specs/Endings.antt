@@ -8,6 +8,8 @@ use Rattle.inputs.specs.FaultLines.{line_of}
 use Rattle.inputs.specs.Outcomes.{AppendsPartSaid, AppendsSaid, IsFirstFault, status_of}
 use Rattle.inputs.specs.Taking.{Puts}
 use Rattle.inputs.specs.declared.faults.StreamFault.{StreamFault}
+use Rattle.inputs.specs.declared.faults.StreamFault.TheVariants.{Farm}
+use Rattle.inputs.specs.declared.lines.FarmLine.{FarmLine}
 use Rattle.commands.specs.Sayings.{refusing_by, saying_by}
 use Rattle.fact_commands.specs.declared.found.Found.{Found}
 
@@ -44,3 +46,9 @@ pub record HasTold (status : ℕ) (request : Request) (input old new : Option (L
   pub told : status_of fault ≡ status
   pub first : IsFirstFault (refusing_by request) input fault
   pub line : Puts (line_of fault) old new before after
+
+-- the farm of the request gave no answer, where the input gave no cause to refuse it, and the line of that alone was written
+pub record HasFarmFailed (request : Request) (input old new : Option (List ℕ)) (before after : ℕ) : Type 0 where
+  pub fault : FarmLine
+  pub first : IsFirstFault (refusing_by request) input (Farm fault)
+  pub line : Puts (line_of (Farm fault)) old new before after

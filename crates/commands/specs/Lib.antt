@@ -1,6 +1,5 @@
 pub mod Endings
 pub mod Listing
 pub mod Planning
-pub mod Results
 pub mod Sayings
 pub mod inside

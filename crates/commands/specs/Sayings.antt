@@ -2,7 +2,7 @@
 use Rattle.std.specs.Prelude.{◌≡◌, List}
 use Rattle.command_line.specs.declared.options.Options.{Options}
 use Rattle.command_line.specs.declared.tasks.Task.{Task}
-use Rattle.command_line.specs.declared.tasks.Task.TheVariants.{Eval, Check, Plan, Audit, World}
+use Rattle.command_line.specs.declared.tasks.Task.TheVariants.{Eval, Check, Plan, Run, Audit, World}
 use Rattle.command_line.specs.declared.words.Request.{Request}
 use Rattle.command_line.specs.declared.words.Request.TheVariants.{Merge, Job}
 use Rattle.inputs.specs.Giving.{Given}
@@ -11,8 +11,9 @@ use Rattle.fact_commands.specs.Auditing.{SaysVerdicts}
 use Rattle.commands.specs.Listing.{SaysCheck}
 use Rattle.fact_commands.specs.Merging.{saying_union}
 use Rattle.commands.specs.Planning.{SaysPlan}
-use Rattle.commands.specs.Results.{SaysResult}
+use Rattle.results.specs.Results.{SaysResult}
 use Rattle.fact_commands.specs.declared.found.Found.{Found}
+use Rattle.farm_commands.specs.RunFaults.{refusing_run}
 use Rattle.fact_commands.specs.declared.found.Found.TheVariants.{NoFalse}
 use Rattle.world_commands.specs.WorldFaults.{refusing_world}
 use Rattle.world_commands.specs.WorldSayings.{saying_of_world}
@@ -27,6 +28,7 @@ abbrev pub saying_of_task : Task → Options → List Given → Saying Found
 saying_of_task Eval options given = finding_none (saying_of_job SaysResult given options.sides)
 saying_of_task Check options given = finding_none (saying_of_job SaysCheck given options.sides)
 saying_of_task Plan options given = finding_none (saying_of_job (SaysPlan options.stored options.percent) given options.sides)
+saying_of_task (Run farm) options given = finding_none (saying_of_job SaysResult given options.sides)
 saying_of_task Audit options given = saying_of_audit SaysVerdicts given options.sides
 saying_of_task (World nodes) options given = finding_none (saying_of_world nodes options given)
 
@@ -34,6 +36,7 @@ abbrev pub refusing_of_task : Task → Options → List Given → Refusing
 refusing_of_task Eval options given = refusing_job given options.sides
 refusing_of_task Check options given = refusing_job given options.sides
 refusing_of_task Plan options given = refusing_job given options.sides
+refusing_of_task (Run farm) options given = refusing_run given options.sides
 refusing_of_task Audit options given = refusing_audit given options.sides
 refusing_of_task (World nodes) options given = refusing_world given options.sides
 

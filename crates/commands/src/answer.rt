@@ -5,16 +5,15 @@ ghost use Rattle.accumulators.specs.Answers.{IsAnswer};
 ghost use Rattle.grouping.specs.Inlining.{AllFitScratch, IsScheduleOf};
 ghost use Rattle.job.specs.Kept.{pipeline_in};
 ghost use Rattle.tile_run.specs.declared.fault.RunFault.TheVariants.{Memory};
-ghost use Rattle.commands.specs.inside.Replies.{reply_bytes};
-ghost use Rattle.commands.specs.Results.{result_bytes};
+ghost use Rattle.results.specs.Replies.{reply_bytes};
+ghost use Rattle.results.specs.Results.{result_bytes};
 
-use crate::reply::Reply;
-use crate::totals::lines_of;
 use accumulators::{Answer, answer_of};
 use command_line::Options;
 use grouping::Schedule;
 use job::Job;
 use one_job::schedule_of;
+use results::{Reply, reply_of};
 use std::alloc::{AllocError, Global};
 use std::thread::Threads;
 use tile_run::{RunFault, run_all};
@@ -29,11 +28,10 @@ pub fn evaluate(
     ensures { IfOk result (λ reply. reply_bytes reply ≡ result_bytes (pipeline_in job.now)) }
 {
     let schedule = schedule_of(alloc, job, options)?;
-    let Ok(Answer { picture, totals }) = answer(rt, alloc, job, &schedule) else {
+    let Ok(answer) = answer(rt, alloc, job, &schedule) else {
         return Err(AllocError);
     };
-    let lines = lines_of(alloc, job, totals.as_slice())?;
-    Ok(Reply { picture, lines })
+    reply_of(alloc, job, answer)
 }
 
 /// The answer of a job by a schedule of which each tile has room in scratch memory. The stored tiles are let go.

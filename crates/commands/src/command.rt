@@ -5,7 +5,8 @@ ghost use Rattle.inputs.specs.FaultLines.{line_of};
 ghost use Rattle.inputs.specs.Outcomes.{CountsRead, CountsWritten, Writes, status_of};
 ghost use Rattle.inputs.specs.Taking.{Puts};
 ghost use Rattle.streams.specs.Streams.{one_more};
-ghost use Rattle.commands.specs.Endings.{AskFor, AskForNothing, HasSaid, HasSaidPart, HasTold, NamesCommand, usage_line};
+ghost use Rattle.commands.specs.Endings.{AskFor, AskForNothing, HasFarmFailed, HasSaid, HasSaidPart, HasTold};
+ghost use Rattle.commands.specs.Endings.{NamesCommand, usage_line};
 ghost use Rattle.commands.specs.Sayings.{refusing_by, saying_by};
 ghost use Rattle.fact_commands.specs.declared.found.Found.TheVariants.{AFalse, NoFalse};
 ghost use Rattle.inputs.specs.declared.faults.StreamFault.TheVariants.{Memory, Read};
@@ -14,7 +15,9 @@ use crate::found::none_false;
 use crate::task_stream::{check_stream, eval_stream, plan_stream};
 use command_line::{Refusal, Request, Task, request_of};
 use fact_commands::{Found, audit_stream, merge_stream};
+use farm_commands::run_stream;
 use inputs::{StreamFault, write_line};
+use std::sync::Wait;
 use std::thread::Threads;
 use streams::{Sink, Source, write_whole};
 use world_commands::world_stream;
@@ -23,9 +26,9 @@ use world_commands::world_stream;
 const USAGE: &[u8] = b"usage: tilefarm COMMAND [OPTIONS] [NAME=VALUE]...\n";
 
 /// Runs the command that the words name, and answers the status that the program is to end with: 0 done, 1 usage or
-/// parameters, 2 unreadable input, 3 refused program, 4 input or output failed, 5 memory, 6 a false fact was found. A fault
+/// parameters, 2 unreadable input, 3 refused program, 4 input, output or the farm failed, 5 memory, 6 a false fact was found. A fault
 /// is told in one line on the writer, which takes no memory. `words` is without the program's own name.
-pub fn run_command<H: AllocGlobal + Threads + Sync, R: Source, W: Sink>(
+pub fn run_command<H: AllocGlobal + Threads + Wait + Sync, R: Source, W: Sink>(
     rt: &H,
     words: &[String],
     reader: &mut R,
@@ -56,14 +59,18 @@ pub fn run_command<H: AllocGlobal + Threads + Sync, R: Source, W: Sink>(
         AskFor words.now (λ request. HasTold 3 request (R.remaining reader.old)
         (W.contents writer.old) (W.contents writer.new)
         (W.failures writer.old) (W.failures writer.new)) }
-    // The reader failed, which is told, or the writer failed, which is not.
+    // The reader failed, which is told, or the writer failed, which is not, or the farm of the request gave no answer, which is told.
     ensures failed { result ≡ 4 →
         ((R.failures reader.new ≡ one_more (R.failures reader.old))
         × Puts (line_of Read) (W.contents writer.old) (W.contents writer.new)
         (W.failures writer.old) (W.failures writer.new))
         ⊎ ((W.failures writer.new ≡ one_more (W.failures writer.old))
         × AskFor words.now (λ request. HasSaidPart request (R.remaining reader.old)
-        (W.contents writer.old) (W.contents writer.new))) }
+        (W.contents writer.old) (W.contents writer.new)))
+        ⊎ ((R.failures reader.new ≡ R.failures reader.old)
+        × AskFor words.now (λ request. HasFarmFailed request (R.remaining reader.old)
+        (W.contents writer.old) (W.contents writer.new)
+        (W.failures writer.old) (W.failures writer.new))) }
     ensures memory { result ≡ 5 → NamesCommand words.now
         × Puts (line_of Memory) (W.contents writer.old) (W.contents writer.new)
         (W.failures writer.old) (W.failures writer.new) }
@@ -84,7 +91,7 @@ pub fn run_command<H: AllocGlobal + Threads + Sync, R: Source, W: Sink>(
 }
 
 /// Runs the command that is asked for, and answers its status.
-fn run_request<H: AllocGlobal + Threads + Sync, R: Source, W: Sink>(
+fn run_request<H: AllocGlobal + Threads + Wait + Sync, R: Source, W: Sink>(
     rt: &H,
     request: &Request,
     reader: &mut R,
@@ -111,7 +118,10 @@ fn run_request<H: AllocGlobal + Threads + Sync, R: Source, W: Sink>(
         (W.failures writer.old) (W.failures writer.new))
         ⊎ ((W.failures writer.new ≡ one_more (W.failures writer.old))
         × HasSaidPart request.now (R.remaining reader.old)
-        (W.contents writer.old) (W.contents writer.new)) }
+        (W.contents writer.old) (W.contents writer.new))
+        ⊎ ((R.failures reader.new ≡ R.failures reader.old)
+        × HasFarmFailed request.now (R.remaining reader.old) (W.contents writer.old)
+        (W.contents writer.new) (W.failures writer.old) (W.failures writer.new)) }
     ensures memory { result ≡ 5 →
         Puts (line_of Memory) (W.contents writer.old) (W.contents writer.new)
         (W.failures writer.old) (W.failures writer.new) }
@@ -129,7 +139,7 @@ fn run_request<H: AllocGlobal + Threads + Sync, R: Source, W: Sink>(
 }
 
 /// Runs the command that is asked for.
-fn perform<H: AllocGlobal + Threads + Sync, R: Source, W: Sink>(
+fn perform<H: AllocGlobal + Threads + Wait + Sync, R: Source, W: Sink>(
     rt: &H,
     request: &Request,
     reader: &mut R,
@@ -149,6 +159,9 @@ fn perform<H: AllocGlobal + Threads + Sync, R: Source, W: Sink>(
                 Task::Eval => none_false(eval_stream(rt, options, parameters, reader, writer)),
                 Task::Check => none_false(check_stream(rt, options, parameters, reader, writer)),
                 Task::Plan => none_false(plan_stream(rt, options, parameters, reader, writer)),
+                Task::Run(farm) => {
+                    none_false(run_stream(rt, &farm, options, parameters, reader, writer))
+                }
                 Task::Audit => audit_stream(rt, options, parameters, reader, writer),
                 Task::World(nodes) => {
                     none_false(world_stream(rt, nodes, options, parameters, reader, writer))

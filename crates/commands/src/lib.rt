@@ -6,11 +6,9 @@ mod command;
 mod found;
 mod plan_lines;
 mod question;
-mod reply;
 mod stage_lines;
 mod task_reply;
 mod task_stream;
-mod totals;
 
 pub use command::run_command;
 pub use task_stream::{check_stream, eval_stream, plan_stream};

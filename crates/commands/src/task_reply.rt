@@ -6,17 +6,17 @@ ghost use Rattle.pipe_print.specs.Canonical.{canonical};
 ghost use Rattle.pipe_tree.specs.Tree.{Declaration};
 ghost use Rattle.commands.specs.Planning.{IsPlan};
 ghost use Rattle.one_job.specs.Asked.{inlining_asked};
-ghost use Rattle.commands.specs.inside.Replies.{reply_bytes};
+ghost use Rattle.results.specs.Replies.{reply_bytes};
 ghost use Rattle.commands.specs.inside.Questions.{saying_of};
 
 use crate::answer::evaluate;
 use crate::plan_lines::plan_lines;
 use crate::question::Question;
-use crate::reply::Reply;
 use crate::stage_lines::check_lines;
 use command_line::Options;
 use job::Job;
 use one_job::schedule_of;
+use results::Reply;
 use std::alloc::{AllocError, Global};
 use std::thread::Threads;
 

@@ -6,14 +6,14 @@ ghost use Rattle.inputs.specs.Outcomes.{CountsRead, CountsWritten, IsSaid, Write
 ghost use Rattle.commands.specs.Listing.{SaysCheck};
 ghost use Rattle.commands.specs.Planning.{SaysPlan};
 ghost use Rattle.commands.specs.inside.Questions.{saying_of};
-ghost use Rattle.commands.specs.inside.Replies.{reply_bytes};
-ghost use Rattle.commands.specs.Results.{SaysResult};
+ghost use Rattle.results.specs.Replies.{reply_bytes};
+ghost use Rattle.results.specs.Results.{SaysResult};
 
 use crate::question::Question;
-use crate::reply::{Reply, write_reply};
 use crate::task_reply::task_reply;
 use command_line::Options;
 use inputs::{StreamFault, job_of, read_input};
+use results::{Reply, write_reply};
 use std::thread::Threads;
 use streams::{Sink, Source};
 

@@ -85,4 +85,5 @@ told_refusal start ss given n pair fault (faults.Check x) there before why told 
 told_refusal start ss given n pair fault (faults.Bind x) there before why told = told
 told_refusal start ss given n pair fault (faults.Facts x) there before why told = told
 told_refusal start ss given n pair fault (faults.Script x) there before why told = told
+told_refusal start ss given n pair fault (faults.Farm x) there before why told = told
 told_refusal start ss given n pair fault faults.Write there before why told = told

@@ -95,6 +95,7 @@ bind_fault tree source given sides chosen ranks fault (faults.Check x) means are
 bind_fault tree source given sides chosen ranks fault (faults.Param x) means are_given ranking is told = absurd told
 bind_fault tree source given sides chosen ranks fault (faults.Facts x) means are_given ranking is told = absurd told
 bind_fault tree source given sides chosen ranks fault (faults.Script x) means are_given ranking is told = absurd told
+bind_fault tree source given sides chosen ranks fault (faults.Farm x) means are_given ranking is told = absurd told
 bind_fault tree source given sides chosen ranks fault faults.Write means are_given ranking is told = absurd told
 
 -- ---- faults of an input of two sections
@@ -112,6 +113,7 @@ spelling_fault input text spelling given sides (faults.Param x) parted is = absu
 spelling_fault input text spelling given sides (faults.Bind x) parted is = absurd is
 spelling_fault input text spelling given sides (faults.Facts x) parted is = is
 spelling_fault input text spelling given sides (faults.Script x) parted is = is
+spelling_fault input text spelling given sides (faults.Farm x) parted is = is
 spelling_fault input text spelling given sides faults.Write parted is = is
 
 pub job_fault : (input : List ℕ) (given : List Given) (sides : Sides) (tree : List Declaration) (source : Image) (f : StreamFault)
@@ -127,6 +129,7 @@ job_fault input given sides tree source (faults.Program x) read is = absurd is
 job_fault input given sides tree source (faults.Picture x) read is = absurd is
 job_fault input given sides tree source (faults.Facts x) read is = is
 job_fault input given sides tree source (faults.Script x) read is = is
+job_fault input given sides tree source (faults.Farm x) read is = is
 job_fault input given sides tree source faults.Write read is = is
 
 -- ---- faults of an input of three sections
@@ -144,6 +147,7 @@ spelling_fault_around input text middle spelling given sides (faults.Param x) pa
 spelling_fault_around input text middle spelling given sides (faults.Bind x) parted is = absurd is
 spelling_fault_around input text middle spelling given sides (faults.Facts x) parted is = is
 spelling_fault_around input text middle spelling given sides (faults.Script x) parted is = is
+spelling_fault_around input text middle spelling given sides (faults.Farm x) parted is = is
 spelling_fault_around input text middle spelling given sides faults.Write parted is = is
 
 pub job_fault_around : (input middle : List ℕ) (given : List Given) (sides : Sides) (tree : List Declaration) (source : Image)
@@ -160,6 +164,7 @@ job_fault_around input middle given sides tree source (faults.Program x) read is
 job_fault_around input middle given sides tree source (faults.Picture x) read is = absurd is
 job_fault_around input middle given sides tree source (faults.Facts x) read is = is
 job_fault_around input middle given sides tree source (faults.Script x) read is = is
+job_fault_around input middle given sides tree source (faults.Farm x) read is = is
 job_fault_around input middle given sides tree source faults.Write read is = is
 
 pub audit_fault_around : (input : List ℕ) (given : List Given) (sides : Sides) (f : StreamFault) → IsFaultAround input given sides f
@@ -171,6 +176,7 @@ audit_fault_around input given sides (faults.Param x) is = is
 audit_fault_around input given sides (faults.Bind x) is = is
 audit_fault_around input given sides (faults.Facts x) is = absurd is
 audit_fault_around input given sides (faults.Script x) is = is
+audit_fault_around input given sides (faults.Farm x) is = is
 audit_fault_around input given sides faults.NoSeparator is = is
 audit_fault_around input given sides faults.Memory is = is
 audit_fault_around input given sides faults.Read is = is

@@ -4,11 +4,15 @@ use Rattle.std.specs.Prelude.{IfErr, IfOk, IfSome, OnErr}
 use Rattle.std.specs.Io.KnownBytes.{Appends}
 use Rattle.domains.specs.Sides.{Sides}
 use Rattle.streams.specs.Streams.{AppendsPart}
+use Rattle.job.specs.Kept.{pipeline_in}
+use Rattle.job.specs.WellFormed.{IsJob}
+use Rattle.job.specs.declared.job.Job.{Job}
 use Rattle.inputs.specs.declared.faults.StreamFault.{StreamFault}
 use Rattle.inputs.specs.declared.faults.StreamFault.TheVariants as faults
 use Rattle.inputs.specs.Faults.{IsAuditFault, IsFaultOf, IsMergeFault}
 use Rattle.inputs.specs.Giving.{Given}
-use Rattle.inputs.specs.Outcomes.{AppendsSaid, IsOfInput, IsOfReader, Refusing}
+use Rattle.inputs.specs.Input.{IsReadJob}
+use Rattle.inputs.specs.Outcomes.{AppendsSaid, IsOfInput, IsOfReader, IsSaid, JobSaying, Refusing}
 use Rattle.inputs.specs.Outcomes.{Saying, Writes, most_input, refusing_audit, refusing_job, refusing_merge}
 
 -- ---- nothing was written
@@ -27,6 +31,7 @@ reader_fault Says Refuses known (faults.Param x) old is = absurd is
 reader_fault Says Refuses known (faults.Bind x) old is = absurd is
 reader_fault Says Refuses known (faults.Facts x) old is = absurd is
 reader_fault Says Refuses known (faults.Script x) old is = absurd is
+reader_fault Says Refuses known (faults.Farm x) old is = absurd is
 reader_fault Says Refuses known faults.Write old is = absurd is
 
 of_input : (known : Option (List ℕ)) (input : List ℕ) (Holds : List ℕ → Type 0) → IfSome known (λ all. input ≡ all)
@@ -57,6 +62,8 @@ input_fault Says Refuses known input (faults.Facts x) old long write all within 
     (refl, of_input known input (λ i. Refuses i (faults.Facts x)) all within is)
 input_fault Says Refuses known input (faults.Script x) old long write all within is =
     (refl, of_input known input (λ i. Refuses i (faults.Script x)) all within is)
+input_fault Says Refuses known input (faults.Farm x) old long write all within is =
+    (refl, of_input known input (λ i. Refuses i (faults.Farm x)) all within is)
 
 -- the same of each kind of input
 pub job_refused : {Answer : Type 0} (Says : Saying Answer) (known : Option (List ℕ)) (input : List ℕ) (given : List Given) (sides : Sides)
@@ -101,3 +108,12 @@ lines_written Says Refuses known input bytes (Ok x) old new all within says whol
     said_written Says Refuses known input tt bytes (Ok x) old new all within says refl whole part fault
 lines_written Says Refuses known input bytes (Err f) old new all within says whole part fault =
     said_written Says Refuses known input tt bytes (Err f) old new all within says tt whole part fault
+
+-- ---- what is said
+
+-- what is said of the job that is read of an input
+pub said_of : (Says : JobSaying) (input : List ℕ) (given : List Given) (sides : Sides) (job : Job) (bytes : List ℕ)
+    (read : IsReadJob input given sides job) → IsJob (pipeline_in job)
+    → Says read.tree (pipeline_in job) bytes → IsSaid Says given sides input bytes
+said_of Says input given sides job bytes read is says =
+    record { tree = read.tree; job = pipeline_in job; is_job = is; of_input = read.of_input; says = says }

@@ -25,10 +25,12 @@ use Rattle.gossip_events.specs.declared.fault.ScriptFault.{ScriptFault}
 use Rattle.gossip_events.specs.declared.fault.ScriptFault.TheVariants as scripts
 use Rattle.inputs.specs.declared.faults.StreamFault.{StreamFault}
 use Rattle.inputs.specs.declared.faults.StreamFault.TheVariants.{Read, TooLong, NoSeparator, Program, Picture, Check, Param, Bind}
-use Rattle.inputs.specs.declared.faults.StreamFault.TheVariants.{Facts, Script, Memory, Write}
+use Rattle.inputs.specs.declared.faults.StreamFault.TheVariants.{Facts, Script, Farm, Memory, Write}
 use Rattle.inputs.specs.declared.lines.BindLine.{BindLine}
 use Rattle.inputs.specs.declared.lines.CheckLine.{CheckLine}
 use Rattle.inputs.specs.declared.lines.CheckLine.TheVariants as lines
+use Rattle.inputs.specs.declared.lines.FarmLine.{FarmLine}
+use Rattle.inputs.specs.declared.lines.FarmLine.TheVariants as farms
 use Rattle.inputs.specs.declared.lines.ParamLine.{ParamLine}
 
 -- `KIND: NUMBER NAME`
@@ -150,6 +152,12 @@ script_head fault = head (codes "script") (events.number_of fault) (events.name_
 abbrev pub script_text : ScriptFault → List ℕ
 script_text fault = script_head fault ++ at_line_text fault
 
+-- ---- faults of farms
+
+abbrev pub farm_text : FarmLine → List ℕ
+farm_text farms.SpawnFailed = codes "farm: 1 SpawnFailed"
+farm_text farms.Close = codes "farm: 3 Close"
+
 -- ---- the whole
 
 -- a fault's line without its line feed
@@ -164,6 +172,7 @@ text_of (Param line) = param_text line
 text_of (Bind line) = bind_text line
 text_of (Facts fault) = facts_text fault
 text_of (Script fault) = script_text fault
+text_of (Farm line) = farm_text line
 text_of Memory = codes "memory"
 text_of Write = []
 

@@ -12,7 +12,7 @@ use Rattle.inputs.specs.Giving.{Given}
 use Rattle.inputs.specs.Input.{IsInputAudit, IsInputJob}
 use Rattle.inputs.specs.declared.faults.StreamFault.{StreamFault}
 use Rattle.inputs.specs.declared.faults.StreamFault.TheVariants.{Read, TooLong, NoSeparator, Program, Picture, Check, Param, Bind}
-use Rattle.inputs.specs.declared.faults.StreamFault.TheVariants.{Facts, Script, Memory, Write}
+use Rattle.inputs.specs.declared.faults.StreamFault.TheVariants.{Facts, Script, Farm, Memory, Write}
 
 -- ---- what is read
 
@@ -146,4 +146,5 @@ status_of (Check _) = 3
 status_of (Bind _) = 3
 status_of Read = 4
 status_of Write = 4
+status_of (Farm _) = 4
 status_of Memory = 5

@@ -1,6 +1,6 @@
 //! Why a command gave no result.
 
-use crate::lines::{BindLine, CheckLine, ParamLine};
+use crate::lines::{BindLine, CheckLine, FarmLine, ParamLine};
 use fact_lines::LinesFault;
 use gossip_events::ScriptFault;
 use netpbm::PicFault;
@@ -41,6 +41,9 @@ pub enum StreamFault {
     /// The section in the middle is no script.
     #[error("the section in the middle is no script: {0}")]
     Script(ScriptFault),
+    /// The farm gave no answer.
+    #[error("the farm gave no answer")]
+    Farm(FarmLine),
     /// Memory ran out.
     #[error("out of memory")]
     Memory,
@@ -65,7 +68,7 @@ impl StreamFault {
             | StreamFault::Facts(_)
             | StreamFault::Script(_) => 2,
             StreamFault::Program(_) | StreamFault::Check(_) | StreamFault::Bind(_) => 3,
-            StreamFault::Read | StreamFault::Write => 4,
+            StreamFault::Read | StreamFault::Write | StreamFault::Farm(_) => 4,
             StreamFault::Memory => 5,
         }
     }

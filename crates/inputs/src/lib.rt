@@ -16,7 +16,7 @@ mod telling;
 mod texts;
 
 pub use faults::StreamFault;
-pub use lines::{BindLine, CheckLine, ParamLine, StageNames};
+pub use lines::{BindLine, CheckLine, FarmLine, ParamLine, StageNames};
 pub use sections::{split_section, split_sections};
 pub use stream::{audit_of, facts_of, job_and_middle, job_of, read_input};
 pub use telling::write_line;

@@ -29,6 +29,15 @@ pub enum CheckLine {
     Cycle(StageNames),
 }
 
+/// Why a farm gave no answer.
+#[derive(Clone, Copy, Debug, PartialEq, Eq)]
+pub enum FarmLine {
+    /// A thread could not be started.
+    SpawnFailed,
+    /// A node did not hold what its receipts promise.
+    Close,
+}
+
 /// A parameter that was given in vain.
 #[derive(Debug, Drop)]
 pub struct ParamLine {

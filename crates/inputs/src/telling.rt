@@ -1,14 +1,14 @@
 //! The lines that tell faults, which take no memory.
 
 ghost use Rattle.std.specs.Prelude.{◌++◌, ◌∷◌, [], string_bytes};
-ghost use Rattle.inputs.specs.FaultLines.{head_at, line_of, name_text, param_head, param_text, text_of};
+ghost use Rattle.inputs.specs.FaultLines.{farm_text, head_at, line_of, name_text, param_head, param_text, text_of};
 ghost use Rattle.inputs.specs.Taking.{Takes};
 
 use crate::bind_lines::write_bind;
 use crate::check_lines::write_check;
 use crate::facts_lines::write_facts;
 use crate::faults::StreamFault;
-use crate::lines::ParamLine;
+use crate::lines::{FarmLine, ParamLine};
 use crate::script_lines::write_script;
 use crate::texts::{write_head, write_offset, write_text, write_texts};
 use fault_rows::Fault;
@@ -67,6 +67,7 @@ fn write_fault<W: Sink>(fault: &StreamFault, writer: &mut W) -> Result<(), Write
         StreamFault::Bind(line) => write_bind(writer, line),
         StreamFault::Facts(fault) => write_facts(writer, *fault),
         StreamFault::Script(fault) => write_script(writer, *fault),
+        StreamFault::Farm(line) => write_farm(writer, *line),
         StreamFault::Memory => write_text(writer, b"memory"),
         StreamFault::Write => Ok(()),
     }
@@ -86,6 +87,16 @@ fn write_place<W: Sink>(
 {
     write_head(writer, kind, number, name)?;
     write_offset(writer, offset)
+}
+
+fn write_farm<W: Sink>(writer: &mut W, line: FarmLine) -> Result<(), WriteFailed>
+    ensures { Takes result (farm_text line) (W.contents writer.old) (W.contents writer.new)
+        (W.failures writer.old) (W.failures writer.new) }
+{
+    match line {
+        FarmLine::SpawnFailed => write_text(writer, b"farm: 1 SpawnFailed"),
+        FarmLine::Close => write_text(writer, b"farm: 3 Close"),
+    }
 }
 
 fn write_param<W: Sink>(writer: &mut W, line: &ParamLine) -> Result<(), WriteFailed>

@@ -25,6 +25,7 @@ world_fault_around input given sides (faults.Param x) is = is
 world_fault_around input given sides (faults.Bind x) is = is
 world_fault_around input given sides (faults.Facts x) is = is
 world_fault_around input given sides (faults.Script x) is = absurd is
+world_fault_around input given sides (faults.Farm x) is = is
 world_fault_around input given sides faults.NoSeparator is = is
 world_fault_around input given sides faults.Memory is = is
 world_fault_around input given sides faults.Read is = is

@@ -4,7 +4,7 @@ use Rattle.inputs.specs.Outcomes.{JobSaying}
 use Rattle.inputs.specs.declared.faults.StreamFault.{StreamFault}
 use Rattle.commands.specs.Listing.{SaysCheck}
 use Rattle.commands.specs.Planning.{SaysPlan}
-use Rattle.commands.specs.Results.{SaysResult}
+use Rattle.results.specs.Results.{SaysResult}
 use Rattle.fact_commands.specs.declared.found.Found.{Found}
 use Rattle.fact_commands.specs.declared.found.Found.TheVariants.{NoFalse}
 use Rattle.commands.specs.declared.question.Question.{Question}

@@ -10,6 +10,9 @@ returns-in-check-clause-some c = (c.in_ok-word.word.now, sym c.in_ok-word.ensure
 pub returns-in-plan-clause-some : goal.returns-in-plan-clause-some
 returns-in-plan-clause-some c = (c.in_ok-word.word.now, sym c.in_ok-word.ensures.value, sym c.as_str.ensures.value ∙ c.in-plan.is)
 
+pub returns-in-run-clause-some : goal.returns-in-run-clause-some
+returns-in-run-clause-some c = (c.in_ok-word.word.now, sym c.in_ok-word.ensures.value, sym c.as_str.ensures.value ∙ c.in-run.is)
+
 pub returns-in-audit-clause-some : goal.returns-in-audit-clause-some
 returns-in-audit-clause-some c = (c.in_ok-word.word.now, sym c.in_ok-word.ensures.value, sym c.as_str.ensures.value ∙ c.in-audit.is)
 

@@ -24,5 +24,7 @@ returns c =
     (top _ _ c.in_ok-command-3.ensures.app) in
     let audit =
     c.in_ok-subcommand-4.ensures.shape c.in_ok-command-4.ensures.local ∙ ap₂ with_subcommand plan (top _ _ c.in_ok-command-4.ensures.app) in
-    IfOk-weaker c.subcommand-5.result _ _
-    (λ r h. h.shape c.in_ok-world.ensures.local ∙ ap₂ with_subcommand audit (top _ _ c.in_ok-world.ensures.app)) c.subcommand-5.ensures
+    let world =
+    c.in_ok-subcommand-5.ensures.shape c.in_ok-world.ensures.local ∙ ap₂ with_subcommand audit (top _ _ c.in_ok-world.ensures.app) in
+    IfOk-weaker c.subcommand-6.result _ _
+    (λ r h. h.shape c.in_ok-run.ensures.local ∙ ap₂ with_subcommand world (top _ _ c.in_ok-run.ensures.app)) c.subcommand-6.ensures

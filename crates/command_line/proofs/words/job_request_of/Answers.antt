@@ -2,7 +2,7 @@ use Rattle.std.proofs.Common.{◌∙◌, List, None, sym, subst, rules}
 use Rattle.std.proofs.lemmas.Option.{none-some}
 use Rattle.std.proofs.lemmas.Result.{err_from_is_err_and}
 use Rattle.clap.specs.Words.{Row, app_of, found_of, rows_of}
-use Rattle.command_line.specs.Asking.{AreOptions, AreParametersIn, HasNodes}
+use Rattle.command_line.specs.Asking.{AreOptions, AreParametersIn, HasOwn}
 use Rattle.command_line.proofs.AskedRequest.{accepted, asks_too, entered, refused, same_rows, same_word}
 use Rattle.command_line.proofs.words.job_request_of.Goals as goal
 
@@ -22,15 +22,15 @@ returns-in_default-subcommand-clause-usage c = λ usage request asked.
     c.in_ok-matches.ensures.matches c.subcommand.ensures.rows c.in_default-subcommand.is in
     none-some asked.rows (sym rows ∙ asked.given)
 
-pub returns-in_default-counted-clause-usage : goal.returns-in_default-counted-clause-usage
-returns-in_default-counted-clause-usage c = λ usage request asked.
+pub returns-in_default-with_own-clause-usage : goal.returns-in_default-with_own-clause-usage
+returns-in_default-with_own-clause-usage c = λ usage request asked.
     let rows =
     entered c.args.words.now (app_of c.in_ok-usage.field-0) c.in_ok-matches.matches c.subcommand.result _ c.in_ok-usage.ensures
     c.in_ok-matches.ensures.matches c.subcommand.ensures.rows c.in-Some-subcommand.is in
-    c.in_default-counted.ensures.none request.task
+    c.in_default-with_own.ensures.none request.task
     (same_word c.args.words.now request.task c.in-Some.named asked.task c.in-Some.ensures.some)
-    (subst (λ (found : List Row). HasNodes found request.task)
-    (same_rows c.args.words.now request asked (rows_of (found_of c.in-Some-subcommand.given.now)) rows) asked.nodes)
+    (subst (λ (found : List Row). HasOwn found request.task)
+    (same_rows c.args.words.now request asked (rows_of (found_of c.in-Some-subcommand.given.now)) rows) asked.own)
 
 pub returns-in_default-options_of-clause-usage : goal.returns-in_default-options_of-clause-usage
 returns-in_default-options_of-clause-usage c = λ usage request asked.
@@ -62,10 +62,10 @@ returns-clause-asked c =
           accepted c.args.words.now (app_of c.in_ok-usage.field-0) c.in_ok-matches.matches c.in_ok-usage.ensures
           c.in_ok-matches.ensures.kinds;
       no_separator = search rules;
-      task = asks_too c.args.words.now c.in-Some.named c.in-Some-counted.task c.in-Some.ensures.some c.in-Some-counted.ensures.same;
+      task = asks_too c.args.words.now c.in-Some.named c.in-Some-with_own.task c.in-Some.ensures.some c.in-Some-with_own.ensures.same;
       rows = rows_of (found_of c.in-Some-subcommand.given.now);
       given = rows;
-      nodes = c.in-Some-counted.ensures.nodes;
+      own = c.in-Some-with_own.ensures.own;
       options = c.in-Some-options_of.ensures.some;
       parameters = c.in_ok-parameters_of.ensures.some;
     }

@@ -32,7 +32,8 @@ pub returns-in-Ok-clause-failed : goal.returns-in-Ok-clause-failed
 returns-in-Ok-clause-failed g c = λ ends.
     elim (c.run_request.ensures.failed ends) [
       | inl read ↦ inl read
-      | inr written ↦ inr (written.0, (c.in-Ok.request, c.in-Ok.ensures.asked, written.1))
+      | inr (inl written) ↦ inr (inl (written.0, (c.in-Ok.request, c.in-Ok.ensures.asked, written.1)))
+      | inr (inr farm) ↦ inr (inr (farm.0, (c.in-Ok.request, c.in-Ok.ensures.asked, farm.1)))
     ]
 
 pub returns-in-Err-Usage-clause-usage : goal.returns-in-Err-Usage-clause-usage

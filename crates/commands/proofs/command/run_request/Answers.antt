@@ -1,5 +1,5 @@
 use Rattle.std.proofs.Common.{sym, ◌∙◌}
-use Rattle.commands.proofs.Telling.{told_at}
+use Rattle.commands.proofs.Telling.{failed_at, told_at}
 use Rattle.commands.proofs.command.run_request.Goals as goal
 
 pub returns-in-Err-clause-usage : goal.returns-in-Err-clause-usage
@@ -16,3 +16,8 @@ pub returns-in-Err-clause-refused : goal.returns-in-Err-clause-refused
 returns-in-Err-clause-refused g c = λ ends.
     told_at 3 c.args.request.now _ c.in-Err.fault _ _ _ _ _ _ (sym c.status.ensures ∙ ends) (λ e. cc) c.in-Err.ensures.written
     c.in-Err.ensures.write c.tell.ensures
+
+pub returns-in-Err-clause-failed : goal.returns-in-Err-clause-failed
+returns-in-Err-clause-failed g c = λ ends.
+    failed_at c.args.request.now _ c.in-Err.fault _ _ _ _ _ _ _ _ (sym c.status.ensures ∙ ends) c.in-Err.ensures.written
+    c.in-Err.ensures.read c.in-Err.ensures.write c.tell.ensures

@@ -1,6 +1,6 @@
 use Rattle.commands.specs.inside.Questions.{saying_of}
-use Rattle.commands.specs.inside.Replies.{reply_bytes}
-use Rattle.commands.proofs.Replying.{said_of}
+use Rattle.results.specs.Replies.{reply_bytes}
+use Rattle.inputs.proofs.Written.{said_of}
 use Rattle.commands.proofs.task_stream.input_reply.Goals as goal
 
 pub returns-clause-said : goal.returns-clause-said

@@ -2,7 +2,7 @@ use Rattle.std.proofs.lemmas.Result.{err_from_is_err_and}
 use Rattle.inputs.specs.Outcomes.{refusing_job, saying_of_job}
 use Rattle.inputs.proofs.Written.{job_refused, lines_written}
 use Rattle.commands.specs.inside.Questions.{saying_of}
-use Rattle.commands.specs.inside.Replies.{reply_bytes}
+use Rattle.results.specs.Replies.{reply_bytes}
 use Rattle.commands.proofs.task_stream.task_stream.Goals as goal
 
 pub returns-in_err-reply-clause-written : goal.returns-in_err-reply-clause-written

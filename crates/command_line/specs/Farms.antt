@@ -1,0 +1,10 @@
+-- How large a farm may be.
+use Rattle.std.specs.Prelude.{ℕ, ◌≤◌}
+
+-- 1 to 8 nodes, at most 65536 turns of each worker, and room for 1 to 1024 parcels in each mailbox
+pub record IsFarmSize (nodes turns capacity : ℕ) : Type 0 where
+  pub some_node : 1 ≤ nodes
+  pub few_nodes : nodes ≤ 8
+  pub few_turns : turns ≤ 65536
+  pub some_room : 1 ≤ capacity
+  pub little_room : capacity ≤ 1024

@@ -1,0 +1,28 @@
+use Rattle.std.proofs.lemmas.Result.{err_from_is_err_and}
+use Rattle.inputs.specs.Outcomes.{saying_of_job}
+use Rattle.inputs.proofs.Written.{lines_written}
+use Rattle.farm_commands.specs.RunFaults.{refusing_run}
+use Rattle.farm_commands.proofs.RunFaults.{run_refused}
+use Rattle.results.specs.Replies.{reply_bytes}
+use Rattle.results.specs.Results.{SaysResult}
+use Rattle.farm_commands.proofs.stream.run_stream.Goals as goal
+
+pub returns-in_err-reply-clause-written : goal.returns-in_err-reply-clause-written
+returns-in_err-reply-clause-written g c =
+    let given = c.args.parameters.now in
+    let sides = c.args.options.now.sides in
+    let read = c.in_ok-input.ensures in
+    let p = err_from_is_err_and c.from_residual-in_err-reply.result c.from_residual-in_err-reply.ensures.1 in
+    rw (p.1, p.2) (run_refused (saying_of_job SaysResult given sides) (g.R.Source.remaining c.args.reader.now)
+    c.in_ok-input.input.items given sides c.in_err-reply.field-0.0 (g.W.Sink.contents c.args.writer.now) read.whole read.within
+    c.in_err-reply.ensures.fault)
+
+pub returns-clause-written : goal.returns-clause-written
+returns-clause-written g c =
+    let given = c.args.parameters.now in
+    let sides = c.args.options.now.sides in
+    let read = c.in_ok-input.ensures in
+    let written = c.write_reply.ensures in
+    lines_written (saying_of_job SaysResult given sides) (refusing_run given sides) (g.R.Source.remaining c.args.reader.now)
+    c.in_ok-input.input.items (reply_bytes c.in_ok-reply.reply) c.write_reply.result (g.W.Sink.contents c.args.writer.now)
+    (g.W.Sink.contents c.write_reply.new.writer) read.whole read.within c.in_ok-reply.ensures.said written.ok written.part written.fault

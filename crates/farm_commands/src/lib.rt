@@ -1,0 +1,9 @@
+//! The command `run`: from an input to the result that a farm of nodes computes.
+#![tactic(auto)]
+
+mod farmed;
+mod setup;
+mod stream;
+mod told;
+
+pub use stream::run_stream;

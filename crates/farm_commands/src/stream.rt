@@ -1,0 +1,59 @@
+//! The command `run` as it is run: from a reader to a writer.
+
+ghost use Rattle.std.specs.Prelude.{IfErr, IfOk};
+ghost use Rattle.inputs.specs.Outcomes.{CountsRead, CountsWritten, IsSaid, Writes, saying_of_job};
+ghost use Rattle.farm_commands.specs.RunFaults.{IsRunFault, refusing_run};
+ghost use Rattle.results.specs.Replies.{reply_bytes};
+ghost use Rattle.results.specs.Results.{SaysResult};
+
+use crate::farmed::farmed;
+use command_line::{FarmOptions, Options};
+use inputs::{StreamFault, job_of, read_input};
+use results::{Reply, write_reply};
+use std::sync::Wait;
+use std::thread::Threads;
+use streams::{Sink, Source};
+
+/// Reads a program and a picture, runs the program on the picture by a farm of nodes, and writes the result: the picture that the program
+/// puts out, if it has an output, and behind it a line for each of its accumulators. It is what one thread computes, however many nodes
+/// there are and whatever they lose, repeat and forget.
+///
+/// The input is the program's text, a line `%%` and the picture. `parameters` gives values of the program's parameters. All is computed
+/// before the first byte is written.
+pub fn run_stream<H: AllocGlobal + Threads + Wait + Sync, R: Source, W: Sink>(
+    rt: &H,
+    farm: &FarmOptions,
+    options: &Options,
+    parameters: &[(String, i32)],
+    reader: &mut R,
+    writer: &mut W,
+) -> Result<(), StreamFault>
+    // At `Ok` the writer took the bytes of the result, and where it failed a part of them. Any other fault has written nothing, and is
+    // the first fault of the input and the parameters, or the farm's own, which is told only of an input that has a job.
+    ensures written { Writes (saying_of_job SaysResult parameters.now options.now.sides)
+        (refusing_run parameters.now options.now.sides) (R.remaining reader.old)
+        result (W.contents writer.old) (W.contents writer.new) }
+    // A fault of the reader or the writer is answered where it failed, and nowhere else.
+    ensures read { CountsRead result (R.failures reader.old) (R.failures reader.new) }
+    ensures write { CountsWritten result (W.failures writer.old) (W.failures writer.new) }
+{
+    let input = read_input(rt.alloc(), reader)?;
+    let reply = input_reply(rt, farm, options, parameters, input)?;
+    write_reply(&reply, writer)
+}
+
+/// The result of the job of the input.
+fn input_reply<H: AllocGlobal + Threads + Wait + Sync>(
+    rt: &H,
+    farm: &FarmOptions,
+    options: &Options,
+    given: &[(String, i32)],
+    input: Vec<u8>,
+) -> Result<Reply, StreamFault>
+    ensures said { IfOk result (λ reply. IsSaid SaysResult given.now options.now.sides input.items
+        (reply_bytes reply)) }
+    ensures fault { IfErr result (IsRunFault input.items given.now options.now.sides) }
+{
+    let job = job_of(rt.alloc(), options.sides, given, input)?;
+    farmed(rt, farm, options, job)
+}

@@ -1,0 +1,2 @@
+-- What inner contracts and proofs cite, and no public one: how the code goes about it.
+pub mod Gathering
