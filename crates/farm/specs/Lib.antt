@@ -1,0 +1,2 @@
+pub mod FarmFaults
+pub mod Reports

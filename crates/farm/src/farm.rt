@@ -1,0 +1,181 @@
+//! Farms.
+
+ghost use Rattle.std.specs.Option.{ForSome};
+ghost use Rattle.std.specs.Prelude.{◌≡◌, All, IfOk, length};
+ghost use Rattle.farm.specs.Reports.{IsSoundEnd, all_held};
+ghost use Rattle.farm_answers.specs.Answering.{Answers, IsPlanned, lacked_of};
+ghost use Rattle.netpbm.specs.Image.{IsImage};
+
+use crate::closing::{close_all, gather};
+use crate::fault::FarmFault;
+use crate::hand::{End, Hand};
+use crate::node::{Node, WORKERS, lines_to, open_all};
+use crate::report::FarmReport;
+use crate::worker::Worker;
+use catalog::Catalog;
+use farm_answers::finish;
+use farm_work::{Every, FarmSetup, Gate, Work};
+use grouping::Schedule;
+use identity::Key;
+use job::Job;
+use leases::LiveDesk;
+use live_nodes::Closed;
+use named_catalogs::NamedCatalog;
+use overlap_tiles::work_keys;
+use std::alloc::{AllocError, Global};
+use std::marker::Brand;
+use std::sync::Wait;
+use std::thread;
+use std::thread::Threads;
+
+/// Nodes that make the tiles of a job together, each with a mailbox and two workers in threads of their own.
+pub struct Farm;
+
+impl Farm {
+    /// Runs a farm, and answers a job of a catalog by what its nodes hold in the end. The tiles of stored functions and accumulators
+    /// of which none of them holds anything are made by the caller's thread. Threads that were started are joined before it answers.
+    ///
+    /// # Errors
+    ///
+    /// `SpawnFailed` only where a thread could not be started. `Close` where receipts do not match a node's history, before `Memory`
+    /// of a worker.
+    pub fn run<G: Gate + Sync, R: Threads + Wait + Sync>(
+        rt: &R,
+        alloc: Global,
+        catalog: &Catalog,
+        job: usize,
+        setup: &FarmSetup,
+        schedule: &Schedule,
+        gate: &G,
+    ) -> Result<FarmReport, FarmFault>
+        requires planned { IsPlanned catalog.now job schedule.now }
+        ensures answer { IfOk result (λ report. Answers catalog.now job report.answer) }
+        ensures image { IfOk result (λ report. ForSome report.answer.picture IsImage) }
+        ensures closed { IfOk result
+            (λ report. All (IsSoundEnd catalog.now) report.closed.items) }
+        ensures nodes { IfOk result (λ report. length report.closed.items ≡ setup.now.nodes) }
+        ensures by_caller { IfOk result (λ report. report.by_caller ≡ length
+            (lacked_of catalog.now job schedule.now.inlining (all_held report.closed.items))) }
+    {
+        let Some(asked) = catalog.job(job) else {
+            unreachable!();
+        };
+        let keys = work_keys(alloc, asked, schedule)?;
+        let plan = Plan {
+            job: asked,
+            schedule,
+            keys: &keys,
+        };
+        let closed = work_all::<Brand, G, R>(rt, alloc, catalog, &plan, setup, gate)?;
+        let state = gather(alloc, &closed)?;
+        let done = finish(alloc, catalog, job, schedule, state)?;
+        Ok(FarmReport {
+            answer: done.answer,
+            closed,
+            by_caller: done.made,
+        })
+    }
+}
+
+// What is to be made, and how.
+#[derive(Clone, Copy)]
+struct Plan<'a> {
+    job: &'a Job,
+    schedule: &'a Schedule,
+    keys: &'a [Key],
+}
+
+// The ends of all nodes, after their workers have gone through all turns.
+fn work_all<C: NamedCatalog + Send + Sync, G: Gate + Sync, R: Threads + Wait + Sync>(
+    rt: &R,
+    alloc: Global,
+    catalog: &Catalog,
+    plan: &Plan<'_>,
+    setup: &FarmSetup,
+    gate: &G,
+) -> Result<Vec<Closed>, FarmFault>
+    requires { catalog.now ≡ C.catalog }
+    ensures sound { IfOk result (λ closed. All (IsSoundEnd C.catalog) closed.items) }
+    ensures count { IfOk result (λ closed. length closed.items ≡ setup.now.nodes) }
+{
+    let desk = LiveDesk::new(alloc);
+    let (nodes, seats) = open_all::<C>(alloc, catalog, setup)?;
+    let workers = workers(alloc, catalog, plan, setup, &desk, &nodes, seats)?;
+    let ends = run_all(rt, alloc, workers, gate)?;
+    let memory = ends.iter().any(|end| end.memory);
+    let closed = close_all(alloc, nodes, ends)?;
+    if memory {
+        return Err(FarmFault::Memory);
+    }
+    Ok(closed)
+}
+
+// The workers of all nodes, before their first turn.
+fn workers<'a, C: NamedCatalog>(
+    alloc: Global,
+    catalog: &'a Catalog,
+    plan: &Plan<'a>,
+    setup: &FarmSetup,
+    desk: &'a LiveDesk,
+    nodes: &'a [Node<C>],
+    seats: Vec<Vec<End>>,
+) -> Result<Vec<Worker<'a, C>>, AllocError>
+    requires { catalog.now ≡ C.catalog }
+{
+    let mut workers: Vec<Worker<'a, C>> = Vec::new(alloc);
+    let mut number: u8 = 0;
+    for (node, ends) in nodes.iter().zip(seats) {
+        for end in ends {
+            workers.reserve(1)?;
+            workers.push_reserved(Worker {
+                number,
+                home: number / WORKERS,
+                setup: *setup,
+                work: Work::new(catalog, plan.job, plan.schedule, plan.keys),
+                desk,
+                hand: Hand {
+                    node: &node.live,
+                    end,
+                },
+                lines: lines_to(alloc, nodes)?,
+                lost: Every::new(setup.faults.lose),
+                repeated: Every::new(setup.faults.repeat),
+            });
+            number = number.saturating_add(1);
+        }
+    }
+    Ok(workers)
+}
+
+// Runs each worker in a thread of its own, and joins them all.
+fn run_all<'a, C: NamedCatalog + Send + Sync, G: Gate + Sync, R: Threads + Wait + Sync>(
+    rt: &R,
+    alloc: Global,
+    workers: Vec<Worker<'a, C>>,
+    gate: &G,
+) -> Result<Vec<End>, FarmFault> {
+    thread::scope(
+        thread::scope_env(),
+        rt,
+        |scope| -> Result<Vec<End>, FarmFault> {
+            let mut handles = Vec::new(alloc);
+            let mut ends = Vec::new(alloc);
+            handles.reserve(workers.len())?;
+            ends.reserve(workers.len())?;
+            for worker in workers {
+                let Ok(handle) = scope.spawn(move || worker.run(rt, alloc, gate)) else {
+                    return Err(FarmFault::SpawnFailed);
+                };
+                if handles.push(handle).is_err() {
+                    return Err(FarmFault::Memory);
+                }
+            }
+            for handle in handles {
+                if ends.push(handle.join(rt)).is_err() {
+                    return Err(FarmFault::Memory);
+                }
+            }
+            Ok(ends)
+        },
+    )
+}

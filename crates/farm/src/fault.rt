@@ -1,0 +1,43 @@
+//! Why a farm has no answer.
+
+ghost use Rattle.std.specs.Prelude.{◌≡◌};
+
+use fault_rows::{Fault, FaultRow, fault_row};
+use std::alloc::AllocError;
+use thiserror::Error;
+
+/// Why a farm has no answer.
+#[derive(Clone, Copy, Debug, PartialEq, Eq, Error)]
+pub enum FarmFault {
+    /// 1: a thread could not be started.
+    #[error("a thread could not be started")]
+    SpawnFailed,
+    /// 2: no memory was left.
+    #[error("out of memory")]
+    Memory,
+    /// 3: the number of a receipt that does not match its node's history.
+    #[error("receipt {0} does not match the history")]
+    Close(u64),
+}
+
+impl Fault for FarmFault {
+    ghost use Rattle.farm.specs.FarmFaults.{farm_fault_number, farm_fault_name};
+
+    ghost number_of = { farm_fault_number };
+
+    ghost name_of = { farm_fault_name };
+
+    fn row(&self) -> FaultRow {
+        fault_row!(self, FarmFault { SpawnFailed = 1, Memory = 2, Close(_) = 3 })
+    }
+}
+
+impl From<AllocError> for FarmFault {
+    ghost use Rattle.farm.specs.declared.fault.FarmFault.TheVariants.{Memory};
+
+    ghost from_gives = { λ _ fault. fault ≡ Memory };
+
+    fn from(_fault: AllocError) -> FarmFault {
+        FarmFault::Memory
+    }
+}

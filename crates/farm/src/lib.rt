@@ -1,0 +1,16 @@
+//! A farm: nodes, each with two workers in threads of their own, that make the tiles of a job together and tell one another what they
+//! have made.
+#![tactic(auto)]
+
+mod closing;
+mod farm;
+mod fault;
+mod hand;
+mod node;
+mod report;
+mod worker;
+
+pub use farm::Farm;
+pub use fault::FarmFault;
+pub use live_nodes::Closed;
+pub use report::FarmReport;

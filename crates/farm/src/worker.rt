@@ -1,0 +1,164 @@
+//! What a worker does.
+
+ghost use Rattle.std.specs.Prelude.{IfOk, IfSome};
+ghost use Rattle.fact_audit.specs.TrueFacts.{IsTrueFact};
+
+use crate::hand::{End, Hand};
+use farm_work::{Every, FarmSetup, Gate, Work, copies_of, copy_of};
+use identity::Key;
+use leases::{Claim, LiveDesk};
+use named_catalogs::NamedCatalog;
+use node_state::{LendFault, NodeState};
+use overlap_tiles::TilePlan;
+use posts::{Line, Parcel};
+use std::alloc::{AllocError, Global};
+use std::sync::Wait;
+use tile_fact::Fact;
+
+/// For how many turns a worker leases a key.
+const LEASE: u64 = 16;
+
+/// In turns that are multiples of it, a worker has its node keep what it holds.
+const KEEPING: u32 = 4;
+
+/// One thread's work at a node.
+#[derive(Drop)]
+pub struct Worker<'a, C: NamedCatalog> {
+    /// Its number among all workers.
+    pub number: u8,
+    /// The number of its node.
+    pub home: u8,
+    pub setup: FarmSetup,
+    pub work: Work<'a, C>,
+    pub desk: &'a LiveDesk,
+    pub hand: Hand<'a, C>,
+    /// A line to the mailbox of each node.
+    pub lines: Vec<Line<'a, C>>,
+    /// Tells which parcels are not sent.
+    pub lost: Every,
+    /// Tells which parcels are given to the node twice.
+    pub repeated: Every,
+}
+
+impl<'a, C: NamedCatalog> Worker<'a, C> {
+    /// Goes through all turns, up to the first in which memory is refused.
+    pub fn run<R: Wait, G: Gate>(self, rt: &R, alloc: Global, gate: &G) -> End {
+        let mut worker = self;
+        for turn in 1..=worker.setup.turns {
+            gate.enter(worker.number, turn);
+            if worker.turn(rt, alloc, gate, turn).is_err() {
+                worker.hand.end.memory = true;
+                break;
+            }
+        }
+        let Worker { hand, .. } = worker;
+        let Hand { node: _, end } = hand;
+        end
+    }
+
+    fn turn<R: Wait, G: Gate>(
+        &mut self,
+        rt: &R,
+        alloc: Global,
+        gate: &G,
+        turn: u32,
+    ) -> Result<(), AllocError> {
+        self.receive(rt, alloc)?;
+        let state = self.hand.node.state(rt)?;
+        if let Some((key, plan)) = self.pick(rt, alloc, &state, turn)? {
+            let done = self.make(rt, alloc, gate, turn, &key, plan.needs());
+            self.desk.release(rt, u64::from(turn), self.number, &key);
+            done?;
+        }
+        if turn % KEEPING == 0 {
+            self.hand.keep(rt)?;
+        }
+        let restart = self.setup.faults.restart;
+        if restart > 0 && turn % restart == 0 {
+            self.hand.restart(rt)?;
+        }
+        Ok(())
+    }
+
+    // Takes parcels from the mailbox of its node, and gives them to the node.
+    fn receive<R: Wait>(&mut self, rt: &R, alloc: Global) -> Result<(), AllocError> {
+        for _ in 0..self.setup.capacity {
+            let Some(line) = self.lines.get_mut(usize::from(self.home)) else {
+                return Ok(());
+            };
+            let Some(parcel) = line.take(rt) else {
+                return Ok(());
+            };
+            if self.repeated.is_next() {
+                let again = copies_of(alloc, &parcel.facts)?;
+                self.hand.take(rt, again)?;
+            }
+            self.hand.take(rt, parcel.facts)?;
+        }
+        Ok(())
+    }
+
+    // The first key that can be made and is leased to the worker.
+    fn pick<R: Wait>(
+        &self,
+        rt: &R,
+        alloc: Global,
+        state: &NodeState,
+        turn: u32,
+    ) -> Result<Option<(Key, TilePlan<'a>)>, AllocError> {
+        for key in self.work.keys {
+            if let Some(plan) = self.work.open_plan(alloc, state, key)? {
+                match self
+                    .desk
+                    .claim(rt, u64::from(turn), self.number, *key, LEASE)
+                {
+                    Claim::Granted { .. } | Claim::Renewed { .. } => return Ok(Some((*key, plan))),
+                    Claim::Held { .. } => {}
+                    Claim::Memory => return Err(AllocError),
+                }
+            }
+        }
+        Ok(None)
+    }
+
+    // Makes the tile of a key from what its node lends, and gives its fact to the node and to all others. Nothing is made where the
+    // other worker has restarted the node, so that it holds the needs no more.
+    fn make<R: Wait, G: Gate>(
+        &mut self,
+        rt: &R,
+        alloc: Global,
+        gate: &G,
+        turn: u32,
+        key: &Key,
+        needs: &[Key],
+    ) -> Result<(), AllocError> {
+        let facts = match self.hand.lend(rt, needs) {
+            Ok(facts) => facts,
+            Err(LendFault::NotHeld(_)) => return Ok(()),
+            Err(LendFault::Memory) => return Err(AllocError),
+        };
+        let Some(fact) = self.work.make(alloc, &facts, key)? else {
+            return Ok(());
+        };
+        gate.made(self.number, turn, &fact);
+        self.hand.take(rt, copy_of(alloc, &fact)?)?;
+        self.send(rt, alloc, &fact)
+    }
+
+    // Puts a parcel with the fact into each other node's mailbox, but for those that are to be lost. One that is handed back is dropped.
+    fn send<R: Wait>(&mut self, rt: &R, alloc: Global, fact: &Fact) -> Result<(), AllocError>
+        requires { IsTrueFact C.catalog fact.now }
+    {
+        let home = usize::from(self.home);
+        for (node, line) in self.lines.iter_mut().enumerate() {
+            if node != home && !self.lost.is_next() {
+                let parcel = Parcel {
+                    from: self.home,
+                    facts: copy_of(alloc, fact)?,
+                };
+                let _ = line.put(rt, parcel);
+            }
+        }
+        Ok(())
+    }
+}
