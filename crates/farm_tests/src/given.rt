@@ -94,14 +94,6 @@ impl Given {
         setup: &FarmSetup,
         gate: &G,
     ) -> Result<FarmReport, Fail> {
-        Ok(Farm::run(
-            rt,
-            alloc,
-            &self.jobs,
-            0,
-            setup,
-            &self.schedule,
-            gate,
-        )?)
+        Ok(Farm::run(rt, alloc, &self.jobs, 0, setup, &self.schedule, gate)?)
     }
 }

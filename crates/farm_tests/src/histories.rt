@@ -3,7 +3,6 @@
 use crate::given::{Given, NO_FAULTS, setup};
 use crate::watch::Watch;
 use books::Event;
-use farm::FarmReport;
 use farm_work::Faults;
 use identity::Key;
 use std::alloc::Global;
@@ -77,43 +76,44 @@ fn times_taken(history: &[Event], key: &Key) -> u64 {
     times
 }
 
-/// Of two nodes, how often each took the fact of a key that others made.
-struct Received {
-    counts: Vec<u64>,
-}
-
-impl Received {
-    // Each node took what its own workers made, and besides what it received.
-    fn by(alloc: Global, given: &Given, watch: &Watch<'_>, report: &FarmReport) -> Result<Received, Fail> {
-        let mut counts = Vec::new(alloc);
-        for (node, closed) in (0u8..).zip(&report.closed) {
-            for (place, key) in given.keys.iter().enumerate() {
-                let taken = times_taken(closed.history(), key);
-                let others = taken.checked_sub(watch.times(node, place));
-                counts.push(others.ok_or("what was made was not taken")?)?;
-            }
-        }
-        Ok(Received { counts })
+// How often a node took facts of each key, besides those that its own workers made.
+fn arrivals(
+    alloc: Global,
+    given: &Given,
+    watch: &Watch<'_>,
+    node: u8,
+    history: &[Event],
+) -> Result<Vec<u64>, Fail> {
+    let mut counts = Vec::new(alloc);
+    for (place, key) in given.keys.iter().enumerate() {
+        let others = times_taken(history, key).checked_sub(watch.times(node, place));
+        counts.push(others.ok_or("what was made was not taken")?)?;
     }
+    Ok(counts)
 }
 
-// What each of two nodes received of the tiles of each key, in fifty turns.
+// How often each of two nodes took a fact of the other, key by key, in fifty turns.
 fn received<R: Threads + Wait + Sync>(
     rt: &R,
     alloc: Global,
     faults: Faults,
-) -> Result<Received, Fail> {
+) -> Result<Vec<u64>, Fail> {
     let given = Given::fourfold(alloc, true)?;
     let watch = Watch::new(alloc, &given.keys)?;
     let report = given.run(rt, alloc, &setup(2, 50, 64, faults)?, &watch)?;
-    Received::by(alloc, &given, &watch, &report)
+    let mut counts = Vec::new(alloc);
+    for (node, closed) in [0, 1].iter().zip(&report.closed) {
+        let more = arrivals(alloc, &given, &watch, *node, closed.history())?;
+        counts.extend_from_slice(&more)?;
+    }
+    Ok(counts)
 }
 
 #[test]
 fn parcels_arrive(rt: HostRuntime) -> Result<(), Fail> {
-    let received = received(&rt, rt.alloc(), NO_FAULTS)?;
+    let counts = received(&rt, rt.alloc(), NO_FAULTS)?;
     holds(
-        Some(received.counts.iter().any(|count| *count > 0)),
+        Some(counts.iter().any(|count| *count > 0)),
         "facts of other nodes are taken",
     )
 }
@@ -125,9 +125,9 @@ fn lost_parcels_do_not_arrive(rt: HostRuntime) -> Result<(), Fail> {
         repeat: 0,
         restart: 0,
     };
-    let received = received(&rt, rt.alloc(), lossy)?;
+    let counts = received(&rt, rt.alloc(), lossy)?;
     holds(
-        Some(received.counts.iter().all(|count| *count == 0)),
+        Some(counts.iter().all(|count| *count == 0)),
         "no fact of another node is taken",
     )
 }
@@ -139,13 +139,13 @@ fn repeated_parcels_are_taken_twice(rt: HostRuntime) -> Result<(), Fail> {
         repeat: 1,
         restart: 0,
     };
-    let received = received(&rt, rt.alloc(), repeating)?;
+    let counts = received(&rt, rt.alloc(), repeating)?;
     holds(
-        Some(received.counts.iter().any(|count| *count > 0)),
+        Some(counts.iter().any(|count| *count > 0)),
         "facts of other nodes are taken",
     )?;
     holds(
-        Some(received.counts.iter().all(|count| *count % 2 == 0)),
+        Some(counts.iter().all(|count| *count % 2 == 0)),
         "each is taken twice",
     )
 }

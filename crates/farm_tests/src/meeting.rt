@@ -68,7 +68,8 @@ impl<'a> Meeting<'a> {
 
     // The tiles of the first four keys, and no others, were made, each once.
     fn saw_the_first_four(&self) -> bool {
-        let first = (0..4).all(|place| self.watch.times(0, place) + self.watch.times(1, place) == 1);
+        let first = (0..4).all(|place| self.watch.times(0, place) + self.watch.times(1, place)
+            == 1);
         first && self.watch.made_keys() == 4
     }
 }

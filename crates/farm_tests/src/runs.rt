@@ -32,7 +32,10 @@ fn answered<G: Gate + Sync, R: Threads + Wait + Sync>(
 ) -> Result<FarmReport, Fail> {
     let report = given.run(rt, alloc, setup, gate)?;
     let picture = report.answer.picture.as_ref().ok_or("no picture")?;
-    holds(Some(raw(alloc, picture)?.as_slice() == ANSWER), "the picture")?;
+    holds(
+        Some(raw(alloc, picture)?.as_slice() == ANSWER),
+        "the picture",
+    )?;
     Ok(report)
 }
 
