@@ -23,11 +23,11 @@ func corners(x in [0..R-1], y in [0..C-1]) {
 }
 output corners max 255;";
 
-// A picture of 1,024 rows and columns.
+// A picture of 256 rows and columns.
 fn picture(alloc: Global) -> Result<Vec<u8>, AllocError> {
-    let mut file = Vec::with_capacity(alloc, 1_100_000)?;
-    file.extend_from_slice(b"P5 1024 1024 255\n")?;
-    for place in 0..1_048_576u32 {
+    let mut file = Vec::with_capacity(alloc, 66_000)?;
+    file.extend_from_slice(b"P5 256 256 255\n")?;
+    for place in 0..65_536u32 {
         let number = place.wrapping_mul(40_503) >> 7;
         file.push((number & 0xff) as u8)?;
     }
@@ -39,7 +39,7 @@ fn picture(alloc: Global) -> Result<Vec<u8>, AllocError> {
 fn few_tiles_are_left_to_the_caller(rt: HostRuntime) -> Result<(), Fail> {
     let alloc = rt.alloc();
     let file = picture(alloc)?;
-    let given = Given::new(alloc, CORNERS, &file, 64, false)?;
+    let given = Given::new(alloc, CORNERS, &file, 16, false)?;
     holds(Some(given.keys.len() == 256), "256 tiles")?;
     let report = given.run(&rt, alloc, &setup(2, 250, 8, NO_FAULTS)?, &Open)?;
     holds(
