@@ -34,16 +34,16 @@ fn picture(alloc: Global) -> Result<Vec<u8>, AllocError> {
     Ok(file)
 }
 
-// Of 256 tiles the workers make nearly all.
+// Of 64 tiles, for which four workers have 62 turns each, nearly all are made by these.
 #[test]
 fn few_tiles_are_left_to_the_caller(rt: HostRuntime) -> Result<(), Fail> {
     let alloc = rt.alloc();
     let file = picture(alloc)?;
-    let given = Given::new(alloc, CORNERS, &file, 16, false)?;
-    holds(Some(given.keys.len() == 256), "256 tiles")?;
-    let report = given.run(&rt, alloc, &setup(2, 250, 8, NO_FAULTS)?, &Open)?;
+    let given = Given::new(alloc, CORNERS, &file, 32, false)?;
+    holds(Some(given.keys.len() == 64), "64 tiles")?;
+    let report = given.run(&rt, alloc, &setup(2, 62, 8, NO_FAULTS)?, &Open)?;
     holds(
-        Some(report.by_caller <= 25),
-        "at most 25 tiles are left to the caller",
+        Some(report.by_caller <= 6),
+        "a tenth of the tiles is left to the caller",
     )
 }
