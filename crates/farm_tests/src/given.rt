@@ -1,41 +1,99 @@
-//! A catalog of one job, which blurs a grey picture.
+//! What farms are given.
 
-use binding::bind;
+ghost use Rattle.std.specs.Prelude.{IfOk};
+ghost use Rattle.farm_answers.specs.Answering.{IsPlanned};
+ghost use Rattle.grouping.specs.Inlining.{AllFitScratch, IsScheduleOf};
+ghost use Rattle.job.specs.Kept.{pipeline_in};
+
 use catalog::Catalog;
-use domains::TileSides;
+use farm::{Farm, FarmReport};
+use farm_work::{FarmSetup, Faults, Gate};
+use grouping::Schedule;
+use identity::Key;
 use job::Job;
-use netpbm::read;
-use pipe_bounds::Params;
-use pipe_checks::check;
-use pipe_lang::parse;
+use overlap_tiles::work_keys;
 use std::alloc::Global;
+use std::sync::Wait;
 use std::test::Fail;
+use std::thread::Threads;
+use test_jobs::{admit, job_of};
 
-/// A program that adds each number's right neighbour to it, twice, and counts.
-const SUMS: &[u8] =
-    b"image I(4,4); func f(x in [0..3], y in [0..2]) { else : I(x,y) + I(x,y+1); } func g(x in [0..3], y in [0..1]) { else : f(x,y) + f(x,y+1); } output g max 255;";
+/// A function of two rows and columns, and one that reads each of its points four times.
+const FOURFOLD: &str = "image I(4,4);
+func f(x in [0..1], y in [0..1]) { else : I(2*x,2*y); }
+func g(x in [0..3], y in [0..3]) { else : f(x/2,y/2); }
+output g max 255;";
 
-const PICTURE: &[u8] = b"P2\n4 4\n255\n1 2 3 4\n5 6 7 8\n9 10 11 12\n13 14 15 16\n";
+/// A picture of the numbers up to fifteen.
+const SIXTEEN: &[u8] = b"P2 4 4 255 0 1 2 3 4 5 6 7 8 9 10 11 12 13 14 15\n";
 
-/// The job, in tiles of this side.
-pub fn sums(alloc: Global, side: u32) -> Result<Job, Fail> {
-    let sides = TileSides::new(side, side).ok_or("no sides")?;
-    let picture = read(alloc, PICTURE)?;
-    let Ok(checked) = check(alloc, parse(alloc, SUMS)?) else {
-        return Err(Fail::new("the program is refused"));
-    };
-    let params = Params::of(alloc, &checked)?;
-    match bind(alloc, checked, &params, picture, sides) {
-        Ok(job) => Ok(job),
-        Err(_) => Err(Fail::new("the job is refused")),
+/// No parcel is lost or repeated, and no node restarts.
+pub const NO_FAULTS: Faults = Faults {
+    lose: 0,
+    repeat: 0,
+    restart: 0,
+};
+
+/// So many nodes, turns and parcels in a mailbox, and these faults.
+pub fn setup(nodes: u8, turns: u32, capacity: u32, faults: Faults) -> Result<FarmSetup, Fail> {
+    Ok(FarmSetup::new(nodes, turns, capacity, faults).ok_or("no such farm")?)
+}
+
+/// A job in a catalog of its own, with a schedule and the keys of what is made by it.
+#[derive(Drop)]
+pub struct Given {
+    pub jobs: Catalog,
+    pub keys: Vec<Key>,
+    schedule: Schedule,
+    ghost planned: { IsPlanned jobs 0 schedule },
+}
+
+// The schedule that inlines nothing, or the greedy one at 40 percent.
+fn schedule_of(alloc: Global, job: &Job, stored: bool) -> Result<Schedule, Fail>
+    ensures schedule { IfOk result (IsScheduleOf (pipeline_in job.now)) }
+    ensures fits { IfOk result (λ s. AllFitScratch (pipeline_in job.now) s.inlining) }
+{
+    if stored {
+        Ok(Schedule::stored(alloc, job)?)
+    } else {
+        Ok(Schedule::greedy(alloc, job, 40)?)
     }
 }
 
-/// The catalog of the job.
-pub fn catalog_of(alloc: Global, side: u32) -> Result<Catalog, Fail> {
-    let mut jobs = Catalog::new(alloc);
-    match jobs.admit(sums(alloc, side)?) {
-        Ok(_) => Ok(jobs),
-        Err(_) => Err(Fail::new("the job is not admitted")),
+impl Given {
+    /// The job of a program and a picture in tiles of this side.
+    pub fn new(
+        alloc: Global,
+        text: &str,
+        file: &[u8],
+        side: u32,
+        stored: bool,
+    ) -> Result<Given, Fail> {
+        let mut jobs = Catalog::new(alloc);
+        admit(&mut jobs, job_of(alloc, text, &[], file, (side, side))?)?;
+        let job = jobs.job(0).ok_or("no job")?;
+        let schedule = schedule_of(alloc, job, stored)?;
+        let keys = work_keys(alloc, job, &schedule)?;
+        Ok(Given {
+            jobs,
+            keys,
+            schedule,
+        })
+    }
+
+    /// Four points that are each read four times, in tiles of one point: twenty of them, where each is stored.
+    pub fn fourfold(alloc: Global, stored: bool) -> Result<Given, Fail> {
+        Given::new(alloc, FOURFOLD, SIXTEEN, 1, stored)
+    }
+
+    /// Runs a farm.
+    pub fn run<G: Gate + Sync, R: Threads + Wait + Sync>(
+        &self,
+        rt: &R,
+        alloc: Global,
+        setup: &FarmSetup,
+        gate: &G,
+    ) -> Result<FarmReport, Fail> {
+        Ok(Farm::run(rt, alloc, &self.jobs, 0, setup, &self.schedule, gate)?)
     }
 }

@@ -1,80 +1,102 @@
 //! Four workers that wait for one another.
 
-use crate::given::catalog_of;
+use crate::given::{Given, NO_FAULTS, setup};
+use crate::watch::Watch;
+use catalog::Catalog;
 use fact_audit::{Verdict, audit};
-use farm::Farm;
-use farm_work::{FarmSetup, Faults, Gate};
-use grouping::Schedule;
+use farm_work::Gate;
+use std::alloc::Global;
 use std::sync::atomic::{AtomicU64, Ordering};
-use std::test::*;
+use std::test::Fail;
 use std::thread;
+use test_checks::holds;
 use tile_fact::Fact;
 
-/// Where all four wait: as each enters, and as each has made a fact, whose computing no lock is held round.
+/// A place where four meet.
 #[derive(Drop)]
-struct Meeting {
-    entered: AtomicU64,
-    made: AtomicU64,
+struct Place {
+    marks: AtomicU64,
     late: AtomicU64,
 }
 
-impl Meeting {
-    fn new() -> Meeting {
-        Meeting {
-            entered: AtomicU64::new(0),
-            made: AtomicU64::new(0),
+impl Place {
+    fn new() -> Place {
+        Place {
+            marks: AtomicU64::new(0),
             late: AtomicU64::new(0),
         }
     }
 
     // Waits until four have come, but not for ever.
-    fn meet(&self, marks: &AtomicU64) {
-        marks.fetch_add(1, Ordering::SeqCst);
+    fn meet(&self) {
+        self.marks.fetch_add(1, Ordering::SeqCst);
         for _ in 0..10_000_000 {
-            if marks.load(Ordering::SeqCst) >= 4 {
+            if self.marks.load(Ordering::SeqCst) >= 4 {
                 return;
             }
             thread::yield_now();
         }
         self.late.fetch_add(1, Ordering::SeqCst);
     }
+
+    // Four have come, and none waited in vain.
+    fn has_met(&self) -> bool {
+        self.marks.load(Ordering::SeqCst) == 4 && self.late.load(Ordering::SeqCst) == 0
+    }
 }
 
-impl Gate for Meeting {
+/// Workers wait as they enter, and as each has made a fact. True facts are counted.
+#[derive(Drop)]
+struct Meeting<'a> {
+    alloc: Global,
+    jobs: &'a Catalog,
+    entered: Place,
+    made: Place,
+    watch: Watch<'a>,
+}
+
+impl<'a> Meeting<'a> {
+    fn new(alloc: Global, given: &'a Given) -> Result<Meeting<'a>, Fail> {
+        Ok(Meeting {
+            alloc,
+            jobs: &given.jobs,
+            entered: Place::new(),
+            made: Place::new(),
+            watch: Watch::new(alloc, &given.keys)?,
+        })
+    }
+
+    // The tiles of the first four keys, and no others, were made, each once.
+    fn saw_the_first_four(&self) -> bool {
+        let first = (0..4).all(|place| self.watch.times(0, place) + self.watch.times(1, place)
+            == 1);
+        first && self.watch.made_keys() == 4
+    }
+}
+
+impl Gate for Meeting<'_> {
     fn enter(&self, _worker: u8, _turn: u32) {
-        self.meet(&self.entered);
+        self.entered.meet();
     }
 
-    fn made(&self, _worker: u8, _turn: u32, _fact: &Fact) {
-        self.meet(&self.made);
+    fn made(&self, worker: u8, turn: u32, fact: &Fact) {
+        if let Ok(Verdict::True) = audit(self.alloc, self.jobs, fact) {
+            self.watch.made(worker, turn, fact);
+        }
+        self.made.meet();
     }
 }
 
-// Two nodes, one turn, and at least four tiles that need none of the others. One lock round the computing of a tile, or one thread that
-// does all, and the four do not meet.
+// Two nodes, one turn, and four tiles that need no other. Where one thread does all, or a lock is held round the making of a tile, the
+// four don't meet.
 #[test]
 fn four_workers_meet(rt: HostRuntime) -> Result<(), Fail> {
     let alloc = rt.alloc();
-    let catalog = catalog_of(alloc, 1)?;
-    let job = catalog.job(0).ok_or("no job")?;
-    let schedule = Schedule::stored(alloc, job)?;
-    let faults = Faults {
-        lose: 0,
-        repeat: 0,
-        restart: 0,
-    };
-    let setup = FarmSetup::new(2, 1, 8, faults).ok_or("no setup")?;
-    let gate = Meeting::new();
-    let report = Farm::run(&rt, alloc, &catalog, 0, &setup, &schedule, &gate)?;
-    assert_eq!(rt; gate.late.load(Ordering::SeqCst), 0);
-    assert_eq!(rt; gate.made.load(Ordering::SeqCst), 4);
-    let mut held = 0;
-    for closed in &report.closed {
-        for fact in &closed.state().facts()? {
-            held += 1;
-            assert!(rt; matches!(audit(alloc, &catalog, fact)?, Verdict::True));
-        }
-    }
-    assert_eq!(rt; held, 4);
-    Ok(())
+    let given = Given::fourfold(alloc, true)?;
+    let gate = Meeting::new(alloc, &given)?;
+    let report = given.run(&rt, alloc, &setup(2, 1, 8, NO_FAULTS)?, &gate)?;
+    holds(Some(gate.entered.has_met()), "the four meet as they enter")?;
+    holds(Some(gate.made.has_met()), "the four meet with their facts")?;
+    holds(Some(gate.saw_the_first_four()), "four true facts")?;
+    holds(Some(report.by_caller == 16), "sixteen tiles are left")
 }

@@ -3,7 +3,7 @@
 ghost use Rattle.std.specs.Prelude.{◌≡◌, []};
 
 use catalog::Catalog;
-use posts::{Parcel, Post};
+use posts::{Line, Parcel, Post};
 use std::alloc::Global;
 use std::marker::Brand;
 use std::test::*;
@@ -36,5 +36,23 @@ fn one_parcel_has_room(rt: HostRuntime) -> Result<(), Fail> {
         None => return Err(Fail::new("nothing is in it")),
     }
     assert!(rt; post.take(&rt, pass).is_none());
+    Ok(())
+}
+
+#[test]
+fn a_line_leads_to_its_mailbox(rt: HostRuntime) -> Result<(), Fail> {
+    let alloc = rt.alloc();
+    let (post, _passes) = Post::<Brand>::new(alloc, &Catalog::new(alloc), 1, 0)?;
+    let mut line = Line::to(&post);
+    assert!(rt; line.put(&rt, empty(alloc, 3)).is_ok());
+    match line.put(&rt, empty(alloc, 4)) {
+        Ok(()) => return Err(Fail::new("two parcels are in it")),
+        Err(back) => assert_eq!(rt; back.from, 4),
+    }
+    match line.take(&rt) {
+        Some(parcel) => assert_eq!(rt; parcel.from, 3),
+        None => return Err(Fail::new("nothing is in it")),
+    }
+    assert!(rt; line.take(&rt).is_none());
     Ok(())
 }

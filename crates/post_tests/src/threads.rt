@@ -10,6 +10,9 @@ use std::sync::atomic::{AtomicU64, Ordering};
 use std::test::*;
 use std::thread;
 
+/// How often a thread tries before it gives up.
+const TRIES: u32 = 10_000_000;
+
 // Puts a hundred parcels in, each again where it is handed back.
 fn put_hundred<R: Wait>(rt: &R, alloc: Global, line: Line<'_, Brand>, second: bool) {
     let mut line = line;
@@ -20,7 +23,7 @@ fn put_hundred<R: Wait>(rt: &R, alloc: Global, line: Line<'_, Brand>, second: bo
 }
 
 fn put_one<R: Wait>(rt: &R, alloc: Global, line: &mut Line<'_, Brand>, from: u8) {
-    for _ in rt.forever() {
+    for _ in 0..TRIES {
         if line.put(rt, empty(alloc, from)).is_ok() {
             return;
         }
@@ -37,7 +40,7 @@ fn take_some<R: Wait>(
 ) -> Result<Vec<u8>, AllocError> {
     let mut line = line;
     let mut senders = Vec::with_capacity(alloc, 200)?;
-    for _ in rt.forever() {
+    for _ in 0..TRIES {
         if taken.load(Ordering::SeqCst) >= 200 {
             break;
         }

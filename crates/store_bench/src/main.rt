@@ -78,7 +78,12 @@ fn measure<S: FactStore>(
     let file = state.export()?;
     eprintln!(rt; "exported {:?}", start.elapsed(rt)?)?;
     let copies = copies(alloc, &merged, count)?;
-    println!(rt; "{} facts, {} bytes, {} copies", facts.len(), file.len(), copies.len())?;
+    println!(rt;
+        "{} facts, {} bytes, {} copies",
+        facts.len(),
+        file.len(),
+        copies.len()
+    )?;
     Ok(())
 }
 

@@ -2,7 +2,7 @@
 
 mod held;
 mod made;
-mod worlds;
+mod one_node;
 
 use fact_store::{FactStore, SortedFacts, TableFacts};
 use std::alloc::Global;
@@ -14,7 +14,7 @@ fn files<S: FactStore>(alloc: Global) -> Result<Vec<u8>, Fail> {
     let mut all = held::forgets_order::<S>(alloc)?;
     all.extend_from_slice(&held::disputes::<S>(alloc)?)?;
     all.extend_from_slice(&made::makes::<S>(alloc)?)?;
-    all.extend_from_slice(&worlds::restarts::<S>(alloc)?)?;
+    all.extend_from_slice(&one_node::restarts::<S>(alloc)?)?;
     Ok(all)
 }
 

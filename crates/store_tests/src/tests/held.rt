@@ -91,7 +91,10 @@ fn answers<S: FactStore>(alloc: Global, job: &Job) -> Result<(), Fail> {
     let answer = state.answer(job).ok().ok_or("no answer")?;
     let picture = answer.picture.as_ref().ok_or("no picture")?;
     let plane = picture.planes().first().ok_or("no plane")?;
-    holds(Some(plane.as_slice() == [1, 2, 3, 4]), "the plane")
+    holds(
+        Some(plane.as_slice() == [1, 2, 3, 4].as_slice()),
+        "the plane",
+    )
 }
 
 /// Two facts of one tile in either order, and one of them alone.

@@ -33,7 +33,10 @@ fn lacks<S: FactStore>(alloc: Global, state: &NodeState<S>) -> Result<(), Fail> 
     let fault = state.make(&jobs, &schedule, &wanted).err();
     holds(Some(fault == Some(MakeFault::NeedMissing(need))), "a need")?;
     let missing = state.missing(jobs.job(0).ok_or("no job")?)?;
-    holds(Some(missing.as_slice() == [wanted]), "one key is missing")
+    holds(
+        Some(missing.as_slice() == [wanted].as_slice()),
+        "one key is missing",
+    )
 }
 
 /// What is made of nothing, where the first stencil is inlined.

@@ -47,7 +47,11 @@ fn finishes<S: FactStore>(alloc: Global) -> Result<Vec<u8>, Fail> {
 /// What is not kept is gone after a restart, and what is delivered again is held again.
 pub fn restarts<S: FactStore>(alloc: Global) -> Result<Vec<u8>, Fail> {
     leaves::<S>(alloc, b"make 0 0:1:0:0\ndeliver 0 0\nrestart 0", 8)?;
-    let kept = leaves::<S>(alloc, b"make 0 0:1:0:0\ndeliver 0 0\nkeep 0\nrestart 0", 103)?;
+    let kept = leaves::<S>(
+        alloc,
+        b"make 0 0:1:0:0\ndeliver 0 0\nkeep 0\nrestart 0",
+        103,
+    )?;
     let late = leaves::<S>(alloc, b"make 0 0:1:0:0\nrestart 0\ndeliver 0 0", 103)?;
     holds(Some(late == kept), "the same file")?;
     holds(Some(finishes::<S>(alloc)? == kept), "that of a whole job")?;
