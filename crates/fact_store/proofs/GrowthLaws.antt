@@ -10,9 +10,9 @@ use Rattle.tile_fact.specs.Order.{fact_cmp}
 use Rattle.fact_store.proofs.JoinLaws.{filter_same}
 use Rattle.fact_store.proofs.KeyLaws.{any_filter, any_lacked}
 use Rattle.fact_store.proofs.SetLaws.{same_set, same_fact, holds-facts_in, holds-with_fact, holds-with_facts, holds-nothing}
-use Rattle.fact_store.proofs.SetLaws.{holds-join, with_held, join_nothing, subset_left, with_fact_has, rises-facts_in, split}
+use Rattle.fact_store.proofs.SetLaws.{holds-join, with_held, join_nothing, join_one_more, subset_left, with_fact_has, rises-facts_in, split}
 use Rattle.fact_store.proofs.SortedLaws.{both, facts_in-set_of, holds-set_of, set_of-none}
-use Rattle.fact_store.specs.Facts.{FactSet, holds, facts_in, with_fact, join, lacked, IsSubset}
+use Rattle.fact_store.specs.Facts.{FactSet, nothing, holds, facts_in, with_fact, with_facts, join, lacked, IsSubset}
 use Rattle.fact_store.specs.inside.SortedLists.{rises, below_each, set_of}
 
 -- ---- lists that rise and have the same facts are one
@@ -188,3 +188,8 @@ pub count_list : (s t u : FactSet) (xs : List Fact) (n m : ℕ) → IsSubset s t
     → n ≡ length (lacked s t) → m ≡ length (lacked t u) → n + m ≡ length (lacked s u)
 count_list s t u xs n m below next first then =
     ap (λ k. k + m) first ∙ ap (λ k. length (lacked s t) + k) then ∙ sym (two_steps s t u below (grown_by_list t u xs next))
+
+-- one fact alone
+pub join_one : (s : FactSet) (f : Fact) → join s (set_of (f ∷ [])) ≡ with_fact s f
+unfolding set_of with_facts
+join_one s f = join_one_more s nothing f ∙ ap (λ t. with_fact t f) (join_nothing s)

@@ -1,6 +1,6 @@
 -- Tables that stand, the list of all their facts, and what an insertion does to it.
-use Rattle.std.specs.Prelude.{◌≡◌, ℕ, zero, suc, ◌<◌, ◌&&◌, ◌||◌, Bool, true, false, cond, not, List, [], ◌∷◌, ◌++◌, Option, Some, None}
-use Rattle.std.specs.Prelude.{refl, slice_get, length, filter, unwrap_or, insert, Result, Ok, Err, OnOk, OnErr}
+use Rattle.std.specs.Prelude.{◌≡◌, ℕ, zero, suc, ◌<◌, ◌≤◌, ◌&&◌, ◌||◌, Bool, true, false, cond, not, List, [], ◌∷◌, ◌++◌, Option, Some, None}
+use Rattle.std.specs.Prelude.{refl, slice_get, slice_index_or, length, filter, unwrap_or, insert, Result, Ok, Err, OnOk, OnErr}
 use Rattle.std.proofs.Common.{ap, sym, ◌∙◌, arith}
 use Rattle.std.specs.declared.cmp.Ordering.TheVariants.{Less, Equal, Greater}
 use Rattle.std.specs.BTreeMap.{insert_entry, is_at}
@@ -296,3 +296,14 @@ least-tables es h = ap (λ xs. slice_get xs 0) (sym (facts_in-set_of (all_facts 
 pub no_first : {A : Type 0} (es : Tables) (r : Option A) → r ≡ None → (0 < length es → IsSome r) → es ≡ []
 no_first [] r none some = refl
 no_first (e ∷ es) r none some = let has : is_some r ≡ true = some (omega arith) in cc
+
+-- where one table alone has one fact alone, this is all
+pub only_fact : (es : Tables) (k : Key) (xs : List Fact) (f : Fact) → length es ≤ 1 → slice_get es 0 ≡ Some (k, xs)
+    → length xs ≡ 1 → f ≡ slice_index_or xs 0 f → all_facts es ≡ f ∷ []
+only_fact [] k xs f few at one is = cc
+only_fact (e ∷ d ∷ es) k xs f few at one is = absurd (omega (arith, few))
+only_fact (e ∷ []) k [] f few at one is = cc
+only_fact (e ∷ []) k (x ∷ y ∷ xs) f few at one is = cc
+only_fact (e ∷ []) k (x ∷ []) f few at one is =
+    let same : e.1 ≡ x ∷ [] = cc in
+    ap (λ ys. ys ++ []) same ∙ ap (λ g. g ∷ []) (sym is)

@@ -2,6 +2,7 @@
 #![tactic(auto)]
 
 pub mod laws;
+mod shared;
 mod sorted;
 mod store;
 mod tables;

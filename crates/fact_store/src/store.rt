@@ -1,8 +1,8 @@
 //! What keeps a finite set of facts.
 
-ghost use Rattle.fact_store.specs.Facts.{FactSet, nothing, with_fact, join, holds, lacked, facts_of, least, least_above};
+ghost use Rattle.fact_store.specs.Facts.{FactSet, nothing, with_fact, join, holds, lacked, facts_in, facts_of, least, least_above};
 ghost use Rattle.std.specs.Option.{option_copied};
-ghost use Rattle.std.specs.Prelude.{◌≡◌, OnOk, OnErr, IfOk, IfErr, length, slice_get, not, false};
+ghost use Rattle.std.specs.Prelude.{◌≡◌, OnOk, OnErr, IfOk, IfErr, length, map, slice_get, not, false};
 
 use identity::Key;
 use std::alloc::{AllocError, AllocFailed, Global};
@@ -46,6 +46,10 @@ pub trait FactStore: Drop + Sized {
     /// The fact of a key that has so many facts of the key below it.
     fn nth(&self, key: &Key, n: usize) -> Option<&Fact>
         ensures { option_copied result ≡ slice_get (facts_of (content self.now) key.now) n };
+
+    /// The keys of all facts, rising; a key of several facts stands there as often.
+    fn keys(&self) -> Result<Vec<Key>, AllocError>
+        ensures { IfOk result (λ keys. keys.items ≡ map (λ f. f.key) (facts_in (content self.now))) };
 
     /// The least fact.
     fn least(&self) -> Option<&Fact>

@@ -1,9 +1,13 @@
 -- Tables of facts, one for each key that has any, and the sets that they stand for.
+use Rattle.std.specs.Arc.{arc_value}
 use Rattle.std.specs.BTreeMap.{is_at}
 use Rattle.std.specs.List.{list_all}
 use Rattle.std.specs.Map.{lookup}
 use Rattle.std.specs.Ordering.{is_lt}
-use Rattle.std.specs.Prelude.{Bool, true, false, ◌&&◌, List, [], ◌∷◌, ◌++◌, filter, unwrap_or}
+use Rattle.std.specs.Prelude.{Bool, true, false, ◌&&◌, List, [], ◌∷◌, ◌++◌, Option, Some, None, filter, unwrap_or}
+use Rattle.std.specs.declared.alloc.Global.{Global}
+use Rattle.std.specs.declared.collections.BTreeMap.{BTreeMap}
+use Rattle.std.specs.declared.sync.Arc.{Arc}
 use Rattle.identity.specs.declared.key.Key.{Key}
 use Rattle.identity.specs.Keys.{key_cmp}
 use Rattle.tile_fact.specs.declared.fact.Fact.{Fact}
@@ -13,6 +17,11 @@ use Rattle.fact_store.specs.inside.SortedLists.{rises, set_of}
 -- keys, each with its table of facts
 abbrev pub Tables : Type 0
 Tables = List (Key × List Fact)
+
+-- the tables of a map that copies may share, none where there is no map
+abbrev pub tables_in : Option (Arc (BTreeMap Key (List Fact) Global) Global) → Tables
+tables_in None = []
+tables_in (Some map) = (arc_value map).entries
 
 -- the facts of all tables, one table after another
 abbrev pub all_facts : Tables → List Fact

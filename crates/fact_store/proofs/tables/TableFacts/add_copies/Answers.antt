@@ -6,14 +6,14 @@ use Rattle.fact_store.proofs.tables.TableFacts.add_copies.Goals as goal
 
 pub loop-fact-init : goal.loop-fact-init
 loop-fact-init c =
-    let start = set_in c.args.self.now.tables.entries in
+    let start = set_in c.args.self.now.tables in
     record { added = sym (join_none start); few = omega arith; counted = sym (no_step start) }
 
 pub loop-fact-preserved : goal.loop-fact-preserved
 loop-fact-preserved c =
-    let start = set_in c.args.self.now.tables.entries in
-    let now = set_in c.loop-fact.self.tables.entries in
-    let next = set_in c.add_copy.new.self.tables.entries in
+    let start = set_in c.args.self.now.tables in
+    let now = set_in c.loop-fact.self.tables in
+    let next = set_in c.add_copy.new.self.tables in
     let b = c.in_ok-add_copy.field-0 in
     let is : c.from.result ≡ from_bool b = c.from.ensures in
     let one = at_most_one b in

@@ -6,7 +6,7 @@ use Rattle.fact_store.proofs.tables.TableFacts.add_copies.Given as goal
 
 abbrev pub invariant-loop-fact : goal.invariant-loop-fact
 invariant-loop-fact l = record {
-  added : set_in l.self.tables.entries ≡ join (set_in l.fn.self.tables.entries) (set_of (take l.fact-index l.facts));
+  added : set_in l.self.tables ≡ join (set_in l.fn.self.tables) (set_of (take l.fact-index l.facts));
   few : l.new ≤ l.fact-index;
-  counted : l.new ≡ length (lacked (set_in l.fn.self.tables.entries) (set_in l.self.tables.entries));
+  counted : l.new ≡ length (lacked (set_in l.fn.self.tables) (set_in l.self.tables));
 }

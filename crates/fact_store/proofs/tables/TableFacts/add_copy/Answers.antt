@@ -12,21 +12,21 @@ use Rattle.fact_store.proofs.tables.TableFacts.add_copy.Goals as goal
 
 pub returns-in_default-clause-added : goal.returns-in_default-clause-added
 returns-in_default-clause-added c =
-    let es = c.args.self.now.tables.entries in
+    let es = c.args.self.now.tables in
     let f = c.args.fact.now in
     let own : c.table-facts.result.now ≡ table_at es f.key = c.table-facts.ensures.table ∙ ap (table_at es) c.key.ensures in
     already es f c.args.self.now.stand (ap (list_any (eq_by_cmp fact_cmp f)) (sym own) ∙ c.in_default.ensures.found)
 
 pub returns-in_default-clause-new : goal.returns-in_default-clause-new
 returns-in_default-clause-new c =
-    let es = c.args.self.now.tables.entries in
+    let es = c.args.self.now.tables in
     let f = c.args.fact.now in
     let own : c.table-facts.result.now ≡ table_at es f.key = c.table-facts.ensures.table ∙ ap (table_at es) c.key.ensures in
     is_new es f true c.args.self.now.stand (ap (list_any (eq_by_cmp fact_cmp f)) (sym own) ∙ c.in_default.ensures.found)
 
 pub returns-in_err-table-clause-only_new : goal.returns-in_err-table-clause-only_new
 returns-in_err-table-clause-only_new c =
-    let es = c.args.self.now.tables.entries in
+    let es = c.args.self.now.tables in
     let f = c.args.fact.now in
     let own : c.table-facts.result.now ≡ table_at es f.key = c.table-facts.ensures.table ∙ ap (table_at es) c.key.ensures in
     if_err c.from_residual.result
@@ -34,7 +34,7 @@ returns-in_err-table-clause-only_new c =
 
 pub returns-in_err-insert-clause-only_new : goal.returns-in_err-insert-clause-only_new
 returns-in_err-insert-clause-only_new c =
-    let es = c.args.self.now.tables.entries in
+    let es = c.args.self.now.tables in
     let f = c.args.fact.now in
     let own : c.table-facts.result.now ≡ table_at es f.key = c.table-facts.ensures.table ∙ ap (table_at es) c.key.ensures in
     if_err c.from_residual-in_err-insert.result
@@ -42,7 +42,7 @@ returns-in_err-insert-clause-only_new c =
 
 pub invariant_of-self : goal.invariant_of-self
 invariant_of-self c =
-    let es = c.args.self.now.tables.entries in
+    let es = c.args.self.now.tables in
     let f = c.args.fact.now in
     let i = c.in-Err.at in
     let own : c.table-facts.result.now ≡ table_at es f.key = c.table-facts.ensures.table ∙ ap (table_at es) c.key.ensures in
@@ -50,27 +50,27 @@ invariant_of-self c =
     let made : c.in_ok-table.table ≡ insert (table_at es f.key) i f = c.in_ok-table.ensures ∙ ap (λ xs. insert xs i f) own in
     record {
       stand =
-          stand_after c.insert.result es c.insert.new.self.entries c.key-2.result.now c.in_ok-table.table c.args.self.now.stand
+          stand_after c.insert.result es c.insert.new.self c.key-2.result.now c.in_ok-table.table c.args.self.now.stand
           (ap (λ k. is_table k c.in_ok-table.table) c.key-2.ensures ∙ ap (is_table f.key) made
           ∙ is_table-insert es f i c.args.self.now.stand up)
-          c.insert.ensures.entries c.insert.ensures.err;
+          c.insert.ensures.put c.insert.ensures.unchanged;
     }
 
 pub returns-clause-added : goal.returns-clause-added
 returns-clause-added c =
-    let es = c.args.self.now.tables.entries in
+    let es = c.args.self.now.tables in
     let f = c.args.fact.now in
     let i = c.in-Err.at in
     let own : c.table-facts.result.now ≡ table_at es f.key = c.table-facts.ensures.table ∙ ap (table_at es) c.key.ensures in
     let up : rises (insert (table_at es f.key) i f) ≡ true = ap (λ xs. rises (insert xs i f)) (sym own) ∙ c.in-Err.ensures.rising in
     let made : c.in_ok-table.table ≡ insert (table_at es f.key) i f = c.in_ok-table.ensures ∙ ap (λ xs. insert xs i f) own in
-    one_more es c.insert.new.self.entries f i c.args.self.now.stand up
-    (c.in_ok-insert.ensures.entries ∙ ap (λ k. insert_entry key_cmp es k c.in_ok-table.table) c.key-2.ensures
+    one_more es c.insert.new.self f i c.args.self.now.stand up
+    (c.in_ok-insert.ensures.put ∙ ap (λ k. insert_entry key_cmp es k c.in_ok-table.table) c.key-2.ensures
     ∙ ap (insert_entry key_cmp es f.key) made)
 
 pub returns-clause-new : goal.returns-clause-new
 returns-clause-new c =
-    let es = c.args.self.now.tables.entries in
+    let es = c.args.self.now.tables in
     let f = c.args.fact.now in
     let own : c.table-facts.result.now ≡ table_at es f.key = c.table-facts.ensures.table ∙ ap (table_at es) c.key.ensures in
     is_new es f false c.args.self.now.stand (ap (list_any (eq_by_cmp fact_cmp f)) (sym own) ∙ c.in-Err.ensures.absent)

@@ -9,18 +9,22 @@ use Rattle.fact_store.proofs.tables.TableFacts.least_behind.Goals as goal
 
 pub returns-in-Some : goal.returns-in-Some
 returns-in-Some c =
-    let es = c.args.self.now.tables.entries in
-    let above : c.range.result ≡ tables_above c.args.key.now es = c.range.ensures.between tt ∙ range_above c.args.key.now es in
+    let es = c.args.self.now.tables in
+    let k = c.args.key.now in
+    let above : c.range.result ≡ tables_above k es =
+    c.range.ensures.between tt ∙ range_above k c.in_ok-map.field-0.now.entries ∙ ap (tables_above k) c.in_ok-map.ensures.some in
     let step : c.range.result ≡ (c.in-Some.field-0-0.now, c.in-Some.table.now) ∷ c.next.new.self =
     rest_more deref_pair c.range.result c.next.new.self c.next.result (c.in-Some.field-0-0, c.in-Some.table) c.in-Some.is
     c.next.ensures.steps in
     c.at.ensures ∙ ap (λ xs. slice_get xs 0) c.as_slice.ensures
-    ∙ first_table (tables_above c.args.key.now es) c.in-Some.field-0-0.now c.in-Some.table.now
-    (stand_above c.args.key.now es c.args.self.now.stand) (ap (λ ts. slice_get ts 0) (sym above ∙ step))
+    ∙ first_table (tables_above k es) c.in-Some.field-0-0.now c.in-Some.table.now (stand_above k es c.args.self.now.stand)
+    (ap (λ ts. slice_get ts 0) (sym above ∙ step))
 
 pub returns-in-None : goal.returns-in-None
 returns-in-None c =
-    let es = c.args.self.now.tables.entries in
-    let above : c.range.result ≡ tables_above c.args.key.now es = c.range.ensures.between tt ∙ range_above c.args.key.now es in
+    let es = c.args.self.now.tables in
+    let k = c.args.key.now in
+    let above : c.range.result ≡ tables_above k es =
+    c.range.ensures.between tt ∙ range_above k c.in_ok-map.field-0.now.entries ∙ ap (tables_above k) c.in_ok-map.ensures.some in
     let none : c.range.result ≡ [] = rest_all deref_pair c.range.result c.next.new.self c.next.result c.in-None.is c.next.ensures.steps in
     ap (λ ts. slice_get (all_facts ts) 0) (sym none ∙ above)
