@@ -3,7 +3,7 @@
 ghost use Rattle.node_state.specs.Answers.{taken_of, known_of};
 ghost use Rattle.node_state.specs.States.{nothing, holds, with_fact, join, lacked, facts_in, facts_of, least, least_above};
 ghost use Rattle.std.specs.Option.{option_copied};
-ghost use Rattle.std.specs.Prelude.{◌≡◌, ◌<◌, ◌^◌, OnOk, OnErr, IfOk, IfErr, length, slice_get, false};
+ghost use Rattle.std.specs.Prelude.{◌≡◌, ◌<◌, ◌^◌, OnOk, OnErr, IfOk, IfErr, length, map, slice_get, false};
 ghost use Rattle.tile_fact.specs.FactFile.{fact_file};
 
 use crate::answers::{Known, Taken};
@@ -116,6 +116,13 @@ impl<S: FactStore> NodeState<S> {
         ensures { option_copied result ≡ least_above self.now fact.now }
     {
         self.store.least_above(fact)
+    }
+
+    /// The keys of all held facts, rising; a key of several facts stands there as often.
+    pub fn keys(&self) -> Result<Vec<Key>, AllocError>
+        ensures { IfOk result (λ keys. keys.items ≡ map (λ f. f.key) (facts_in self.now)) }
+    {
+        self.store.keys()
     }
 
     /// All held facts, rising.
