@@ -5,11 +5,11 @@ ghost use Rattle.fact_audit.specs.TrueFacts.{IsTrueFact};
 
 use crate::hand::{End, Hand};
 use crate::threads::Task;
-use farm_work::{Every, FarmSetup, Gate, Work, copies_of, copy_of};
+use farm_work::{Every, FarmSetup, Gate, HeldKeys, Work, copies_of, copy_of};
 use identity::Key;
 use leases::{Claim, LiveDesk};
 use named_catalogs::NamedCatalog;
-use node_state::{LendFault, NodeState};
+use node_state::LendFault;
 use overlap_tiles::TilePlan;
 use posts::{Line, Parcel};
 use std::alloc::{AllocError, Global};
@@ -66,8 +66,7 @@ impl<'a, C: NamedCatalog> Worker<'a, C> {
         turn: u32,
     ) -> Result<(), AllocError> {
         self.receive(rt, alloc)?;
-        let state = self.hand.node.state(rt)?;
-        if let Some((key, plan)) = self.pick(rt, alloc, &state, turn)? {
+        if let Some((key, plan)) = self.pick(rt, alloc, turn)? {
             let done = self.make(rt, alloc, gate, turn, &key, plan.needs());
             self.desk.release(rt, u64::from(turn), self.number, &key);
             done?;
@@ -100,27 +99,39 @@ impl<'a, C: NamedCatalog> Worker<'a, C> {
         Ok(())
     }
 
-    // The first key that can be made and is leased to the worker.
+    // The first key that can be made and is leased to the worker, by a copy of what its node holds. The copy is gone before the tile is
+    // made, so that the node need not copy what they share.
     fn pick<R: Wait>(
         &self,
         rt: &R,
         alloc: Global,
-        state: &NodeState,
         turn: u32,
     ) -> Result<Option<(Key, TilePlan<'a>)>, AllocError> {
+        let state = self.hand.node.state(rt)?;
+        let mut held = HeldKeys::of(&state)?;
         for key in self.work.keys {
-            if let Some(plan) = self.work.open_plan(alloc, state, key)? {
-                match self
-                    .desk
-                    .claim(rt, u64::from(turn), self.number, *key, LEASE)
-                {
-                    Claim::Granted { .. } | Claim::Renewed { .. } => return Ok(Some((*key, plan))),
-                    Claim::Held { .. } => {}
-                    Claim::Memory => return Err(AllocError),
+            if held.has(key) {
+                continue;
+            }
+            if let Some(plan) = self.work.ready_plan(alloc, &state, key)? {
+                if self.claim(rt, turn, key)? {
+                    return Ok(Some((*key, plan)));
                 }
             }
         }
         Ok(None)
+    }
+
+    // Whether a key is leased to the worker from now on.
+    fn claim<R: Wait>(&self, rt: &R, turn: u32, key: &Key) -> Result<bool, AllocError> {
+        match self
+            .desk
+            .claim(rt, u64::from(turn), self.number, *key, LEASE)
+        {
+            Claim::Granted { .. } | Claim::Renewed { .. } => Ok(true),
+            Claim::Held { .. } => Ok(false),
+            Claim::Memory => Err(AllocError),
+        }
     }
 
     // Makes the tile of a key from what its node lends, and gives its fact to the node and to all others. Nothing is made where the

@@ -1,1 +1,2 @@
+pub mod ListedKeys
 pub mod TrueFacts

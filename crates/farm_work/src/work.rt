@@ -47,16 +47,13 @@ impl<'a, C: NamedCatalog> Work<'a, C> {
         }
     }
 
-    /// How a tile is made of which nothing is held, where something is held of all that it needs.
-    pub fn open_plan(
+    /// How a tile is made, where something is held of all that it needs.
+    pub fn ready_plan(
         &self,
         alloc: Global,
         state: &NodeState,
         key: &Key,
     ) -> Result<Option<TilePlan<'a>>, AllocError> {
-        if state.count(key) > 0 {
-            return Ok(None);
-        }
         let Some(plan) = self.plan(alloc, key)? else {
             return Ok(None);
         };
