@@ -2,9 +2,10 @@
 
 ghost use Rattle.books.specs.Updates.{AreTrue};
 ghost use Rattle.live_nodes.specs.Ends.{HaveAllReceipts};
-ghost use Rattle.std.specs.Prelude.{◌≡◌, All, IfOk, length};
+ghost use Rattle.std.specs.Prelude.{◌≡◌, ◌+◌, All, IfOk, OnErr, OnOk, length};
 
 use books::{Event, Receipt};
+use catalog::Catalog;
 use identity::Key;
 use live_nodes::{LiveNode, Seat};
 use named_catalogs::NamedCatalog;
@@ -12,6 +13,7 @@ use node_state::LendFault;
 use std::alloc::{AllocError, AllocFailed, Global};
 use std::sync::Wait;
 use std::test::Fail;
+use test_nodes::Call;
 use tile_fact::Fact;
 
 /// A seat, with a receipt for each of its calls that was recorded.
@@ -62,26 +64,16 @@ impl Caller {
         Ok(())
     }
 
-    pub fn keep<C: NamedCatalog, R: Wait>(
+    /// Makes a call that hands nothing over.
+    pub fn make<C: NamedCatalog, R: Wait>(
         &mut self,
         rt: &R,
         node: &LiveNode<C>,
+        call: Call,
     ) -> Result<(), AllocError> {
         let Caller { seat, receipts } = self;
         receipts.reserve(1)?;
-        let receipt = node.keep(rt, seat)?;
-        receipts.push_reserved(receipt);
-        Ok(())
-    }
-
-    pub fn restart<C: NamedCatalog, R: Wait>(
-        &mut self,
-        rt: &R,
-        node: &LiveNode<C>,
-    ) -> Result<(), AllocError> {
-        let Caller { seat, receipts } = self;
-        receipts.reserve(1)?;
-        let receipt = node.restart(rt, seat)?;
+        let receipt = made(rt, node, seat, call)?;
         receipts.push_reserved(receipt);
         Ok(())
     }
@@ -94,8 +86,56 @@ impl Caller {
     }
 }
 
-/// A caller at the last of the seats.
-pub fn next_caller(alloc: Global, seats: &mut Vec<Seat>) -> Result<Caller, Fail>
+// The receipt of a call that hands nothing over.
+fn made<C: NamedCatalog, R: Wait>(
+    rt: &R,
+    node: &LiveNode<C>,
+    seat: &mut Seat,
+    call: Call,
+) -> Result<Receipt, AllocError>
+    ensures counted { OnOk result (seat.new ≡ seat.old + 1) }
+    ensures unchanged { OnErr result (seat.new ≡ seat.old) }
+{
+    match call {
+        Call::Keep => node.keep(rt, seat),
+        Call::Restart => node.restart(rt, seat),
+    }
+}
+
+/// A catalog, and what nodes of it are called with.
+#[derive(Drop)]
+pub struct Given<'a, R> {
+    pub rt: &'a R,
+    pub alloc: Global,
+    pub catalog: &'a Catalog,
+}
+
+impl<'a, R: Wait> Given<'a, R> {
+    pub fn new(rt: &'a R, alloc: Global, catalog: &'a Catalog) -> Self
+        ensures { result.catalog.now ≡ catalog.now }
+    {
+        Given { rt, alloc, catalog }
+    }
+
+    /// A node with so many seats, and a caller at each.
+    pub fn open<C: NamedCatalog>(&self, seats: usize) -> Result<(LiveNode<C>, Vec<Caller>), Fail>
+        requires { self.now.catalog.now ≡ C.catalog }
+    {
+        let (node, seats) = LiveNode::<C>::open(self.alloc, self.catalog, seats)?;
+        Ok((node, callers_of(self.alloc, seats)?))
+    }
+
+    /// A node with one seat, and the caller at it.
+    pub fn alone<C: NamedCatalog>(&self) -> Result<(LiveNode<C>, Caller), Fail>
+        requires { self.now.catalog.now ≡ C.catalog }
+    {
+        let (node, mut seats) = LiveNode::<C>::open(self.alloc, self.catalog, 1)?;
+        Ok((node, next_caller(self.alloc, &mut seats)?))
+    }
+}
+
+// A caller at the last of the seats.
+fn next_caller(alloc: Global, seats: &mut Vec<Seat>) -> Result<Caller, Fail>
     requires { All (λ seat. seat ≡ 0) seats.old.items }
     ensures { All (λ seat. seat ≡ 0) seats.new.items }
 {
@@ -103,6 +143,18 @@ pub fn next_caller(alloc: Global, seats: &mut Vec<Seat>) -> Result<Caller, Fail>
         Some(seat) => Ok(Caller::new(alloc, seat)),
         None => Err(Fail::new("no seat")),
     }
+}
+
+// A caller at each seat.
+fn callers_of(alloc: Global, seats: Vec<Seat>) -> Result<Vec<Caller>, Fail>
+    requires { All (λ seat. seat ≡ 0) seats.items }
+{
+    let mut seats = seats;
+    let mut callers = Vec::new(alloc);
+    for _ in 0..seats.len() {
+        callers.push(next_caller(alloc, &mut seats)?)?;
+    }
+    Ok(callers)
 }
 
 /// The ends of callers, and that of one more.
@@ -119,14 +171,13 @@ pub fn with_end(
     Ok(ends)
 }
 
-/// A caller at each seat.
-pub fn callers_of(alloc: Global, seats: Vec<Seat>) -> Result<Vec<Caller>, Fail>
-    requires { All (λ seat. seat ≡ 0) seats.items }
+/// The ends of callers.
+pub fn ends_of(alloc: Global, callers: Vec<Caller>) -> Result<Vec<(Seat, Vec<Receipt>)>, Fail>
+    ensures { IfOk result (λ ends. HaveAllReceipts ends.items) }
 {
-    let mut seats = seats;
-    let mut callers = Vec::new(alloc);
-    for _ in 0..seats.len() {
-        callers.push(next_caller(alloc, &mut seats)?)?;
+    let mut ends = Vec::new(alloc);
+    for caller in callers {
+        ends = with_end(ends, caller)?;
     }
-    Ok(callers)
+    Ok(ends)
 }

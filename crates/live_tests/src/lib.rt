@@ -1,4 +1,4 @@
-//! Tests of nodes that run: what their books record, how threads share them, how they end, and what they do where memory is refused.
+//! Tests of nodes that run: how threads share them, how they end, and what they do where memory is refused.
 #![tactic(auto)]
 
 #[cfg(test)]
@@ -6,12 +6,8 @@ mod callers;
 #[cfg(test)]
 mod ends;
 #[cfg(test)]
-mod facts;
-#[cfg(test)]
 mod no_memory;
 #[cfg(test)]
 mod threads;
-#[cfg(test)]
-mod wanted;
 #[cfg(test)]
 mod worked;

@@ -2,15 +2,11 @@
 
 ghost use Rattle.books.specs.Updates.{AreTrue};
 ghost use Rattle.fact_audit.specs.TrueFacts.{IsTrueFact};
-ghost use Rattle.live_nodes.specs.Ends.{HaveAllReceipts};
-ghost use Rattle.std.specs.Prelude.{◌≡◌, All, IfOk};
+ghost use Rattle.std.specs.Prelude.{◌≡◌, IfOk};
 
-use crate::callers::{Caller, callers_of, with_end};
-use crate::facts::{catalog_of, key_of, one, true_fact};
-use crate::wanted::holds;
-use books::Receipt;
+use crate::callers::{Caller, Given, ends_of};
 use catalog::Catalog;
-use live_nodes::{LiveNode, Seat};
+use live_nodes::LiveNode;
 use named_catalogs::NamedCatalog;
 use node_state::LendFault;
 use std::alloc::{AllocError, Global};
@@ -19,6 +15,8 @@ use std::sync::Wait;
 use std::test::Fail;
 use std::thread;
 use std::thread::Threads;
+use test_checks::holds;
+use test_nodes::{Call, catalog_of, key_of, one, true_fact};
 use tile_fact::Fact;
 
 /// How often each thread goes round.
@@ -76,9 +74,9 @@ impl<C: NamedCatalog> Worker<'_, C> {
         if let Err(LendFault::Memory) = self.caller.lend(rt, self.node, &[key]) {
             return Err(AllocError);
         }
-        self.caller.keep(rt, self.node)?;
+        self.caller.make(rt, self.node, Call::Keep)?;
         if round % 5 == 0 {
-            self.caller.restart(rt, self.node)?;
+            self.caller.make(rt, self.node, Call::Restart)?;
         }
         Ok(())
     }
@@ -151,30 +149,18 @@ fn workers_of<'a, C: NamedCatalog>(
     Ok(workers)
 }
 
-fn ends_of(alloc: Global, callers: Vec<Caller>) -> Result<Vec<(Seat, Vec<Receipt>)>, Fail>
-    ensures { IfOk result (λ ends. HaveAllReceipts ends.items) }
-{
-    let mut ends = Vec::new(alloc);
-    for caller in callers {
-        ends = with_end(ends, caller)?;
-    }
-    Ok(ends)
-}
-
 fn four_share<C: NamedCatalog + Send + Sync, R: Threads + Wait + Sync>(
-    rt: &R,
-    alloc: Global,
-    catalog: &Catalog,
+    given: Given<'_, R>,
 ) -> Result<(), Fail>
-    requires { catalog.now ≡ C.catalog }
+    requires { given.catalog.now ≡ C.catalog }
 {
-    let (node, seats) = LiveNode::<C>::open(alloc, catalog, 4)?;
-    let workers = workers_of(alloc, catalog, &node, callers_of(alloc, seats)?)?;
-    let callers = run_all(rt, alloc, workers)?;
-    let ends = ends_of(alloc, callers)?;
+    let (node, callers) = given.open::<C>(4)?;
+    let workers = workers_of(given.alloc, given.catalog, &node, callers)?;
+    let callers = run_all(given.rt, given.alloc, workers)?;
+    let ends = ends_of(given.alloc, callers)?;
     let closed = node.close(ends).ok().ok_or("not closed")?;
     holds(
-        closed.history().len() >= 4 * 2 * 25,
+        Some(closed.history().len() >= 4 * 2 * 25),
         "each call of each thread is in the history",
     )
 }
@@ -182,5 +168,5 @@ fn four_share<C: NamedCatalog + Send + Sync, R: Threads + Wait + Sync>(
 #[test]
 fn four_threads_share_a_node(rt: HostRuntime) -> Result<(), Fail> {
     let catalog = catalog_of(rt.alloc(), 1)?;
-    four_share::<Brand, _>(&rt, rt.alloc(), &catalog)
+    four_share::<Brand, _>(Given::new(&rt, rt.alloc(), &catalog))
 }

@@ -1,108 +1,60 @@
-//! A node that takes the one fact of a picture, lends it, keeps it and restarts: by its book, and as threads share it.
+//! A node that takes the one fact of a picture, lends it, keeps it and restarts.
 
 ghost use Rattle.std.specs.Prelude.{◌≡◌};
 
-use crate::callers::{Caller, next_caller, with_end};
-use crate::facts::{catalog_of, key_of, whole};
-use crate::wanted::{Told, has, holds, is_one, tell, what_is_told};
-use books::NodeBook;
-use catalog::Catalog;
+use crate::callers::{Caller, Given, with_end};
 use live_nodes::LiveNode;
 use named_catalogs::NamedCatalog;
 use node_state::LendFault;
-use std::alloc::Global;
 use std::marker::Brand;
 use std::sync::Wait;
 use std::test::Fail;
-
-/// What the receipts tell.
-const WORKED: [(u64, Told); 4] = [
-    (0, Told::Took(1)),
-    (1, Told::Lent(1)),
-    (2, Told::Kept),
-    (3, Told::Restarted),
-];
-
-fn book_answers<C: NamedCatalog>(alloc: Global, catalog: &Catalog) -> Result<(), Fail>
-    requires { catalog.now ≡ C.catalog }
-{
-    let key = key_of(catalog, 0, 0)?;
-    let mut book: NodeBook<C> = NodeBook::new(alloc, catalog);
-    holds(
-        book.lend(&[key]).err() == Some(LendFault::NotHeld(key)),
-        "nothing is held",
-    )?;
-    let facts = whole(alloc, catalog)?;
-    let took = book.take(facts).ok().ok_or("not taken")?;
-    let loan = book.lend(&[key])?;
-    holds(is_one(&loan.facts, &key), "the fact is lent")?;
-    let kept = book.keep()?;
-    let restarted = book.restart()?;
-    for (receipt, wanted) in [took, loan.receipt, kept, restarted].iter().zip(WORKED) {
-        holds(
-            what_is_told(receipt) == wanted,
-            "each receipt tells its call",
-        )?;
-    }
-    holds(has(book.held(), &key, 1), "what was kept is held")?;
-    holds(book.history().len() == 4, "four events")
-}
-
-#[test]
-fn a_book_records_its_calls(rt: HostRuntime) -> Result<(), Fail> {
-    let catalog = catalog_of(rt.alloc(), 2)?;
-    book_answers::<Brand>(rt.alloc(), &catalog)
-}
+use test_checks::holds;
+use test_nodes::{Call, are_worked, catalog_of, has_one, is_one, key_of, whole};
 
 // The calls, by one caller.
 fn calls<C: NamedCatalog, R: Wait>(
-    rt: &R,
-    alloc: Global,
-    catalog: &Catalog,
+    given: &Given<'_, R>,
     node: &LiveNode<C>,
     caller: &mut Caller,
 ) -> Result<(), Fail>
-    requires { catalog.now ≡ C.catalog }
+    requires { given.now.catalog.now ≡ C.catalog }
 {
-    let key = key_of(catalog, 0, 0)?;
+    let rt = given.rt;
+    let key = key_of(given.catalog, 0, 0)?;
     holds(
-        caller.lend(rt, node, &[key]).err() == Some(LendFault::NotHeld(key)),
+        Some(caller.lend(rt, node, &[key]).err() == Some(LendFault::NotHeld(key))),
         "nothing is held",
     )?;
-    let facts = whole(alloc, catalog)?;
+    let facts = whole(given.alloc, given.catalog)?;
     caller.take(rt, node, facts).ok().ok_or("not taken")?;
-    holds(has(&node.state(rt)?, &key, 1), "the fact is held")?;
+    holds(Some(has_one(&node.state(rt)?, &key)), "the fact is held")?;
     let lent = caller.lend(rt, node, &[key])?;
-    holds(is_one(&lent, &key), "the fact is lent")?;
-    caller.keep(rt, node)?;
-    caller.restart(rt, node)?;
-    holds(
-        tell(&caller.receipts, &WORKED),
-        "each receipt tells its call",
-    )
+    holds(Some(is_one(&lent, &key)), "the fact is lent")?;
+    caller.make(rt, node, Call::Keep)?;
+    caller.make(rt, node, Call::Restart)?;
+    are_worked(&caller.receipts)
 }
 
 // No clause says that a shared node asks its book. A body of `state` that gives nothing, one of `lend` that holds nothing, and one of
 // `take` that lets its book take nothing fail here.
-fn node_closes<C: NamedCatalog, R: Wait>(
-    rt: &R,
-    alloc: Global,
-    catalog: &Catalog,
-) -> Result<(), Fail>
-    requires { catalog.now ≡ C.catalog }
+fn node_closes<C: NamedCatalog, R: Wait>(given: Given<'_, R>) -> Result<(), Fail>
+    requires { given.catalog.now ≡ C.catalog }
 {
-    let key = key_of(catalog, 0, 0)?;
-    let (node, mut seats) = LiveNode::<C>::open(alloc, catalog, 1)?;
-    let mut caller = next_caller(alloc, &mut seats)?;
-    calls(rt, alloc, catalog, &node, &mut caller)?;
-    let ends = with_end(Vec::new(alloc), caller)?;
+    let (node, mut caller) = given.alone::<C>()?;
+    calls(&given, &node, &mut caller)?;
+    let ends = with_end(Vec::new(given.alloc), caller)?;
     let closed = node.close(ends).ok().ok_or("not closed")?;
-    holds(has(closed.state(), &key, 1), "the fact is held in the end")?;
-    holds(closed.history().len() == 4, "four events")
+    let key = key_of(given.catalog, 0, 0)?;
+    holds(
+        Some(has_one(closed.state(), &key)),
+        "the fact is held in the end",
+    )?;
+    holds(Some(closed.history().len() == 4), "four events")
 }
 
 #[test]
 fn a_node_closes_over_its_receipts(rt: HostRuntime) -> Result<(), Fail> {
     let catalog = catalog_of(rt.alloc(), 2)?;
-    node_closes::<Brand, _>(&rt, rt.alloc(), &catalog)
+    node_closes::<Brand, _>(Given::new(&rt, rt.alloc(), &catalog))
 }

@@ -4,57 +4,28 @@ ghost use Rattle.fact_audit.specs.TrueFacts.{IsTrueFact};
 ghost use Rattle.books.specs.Updates.{AreTrue};
 ghost use Rattle.std.specs.Prelude.{◌≡◌, ◌∷◌, [], IfOk};
 
-use binding::bind;
 use catalog::Catalog;
-use domains::TileSides;
 use fact_audit::{Verdict, audit};
 use identity::Key;
-use job::Job;
-use netpbm::read;
-use pipe_bounds::Params;
-use pipe_checks::check;
-use pipe_lang::parse;
+use node_state::NodeState;
 use std::alloc::{AllocError, Global};
 use std::test::Fail;
-use tile_fact::{Body, Fact, Samples};
-
-/// A program that copies a grey picture.
-const COPY: &[u8] =
-    b"image I(2,2); func f(x in [0..1], y in [0..1]) { else : I(x,y); } output f max 255;";
+use test_jobs::programs::COPY;
+use test_jobs::{admit, job_of, key_at, tile};
+use tile_fact::Fact;
 
 const PICTURE: &[u8] = b"P2\n2 2\n255\n1 2\n3 4\n";
 
-fn copied(alloc: Global, side: u32) -> Result<Job, Fail> {
-    let sides = TileSides::new(side, side).ok_or("no sides")?;
-    let picture = read(alloc, PICTURE)?;
-    let Ok(checked) = check(alloc, parse(alloc, COPY)?) else {
-        return Err(Fail::new("the program is refused"));
-    };
-    let params = Params::of(alloc, &checked)?;
-    match bind(alloc, checked, &params, picture, sides) {
-        Ok(job) => Ok(job),
-        Err(_) => Err(Fail::new("the job is refused")),
-    }
-}
-
-/// The catalog of the job, in tiles of this side.
+/// The catalog of the job that copies the picture, in tiles of this side.
 pub fn catalog_of(alloc: Global, side: u32) -> Result<Catalog, Fail> {
     let mut jobs = Catalog::new(alloc);
-    match jobs.admit(copied(alloc, side)?) {
-        Ok(_) => Ok(jobs),
-        Err(_) => Err(Fail::new("the job is not admitted")),
-    }
+    admit(&mut jobs, job_of(alloc, COPY, &[], PICTURE, (side, side))?)?;
+    Ok(jobs)
 }
 
 /// The key of a tile of the copy.
 pub fn key_of(catalog: &Catalog, row: u32, col: u32) -> Result<Key, Fail> {
-    let job = catalog.job(0).ok_or("no job")?;
-    Ok(job.key(1, row, col).ok_or("no key")?)
-}
-
-fn tile(alloc: Global, key: Key, numbers: &[i32]) -> Result<Fact, Fail> {
-    let samples = Samples::new(Vec::from_slice(alloc, numbers)?)?;
-    Ok(Fact::new(key, Body::Tile(samples)).ok().ok_or("a tile")?)
+    Ok(key_at(catalog, 0, 1, row, col).ok_or("no key")?)
 }
 
 /// The fact of these numbers, which is true.
@@ -83,4 +54,14 @@ pub fn one(alloc: Global, fact: Fact) -> Result<Vec<Fact>, AllocError>
     let mut facts = Vec::with_capacity(alloc, 1)?;
     facts.push(fact)?;
     Ok(facts)
+}
+
+/// Whether the facts are one, of this key.
+pub fn is_one(facts: &[Fact], key: &Key) -> bool {
+    facts.len() == 1 && facts[0].key() == key
+}
+
+/// Whether one fact of the key is held.
+pub fn has_one(state: &NodeState, key: &Key) -> bool {
+    state.count(key) == 1
 }
