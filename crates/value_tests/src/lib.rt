@@ -1,4 +1,4 @@
-//! Tests of jobs and of what they compute: identities, values, tiles and totals.
+//! Tests of jobs and of the values of their stages.
 #![tactic(auto)]
 
 #[cfg(test)]

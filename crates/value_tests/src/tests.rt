@@ -1,8 +1,5 @@
-//! What jobs are and compute.
+//! What jobs are, and the values of their stages.
 
-mod given;
 mod identities;
 mod jobs;
-mod tiles;
-mod totals;
 mod values;

@@ -3,7 +3,7 @@ use Rattle.job.specs.Kept.{pipeline_in}
 use Rattle.tile_run.specs.KnownTiles.{AreWhole}
 use Rattle.tile_run.specs.Stored.{stored_tiles}
 use Rattle.accumulators.proofs.TileTotals.{whole}
-use Rattle.value_tests.proofs.tests.given.compare_both.Goals as goal
+use Rattle.tile_tests.proofs.tests.given.compare_both.Goals as goal
 
 pub compare-requires : goal.compare-requires
 compare-requires g c =

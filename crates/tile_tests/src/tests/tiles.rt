@@ -9,10 +9,9 @@ use std::alloc::Global;
 use std::test::Fail;
 use std::thread::Threads;
 use test_checks::{holds, tells};
-use test_jobs::programs::TOO_BIG;
-use test_jobs::{chosen, has_few_stages, job_of, schedule_of};
+use test_jobs::{chosen, job_of, schedule_of};
 use tile_eval::plain;
-use tile_run::{Known, RunFault, Stored, run_all};
+use tile_run::{Known, Stored, run_all};
 
 /// Stencils, cases, halves and doubles, one function after the other.
 pub(crate) const PIPELINE: &str = "image I(7,9);
@@ -192,31 +191,4 @@ fn halves_then_doubles(rt: HostRuntime) -> Result<(), Fail> {
     let file = b"P2 4 4 255 0 1 2 3 4 5 6 7 8 9 10 11 12 13 14 15";
     let job = job_of(alloc, HALF_AND_DOUBLE, &[], file, (1, 1))?;
     have_all(&rt, alloc, &job)
-}
-
-// Whether it was refused since the first tile of the stage behind an inlined function has no room.
-fn is_without_room<T>(job: &Job, made: &Result<T, RunFault>) -> Option<bool> {
-    match made {
-        Err(fault) => Some(*fault == RunFault::ScratchTooBig(job.key(2, 0, 0)?)),
-        Ok(_) => None,
-    }
-}
-
-/// Fails where another tile than the first of the stage behind an inlined function has no room, or where all have.
-pub(crate) fn lacks_room<T>(job: &Job, made: &Result<T, RunFault>) -> Result<(), Fail> {
-    holds(is_without_room(job, made), "a tile has no room")
-}
-
-fn has_no_room(rt: &(impl Threads + Sync), alloc: Global, job: &Job) -> Result<(), Fail> {
-    has_few_stages(job)?;
-    let schedule = schedule_of(alloc, job, &[false, true, false])?;
-    lacks_room(job, &run_all(rt, alloc, job, &schedule))
-}
-
-// A body of `run_all` that answers memory in place of this fault fails here.
-#[test]
-fn a_tile_without_room_is_told_before_any_is_computed(rt: HostRuntime) -> Result<(), Fail> {
-    let alloc = rt.alloc();
-    let job = job_of(alloc, TOO_BIG, &[], b"P2 1 1 9 0", (1024, 1024))?;
-    has_no_room(&rt, alloc, &job)
 }

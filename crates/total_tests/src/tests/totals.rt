@@ -3,7 +3,6 @@
 
 ghost use Rattle.job.specs.Kept.{pipeline_in};
 
-use crate::tests::tiles::lacks_room;
 use accumulators::{Answer, answer_of, join_into, whole};
 use domains::Fold;
 use job::Job;
@@ -12,7 +11,7 @@ use std::test::Fail;
 use std::thread::Threads;
 use test_checks::{holds, tells};
 use test_jobs::programs::{ONE_TO_NINE, REMAINDERS};
-use test_jobs::{chosen, job_of, schedule_of};
+use test_jobs::{chosen, job_of};
 use tile_run::run_all;
 
 /// How many samples of the first tile of two rows and two columns leave each remainder by 4.
@@ -26,11 +25,6 @@ accum low [-8..8] over (x in [1..2], y in [0..3]) min a(x, y) at a(x, y) / 2;
 func b(x in [1..2], y in [0..3]) { else : a(x, y) * a(x, y); }
 accum high [0..2] over (x in [1..2], y in [0..3]) max b(x, y) at y / 2;
 output b max 255;";
-
-/// One tile of an accumulator reads a square of 8,193 rows and columns: more than there is scratch memory for.
-const GATHERS_TOO_MUCH: &str = "image I(1,1);
-func a(x in [0..8192], y in [0..8192]) { else : 1; }
-accum h [0..0] over (x in [0..1023], y in [0..1023]) sum a(8*x, 8*y) + a(8*x+8, 8*y+8) at 0;";
 
 const SIXTEEN: &[u8] = b"P2 4 4 15 0 1 2 3 4 5 6 7 8 9 10 11 15 13 12 14";
 
@@ -165,19 +159,4 @@ fn extremes_at_every_schedule(rt: HostRuntime) -> Result<(), Fail> {
         has_extremes_at(&rt, rt.alloc(), sides)?;
     }
     Ok(())
-}
-
-fn has_no_room(rt: &(impl Threads + Sync), alloc: Global, job: &Job) -> Result<(), Fail> {
-    let schedule = schedule_of(alloc, job, &[false, true, false])?;
-    let stored = run_all(rt, alloc, job, &schedule)?;
-    let answer = answer_of(rt, alloc, job, &schedule, &stored);
-    lacks_room(job, &answer)
-}
-
-// A body of `answer_of` that answers memory in place of this fault fails here.
-#[test]
-fn a_tile_of_an_accumulator_without_room_is_told(rt: HostRuntime) -> Result<(), Fail> {
-    let alloc = rt.alloc();
-    let job = job_of(alloc, GATHERS_TOO_MUCH, &[], b"P2 1 1 9 0", (1024, 1024))?;
-    has_no_room(&rt, alloc, &job)
 }

@@ -1,0 +1,4 @@
+//! What tiles are.
+
+mod given;
+mod tiles;
