@@ -1,4 +1,4 @@
-//! Tests of facts: verdicts on them, and what a node holds, makes and answers.
+//! Tests of facts: verdicts on them, and the states of nodes that hold them.
 #![tactic(auto)]
 
 #[cfg(test)]

@@ -6,7 +6,7 @@ use identity::{InputId, Key, ProgramId};
 use job::Job;
 use std::alloc::Global;
 use std::test::Fail;
-use tile_fact::{Body, Fact, Samples};
+use tile_fact::{Bins, Body, Fact, Samples};
 
 /// Adds a job to a catalog, which has to take it.
 pub fn admit(jobs: &mut Catalog, job: Job) -> Result<usize, Fail> {
@@ -39,8 +39,8 @@ pub fn key_of(program: u8, input: u8, place: (u16, u32, u32)) -> Key {
     }
 }
 
-/// The fact of this key that says this.
-pub fn fact(key: Key, body: Body) -> Result<Fact, Fail> {
+// The fact of this key that says this.
+fn fact(key: Key, body: Body) -> Result<Fact, Fail> {
     match Fact::new(key, body) {
         Ok(fact) => Ok(fact),
         Err(_) => Err(Fail::new("no fact")),
@@ -50,4 +50,9 @@ pub fn fact(key: Key, body: Body) -> Result<Fact, Fail> {
 /// The fact that the tile of this key has these numbers.
 pub fn tile(alloc: Global, key: Key, numbers: &[i32]) -> Result<Fact, Fail> {
     fact(key, Body::Tile(Samples::new(numbers.to_vec(alloc)?)?))
+}
+
+/// The fact that this is what is gathered over the tile of this key.
+pub fn partial(alloc: Global, key: Key, bins: &[i64]) -> Result<Fact, Fail> {
+    fact(key, Body::Partial(Bins::new(bins.to_vec(alloc)?)?))
 }

@@ -7,5 +7,5 @@ pub mod programs;
 mod scheduling;
 
 pub use bound_jobs::job_of;
-pub use facts::{admit, fact, key_at, key_of, tile};
+pub use facts::{admit, key_at, key_of, partial, tile};
 pub use scheduling::{chosen, has_few_stages, schedule_of};

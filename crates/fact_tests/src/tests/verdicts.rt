@@ -9,8 +9,8 @@ use std::alloc::Global;
 use std::test::Fail;
 use test_checks::{holds, tells};
 use test_jobs::programs::{COPY, REMAINDERS};
-use test_jobs::{admit, fact, job_of, key_at, tile};
-use tile_fact::{Bins, Body, Fact, Samples};
+use test_jobs::{admit, job_of, key_at, partial, tile};
+use tile_fact::Fact;
 
 fn copied(alloc: Global) -> Result<Job, Fail> {
     job_of(alloc, COPY, &[], b"P2 2 2 255 1 2 3 4\n", (2, 2))
@@ -32,10 +32,6 @@ fn two_jobs(alloc: Global) -> Result<Catalog, Fail> {
     admit(&mut jobs, copied(alloc)?)?;
     admit(&mut jobs, counting(alloc)?)?;
     Ok(jobs)
-}
-
-fn partial(alloc: Global, key: Key, numbers: &[i64]) -> Result<Fact, Fail> {
-    fact(key, Body::Partial(Bins::new(numbers.to_vec(alloc)?)?))
 }
 
 fn has_verdict(alloc: Global, jobs: &Catalog, fact: &Fact, wanted: &str) -> Result<(), Fail> {
@@ -63,24 +59,14 @@ fn has_key_verdicts(alloc: Global, jobs: &Catalog, key: Key) -> Result<(), Fail>
         program: ProgramId::new([7; 32]),
         ..key
     };
-    has_verdict(
-        alloc,
-        jobs,
-        &tile(alloc, plane, &[1, 2, 3, 4])?,
-        "Misshapen",
-    )?;
-    has_verdict(
-        alloc,
-        jobs,
-        &tile(alloc, beyond, &[1, 2, 3, 4])?,
-        "Misshapen",
-    )?;
-    has_verdict(
-        alloc,
-        jobs,
-        &tile(alloc, unknown, &[1, 2, 3, 4])?,
-        "Foreign",
-    )
+    for (key, wanted) in [
+        (plane, "Misshapen"),
+        (beyond, "Misshapen"),
+        (unknown, "Foreign"),
+    ] {
+        has_verdict(alloc, jobs, &tile(alloc, key, &[1, 2, 3, 4])?, wanted)?;
+    }
+    Ok(())
 }
 
 #[test]

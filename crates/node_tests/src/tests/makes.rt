@@ -1,6 +1,7 @@
 #![tactic(auto)]
 //! Facts that a node makes of what it holds.
 
+use crate::tests::takes::{take, take_tile};
 use catalog::Catalog;
 use fault_rows::Fault;
 use grouping::Schedule;
@@ -10,8 +11,8 @@ use std::alloc::Global;
 use std::test::Fail;
 use test_checks::{holds, tells};
 use test_jobs::programs::{CHAIN, ONE_TO_NINE, ONES, REMAINDERS, TOO_BIG};
-use test_jobs::{admit, has_few_stages, job_of, key_at, schedule_of, tile};
-use tile_fact::{Body, Fact};
+use test_jobs::{admit, has_few_stages, job_of, key_at, schedule_of};
+use tile_fact::Body;
 
 /// A catalog of one job, and a schedule of it.
 #[derive(Drop)]
@@ -56,13 +57,6 @@ impl Scheduled {
         let made = state.make(&self.jobs, &self.schedule, key);
         let fault = made.err().ok_or("a fact is made")?;
         holds(Some(fault == *wanted), wanted.name())
-    }
-}
-
-fn take(state: &mut NodeState, fact: Fact) -> Result<(), Fail> {
-    match state.take(fact) {
-        Ok(_) => Ok(()),
-        Err(_) => Err(Fail::new("no memory for a fact")),
     }
 }
 
@@ -153,11 +147,6 @@ fn tells_what_is_not_there(alloc: Global, chain: &Scheduled) -> Result<(), Fail>
 fn keys_of_no_tile(rt: HostRuntime) -> Result<(), Fail> {
     let alloc = rt.alloc();
     tells_what_is_not_there(alloc, &chain(alloc)?)
-}
-
-// Takes a tile of these numbers.
-fn take_tile(alloc: Global, state: &mut NodeState, key: &Key, numbers: &[i32]) -> Result<(), Fail> {
-    take(state, tile(alloc, *key, numbers)?)
 }
 
 fn tells_the_least(alloc: Global, chain: &Scheduled) -> Result<(), Fail> {

@@ -1,6 +1,7 @@
 #![tactic(auto)]
 //! What a node answers for a job from the facts that it holds.
 
+use crate::tests::takes::{take_partial, take_tile};
 use accumulators::Answer;
 use identity::Key;
 use job::Job;
@@ -10,37 +11,9 @@ use std::test::Fail;
 use test_checks::{holds, tells};
 use test_jobs::job_of;
 use test_jobs::programs::{CHAIN, COPY, ONE_TO_NINE, ONES, REMAINDERS};
-use tile_fact::{Bins, Body, Fact, Samples};
 
 fn copied(alloc: Global, sides: (u32, u32)) -> Result<Job, Fail> {
     job_of(alloc, COPY, &[], b"P2 2 2 255 1 2 3 4\n", sides)
-}
-
-fn take(state: &mut NodeState, key: &Key, body: Body) -> Result<(), Fail> {
-    let fact = Fact::new(*key, body).ok().ok_or("no fact")?;
-    state.take(fact).ok().ok_or("no memory")?;
-    Ok(())
-}
-
-fn take_tile(alloc: Global, state: &mut NodeState, key: &Key, numbers: &[i32]) -> Result<(), Fail> {
-    take(
-        state,
-        key,
-        Body::Tile(Samples::new(numbers.to_vec(alloc)?)?),
-    )
-}
-
-fn take_partial(
-    alloc: Global,
-    state: &mut NodeState,
-    key: &Key,
-    numbers: &[i64],
-) -> Result<(), Fail> {
-    take(
-        state,
-        key,
-        Body::Partial(Bins::new(numbers.to_vec(alloc)?)?),
-    )
 }
 
 // Fails where the answer is no fault, or another.
