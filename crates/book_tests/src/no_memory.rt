@@ -18,10 +18,7 @@ use tile_fact::Fact;
 
 // Fails where a call that was refused has been recorded.
 fn is_unrecorded<C: NamedCatalog>(book: &NodeBook<C>, before: usize) -> Result<(), Fail> {
-    holds(
-        Some(book.history().len() == before),
-        "nothing is recorded",
-    )
+    holds(Some(book.history().len() == before), "nothing is recorded")
 }
 
 // Takes updates, again where memory was refused and they have come back.

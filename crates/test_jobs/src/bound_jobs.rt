@@ -5,6 +5,7 @@ ghost use Rattle.std.specs.Prelude.{IfOk};
 ghost use Rattle.job.specs.Kept.{pipeline_in};
 ghost use Rattle.job.specs.WellFormed.{IsJob};
 
+use crate::programs::COPY;
 use domains::TileSides;
 use job::Job;
 use netpbm::{Picture, read};
@@ -60,4 +61,11 @@ pub fn job_of(
     let checked = checked_of(alloc, text)?;
     let params = params_of(alloc, &checked, values)?;
     bound(alloc, checked, &params, picture, sides)
+}
+
+/// The job that copies a picture of two rows and two columns, whose samples are one to four.
+pub fn copied(alloc: Global, sides: (u32, u32)) -> Result<Job, Fail>
+    ensures { IfOk result (λ job. IsJob (pipeline_in job)) }
+{
+    job_of(alloc, COPY, &[], b"P2 2 2 255 1 2 3 4\n", sides)
 }

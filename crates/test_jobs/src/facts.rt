@@ -16,6 +16,13 @@ pub fn admit(jobs: &mut Catalog, job: Job) -> Result<usize, Fail> {
     }
 }
 
+/// The catalog of one job.
+pub fn catalog_of(alloc: Global, job: Job) -> Result<Catalog, Fail> {
+    let mut jobs = Catalog::new(alloc);
+    admit(&mut jobs, job)?;
+    Ok(jobs)
+}
+
 /// The key of a tile of the job at this index.
 pub fn key_at(jobs: &Catalog, index: usize, stage: u16, row: u32, col: u32) -> Option<Key> {
     let ids = Ids::of(jobs.job(index)?);

@@ -6,6 +6,6 @@ mod facts;
 pub mod programs;
 mod scheduling;
 
-pub use bound_jobs::job_of;
-pub use facts::{admit, key_at, key_of, partial, tile};
+pub use bound_jobs::{copied, job_of};
+pub use facts::{admit, catalog_of, key_at, key_of, partial, tile};
 pub use scheduling::{chosen, has_few_stages, schedule_of};

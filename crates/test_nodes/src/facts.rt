@@ -10,17 +10,12 @@ use identity::Key;
 use node_state::NodeState;
 use std::alloc::{AllocError, Global};
 use std::test::Fail;
-use test_jobs::programs::COPY;
-use test_jobs::{admit, job_of, key_at, tile};
+use test_jobs::{copied, key_at, tile};
 use tile_fact::Fact;
 
-const PICTURE: &[u8] = b"P2\n2 2\n255\n1 2\n3 4\n";
-
-/// The catalog of the job that copies the picture, in tiles of this side.
+/// The catalog of the job that copies one to four, in tiles of this side.
 pub fn catalog_of(alloc: Global, side: u32) -> Result<Catalog, Fail> {
-    let mut jobs = Catalog::new(alloc);
-    admit(&mut jobs, job_of(alloc, COPY, &[], PICTURE, (side, side))?)?;
-    Ok(jobs)
+    test_jobs::catalog_of(alloc, copied(alloc, (side, side))?)
 }
 
 /// The key of a tile of the copy.

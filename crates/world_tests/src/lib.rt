@@ -1,4 +1,4 @@
-//! Tests of scripts and of the worlds that they run in.
+//! Tests of worlds: which there are, what their nodes hold and keep, and what they do where memory is refused.
 #![tactic(auto)]
 
 #[cfg(test)]

@@ -1,5 +1,4 @@
-//! What events do.
+//! What becomes of worlds.
 
 mod histories;
 mod no_memory;
-mod scripts;

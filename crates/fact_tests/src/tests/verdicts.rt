@@ -8,13 +8,9 @@ use job::Job;
 use std::alloc::Global;
 use std::test::Fail;
 use test_checks::{holds, tells};
-use test_jobs::programs::{COPY, REMAINDERS};
-use test_jobs::{admit, job_of, key_at, partial, tile};
+use test_jobs::programs::REMAINDERS;
+use test_jobs::{admit, copied, job_of, key_at, partial, tile};
 use tile_fact::Fact;
-
-fn copied(alloc: Global) -> Result<Job, Fail> {
-    job_of(alloc, COPY, &[], b"P2 2 2 255 1 2 3 4\n", (2, 2))
-}
 
 fn counting(alloc: Global) -> Result<Job, Fail> {
     job_of(
@@ -29,7 +25,7 @@ fn counting(alloc: Global) -> Result<Job, Fail> {
 // A catalog of the job that copies and of the job that counts.
 fn two_jobs(alloc: Global) -> Result<Catalog, Fail> {
     let mut jobs = Catalog::new(alloc);
-    admit(&mut jobs, copied(alloc)?)?;
+    admit(&mut jobs, copied(alloc, (2, 2))?)?;
     admit(&mut jobs, counting(alloc)?)?;
     Ok(jobs)
 }
@@ -128,7 +124,7 @@ fn shapes_by_another_job(rt: HostRuntime) -> Result<(), Fail> {
     let jobs = two_jobs(alloc)?;
     let key = key_at(&jobs, 1, 1, 0, 0).ok_or("no key")?;
     let fact = tile(alloc, key, &[1, 2, 3, 4])?;
-    holds(Some(shape_ok(&copied(alloc)?, &fact)), "the shape")
+    holds(Some(shape_ok(&copied(alloc, (2, 2))?, &fact)), "the shape")
 }
 
 fn refusal(jobs: &mut Catalog, job: Job) -> Result<AdmitFault, Fail> {
@@ -142,15 +138,14 @@ fn refusal(jobs: &mut Catalog, job: Job) -> Result<AdmitFault, Fail> {
 fn one_job_is_there_once(rt: HostRuntime) -> Result<(), Fail> {
     let alloc = rt.alloc();
     let mut jobs = two_jobs(alloc)?;
-    tells(alloc, &refusal(&mut jobs, copied(alloc)?)?, "Same(0)")?;
+    tells(
+        alloc,
+        &refusal(&mut jobs, copied(alloc, (2, 2))?)?,
+        "Same(0)",
+    )?;
     tells(alloc, &refusal(&mut jobs, counting(alloc)?)?, "Same(1)")?;
     let ids = Ids::of(&counting(alloc)?);
     holds(Some(jobs.find(&ids) == Some(1)), "the index")
-}
-
-// A job that copies, in tiles of this height.
-fn in_tiles(alloc: Global, height: u32) -> Result<Job, Fail> {
-    job_of(alloc, COPY, &[], b"P2 2 2 255 1 2 3 4\n", (height, 2))
 }
 
 #[test]
@@ -158,8 +153,12 @@ fn a_seventeenth_job_has_no_room(rt: HostRuntime) -> Result<(), Fail> {
     let alloc = rt.alloc();
     let mut jobs = Catalog::new(alloc);
     for height in 1..17 {
-        admit(&mut jobs, in_tiles(alloc, height)?)?;
+        admit(&mut jobs, copied(alloc, (height, 2))?)?;
     }
-    tells(alloc, &refusal(&mut jobs, copied(alloc)?)?, "Same(1)")?;
-    tells(alloc, &refusal(&mut jobs, in_tiles(alloc, 17)?)?, "Full")
+    tells(
+        alloc,
+        &refusal(&mut jobs, copied(alloc, (2, 2))?)?,
+        "Same(1)",
+    )?;
+    tells(alloc, &refusal(&mut jobs, copied(alloc, (17, 2))?)?, "Full")
 }

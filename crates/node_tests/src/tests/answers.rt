@@ -9,12 +9,8 @@ use node_state::{AnswerFault, NodeState};
 use std::alloc::Global;
 use std::test::Fail;
 use test_checks::{holds, tells};
-use test_jobs::job_of;
-use test_jobs::programs::{CHAIN, COPY, ONE_TO_NINE, ONES, REMAINDERS};
-
-fn copied(alloc: Global, sides: (u32, u32)) -> Result<Job, Fail> {
-    job_of(alloc, COPY, &[], b"P2 2 2 255 1 2 3 4\n", sides)
-}
+use test_jobs::programs::{CHAIN, ONE_TO_NINE, ONES, REMAINDERS};
+use test_jobs::{copied, job_of};
 
 // Fails where the answer is no fault, or another.
 fn fails(state: &NodeState, job: &Job, wanted: AnswerFault) -> Result<(), Fail> {

@@ -11,7 +11,7 @@ use std::alloc::Global;
 use std::test::Fail;
 use test_checks::{holds, tells};
 use test_jobs::programs::{CHAIN, ONE_TO_NINE, ONES, REMAINDERS, TOO_BIG};
-use test_jobs::{admit, has_few_stages, job_of, key_at, schedule_of};
+use test_jobs::{catalog_of, has_few_stages, job_of, key_at, schedule_of};
 use tile_fact::Body;
 
 /// A catalog of one job, and a schedule of it.
@@ -32,8 +32,7 @@ fn admitted(
     let job = job_of(alloc, text, &[], file, (side, side))?;
     has_few_stages(&job)?;
     let schedule = schedule_of(alloc, &job, inlining)?;
-    let mut jobs = Catalog::new(alloc);
-    admit(&mut jobs, job)?;
+    let jobs = catalog_of(alloc, job)?;
     Ok(Scheduled { jobs, schedule })
 }
 

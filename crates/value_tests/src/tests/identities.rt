@@ -7,7 +7,7 @@ use std::alloc::Global;
 use std::test::Fail;
 use test_checks::{holds, reads, says, shows};
 use test_jobs::programs::COPY;
-use test_jobs::{job_of, key_of};
+use test_jobs::{copied, job_of, key_of};
 
 /// What is hashed of a job and its digests, two digits of each byte: the bytes of what its program is given, their digest, and that of the
 /// program's text.
@@ -43,7 +43,7 @@ fn has_grey(alloc: Global, job: &Job) -> Result<(), Fail> {
 #[test]
 fn bytes_of_a_grey_input(rt: HostRuntime) -> Result<(), Fail> {
     let alloc = rt.alloc();
-    let job = job_of(alloc, COPY, &[], b"P2 2 2 255 1 2 3 4\n", (2, 2))?;
+    let job = copied(alloc, (2, 2))?;
     has_grey(alloc, &job)
 }
 

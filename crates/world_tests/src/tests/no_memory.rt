@@ -2,9 +2,6 @@
 //! Worlds where memory is refused. Each test passes wherever one growth of memory is refused to what it is about, and fails by that
 //! refusal where one is refused elsewhere.
 
-use crate::tests::histories::{
-    NO_FACT, ONE_FACT, SCRIPT, catalog_of, copied, events_of, exports, halving, planned, told,
-};
 use catalog::Catalog;
 use gossip_core::StepFault;
 use gossip_events::Event;
@@ -12,6 +9,8 @@ use node_state::NodeState;
 use std::alloc::{AllocError, Global};
 use std::test::Fail;
 use test_checks::{holds, tells};
+use test_jobs::{catalog_of, copied};
+use test_worlds::{NO_FACT, ONE_FACT, SCRIPT, events_of, exports, halving, planned, told};
 use worlds::{FinishFault, NodeSchedules, Ran, World};
 
 fn add_file(bytes: &mut Vec<u8>, state: Option<&NodeState>) -> Result<(), AllocError> {
@@ -118,7 +117,7 @@ fn runs_at_last(alloc: Global, world: &mut World) -> Result<(), Fail> {
 #[test]
 fn a_run_goes_on_where_memory_was_refused(rt: HostRuntime) -> Result<(), Fail> {
     let alloc = rt.alloc();
-    let job = copied(alloc)?;
+    let job = copied(alloc, (2, 2))?;
     let schedules = planned(alloc, &job, &[1, 1])?;
     let jobs = catalog_of(alloc, job)?;
     runs_at_last(alloc, &mut world_at_last(alloc, jobs, schedules)?)

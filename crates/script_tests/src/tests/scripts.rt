@@ -7,7 +7,7 @@ use identity::Key;
 use std::alloc::Global;
 use std::test::Fail;
 use test_checks::{holds, tells};
-use test_jobs::job_of;
+use test_jobs::{catalog_of, job_of};
 
 const ONE: &str =
     "image I(1,1); func f(x in [0..0], y in [0..0]) { else : I(x,y); } output f max 255;";
@@ -17,12 +17,7 @@ const EACH: &[u8] =
     b"# events\nmake 0 0:1:2:3\n\nsend 1 255\nsend 1 0 0:1:0:0 0:1:2:3\n#\ndeliver 007 4294967295\nmerge 2 3\nkeep 0\nrestart 9";
 
 fn jobs(alloc: Global) -> Result<Catalog, Fail> {
-    let mut jobs = Catalog::new(alloc);
-    let job = job_of(alloc, ONE, &[], b"P2 1 1 255 7", (1, 1))?;
-    match jobs.admit(job) {
-        Ok(_) => Ok(jobs),
-        Err(_) => Err(Fail::new("the job is refused")),
-    }
+    catalog_of(alloc, job_of(alloc, ONE, &[], b"P2 1 1 255 7", (1, 1))?)
 }
 
 fn is_key(jobs: &Catalog, key: &Key, stage: u16, row: u32, col: u32) -> bool {

@@ -1,0 +1,3 @@
+//! What events do.
+
+mod steps;

@@ -1,0 +1,3 @@
+//! What scripts are.
+
+mod scripts;
