@@ -30,101 +30,122 @@ fn two_jobs(alloc: Global) -> Result<Catalog, Fail> {
     Ok(jobs)
 }
 
-fn has_verdict(alloc: Global, jobs: &Catalog, fact: &Fact, wanted: &str) -> Result<(), Fail> {
-    tells(alloc, &audit(alloc, jobs, fact)?, wanted)
+/// A catalog of the job that copies and of the job that counts, with the key of the first tile of each.
+#[derive(Drop)]
+struct Judging {
+    alloc: Global,
+    jobs: Catalog,
+    copied: Key,
+    counted: Key,
 }
 
-// Facts of the one tile of a function, as they are and with a number, a count or a kind that is another.
-fn has_verdicts(alloc: Global, jobs: &Catalog, key: Key) -> Result<(), Fail> {
-    has_verdict(alloc, jobs, &tile(alloc, key, &[1, 2, 3, 4])?, "True")?;
-    has_verdict(alloc, jobs, &tile(alloc, key, &[1, 2, 3, 5])?, "False")?;
-    has_verdict(alloc, jobs, &tile(alloc, key, &[1, 2, 3])?, "Misshapen")?;
-    has_verdict(
+fn judging(alloc: Global) -> Result<Judging, Fail> {
+    let jobs = two_jobs(alloc)?;
+    let copied = key_at(&jobs, 0, 1, 0, 0).ok_or("no key")?;
+    let counted = key_at(&jobs, 1, 1, 0, 0).ok_or("no key")?;
+    Ok(Judging {
         alloc,
         jobs,
-        &partial(alloc, key, &[1, 2, 3, 4])?,
-        "Misshapen",
-    )
+        copied,
+        counted,
+    })
 }
 
-// Of other keys the same numbers are misshapen or foreign.
-fn has_key_verdicts(alloc: Global, jobs: &Catalog, key: Key) -> Result<(), Fail> {
-    let plane = Key { stage: 0, ..key };
-    let beyond = Key { row: 1, ..key };
-    let unknown = Key {
+impl Judging {
+    fn judges(&self, fact: &Fact, wanted: &str) -> Result<(), Fail> {
+        tells(self.alloc, &audit(self.alloc, &self.jobs, fact)?, wanted)
+    }
+
+    fn judges_tile(&self, key: Key, numbers: &[i32], wanted: &str) -> Result<(), Fail> {
+        self.judges(&tile(self.alloc, key, numbers)?, wanted)
+    }
+
+    fn judges_partial(&self, key: Key, bins: &[i64], wanted: &str) -> Result<(), Fail> {
+        self.judges(&partial(self.alloc, key, bins)?, wanted)
+    }
+
+    // Facts of the one tile of a function, as they are and with a number, a count or a kind that is another.
+    fn judges_facts(&self) -> Result<(), Fail> {
+        self.judges_tile(self.copied, &[1, 2, 3, 4], "True")?;
+        self.judges_tile(self.copied, &[1, 2, 3, 5], "False")?;
+        self.judges_tile(self.copied, &[1, 2, 3], "Misshapen")?;
+        self.judges_partial(self.copied, &[1, 2, 3, 4], "Misshapen")
+    }
+
+    // Of other keys the same numbers are misshapen or foreign.
+    fn judges_keys(&self) -> Result<(), Fail> {
+        let key = self.copied;
+        self.judges_tile(Key { stage: 0, ..key }, &[1, 2, 3, 4], "Misshapen")?;
+        self.judges_tile(Key { row: 1, ..key }, &[1, 2, 3, 4], "Misshapen")?;
+        self.judges_tile(foreign(key), &[1, 2, 3, 4], "Foreign")
+    }
+
+    fn judges_bins(&self) -> Result<(), Fail> {
+        self.judges_partial(self.counted, &[1, 2, 1, 0], "True")?;
+        self.judges_partial(self.counted, &[1, 2, 0, 1], "False")?;
+        self.judges_partial(self.counted, &[1, 2, 1], "Misshapen")
+    }
+
+    fn judges_several(&self) -> Result<(), Fail> {
+        let facts = several(self.alloc, self.copied, self.counted)?;
+        let verdicts = audit_all(self.alloc, &self.jobs, &facts)?;
+        tells(
+            self.alloc,
+            &verdicts,
+            "[True, False, Misshapen, Foreign, True]",
+        )
+    }
+
+    // A shape is told whatever the identities are.
+    fn tells_shape(&self) -> Result<(), Fail> {
+        let fact = tile(self.alloc, self.counted, &[1, 2, 3, 4])?;
+        let copied = copied(self.alloc, (2, 2))?;
+        holds(Some(shape_ok(&copied, &fact)), "the shape")
+    }
+}
+
+// The key of the same place of a program that no catalog has.
+fn foreign(key: Key) -> Key {
+    Key {
         program: ProgramId::new([7; 32]),
         ..key
-    };
-    for (key, wanted) in [
-        (plane, "Misshapen"),
-        (beyond, "Misshapen"),
-        (unknown, "Foreign"),
-    ] {
-        has_verdict(alloc, jobs, &tile(alloc, key, &[1, 2, 3, 4])?, wanted)?;
     }
-    Ok(())
-}
-
-#[test]
-fn disputed_facts(rt: HostRuntime) -> Result<(), Fail> {
-    let alloc = rt.alloc();
-    let jobs = two_jobs(alloc)?;
-    let key = key_at(&jobs, 0, 1, 0, 0).ok_or("no key")?;
-    has_verdicts(alloc, &jobs, key)
-}
-
-#[test]
-fn facts_of_other_keys(rt: HostRuntime) -> Result<(), Fail> {
-    let alloc = rt.alloc();
-    let jobs = two_jobs(alloc)?;
-    let key = key_at(&jobs, 0, 1, 0, 0).ok_or("no key")?;
-    has_key_verdicts(alloc, &jobs, key)
-}
-
-#[test]
-fn bins_over_a_tile(rt: HostRuntime) -> Result<(), Fail> {
-    let alloc = rt.alloc();
-    let jobs = two_jobs(alloc)?;
-    let key = key_at(&jobs, 1, 1, 0, 0).ok_or("no key")?;
-    has_verdict(alloc, &jobs, &partial(alloc, key, &[1, 2, 1, 0])?, "True")?;
-    has_verdict(alloc, &jobs, &partial(alloc, key, &[1, 2, 0, 1])?, "False")?;
-    has_verdict(alloc, &jobs, &partial(alloc, key, &[1, 2, 1])?, "Misshapen")
 }
 
 // A true fact of each job, and of the first a false, a misshapen and a foreign one between them.
 fn several(alloc: Global, copied: Key, counted: Key) -> Result<Vec<Fact>, Fail> {
-    let foreign = Key {
-        program: ProgramId::new([7; 32]),
-        ..copied
-    };
     let mut facts = Vec::new(alloc);
     facts.push(tile(alloc, copied, &[1, 2, 3, 4])?)?;
     facts.push(tile(alloc, copied, &[1, 2, 3, 5])?)?;
     facts.push(tile(alloc, copied, &[1, 2, 3])?)?;
-    facts.push(tile(alloc, foreign, &[1, 2, 3, 4])?)?;
+    facts.push(tile(alloc, foreign(copied), &[1, 2, 3, 4])?)?;
     facts.push(partial(alloc, counted, &[1, 2, 1, 0])?)?;
     Ok(facts)
 }
 
 #[test]
-fn facts_of_several_jobs(rt: HostRuntime) -> Result<(), Fail> {
-    let alloc = rt.alloc();
-    let jobs = two_jobs(alloc)?;
-    let copied = key_at(&jobs, 0, 1, 0, 0).ok_or("no key")?;
-    let counted = key_at(&jobs, 1, 1, 0, 0).ok_or("no key")?;
-    let facts = several(alloc, copied, counted)?;
-    let verdicts = audit_all(alloc, &jobs, &facts)?;
-    tells(alloc, &verdicts, "[True, False, Misshapen, Foreign, True]")
+fn disputed_facts(rt: HostRuntime) -> Result<(), Fail> {
+    judging(rt.alloc())?.judges_facts()
 }
 
-// A shape is told whatever the identities are.
+#[test]
+fn facts_of_other_keys(rt: HostRuntime) -> Result<(), Fail> {
+    judging(rt.alloc())?.judges_keys()
+}
+
+#[test]
+fn bins_over_a_tile(rt: HostRuntime) -> Result<(), Fail> {
+    judging(rt.alloc())?.judges_bins()
+}
+
+#[test]
+fn facts_of_several_jobs(rt: HostRuntime) -> Result<(), Fail> {
+    judging(rt.alloc())?.judges_several()
+}
+
 #[test]
 fn shapes_by_another_job(rt: HostRuntime) -> Result<(), Fail> {
-    let alloc = rt.alloc();
-    let jobs = two_jobs(alloc)?;
-    let key = key_at(&jobs, 1, 1, 0, 0).ok_or("no key")?;
-    let fact = tile(alloc, key, &[1, 2, 3, 4])?;
-    holds(Some(shape_ok(&copied(alloc, (2, 2))?, &fact)), "the shape")
+    judging(rt.alloc())?.tells_shape()
 }
 
 fn refusal(jobs: &mut Catalog, job: Job) -> Result<AdmitFault, Fail> {
