@@ -39,19 +39,19 @@ struct Judging {
     counted: Key,
 }
 
-fn judging(alloc: Global) -> Result<Judging, Fail> {
-    let jobs = two_jobs(alloc)?;
-    let copied = key_at(&jobs, 0, 1, 0, 0).ok_or("no key")?;
-    let counted = key_at(&jobs, 1, 1, 0, 0).ok_or("no key")?;
-    Ok(Judging {
-        alloc,
-        jobs,
-        copied,
-        counted,
-    })
-}
-
 impl Judging {
+    fn new(alloc: Global) -> Result<Judging, Fail> {
+        let jobs = two_jobs(alloc)?;
+        let copied = key_at(&jobs, 0, 1, 0, 0).ok_or("no key")?;
+        let counted = key_at(&jobs, 1, 1, 0, 0).ok_or("no key")?;
+        Ok(Judging {
+            alloc,
+            jobs,
+            copied,
+            counted,
+        })
+    }
+
     fn judges(&self, fact: &Fact, wanted: &str) -> Result<(), Fail> {
         tells(self.alloc, &audit(self.alloc, &self.jobs, fact)?, wanted)
     }
@@ -125,27 +125,27 @@ fn several(alloc: Global, copied: Key, counted: Key) -> Result<Vec<Fact>, Fail> 
 
 #[test]
 fn disputed_facts(rt: HostRuntime) -> Result<(), Fail> {
-    judging(rt.alloc())?.judges_facts()
+    Judging::new(rt.alloc())?.judges_facts()
 }
 
 #[test]
 fn facts_of_other_keys(rt: HostRuntime) -> Result<(), Fail> {
-    judging(rt.alloc())?.judges_keys()
+    Judging::new(rt.alloc())?.judges_keys()
 }
 
 #[test]
 fn bins_over_a_tile(rt: HostRuntime) -> Result<(), Fail> {
-    judging(rt.alloc())?.judges_bins()
+    Judging::new(rt.alloc())?.judges_bins()
 }
 
 #[test]
 fn facts_of_several_jobs(rt: HostRuntime) -> Result<(), Fail> {
-    judging(rt.alloc())?.judges_several()
+    Judging::new(rt.alloc())?.judges_several()
 }
 
 #[test]
 fn shapes_by_another_job(rt: HostRuntime) -> Result<(), Fail> {
-    judging(rt.alloc())?.tells_shape()
+    Judging::new(rt.alloc())?.tells_shape()
 }
 
 fn refusal(jobs: &mut Catalog, job: Job) -> Result<AdmitFault, Fail> {
