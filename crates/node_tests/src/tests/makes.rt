@@ -1,7 +1,7 @@
 #![tactic(auto)]
 //! Facts that a node makes of what it holds.
 
-use crate::tests::takes::{take, take_tile};
+use crate::tests::takes::take;
 use catalog::Catalog;
 use fault_rows::Fault;
 use grouping::Schedule;
@@ -11,7 +11,7 @@ use std::alloc::Global;
 use std::test::Fail;
 use test_checks::{holds, tells};
 use test_jobs::programs::{CHAIN, ONE_TO_NINE, ONES, REMAINDERS, TOO_BIG};
-use test_jobs::{catalog_of, has_few_stages, job_of, key_at, schedule_of};
+use test_jobs::{catalog_of, has_few_stages, job_of, key_at, schedule_of, tile};
 use tile_fact::Body;
 
 /// A catalog of one job, and a schedule of it.
@@ -146,6 +146,11 @@ fn tells_what_is_not_there(alloc: Global, chain: &Scheduled) -> Result<(), Fail>
 fn keys_of_no_tile(rt: HostRuntime) -> Result<(), Fail> {
     let alloc = rt.alloc();
     tells_what_is_not_there(alloc, &chain(alloc)?)
+}
+
+// Takes a tile of these numbers.
+fn take_tile(alloc: Global, state: &mut NodeState, key: &Key, numbers: &[i32]) -> Result<(), Fail> {
+    take(state, tile(alloc, *key, numbers)?)
 }
 
 fn tells_the_least(alloc: Global, chain: &Scheduled) -> Result<(), Fail> {
