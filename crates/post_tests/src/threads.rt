@@ -13,22 +13,26 @@ use std::thread;
 /// How often a thread tries before it gives up.
 const TRIES: u32 = 10_000_000;
 
-// Puts a hundred parcels in, each again where it is handed back.
+// Puts a hundred parcels in, each again where it is handed back, up to the first that has no room at last.
 fn put_hundred<R: Wait>(rt: &R, alloc: Global, line: Line<'_, Brand>, second: bool) {
     let mut line = line;
     for step in 0..100u8 {
         let from = if second { step + 100 } else { step };
-        put_one(rt, alloc, &mut line, from);
+        if !put_one(rt, alloc, &mut line, from) {
+            return;
+        }
     }
 }
 
-fn put_one<R: Wait>(rt: &R, alloc: Global, line: &mut Line<'_, Brand>, from: u8) {
+// Whether the parcel was put in.
+fn put_one<R: Wait>(rt: &R, alloc: Global, line: &mut Line<'_, Brand>, from: u8) -> bool {
     for _ in 0..TRIES {
         if line.put(rt, empty(alloc, from)).is_ok() {
-            return;
+            return true;
         }
         thread::yield_now();
     }
+    false
 }
 
 // Takes parcels out until two hundred are taken by all.
