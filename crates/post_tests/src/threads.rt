@@ -11,7 +11,7 @@ use std::test::*;
 use std::thread;
 
 /// How often a thread tries before it gives up.
-const TRIES: u32 = 10_000_000;
+const TRIES: u32 = 1_000_000;
 
 // Puts a hundred parcels in, each again where it is handed back, up to the first that has no room at last.
 fn put_hundred<R: Wait>(rt: &R, alloc: Global, line: Line<'_, Brand>, second: bool) {
