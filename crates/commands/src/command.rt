@@ -15,7 +15,7 @@ use crate::found::none_false;
 use crate::task_stream::{check_stream, eval_stream, plan_stream};
 use command_line::{Refusal, Request, Task, request_of};
 use fact_commands::{Found, audit_stream, merge_stream};
-use farm_commands::run_stream;
+use farm_commands::{run_stream, setup_of};
 use inputs::{StreamFault, write_line};
 use std::sync::Wait;
 use std::thread::Threads;
@@ -160,7 +160,8 @@ fn perform<H: AllocGlobal + Threads + Wait + Sync, R: Source, W: Sink>(
                 Task::Check => none_false(check_stream(rt, options, parameters, reader, writer)),
                 Task::Plan => none_false(plan_stream(rt, options, parameters, reader, writer)),
                 Task::Run(farm) => {
-                    none_false(run_stream(rt, &farm, options, parameters, reader, writer))
+                    let setup = setup_of(&farm);
+                    none_false(run_stream(rt, &setup, options, parameters, reader, writer))
                 }
                 Task::Audit => audit_stream(rt, options, parameters, reader, writer),
                 Task::World(nodes) => {

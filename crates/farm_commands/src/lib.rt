@@ -6,4 +6,5 @@ mod setup;
 mod stream;
 mod told;
 
+pub use setup::setup_of;
 pub use stream::run_stream;
