@@ -7,3 +7,4 @@ pub mod Walks
 pub mod TableLaws
 pub mod TableWalks
 pub mod GrowthLaws
+pub mod UndoLaws

@@ -2,11 +2,11 @@
 
 ghost use Rattle.fact_store.specs.Facts.{with_fact, holds, join, lacked};
 ghost use Rattle.fact_store.specs.inside.SortedLists.{rises, set_of};
-ghost use Rattle.fact_store.specs.inside.Tables.{all_facts, set_in, table_at, tables_above, stand};
+ghost use Rattle.fact_store.specs.inside.Tables.{all_facts, set_in, table_at, tables_above, stand, undo_one, undone};
 ghost use Rattle.std.specs.List.{list_any};
-ghost use Rattle.std.specs.Option.{option_copied};
+ghost use Rattle.std.specs.Option.{is_some, option_copied};
 ghost use Rattle.std.specs.Ordering.{eq_by_cmp};
-ghost use Rattle.std.specs.Prelude.{◌≡◌, ◌≤◌, true, false, not, IfOk, IfErr, OnOk, OnErr, length, slice_get, insert};
+ghost use Rattle.std.specs.Prelude.{◌≡◌, ◌≤◌, true, false, not, IfOk, IfErr, IfSome, IfNone, OnOk, OnErr, length, slice_get, insert};
 ghost use Rattle.tile_fact.specs.Order.{fact_cmp};
 
 use crate::sorted::{at, count_through, place, push_copies};
@@ -16,16 +16,18 @@ use std::alloc::{AllocError, AllocFailed, Global};
 use std::collections::BTreeMap;
 use std::marker::Model;
 use std::ops::Bound;
+use std::sync::ArcSlice;
 use tile_fact::Fact;
 
-/// The facts of one key, in a list that rises.
+/// The facts of one key, in a list that rises. Copies share them.
 #[derive(Drop)]
 struct Table {
-    facts: Vec<Fact>,
+    facts: ArcSlice<Fact>,
 }
 
 impl Model for Table {
     ghost use Rattle.fact_store.specs.Facts.{coded_fact};
+    ghost use Rattle.std.specs.Arc.{arc_slice_items};
     ghost use Rattle.std.specs.Coded.{coded_list};
     ghost use Rattle.std.specs.Prelude.{List};
     ghost use Rattle.tile_fact.specs.declared.fact.Fact.{Fact};
@@ -34,7 +36,7 @@ impl Model for Table {
 
     ghost coded = { coded_list coded_fact };
 
-    ghost view = { λ table. table.facts.items };
+    ghost view = { λ table. arc_slice_items table.facts };
 }
 
 impl Clone for Table {
@@ -43,8 +45,7 @@ impl Clone for Table {
     ghost is_clone = { λ it copy. copy ≡ it };
 
     fn clone(&self) -> Result<Table, AllocError> {
-        let mut facts = Vec::with_capacity(*self.facts.allocator(), self.facts.len())?;
-        push_copies(&mut facts, &self.facts)?;
+        let facts = self.facts.clone()?;
         Ok(Table { facts })
     }
 }
@@ -63,18 +64,19 @@ impl Table {
         let mut copies = Vec::with_capacity(alloc, facts.len() + 1)?;
         push_copies(&mut copies, facts)?;
         copies.insert(place, fact.clone()?)?;
-        Ok(Table { facts: copies })
+        let facts = ArcSlice::from_vec(copies)?;
+        Ok(Table { facts })
     }
 
     fn as_slice(&self) -> &[Fact]
         ensures { result.now ≡ self.now }
     {
-        &self.facts
+        self.facts.as_slice()
     }
 }
 
 /// Facts in tables, one for each key that has any, in the order of the keys. To find a key takes a time as the logarithm of
-/// how many there are. To add a fact makes the table of its key anew, and moves no other one.
+/// how many there are. To add a fact makes the table of its key anew, and moves no other one. A copy shares the facts of each key.
 #[derive(Drop)]
 pub struct TableFacts {
     alloc: Global,
@@ -102,22 +104,21 @@ impl FactStore for TableFacts {
     // What is kept is a copy, so that the fact itself is at hand where memory runs out.
     fn add(&mut self, fact: Fact) -> Result<bool, AllocFailed<Fact>> {
         match self.add_copy(&fact) {
-            Ok(is_new) => Ok(is_new),
+            Ok(former) => Ok(former.is_some()),
             Err(_) => Err(AllocFailed { value: fact }),
         }
     }
 
-    // A copy of this store takes the facts of the other one, in their order, and then the place of this store. Facts that are
-    // too many to be counted would not fit into memory.
+    // The facts of the other store are added in their order. Where memory runs out, what was added is taken out again.
     fn join(&mut self, other: &TableFacts) -> Result<usize, AllocError> {
-        let mut both = self.copy()?;
-        let mut new: usize = 0;
-        for (_, table) in &other.tables {
-            let more = both.add_copies(table.as_slice())?;
-            new = new.checked_add(more).ok_or(AllocError)?;
+        let mut undo = Vec::new(self.alloc);
+        match self.add_tables(&other.tables, &mut undo) {
+            Ok(new) => Ok(new),
+            Err(fault) => {
+                undo_all(&mut self.tables, undo);
+                Err(fault)
+            }
         }
-        *self = both;
-        Ok(new)
     }
 
     fn count(&self, key: &Key) -> usize {
@@ -168,37 +169,118 @@ impl TableFacts {
         }
     }
 
-    // Adds a copy of a fact, and tells whether it is new.
-    fn add_copy(&mut self, fact: &Fact) -> Result<bool, AllocError>
+    // Adds a copy of a fact, and tells what stood at its key before; nothing where the fact is there already.
+    fn add_copy(&mut self, fact: &Fact) -> Result<Option<(Key, Option<Table>)>, AllocError>
         ensures added { OnOk result
             (set_in self.new.tables.entries ≡ with_fact (set_in self.old.tables.entries) fact.now) }
         ensures new { IfOk result
-            (λ new. new ≡ not (holds (set_in self.old.tables.entries) fact.now)) }
+            (λ former. is_some former ≡ not (holds (set_in self.old.tables.entries) fact.now)) }
+        ensures former { IfOk result (λ former. IfSome former
+            (λ u. undo_one u self.new.tables.entries ≡ self.old.tables.entries)) }
+        ensures same { IfOk result
+            (λ former. IfNone former (self.new.tables.entries ≡ self.old.tables.entries)) }
         ensures only_new { IfErr result
             (λ _. holds (set_in self.old.tables.entries) fact.now ≡ false) }
         ensures unchanged { OnErr result (self.new.tables.entries ≡ self.old.tables.entries) }
     {
         let facts = self.table(fact.key());
         let Err(at) = place(facts, fact) else {
-            return Ok(false);
+            return Ok(None);
         };
         let table = Table::with_copy(self.alloc, facts, at, fact)?;
-        self.tables.insert(*fact.key(), table)?;
-        Ok(true)
+        let former = self.tables.insert(*fact.key(), table)?;
+        Ok(Some((*fact.key(), former)))
+    }
+
+    // Adds a copy of a fact, and tells whether it is new. What stood at its key before is noted.
+    fn note_copy(
+        &mut self,
+        fact: &Fact,
+        undo: &mut Vec<(Key, Option<Table>)>,
+    ) -> Result<bool, AllocError>
+        ensures added { OnOk result
+            (set_in self.new.tables.entries ≡ with_fact (set_in self.old.tables.entries) fact.now) }
+        ensures new { IfOk result
+            (λ new. new ≡ not (holds (set_in self.old.tables.entries) fact.now)) }
+        ensures undo { undone undo.new.items self.new.tables.entries
+            ≡ undone undo.old.items self.old.tables.entries }
+    {
+        undo.reserve(1)?;
+        match self.add_copy(fact)? {
+            Some(former) => {
+                undo.push_reserved(former);
+                Ok(true)
+            }
+            None => Ok(false),
+        }
     }
 
     // Adds copies of facts, and tells how many are new. Where memory runs out some are added.
-    fn add_copies(&mut self, facts: &[Fact]) -> Result<usize, AllocError>
+    fn add_copies(
+        &mut self,
+        facts: &[Fact],
+        undo: &mut Vec<(Key, Option<Table>)>,
+    ) -> Result<usize, AllocError>
         ensures added { OnOk result
             (set_in self.new.tables.entries
             ≡ join (set_in self.old.tables.entries) (set_of facts.now)) }
         ensures new { IfOk result (λ new. new
             ≡ length (lacked (set_in self.old.tables.entries) (set_in self.new.tables.entries))) }
+        ensures undo { undone undo.new.items self.new.tables.entries
+            ≡ undone undo.old.items self.old.tables.entries }
     {
         let mut new: usize = 0;
         for fact in facts {
-            new += usize::from(self.add_copy(fact)?);
+            new += usize::from(self.note_copy(fact, undo)?);
         }
         Ok(new)
+    }
+
+    // Adds copies of the facts of tables, and tells how many are new. Facts that are too many to be counted would not fit into memory.
+    fn add_tables(
+        &mut self,
+        tables: &BTreeMap<Key, Table>,
+        undo: &mut Vec<(Key, Option<Table>)>,
+    ) -> Result<usize, AllocError>
+        ensures joined { OnOk result
+            (set_in self.new.tables.entries
+            ≡ join (set_in self.old.tables.entries) (set_in tables.now.entries)) }
+        ensures new { IfOk result (λ new. new
+            ≡ length (lacked (set_in self.old.tables.entries) (set_in self.new.tables.entries))) }
+        ensures undo { undone undo.new.items self.new.tables.entries
+            ≡ undone undo.old.items self.old.tables.entries }
+    {
+        let mut new: usize = 0;
+        for (_, table) in tables {
+            let more = self.add_copies(table.as_slice(), undo)?;
+            new = new.checked_add(more).ok_or(AllocError)?;
+        }
+        Ok(new)
+    }
+}
+
+// Puts back what stood at a key.
+fn undo_one(tables: &mut BTreeMap<Key, Table>, key: &Key, former: Option<Table>)
+    ensures { tables.new.entries ≡ undo_one (key.now, former) tables.old.entries }
+{
+    match former {
+        Some(table) => {
+            if let Some(place) = tables.get_mut(key) {
+                *place = table;
+            }
+        }
+        None => {
+            tables.remove(key);
+        }
+    }
+}
+
+// Undoes changes, from the last on.
+fn undo_all(tables: &mut BTreeMap<Key, Table>, undo: Vec<(Key, Option<Table>)>)
+    ensures { tables.new.entries ≡ undone undo.items tables.old.entries }
+{
+    let mut rest = undo;
+    while let Some((key, former)) = rest.pop() {
+        undo_one(tables, &key, former);
     }
 }

@@ -1,9 +1,9 @@
 -- Tables of facts, one for each key that has any, and the sets that they stand for.
 use Rattle.std.specs.BTreeMap.{is_at}
 use Rattle.std.specs.List.{list_all}
-use Rattle.std.specs.Map.{lookup}
+use Rattle.std.specs.Map.{lookup, remove_entry, set_value}
 use Rattle.std.specs.Ordering.{is_lt}
-use Rattle.std.specs.Prelude.{Bool, true, false, ◌&&◌, List, [], ◌∷◌, ◌++◌, filter, unwrap_or}
+use Rattle.std.specs.Prelude.{Bool, true, false, ◌&&◌, List, [], ◌∷◌, ◌++◌, Option, Some, None, filter, unwrap_or}
 use Rattle.identity.specs.declared.key.Key.{Key}
 use Rattle.identity.specs.Keys.{key_cmp}
 use Rattle.tile_fact.specs.declared.fact.Fact.{Fact}
@@ -51,3 +51,17 @@ is_table key xs = all_of key xs && (rises xs && is_filled xs)
 abbrev pub stand : Tables → Bool
 stand [] = true
 stand (e ∷ es) = key_below e.0 es && (is_table e.0 e.1 && stand es)
+
+-- what stood at a key before a change, if anything did
+abbrev pub Former : Type 0
+Former = Key × Option (List Fact)
+
+-- the tables with what stood at a key put back
+abbrev pub undo_one : Former → Tables → Tables
+undo_one (key, None) es = remove_entry (is_at (key_cmp key)) es
+undo_one (key, Some xs) es = set_value (is_at (key_cmp key)) es xs
+
+-- changes, from the first on, are undone from the last on
+abbrev pub undone : List Former → Tables → Tables
+undone [] es = es
+undone (u ∷ us) es = undo_one u (undone us es)
