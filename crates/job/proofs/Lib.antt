@@ -12,3 +12,4 @@ pub mod Example
 pub mod InputLaws
 pub mod Hashed
 pub mod SameInputs
+pub mod SideLaws

@@ -14,3 +14,4 @@ pub mod Readers
 pub mod Kept
 pub mod ReadViews
 pub mod Identity
+pub mod TileSides

@@ -1,7 +1,6 @@
 -- What contracts see of a job in memory: without where its parts lie, and vectors as their lists.
-use Rattle.std.specs.Prelude.{◌≡◌, List, map}
+use Rattle.std.specs.Prelude.{map}
 use Rattle.std.specs.Option.{option_map}
-use Rattle.domains.specs.declared.area.Area.{Area}
 use Rattle.job.specs.declared.formula.Axis.{Axis as KeptAxis}
 use Rattle.job.specs.declared.formula.Axis.TheVariants.{Row, Column}
 use Rattle.job.specs.declared.formula.Formula.{Formula as KeptFormula}

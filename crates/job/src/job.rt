@@ -8,6 +8,7 @@ ghost use Rattle.job.specs.Identity.{input_bytes, input_id, HasTileAt};
 ghost use Rattle.job.specs.Readers.{kind_of, grid_at, stage_fold, stage_bins};
 ghost use Rattle.job.specs.WellFormed.{IsJob};
 ghost use Rattle.job.specs.WellFormedOnce.{IsJob-prop};
+ghost use Rattle.job.specs.TileSides.{wider, with_sides};
 ghost use Rattle.job.specs.Views.{stage_view, output_view, parameter_view, pipeline_of};
 
 use crate::bound_pipeline::BoundPipeline;
@@ -53,6 +54,32 @@ impl Job {
         ensures program { program_id_in result ≡ sha256 text.items }
     {
         let program = hashing::program_id(&text);
+        Job {
+            parts,
+            text,
+            program,
+            input: None,
+        }
+    }
+
+    /// The same job with tiles of at least these sides. It answers the same (`laws::answers_know_no_sides`), and its inputs have another
+    /// identity where the sides are others.
+    pub fn with_wider_tiles(self, sides: TileSides) -> Job
+        ensures pipeline { pipeline_in result
+            ≡ with_sides (wider (pipeline_in self).sides sides) (pipeline_in self) }
+        ensures text { program_text_in result ≡ program_text_in self }
+        ensures program { program_id_in result ≡ program_id_in self }
+    {
+        let Job {
+            parts,
+            text,
+            program,
+            ..
+        } = self;
+        let parts = BoundPipeline {
+            sides: wider(parts.sides, sides),
+            ..parts
+        };
         Job {
             parts,
             text,
@@ -237,5 +264,15 @@ impl Job {
             row,
             col,
         })
+    }
+}
+
+// The least sides that are at least both.
+fn wider(a: TileSides, b: TileSides) -> TileSides
+    ensures { result ≡ wider a b }
+{
+    match TileSides::new(a.height().max(b.height()), a.width().max(b.width())) {
+        Some(sides) => sides,
+        None => unreachable!(),
     }
 }

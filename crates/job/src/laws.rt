@@ -5,9 +5,12 @@ ghost use Rattle.std.specs.Prelude.{◌≡◌, ◌↔◌, ◌<◌, ◌++◌, ℕ
 ghost use Rattle.std.specs.Int.{w32, w64};
 ghost use Rattle.domains.specs.Area.{HoldsPoint, IsArea, IsSubarea};
 ghost use Rattle.domains.specs.declared.area.Area.{Area};
+ghost use Rattle.domains.specs.Sides.{Sides};
 ghost use Rattle.netpbm.specs.Image.{Image};
 ghost use Rattle.domains.specs.declared.operators.Fold.{Fold};
 ghost use Rattle.job.specs.Formula.{Formula, Test};
+ghost use Rattle.job.specs.Answers.{image};
+ghost use Rattle.job.specs.TileSides.{with_sides};
 ghost use Rattle.job.specs.Pipeline.{Body, Stage, Pipeline, rank_of};
 ghost use Rattle.job.specs.Values.{Valuation, formula_value, body_value, stage_value, value_within, value};
 ghost use Rattle.job.specs.Reads.{EachRead, BodyReads, SameAt, AgreeOver, stage_read, reads_of, IsRanked};
@@ -33,6 +36,14 @@ pub fn values_are_the_one_solution()
     ensures solves { (job : Pipeline) → IsJob job → Solves job (value job) }
     ensures only { (job : Pipeline) (env : Valuation) (g : ℕ) (r c : ℤ) → IsJob job → Solves job env
         → IsReadable job.stages g r c → env g r c ≡ value job g r c }
+{}
+
+/// What a job answers knows of no sides of tiles.
+pub fn answers_know_no_sides()
+    ensures values { (job : Pipeline) (sides : Sides) → value (with_sides sides job) ≡ value job }
+    ensures image { (job : Pipeline) (sides : Sides) → image (with_sides sides job) ≡ image job }
+    ensures totals { (job : Pipeline) (sides : Sides) (g : ℕ)
+        → totals (with_sides sides job) g ≡ totals job g }
 {}
 
 /// Each value of a job is a number of 32 bits.
