@@ -10,6 +10,7 @@ ghost use Rattle.results.specs.Results.{result_bytes};
 
 use accumulators::{Answer, answer_of};
 use command_line::Options;
+use domains::TileSides;
 use grouping::Schedule;
 use job::Job;
 use one_job::schedule_of;
@@ -18,20 +19,41 @@ use std::alloc::{AllocError, Global};
 use std::thread::Threads;
 use tile_run::{RunFault, run_all};
 
+/// How many rows and columns tiles have where nothing else is asked for.
+const USUAL_SIDE: u32 = 64;
+
+/// How many columns they have instead where a job is evaluated: long rows take fewer steps for each point.
+const LONG_ROW: u32 = 1024;
+
 /// The result of a job: the picture of its output, if it has one, and a line for each of its accumulators.
 pub fn evaluate(
     rt: &(impl Threads + Sync),
     alloc: Global,
-    job: &Job,
+    job: Job,
     options: &Options,
 ) -> Result<Reply, AllocError>
-    ensures { IfOk result (λ reply. reply_bytes reply ≡ result_bytes (pipeline_in job.now)) }
+    ensures { IfOk result (λ reply. reply_bytes reply ≡ result_bytes (pipeline_in job)) }
 {
-    let schedule = schedule_of(alloc, job, options)?;
-    let Ok(answer) = answer(rt, alloc, job, &schedule) else {
+    let job = with_long_rows(job);
+    let schedule = schedule_of(alloc, &job, options)?;
+    let Ok(answer) = answer(rt, alloc, &job, &schedule) else {
         return Err(AllocError);
     };
-    reply_of(alloc, job, answer)
+    reply_of(alloc, &job, answer)
+}
+
+/// The job with long tiles where it has the usual ones. Its result is the same.
+fn with_long_rows(job: Job) -> Job
+    ensures { result_bytes (pipeline_in result) ≡ result_bytes (pipeline_in job) }
+{
+    let sides = job.sides();
+    if sides.height() != USUAL_SIDE || sides.width() != USUAL_SIDE {
+        return job;
+    }
+    match TileSides::new(USUAL_SIDE, LONG_ROW) {
+        Some(long) => job.with_wider_tiles(long),
+        None => job,
+    }
 }
 
 /// The answer of a job by a schedule of which each tile has room in scratch memory. The stored tiles are let go.

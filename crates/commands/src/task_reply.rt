@@ -26,16 +26,16 @@ pub fn task_reply(
     alloc: Global,
     question: Question,
     options: &Options,
-    job: &Job,
+    job: Job,
 ) -> Result<Reply, AllocError>
-    ensures { IfOk result (λ reply. (tree : List Declaration) → program_text_in job.now ≡ canonical tree
-        → saying_of question options.now.stored options.now.percent tree (pipeline_in job.now)
+    ensures { IfOk result (λ reply. (tree : List Declaration) → program_text_in job ≡ canonical tree
+        → saying_of question options.now.stored options.now.percent tree (pipeline_in job)
         (reply_bytes reply)) }
 {
     match question {
         Question::Answer => evaluate(rt, alloc, job, options),
-        Question::Stages => Ok(Reply::of_lines(check_lines(alloc, job)?)),
-        Question::Plan => Ok(Reply::of_lines(planned_lines(alloc, options, job)?)),
+        Question::Stages => Ok(Reply::of_lines(check_lines(alloc, &job)?)),
+        Question::Plan => Ok(Reply::of_lines(planned_lines(alloc, options, &job)?)),
     }
 }
 

@@ -103,7 +103,7 @@ fn task_stream<H: AllocGlobal + Threads + Sync, R: Source, W: Sink>(
 {
     let input = read_input(rt.alloc(), reader)?;
     let reply = input_reply(rt, question, options, parameters, input)?;
-    write_reply(&reply, writer)
+    Ok(write_reply(&reply, writer)?)
 }
 
 /// What is said of the job of the input where this is asked.
@@ -120,5 +120,5 @@ fn input_reply<H: AllocGlobal + Threads + Sync>(
     ensures fault { IfErr result (IsFaultOf input.items given.now options.now.sides) }
 {
     let job = job_of(rt.alloc(), options.sides, given, input)?;
-    Ok(task_reply(rt, rt.alloc(), question, options, &job)?)
+    Ok(task_reply(rt, rt.alloc(), question, options, job)?)
 }

@@ -1,6 +1,7 @@
+use Rattle.std.proofs.Common.{◌∙◌, Err, ap}
 use Rattle.std.proofs.lemmas.Result.{err_from_is_err_and}
 use Rattle.inputs.specs.Outcomes.{refusing_job, saying_of_job}
-use Rattle.inputs.proofs.Written.{job_refused, lines_written}
+use Rattle.inputs.proofs.Written.{all_written, job_refused, part_written}
 use Rattle.commands.specs.inside.Questions.{saying_of}
 use Rattle.results.specs.Replies.{reply_bytes}
 use Rattle.commands.proofs.task_stream.task_stream.Goals as goal
@@ -15,13 +16,24 @@ returns-in_err-reply-clause-written g c =
     rw (p.1, p.2) (job_refused says (g.R.Source.remaining c.args.reader.now) c.in_ok-input.input.items given sides
     c.in_err-reply.field-0.0 (g.W.Sink.contents c.args.writer.now) read.whole read.within c.in_err-reply.ensures.fault)
 
+pub returns-in_err-write_reply-clause-written : goal.returns-in_err-write_reply-clause-written
+returns-in_err-write_reply-clause-written g c =
+    let given = c.args.parameters.now in
+    let sides = c.args.options.now.sides in
+    let says = saying_of_job (saying_of c.args.question c.args.options.now.stored c.args.options.now.percent) given sides in
+    let read = c.in_ok-input.ensures in
+    let failed = c.from_residual-in_err-write_reply in
+    let p = err_from_is_err_and failed.result failed.ensures.1 in
+    part_written says (refusing_job given sides) (g.R.Source.remaining c.args.reader.now) c.in_ok-input.input.items tt
+    (reply_bytes c.in_ok-reply.reply) failed.result (g.W.Sink.contents c.args.writer.now) _ read.whole read.within
+    c.in_ok-reply.ensures.said c.in_err-write_reply.ensures.taken (p.1 ∙ ap Err p.2)
+
 pub returns-clause-written : goal.returns-clause-written
 returns-clause-written g c =
     let given = c.args.parameters.now in
     let sides = c.args.options.now.sides in
     let says = saying_of_job (saying_of c.args.question c.args.options.now.stored c.args.options.now.percent) given sides in
     let read = c.in_ok-input.ensures in
-    let written = c.write_reply.ensures in
-    lines_written says (refusing_job given sides) (g.R.Source.remaining c.args.reader.now) c.in_ok-input.input.items
-    (reply_bytes c.in_ok-reply.reply) c.write_reply.result (g.W.Sink.contents c.args.writer.now)
-    (g.W.Sink.contents c.write_reply.new.writer) read.whole read.within c.in_ok-reply.ensures.said written.ok written.part written.fault
+    all_written says (refusing_job given sides) (g.R.Source.remaining c.args.reader.now) c.in_ok-input.input.items tt
+    (reply_bytes c.in_ok-reply.reply) (g.W.Sink.contents c.args.writer.now) _ read.whole read.within c.in_ok-reply.ensures.said
+    c.in_ok-write_reply.ensures.taken
