@@ -4,10 +4,10 @@ use Rattle.std.specs.Prelude.{IfNone}
 use Rattle.clap.specs.Words.{Row, first_of}
 use Rattle.domains.specs.Sides.{IsSides}
 use Rattle.command_line.specs.Asking.{AreFarmOptions, AreOptions}
-use Rattle.command_line.specs.Farms.{IsFarmSize}
 use Rattle.command_line.specs.Values.{IsChosen}
-use Rattle.command_line.specs.declared.farm.FarmOptions.{FarmOptions}
 use Rattle.command_line.specs.declared.options.Options.{Options}
+use Rattle.farm_setup.specs.Setups.{IsWithin}
+use Rattle.farm_setup.specs.declared.setup.FarmSetup.{FarmSetup}
 
 pub if_none : {X : Type 0} {P : Type 0} (r : Option X) → P → IfNone r P
 if_none None p = p
@@ -42,11 +42,11 @@ no_percent rows p chosen over options are =
 
 -- numbers of which one is outside a farm's limits are meant by no options
 pub no_farm : (rows : List Row) (n t k : ℕ) → IsChosen (first_of (codes "nodes") rows) 2 n → IsChosen (first_of (codes "turns") rows) 1000 t
-    → IsChosen (first_of (codes "capacity") rows) 8 k → ¬ IsFarmSize n t k → (farm : FarmOptions) → ¬ AreFarmOptions rows farm
+    → IsChosen (first_of (codes "capacity") rows) 8 k → ¬ IsWithin n t k → (farm : FarmSetup) → ¬ AreFarmOptions rows farm
 no_farm rows n t k nodes turns capacity outside farm are =
     let same_nodes = chosen_once (first_of (codes "nodes") rows) 2 farm.nodes n are.nodes nodes in
     let same_turns = chosen_once (first_of (codes "turns") rows) 1000 farm.turns t are.turns turns in
     let same_capacity = chosen_once (first_of (codes "capacity") rows) 8 farm.capacity k are.capacity capacity in
-    outside (subst (λ (x : ℕ). IsFarmSize n t x) same_capacity
-    (subst (λ (x : ℕ). IsFarmSize n x farm.capacity) same_turns
-    (subst (λ (x : ℕ). IsFarmSize x farm.turns farm.capacity) same_nodes are.size)))
+    outside (subst (λ (x : ℕ). IsWithin n t x) same_capacity
+    (subst (λ (x : ℕ). IsWithin n x farm.capacity) same_turns
+    (subst (λ (x : ℕ). IsWithin x farm.turns farm.capacity) same_nodes are.size)))

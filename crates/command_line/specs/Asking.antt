@@ -6,19 +6,19 @@ use Rattle.std.specs.declared.alloc.Global.{Global}
 use Rattle.std.specs.declared.string.String.{String}
 use Rattle.clap.specs.Words.{Row, Text, all_of, fault_of, first_of, subcommand_of}
 use Rattle.domains.specs.Sides.{IsSides}
-use Rattle.command_line.specs.Farms.{IsFarmSize}
 use Rattle.command_line.specs.Nodes.{IsNodeCount}
 use Rattle.command_line.specs.Tasks.{AsksFor}
 use Rattle.command_line.specs.Usage.{usage}
 use Rattle.command_line.specs.Values.{IsChosen, SpellsParameter, is_true}
-use Rattle.command_line.specs.declared.farm.FarmFaults.{FarmFaults}
-use Rattle.command_line.specs.declared.farm.FarmOptions.{FarmOptions}
 use Rattle.command_line.specs.declared.options.Options.{Options}
 use Rattle.command_line.specs.declared.tasks.Task.{Task}
 use Rattle.command_line.specs.declared.tasks.Task.TheVariants.{Run, World}
 use Rattle.command_line.specs.declared.words.JobRequest.{JobRequest}
 use Rattle.command_line.specs.declared.words.Request.{Request}
 use Rattle.command_line.specs.declared.words.Request.TheVariants.{Merge, Job}
+use Rattle.farm_setup.specs.Setups.{IsWithin}
+use Rattle.farm_setup.specs.declared.setup.FarmSetup.{FarmSetup}
+use Rattle.farm_setup.specs.declared.setup.Faults.{Faults}
 
 -- a parameter's name and the value that it is given
 abbrev pub Given : Type 0
@@ -36,17 +36,17 @@ pub record AreOptions (rows : List Row) (options : Options) : Type 0 where
   pub stored : options.stored ≡ is_true (first_of (codes "stored") rows)
 
 -- how often a farm makes each fault, by the options that were given; where one was not never
-pub record AreFaults (rows : List Row) (faults : FarmFaults) : Type 0 where
+pub record AreFaults (rows : List Row) (faults : Faults) : Type 0 where
   pub lose : IsChosen (first_of (codes "lose") rows) 0 faults.lose
   pub repeat : IsChosen (first_of (codes "repeat") rows) 0 faults.repeat
   pub restart : IsChosen (first_of (codes "restart") rows) 0 faults.restart
 
 -- how a farm runs, by the options that were given, and where one was not as usual: two nodes, 1000 turns, room for eight parcels
-pub record AreFarmOptions (rows : List Row) (farm : FarmOptions) : Type 0 where
+pub record AreFarmOptions (rows : List Row) (farm : FarmSetup) : Type 0 where
   pub nodes : IsChosen (first_of (codes "nodes") rows) 2 farm.nodes
   pub turns : IsChosen (first_of (codes "turns") rows) 1000 farm.turns
   pub capacity : IsChosen (first_of (codes "capacity") rows) 8 farm.capacity
-  pub size : IsFarmSize farm.nodes farm.turns farm.capacity
+  pub size : IsWithin farm.nodes farm.turns farm.capacity
   pub faults : AreFaults rows farm.faults
 
 -- what a task has of its own, by the options that were given: a farm how it runs, and a world its number of nodes, where none was given

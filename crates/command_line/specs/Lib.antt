@@ -1,5 +1,4 @@
 pub mod Asking
-pub mod Farms
 pub mod Nodes
 pub mod Tasks
 pub mod Usage

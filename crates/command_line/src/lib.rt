@@ -1,7 +1,6 @@
 //! The command line: what its words ask for, how it is to be done, and the values that are given to parameters.
 #![tactic(auto)]
 
-mod farm;
 mod nodes;
 mod options;
 mod tasks;
@@ -9,7 +8,6 @@ mod usage;
 mod values;
 mod words;
 
-pub use farm::{FarmFaults, FarmOptions};
 pub use nodes::NodeCount;
 pub use options::{Options, Percent};
 pub use tasks::Task;

@@ -4,8 +4,8 @@ ghost use Rattle.std.specs.Prelude.{IfNone, IfSome};
 ghost use Rattle.command_line.specs.Tasks.{AsksFor};
 ghost use Rattle.command_line.specs.declared.tasks.Task.{Task as TaskType};
 
-use crate::farm::FarmOptions;
 use crate::nodes::NodeCount;
+use farm_setup::FarmSetup;
 
 /// What the program is asked to do with a program and a picture.
 #[derive(Clone, Copy, Debug)]
@@ -17,7 +17,7 @@ pub enum Task {
     /// To tell which functions are stored, and what that costs.
     Plan,
     /// To run a program on a picture by a farm.
-    Run(FarmOptions),
+    Run(FarmSetup),
     /// To judge the facts of fact files.
     Audit,
     /// To tell what so many nodes hold after a script.
@@ -34,7 +34,7 @@ pub fn task_of(words: &[String]) -> Option<Task>
         "eval" => Some(Task::Eval),
         "check" => Some(Task::Check),
         "plan" => Some(Task::Plan),
-        "run" => Some(Task::Run(FarmOptions::usual())),
+        "run" => Some(Task::Run(FarmSetup::usual())),
         "audit" => Some(Task::Audit),
         "world" => Some(Task::World(NodeCount::usual())),
         _ => None,

@@ -8,16 +8,15 @@ ghost use Rattle.command_line.specs.Asking.{AreFarmOptions, AreFaults, AreOption
 ghost use Rattle.command_line.specs.Asking.{HasOwn, IsJobRequestOf, IsRequestOf, NamesTask, is_separator};
 ghost use Rattle.command_line.specs.Tasks.{word_of};
 ghost use Rattle.command_line.specs.Values.{IsChosen, is_true};
-ghost use Rattle.command_line.specs.declared.farm.FarmFaults.{FarmFaults as FarmFaultsType};
-ghost use Rattle.command_line.specs.declared.farm.FarmOptions.{FarmOptions as FarmOptionsType};
 ghost use Rattle.command_line.specs.declared.options.Options.{Options as OptionsType};
 ghost use Rattle.command_line.specs.declared.tasks.Task.{Task as TaskType};
 ghost use Rattle.command_line.specs.declared.tasks.Task.TheVariants.{World};
 ghost use Rattle.command_line.specs.declared.words.JobRequest.{JobRequest as JobRequestType};
 ghost use Rattle.command_line.specs.declared.words.Request.{Request as RequestType};
 ghost use Rattle.command_line.specs.declared.words.Refusal.TheVariants as refusals;
+ghost use Rattle.farm_setup.specs.declared.setup.FarmSetup.{FarmSetup as FarmSetupType};
+ghost use Rattle.farm_setup.specs.declared.setup.Faults.{Faults as FaultsType};
 
-use crate::farm::{FarmFaults, FarmOptions};
 use crate::nodes::NodeCount;
 use crate::options::{Options, Percent};
 use crate::tasks::{Task, task_of};
@@ -26,6 +25,7 @@ use crate::values::{is_true, number_of, parameter};
 use clap::error::ErrorKind;
 use clap::{ArgMatches, Error};
 use domains::TileSides;
+use farm_setup::{FarmSetup, Faults};
 use std::alloc::{AllocError, AllocFailed, Global};
 
 /// What is to be done.
@@ -161,26 +161,27 @@ fn with_own(named: Task, given: &ArgMatches) -> Option<Task>
 }
 
 /// How the farm is to run; what is not given is as usual.
-fn farm_of(given: &ArgMatches) -> Option<FarmOptions>
+fn farm_of(given: &ArgMatches) -> Option<FarmSetup>
     ensures some { IfSome result (AreFarmOptions (rows_of (found_of given.now))) }
-    ensures none { IfNone result ((farm : FarmOptionsType)
+    ensures none { IfNone result ((farm : FarmSetupType)
         → ¬ AreFarmOptions (rows_of (found_of given.now)) farm) }
 {
-    let usual = FarmOptions::usual();
-    let nodes = number_in(given, "nodes", u32::from(usual.nodes))?;
+    let usual = FarmSetup::usual();
+    let count = number_in(given, "nodes", u32::from(usual.nodes))?;
+    let nodes = u8::try_from(count).ok()?;
     let turns = number_in(given, "turns", usual.turns)?;
     let capacity = number_in(given, "capacity", usual.capacity)?;
-    FarmOptions::new(nodes, turns, capacity, faults_of(given)?)
+    FarmSetup::new(nodes, turns, capacity, faults_of(given)?)
 }
 
 /// How often the farm is to make faults; what is not given is as usual.
-fn faults_of(given: &ArgMatches) -> Option<FarmFaults>
+fn faults_of(given: &ArgMatches) -> Option<Faults>
     ensures some { IfSome result (AreFaults (rows_of (found_of given.now))) }
-    ensures none { IfNone result ((faults : FarmFaultsType)
+    ensures none { IfNone result ((faults : FaultsType)
         → ¬ AreFaults (rows_of (found_of given.now)) faults) }
 {
-    let usual = FarmOptions::usual().faults;
-    Some(FarmFaults {
+    let usual = FarmSetup::usual().faults;
+    Some(Faults {
         lose: number_in(given, "lose", usual.lose)?,
         repeat: number_in(given, "repeat", usual.repeat)?,
         restart: number_in(given, "restart", usual.restart)?,

@@ -25,7 +25,7 @@ use Rattle.posts.proofs.line.Line.TheSendSync as Line'
 use Rattle.posts.specs.contracts.line.Line as Line
 use Rattle.std.specs.contracts.marker.PhantomData as PhantomData
 use Rattle.farm_work.specs.contracts.every.Every as Every
-use Rattle.farm_work.specs.contracts.setup.FarmSetup as FarmSetup
+use Rattle.farm_setup.specs.contracts.setup.FarmSetup as FarmSetup
 use Rattle.farm.specs.contracts.worker.Worker as Worker
 use Rattle.farm_work.specs.contracts.work.Work as Work
 use Rattle.grouping.specs.contracts.schedule.Schedule as Schedule

@@ -4,7 +4,7 @@ ghost use Rattle.std.specs.Prelude.{◌≡◌, All, IfOk, length};
 
 use crate::hand::End;
 use catalog::Catalog;
-use farm_work::FarmSetup;
+use farm_setup::FarmSetup;
 use live_nodes::{LiveNode, Seat};
 use named_catalogs::NamedCatalog;
 use posts::{Line, Post};

@@ -5,7 +5,8 @@ ghost use Rattle.fact_audit.specs.TrueFacts.{IsTrueFact};
 
 use crate::hand::{End, Hand};
 use crate::threads::Task;
-use farm_work::{Every, FarmSetup, Gate, Work, copies_of, copy_of};
+use farm_setup::FarmSetup;
+use farm_work::{Every, Gate, Work, copies_of, copy_of};
 use identity::Key;
 use leases::{Claim, LiveDesk};
 use named_catalogs::NamedCatalog;

@@ -7,11 +7,11 @@ ghost use Rattle.farm_commands.specs.RunFaults.{IsOfFarm};
 ghost use Rattle.results.specs.Replies.{reply_bytes};
 ghost use Rattle.results.specs.Results.{result_bytes};
 
-use crate::setup::setup_of;
 use crate::told::told;
 use catalog::Catalog;
-use command_line::{FarmOptions, Options};
+use command_line::Options;
 use farm::Farm;
+use farm_setup::FarmSetup;
 use farm_work::Open;
 use inputs::StreamFault;
 use job::Job;
@@ -23,7 +23,7 @@ use std::thread::Threads;
 /// The result of a job, which a farm computes by the schedule that the options ask for.
 pub fn farmed<H: AllocGlobal + Threads + Wait + Sync>(
     rt: &H,
-    farm: &FarmOptions,
+    setup: &FarmSetup,
     options: &Options,
     job: Job,
 ) -> Result<Reply, StreamFault>
@@ -32,7 +32,7 @@ pub fn farmed<H: AllocGlobal + Threads + Wait + Sync>(
 {
     let catalog = catalog_of(rt.alloc(), job)?;
     match catalog.job(0) {
-        Some(job) => farmed_in(rt, farm, options, &catalog, job),
+        Some(job) => farmed_in(rt, setup, options, &catalog, job),
         None => unreachable!(),
     }
 }
@@ -40,7 +40,7 @@ pub fn farmed<H: AllocGlobal + Threads + Wait + Sync>(
 /// The result of the job that a catalog has alone.
 fn farmed_in<H: AllocGlobal + Threads + Wait + Sync>(
     rt: &H,
-    farm: &FarmOptions,
+    setup: &FarmSetup,
     options: &Options,
     catalog: &Catalog,
     job: &Job,
@@ -52,8 +52,7 @@ fn farmed_in<H: AllocGlobal + Threads + Wait + Sync>(
 {
     let alloc = rt.alloc();
     let schedule = schedule_of(alloc, job, options)?;
-    let setup = setup_of(farm);
-    match Farm::run(rt, alloc, catalog, 0, &setup, &schedule, &Open) {
+    match Farm::run(rt, alloc, catalog, 0, setup, &schedule, &Open) {
         Ok(report) => Ok(reply_of(alloc, job, report.answer)?),
         Err(fault) => Err(told(fault)),
     }

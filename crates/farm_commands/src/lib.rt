@@ -2,7 +2,6 @@
 #![tactic(auto)]
 
 mod farmed;
-mod setup;
 mod stream;
 mod told;
 

@@ -7,7 +7,8 @@ ghost use Rattle.results.specs.Replies.{reply_bytes};
 ghost use Rattle.results.specs.Results.{SaysResult};
 
 use crate::farmed::farmed;
-use command_line::{FarmOptions, Options};
+use command_line::Options;
+use farm_setup::FarmSetup;
 use inputs::{StreamFault, job_of, read_input};
 use results::{Reply, write_reply};
 use std::sync::Wait;
@@ -22,7 +23,7 @@ use streams::{Sink, Source};
 /// before the first byte is written.
 pub fn run_stream<H: AllocGlobal + Threads + Wait + Sync, R: Source, W: Sink>(
     rt: &H,
-    farm: &FarmOptions,
+    setup: &FarmSetup,
     options: &Options,
     parameters: &[(String, i32)],
     reader: &mut R,
@@ -38,14 +39,14 @@ pub fn run_stream<H: AllocGlobal + Threads + Wait + Sync, R: Source, W: Sink>(
     ensures write { CountsWritten result (W.failures writer.old) (W.failures writer.new) }
 {
     let input = read_input(rt.alloc(), reader)?;
-    let reply = input_reply(rt, farm, options, parameters, input)?;
-    write_reply(&reply, writer)
+    let reply = input_reply(rt, setup, options, parameters, input)?;
+    Ok(write_reply(&reply, writer)?)
 }
 
 /// The result of the job of the input.
 fn input_reply<H: AllocGlobal + Threads + Wait + Sync>(
     rt: &H,
-    farm: &FarmOptions,
+    setup: &FarmSetup,
     options: &Options,
     given: &[(String, i32)],
     input: Vec<u8>,
@@ -55,5 +56,5 @@ fn input_reply<H: AllocGlobal + Threads + Wait + Sync>(
     ensures fault { IfErr result (IsRunFault input.items given.now options.now.sides) }
 {
     let job = job_of(rt.alloc(), options.sides, given, input)?;
-    farmed(rt, farm, options, job)
+    farmed(rt, setup, options, job)
 }

@@ -6,7 +6,8 @@ ghost use Rattle.job.specs.Kept.{pipeline_in};
 
 use catalog::Catalog;
 use farm::{Farm, FarmReport};
-use farm_work::{FarmSetup, Faults, Gate};
+use farm_setup::{FarmSetup, Faults};
+use farm_work::Gate;
 use grouping::Schedule;
 use identity::Key;
 use job::Job;

@@ -3,7 +3,7 @@
 use crate::given::{Given, NO_FAULTS, setup};
 use crate::watch::Watch;
 use books::Event;
-use farm_work::Faults;
+use farm_setup::Faults;
 use identity::Key;
 use std::alloc::Global;
 use std::sync::Wait;

@@ -3,7 +3,8 @@
 use crate::given::{Given, NO_FAULTS, setup};
 use crate::watch::Watch;
 use farm::FarmReport;
-use farm_work::{FarmSetup, Faults, Gate, Open};
+use farm_setup::{FarmSetup, Faults};
+use farm_work::{Gate, Open};
 use netpbm::raw;
 use std::alloc::Global;
 use std::sync::Wait;

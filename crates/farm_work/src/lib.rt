@@ -1,14 +1,12 @@
-//! What the workers of a farm go by: how it is set up, what they make and from what, and what they pass.
+//! What the workers of a farm go by: what they make and from what, and what they pass.
 #![tactic(auto)]
 
 mod copies;
 mod every;
 mod gate;
-mod setup;
 mod work;
 
 pub use copies::{copies_of, copy_of};
 pub use every::Every;
 pub use gate::{Gate, Open};
-pub use setup::{FarmSetup, Faults, MOST_NODES, MOST_PARCELS, MOST_TURNS};
 pub use work::Work;

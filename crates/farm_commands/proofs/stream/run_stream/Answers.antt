@@ -1,6 +1,7 @@
+use Rattle.std.proofs.Common.{◌∙◌, Err, ap}
 use Rattle.std.proofs.lemmas.Result.{err_from_is_err_and}
 use Rattle.inputs.specs.Outcomes.{saying_of_job}
-use Rattle.inputs.proofs.Written.{lines_written}
+use Rattle.inputs.proofs.Written.{all_written, part_written}
 use Rattle.farm_commands.specs.RunFaults.{refusing_run}
 use Rattle.farm_commands.proofs.RunFaults.{run_refused}
 use Rattle.results.specs.Replies.{reply_bytes}
@@ -17,12 +18,22 @@ returns-in_err-reply-clause-written g c =
     c.in_ok-input.input.items given sides c.in_err-reply.field-0.0 (g.W.Sink.contents c.args.writer.now) read.whole read.within
     c.in_err-reply.ensures.fault)
 
+pub returns-in_err-write_reply-clause-written : goal.returns-in_err-write_reply-clause-written
+returns-in_err-write_reply-clause-written g c =
+    let given = c.args.parameters.now in
+    let sides = c.args.options.now.sides in
+    let read = c.in_ok-input.ensures in
+    let failed = c.from_residual-in_err-write_reply in
+    let p = err_from_is_err_and failed.result failed.ensures.1 in
+    part_written (saying_of_job SaysResult given sides) (refusing_run given sides) (g.R.Source.remaining c.args.reader.now)
+    c.in_ok-input.input.items tt (reply_bytes c.in_ok-reply.reply) failed.result (g.W.Sink.contents c.args.writer.now) _ read.whole
+    read.within c.in_ok-reply.ensures.said c.in_err-write_reply.ensures.taken (p.1 ∙ ap Err p.2)
+
 pub returns-clause-written : goal.returns-clause-written
 returns-clause-written g c =
     let given = c.args.parameters.now in
     let sides = c.args.options.now.sides in
     let read = c.in_ok-input.ensures in
-    let written = c.write_reply.ensures in
-    lines_written (saying_of_job SaysResult given sides) (refusing_run given sides) (g.R.Source.remaining c.args.reader.now)
-    c.in_ok-input.input.items (reply_bytes c.in_ok-reply.reply) c.write_reply.result (g.W.Sink.contents c.args.writer.now)
-    (g.W.Sink.contents c.write_reply.new.writer) read.whole read.within c.in_ok-reply.ensures.said written.ok written.part written.fault
+    all_written (saying_of_job SaysResult given sides) (refusing_run given sides) (g.R.Source.remaining c.args.reader.now)
+    c.in_ok-input.input.items tt (reply_bytes c.in_ok-reply.reply) (g.W.Sink.contents c.args.writer.now) _ read.whole read.within
+    c.in_ok-reply.ensures.said c.in_ok-write_reply.ensures.taken

@@ -1,7 +1,7 @@
 //! How a farm runs.
 
 ghost use Rattle.std.specs.Prelude.{◌≡◌, IfNone, IfSome};
-ghost use Rattle.farm_work.specs.Setups.{IsWithin};
+ghost use Rattle.farm_setup.specs.Setups.{IsWithin};
 
 /// The most nodes of a farm.
 pub const MOST_NODES: u8 = 8;
@@ -25,7 +25,7 @@ pub struct Faults {
 
 /// How many nodes a farm has, how many turns each worker goes through, for how many parcels a mailbox has room, and which faults are
 /// made: 1 to 8 nodes, at most 65,536 turns, and room for 1 to 1,024 parcels.
-#[derive(Clone, Copy)]
+#[derive(Clone, Copy, Debug)]
 pub struct FarmSetup {
     pub nodes: u8,
     pub turns: u32,
@@ -56,5 +56,24 @@ impl FarmSetup {
             capacity,
             faults,
         })
+    }
+
+    /// Two nodes, 1,000 turns, room for eight parcels, and no faults.
+    pub fn usual() -> FarmSetup
+        ensures nodes { result.nodes ≡ 2 }
+        ensures turns { result.turns ≡ 1000 }
+        ensures capacity { result.capacity ≡ 8 }
+        ensures faults { result.faults ≡ record { lose = 0; repeat = 0; restart = 0 } }
+    {
+        FarmSetup {
+            nodes: 2,
+            turns: 1_000,
+            capacity: 8,
+            faults: Faults {
+                lose: 0,
+                repeat: 0,
+                restart: 0,
+            },
+        }
     }
 }
