@@ -1,14 +1,9 @@
 //! Fact files as they are audited: from a reader to a writer.
 
-ghost use Rattle.std.specs.Io.KnownBytes.{Appends};
-ghost use Rattle.std.specs.Prelude.{◌≡◌, IfOk, IfErr, OnErr, OnOk, length};
 ghost use Rattle.inputs.specs.Outcomes.{CountsRead, CountsWritten, Writes, refusing_audit, saying_of_audit};
-ghost use Rattle.inputs.specs.declared.faults.StreamFault.TheVariants.{Write};
-ghost use Rattle.streams.specs.Streams.{AppendsPart};
 ghost use Rattle.fact_commands.specs.Auditing.{SaysVerdicts};
-ghost use Rattle.fact_commands.specs.Verdicts.{verdict_lines};
 
-use crate::audit::{Judged, judge};
+use crate::audit::judge;
 use crate::found::Found;
 use crate::verdict_lines::write_verdicts;
 use command_line::Options;
@@ -38,22 +33,6 @@ pub fn audit_stream<H: AllocGlobal, R: Source, W: Sink>(
 {
     let input = read_input(rt.alloc(), reader)?;
     let judged = judge(rt.alloc(), options, parameters, input)?;
-    write_judged(&judged, writer)
-}
-
-/// Writes the lines of the verdicts, and answers what they found.
-fn write_judged<W: Sink>(judged: &Judged, writer: &mut W) -> Result<Found, StreamFault>
-    requires { length judged.now.verdicts.items ≡ length judged.now.facts.items }
-    ensures ok { OnOk result (Appends (W.contents writer.old) (W.contents writer.new)
-        (verdict_lines judged.now.facts.items judged.now.verdicts.items)) }
-    ensures found { IfOk result (λ found. found ≡ judged.now.found) }
-    ensures part { OnErr result (AppendsPart (W.contents writer.old) (W.contents writer.new)
-        (verdict_lines judged.now.facts.items judged.now.verdicts.items)) }
-    ensures fault { IfErr result (λ fault. fault ≡ Write) }
-    ensures write { CountsWritten result (W.failures writer.old) (W.failures writer.new) }
-{
-    match write_verdicts(&judged.facts, &judged.verdicts, writer) {
-        Ok(()) => Ok(judged.found),
-        Err(_) => Err(StreamFault::Write),
-    }
+    write_verdicts(&judged.facts, &judged.verdicts, writer)?;
+    Ok(judged.found)
 }

@@ -1,13 +1,9 @@
 //! Fact files as they are merged: from a reader to a writer.
 
-ghost use Rattle.std.specs.Io.KnownBytes.{Appends};
-ghost use Rattle.std.specs.Prelude.{◌≡◌, IfOk, IfErr, OnOk, OnErr, length};
+ghost use Rattle.std.specs.Prelude.{◌≡◌, IfOk, IfErr, length};
 ghost use Rattle.fact_lines.specs.Texts.{IsUnion};
-ghost use Rattle.fact_lines.specs.Written.{written};
 ghost use Rattle.inputs.specs.Faults.{IsMergeFault};
 ghost use Rattle.inputs.specs.Outcomes.{CountsRead, CountsWritten, Writes, refusing_merge};
-ghost use Rattle.inputs.specs.declared.faults.StreamFault.TheVariants.{Write};
-ghost use Rattle.streams.specs.Streams.{AppendsPart};
 ghost use Rattle.fact_commands.specs.Merging.{saying_union};
 
 use fact_lines::{count_facts, write_union};
@@ -35,7 +31,7 @@ pub fn merge_stream<H: AllocGlobal, R: Source, W: Sink>(
 {
     let input = read_input(rt.alloc(), reader)?;
     let (facts, count) = counted_union(rt.alloc(), input)?;
-    write_facts(&facts, count, writer)
+    Ok(write_union(&facts, count, writer)?)
 }
 
 /// The facts of the files, and how many there are. The input is let go.
@@ -48,21 +44,5 @@ fn counted_union(alloc: Global, input: Vec<u8>) -> Result<(Vec<Fact>, u32), Stre
     match count_facts(&facts) {
         Some(count) => Ok((facts, count)),
         None => Err(StreamFault::Memory),
-    }
-}
-
-/// Writes the line of the facts.
-fn write_facts<W: Sink>(facts: &[Fact], count: u32, writer: &mut W) -> Result<(), StreamFault>
-    requires { count ≡ length facts.now }
-    ensures ok { OnOk result
-        (Appends (W.contents writer.old) (W.contents writer.new) (written facts.now)) }
-    ensures part { OnErr result
-        (AppendsPart (W.contents writer.old) (W.contents writer.new) (written facts.now)) }
-    ensures fault { IfErr result (λ fault. fault ≡ Write) }
-    ensures write { CountsWritten result (W.failures writer.old) (W.failures writer.new) }
-{
-    match write_union(facts, count, writer) {
-        Ok(()) => Ok(()),
-        Err(_) => Err(StreamFault::Write),
     }
 }

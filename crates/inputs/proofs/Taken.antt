@@ -1,13 +1,13 @@
 -- What a writer takes in several parts.
 use Rattle.std.proofs.Common.{◌++◌, ◌+◌, ◌<◌, ℕ, List, [], Option, Some, None, Result, Ok, Err, length, take, drop, get_or, refl}
-use Rattle.std.proofs.Common.{sym, ap, subst, ◌∙◌}
-use Rattle.std.specs.Prelude.{IsErr}
+use Rattle.std.proofs.Common.{OnOk, sym, ap, subst, ◌∙◌}
+use Rattle.std.specs.Prelude.{IsErr, OnErr}
 use Rattle.std.specs.Io.KnownBytes.{Appends}
 use Rattle.std.specs.List.{flat_map}
 use Rattle.std.proofs.KnownBytes.{Appends-trans}
 use Rattle.std.proofs.lemmas.Grind.{flat_map-append}
 use Rattle.std.proofs.lemmas.List.{append-nil, take-append-drop, take_more, flat_map_more}
-use Rattle.streams.specs.Streams.{one_more}
+use Rattle.streams.specs.Streams.{AppendsPart, CountsFailure, one_more}
 use Rattle.streams.proofs.Appended.{AppendsPart-front, AppendsPart-next}
 use Rattle.inputs.specs.Taking.{TakesAll, TakesPart, Takes}
 
@@ -45,6 +45,11 @@ pub takes_err : {X E : Type 0} (r : Result X E) (bytes : List ℕ) (a b : Option
     → Takes r bytes a b n m
 takes_err (Ok x) bytes a b n m is part = cc
 takes_err (Err e) bytes a b n m is part = part
+
+pub takes_of : {X E : Type 0} (r : Result X E) (bytes : List ℕ) (a b : Option (List ℕ)) (n m : ℕ) → OnOk r (Appends a b bytes)
+    → OnErr r (AppendsPart a b bytes) → CountsFailure r n m → Takes r bytes a b n m
+takes_of (Ok x) bytes a b n m all part counts = record { taken = all; failures = counts }
+takes_of (Err e) bytes a b n m all part counts = record { taken = part; failures = counts }
 
 -- ---- one part for each element of a list
 

@@ -85,29 +85,20 @@ merge_refused Says known input f old all within is = input_fault Says refusing_m
 
 -- ---- what is said was written
 
--- all of it, or where the writer failed a part of it
-pub said_written : {Answer : Type 0} (Says : Saying Answer) (Refuses : Refusing) (known : Option (List ℕ)) (input : List ℕ)
-    (answer : Answer) (bytes : List ℕ) (r : Result Answer StreamFault) (old new : Option (List ℕ))
-    → IfSome known (λ all. input ≡ all) → length input ≤ most_input → Says answer input bytes → IfOk r (λ x. x ≡ answer)
-    → OnOk r (Appends old new bytes) → OnErr r (AppendsPart old new bytes) → IfErr r (λ f. f ≡ faults.Write)
-    → Writes Says Refuses known r old new
-said_written Says Refuses known input answer bytes (Ok x) old new all within says same whole part fault =
-    subst (λ y. AppendsSaid Says known y old new) (sym same)
-    (record { bytes = bytes; said = of_input known input (λ i. Says answer i bytes) all within says; taken = whole })
-said_written Says Refuses known input answer bytes (Err f) old new all within says same whole part fault =
-    subst (λ (g : StreamFault). Writes Says Refuses known (Err g) old new) (sym fault)
-    (record { answer = answer; bytes = bytes; said = of_input known input (λ i. Says answer i bytes) all within says; taken = part })
+pub all_written : {Answer : Type 0} (Says : Saying Answer) (Refuses : Refusing) (known : Option (List ℕ)) (input : List ℕ)
+    (answer : Answer) (bytes : List ℕ) (old new : Option (List ℕ)) → IfSome known (λ all. input ≡ all) → length input ≤ most_input
+    → Says answer input bytes → Appends old new bytes → Writes Says Refuses known (Ok answer) old new
+all_written Says Refuses known input answer bytes old new all within says whole =
+    record { bytes = bytes; said = of_input known input (λ i. Says answer i bytes) all within says; taken = whole }
 
--- the same of a command that has no answer of its own
-pub lines_written : (Says : Saying (Unit {0})) (Refuses : Refusing) (known : Option (List ℕ)) (input bytes : List ℕ)
-    (r : Result (Unit {0}) StreamFault) (old new : Option (List ℕ))
-    → IfSome known (λ all. input ≡ all) → length input ≤ most_input → Says tt input bytes
-    → OnOk r (Appends old new bytes) → OnErr r (AppendsPart old new bytes) → IfErr r (λ f. f ≡ faults.Write)
-    → Writes Says Refuses known r old new
-lines_written Says Refuses known input bytes (Ok x) old new all within says whole part fault =
-    said_written Says Refuses known input tt bytes (Ok x) old new all within says refl whole part fault
-lines_written Says Refuses known input bytes (Err f) old new all within says whole part fault =
-    said_written Says Refuses known input tt bytes (Err f) old new all within says tt whole part fault
+-- a part of it, where the writer failed
+pub part_written : {Answer : Type 0} (Says : Saying Answer) (Refuses : Refusing) (known : Option (List ℕ)) (input : List ℕ)
+    (answer : Answer) (bytes : List ℕ) (r : Result Answer StreamFault) (old new : Option (List ℕ))
+    → IfSome known (λ all. input ≡ all) → length input ≤ most_input → Says answer input bytes → AppendsPart old new bytes
+    → r ≡ Err faults.Write → Writes Says Refuses known r old new
+part_written Says Refuses known input answer bytes r old new all within says part fault =
+    rw fault
+    (record { answer = answer; bytes = bytes; said = of_input known input (λ i. Says answer i bytes) all within says; taken = part })
 
 -- ---- what is said
 

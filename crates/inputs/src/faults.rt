@@ -6,6 +6,7 @@ use gossip_events::ScriptFault;
 use netpbm::PicFault;
 use pipe_tree::ParseFault;
 use std::alloc::AllocError;
+use streams::WriteFailed;
 use thiserror::Error;
 
 /// Why a command gave no result. `write_line` writes the line that tells it.
@@ -82,6 +83,17 @@ impl From<AllocError> for StreamFault {
 
     fn from(_fault: AllocError) -> StreamFault {
         StreamFault::Memory
+    }
+}
+
+impl From<WriteFailed> for StreamFault {
+    ghost use Rattle.std.specs.Prelude.{◌≡◌};
+    ghost use Rattle.inputs.specs.declared.faults.StreamFault.TheVariants.{Write};
+
+    ghost from_gives = { λ _ fault. fault ≡ Write };
+
+    fn from(_fault: WriteFailed) -> StreamFault {
+        StreamFault::Write
     }
 }
 

@@ -1,15 +1,11 @@
 //! What a command has to write.
 
-ghost use Rattle.std.specs.Prelude.{◌≡◌, [], IfErr, OnOk, OnErr};
-ghost use Rattle.std.specs.Io.KnownBytes.{Appends};
+ghost use Rattle.std.specs.Prelude.{[]};
 ghost use Rattle.std.specs.Option.{option_map_or};
 ghost use Rattle.netpbm.specs.Spelling.{spelling};
-ghost use Rattle.streams.specs.Streams.{AppendsPart, CountsFailure};
-ghost use Rattle.inputs.specs.Outcomes.{CountsWritten};
+ghost use Rattle.inputs.specs.Taking.{Takes};
 ghost use Rattle.results.specs.Replies.{reply_bytes};
-ghost use Rattle.inputs.specs.declared.faults.StreamFault.TheVariants.{Write};
 
-use inputs::StreamFault;
 use netpbm::{Picture, write_raw};
 use streams::{Sink, WriteFailed, write_whole};
 
@@ -36,37 +32,18 @@ impl Reply {
 }
 
 /// Writes the raw spelling of the picture, if there is one, and the lines behind it. It takes no memory.
-pub fn write_reply<W: Sink>(reply: &Reply, writer: &mut W) -> Result<(), StreamFault>
-    ensures ok { OnOk result
-        (Appends (W.contents writer.old) (W.contents writer.new) (reply_bytes reply.now)) }
-    ensures part { OnErr result
-        (AppendsPart (W.contents writer.old) (W.contents writer.new) (reply_bytes reply.now)) }
-    ensures fault { IfErr result (λ fault. fault ≡ Write) }
-    ensures write { CountsWritten result (W.failures writer.old) (W.failures writer.new) }
-{
-    match write_parts(reply, writer) {
-        Ok(()) => Ok(()),
-        Err(_) => Err(StreamFault::Write),
-    }
-}
-
-fn write_parts<W: Sink>(reply: &Reply, writer: &mut W) -> Result<(), WriteFailed>
-    ensures ok { OnOk result
-        (Appends (W.contents writer.old) (W.contents writer.new) (reply_bytes reply.now)) }
-    ensures part { OnErr result
-        (AppendsPart (W.contents writer.old) (W.contents writer.new) (reply_bytes reply.now)) }
-    ensures failed { CountsFailure result (W.failures writer.old) (W.failures writer.new) }
+pub fn write_reply<W: Sink>(reply: &Reply, writer: &mut W) -> Result<(), WriteFailed>
+    ensures { Takes result (reply_bytes reply.now) (W.contents writer.old) (W.contents writer.new)
+        (W.failures writer.old) (W.failures writer.new) }
 {
     write_picture(&reply.picture, writer)?;
     write_whole(writer, reply.lines.as_slice())
 }
 
 fn write_picture<W: Sink>(picture: &Option<Picture>, writer: &mut W) -> Result<(), WriteFailed>
-    ensures ok { OnOk result (Appends (W.contents writer.old) (W.contents writer.new)
-        (option_map_or spelling picture.now [])) }
-    ensures part { OnErr result (AppendsPart (W.contents writer.old) (W.contents writer.new)
-        (option_map_or spelling picture.now [])) }
-    ensures failed { CountsFailure result (W.failures writer.old) (W.failures writer.new) }
+    ensures { Takes result (option_map_or spelling picture.now [])
+        (W.contents writer.old) (W.contents writer.new)
+        (W.failures writer.old) (W.failures writer.new) }
 {
     match picture {
         Some(picture) => write_raw(picture, writer),

@@ -1,5 +1,6 @@
 pub mod Ended
 pub mod Faults
+pub mod Flushed
 pub mod NodeCounts
 pub mod Nodes
 pub mod Schedules

@@ -1,11 +1,7 @@
 //! What became of a world, as lines.
 
-ghost use Rattle.std.specs.Io.KnownBytes.{Appends};
 ghost use Rattle.std.specs.List.{flat_map};
-ghost use Rattle.std.specs.Prelude.{◌≡◌, IfErr, OnErr, OnOk};
-ghost use Rattle.inputs.specs.Outcomes.{CountsWritten};
-ghost use Rattle.inputs.specs.declared.faults.StreamFault.TheVariants.{Write};
-ghost use Rattle.streams.specs.Streams.{AppendsPart, CountsFailure};
+ghost use Rattle.inputs.specs.Taking.{Takes};
 ghost use Rattle.world_commands.specs.WorldLines.{count_line, node_head};
 ghost use Rattle.world_commands.specs.inside.Outcomes.{held_line, outcome_lines};
 ghost use Rattle.write_buffer.specs.Passing.{Puts};
@@ -13,33 +9,16 @@ ghost use Rattle.write_buffer.specs.Passing.{Puts};
 use crate::held_facts::HeldFacts;
 use crate::outcome::Outcome;
 use fact_lines::put_union;
-use inputs::StreamFault;
 use itoa::Buffer;
 use streams::{Sink, WriteFailed};
 use write_buffer::WriteBuffer;
 
 /// Writes how many events there were and how many were refused, and a line for each node. No memory is taken: the lines go through a
 /// buffer of fixed size.
-pub fn write_outcome<W: Sink>(outcome: &Outcome, writer: &mut W) -> Result<(), StreamFault>
-    ensures ok { OnOk result
-        (Appends (W.contents writer.old) (W.contents writer.new) (outcome_lines outcome.now)) }
-    ensures part { OnErr result
-        (AppendsPart (W.contents writer.old) (W.contents writer.new) (outcome_lines outcome.now)) }
-    ensures fault { IfErr result (λ fault. fault ≡ Write) }
-    ensures write { CountsWritten result (W.failures writer.old) (W.failures writer.new) }
-{
-    match write_lines(outcome, writer) {
-        Ok(()) => Ok(()),
-        Err(_) => Err(StreamFault::Write),
-    }
-}
-
-fn write_lines<W: Sink>(outcome: &Outcome, writer: &mut W) -> Result<(), WriteFailed>
-    ensures ok { OnOk result
-        (Appends (W.contents writer.old) (W.contents writer.new) (outcome_lines outcome.now)) }
-    ensures part { OnErr result
-        (AppendsPart (W.contents writer.old) (W.contents writer.new) (outcome_lines outcome.now)) }
-    ensures failed { CountsFailure result (W.failures writer.old) (W.failures writer.new) }
+pub fn write_outcome<W: Sink>(outcome: &Outcome, writer: &mut W) -> Result<(), WriteFailed>
+    ensures { Takes result (outcome_lines outcome.now)
+        (W.contents writer.old) (W.contents writer.new)
+        (W.failures writer.old) (W.failures writer.new) }
 {
     let mut buffer = WriteBuffer::new();
     put_outcome(&mut buffer, writer, outcome)?;

@@ -35,5 +35,5 @@ pub fn world_stream<H: AllocGlobal, R: Source, W: Sink>(
 {
     let input = read_input(rt.alloc(), reader)?;
     let outcome = outcome_of(rt.alloc(), nodes, options, parameters, input)?;
-    write_outcome(&outcome, writer)
+    Ok(write_outcome(&outcome, writer)?)
 }
