@@ -44,7 +44,7 @@ times_further m v (suc k) =
     ∙ ap (λ (z : ℤ). z +ℤ pos m) (*ℤ_comm (v +ℤ pos k) (pos m) ∙ times_further m v k)
     ∙ next_product (pos m *ℤ v) v k m
 
-further : (p a : ℤ) (n : ℕ) → p +ℤ pos n +ℤ a ≡ p +ℤ a +ℤ pos n
+pub further : (p a : ℤ) (n : ℕ) → p +ℤ pos n +ℤ a ≡ p +ℤ a +ℤ pos n
 further p a n = omega (arith, ints)
 
 undivided : (x : Scale) (m : ℕ) (v : ℤ) → x.mul ≡ pos m → x.div ≡ pos 1 → index_at x v ≡ pos m *ℤ v +ℤ x.add

@@ -1,5 +1,6 @@
 pub mod Writing
 pub mod Columns
+pub mod Dividing
 pub mod Places
 pub mod Testing
 pub mod Leaving

@@ -34,14 +34,28 @@ place_along a r c k low =
     omega (arith, ints, gap_is a.cols.lo c low, gap_is a.cols.lo (c +ℤ pos k) (omega (arith, ints))) in
     omega arith
 
--- the places at the columns of an index that does not divide lie at steps of one length
+-- the places at the columns of an index lie as far from the first as these columns
+pub place_goes : (a : Area) (r : ℤ) (x : Scale) (c : ℤ) (far : ℕ → ℕ) (n place : ℕ)
+    → ((k : ℕ) → index_at x (c +ℤ pos k) ≡ index_at x c +ℤ pos (far k)) → place ≡ place_of a r (index_at x c)
+    → EachPlace n (λ k. HoldsPoint a r (index_at x (c +ℤ pos k))) → (k : ℕ) → k < n
+    → place + far k ≡ place_of a r (index_at x (c +ℤ pos k))
+place_goes a r x c far n place goes is each k l =
+    let some : 0 < n = omega arith in
+    let low : a.cols.lo ≤ℤ index_at x c = subst (λ (z : ℤ). a.cols.lo ≤ℤ index_at x z) (+ℤ_idr c) (each 0 some).1.0 in
+    ap (λ (p : ℕ). p + far k) is ∙ sym (place_along a r (index_at x c) (far k) low) ∙ ap (place_of a r) (sym (goes k))
+
+-- and are places of the values
+pub places_below : (a : Area) (r : ℤ) (x : Scale) (c : ℤ) (far : ℕ → ℕ) (n place size : ℕ)
+    → ((k : ℕ) → index_at x (c +ℤ pos k) ≡ index_at x c +ℤ pos (far k)) → place ≡ place_of a r (index_at x c) → size ≡ point_count a
+    → EachPlace n (λ k. HoldsPoint a r (index_at x (c +ℤ pos k))) → (k : ℕ) → k < n → place + far k < size
+places_below a r x c far n place size goes is whole each k l =
+    omega (arith, whole, place_goes a r x c far n place goes is each k l, place_below a r (index_at x (c +ℤ pos k)) (each k l))
+
+-- those of an index that does not divide lie at steps of one length
 pub place_steps : (a : Area) (r : ℤ) (x : Scale) (c : ℤ) (m n place : ℕ) → x.mul ≡ pos m → x.div ≡ pos 1
     → place ≡ place_of a r (index_at x c) → EachPlace n (λ k. HoldsPoint a r (index_at x (c +ℤ pos k)))
     → (k : ℕ) → k < n → place + k * m ≡ place_of a r (index_at x (c +ℤ pos k))
-place_steps a r x c m n place e d is each k l =
-    let some : 0 < n = omega arith in
-    let low : a.cols.lo ≤ℤ index_at x c = subst (λ (z : ℤ). a.cols.lo ≤ℤ index_at x z) (+ℤ_idr c) (each 0 some).1.0 in
-    ap (λ (p : ℕ). p + k * m) is ∙ sym (place_along a r (index_at x c) (k * m) low) ∙ ap (place_of a r) (sym (columns_step x m c k e d))
+place_steps a r x c m n place e d = place_goes a r x c (λ k. k * m) n place (λ k. columns_step x m c k e d)
 
 -- ---- a row of points of an area
 

@@ -1,5 +1,6 @@
 pub mod Rows
 pub mod Places
+pub mod Divided
 pub mod RowMask
 pub mod Stencil
 pub mod inside

@@ -6,9 +6,11 @@ ghost use Rattle.std.specs.Int.{int_gap};
 ghost use Rattle.domains.specs.Area.{HoldsPoint, point_count};
 ghost use Rattle.domains.specs.Index.{index_at};
 ghost use Rattle.domains.specs.Span.{Holds, len_of};
+ghost use Rattle.row_kernels.specs.Divided.{steps_to};
 ghost use Rattle.row_kernels.specs.Rows.{EachPlace, at};
 ghost use Rattle.row_kernels.specs.Places.{place_of};
 
+use crate::divided_columns::DividedColumns;
 use crate::row_span::RowSpan;
 use domains::{Area, Index, Span};
 
@@ -35,6 +37,19 @@ fn take_every(values: &[i32], place: usize, step: usize, out: &mut [i32])
 {
     for k in 0..out.len() {
         out[k] = values[place + k * step];
+    }
+}
+
+// Takes the numbers from a place on, where an index that divides goes.
+fn take_divided(values: &[i32], place: usize, columns: &DividedColumns, out: &mut [i32])
+    requires few { length out.old < 65536 }
+    requires there { EachPlace (length out.old)
+        (λ k. place + steps_to columns.now k < length values.now) }
+    ensures { EachPlace (length out.old)
+        (λ k. at out.new k ≡ at values.now (place + steps_to columns.now k)) }
+{
+    for k in 0..out.len() {
+        out[k] = values[place + columns.steps_to(k)];
     }
 }
 
@@ -112,14 +127,16 @@ impl<'a> BufferView<'a> {
             ≡ at self.now.values.now
             (place_of self.now.area row (index_at col.now (points.now.col +ℤ pos k)))) }
     {
-        if col.div() == 1 && !out.is_empty() {
+        if out.is_empty() {
+            return;
+        }
+        let place = self.place(row, points.col_at(col));
+        if col.div() == 1 {
             // the places of the columns lie at steps of one length
-            let place = self.place(row, points.col_at(col));
             take_every(self.values, place, step_of(col), out);
         } else {
-            for k in 0..out.len() {
-                out[k] = self.sample(row, col.at(points.column(k)));
-            }
+            let columns = DividedColumns::from(col, points.col);
+            take_divided(self.values, place, &columns, out);
         }
     }
 

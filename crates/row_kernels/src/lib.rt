@@ -3,6 +3,7 @@
 
 mod buffer_view;
 mod constants;
+mod divided_columns;
 mod guards;
 mod kernels;
 mod operators;
@@ -13,6 +14,7 @@ mod stencil3x3;
 
 pub use buffer_view::{BufferView, step_of};
 pub use constants::cut_between;
+pub use divided_columns::DividedColumns;
 pub use guards::{RowMask, take_where, where_passed};
 pub use kernels::{count_up, cut, divide_by, fill, keep_related, make_absolute, negate};
 pub use operators::{combine, combine_literal, combine_number};

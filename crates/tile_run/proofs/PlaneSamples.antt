@@ -10,7 +10,6 @@ use Rattle.netpbm.specs.Image.{Image}
 use Rattle.job.specs.Values.{sample_at}
 use Rattle.job.specs.WellFormed.{picture_area}
 use Rattle.tile_eval.specs.Rows.{EachPlace}
-use Rattle.row_kernels.proofs.Columns.{columns_step}
 
 abs_below : (v : ℤ) (n : ℕ) → pos 0 ≤ℤ v → v ≤ℤ (pos n -ℤ pos 1) → unsigned_abs v < n
 abs_below (pos m) n lo hi = omega (arith, ints)
@@ -53,25 +52,25 @@ place_further : (p : Image) (r c : ℤ) (place j : ℕ) → place ≡ unsigned_a
     → place + j ≡ unsigned_abs r * p.cols + unsigned_abs (c +ℤ pos j)
 place_further p r c place j is low = omega (arith, abs_more c j low)
 
--- ---- columns of an index that does not divide
+-- ---- columns of an index, which lie so far from the first
 
-module _ (p : Image) (r : ℤ) (x : Scale) (c : ℤ) (m n place : ℕ) (mul : x.mul ≡ pos m) (div : x.div ≡ pos 1) (first : place
-    ≡ unsigned_abs r * p.cols + unsigned_abs (index_at x c))
+module _ (p : Image) (r : ℤ) (x : Scale) (c : ℤ) (far : ℕ → ℕ) (n place : ℕ) (goes : (k : ℕ) → index_at x (c +ℤ pos k)
+    ≡ index_at x c +ℤ pos (far k)) (first : place ≡ unsigned_abs r * p.cols + unsigned_abs (index_at x c))
     (each : EachPlace n (λ k. HoldsPoint (picture_area p) r (index_at x (c +ℤ pos k)))) where
-  -- their places lie at steps of one length
-  sample_steps : (k : ℕ) → k < n → place + k * m ≡ unsigned_abs r * p.cols + unsigned_abs (index_at x (c +ℤ pos k))
-  sample_steps k l =
+  -- their places lie as far from the first
+  sample_goes : (k : ℕ) → k < n → place + far k ≡ unsigned_abs r * p.cols + unsigned_abs (index_at x (c +ℤ pos k))
+  sample_goes k l =
       let some : 0 < n = omega arith in
       let low : pos 0 ≤ℤ index_at x c = subst (λ (z : ℤ). pos 0 ≤ℤ index_at x z) (+ℤ_idr c) (each 0 some).1.0 in
-      place_further p r (index_at x c) place (k * m) first low
-      ∙ ap (λ (z : ℤ). unsigned_abs r * p.cols + unsigned_abs z) (sym (columns_step x m c k mul div))
+      place_further p r (index_at x c) place (far k) first low
+      ∙ ap (λ (z : ℤ). unsigned_abs r * p.cols + unsigned_abs z) (sym (goes k))
 
   -- these are places of samples
-  pub steps_below : (k : ℕ) → k < n → place + k * m < p.rows * p.cols
-  steps_below k l = subst (λ (q : ℕ). q < p.rows * p.cols) (sym (sample_steps k l)) (sample_below p r (index_at x (c +ℤ pos k)) (each k l))
+  pub far_below : (k : ℕ) → k < n → place + far k < p.rows * p.cols
+  far_below k l = subst (λ (q : ℕ). q < p.rows * p.cols) (sym (sample_goes k l)) (sample_below p r (index_at x (c +ℤ pos k)) (each k l))
 
   pub sample_picked : (plane : ℕ) (samples : List ℕ) (v : ℤ) (k : ℕ) → samples ≡ slice_index_or p.planes plane [] → k < n
-      → v ≡ pos (slice_index samples (place + k * m)) → v ≡ sample_at p plane r (index_at x (c +ℤ pos k))
+      → v ≡ pos (slice_index samples (place + far k)) → v ≡ sample_at p plane r (index_at x (c +ℤ pos k))
   sample_picked plane samples v k are l e =
-      e ∙ ap (λ (xs : List ℕ). pos (slice_index xs (place + k * m))) are
-      ∙ ap (λ (q : ℕ). pos (slice_index (slice_index_or p.planes plane []) q)) (sample_steps k l)
+      e ∙ ap (λ (xs : List ℕ). pos (slice_index xs (place + far k))) are
+      ∙ ap (λ (q : ℕ). pos (slice_index (slice_index_or p.planes plane []) q)) (sample_goes k l)

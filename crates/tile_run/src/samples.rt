@@ -6,11 +6,12 @@ ghost use Rattle.domains.specs.Area.{HoldsPoint};
 ghost use Rattle.domains.specs.Index.{index_at};
 ghost use Rattle.job.specs.Values.{sample_at};
 ghost use Rattle.job.specs.WellFormed.{picture_area};
+ghost use Rattle.row_kernels.specs.Divided.{steps_to};
 ghost use Rattle.tile_eval.specs.Rows.{EachPlace, at};
 
 use domains::Index;
 use netpbm::Picture;
-use row_kernels::{RowSpan, step_of};
+use row_kernels::{DividedColumns, RowSpan, step_of};
 
 // Takes the samples from a place on.
 fn widen(samples: &[u16], place: usize, out: &mut [i32])
@@ -31,6 +32,19 @@ fn widen_every(samples: &[u16], place: usize, step: usize, out: &mut [i32])
 {
     for k in 0..out.len() {
         out[k] = i32::from(samples[place + k * step]);
+    }
+}
+
+// Takes the samples from a place on, where an index that divides goes.
+fn widen_divided(samples: &[u16], place: usize, columns: &DividedColumns, out: &mut [i32])
+    requires few { length out.old < 65536 }
+    requires there { EachPlace (length out.old)
+        (λ k. place + steps_to columns.now k < length samples.now) }
+    ensures { EachPlace (length out.old)
+        (λ k. at out.new k ≡ pos (slice_index samples.now (place + steps_to columns.now k))) }
+{
+    for k in 0..out.len() {
+        out[k] = i32::from(samples[place + columns.steps_to(k)]);
     }
 }
 
@@ -83,14 +97,17 @@ pub(crate) fn plane_gather(
     ensures { EachPlace (length out.old) (λ k. at out.new k
         ≡ sample_at picture.now plane row (index_at col.now (points.now.col +ℤ pos k))) }
 {
-    if col.div() == 1 && !out.is_empty() {
+    if out.is_empty() {
+        return;
+    }
+    let samples = plane_of(picture, plane);
+    let place = place_in(picture, row, points.col_at(col));
+    if col.div() == 1 {
         // the places of the columns lie at steps of one length
-        let place = place_in(picture, row, points.col_at(col));
-        widen_every(plane_of(picture, plane), place, step_of(col), out);
+        widen_every(samples, place, step_of(col), out);
     } else {
-        for k in 0..out.len() {
-            out[k] = plane_sample(picture, plane, row, col.at(points.column(k)));
-        }
+        let columns = DividedColumns::from(col, points.col);
+        widen_divided(samples, place, &columns, out);
     }
 }
 

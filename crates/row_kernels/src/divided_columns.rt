@@ -1,0 +1,78 @@
+#![tactic(auto)]
+//! Where an index that divides goes along a row, without a division at each point.
+
+ghost use Rattle.std.specs.Prelude.{◌≡◌, ◌<◌, ◌≤◌, ◌+ℤ◌, ◌*ℤ◌, ◌<ℤ◌, ◌≤ℤ◌, ℕ, pos, negsuc};
+ghost use Rattle.domains.specs.Arithmetic.{floor_rem};
+
+use crate::reciprocal::Reciprocal;
+use domains::Index;
+use domains::arithmetic::floor_rem;
+
+/// The columns that an index takes at columns side by side, counted from the first of them. The index divides.
+#[derive(Clone, Copy, Debug)]
+pub struct DividedColumns {
+    left: u32,
+    step: u32,
+    reciprocal: Reciprocal,
+    ghost left_most: { left < 16 },
+    ghost step_most: { step ≤ 16 },
+}
+
+// What an index multiplies by.
+#[tactic(auto, using(std::proofs::lemmas::Int::ints))]
+fn factor_of(index: &Index) -> u32
+    ensures number { index.now.mul ≡ pos result }
+    ensures most { result ≤ 16 }
+{
+    index.mul() as u32
+}
+
+// What it divides by.
+#[tactic(auto, using(std::proofs::lemmas::Int::ints))]
+fn divisor_of(index: &Index) -> u32
+    ensures number { index.now.div ≡ pos result }
+    ensures most { result ≤ 16 }
+{
+    index.div() as u32
+}
+
+// What the division leaves at a column.
+#[tactic(auto, using(std::proofs::lemmas::Int::ints))]
+fn rest_at(index: &Index, col: i32) -> u32
+    requires least { negsuc 32767 ≤ℤ col }
+    requires most { col ≤ℤ pos 32768 }
+    ensures rest { floor_rem (index.now.mul *ℤ col +ℤ index.now.add) index.now.div ≡ pos result }
+    ensures most { result < 16 }
+{
+    floor_rem(index.mul() * col + index.add(), index.div()) as u32
+}
+
+impl DividedColumns {
+    ghost use Rattle.domains.specs.Index.{index_at};
+    ghost use Rattle.row_kernels.specs.Divided.{steps_to};
+
+    /// Those of an index from a column on.
+    #[tactic(auto, using(std::proofs::lemmas::Int::ints))]
+    pub fn from(index: &Index, col: i32) -> DividedColumns
+        requires divides { pos 1 <ℤ index.now.div }
+        requires least { negsuc 32767 ≤ℤ col }
+        requires most { col ≤ℤ pos 32768 }
+        ensures { (k : ℕ) → index_at index.now (col +ℤ pos k)
+            ≡ index_at index.now col +ℤ pos (steps_to result k) }
+    {
+        DividedColumns {
+            left: rest_at(index, col),
+            step: factor_of(index),
+            reciprocal: Reciprocal::new(divisor_of(index)),
+        }
+    }
+
+    /// How far the column at point number `k` lies after the first.
+    #[inline]
+    pub fn steps_to(&self, k: usize) -> usize
+        requires { k < 65536 }
+        ensures { result ≡ steps_to self.now k }
+    {
+        self.reciprocal.quotient(self.left + k as u32 * self.step) as usize
+    }
+}
