@@ -22,6 +22,9 @@ use std::alloc::{AllocError, Global};
 use tile_eval::number_at;
 use tile_run::{Known, read_given_row};
 
+// How many values are cut before their samples are added.
+const PIECE: usize = 512;
+
 // A job with whatever lends the tiles of its functions.
 #[derive(Drop)]
 struct KnownTiles<'a, K: Known> {
@@ -165,15 +168,31 @@ impl<K: Known> KnownTiles<'_, K> {
     }
 }
 
-// Adds values, cut to 0 and the greatest sample.
+// Adds values, cut to 0 and the greatest sample, piece by piece.
 fn push_cut(samples: &mut Vec<u16>, values: &[i32], max: u16) -> Result<(), AllocError>
     ensures { OnOk result
         (samples.new.items ≡ samples.old.items ++ map (sample_of max) values.now) }
 {
-    for value in values {
-        samples.push(cut(*value, max))?;
+    let mut room = [0; PIECE];
+    let mut rest = values;
+    while !rest.is_empty() {
+        let (piece, behind) = rest.split_at(rest.len().min(PIECE));
+        let cuts = &mut room[..piece.len()];
+        cut_into(cuts, piece, max);
+        samples.extend_from_slice(cuts)?;
+        rest = behind;
     }
     Ok(())
+}
+
+// Each value, cut to 0 and the greatest sample.
+fn cut_into(cuts: &mut [u16], values: &[i32], max: u16)
+    requires { length cuts.old ≡ length values.now }
+    ensures { cuts.new ≡ map (sample_of max) values.now }
+{
+    for k in 0..values.len() {
+        cuts[k] = cut(values[k], max);
+    }
 }
 
 // The value cut to 0 and the greatest sample.

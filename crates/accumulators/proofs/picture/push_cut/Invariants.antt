@@ -1,7 +1,9 @@
-use Rattle.std.proofs.Common.{◌≡◌, ◌++◌, drop, map}
+use Rattle.std.proofs.Common.{◌≡◌, ◌++◌, length, map}
 use Rattle.job.specs.Answers.{sample_of}
 use Rattle.accumulators.proofs.picture.push_cut.Given as goal
 
-abbrev pub invariant-loop-value : goal.invariant-loop-value
-invariant-loop-value l =
-    l.samples.items ++ map (sample_of l.max) (drop l.value-index l.values) ≡ l.fn.samples.items ++ map (sample_of l.max) l.values
+abbrev pub invariant-loop-rest : goal.invariant-loop-rest
+invariant-loop-rest l = l.samples.items ++ map (sample_of l.max) l.rest ≡ l.fn.samples.items ++ map (sample_of l.max) l.values
+
+abbrev pub decreases-loop-rest : goal.decreases-loop-rest
+decreases-loop-rest l = length l.rest

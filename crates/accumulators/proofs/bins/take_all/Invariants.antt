@@ -1,7 +1,7 @@
 use Rattle.std.proofs.Common.{◌≡◌, ◌+ℤ◌, pos, drop, length}
 use Rattle.tile_eval.specs.Rows.{EachPlace, at}
 use Rattle.accumulators.specs.inside.Gathering.{after_values, values_of_bin}
-use Rattle.accumulators.proofs.bins.take_values.Given as goal
+use Rattle.accumulators.proofs.bins.take_all.Given as goal
 
 -- the bins so far, and the values that are left
 abbrev pub invariant-loop-k : goal.invariant-loop-k

@@ -5,7 +5,7 @@ use Rattle.std.specs.Ordering.{int_eq}
 use Rattle.tile_eval.specs.Rows.{at}
 use Rattle.accumulators.specs.inside.Gathering.{once_came, after_values, values_of_bin}
 use Rattle.accumulators.proofs.TakeValues.{came_one, values_left}
-use Rattle.accumulators.proofs.bins.take_values.Goals as goal
+use Rattle.accumulators.proofs.bins.take_all.Goals as goal
 
 pub loop-k-preserved : goal.loop-k-preserved
 loop-k-preserved c = λ j h.
