@@ -15,7 +15,7 @@ use grouping::Schedule;
 use job::Job;
 use one_job::schedule_of;
 use results::{Reply, reply_of};
-use std::alloc::{AllocError, Global};
+use std::alloc::AllocError;
 use std::thread::Threads;
 use tile_run::{RunFault, run_all};
 
@@ -27,19 +27,18 @@ const LONG_ROW: u32 = 1024;
 
 /// The result of a job: the picture of its output, if it has one, and a line for each of its accumulators.
 pub fn evaluate(
-    rt: &(impl Threads + Sync),
-    alloc: Global,
+    rt: &(impl AllocGlobal + Threads + Sync),
     job: Job,
     options: &Options,
 ) -> Result<Reply, AllocError>
     ensures { IfOk result (λ reply. reply_bytes reply ≡ result_bytes (pipeline_in job)) }
 {
     let job = with_long_rows(job);
-    let schedule = schedule_of(alloc, &job, options)?;
-    let Ok(answer) = answer(rt, alloc, &job, &schedule) else {
+    let schedule = schedule_of(rt.alloc(), &job, options)?;
+    let Ok(answer) = answer(rt, &job, &schedule) else {
         return Err(AllocError);
     };
-    reply_of(alloc, &job, answer)
+    reply_of(rt.alloc(), &job, answer)
 }
 
 /// The job with long tiles where it has the usual ones. Its result is the same.
@@ -58,8 +57,7 @@ fn with_long_rows(job: Job) -> Job
 
 /// The answer of a job by a schedule of which each tile has room in scratch memory. The stored tiles are let go.
 fn answer(
-    rt: &(impl Threads + Sync),
-    alloc: Global,
+    rt: &(impl AllocGlobal + Threads + Sync),
     job: &Job,
     schedule: &Schedule,
 ) -> Result<Answer, RunFault>
@@ -68,6 +66,6 @@ fn answer(
     ensures answer { IfOk result (IsAnswer (pipeline_in job.now)) }
     ensures memory { IfErr result (λ fault. fault ≡ Memory) }
 {
-    let stored = run_all(rt, alloc, job, schedule)?;
-    answer_of(rt, alloc, job, schedule, &stored)
+    let stored = run_all(rt, rt.alloc(), job, schedule)?;
+    answer_of(rt, rt.alloc(), job, schedule, &stored)
 }

@@ -11,7 +11,7 @@ ghost use Rattle.commands.specs.inside.Questions.{saying_of};
 
 use crate::answer::evaluate;
 use crate::plan_lines::plan_lines;
-use crate::question::Question;
+use crate::question::{Asked, Question};
 use crate::stage_lines::check_lines;
 use command_line::Options;
 use job::Job;
@@ -22,20 +22,19 @@ use std::thread::Threads;
 
 /// What is said of the job where this is asked.
 pub fn task_reply(
-    rt: &(impl Threads + Sync),
-    alloc: Global,
-    question: Question,
-    options: &Options,
+    rt: &(impl AllocGlobal + Threads + Sync),
+    asked: &Asked<'_>,
     job: Job,
 ) -> Result<Reply, AllocError>
     ensures { IfOk result (λ reply. (tree : List Declaration) → program_text_in job ≡ canonical tree
-        → saying_of question options.now.stored options.now.percent tree (pipeline_in job)
-        (reply_bytes reply)) }
+        → saying_of asked.now.question asked.now.options.now.stored asked.now.options.now.percent tree
+        (pipeline_in job) (reply_bytes reply)) }
 {
-    match question {
-        Question::Answer => evaluate(rt, alloc, job, options),
+    let alloc = rt.alloc();
+    match asked.question {
+        Question::Answer => evaluate(rt, job, asked.options),
         Question::Stages => Ok(Reply::of_lines(check_lines(alloc, &job)?)),
-        Question::Plan => Ok(Reply::of_lines(planned_lines(alloc, options, &job)?)),
+        Question::Plan => Ok(Reply::of_lines(planned_lines(alloc, asked.options, &job)?)),
     }
 }
 

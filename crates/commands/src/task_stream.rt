@@ -9,7 +9,7 @@ ghost use Rattle.commands.specs.inside.Questions.{saying_of};
 ghost use Rattle.results.specs.Replies.{reply_bytes};
 ghost use Rattle.results.specs.Results.{SaysResult};
 
-use crate::question::Question;
+use crate::question::{Asked, Question};
 use crate::task_reply::task_reply;
 use command_line::Options;
 use inputs::{StreamFault, job_of, read_input};
@@ -37,7 +37,8 @@ pub fn check_stream<H: AllocGlobal + Threads + Sync, R: Source, W: Sink>(
     ensures read { CountsRead result (R.failures reader.old) (R.failures reader.new) }
     ensures write { CountsWritten result (W.failures writer.old) (W.failures writer.new) }
 {
-    task_stream(rt, Question::Stages, options, parameters, reader, writer)
+    let asked = Question::Stages.with(options, parameters);
+    task_stream(rt, &asked, reader, writer)
 }
 
 /// Reads a program and a picture, and writes the result of running the program on the picture: the picture that it puts out, if
@@ -60,7 +61,8 @@ pub fn eval_stream<H: AllocGlobal + Threads + Sync, R: Source, W: Sink>(
     ensures read { CountsRead result (R.failures reader.old) (R.failures reader.new) }
     ensures write { CountsWritten result (W.failures writer.old) (W.failures writer.new) }
 {
-    task_stream(rt, Question::Answer, options, parameters, reader, writer)
+    let asked = Question::Answer.with(options, parameters);
+    task_stream(rt, &asked, reader, writer)
 }
 
 /// Reads a program and a picture, and writes a line for each function and each accumulator: that it is inlined, or that it is
@@ -83,42 +85,41 @@ pub fn plan_stream<H: AllocGlobal + Threads + Sync, R: Source, W: Sink>(
     ensures read { CountsRead result (R.failures reader.old) (R.failures reader.new) }
     ensures write { CountsWritten result (W.failures writer.old) (W.failures writer.new) }
 {
-    task_stream(rt, Question::Plan, options, parameters, reader, writer)
+    let asked = Question::Plan.with(options, parameters);
+    task_stream(rt, &asked, reader, writer)
 }
 
 /// Reads the input, and writes what is said of its job where this is asked. All is computed before the first byte is written.
 fn task_stream<H: AllocGlobal + Threads + Sync, R: Source, W: Sink>(
     rt: &H,
-    question: Question,
-    options: &Options,
-    parameters: &[(String, i32)],
+    asked: &Asked<'_>,
     reader: &mut R,
     writer: &mut W,
 ) -> Result<(), StreamFault>
-    ensures written { Writes (saying_of_job (saying_of question options.now.stored options.now.percent)
-        parameters.now options.now.sides) (refusing_job parameters.now options.now.sides)
+    ensures written { let options = asked.now.options.now in
+        Writes (saying_of_job (saying_of asked.now.question options.stored options.percent)
+        asked.now.parameters.now options.sides) (refusing_job asked.now.parameters.now options.sides)
         (R.remaining reader.old) result (W.contents writer.old) (W.contents writer.new) }
     ensures read { CountsRead result (R.failures reader.old) (R.failures reader.new) }
     ensures write { CountsWritten result (W.failures writer.old) (W.failures writer.new) }
 {
     let input = read_input(rt.alloc(), reader)?;
-    let reply = input_reply(rt, question, options, parameters, input)?;
+    let reply = input_reply(rt, asked, input)?;
     Ok(write_reply(&reply, writer)?)
 }
 
 /// What is said of the job of the input where this is asked.
 fn input_reply<H: AllocGlobal + Threads + Sync>(
     rt: &H,
-    question: Question,
-    options: &Options,
-    given: &[(String, i32)],
+    asked: &Asked<'_>,
     input: Vec<u8>,
 ) -> Result<Reply, StreamFault>
-    ensures said { IfOk result (λ reply. IsSaid
-        (saying_of question options.now.stored options.now.percent) given.now options.now.sides
+    ensures said { let options = asked.now.options.now in IfOk result (λ reply. IsSaid
+        (saying_of asked.now.question options.stored options.percent) asked.now.parameters.now options.sides
         input.items (reply_bytes reply)) }
-    ensures fault { IfErr result (IsFaultOf input.items given.now options.now.sides) }
+    ensures fault { IfErr result
+        (IsFaultOf input.items asked.now.parameters.now asked.now.options.now.sides) }
 {
-    let job = job_of(rt.alloc(), options.sides, given, input)?;
-    Ok(task_reply(rt, rt.alloc(), question, options, job)?)
+    let job = job_of(rt.alloc(), asked.options.sides, asked.parameters, input)?;
+    Ok(task_reply(rt, asked, job)?)
 }

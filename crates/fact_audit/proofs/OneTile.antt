@@ -113,11 +113,6 @@ bins_fit_where job g i j xs ends r has told = (
   (λ (p : IsPartialShape job g i j xs). told.1 (p.count ∙ ap len_of (one_bins job g i j p.ends ends p.has has))),
 )
 
--- where P holds of one list, a list that equals it is the one of which P holds
-pub told_by : (P : List ℤ → Type 0) (xs vs : List ℤ) (r : Bool) → ((ys zs : List ℤ) → P ys → P zs → ys ≡ zs) → P vs → (IsTrue r ↔ (xs ≡ vs))
-    → IsTrue r ↔ P xs
-told_by P xs vs r one held told = ((λ t. subst P (sym (told.0 t)) held), (λ p. told.1 (one xs vs p held)))
-
 pub counted_by : (m n k : ℕ) → n ≡ k → IsTrue (m == n) ↔ (m ≡ k)
 counted_by m n k e = ((λ t. eqb-true m n t ∙ e), (λ h. eq-eqb m n (h ∙ sym e)))
 

@@ -1,17 +1,15 @@
 //! Whether the numbers of a fact are those of its tile.
 
 ghost use Rattle.std.specs.Prelude.{◌≡◌, ◌↔◌, IfOk, IsTrue};
-ghost use Rattle.accumulators.specs.Partials.{IsTruePartial};
 ghost use Rattle.fact_audit.specs.Shapes.{FitsJob};
 ghost use Rattle.fact_audit.specs.TrueFacts.{IsTrueOf};
 ghost use Rattle.fact_audit.specs.Verdicts.{IsJobVerdict};
 ghost use Rattle.job.specs.Kept.{pipeline_in};
-ghost use Rattle.tile_eval.specs.Buffer.{IsServed, IsTrueTile};
+ghost use Rattle.tile_eval.specs.Buffer.{IsServed};
 
 use crate::shape::shape_ok;
 use crate::verdict::Verdict;
 use accumulators::partial_of;
-use identity::Key;
 use std::alloc::{AllocError, Global};
 use tile_eval::TrueStages;
 use tile_fact::{Body, Fact};
@@ -45,48 +43,17 @@ fn is_true(alloc: Global, stages: &TrueStages<'_>, fact: &Fact) -> Result<bool, 
         fact.now.key.stage }
     ensures { IfOk result (λ is. IsTrue is ↔ IsTrueOf fact.now (pipeline_in stages.now.job.now)) }
 {
-    let key = *fact.key();
+    let key = fact.key();
+    let stage = usize::from(key.stage);
     match fact.body() {
-        Body::Tile(samples) => are_samples(alloc, stages, &key, samples.as_slice()),
-        Body::Partial(bins) => are_bins(alloc, stages, &key, bins.as_slice()),
-    }
-}
-
-// Whether these are the values of the function on its tile.
-fn are_samples(
-    alloc: Global,
-    stages: &TrueStages<'_>,
-    key: &Key,
-    samples: &[i32],
-) -> Result<bool, AllocError>
-    requires { IsServed (pipeline_in stages.now.job.now) stages.now.known.buffers.items
-        key.now.stage }
-    ensures { IfOk result (λ is. IsTrue is
-        ↔ IsTrueTile (pipeline_in stages.now.job.now) key.now.stage key.now.row key.now.col
-        samples.now) }
-{
-    match stages.tile(alloc, usize::from(key.stage), key.row, key.col)? {
-        Some(values) => Ok(same_samples(samples, &values)),
-        None => Ok(false),
-    }
-}
-
-// Whether these are what the accumulator gathers over its tile.
-fn are_bins(
-    alloc: Global,
-    stages: &TrueStages<'_>,
-    key: &Key,
-    bins: &[i64],
-) -> Result<bool, AllocError>
-    requires { IsServed (pipeline_in stages.now.job.now) stages.now.known.buffers.items
-        key.now.stage }
-    ensures { IfOk result (λ is. IsTrue is
-        ↔ IsTruePartial (pipeline_in stages.now.job.now) key.now.stage key.now.row key.now.col
-        bins.now) }
-{
-    match partial_of(alloc, stages, usize::from(key.stage), key.row, key.col)? {
-        Some(totals) => Ok(same_bins(bins, &totals)),
-        None => Ok(false),
+        Body::Tile(samples) => match stages.tile(alloc, stage, key.row, key.col)? {
+            Some(values) => Ok(same_samples(samples.as_slice(), &values)),
+            None => Ok(false),
+        },
+        Body::Partial(bins) => match partial_of(alloc, stages, stage, key.row, key.col)? {
+            Some(totals) => Ok(same_bins(bins.as_slice(), &totals)),
+            None => Ok(false),
+        },
     }
 }
 

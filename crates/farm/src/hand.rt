@@ -35,6 +35,15 @@ impl End {
     }
 }
 
+/// What a node does with its checkpoint.
+#[derive(Clone, Copy, Debug, PartialEq, Eq)]
+pub enum Step {
+    /// Keeps what it holds.
+    Keep,
+    /// Holds what it kept, and nothing else.
+    Restart,
+}
+
 /// A node and a seat at it. Each call makes room for its receipt first.
 #[derive(Drop)]
 pub struct Hand<'a, C: NamedCatalog> {
@@ -65,18 +74,14 @@ impl<'a, C: NamedCatalog> Hand<'a, C> {
         Ok(())
     }
 
-    pub fn keep<R: Wait>(&mut self, rt: &R) -> Result<(), AllocError> {
+    /// Takes a step that no parcel and no fact is part of.
+    pub fn step<R: Wait>(&mut self, rt: &R, step: Step) -> Result<(), AllocError> {
         let End { seat, receipts, .. } = &mut self.end;
         receipts.reserve(1)?;
-        let receipt = self.node.keep(rt, seat)?;
-        receipts.push_reserved(receipt);
-        Ok(())
-    }
-
-    pub fn restart<R: Wait>(&mut self, rt: &R) -> Result<(), AllocError> {
-        let End { seat, receipts, .. } = &mut self.end;
-        receipts.reserve(1)?;
-        let receipt = self.node.restart(rt, seat)?;
+        let receipt = match step {
+            Step::Keep => self.node.keep(rt, seat)?,
+            Step::Restart => self.node.restart(rt, seat)?,
+        };
         receipts.push_reserved(receipt);
         Ok(())
     }

@@ -3,7 +3,7 @@
 ghost use Rattle.std.specs.Prelude.{IfOk, IfSome};
 ghost use Rattle.fact_audit.specs.TrueFacts.{IsTrueFact};
 
-use crate::hand::{End, Hand};
+use crate::hand::{End, Hand, Step};
 use crate::threads::Task;
 use farm_setup::FarmSetup;
 use farm_work::{Every, Gate, Work, copies_of, copy_of};
@@ -75,11 +75,11 @@ impl<'a, C: NamedCatalog> Worker<'a, C> {
             done?;
         }
         if turn % KEEPING == 0 {
-            self.hand.keep(rt)?;
+            self.hand.step(rt, Step::Keep)?;
         }
         let restart = self.setup.faults.restart;
         if restart > 0 && turn % restart == 0 {
-            self.hand.restart(rt)?;
+            self.hand.step(rt, Step::Restart)?;
         }
         Ok(())
     }

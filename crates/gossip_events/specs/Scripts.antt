@@ -1,7 +1,7 @@
 -- Scripts: texts that tell events, a line for each. Words are parted by one blank. Nodes, messages and the tiles of jobs are named by
 -- numbers. Empty lines, and lines that begin with `#`, tell nothing.
 use Rattle.std.specs.List.{slice_split}
-use Rattle.std.specs.Prelude.{◌≡◌, ℕ, ◌<◌, ◌^◌, ◌==◌, ◌≤◌, Bool, true, false, not, Some, List, [], ◌∷◌, codes, filter, length, slice_get}
+use Rattle.std.specs.Prelude.{◌≡◌, ℕ, ◌<◌, ◌^◌, ◌==◌, ◌≤◌, Bool, true, not, Some, List, [], ◌∷◌, codes, filter, length, slice_get}
 use Rattle.std.specs.Str.Parse.{IsNumeral, digits_value}
 use Rattle.catalog.specs.Entries.{Entry, ids_of}
 use Rattle.identity.specs.declared.key.Key.{Key}

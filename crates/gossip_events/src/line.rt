@@ -10,7 +10,7 @@ ghost use Rattle.gossip_events.specs.declared.order.OrderFault.TheVariants.{NoOr
 
 use crate::event::Event;
 use crate::fault::ScriptFault;
-use crate::naming::{NameFault, event_of};
+use crate::naming::event_of;
 use crate::order::{Order, OrderFault};
 use crate::order_words::order_of;
 use crate::words::words_of;
@@ -89,9 +89,9 @@ fn event_on(alloc: Global, jobs: &Catalog, line: &[u8]) -> Result<Event, LineFau
 {
     let order = order_on(alloc, line)?;
     match event_of(alloc, jobs, order) {
-        Ok(event) => Ok(event),
-        Err(NameFault::NoSuchJob) => Err(LineFault::NoSuchJob),
-        Err(NameFault::Memory) => Err(LineFault::Memory),
+        Ok(Some(event)) => Ok(event),
+        Ok(None) => Err(LineFault::NoSuchJob),
+        Err(_) => Err(LineFault::Memory),
     }
 }
 

@@ -1,9 +1,8 @@
 //! The events that are asked for, with the keys of their tiles.
 
-ghost use Rattle.std.specs.Prelude.{◌≡◌, IfErr, IfNone, IfOk, IfSome, List};
+ghost use Rattle.std.specs.Prelude.{IfNone, IfOk, IfSome, List};
 ghost use Rattle.gossip_events.specs.Scripts.{AreKeysOf, IsAsked, IsKeyOf};
 ghost use Rattle.gossip_events.specs.declared.event.Event.{Event as EventType};
-ghost use Rattle.gossip_events.specs.declared.naming.NameFault.TheVariants.{Memory, NoSuchJob};
 ghost use Rattle.identity.specs.declared.key.Key.{Key as KeyType};
 
 use crate::event::{Event, Keys};
@@ -13,55 +12,43 @@ use catalog::{Catalog, Ids};
 use identity::Key;
 use std::alloc::{AllocError, Global};
 
-/// Why tiles have no keys.
-#[derive(Clone, Copy, Debug, PartialEq, Eq)]
-pub enum NameFault {
-    NoSuchJob,
-    Memory,
-}
-
-impl From<AllocError> for NameFault {
-    ghost from_gives = { λ _ fault. fault ≡ Memory };
-
-    fn from(_fault: AllocError) -> NameFault {
-        NameFault::Memory
-    }
-}
-
-/// The event that is asked for.
-pub fn event_of(alloc: Global, jobs: &Catalog, order: Order) -> Result<Event, NameFault>
-    ensures some { IfOk result (IsAsked jobs.now order) }
-    ensures none { IfErr result (λ fault. fault ≡ NoSuchJob
-        → (event : EventType) → ¬ IsAsked jobs.now order event) }
+/// The event that is asked for, if its jobs are there.
+///
+/// # Errors
+///
+/// Fails only where memory is refused.
+pub fn event_of(alloc: Global, jobs: &Catalog, order: Order) -> Result<Option<Event>, AllocError>
+    ensures some { IfOk result (λ found. IfSome found (IsAsked jobs.now order)) }
+    ensures none { IfOk result (λ found. IfNone found
+        ((event : EventType) → ¬ IsAsked jobs.now order event)) }
 {
     match order {
         Order::Make { node, place } => match key_of(jobs, &place) {
-            Some(key) => Ok(Event::Make { node, key }),
-            None => Err(NameFault::NoSuchJob),
+            Some(key) => Ok(Some(Event::Make { node, key })),
+            None => Ok(None),
         },
-        Order::Send { node, to, places } => Ok(Event::Send {
-            node,
-            to,
-            keys: keys_of(alloc, jobs, places.as_slice())?,
-        }),
-        Order::Plain(event) => Ok(event),
+        Order::Send { node, to, places } => match keys_of(alloc, jobs, places.as_slice())? {
+            Some(keys) => Ok(Some(Event::Send { node, to, keys })),
+            None => Ok(None),
+        },
+        Order::Plain(event) => Ok(Some(event)),
     }
 }
 
-// The keys of the tiles, one each.
-fn keys_of(alloc: Global, jobs: &Catalog, places: &[Place]) -> Result<Keys, NameFault>
-    ensures some { IfOk result (AreKeysOf jobs.now places.now) }
-    ensures none { IfErr result (λ fault. fault ≡ NoSuchJob
-        → (keys : List KeyType) → ¬ AreKeysOf jobs.now places.now keys) }
+// The keys of the tiles, one each, if their jobs are there.
+fn keys_of(alloc: Global, jobs: &Catalog, places: &[Place]) -> Result<Option<Keys>, AllocError>
+    ensures some { IfOk result (λ found. IfSome found (AreKeysOf jobs.now places.now)) }
+    ensures none { IfOk result (λ found. IfNone found
+        ((keys : List KeyType) → ¬ AreKeysOf jobs.now places.now keys)) }
 {
     let mut keys = Vec::new(alloc);
     for place in places {
         let Some(key) = key_of(jobs, place) else {
-            return Err(NameFault::NoSuchJob);
+            return Ok(None);
         };
         keys.push(key).map_err(AllocError::from)?;
     }
-    Ok(Keys::new(keys))
+    Ok(Some(Keys::new(keys)))
 }
 
 // The key of the tile, if its job is there.

@@ -5,10 +5,9 @@ ghost use Rattle.inputs.specs.FaultLines.{axis_word, bind_head, bind_text, blame
 ghost use Rattle.inputs.specs.Taking.{Takes};
 
 use crate::lines::BindLine;
-use crate::texts::{write_head, write_name, write_texts};
+use crate::texts::{write_count, write_head, write_integer, write_name, write_texts};
 use binding::BindFault;
 use fault_rows::Fault;
-use itoa::Buffer;
 use pipe_bounds::{Axis, BoundFault};
 use pipe_tokens::Name;
 use streams::{Sink, WriteFailed};
@@ -90,14 +89,9 @@ fn write_case<W: Sink>(
         (W.contents writer.old) (W.contents writer.new)
         (W.failures writer.old) (W.failures writer.new) }
 {
-    let mut cases = Buffer::new();
-    let mut reads = Buffer::new();
-    let case = cases.format(case).as_bytes();
-    let read = reads.format(read).as_bytes();
-    write_texts(
-        writer,
-        &[b" case ", case, b" read ", read, b" ", axis_word(axis)],
-    )
+    write_count(writer, b" case ", case)?;
+    write_count(writer, b" read ", read)?;
+    write_texts(writer, &[b" ", axis_word(axis)])
 }
 
 fn axis_word(axis: Axis) -> &'static [u8]
@@ -114,9 +108,6 @@ fn write_ends<W: Sink>(writer: &mut W, least: i32, greatest: i32) -> Result<(), 
         (W.contents writer.old) (W.contents writer.new)
         (W.failures writer.old) (W.failures writer.new) }
 {
-    let mut leasts = Buffer::new();
-    let mut greatests = Buffer::new();
-    let least = leasts.format(least).as_bytes();
-    let greatest = greatests.format(greatest).as_bytes();
-    write_texts(writer, &[b" least ", least, b" greatest ", greatest])
+    write_integer(writer, b" least ", least)?;
+    write_integer(writer, b" greatest ", greatest)
 }

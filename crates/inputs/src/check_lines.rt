@@ -5,9 +5,8 @@ ghost use Rattle.inputs.specs.FaultLines.{check_head, check_text, cycle_text, fa
 ghost use Rattle.inputs.specs.Taking.{Takes};
 
 use crate::lines::CheckLine;
-use crate::texts::{write_head, write_name, write_texts};
+use crate::texts::{write_count, write_head, write_name};
 use fault_rows::Fault;
-use itoa::Buffer;
 use pipe_checks::CheckFault;
 use pipe_tokens::Name;
 use streams::{Sink, WriteFailed};
@@ -48,10 +47,7 @@ fn write_item<W: Sink>(writer: &mut W, fault: &CheckFault) -> Result<(), WriteFa
         | CheckFault::Twice(item)
         | CheckFault::Kind(item)
         | CheckFault::BadKernel(item)
-        | CheckFault::BadLiteral(item) => {
-            let mut digits = Buffer::new();
-            write_texts(writer, &[b" item ", digits.format(*item).as_bytes()])
-        }
+        | CheckFault::BadLiteral(item) => write_count(writer, b" item ", *item),
         CheckFault::NoResult | CheckFault::Cycle(_) | CheckFault::Memory => Ok(()),
     }
 }

@@ -3,10 +3,9 @@
 ghost use Rattle.inputs.specs.FaultLines.{bad_file_text, bad_hex_text, facts_text, file_fault_text};
 ghost use Rattle.inputs.specs.Taking.{Takes};
 
-use crate::texts::{write_offset, write_text, write_texts};
+use crate::texts::{write_count, write_offset, write_text, write_texts};
 use fact_lines::LinesFault;
 use fault_rows::Fault;
-use itoa::Buffer;
 use streams::{Sink, WriteFailed};
 use tile_fact::FactFault;
 
@@ -26,9 +25,8 @@ fn write_bad_hex<W: Sink>(writer: &mut W, line: usize) -> Result<(), WriteFailed
     ensures { Takes result (bad_hex_text line) (W.contents writer.old) (W.contents writer.new)
         (W.failures writer.old) (W.failures writer.new) }
 {
-    let mut digits = Buffer::new();
-    let line = digits.format(line).as_bytes();
-    write_texts(writer, &[b"facts: line ", line, b" bad hex"])
+    write_count(writer, b"facts: line ", line)?;
+    write_text(writer, b" bad hex")
 }
 
 /// The line's number, and the fault of the file that it is.
@@ -50,10 +48,7 @@ fn write_file_fault<W: Sink>(
         (W.contents writer.old) (W.contents writer.new)
         (W.failures writer.old) (W.failures writer.new) }
 {
-    let mut lines = Buffer::new();
-    let mut numbers = Buffer::new();
-    let line = lines.format(line).as_bytes();
-    let number = numbers.format(fault.number()).as_bytes();
-    let name = fault.name().as_bytes();
-    write_texts(writer, &[b"facts: line ", line, b" ", number, b" ", name])
+    write_count(writer, b"facts: line ", line)?;
+    write_count(writer, b" ", usize::from(fault.number()))?;
+    write_texts(writer, &[b" ", fault.name().as_bytes()])
 }

@@ -1,6 +1,8 @@
 //! Texts into a writer, without memory.
 
+ghost use Rattle.std.specs.Fmt.{decimal, signed_decimal};
 ghost use Rattle.std.specs.List.{flat_map};
+ghost use Rattle.std.specs.Prelude.{◌++◌};
 ghost use Rattle.inputs.specs.FaultLines.{head, name_text, offset_text};
 ghost use Rattle.inputs.specs.Taking.{Takes};
 
@@ -57,11 +59,27 @@ pub fn write_offset<W: Sink>(writer: &mut W, offset: Option<usize>) -> Result<()
     ensures { Takes result (offset_text offset) (W.contents writer.old) (W.contents writer.new)
         (W.failures writer.old) (W.failures writer.new) }
 {
+    write_count(writer, b" at ", offset.unwrap_or(0))
+}
+
+/// The words, and a number that is counted behind them.
+pub fn write_count<W: Sink>(writer: &mut W, words: &[u8], count: usize) -> Result<(), WriteFailed>
+    ensures { Takes result (words.now ++ decimal count) (W.contents writer.old) (W.contents writer.new)
+        (W.failures writer.old) (W.failures writer.new) }
+{
     let mut digits = Buffer::new();
-    write_texts(
-        writer,
-        &[b" at ", digits.format(offset.unwrap_or(0)).as_bytes()],
-    )
+    write_texts(writer, &[words, digits.format(count).as_bytes()])
+}
+
+/// The words, and an integer behind them.
+pub fn write_integer<W: Sink>(writer: &mut W, words: &[u8], value: i32) -> Result<(), WriteFailed>
+    ensures { Takes result (words.now ++ signed_decimal value)
+        (W.contents writer.old) (W.contents writer.new)
+        (W.failures writer.old) (W.failures writer.new) }
+{
+    let mut digits = Buffer::new();
+    let digits = digits.format(value).as_bytes();
+    write_texts(writer, &[words, digits])
 }
 
 /// A name behind a blank.

@@ -8,44 +8,44 @@ use identity::laws::order_of_keys;
 use tile_fact::Fact;
 use tile_fact::laws::order_of_facts;
 
+/// Things of which it can be told whether two are one.
+trait Same {
+    fn is_one(&self, other: &Self) -> bool
+        ensures { IsTrue result ↔ (self.now ≡ other.now) };
+}
+
+impl Same for Key {
+    fn is_one(&self, other: &Key) -> bool {
+        order_of_keys(self, other).is_eq()
+    }
+}
+
+impl Same for Fact {
+    fn is_one(&self, other: &Fact) -> bool {
+        order_of_facts(self, other).is_eq()
+    }
+}
+
 pub(crate) fn is_same(a: &Event, b: &Event) -> bool
     ensures { IsTrue result ↔ (a.now ≡ b.now) }
 {
     match (a, b) {
-        (Event::Lent(these), Event::Lent(those)) => {
-            same_keys(these.as_slice(), those.as_slice())
-        }
-        (Event::Took(these), Event::Took(those)) => {
-            same_facts(these.as_slice(), those.as_slice())
-        }
+        (Event::Lent(these), Event::Lent(those)) => { same_all(these.as_slice(), those.as_slice()) }
+        (Event::Took(these), Event::Took(those)) => { same_all(these.as_slice(), those.as_slice()) }
         (Event::Kept, Event::Kept) => true,
         (Event::Restarted, Event::Restarted) => true,
         _ => false,
     }
 }
 
-fn same_keys(a: &[Key], b: &[Key]) -> bool
+fn same_all<T: Same>(a: &[T], b: &[T]) -> bool
     ensures { IsTrue result ↔ (a.now ≡ b.now) }
 {
     if a.len() != b.len() {
         return false;
     }
     for i in 0..a.len() {
-        if !order_of_keys(&a[i], &b[i]).is_eq() {
-            return false;
-        }
-    }
-    true
-}
-
-fn same_facts(a: &[Fact], b: &[Fact]) -> bool
-    ensures { IsTrue result ↔ (a.now ≡ b.now) }
-{
-    if a.len() != b.len() {
-        return false;
-    }
-    for i in 0..a.len() {
-        if !order_of_facts(&a[i], &b[i]).is_eq() {
+        if !a[i].is_one(&b[i]) {
             return false;
         }
     }

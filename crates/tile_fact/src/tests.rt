@@ -8,40 +8,31 @@ const NO_FACTS: [u8; 8] = [0x50, 0x54, 0x46, 0x31, 0, 0, 0, 0];
 
 const HEAD_OF_TWO: [u8; 8] = [0x50, 0x54, 0x46, 0x31, 0, 0, 0, 2];
 
-// The tile of stage 1 at row 2 and column 3, with the numbers 1 and -2.
+// What stands behind the identities of a fact: stage, row and column, kind and length, numbers. First the tile of stage 1 at row 2 and
+// column 3, with the numbers 1 and -2.
 #[rattlefmt::skip]
-const TILE: [u8; 87] = [
-    // the program
-    0x11, 0x11, 0x11, 0x11, 0x11, 0x11, 0x11, 0x11, 0x11, 0x11, 0x11, 0x11, 0x11, 0x11, 0x11, 0x11,
-    0x11, 0x11, 0x11, 0x11, 0x11, 0x11, 0x11, 0x11, 0x11, 0x11, 0x11, 0x11, 0x11, 0x11, 0x11, 0x11,
-    // the input
-    0x22, 0x22, 0x22, 0x22, 0x22, 0x22, 0x22, 0x22, 0x22, 0x22, 0x22, 0x22, 0x22, 0x22, 0x22, 0x22,
-    0x22, 0x22, 0x22, 0x22, 0x22, 0x22, 0x22, 0x22, 0x22, 0x22, 0x22, 0x22, 0x22, 0x22, 0x22, 0x22,
-    // the stage, the row and the column
+const TILE: [u8; 23] = [
     0x00, 0x01, 0x00, 0x00, 0x00, 0x02, 0x00, 0x00, 0x00, 0x03,
-    // the kind, the length and the numbers
-    0x00, 0x00, 0x00, 0x00, 0x02, 0x00, 0x00, 0x00, 0x01, 0xff, 0xff, 0xff, 0xfe,
+    0x00, 0x00, 0x00, 0x00, 0x02,
+    0x00, 0x00, 0x00, 0x01, 0xff, 0xff, 0xff, 0xfe,
 ];
 
 // A partial of stage 258 at row 0 and column 16909060, with the number -3.
 #[rattlefmt::skip]
-const PARTIAL: [u8; 87] = [
-    // the program
-    0x11, 0x11, 0x11, 0x11, 0x11, 0x11, 0x11, 0x11, 0x11, 0x11, 0x11, 0x11, 0x11, 0x11, 0x11, 0x11,
-    0x11, 0x11, 0x11, 0x11, 0x11, 0x11, 0x11, 0x11, 0x11, 0x11, 0x11, 0x11, 0x11, 0x11, 0x11, 0x11,
-    // the input
-    0x22, 0x22, 0x22, 0x22, 0x22, 0x22, 0x22, 0x22, 0x22, 0x22, 0x22, 0x22, 0x22, 0x22, 0x22, 0x22,
-    0x22, 0x22, 0x22, 0x22, 0x22, 0x22, 0x22, 0x22, 0x22, 0x22, 0x22, 0x22, 0x22, 0x22, 0x22, 0x22,
-    // the stage, the row and the column
+const PARTIAL: [u8; 23] = [
     0x01, 0x02, 0x00, 0x00, 0x00, 0x00, 0x01, 0x02, 0x03, 0x04,
-    // the kind, the length and the number
-    0x01, 0x00, 0x00, 0x00, 0x01, 0xff, 0xff, 0xff, 0xff, 0xff, 0xff, 0xff, 0xfd,
+    0x01, 0x00, 0x00, 0x00, 0x01,
+    0xff, 0xff, 0xff, 0xff, 0xff, 0xff, 0xff, 0xfd,
 ];
+
+const PROGRAM: [u8; 32] = [0x11; 32];
+
+const INPUT: [u8; 32] = [0x22; 32];
 
 fn key(stage: u16, row: u32, col: u32) -> Key {
     Key {
-        program: ProgramId::new([0x11; 32]),
-        input: InputId::new([0x22; 32]),
+        program: ProgramId::new(PROGRAM),
+        input: InputId::new(INPUT),
         stage,
         row,
         col,
@@ -78,6 +69,22 @@ fn joined(alloc: Global, parts: &[&[u8]]) -> Result<Vec<u8>, Fail> {
     Ok(bytes)
 }
 
+// The file of two facts.
+fn file_of(alloc: Global, first: &[u8], second: &[u8]) -> Result<Vec<u8>, Fail> {
+    joined(
+        alloc,
+        &[
+            &HEAD_OF_TWO,
+            &PROGRAM,
+            &INPUT,
+            first,
+            &PROGRAM,
+            &INPUT,
+            second,
+        ],
+    )
+}
+
 // The first bytes.
 fn front(bytes: &[u8], len: usize) -> Result<&[u8], Fail> {
     Ok(bytes.get(..len).ok_or("so many bytes")?)
@@ -100,7 +107,7 @@ fn has_fault(alloc: Global, bytes: &[u8], wanted: FactFault) -> Result<(), Fail>
 #[test]
 fn file_of_two_facts(rt: HostRuntime) -> Result<(), Fail> {
     let alloc = rt.alloc();
-    let wanted = joined(alloc, &[&HEAD_OF_TWO, &TILE, &PARTIAL])?;
+    let wanted = file_of(alloc, &TILE, &PARTIAL)?;
     let first = tile(alloc, key(1, 2, 3), &[1, -2])?;
     let second = partial(alloc, key(258, 0, 16_909_060), &[-3])?;
     let file = decode(alloc, &wanted).ok().ok_or("the bytes are a file")?;
@@ -128,7 +135,7 @@ fn file_of_no_facts(rt: HostRuntime) -> Result<(), Fail> {
 #[test]
 fn cut_at_every_byte(rt: HostRuntime) -> Result<(), Fail> {
     let alloc = rt.alloc();
-    let whole = joined(alloc, &[&HEAD_OF_TWO, &TILE, &PARTIAL])?;
+    let whole = file_of(alloc, &TILE, &PARTIAL)?;
     for len in 0..whole.len() {
         has_fault(alloc, front(&whole, len)?, FactFault::Cut(len))?;
     }
@@ -138,9 +145,9 @@ fn cut_at_every_byte(rt: HostRuntime) -> Result<(), Fail> {
 #[test]
 fn records_that_do_not_rise(rt: HostRuntime) -> Result<(), Fail> {
     let alloc = rt.alloc();
-    let swapped = joined(alloc, &[&HEAD_OF_TWO, &PARTIAL, &TILE])?;
+    let swapped = file_of(alloc, &PARTIAL, &TILE)?;
     has_fault(alloc, &swapped, FactFault::NotRising(95))?;
-    let twice = joined(alloc, &[&HEAD_OF_TWO, &TILE, &TILE])?;
+    let twice = file_of(alloc, &TILE, &TILE)?;
     has_fault(alloc, &twice, FactFault::NotRising(95))?;
     has_fault(alloc, front(&twice, 181)?, FactFault::Cut(181))
 }
@@ -151,7 +158,8 @@ fn other_faults(rt: HostRuntime) -> Result<(), Fail> {
     has_fault(alloc, b"PX", FactFault::BadMagic(1))?;
     has_fault(alloc, b"PTF2\0\0\0\0", FactFault::BadMagic(3))?;
     has_fault(alloc, b"PTF1\0\0\0\0\0", FactFault::TrailingBytes(8))?;
-    let bytes = joined(alloc, &[&HEAD_OF_TWO, &TILE, &PARTIAL, &[0]])?;
+    let mut bytes = file_of(alloc, &TILE, &PARTIAL)?;
+    bytes.push(0)?;
     has_fault(alloc, &bytes, FactFault::TrailingBytes(182))
 }
 
@@ -159,7 +167,7 @@ fn other_faults(rt: HostRuntime) -> Result<(), Fail> {
 #[test]
 fn bad_kinds_and_lengths(rt: HostRuntime) -> Result<(), Fail> {
     let alloc = rt.alloc();
-    let bytes = joined(alloc, &[&HEAD_OF_TWO, &TILE, &PARTIAL])?;
+    let bytes = file_of(alloc, &TILE, &PARTIAL)?;
     let bad_kind = changed(alloc, &bytes, 82, &[2])?;
     has_fault(alloc, &bad_kind, FactFault::BadKind(82))?;
     has_fault(alloc, front(&bad_kind, 83)?, FactFault::BadKind(82))?;

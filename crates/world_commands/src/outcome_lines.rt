@@ -21,21 +21,9 @@ pub fn write_outcome<W: Sink>(outcome: &Outcome, writer: &mut W) -> Result<(), W
         (W.failures writer.old) (W.failures writer.new) }
 {
     let mut buffer = WriteBuffer::new();
-    put_outcome(&mut buffer, writer, outcome)?;
+    put_counts(&mut buffer, writer, outcome.done, outcome.refused)?;
+    put_nodes(&mut buffer, writer, &outcome.nodes)?;
     buffer.flush(writer)
-}
-
-fn put_outcome<W: Sink>(
-    buffer: &mut WriteBuffer,
-    writer: &mut W,
-    outcome: &Outcome,
-) -> Result<(), WriteFailed>
-    ensures { Puts result (outcome_lines outcome.now) buffer.old buffer.new
-        (W.contents writer.old) (W.contents writer.new)
-        (W.failures writer.old) (W.failures writer.new) }
-{
-    put_counts(buffer, writer, outcome.done, outcome.refused)?;
-    put_nodes(buffer, writer, &outcome.nodes)
 }
 
 fn put_counts<W: Sink>(

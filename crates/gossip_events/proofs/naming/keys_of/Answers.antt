@@ -10,5 +10,5 @@ loop-place-preserved c =
     c.in-Some.ensures.some longer
 
 pub returns-in_default-clause-none : goal.returns-in_default-clause-none
-returns-in_default-clause-none c is =
+returns-in_default-clause-none c =
     no_keys c.args.jobs.now c.args.places.now c.loop-place.place-index _ c.loop-place-test.true c.in_default.ensures.none
