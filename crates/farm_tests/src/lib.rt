@@ -3,14 +3,4 @@
 #![tactic(auto)]
 
 #[cfg(test)]
-mod given;
-#[cfg(test)]
-mod histories;
-#[cfg(test)]
-mod meeting;
-#[cfg(test)]
-mod runs;
-#[cfg(test)]
-mod shares;
-#[cfg(test)]
-mod watch;
+mod tests;

@@ -4,6 +4,8 @@ ghost use Rattle.books.specs.Updates.{AreTrue};
 ghost use Rattle.live_nodes.specs.Ends.{HaveAllReceipts};
 ghost use Rattle.std.specs.Prelude.{◌≡◌, All, IfOk, length};
 
+use crate::calls::Call;
+use crate::given::Given;
 use books::{Event, Receipt};
 use identity::Key;
 use live_nodes::{LiveNode, Seat};
@@ -23,15 +25,6 @@ pub struct Caller {
 }
 
 impl Caller {
-    pub fn new(alloc: Global, seat: Seat) -> Caller
-        requires { seat ≡ 0 }
-    {
-        Caller {
-            seat,
-            receipts: Vec::new(alloc),
-        }
-    }
-
     pub fn lend<C: NamedCatalog, R: Wait>(
         &mut self,
         rt: &R,
@@ -62,26 +55,15 @@ impl Caller {
         Ok(())
     }
 
-    pub fn keep<C: NamedCatalog, R: Wait>(
+    pub fn call<C: NamedCatalog, R: Wait>(
         &mut self,
         rt: &R,
         node: &LiveNode<C>,
+        call: Call,
     ) -> Result<(), AllocError> {
         let Caller { seat, receipts } = self;
         receipts.reserve(1)?;
-        let receipt = node.keep(rt, seat)?;
-        receipts.push_reserved(receipt);
-        Ok(())
-    }
-
-    pub fn restart<C: NamedCatalog, R: Wait>(
-        &mut self,
-        rt: &R,
-        node: &LiveNode<C>,
-    ) -> Result<(), AllocError> {
-        let Caller { seat, receipts } = self;
-        receipts.reserve(1)?;
-        let receipt = node.restart(rt, seat)?;
+        let receipt = call.at_node(rt, node, seat)?;
         receipts.push_reserved(receipt);
         Ok(())
     }
@@ -94,15 +76,40 @@ impl Caller {
     }
 }
 
-/// A caller at the last of the seats.
-pub fn next_caller(alloc: Global, seats: &mut Vec<Seat>) -> Result<Caller, Fail>
+// A caller at the last of the seats.
+fn next_caller(alloc: Global, seats: &mut Vec<Seat>) -> Result<Caller, Fail>
     requires { All (λ seat. seat ≡ 0) seats.old.items }
     ensures { All (λ seat. seat ≡ 0) seats.new.items }
 {
     match seats.pop() {
-        Some(seat) => Ok(Caller::new(alloc, seat)),
+        Some(seat) => Ok(Caller {
+            seat,
+            receipts: Vec::new(alloc),
+        }),
         None => Err(Fail::new("no seat")),
     }
+}
+
+/// A node of one seat, and the caller there.
+pub fn one_seat<C: NamedCatalog, R: Wait>(
+    given: &Given<'_, R>,
+) -> Result<(LiveNode<C>, Caller), Fail>
+    requires { given.now.catalog ≡ C.catalog }
+{
+    let (node, mut seats) = LiveNode::<C>::open(given.alloc, &given.catalog, 1)?;
+    Ok((node, next_caller(given.alloc, &mut seats)?))
+}
+
+/// A node of two seats, and the callers there.
+pub fn two_seats<C: NamedCatalog, R: Wait>(
+    given: &Given<'_, R>,
+) -> Result<(LiveNode<C>, Caller, Caller), Fail>
+    requires { given.now.catalog ≡ C.catalog }
+{
+    let (node, mut seats) = LiveNode::<C>::open(given.alloc, &given.catalog, 2)?;
+    let second = next_caller(given.alloc, &mut seats)?;
+    let first = next_caller(given.alloc, &mut seats)?;
+    Ok((node, first, second))
 }
 
 /// The ends of callers, and that of one more.

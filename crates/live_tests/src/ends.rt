@@ -2,31 +2,25 @@
 
 ghost use Rattle.std.specs.Prelude.{◌≡◌};
 
-use crate::callers::{next_caller, with_end};
-use crate::facts::{catalog_of, whole};
+use crate::callers::{one_seat, two_seats, with_end};
+use crate::calls::Call;
+use crate::given::Given;
 use crate::wanted::holds;
-use catalog::Catalog;
-use live_nodes::{CloseFault, LiveNode};
+use live_nodes::CloseFault;
 use named_catalogs::NamedCatalog;
-use std::alloc::Global;
 use std::marker::Brand;
 use std::sync::Wait;
 use std::test::Fail;
 
 // A receipt that tells of another call than the history does.
-fn false_receipt<C: NamedCatalog, R: Wait>(
-    rt: &R,
-    alloc: Global,
-    catalog: &Catalog,
-) -> Result<(), Fail>
-    requires { catalog.now ≡ C.catalog }
+fn false_receipt<C: NamedCatalog, R: Wait>(given: &Given<'_, R>) -> Result<(), Fail>
+    requires { given.now.catalog ≡ C.catalog }
 {
-    let (node, mut seats) = LiveNode::<C>::open(alloc, catalog, 1)?;
-    let mut caller = next_caller(alloc, &mut seats)?;
-    let facts = whole(alloc, catalog)?;
-    caller.take(rt, &node, facts).ok().ok_or("not taken")?;
+    let (node, mut caller) = one_seat::<C, R>(given)?;
+    let facts = given.facts()?;
+    caller.take(given.rt, &node, facts).ok().ok_or("not taken")?;
     caller.falsify();
-    let ends = with_end(Vec::new(alloc), caller)?;
+    let ends = with_end(Vec::new(given.alloc), caller)?;
     match node.close(ends) {
         Ok(_) => Err(Fail::new("the node is closed")),
         Err((_, ends, fault)) => {
@@ -41,23 +35,17 @@ fn false_receipt<C: NamedCatalog, R: Wait>(
 
 #[test]
 fn a_false_receipt_is_found(rt: HostRuntime) -> Result<(), Fail> {
-    let catalog = catalog_of(rt.alloc(), 2)?;
-    false_receipt::<Brand, _>(&rt, rt.alloc(), &catalog)
+    let given = Given::new(&rt, rt.alloc())?;
+    false_receipt::<Brand, _>(&given)
 }
 
 // A seat that is left out, of which there is a call in the history.
-fn seat_left_out<C: NamedCatalog, R: Wait>(
-    rt: &R,
-    alloc: Global,
-    catalog: &Catalog,
-) -> Result<(), Fail>
-    requires { catalog.now ≡ C.catalog }
+fn seat_left_out<C: NamedCatalog, R: Wait>(given: &Given<'_, R>) -> Result<(), Fail>
+    requires { given.now.catalog ≡ C.catalog }
 {
-    let (node, mut seats) = LiveNode::<C>::open(alloc, catalog, 2)?;
-    let mut second = next_caller(alloc, &mut seats)?;
-    let first = next_caller(alloc, &mut seats)?;
-    second.keep(rt, &node)?;
-    let ends = with_end(Vec::new(alloc), first)?;
+    let (node, first, mut second) = two_seats::<C, R>(given)?;
+    second.call(given.rt, &node, Call::Keep)?;
+    let ends = with_end(Vec::new(given.alloc), first)?;
     match node.close(ends) {
         Ok(_) => Err(Fail::new("the node is closed")),
         Err((node, ends, fault)) => {
@@ -75,6 +63,6 @@ fn seat_left_out<C: NamedCatalog, R: Wait>(
 
 #[test]
 fn a_seat_left_out_is_found(rt: HostRuntime) -> Result<(), Fail> {
-    let catalog = catalog_of(rt.alloc(), 2)?;
-    seat_left_out::<Brand, _>(&rt, rt.alloc(), &catalog)
+    let given = Given::new(&rt, rt.alloc())?;
+    seat_left_out::<Brand, _>(&given)
 }

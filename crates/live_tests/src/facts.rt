@@ -18,16 +18,18 @@ use std::alloc::{AllocError, Global};
 use std::test::Fail;
 use tile_fact::{Body, Fact, Samples};
 
-/// A program that copies a grey picture.
-const COPY: &[u8] =
-    b"image I(2,2); func f(x in [0..1], y in [0..1]) { else : I(x,y); } output f max 255;";
+/// A program that copies a grey picture, and doubles the copy.
+const DOUBLE: &[u8] = b"image I(2,2);
+func f(x in [0..1], y in [0..1]) { else : I(x,y); }
+func g(x in [0..1], y in [0..1]) { else : 2 * f(x,y); }
+output g max 255;";
 
 const PICTURE: &[u8] = b"P2\n2 2\n255\n1 2\n3 4\n";
 
-fn copied(alloc: Global, side: u32) -> Result<Job, Fail> {
+fn doubled(alloc: Global, side: u32) -> Result<Job, Fail> {
     let sides = TileSides::new(side, side).ok_or("no sides")?;
     let picture = read(alloc, PICTURE)?;
-    let Ok(checked) = check(alloc, parse(alloc, COPY)?) else {
+    let Ok(checked) = check(alloc, parse(alloc, DOUBLE)?) else {
         return Err(Fail::new("the program is refused"));
     };
     let params = Params::of(alloc, &checked)?;
@@ -40,7 +42,7 @@ fn copied(alloc: Global, side: u32) -> Result<Job, Fail> {
 /// The catalog of the job, in tiles of this side.
 pub fn catalog_of(alloc: Global, side: u32) -> Result<Catalog, Fail> {
     let mut jobs = Catalog::new(alloc);
-    match jobs.admit(copied(alloc, side)?) {
+    match jobs.admit(doubled(alloc, side)?) {
         Ok(_) => Ok(jobs),
         Err(_) => Err(Fail::new("the job is not admitted")),
     }
@@ -50,6 +52,11 @@ pub fn catalog_of(alloc: Global, side: u32) -> Result<Catalog, Fail> {
 pub fn key_of(catalog: &Catalog, row: u32, col: u32) -> Result<Key, Fail> {
     let job = catalog.job(0).ok_or("no job")?;
     Ok(job.key(1, row, col).ok_or("no key")?)
+}
+
+/// The key of the doubled tile beside that of the copy.
+pub fn doubled_key(copy: &Key) -> Key {
+    Key { stage: 2, ..*copy }
 }
 
 fn tile(alloc: Global, key: Key, numbers: &[i32]) -> Result<Fact, Fail> {
@@ -68,7 +75,7 @@ pub fn true_fact(alloc: Global, catalog: &Catalog, key: Key, numbers: &[i32]) ->
     }
 }
 
-/// The one fact of the whole picture.
+/// The one fact of the whole copy.
 pub fn whole(alloc: Global, catalog: &Catalog) -> Result<Vec<Fact>, Fail>
     ensures { IfOk result (λ facts. AreTrue catalog.now facts.items) }
 {

@@ -4,13 +4,15 @@
 ghost use Rattle.books.specs.Updates.{AreTrue};
 ghost use Rattle.std.specs.Prelude.{◌≡◌};
 
-use crate::callers::{next_caller, with_end};
+use crate::callers::{one_seat, with_end};
+use crate::calls::Call;
 use crate::facts::{catalog_of, key_of, whole};
+use crate::given::Given;
 use crate::wanted::{Told, has, holds, what_is_told};
 use books::{Loan, NodeBook, Receipt};
 use catalog::Catalog;
 use identity::Key;
-use live_nodes::{CloseFault, LiveNode};
+use live_nodes::CloseFault;
 use named_catalogs::NamedCatalog;
 use node_state::LendFault;
 use std::alloc::Global;
@@ -44,24 +46,13 @@ fn lend_at_last<C: NamedCatalog>(book: &mut NodeBook<C>, key: &Key) -> Result<Lo
     }
 }
 
-fn keep_at_last<C: NamedCatalog>(book: &mut NodeBook<C>) -> Result<Receipt, Fail> {
+fn call_at_last<C: NamedCatalog>(book: &mut NodeBook<C>, call: Call) -> Result<Receipt, Fail> {
     let before = book.history().len();
-    match book.keep() {
+    match call.at_book(book) {
         Ok(receipt) => Ok(receipt),
         Err(_) => {
             holds(book.history().len() == before, "nothing is recorded")?;
-            Ok(book.keep()?)
-        }
-    }
-}
-
-fn restart_at_last<C: NamedCatalog>(book: &mut NodeBook<C>) -> Result<Receipt, Fail> {
-    let before = book.history().len();
-    match book.restart() {
-        Ok(receipt) => Ok(receipt),
-        Err(_) => {
-            holds(book.history().len() == before, "nothing is recorded")?;
-            Ok(book.restart()?)
+            Ok(call.at_book(book)?)
         }
     }
 }
@@ -74,8 +65,8 @@ fn book_goes_on<C: NamedCatalog>(alloc: Global, catalog: &Catalog) -> Result<(),
     let mut book: NodeBook<C> = NodeBook::new(alloc, catalog);
     let took = take_at_last(&mut book, facts)?;
     let loan = lend_at_last(&mut book, &key)?;
-    let kept = keep_at_last(&mut book)?;
-    let restarted = restart_at_last(&mut book)?;
+    let kept = call_at_last(&mut book, Call::Keep)?;
+    let restarted = call_at_last(&mut book, Call::Restart)?;
     holds(what_is_told(&took) == (0, Told::Took(1)), "the take")?;
     holds(
         what_is_told(&loan.receipt) == (1, Told::Lent(1)),
@@ -95,17 +86,12 @@ fn books_go_on_where_memory_was_refused(rt: HostRuntime) -> Result<(), Fail> {
     book_goes_on::<Brand>(rt.alloc(), &catalog)
 }
 
-fn node_goes_on<C: NamedCatalog, R: Wait>(
-    rt: &R,
-    alloc: Global,
-    catalog: &Catalog,
-) -> Result<(), Fail>
-    requires { catalog.now ≡ C.catalog }
+fn node_goes_on<C: NamedCatalog, R: Wait>(given: &Given<'_, R>) -> Result<(), Fail>
+    requires { given.now.catalog ≡ C.catalog }
 {
-    let (node, mut seats) = LiveNode::<C>::open(alloc, catalog, 1)?;
-    let mut caller = next_caller(alloc, &mut seats)?;
-    caller.keep(rt, &node)?;
-    let ends = with_end(Vec::new(alloc), caller)?;
+    let (node, mut caller) = one_seat::<C, R>(given)?;
+    caller.call(given.rt, &node, Call::Keep)?;
+    let ends = with_end(Vec::new(given.alloc), caller)?;
     match node.close(ends) {
         Ok(_) => Ok(()),
         Err((node, ends, fault)) => {
@@ -117,6 +103,6 @@ fn node_goes_on<C: NamedCatalog, R: Wait>(
 
 #[test]
 fn nodes_close_where_memory_was_refused(rt: HostRuntime) -> Result<(), Fail> {
-    let catalog = catalog_of(rt.alloc(), 2)?;
-    node_goes_on::<Brand, _>(&rt, rt.alloc(), &catalog)
+    let given = Given::new(&rt, rt.alloc())?;
+    node_goes_on::<Brand, _>(&given)
 }

@@ -6,6 +6,7 @@ ghost use Rattle.live_nodes.specs.Ends.{HaveAllReceipts};
 ghost use Rattle.std.specs.Prelude.{◌≡◌, All, IfOk};
 
 use crate::callers::{Caller, callers_of, with_end};
+use crate::calls::Call;
 use crate::facts::{catalog_of, key_of, one, true_fact};
 use crate::wanted::holds;
 use books::Receipt;
@@ -76,9 +77,9 @@ impl<C: NamedCatalog> Worker<'_, C> {
         if let Err(LendFault::Memory) = self.caller.lend(rt, self.node, &[key]) {
             return Err(AllocError);
         }
-        self.caller.keep(rt, self.node)?;
+        self.caller.call(rt, self.node, Call::Keep)?;
         if round % 5 == 0 {
-            self.caller.restart(rt, self.node)?;
+            self.caller.call(rt, self.node, Call::Restart)?;
         }
         Ok(())
     }

@@ -2,8 +2,10 @@
 
 ghost use Rattle.std.specs.Prelude.{◌≡◌};
 
-use crate::callers::{Caller, next_caller, with_end};
+use crate::callers::{Caller, one_seat, with_end};
+use crate::calls::Call;
 use crate::facts::{catalog_of, key_of, whole};
+use crate::given::Given;
 use crate::wanted::{Told, has, holds, is_one, tell, what_is_told};
 use books::NodeBook;
 use catalog::Catalog;
@@ -56,26 +58,25 @@ fn a_book_records_its_calls(rt: HostRuntime) -> Result<(), Fail> {
 
 // The calls, by one caller.
 fn calls<C: NamedCatalog, R: Wait>(
-    rt: &R,
-    alloc: Global,
-    catalog: &Catalog,
+    given: &Given<'_, R>,
     node: &LiveNode<C>,
     caller: &mut Caller,
 ) -> Result<(), Fail>
-    requires { catalog.now ≡ C.catalog }
+    requires { given.now.catalog ≡ C.catalog }
 {
-    let key = key_of(catalog, 0, 0)?;
+    let rt = given.rt;
+    let key = given.key()?;
     holds(
         caller.lend(rt, node, &[key]).err() == Some(LendFault::NotHeld(key)),
         "nothing is held",
     )?;
-    let facts = whole(alloc, catalog)?;
+    let facts = given.facts()?;
     caller.take(rt, node, facts).ok().ok_or("not taken")?;
     holds(has(&node.state(rt)?, &key, 1), "the fact is held")?;
     let lent = caller.lend(rt, node, &[key])?;
     holds(is_one(&lent, &key), "the fact is lent")?;
-    caller.keep(rt, node)?;
-    caller.restart(rt, node)?;
+    caller.call(rt, node, Call::Keep)?;
+    caller.call(rt, node, Call::Restart)?;
     holds(
         tell(&caller.receipts, &WORKED),
         "each receipt tells its call",
@@ -84,18 +85,13 @@ fn calls<C: NamedCatalog, R: Wait>(
 
 // No clause says that a shared node asks its book. A body of `state` that gives nothing, one of `lend` that holds nothing, and one of
 // `take` that lets its book take nothing fail here.
-fn node_closes<C: NamedCatalog, R: Wait>(
-    rt: &R,
-    alloc: Global,
-    catalog: &Catalog,
-) -> Result<(), Fail>
-    requires { catalog.now ≡ C.catalog }
+fn node_closes<C: NamedCatalog, R: Wait>(given: &Given<'_, R>) -> Result<(), Fail>
+    requires { given.now.catalog ≡ C.catalog }
 {
-    let key = key_of(catalog, 0, 0)?;
-    let (node, mut seats) = LiveNode::<C>::open(alloc, catalog, 1)?;
-    let mut caller = next_caller(alloc, &mut seats)?;
-    calls(rt, alloc, catalog, &node, &mut caller)?;
-    let ends = with_end(Vec::new(alloc), caller)?;
+    let key = given.key()?;
+    let (node, mut caller) = one_seat::<C, R>(given)?;
+    calls(given, &node, &mut caller)?;
+    let ends = with_end(Vec::new(given.alloc), caller)?;
     let closed = node.close(ends).ok().ok_or("not closed")?;
     holds(has(closed.state(), &key, 1), "the fact is held in the end")?;
     holds(closed.history().len() == 4, "four events")
@@ -103,6 +99,6 @@ fn node_closes<C: NamedCatalog, R: Wait>(
 
 #[test]
 fn a_node_closes_over_its_receipts(rt: HostRuntime) -> Result<(), Fail> {
-    let catalog = catalog_of(rt.alloc(), 2)?;
-    node_closes::<Brand, _>(&rt, rt.alloc(), &catalog)
+    let given = Given::new(&rt, rt.alloc())?;
+    node_closes::<Brand, _>(&given)
 }

@@ -22,20 +22,24 @@ fn key(row: u32, col: u32) -> Key {
     key_of(0x11, 0x22, (1, row, col))
 }
 
+// The fact of a tile of one point.
+fn point(alloc: Global, told: (u32, u32, i32)) -> Result<Fact, Fail> {
+    let (row, col, number) = told;
+    tile(alloc, key(row, col), &[number])
+}
+
+// The fact of a whole picture whose last number is this one.
+fn whole(alloc: Global, last: i32) -> Result<Fact, Fail> {
+    tile(alloc, key(0, 0), &[1, 2, 3, last])
+}
+
 // Whether the fact is a tile of the column whose last number is this one.
 fn ends_with(fact: &Fact, col: u32, number: i32) -> bool {
     fact.key().col == col
         && matches!(fact.body(), Body::Tile(samples) if matches!(samples.as_slice(), [.., last] if *last == number))
 }
 
-fn takes<S: FactStore>(
-    alloc: Global,
-    state: &mut NodeState<S>,
-    key: Key,
-    numbers: &[i32],
-    wanted: Taken,
-) -> Result<(), Fail> {
-    let fact = tile(alloc, key, numbers)?;
+fn takes<S: FactStore>(state: &mut NodeState<S>, fact: Fact, wanted: Taken) -> Result<(), Fail> {
     holds(
         Some(state.take(fact).ok() == Some(wanted)),
         "whether it was new",
@@ -45,14 +49,8 @@ fn takes<S: FactStore>(
 // The state that has taken these tiles, one after another.
 fn state_of<S: FactStore>(alloc: Global, tiles: &[(u32, u32, i32)]) -> Result<NodeState<S>, Fail> {
     let mut state = NodeState::new(alloc);
-    for tile in tiles {
-        takes(
-            alloc,
-            &mut state,
-            key(tile.0, tile.1),
-            &[tile.2],
-            Taken::New,
-        )?;
+    for told in tiles {
+        takes(&mut state, point(alloc, *told)?, Taken::New)?;
     }
     Ok(state)
 }
@@ -60,7 +58,7 @@ fn state_of<S: FactStore>(alloc: Global, tiles: &[(u32, u32, i32)]) -> Result<No
 // P, Q and R in another order and through another state.
 fn merged<S: FactStore>(alloc: Global) -> Result<NodeState<S>, Fail> {
     let mut state: NodeState<S> = state_of(alloc, &[R, P])?;
-    takes(alloc, &mut state, key(P.0, P.1), &[P.2], Taken::Already)?;
+    takes(&mut state, point(alloc, P)?, Taken::Already)?;
     let more: NodeState<S> = state_of(alloc, &[Q, R])?;
     holds(Some(state.merge(&more)? == 1), "Q is new")?;
     holds(
@@ -110,12 +108,12 @@ fn is_disputed<S: FactStore>(alloc: Global, first: i32, second: i32) -> Result<(
         Some(state.knows(&key(0, 0)) == Known::Nothing),
         "no fact of the key",
     )?;
-    takes(alloc, &mut state, key(0, 0), &[1, 2, 3, first], Taken::New)?;
+    takes(&mut state, whole(alloc, first)?, Taken::New)?;
     holds(
         Some(state.knows(&key(0, 0)) == Known::One),
         "one fact of the key",
     )?;
-    takes(alloc, &mut state, key(0, 0), &[1, 2, 3, second], Taken::New)?;
+    takes(&mut state, whole(alloc, second)?, Taken::New)?;
     holds(
         Some(state.knows(&key(0, 0)) == Known::Disputed),
         "two facts of the key",

@@ -42,84 +42,91 @@ fn has_verdict(alloc: Global, jobs: &Catalog, fact: &Fact, wanted: &str) -> Resu
     tells(alloc, &audit(alloc, jobs, fact)?, wanted)
 }
 
-// Facts of the one tile of a function, as they are and with a number, a count or a kind that is another.
-fn has_verdicts(alloc: Global, jobs: &Catalog, key: Key) -> Result<(), Fail> {
-    has_verdict(alloc, jobs, &tile(alloc, key, &[1, 2, 3, 4])?, "True")?;
-    has_verdict(alloc, jobs, &tile(alloc, key, &[1, 2, 3, 5])?, "False")?;
-    has_verdict(alloc, jobs, &tile(alloc, key, &[1, 2, 3])?, "Misshapen")?;
-    has_verdict(
-        alloc,
-        jobs,
-        &partial(alloc, key, &[1, 2, 3, 4])?,
-        "Misshapen",
-    )
+// Both jobs, and the key of a tile of the one at this index.
+fn jobs_and_key(alloc: Global, index: usize) -> Result<(Catalog, Key), Fail> {
+    let jobs = two_jobs(alloc)?;
+    let key = key_at(&jobs, index, 1, 0, 0).ok_or("no key")?;
+    Ok((jobs, key))
 }
 
-// Of other keys the same numbers are misshapen or foreign.
-fn has_key_verdicts(alloc: Global, jobs: &Catalog, key: Key) -> Result<(), Fail> {
-    let plane = Key { stage: 0, ..key };
-    let beyond = Key { row: 1, ..key };
-    let unknown = Key {
-        program: ProgramId::new([7; 32]),
-        ..key
-    };
-    has_verdict(
-        alloc,
-        jobs,
-        &tile(alloc, plane, &[1, 2, 3, 4])?,
-        "Misshapen",
-    )?;
-    has_verdict(
-        alloc,
-        jobs,
-        &tile(alloc, beyond, &[1, 2, 3, 4])?,
-        "Misshapen",
-    )?;
-    has_verdict(
-        alloc,
-        jobs,
-        &tile(alloc, unknown, &[1, 2, 3, 4])?,
-        "Foreign",
-    )
+// Fails where a tile or bins of these numbers has another verdict as a fact of the job's tile.
+fn have_verdicts(
+    alloc: Global,
+    index: usize,
+    tiles: &[(&[i32], &str)],
+    bins: &[(&[i64], &str)],
+) -> Result<(), Fail> {
+    let (jobs, key) = jobs_and_key(alloc, index)?;
+    for (numbers, wanted) in tiles {
+        has_verdict(alloc, &jobs, &tile(alloc, key, numbers)?, wanted)?;
+    }
+    for (numbers, wanted) in bins {
+        has_verdict(alloc, &jobs, &partial(alloc, key, numbers)?, wanted)?;
+    }
+    Ok(())
 }
+
+/// Of the one tile of the copy: as it is, and with a number or a count that is another.
+const OF_THE_COPY: [(&[i32], &str); 3] = [
+    (&[1, 2, 3, 4], "True"),
+    (&[1, 2, 3, 5], "False"),
+    (&[1, 2, 3], "Misshapen"),
+];
+
+/// The numbers of a tile, told as bins.
+const OF_ANOTHER_KIND: [(&[i64], &str); 1] = [(&[1, 2, 3, 4], "Misshapen")];
+
+/// Of a tile that is counted: as it is, and with a number or a count that is another.
+const OF_THE_COUNTS: [(&[i64], &str); 3] = [
+    (&[1, 2, 1, 0], "True"),
+    (&[1, 2, 0, 1], "False"),
+    (&[1, 2, 1], "Misshapen"),
+];
 
 #[test]
 fn disputed_facts(rt: HostRuntime) -> Result<(), Fail> {
-    let alloc = rt.alloc();
-    let jobs = two_jobs(alloc)?;
-    let key = key_at(&jobs, 0, 1, 0, 0).ok_or("no key")?;
-    has_verdicts(alloc, &jobs, key)
-}
-
-#[test]
-fn facts_of_other_keys(rt: HostRuntime) -> Result<(), Fail> {
-    let alloc = rt.alloc();
-    let jobs = two_jobs(alloc)?;
-    let key = key_at(&jobs, 0, 1, 0, 0).ok_or("no key")?;
-    has_key_verdicts(alloc, &jobs, key)
+    have_verdicts(rt.alloc(), 0, &OF_THE_COPY, &OF_ANOTHER_KIND)
 }
 
 #[test]
 fn bins_over_a_tile(rt: HostRuntime) -> Result<(), Fail> {
+    have_verdicts(rt.alloc(), 1, &[], &OF_THE_COUNTS)
+}
+
+// The key with a program that no job has.
+fn foreign(key: Key) -> Key {
+    Key {
+        program: ProgramId::new([7; 32]),
+        ..key
+    }
+}
+
+// Of other keys the same numbers are misshapen or foreign.
+#[test]
+fn facts_of_other_keys(rt: HostRuntime) -> Result<(), Fail> {
     let alloc = rt.alloc();
-    let jobs = two_jobs(alloc)?;
-    let key = key_at(&jobs, 1, 1, 0, 0).ok_or("no key")?;
-    has_verdict(alloc, &jobs, &partial(alloc, key, &[1, 2, 1, 0])?, "True")?;
-    has_verdict(alloc, &jobs, &partial(alloc, key, &[1, 2, 0, 1])?, "False")?;
-    has_verdict(alloc, &jobs, &partial(alloc, key, &[1, 2, 1])?, "Misshapen")
+    let (jobs, key) = jobs_and_key(alloc, 0)?;
+    let plane = Key { stage: 0, ..key };
+    let beyond = Key { row: 1, ..key };
+    let others = [
+        (plane, "Misshapen"),
+        (beyond, "Misshapen"),
+        (foreign(key), "Foreign"),
+    ];
+    for (other, wanted) in others {
+        let fact = tile(alloc, other, &[1, 2, 3, 4])?;
+        has_verdict(alloc, &jobs, &fact, wanted)?;
+    }
+    Ok(())
 }
 
 // A true fact of each job, and of the first a false, a misshapen and a foreign one between them.
 fn several(alloc: Global, copied: Key, counted: Key) -> Result<Vec<Fact>, Fail> {
-    let foreign = Key {
-        program: ProgramId::new([7; 32]),
-        ..copied
-    };
     let mut facts = Vec::new(alloc);
     facts.push(tile(alloc, copied, &[1, 2, 3, 4])?)?;
     facts.push(tile(alloc, copied, &[1, 2, 3, 5])?)?;
     facts.push(tile(alloc, copied, &[1, 2, 3])?)?;
-    facts.push(tile(alloc, foreign, &[1, 2, 3, 4])?)?;
+    facts.push(tile(alloc, foreign(copied), &[1, 2, 3, 4])?)?;
     facts.push(partial(alloc, counted, &[1, 2, 1, 0])?)?;
     Ok(facts)
 }
@@ -127,8 +134,7 @@ fn several(alloc: Global, copied: Key, counted: Key) -> Result<Vec<Fact>, Fail> 
 #[test]
 fn facts_of_several_jobs(rt: HostRuntime) -> Result<(), Fail> {
     let alloc = rt.alloc();
-    let jobs = two_jobs(alloc)?;
-    let copied = key_at(&jobs, 0, 1, 0, 0).ok_or("no key")?;
+    let (jobs, copied) = jobs_and_key(alloc, 0)?;
     let counted = key_at(&jobs, 1, 1, 0, 0).ok_or("no key")?;
     let facts = several(alloc, copied, counted)?;
     let verdicts = audit_all(alloc, &jobs, &facts)?;
@@ -139,8 +145,7 @@ fn facts_of_several_jobs(rt: HostRuntime) -> Result<(), Fail> {
 #[test]
 fn shapes_by_another_job(rt: HostRuntime) -> Result<(), Fail> {
     let alloc = rt.alloc();
-    let jobs = two_jobs(alloc)?;
-    let key = key_at(&jobs, 1, 1, 0, 0).ok_or("no key")?;
+    let (_, key) = jobs_and_key(alloc, 1)?;
     let fact = tile(alloc, key, &[1, 2, 3, 4])?;
     holds(Some(shape_ok(&copied(alloc)?, &fact)), "the shape")
 }

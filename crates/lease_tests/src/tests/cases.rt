@@ -39,10 +39,12 @@ pub static NO_TIME: [Step; 6] = [
 ];
 
 /// Near the greatest time a lease is cut there, and at that time none is in force.
-pub static END_OF_TIME: [Step; 5] = [
+pub static END_OF_TIME: [Step; 7] = [
     Step::Claim(END - 2, 1, 0, 100, Claim::Granted { until: END }),
     Step::Claim(END - 1, 2, 0, END, Claim::Held { by: 1, until: END }),
     Step::Claim(END - 1, 1, 0, 1, Claim::Renewed { until: END }),
+    Step::Claim(END - 1, 1, 1, 5, Claim::Granted { until: END }),
+    Step::Holder(END, 1, None),
     Step::Claim(END, 2, 0, END, Claim::Granted { until: END }),
     Step::Holder(END, 0, None),
 ];

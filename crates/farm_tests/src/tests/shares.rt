@@ -1,6 +1,6 @@
 //! How much of a large job is left to the caller.
 
-use crate::given::{Given, NO_FAULTS, setup};
+use super::given::{Given, NO_FAULTS, setup};
 use farm_work::Open;
 use std::alloc::{AllocError, Global};
 use std::test::Fail;

@@ -1,7 +1,7 @@
 //! What the histories of nodes tell.
 
-use crate::given::{Given, NO_FAULTS, setup};
-use crate::watch::Watch;
+use super::given::{Given, NO_FAULTS, setup};
+use super::watch::Watch;
 use books::Event;
 use farm_setup::Faults;
 use identity::Key;
@@ -10,6 +10,18 @@ use std::sync::Wait;
 use std::test::Fail;
 use std::thread::Threads;
 use test_checks::holds;
+
+/// Each parcel is lost.
+const LOSSY: Faults = Faults {
+    lose: 1,
+    ..NO_FAULTS
+};
+
+/// Each parcel is given twice.
+const REPEATING: Faults = Faults {
+    repeat: 1,
+    ..NO_FAULTS
+};
 
 // How often a node kept what it held, and how often it restarted.
 fn kept_and_restarted(history: &[Event]) -> (usize, usize) {
@@ -29,19 +41,16 @@ fn keeps_and_restarts<R: Threads + Wait + Sync>(
 ) -> Result<(), Fail> {
     let given = Given::fourfold(alloc, true)?;
     let faults = Faults {
-        lose: 0,
-        repeat: 0,
         restart,
+        ..NO_FAULTS
     };
     let watch = Watch::new(alloc, &given.keys)?;
     let report = given.run(rt, alloc, &setup(2, turns, 8, faults)?, &watch)?;
-    for closed in &report.closed {
-        holds(
-            Some(kept_and_restarted(closed.history()) == wanted),
-            "how often a node kept and restarted",
-        )?;
-    }
-    Ok(())
+    let mut closed = report.closed.iter();
+    holds(
+        Some(closed.all(|node| kept_and_restarted(node.history()) == wanted)),
+        "how often a node kept and restarted",
+    )
 }
 
 // Each of two workers keeps in each fourth turn, and restarts in each one of so many.
@@ -109,41 +118,30 @@ fn received<R: Threads + Wait + Sync>(
     Ok(counts)
 }
 
+// Whether a node took a fact of the other.
+fn some_arrive(counts: &[u64]) -> bool {
+    counts.iter().any(|count| *count > 0)
+}
+
 #[test]
 fn parcels_arrive(rt: HostRuntime) -> Result<(), Fail> {
     let counts = received(&rt, rt.alloc(), NO_FAULTS)?;
-    holds(
-        Some(counts.iter().any(|count| *count > 0)),
-        "facts of other nodes are taken",
-    )
+    holds(Some(some_arrive(&counts)), "facts of other nodes are taken")
 }
 
 #[test]
 fn lost_parcels_do_not_arrive(rt: HostRuntime) -> Result<(), Fail> {
-    let lossy = Faults {
-        lose: 1,
-        repeat: 0,
-        restart: 0,
-    };
-    let counts = received(&rt, rt.alloc(), lossy)?;
+    let counts = received(&rt, rt.alloc(), LOSSY)?;
     holds(
-        Some(counts.iter().all(|count| *count == 0)),
+        Some(!some_arrive(&counts)),
         "no fact of another node is taken",
     )
 }
 
 #[test]
 fn repeated_parcels_are_taken_twice(rt: HostRuntime) -> Result<(), Fail> {
-    let repeating = Faults {
-        lose: 0,
-        repeat: 1,
-        restart: 0,
-    };
-    let counts = received(&rt, rt.alloc(), repeating)?;
-    holds(
-        Some(counts.iter().any(|count| *count > 0)),
-        "facts of other nodes are taken",
-    )?;
+    let counts = received(&rt, rt.alloc(), REPEATING)?;
+    holds(Some(some_arrive(&counts)), "facts of other nodes are taken")?;
     holds(
         Some(counts.iter().all(|count| *count % 2 == 0)),
         "each is taken twice",

@@ -1,7 +1,7 @@
 //! Four workers that wait for one another.
 
-use crate::given::{Given, NO_FAULTS, setup};
-use crate::watch::Watch;
+use super::given::{Given, NO_FAULTS, setup};
+use super::watch::Watch;
 use catalog::Catalog;
 use fact_audit::{Verdict, audit};
 use farm_work::Gate;

@@ -1,10 +1,10 @@
 //! Farms of one node and of four, without a turn and with a thousand, and with faults and without.
 
-use crate::given::{Given, NO_FAULTS, setup};
-use crate::watch::Watch;
+use super::given::{Given, NO_FAULTS, setup};
+use super::watch::Watch;
 use farm::FarmReport;
-use farm_setup::{FarmSetup, Faults};
-use farm_work::{Gate, Open};
+use farm_setup::Faults;
+use farm_work::Open;
 use netpbm::raw;
 use std::alloc::Global;
 use std::sync::Wait;
@@ -23,39 +23,35 @@ const FAULTS: Faults = Faults {
     restart: 5,
 };
 
-// The report of a farm, whose picture has to be the answer.
-fn answered<G: Gate + Sync, R: Threads + Wait + Sync>(
-    rt: &R,
-    alloc: Global,
-    given: &Given,
-    setup: &FarmSetup,
-    gate: &G,
-) -> Result<FarmReport, Fail> {
-    let report = given.run(rt, alloc, setup, gate)?;
+// Fails where the picture is not the answer.
+fn answers(alloc: Global, report: &FarmReport) -> Result<(), Fail> {
     let picture = report.answer.picture.as_ref().ok_or("no picture")?;
     holds(
         Some(raw(alloc, picture)?.as_slice() == ANSWER),
         "the picture",
-    )?;
-    Ok(report)
+    )
 }
 
-fn caller_makes_all<R: Threads + Wait + Sync>(
+// The report of a farm, whose picture has to be the answer.
+fn answered<R: Threads + Wait + Sync>(
     rt: &R,
     alloc: Global,
     nodes: u8,
+    turns: u32,
     faults: Faults,
-) -> Result<(), Fail> {
+) -> Result<FarmReport, Fail> {
     let given = Given::fourfold(alloc, false)?;
-    let report = answered(rt, alloc, &given, &setup(nodes, 0, 1, faults)?, &Open)?;
-    holds(Some(report.by_caller == 20), "the caller made twenty tiles")
+    let report = given.run(rt, alloc, &setup(nodes, turns, 1, faults)?, &Open)?;
+    answers(alloc, &report)?;
+    Ok(report)
 }
 
 #[test]
 fn without_turns_the_caller_makes_all(rt: HostRuntime) -> Result<(), Fail> {
     for nodes in [1, 4] {
         for faults in [NO_FAULTS, FAULTS] {
-            caller_makes_all(&rt, rt.alloc(), nodes, faults)?;
+            let report = answered(&rt, rt.alloc(), nodes, 0, faults)?;
+            holds(Some(report.by_caller == 20), "the caller made twenty tiles")?;
         }
     }
     Ok(())
@@ -66,32 +62,24 @@ fn one_node_makes_all(rt: HostRuntime) -> Result<(), Fail> {
     let alloc = rt.alloc();
     let given = Given::fourfold(alloc, false)?;
     let gate = Watch::new(alloc, &given.keys)?;
-    let report = answered(&rt, alloc, &given, &setup(1, 1000, 1, NO_FAULTS)?, &gate)?;
+    let report = given.run(&rt, alloc, &setup(1, 1000, 1, NO_FAULTS)?, &gate)?;
+    answers(alloc, &report)?;
     holds(Some(report.by_caller == 0), "the caller made no tile")?;
     holds(Some(gate.made_keys() == 20), "twenty tiles were made")
 }
 
-fn answers_all_the_same<R: Threads + Wait + Sync>(
-    rt: &R,
-    alloc: Global,
-    nodes: u8,
-    faults: Faults,
-) -> Result<(), Fail> {
-    let given = Given::fourfold(alloc, false)?;
-    let report = answered(rt, alloc, &given, &setup(nodes, 1000, 1, faults)?, &Open)?;
-    holds(
-        Some(report.closed.len() == usize::from(nodes)),
-        "an end of each node",
-    )
-}
-
 #[test]
 fn faults_change_no_answer(rt: HostRuntime) -> Result<(), Fail> {
-    answers_all_the_same(&rt, rt.alloc(), 1, FAULTS)?;
-    answers_all_the_same(&rt, rt.alloc(), 4, FAULTS)
+    for nodes in [1, 4] {
+        let report = answered(&rt, rt.alloc(), nodes, 1000, FAULTS)?;
+        let ends = report.closed.len();
+        holds(Some(ends == usize::from(nodes)), "an end of each node")?;
+    }
+    Ok(())
 }
 
 #[test]
 fn four_nodes_answer(rt: HostRuntime) -> Result<(), Fail> {
-    answers_all_the_same(&rt, rt.alloc(), 4, NO_FAULTS)
+    let report = answered(&rt, rt.alloc(), 4, 1000, NO_FAULTS)?;
+    holds(Some(report.closed.len() == 4), "an end of each node")
 }

@@ -1,0 +1,6 @@
+mod given;
+mod histories;
+mod meeting;
+mod runs;
+mod shares;
+mod watch;
