@@ -190,7 +190,10 @@ def steps(clone: str, times: Times) -> list[Step]:
     if not done[0].failed:
         done.append(run("conformance cases", clone, ["tests/run_cases", *PROGRAMS]))
         done.append(run("memory refused", clone, ["tests/refusals", BUILT]))
+        done.append(run("memory refused to each call", clone, ["tests/refused_calls/sweep"]))
         done.append(run("damaged pictures, fact files and scripts", clone, ["tests/damage", BUILT]))
+        done.append(run("limits, each at its value and one past", clone, ["tests/edges", BUILT]))
+        done.append(run("reads and writes that stop", clone, ["tests/stops", BUILT]))
         done.append(run("random jobs", clone, ["tests/fuzz", BUILT]))
         done.append(run("results of the examples", clone, ["examples/expected"]))
         done.append(run("page of the examples", clone, ["examples/show", "--check", BUILT]))

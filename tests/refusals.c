@@ -1,5 +1,6 @@
 /* Preloaded into a program: refuses its n-th growth of memory (n from REFUSE, from 1 on; none for 0), and writes to the
-   descriptor of REFUSALS_TO how many growths were asked for. Memory let go is no growth, nor is a block made smaller. */
+   descriptor of REFUSALS_TO how many growths were asked for. Memory let go is no growth, nor is a block made smaller.
+   With REFUSE_MARKED=1 only growths between two marks count: a request of MARK_BEGIN bytes, and one of MARK_END bytes. */
 #define _GNU_SOURCE
 #include <errno.h>
 #include <malloc.h>
@@ -14,8 +15,10 @@ extern void *__libc_calloc(size_t count, size_t size);
 extern void *__libc_realloc(void *block, size_t size);
 extern void *__libc_memalign(size_t alignment, size_t size);
 
+enum { MARK_BEGIN = 1234577, MARK_END = 1234579 };
+
 static unsigned long asked, refused;
-static int is_ready, to;
+static int is_ready, to, is_marked, is_within;
 
 static unsigned long number(const char *name) {
     const char *text = getenv(name);
@@ -25,6 +28,8 @@ static unsigned long number(const char *name) {
 __attribute__((constructor)) static void begin(void) {
     refused = number("REFUSE");
     to = (int)number("REFUSALS_TO");
+    is_marked = (int)number("REFUSE_MARKED");
+    is_within = !is_marked;
     is_ready = 1;
 }
 
@@ -47,7 +52,15 @@ void _exit(int status) {
 }
 
 static int is_refused(void) {
-    return is_ready && __atomic_add_fetch(&asked, 1, __ATOMIC_RELAXED) == refused;
+    int counts = is_ready && __atomic_load_n(&is_within, __ATOMIC_RELAXED);
+    return counts && __atomic_add_fetch(&asked, 1, __ATOMIC_RELAXED) == refused;
+}
+
+/* A mark is never refused, and counts for nothing. */
+static int is_mark(size_t size) {
+    if (!is_marked || (size != MARK_BEGIN && size != MARK_END)) return 0;
+    __atomic_store_n(&is_within, size == MARK_BEGIN, __ATOMIC_RELAXED);
+    return 1;
 }
 
 static void *no_memory(void) {
@@ -56,7 +69,7 @@ static void *no_memory(void) {
 }
 
 void *malloc(size_t size) {
-    return is_refused() ? no_memory() : __libc_malloc(size);
+    return !is_mark(size) && is_refused() ? no_memory() : __libc_malloc(size);
 }
 
 void *calloc(size_t count, size_t size) {

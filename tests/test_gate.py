@@ -38,8 +38,8 @@ STUBS = {
     "tests/run_cases": "cat \"$1\"\necho '6 passed, 1 failed'\nexit 1",
     "examples/expected": "exit 0",
     **{it: "echo '1 passed, 0 failed'" for it in ("tests/test_pages", "tools/make_usage", "tests/test_tf", "tests/test_errors",
-                                                  "tests/test_guide", "tests/refusals", "tests/damage", "tests/fuzz",
-                                                  "docs/gallery/make")},
+                                                  "tests/test_guide", "tests/refusals", "tests/refused_calls/sweep", "tests/damage",
+                                                  "tests/edges", "tests/stops", "tests/fuzz", "docs/gallery/make")},
     "examples/show": "echo 'a difference'\nexit 3",
 }
 
@@ -83,8 +83,8 @@ class Gate(unittest.TestCase):
         write(f"{self.top}/crates/small/src/lib.rt", "changed")
         status, lines = self.gate(PROVES)
         self.assertEqual(status, 1)
-        # proofs 3, edits 3, tests 5 and 1, cases 6 and one that fails, the results 1, the page fails, and six steps of one
-        self.assertEqual(lines[-1], "28 passed, 2 failed")
+        # proofs 3, edits 3, tests 5 and 1, cases 6 and one that fails, the results 1, the page fails, and twelve steps of one
+        self.assertEqual(lines[-1], "31 passed, 2 failed")
         self.assertIn("gate: HEAD is judged, and not these changes, which are not committed:", lines)
         self.assertIn(" M crates/small/src/lib.rt", lines)
         self.assertIn("small 0:01 1 of 1 2 1:01 0:30", [" ".join(it.split()) for it in lines])

@@ -1,0 +1,1 @@
+"""What tests/edges tries: jobs at each limit and one past it, prefixes of a text, farms that lose all, and little memory."""

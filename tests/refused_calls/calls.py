@@ -1,0 +1,117 @@
+"""The calls that may be refused memory, each with what it is given: a word of the program, the call, and what it is given."""
+from typing import NamedTuple
+
+
+class Call(NamedTuple):
+    word: str
+    name: str
+    given: str
+
+
+# Faults that are found without memory, so that nothing can be refused there.
+WITHOUT_MEMORY = ("read_cut", "of_output", "plan_nowhere", "run_tile_missing", "decode_cut", "lend_missing", "command_usage")
+
+# Those that are answered a fault with ample memory.
+FAULTS = (*WITHOUT_MEMORY, "check_cycle", "bounds_left", "make_missing")
+
+# Threads take memory of the system's library, in an order that no program sets: so many growths are tried there.
+FARMS = ("farm", "run_stream")
+MOST_OF_FARMS = 400
+
+CALLS = [Call(*it) for it in (
+    ("cover", "`Grid::cover`", "four tiles of one point"),
+    ("read_plain", "`netpbm::read`", "a plain picture"),
+    ("read_raw", "`netpbm::read`", "a raw picture"),
+    ("read_cut", "`netpbm::read`", "a cut raster"),
+    ("raw", "`netpbm::raw`", "a picture of four samples"),
+    ("parse", "`parse`", "a text with blanks and a comment"),
+    ("parse_chain", "`parse`", "two stencils in a chain"),
+    ("print", "`print`", "the tree of a text with blanks"),
+    ("check", "`check`", "a program that copies"),
+    ("check_cycle", "`check`", "two functions in a cycle"),
+    ("params", "`Params::of`", "two parameters"),
+    ("bounds", "`bounds`", "two stencils in a chain"),
+    ("bounds_left", "`bounds`", "a read that leaves its domain"),
+    ("bind", "`bind`", "a program that copies, and its picture"),
+    ("admit", "`Catalog::admit`", "the first job"),
+    ("admit_fifth", "`Catalog::admit`", "the fifth job"),
+    ("stored", "`Schedule::stored`", "two stencils in a chain"),
+    ("of", "`Schedule::of`", "the first of them inlined"),
+    ("of_output", "`Schedule::of`", "an output that is asked for"),
+    ("greedy", "`Schedule::greedy`", "two stencils in a chain"),
+    ("boxes", "`Schedule::boxes`", "a tile of the second"),
+    ("plan", "`TilePlan::of`", "the one tile of the copy"),
+    ("plan_stored", "`TilePlan::of`", "a tile that needs four"),
+    ("plan_inlined", "`TilePlan::of`", "a tile with an inlined stencil"),
+    ("plan_nowhere", "`TilePlan::of`", "a tile that is not there"),
+    ("plain", "`plain`", "a function that reads another"),
+    ("run_tile", "`run_tile`", "a tile with an inlined stencil"),
+    ("run_tile_stored", "`run_tile`", "a tile that needs four"),
+    ("run_tile_missing", "`run_tile`", "the same, and none is given"),
+    ("run_all", "`run_all`", "twenty tiles of two functions"),
+    ("partial", "`partial`", "a tile of a count"),
+    ("whole", "`whole`", "a count"),
+    ("answer_of", "`answer_of`", "a count"),
+    ("answer_of_picture", "`answer_of`", "a picture"),
+    ("encode", "`encode`", "two facts"),
+    ("decode", "`decode`", "two facts"),
+    ("decode_cut", "`decode`", "a cut file"),
+    ("audit", "`audit`", "a true fact"),
+    ("audit_false", "`audit`", "a false fact"),
+    ("copy", "`NodeState::copy`", "four facts"),
+    ("take", "`NodeState::take`", "the first fact"),
+    ("take_second", "`NodeState::take`", "a fact of another key"),
+    ("take_sixteenth", "`NodeState::take`", "a fact of a sixteenth key"),
+    ("take_disputed", "`NodeState::take`", "a second fact of a key"),
+    ("merge", "`NodeState::merge`", "two facts, one of them new"),
+    ("merge_several", "`NodeState::merge`", "three new facts, one of a key with a fact"),
+    ("merge_sixteenth", "`NodeState::merge`", "facts of a fourteenth to an eighteenth key"),
+    ("lend", "`NodeState::lend`", "two keys, three facts"),
+    ("lend_missing", "`NodeState::lend`", "a key that is not held"),
+    ("missing", "`NodeState::missing`", "nothing held"),
+    ("export", "`NodeState::export`", "three facts"),
+    ("make", "`NodeState::make`", "a tile with an inlined stencil"),
+    ("make_missing", "`NodeState::make`", "a tile that needs four"),
+    ("make_partial", "`NodeState::make`", "a tile of a count"),
+    ("answer", "`NodeState::answer`", "a picture"),
+    ("answer_partials", "`NodeState::answer`", "a count"),
+    ("world", "`World::new`", "two nodes and a job"),
+    ("step_make", "`World::step`", "a making"),
+    ("step_send", "`World::step`", "a sending"),
+    ("step_deliver", "`World::step`", "a delivery"),
+    ("step_merge", "`World::step`", "a merge"),
+    ("step_keep", "`World::step`", "a keeping"),
+    ("step_restart", "`World::step`", "a restart"),
+    ("run", "`World::run`", "seven events"),
+    ("finish", "`World::finish`", "twenty tiles, none held"),
+    ("script", "`World::script`", "seven lines"),
+    ("claim", "`Desk::claim`", "the first lease"),
+    ("claim_sixteenth", "`Desk::claim`", "the sixteenth lease"),
+    ("claim_book", "`DeskBook::claim`", "the first lease"),
+    ("claim_book_sixteenth", "`DeskBook::claim`", "the sixteenth lease"),
+    ("claim_live", "`LiveDesk::claim`", "the first lease"),
+    ("claim_live_sixteenth", "`LiveDesk::claim`", "the sixteenth lease"),
+    ("post", "`Post::new`", "five passes"),
+    ("book_lend", "`NodeBook::lend`", "two keys"),
+    ("book_take", "`NodeBook::take`", "two facts"),
+    ("book_keep", "`NodeBook::keep`", "two facts kept, three held, the fifth event"),
+    ("book_restart", "`NodeBook::restart`", "two facts kept, three held, the fifth event"),
+    ("open", "`LiveNode::open`", "two seats"),
+    ("node_state", "`LiveNode::state`", "two facts"),
+    ("node_lend", "`LiveNode::lend`", "two keys"),
+    ("node_take", "`LiveNode::take`", "two facts"),
+    ("node_keep", "`LiveNode::keep`", "two facts kept, three held, the fifth event"),
+    ("node_restart", "`LiveNode::restart`", "two facts kept, three held, the fifth event"),
+    ("close", "`LiveNode::close`", "one seat, one receipt"),
+    ("farm", "`Farm::run`", "two nodes, twenty tiles"),
+    ("eval_stream", "`eval_stream`", "twenty tiles of two functions"),
+    ("check_stream", "`check_stream`", "a program that copies"),
+    ("plan_stream", "`plan_stream`", "two stencils in a chain"),
+    ("world_stream", "`world_stream`", "two nodes, seven events"),
+    ("merge_stream", "`merge_stream`", "two files of a fact"),
+    ("audit_stream", "`audit_stream`", "a true and a false fact"),
+    ("run_stream", "`run_stream`", "two nodes, twenty tiles"),
+    ("command", "`run_command`", "`eval` of a copy"),
+    ("command_merge", "`run_command`", "`merge` of two files"),
+    ("command_usage", "`run_command`", "a command that is not there"),
+)]
