@@ -1,5 +1,7 @@
 .PHONY: build cases check demo edits fuzz test tools
 program := crates/tilefarm/out/tilefarm
+# The same program for processors with AVX2: where this machine's has that, and "make build" left it behind the other one.
+wide = $(shell grep -qw avx2 /proc/cpuinfo && [ $(program).x86-64-v3 -nt $(program) ] && echo $(program).x86-64-v3)
 
 # Evaluates the edge detector on its picture, without any proof, and shows the program, the picture and the result.
 demo:
@@ -27,13 +29,14 @@ NAME := $(wordlist 2,$(words $(MAKECMDGOALS)),$(MAKECMDGOALS))
 $(eval $(if $(NAME),$(NAME):;@:))
 endif
 
-# The proved program, over kept work, as fast as the machine allows, without any wrong body or test.
+# The proved program, over kept work, as fast as the machine allows, without any wrong body or test; and one for processors with
+# AVX2, where this machine's has that.
 build:
 	@tests/build
 
-# The conformance cases, on the program that stands built.
+# The conformance cases, on the programs that stand built.
 cases: | $(program)
-	@tests/run_cases $(program)
+	@tests/run_cases $(program) $(wide)
 
 # Random jobs on the program that stands built, from a seed on: make fuzz CASES=5000 SEED=7.
 fuzz: | $(program)

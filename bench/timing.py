@@ -1,5 +1,6 @@
 """Runs tilefarm and the C programs on the same pictures as whole processes, in turn, and compares what they write."""
 import argparse
+import glob
 import os
 import random
 import statistics
@@ -7,15 +8,64 @@ import subprocess
 import sys
 import tempfile
 import time
+from typing import NamedTuple
 
 TOP = os.path.dirname(os.path.dirname(os.path.abspath(__file__)))
 PROGRAM = f"{TOP}/crates/tilefarm/out/tilefarm"
-PIPELINES = ("copy", "blur", "half", "sobel", "unsharp", "harris", "histogram")
+
+
+class Pipeline(NamedTuple):
+    """The kind of picture that a program takes. Its parameters, if the picture does not give them, are a part of the picture's sides."""
+
+    kind: str = "grey"
+    part: int = 1
+    names: tuple = ()
+
+
+class Suite(NamedTuple):
+    """Pipelines by name, where their texts are, and the same pipelines in C."""
+
+    pipelines: dict
+    texts: str
+    sources: str
+
+    def text(self, name):
+        return content(f"{TOP}/{self.texts.format(name)}")
+
+
+FIFTEEN = Suite({
+    "copy": Pipeline(), "grey": Pipeline("colour"), "blur": Pipeline(), "unsharp": Pipeline("colour"), "sobel": Pipeline(),
+    "harris": Pipeline(), "median": Pipeline(), "conv15": Pipeline(), "bilateral": Pipeline(),
+    "pyramid": Pipeline("grey", 16, ("H", "W")), "blend": Pipeline("colour", 8, ("H", "W")),
+    "interpolate": Pipeline("sparse", 16, ("H", "W")), "camera": Pipeline("raw"), "histogram": Pipeline(), "minmax": Pipeline(),
+}, "bench/pipelines/{0}.pipe", "bench/c/*.c")
+EXAMPLES = Suite({
+    "copy": Pipeline(), "blur": Pipeline(), "half": Pipeline("grey", 2, ("R", "C")), "sobel": Pipeline(), "unsharp": Pipeline(),
+    "harris": Pipeline(), "histogram": Pipeline(),
+}, "examples/{0}/{0}.pipe", "bench/pipelines.c")
 
 
 def content(path):
     with open(path, "rb") as file:
         return file.read()
+
+
+def picture(kind, rows, cols):
+    """A random raw picture: 'grey' and 'colour' have bytes, 'raw' has ten bits, and in 'sparse' blue is 0 but at each 16th point of the
+    lower half."""
+    area, chance = rows * cols, random.Random(1)
+    if kind == "grey":
+        return f"P5\n{cols} {rows}\n255\n".encode() + chance.randbytes(area)
+    if kind == "raw":
+        words = bytearray(chance.randbytes(2 * area))
+        words[0::2] = words[0::2].translate(bytes(high & 3 for high in range(256)))
+        return f"P5\n{cols} {rows}\n1023\n".encode() + words
+    colours = bytearray(chance.randbytes(3 * area))
+    if kind == "sparse":
+        blue, places = bytearray(area), range(area // 2, area, 16)
+        blue[places.start::16] = chance.randbytes(len(places))
+        colours[2::3] = blue
+    return f"P6\n{cols} {rows}\n255\n".encode() + colours
 
 
 class Command:
@@ -37,70 +87,100 @@ class Command:
         return (time.perf_counter() - start) * 1000
 
     def megabytes(self):
-        """The most memory that one run holds at once, as GNU time tells."""
+        """The greatest resident set of one run, as GNU time tells."""
         note = f"{self.result}.memory"
         self.run(("/usr/bin/time", "-f", "%M", "-o", note))
         return int(content(note).split()[-1]) * 1024 / 1e6
 
 
 class Bench:
-    """A folder with the C programs, built, and one random picture."""
+    """A folder with the C program, built where no other is named, and random pictures of so many rows and columns."""
 
-    def __init__(self, room, side):
-        self.room, self.side = room, side
-        self.native = f"{room}/pipelines"
-        self.picture = f"{room}/picture.pgm"
-        subprocess.run(["gcc", "-O3", "-march=native", "-o", self.native, f"{TOP}/bench/pipelines.c"], check=True)
-        with open(self.picture, "wb") as file:
-            file.write(f"P5\n{side} {side}\n255\n".encode() + random.Random(1).randbytes(side * side))
+    def __init__(self, room, known, rows, cols):
+        self.room, self.suite, self.program, self.rows, self.cols = room, known.suite, known.program, rows, cols
+        self.native, self.held = known.c or f"{room}/pipelines", None
+        if not known.c:
+            sources = sorted(glob.glob(f"{TOP}/{self.suite.sources}"))
+            subprocess.run(["gcc", "-O3", f"-march={known.march}", "-o", self.native, *sources], check=True)
+
+    def sides(self, name):
+        """The rows and columns of a pipeline's picture, of which its parameters are a whole part."""
+        part = self.suite.pipelines[name].part
+        return self.rows // part * part, self.cols // part * part
+
+    def picture(self, name):
+        kind, (rows, cols) = self.suite.pipelines[name].kind, self.sides(name)
+        path = f"{self.room}/{kind}.{rows}.{cols}"
+        if not os.path.exists(path):
+            with open(path, "wb") as file:
+                file.write(picture(kind, rows, cols))
+        return path
 
     def c(self, name):
-        return Command([self.native, name], self.picture, f"{self.room}/c.result")
+        return Command([self.native, name], self.picture(name), f"{self.room}/c.result")
 
     def parameters(self, name):
-        """The values of parameters that the picture does not give: the sides of half's result."""
-        return [f"R={self.side // 2}", f"C={self.side // 2}"] if name == "half" else []
+        """The values of parameters that the picture does not give."""
+        pipeline = self.suite.pipelines[name]
+        return [f"{word}={side // pipeline.part}" for word, side in zip(pipeline.names, self.sides(name))]
 
     def tilefarm(self, name, options):
-        source = f"{self.room}/{name}.input"
-        if not os.path.exists(source):
+        source = f"{self.room}/tilefarm.input"
+        if self.held != name:
             with open(source, "wb") as file:
-                file.write(content(f"{TOP}/examples/{name}/{name}.pipe") + b"%%\n" + content(self.picture))
-        return Command([PROGRAM, "eval", *options, *self.parameters(name)], source, f"{self.room}/tilefarm.result")
+                file.write(self.suite.text(name) + b"%%\n" + content(self.picture(name)))
+            self.held = name
+        return Command([self.program, "eval", *options, *self.parameters(name)], source, f"{self.room}/tilefarm.result")
+
+
+def times(commands, rounds):
+    """The milliseconds of each command in each round, all run in turn; each must write what the first writes."""
+    found = [[] for _ in commands]
+    for _ in range(rounds):
+        for command, own in zip(commands, found):
+            own.append(command.milliseconds())
+            if content(command.result) != content(commands[0].result):
+                sys.exit(f"{' '.join(command.words)} writes another result than {' '.join(commands[0].words)}")
+    return found
 
 
 def medians(commands, rounds):
-    """The median milliseconds of each command, all run in turn; each must write what the first writes."""
-    times = []
-    for _ in range(rounds):
-        times.append([])
-        for command in commands:
-            times[-1].append(command.milliseconds())
-            if content(command.result) != content(commands[0].result):
-                sys.exit(f"{' '.join(command.words)} writes another result than {' '.join(commands[0].words)}")
-    return [statistics.median(each) for each in zip(*times)]
+    return [statistics.median(each) for each in times(commands, rounds)]
+
+
+def rows_and_cols(word):
+    """The sides of a picture, as 1024 or as 37x53."""
+    rows, _, cols = word.partition("x")
+    return int(rows), int(cols or rows)
 
 
 def arguments(usage):
     """The arguments that all scripts of the bench take."""
     words = argparse.ArgumentParser(usage=usage, allow_abbrev=False, add_help=False)
     words.add_argument("--rounds", type=int, default=7)
-    words.add_argument("--side", type=int, nargs="+", default=[1024])
-    words.add_argument("--only", nargs="+", choices=PIPELINES, default=PIPELINES)
+    words.add_argument("--side", type=rows_and_cols, nargs="+", default=[(1024, 1024)])
+    words.add_argument("--examples", dest="suite", action="store_const", const=EXAMPLES, default=FIFTEEN)
+    words.add_argument("--only", nargs="+", choices=sorted({*FIFTEEN.pipelines, *EXAMPLES.pipelines}))
+    words.add_argument("--program", type=os.path.abspath, default=PROGRAM)
+    words.add_argument("--march", default="native")
+    words.add_argument("--c", type=os.path.abspath)
     return words
 
 
 def parsed(words):
     """What the command line says, and its other words, which go to tilefarm."""
     known, options = words.parse_known_args()
-    if not os.path.exists(PROGRAM):
-        sys.exit(f"{PROGRAM} is not there: 'make test' builds it")
+    known.only = known.only or [*known.suite.pipelines]
+    if unknown := {*known.only}.difference(known.suite.pipelines):
+        sys.exit(f"no pipeline of these has the name {', '.join(sorted(unknown))}")
+    if not os.path.exists(known.program):
+        sys.exit(f"{known.program} is not there: 'make build' builds it")
     return known, options
 
 
-def benches(sides):
-    """A bench for each side of the picture, in memory where the system has a place for files there."""
+def benches(known):
+    """A bench for each size of picture, in memory where the system has a place for files there, behind words for the size."""
     place = "/dev/shm" if os.path.isdir("/dev/shm") else None
-    for side in sides:
+    for rows, cols in known.side:
         with tempfile.TemporaryDirectory(dir=place) as room:
-            yield side, Bench(room, side)
+            yield f"{rows} by {cols}", Bench(room, known, rows, cols)
