@@ -26,9 +26,10 @@ pub fn task_reply(
     asked: &Asked<'_>,
     job: Job,
 ) -> Result<Reply, AllocError>
-    ensures { IfOk result (λ reply. (tree : List Declaration) → program_text_in job ≡ canonical tree
-        → saying_of asked.now.question asked.now.options.now.stored asked.now.options.now.percent tree
-        (pipeline_in job) (reply_bytes reply)) }
+    ensures { IfOk result (λ reply. (tree : List Declaration)
+        → program_text_in job ≡ canonical tree
+        → saying_of asked.now.question asked.now.options.now.stored
+        asked.now.options.now.percent tree (pipeline_in job) (reply_bytes reply)) }
 {
     let alloc = rt.alloc();
     match asked.question {

@@ -98,7 +98,8 @@ fn task_stream<H: AllocGlobal + Threads + Sync, R: Source, W: Sink>(
 ) -> Result<(), StreamFault>
     ensures written { let options = asked.now.options.now in
         Writes (saying_of_job (saying_of asked.now.question options.stored options.percent)
-        asked.now.parameters.now options.sides) (refusing_job asked.now.parameters.now options.sides)
+        asked.now.parameters.now options.sides)
+        (refusing_job asked.now.parameters.now options.sides)
         (R.remaining reader.old) result (W.contents writer.old) (W.contents writer.new) }
     ensures read { CountsRead result (R.failures reader.old) (R.failures reader.new) }
     ensures write { CountsWritten result (W.failures writer.old) (W.failures writer.new) }
@@ -115,8 +116,8 @@ fn input_reply<H: AllocGlobal + Threads + Sync>(
     input: Vec<u8>,
 ) -> Result<Reply, StreamFault>
     ensures said { let options = asked.now.options.now in IfOk result (λ reply. IsSaid
-        (saying_of asked.now.question options.stored options.percent) asked.now.parameters.now options.sides
-        input.items (reply_bytes reply)) }
+        (saying_of asked.now.question options.stored options.percent)
+        asked.now.parameters.now options.sides input.items (reply_bytes reply)) }
     ensures fault { IfErr result
         (IsFaultOf input.items asked.now.parameters.now asked.now.options.now.sides) }
 {

@@ -64,7 +64,8 @@ pub fn write_offset<W: Sink>(writer: &mut W, offset: Option<usize>) -> Result<()
 
 /// The words, and a number that is counted behind them.
 pub fn write_count<W: Sink>(writer: &mut W, words: &[u8], count: usize) -> Result<(), WriteFailed>
-    ensures { Takes result (words.now ++ decimal count) (W.contents writer.old) (W.contents writer.new)
+    ensures { Takes result (words.now ++ decimal count)
+        (W.contents writer.old) (W.contents writer.new)
         (W.failures writer.old) (W.failures writer.new) }
 {
     let mut digits = Buffer::new();
