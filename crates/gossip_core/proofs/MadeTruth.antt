@@ -1,16 +1,15 @@
 -- What is made of a tile is true, where all is true that is held of the tiles that it needs.
-use Rattle.std.proofs.Common.{ℕ, ◌≡◌, Bool, List, map, refl, sym, ap, ◌∙◌}
+use Rattle.std.proofs.Common.{◌≡◌, Bool, List, refl, sym, ap, ◌∙◌}
 use Rattle.std.specs.List.{flat_map}
 use Rattle.accumulators.proofs.LastStepIsTile.{only_area}
 use Rattle.accumulators.proofs.TrueTilesGiveTotals.{layout_totals_true}
 use Rattle.accumulators.specs.Partials.{local_totals}
 use Rattle.catalog.specs.Entries.{AreJobs, Entry, IsCatalog}
 use Rattle.catalog.specs.declared.ids.Ids.{Ids}
-use Rattle.domains.specs.Area.{point_count}
 use Rattle.domains.specs.declared.area.Area.{Area}
 use Rattle.fact_audit.specs.TrueFacts.{BodyIsTrue, IsTrueFact}
 use Rattle.fact_audit.specs.Verdicts.{HasEntry}
-use Rattle.grouping.specs.Costs.{inner_steps, points, scratch, steps}
+use Rattle.grouping.specs.Costs.{points, steps}
 use Rattle.grouping.specs.Targets.{Target, target_over}
 use Rattle.identity.specs.declared.key.Key.{Key}
 use Rattle.job.specs.Pipeline.{Pipeline}
@@ -19,7 +18,7 @@ use Rattle.overlap_tiles.proofs.MadeIsLayout.{layout_in}
 use Rattle.overlap_tiles.proofs.RangesHaveRoom.{have_room}
 use Rattle.overlap_tiles.specs.Needs.{needed_keys}
 use Rattle.overlap_tiles.specs.Plans.{IsTileAt, IsTileLayout, IsTilePlan, Plan, layout_of}
-use Rattle.overlap_tiles.specs.inside.Made.{end_to_end}
+use Rattle.overlap_tiles.specs.inside.Made.{ranges_for, size_of}
 use Rattle.sha2.specs.Sha256.{sha256}
 use Rattle.tile_eval.specs.Buffer.{raster}
 use Rattle.tile_fact.specs.declared.body.Body.{Body}
@@ -67,8 +66,8 @@ module _ (jobs : List Entry) (s : State) (inlining : List Bool) (fact : Fact) (c
     needs = needs_for key target;
     steps = steps target;
     points = points target;
-    ranges = end_to_end 0 (map (λ (b : ℕ × Area). point_count b.1) (inner_steps target));
-    scratch = scratch target;
+    ranges = ranges_for target;
+    scratch = size_of (ranges_for target);
     inlining = inlining;
   }
 

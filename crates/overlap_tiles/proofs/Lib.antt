@@ -1,6 +1,5 @@
 pub mod Lists
 pub mod PointsAreFew
-pub mod RangesHaveRoom
 pub mod KeysRise
 pub mod TilesAreTargets
 pub mod BoxesAreFound
@@ -8,7 +7,13 @@ pub mod NeedsAreExact
 pub mod MadeIsLayout
 pub mod BoxesAreLower
 pub mod StepsRise
+pub mod Gaps
+pub mod LaidApart
+pub mod LastReaders
+pub mod RangesHaveRoom
+pub mod PlacesAreFound
 pub mod StepsHaveWhatTheyRead
+pub mod RangesAreOne
 pub mod WorkKeys
 pub mod RoomIsExact
 pub mod WorkIsExact

@@ -12,8 +12,8 @@ use Rattle.job.specs.Answers.{Tile}
 use Rattle.job.specs.WellFormed.{IsJob}
 use Rattle.grouping.specs.Schedules.{is_inlined}
 use Rattle.grouping.specs.Targets.{Target, boxes, target_over}
-use Rattle.grouping.specs.Costs.{points_in, inner_steps, scratch}
-use Rattle.overlap_tiles.specs.inside.Made.{stage_needs, end_to_end}
+use Rattle.grouping.specs.Costs.{points_in, inner_steps}
+use Rattle.overlap_tiles.specs.inside.Made.{stage_needs, last_readers, ranges_by, ranges_for, size_of}
 use Rattle.overlap_tiles.specs.declared.needs.Need.{Need}
 use Rattle.overlap_tiles.specs.Needs.{needs, key_of, key_tile}
 use Rattle.overlap_tiles.specs.Plans.{Layout, IsLayout, IsTileLayout, Plan, IsTilePlan, layout_of}
@@ -37,24 +37,24 @@ pub record IsMade (t : Target) (p : Layout) : Type 0 where
   pub kept : inner ≡ filter (λ s. is_inlined t.inlining s.0) (boxes t)
   pub needs : p.needs ≡ flat_map (stage_needs t.job t.inlining (boxes t)) (range_with_len 0 (length t.job.stages))
   pub steps : p.steps ≡ inner ++ (t.stage, t.region) ∷ []
-  pub scratch : p.scratch ≡ points_in inner
   pub points : p.points ≡ points_in inner + point_count t.region
-  pub ranges : p.ranges ≡ end_to_end 0 (map (λ s. point_count s.1) inner)
+  pub ranges : p.ranges ≡ ranges_by (last_readers t.job (inner ++ (t.stage, t.region) ∷ [])) inner
+  pub scratch : p.scratch ≡ size_of p.ranges
   pub inlining : p.inlining ≡ t.inlining
 
 pub is_layout : (t : Target) (p : Layout) → IsMade t p → IsLayout t p
 is_layout t p made =
     let kept : made.inner ≡ inner_steps t = made.kept in
-    let ranges : end_to_end 0 (map (λ s. point_count s.1) (inner_steps t)) ≡ p.ranges = sym
-    (made.ranges ∙ ap (λ (ss : List (ℕ × Area)). end_to_end 0 (map (λ s. point_count s.1) ss)) kept) in
-    let size : scratch t ≡ p.scratch = sym (made.scratch ∙ ap points_in kept) in
+    let ranges : p.ranges ≡ ranges_for t = made.ranges
+    ∙ ap (λ (ss : List (ℕ × Area)). ranges_by (last_readers t.job (ss ++ (t.stage, t.region) ∷ [])) ss) kept in
+    let size : p.scratch ≡ size_of (ranges_for t) = made.scratch ∙ ap size_of ranges in
     record {
       needs = made.needs ∙ needs_made t;
       steps = made.steps ∙ ap (λ (ss : List (ℕ × Area)). ss ++ (t.stage, t.region) ∷ []) kept;
       points = made.points ∙ ap (λ (ss : List (ℕ × Area)). points_in ss + point_count t.region) kept
           ∙ sym (points_in-push (inner_steps t) (t.stage, t.region));
-      ranges =
-          subst (λ (n : ℕ). HaveRoom t p.ranges n) size (subst (λ (rs : List (ℕ × ℕ)). HaveRoom t rs (scratch t)) ranges (have_room t));
+      ranges = subst (λ (n : ℕ). HaveRoom t p.ranges n) (sym size)
+          (subst (λ (rs : List (ℕ × ℕ)). HaveRoom t rs (size_of (ranges_for t))) (sym ranges) (have_room t));
       inlining = made.inlining;
     }
 

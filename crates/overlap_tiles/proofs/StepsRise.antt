@@ -1,8 +1,9 @@
 -- Ranks rise along the steps of a target.
-use Rattle.std.proofs.Common.{ℕ, arith, ◌≤◌, ◌≡◌, inl, inr, Bool, true, false, not, eqb, Option, Some, None, [], ◌∷◌, refl, sym}
-use Rattle.std.proofs.Common.{ap, ◌∙◌, subst}
+use Rattle.std.proofs.Common.{ℕ, arith, ◌<◌, ◌≤◌, ◌≡◌, inl, inr, Bool, true, false, not, eqb, Option, Some, None, [], ◌∷◌, refl, sym}
+use Rattle.std.proofs.Common.{ap, ◌∙◌, subst, get_or, slice_get}
 use Rattle.std.specs.Prelude.{AllPairs, Contains, if◌then◌else◌}
-use Rattle.std.proofs.lemmas.Bool.{and_parts, not-true, eq-eqb}
+use Rattle.std.proofs.lemmas.Bool.{and_parts, not-true, eq-eqb, cases_lt}
+use Rattle.std.proofs.lemmas.Option.{slice_get_within, get_or_from_slice_get}
 use Rattle.std.proofs.lemmas.List.Elements.{Contains-append_cases}
 use Rattle.std.proofs.lemmas.List.Kept.{AllPairs-filter}
 use Rattle.domains.specs.declared.area.Area.{Area}
@@ -58,6 +59,45 @@ boxes_rise t =
     let first = ap (rank_of t.job.stages) (numbered_is t g x here).0 in
     let second = ap (rank_of t.job.stages) (numbered_is t h y there).0 in
     elim below [ inl less ↦ omega arith | inr both ↦ (let same = both.0 in omega arith) ])
+
+-- one rank or number lies below the other, so that no stage has two steps before the last
+abbrev ComesFirst : Target → ℕ × Area → ℕ × Area → Type 0
+ComesFirst t x y = ComesBefore t.job.stages x.0 y.0
+
+one_first : (t : Target) (g : ℕ) (b : Bool) (o : Option Area) → AllPairs (ComesFirst t) (if b then with_number g o else [])
+one_first t g false o = λ i j d p q. absurd (omega (arith, q))
+one_first t g true None = λ i j d p q. absurd (omega (arith, q))
+one_first t g true (Some a) = λ i j d p q. absurd (omega (arith, p, q))
+
+inner_first : (t : Target) → AllPairs (ComesFirst t) (inner_steps t)
+inner_first t =
+    AllPairs-filter (ComesFirst t) (λ s. is_inlined t.inlining s.0) (boxes t)
+    (AllPairs-flat_map (ComesBefore t.job.stages) (ComesFirst t) (numbered_box t) (in_order t.job.stages) (order_pairs t.job.stages)
+    (λ g. one_first t g (is_boxed t g) (box t g))
+    (λ g h below x y here there.
+    subst (λ (n : ℕ). ComesBefore t.job.stages n y.0) (sym (numbered_is t g x here).0)
+    (subst (λ (n : ℕ). ComesBefore t.job.stages g n) (sym (numbered_is t h y there).0) below)))
+
+not_before_itself : (t : Target) (g h : ℕ) → g ≡ h → ComesBefore t.job.stages g h → ⊥
+not_before_itself t g h same before =
+    let ranks = ap (rank_of t.job.stages) same in
+    elim before [ inl less ↦ omega arith | inr both ↦ (let numbers = both.1 in omega arith) ]
+
+not_earlier : (t : Target) (k n g : ℕ) (a b : Area) → slice_get (inner_steps t) k ≡ Some (g, a) → slice_get (inner_steps t) n ≡ Some (g, b)
+    → k < n → ⊥
+not_earlier t k n g a b here there less =
+    let first : get_or (inner_steps t) k (g, b) ≡ (g, a) = get_or_from_slice_get (inner_steps t) k (g, a) (g, b) here in
+    let second : get_or (inner_steps t) n (g, b) ≡ (g, b) = get_or_from_slice_get (inner_steps t) n (g, b) (g, b) there in
+    not_before_itself t (get_or (inner_steps t) k (g, b)).0 (get_or (inner_steps t) n (g, b)).0
+    (ap (λ (x : ℕ × Area). x.0) first ∙ sym (ap (λ (x : ℕ × Area). x.0) second))
+    (inner_first t k n (g, b) less (slice_get_within (inner_steps t) n (g, b) there))
+
+pub one_place : (t : Target) (k n g : ℕ) (a b : Area) → slice_get (inner_steps t) k ≡ Some (g, a)
+    → slice_get (inner_steps t) n ≡ Some (g, b) → k ≡ n
+one_place t k n g a b here there = elim (cases_lt k n) [
+  | inl less ↦ absurd (not_earlier t k n g a b here there less)
+  | inr most ↦ elim (cases_lt n k) [ inl less ↦ absurd (not_earlier t n k g b a there here less) | inr same ↦ omega arith ]
+]
 
 pub steps_rise : (t : Target) → IsRanked t.job.stages → AllPairs (IsBelow t) (steps t)
 steps_rise t ranked =

@@ -1,6 +1,7 @@
 pub mod Needs
 pub mod Views
 pub mod Lives
+pub mod Places
 pub mod Ranges
 pub mod Plans
 pub mod Work

@@ -13,6 +13,7 @@ ghost use Rattle.overlap_tiles.specs.Work.{work_tiles, lacks_room, IsWork, IsWor
 ghost use Rattle.overlap_tiles.specs.Plans.{IsPlanFault};
 ghost use Rattle.overlap_tiles.specs.declared.fault.PlanFault.TheVariants.{ScratchTooBig};
 ghost use Rattle.overlap_tiles.specs.Lives.{IsReadAt, LivesMeet};
+ghost use Rattle.overlap_tiles.specs.Ranges.{LieApart, HaveRoom};
 ghost use Rattle.overlap_tiles.specs.Available.{ReadsAvailable};
 
 /// The list of what a target needs has exactly the tiles of stored functions that have a point of their function's box; they
@@ -41,6 +42,20 @@ pub fn steps_lie_in_domains()
 pub fn lives_last_to_the_reader()
     ensures { (job : Pipeline) (steps : List (ℕ × Area)) (k l m : ℕ) → k < l → l ≤ m
         → IsReadAt job steps k m → LivesMeet job steps k l }
+{}
+
+/// While a step is still to be read, no step between writes over its range.
+pub fn what_is_read_is_not_written_over()
+    ensures { (t : Target) (ranges : List (ℕ × ℕ)) (size k l m : ℕ) (a b : ℕ × ℕ)
+        → HaveRoom t ranges size → k < l → l ≤ m → IsReadAt t.job (steps t) k m
+        → slice_get ranges k ≡ Some a → slice_get ranges l ≡ Some b → LieApart a b }
+{}
+
+/// A target has one list of ranges with room, in scratch memory of one size.
+pub fn ranges_are_determined()
+    ensures some { (t : Target) → (ranges : List (ℕ × ℕ)) × (size : ℕ) × HaveRoom t ranges size }
+    ensures one { (t : Target) (xs : List (ℕ × ℕ)) (m : ℕ) (ys : List (ℕ × ℕ)) (n : ℕ)
+        → HaveRoom t xs m → HaveRoom t ys n → (xs ≡ ys) × (m ≡ n) }
 {}
 
 /// The list of all work tiles has exactly the tiles of stored functions and of accumulators, each once, in dependence order of

@@ -1,23 +1,30 @@
 #![tactic(auto)]
 //! The layout of a tile: what its plan says without identities.
 
-ghost use Rattle.std.specs.Prelude.{◌≡◌, map, IfOk, IfErr, IfSome, IfNone};
+ghost use Rattle.std.specs.Prelude.{◌≡◌, ◌≤◌, ◌++◌, ◌∷◌, [], map, IfOk, IfErr, IfSome, IfNone};
 ghost use Rattle.domains.specs.Area.{IsArea};
 ghost use Rattle.job.specs.Identity.{HasTileAt};
 ghost use Rattle.job.specs.Kept.{pipeline_in};
+ghost use Rattle.grouping.specs.Costs.{points_in, most_scratch};
 ghost use Rattle.grouping.specs.Schedules.{is_inlined};
 ghost use Rattle.grouping.specs.Targets.{boxes, target_over};
 ghost use Rattle.overlap_tiles.specs.Plans.{IsTileAt, IsTileLayout, IsFittingLayout, IsTargetFault, IsPlanFault};
+ghost use Rattle.overlap_tiles.specs.Places.{IsPlaceOf, HasNoPlace};
+ghost use Rattle.overlap_tiles.specs.Ranges.{LieWithin};
 ghost use Rattle.overlap_tiles.specs.Views.{step_view, need_view};
+ghost use Rattle.overlap_tiles.specs.inside.Made.{last_readers, ranges_by};
+ghost use Rattle.overlap_tiles.specs.inside.Placed.{ArePlaces};
 
 use crate::fault::PlanFault;
+use crate::lives::{last_readers, mark};
 use crate::needs::{Need, needs};
-use crate::ranges::end_to_end;
+use crate::places::{place_in, places};
+use crate::ranges::{ranges, size};
 use crate::steps::{Step, inner_steps, points, scratch_points, with_target};
 use domains::Area;
 use grouping::Schedule;
 use job::Job;
-use std::alloc::Global;
+use std::alloc::{AllocError, Global};
 use std::marker::Model;
 
 /// What makes one tile, without identities: the stored tiles that it needs, what is computed in which order, and where each
@@ -30,6 +37,8 @@ pub struct Layout<'a> {
     points: u64,
     ranges: Vec<(usize, usize)>,
     scratch: usize,
+    places: Vec<Option<usize>>,
+    ghost placed: { ArePlaces (map step_view steps.items) places.items },
 }
 
 impl<'a> Model for Layout<'a> {
@@ -60,6 +69,28 @@ fn tile_area(job: &Job, stage: usize, row: u32, col: u32) -> Option<Area>
     ensures none { IfNone result (¬ (HasTileAt (pipeline_in job.now) stage row col)) }
 {
     job.grid(stage)?.tile(row, col)
+}
+
+// The ranges of the steps before the target.
+fn inner_ranges(
+    alloc: Global,
+    job: &Job,
+    inner: &[Step],
+    target: Step,
+) -> Result<Vec<(usize, usize)>, AllocError>
+    requires { points_in (map step_view inner.now) ≤ most_scratch }
+    ensures ranges { IfOk result (λ ranges. ranges.items
+        ≡ ranges_by (last_readers (pipeline_in job.now)
+        (map step_view inner.now ++ step_view target ∷ []))
+        (map step_view inner.now)) }
+    ensures within { IfOk result (λ ranges. LieWithin most_scratch ranges.items) }
+{
+    if inner.is_empty() {
+        return Ok(Vec::new(alloc));
+    }
+    let mut lasts = last_readers(alloc, job, inner)?;
+    mark(&mut lasts, alloc, job, target.stage, inner.len())?;
+    ranges(alloc, inner, &lasts)
 }
 
 impl<'a> Layout<'a> {
@@ -108,19 +139,22 @@ impl<'a> Layout<'a> {
             (target_over (pipeline_in job.now) schedule.now.inlining target.stage target.area)) }
     {
         let steps = inner_steps(alloc, schedule, found)?;
-        let Some(scratch) = scratch_points(&steps) else {
+        let Some(inner) = scratch_points(&steps) else {
             return Err(PlanFault::ScratchTooBig);
         };
-        let ranges = end_to_end(alloc, &steps)?;
         let needs = needs(alloc, job, schedule, found)?;
+        let places = places(alloc, job, &steps)?;
+        let ranges = inner_ranges(alloc, job, &steps, target)?;
+        let scratch = size(&ranges);
         let all = with_target(steps, target)?;
         Ok(Layout {
             schedule,
             needs,
             steps: all,
-            points: scratch + points(&target.area),
+            points: inner + points(&target.area),
             ranges,
-            scratch: scratch as usize,
+            scratch,
+            places,
         })
     }
 
@@ -145,18 +179,27 @@ impl<'a> Layout<'a> {
         self.points
     }
 
-    /// Where the steps but the last lie in scratch memory, each by its start and its length.
-    pub(crate) fn ranges(&self) -> &[(usize, usize)]
+    /// Where the steps but the last lie in scratch memory, each by its start and its length. In their order each starts at the
+    /// least place where it meets no range that is still to be read.
+    pub fn ranges(&self) -> &[(usize, usize)]
         ensures { result.now ≡ self.now.ranges }
     {
         &self.ranges
     }
 
     /// How many points the scratch memory has.
-    pub(crate) fn scratch(&self) -> usize
+    pub fn scratch(&self) -> usize
         ensures { result ≡ self.now.scratch }
     {
         self.scratch
+    }
+
+    /// The place of this stage among the steps but the last; none where it is not among them.
+    pub fn place(&self, stage: usize) -> Option<usize>
+        ensures some { IfSome result (IsPlaceOf self.now.steps stage) }
+        ensures none { IfNone result (HasNoPlace self.now.steps stage) }
+    {
+        place_in(&self.places, stage)
     }
 
     /// Whether the stage of this number is inlined by the schedule that it was made by.

@@ -93,7 +93,8 @@ impl<'a> TilePlan<'a> {
         self.layout.points()
     }
 
-    /// Where the steps but the last lie in scratch memory, each by its start and its length.
+    /// Where the steps but the last lie in scratch memory, each by its start and its length. In their order each starts at the
+    /// least place where it meets no range that is still to be read.
     pub fn ranges(&self) -> &[(usize, usize)]
         ensures { result.now ≡ self.now.ranges }
     {

@@ -1,27 +1,124 @@
 #![tactic(auto)]
 //! Where steps lie in scratch memory.
 
-ghost use Rattle.std.specs.Prelude.{◌≡◌, ◌≤◌, map, IfOk};
-ghost use Rattle.domains.specs.Area.{point_count};
+ghost use Rattle.std.specs.Prelude.{◌≡◌, ◌≤◌, ◌<◌, ◌+◌, ◌^◌, map, length, All, insert, IfOk, OnOk};
+ghost use Rattle.std.specs.Prelude.{slice_index_or};
 ghost use Rattle.grouping.specs.Costs.{points_in, most_scratch};
-ghost use Rattle.overlap_tiles.specs.inside.Made.{end_to_end};
+ghost use Rattle.overlap_tiles.specs.Ranges.{LieWithin};
 ghost use Rattle.overlap_tiles.specs.Views.{step_view};
+ghost use Rattle.overlap_tiles.specs.inside.Made.{first_gap, with_held, still_held, held_by, held_after};
+ghost use Rattle.overlap_tiles.specs.inside.Made.{ranges_by, size_of};
+ghost use Rattle.overlap_tiles.specs.declared.ranges.Held.{Held as Range};
 
 use crate::steps::{Step, points};
 use std::alloc::{AllocError, Global};
 
-/// A range for each step, end to end from 0: its start and its length.
-pub(crate) fn end_to_end(alloc: Global, steps: &[Step]) -> Result<Vec<(usize, usize)>, AllocError>
+/// A range of scratch memory, by its start and its length, and the place of the last step that reads it.
+#[derive(Clone, Copy, Debug)]
+pub struct Held {
+    start: usize,
+    len: usize,
+    last: usize,
+}
+
+// The least start of so many places that meet no held range; these come in the order of their starts.
+fn first_gap(held: &[Held], len: usize) -> usize
+    requires within { All (λ h. h.start + h.len ≤ most_scratch) held.now }
+    requires few { len < 2 ^ 43 }
+    ensures { result ≡ first_gap len 0 held.now }
+{
+    let mut start = 0;
+    for range in held {
+        if start + len <= range.start {
+            return start;
+        }
+        start = start.max(range.start + range.len);
+    }
+    start
+}
+
+// How many of the held ranges come before one with this start.
+fn place(held: &[Held], start: usize) -> usize
+    ensures within { result ≤ length held.now }
+    ensures put { (new : Range) → new.start ≡ start
+        → insert held.now result new ≡ with_held new held.now }
+{
+    for (place, range) in held.iter().enumerate() {
+        if start < range.start {
+            return place;
+        }
+    }
+    held.len()
+}
+
+// The range is held too.
+fn hold(held: &mut Vec<Held>, range: Held) -> Result<(), AllocError>
+    ensures { OnOk result (held.new.items ≡ with_held range held.old.items) }
+{
+    let at = place(held, range.start);
+    held.insert(at, range)?;
+    Ok(())
+}
+
+// What is read no more from this place on is let go.
+fn let_go(held: &mut Vec<Held>, place: usize)
+    ensures { held.new.items ≡ still_held place held.old.items }
+{
+    held.retain(|range| place <= range.last);
+}
+
+// The start of the range of the step at this place, by how many points it has and by its last reader.
+fn lay(held: &mut Vec<Held>, place: usize, len: usize, last: usize) -> Result<usize, AllocError>
+    requires within { All (λ h. h.start + h.len ≤ most_scratch) held.old.items }
+    requires few { len < 2 ^ 43 }
+    ensures start { IfOk result (λ start. start
+        ≡ (held_by place held.old.items (len, last)).start) }
+    ensures held { OnOk result (held.new.items ≡ held_after place held.old.items (len, last)) }
+{
+    let_go(held, place);
+    let start = first_gap(held, len);
+    hold(held, Held { start, len, last })?;
+    Ok(start)
+}
+
+// The last reader of a stage by a table.
+fn last_of(lasts: &[usize], stage: usize) -> usize
+    ensures { result ≡ slice_index_or lasts.now stage 0 }
+{
+    lasts.get(stage).copied().unwrap_or(0)
+}
+
+/// A range for each step, by a table that has for each stage the place of its last reader: its start and its length. In their
+/// order each starts at the least place where it meets no range that is still to be read.
+pub(crate) fn ranges(
+    alloc: Global,
+    steps: &[Step],
+    lasts: &[usize],
+) -> Result<Vec<(usize, usize)>, AllocError>
     requires { points_in (map step_view steps.now) ≤ most_scratch }
-    ensures { IfOk result (λ ranges. ranges.items
-        ≡ end_to_end 0 (map (λ s. point_count s.1) (map step_view steps.now))) }
+    ensures ranges { IfOk result (λ ranges. ranges.items
+        ≡ ranges_by lasts.now (map step_view steps.now)) }
+    ensures within { IfOk result (λ ranges. LieWithin most_scratch ranges.items) }
 {
     let mut ranges = Vec::new(alloc);
-    let mut start = 0;
-    for step in steps {
+    let mut held = Vec::new(alloc);
+    for (place, step) in steps.iter().enumerate() {
         let len = points(&step.area) as usize;
+        let last = last_of(lasts, step.stage);
+        let start = lay(&mut held, place, len, last)?;
         ranges.push((start, len))?;
-        start += len;
     }
     Ok(ranges)
+}
+
+/// The least scratch memory in which these ranges lie.
+pub(crate) fn size(ranges: &[(usize, usize)]) -> usize
+    requires { LieWithin most_scratch ranges.now }
+    ensures { result ≡ size_of ranges.now }
+{
+    let mut size = 0;
+    for (start, len) in ranges {
+        size = size.max(*start + *len);
+    }
+    size
 }

@@ -20,6 +20,24 @@ func c(x in [0..1], y in [0..1]) { else : b(x,y); }
 func d(x in [0..1], y in [0..1]) { else : c(x,y); }
 output d max 255;";
 
+/// The first of five is read by the second and by the last.
+const HELD: &str = "image I(2,2);
+func a(x in [0..1], y in [0..1]) { else : I(x,y); }
+func b(x in [0..1], y in [0..1]) { else : a(x,y); }
+func c(x in [0..1], y in [0..1]) { else : b(x,y); }
+func d(x in [0..1], y in [0..1]) { else : c(x,y); }
+func e(x in [0..1], y in [0..1]) { else : d(x,y) + a(x,y); }
+output e max 255;";
+
+/// Of the first and of the fourth one row is read.
+const GAPS: &str = "image I(2,2);
+func a(x in [0..1], y in [0..1]) { else : I(x,y); }
+func b(x in [0..1], y in [0..1]) { else : a(x/2,y); }
+func c(x in [0..1], y in [0..1]) { else : b(x,y); }
+func d(x in [0..1], y in [0..1]) { else : c(x,y); }
+func e(x in [0..1], y in [0..1]) { else : d(x/2,y) + b(x,y) + c(x,y); }
+output e max 255;";
+
 /// Seventeen functions, of each of which a tile reads a square of 16,384 rows and columns: more than 2^32 points together.
 const FAR_TOO_BIG: &str = "image I(1,1);
 func a(x in [0..16383], y in [0..16383]) { else : 1; }
@@ -143,7 +161,7 @@ fn tiles_that_are_not_there(rt: HostRuntime) -> Result<(), Fail> {
 }
 
 /// Tiles, and their plans.
-static PLANNED: [(Case, Tile, &str); 9] = [
+static PLANNED: [(Case, Tile, &str); 11] = [
     // A stored function of one point.
     (
         POINT,
@@ -156,11 +174,23 @@ static PLANNED: [(Case, Tile, &str); 9] = [
         (2, 0, 0),
         "Parts { needs: [], steps: [(1, (1, 4, 1, 4)), (2, (2, 3, 2, 3))], points: 20, ranges: [(0, 16)], scratch: 16 }",
     ),
-    // The ranges of a chain.
+    // In a chain the third range lies where the first did, which is read no more.
     (
         Case(COPIES, FOUR, 2, &[false, true, true, true, false]),
         (4, 0, 0),
-        "Parts { needs: [], steps: [(1, (0, 1, 0, 1)), (2, (0, 1, 0, 1)), (3, (0, 1, 0, 1)), (4, (0, 1, 0, 1))], points: 16, ranges: [(0, 4), (4, 4), (8, 4)], scratch: 12 }",
+        "Parts { needs: [], steps: [(1, (0, 1, 0, 1)), (2, (0, 1, 0, 1)), (3, (0, 1, 0, 1)), (4, (0, 1, 0, 1))], points: 16, ranges: [(0, 4), (4, 4), (0, 4)], scratch: 8 }",
+    ),
+    // What the tile itself reads is kept; the fourth range lies where the second did.
+    (
+        Case(HELD, FOUR, 2, &[false, true, true, true, true, false]),
+        (5, 0, 0),
+        "Parts { needs: [], steps: [(1, (0, 1, 0, 1)), (2, (0, 1, 0, 1)), (3, (0, 1, 0, 1)), (4, (0, 1, 0, 1)), (5, (0, 1, 0, 1))], points: 20, ranges: [(0, 4), (4, 4), (8, 4), (4, 4)], scratch: 12 }",
+    ),
+    // A gap of two places has no room for four, but for two.
+    (
+        Case(GAPS, FOUR, 2, &[false, true, true, true, true, false]),
+        (5, 0, 0),
+        "Parts { needs: [], steps: [(1, (0, 0, 0, 1)), (2, (0, 1, 0, 1)), (3, (0, 1, 0, 1)), (4, (0, 0, 0, 1)), (5, (0, 1, 0, 1))], points: 16, ranges: [(0, 2), (2, 4), (6, 4), (0, 2)], scratch: 10 }",
     ),
     // A box over four tiles needs each.
     (

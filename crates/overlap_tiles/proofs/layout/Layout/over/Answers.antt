@@ -1,16 +1,17 @@
-use Rattle.std.proofs.Common.{ℕ, ◌+◌, ◌≤◌, List, Bool, map, ap, ◌∙◌, subst, refl}
-use Rattle.std.specs.Prelude.{filter, length}
+use Rattle.std.proofs.Common.{ℕ, ◌+◌, ◌≤◌, ◌++◌, ◌∷◌, [], List, Bool, map, ap, ◌∙◌, subst, sym, refl}
+use Rattle.std.specs.Prelude.{◌≡◌, ◌<◌, All, filter, length}
 use Rattle.std.specs.List.{flat_map, range_with_len}
 use Rattle.std.proofs.lemmas.List.{map_push}
-use Rattle.domains.specs.Area.{point_count}
 use Rattle.domains.specs.declared.area.Area.{Area}
 use Rattle.job.specs.Kept.{pipeline_in}
 use Rattle.grouping.specs.Schedules.{is_inlined}
-use Rattle.grouping.specs.Costs.{points_in, most_scratch}
+use Rattle.grouping.specs.Costs.{points_in, inner_steps, most_scratch}
 use Rattle.overlap_tiles.specs.declared.steps.Step.{Step}
-use Rattle.overlap_tiles.specs.inside.Made.{stage_needs, end_to_end}
+use Rattle.overlap_tiles.specs.inside.Made.{stage_needs, last_readers, ranges_by, size_of}
 use Rattle.overlap_tiles.specs.Views.{step_view}
+use Rattle.overlap_tiles.proofs.Lists.{All-from_contains}
 use Rattle.overlap_tiles.proofs.MadeIsLayout.{is_layout}
+use Rattle.overlap_tiles.proofs.RangesHaveRoom.{inner_there}
 use Rattle.overlap_tiles.proofs.layout.Layout.over.Goals as goal
 use Rattle.grouping.specs.Targets.{target_over}
 
@@ -30,11 +31,22 @@ returns-clause-layout c =
         needs = c.in_ok-needs.ensures
             ∙ ap (λ (bs : List (ℕ × Area)). flat_map (stage_needs job inlining bs) (range_with_len 0 (length job.stages))) c.requires.boxes;
         steps = ap (map step_view) c.in_ok-all.ensures ∙ map_push step_view c.in_ok-steps.steps.items c.args.target;
-        scratch = number;
         points = ap (λ (n : ℕ). n + c.points.result) number ∙ ap (λ (n : ℕ). points_in inner + n) c.points.ensures.number;
-        ranges = c.in_ok-ranges.ensures
-            ∙ ap (λ (ss : List Step). end_to_end 0 (map (λ s. point_count s.1) (map step_view ss))) c.deref-2.ensures.value;
+        ranges = c.in_ok-ranges.ensures.ranges
+            ∙ ap (λ (ss : List Step). ranges_by (last_readers job (map step_view ss ++ step_view c.args.target ∷ [])) (map step_view ss))
+            c.deref-3.ensures.value;
+        scratch = c.size-scratch.ensures ∙ ap size_of c.deref-4.ensures.value;
         inlining = refl;
       });
       fits = subst (λ (n : ℕ). n ≤ most_scratch) (number ∙ ap points_in kept) few;
     }
+
+pub places-requires : goal.places-requires
+places-requires c =
+    let job = pipeline_in c.args.job.now in
+    let t = target_over job c.args.schedule.now.inlining c.args.target.stage c.args.target.area in
+    let kept : map step_view c.deref-2.result.now ≡ inner_steps t =
+    ap (map step_view) c.deref-2.ensures.value ∙ c.in_ok-steps.ensures
+    ∙ ap (λ (bs : List (ℕ × Area)). filter (λ s. is_inlined t.inlining s.0) bs) c.requires.boxes in
+    subst (λ (ss : List (ℕ × Area)). All (λ s. s.0 < length job.stages) ss) (sym kept)
+    (All-from_contains (λ s. s.0 < length job.stages) (inner_steps t) (inner_there t))

@@ -1,0 +1,74 @@
+#![tactic(auto)]
+//! The last steps that read a stage.
+
+ghost use Rattle.std.specs.Prelude.{◌≡◌, map, slice_set, IfOk, OnOk};
+ghost use Rattle.job.specs.Kept.{pipeline_in};
+ghost use Rattle.job.specs.Reads.{stage_read};
+ghost use Rattle.job.specs.ReadViews.{read_view};
+ghost use Rattle.grouping.specs.Greedy.{reads_at};
+ghost use Rattle.overlap_tiles.specs.inside.Made.{marked, marked_by, last_readers};
+ghost use Rattle.overlap_tiles.specs.Views.{step_view};
+
+use crate::steps::Step;
+use job::{Job, Read};
+use std::alloc::{AllocError, Global};
+
+// The stage that is read.
+fn stage_of(read: &Read) -> usize
+    ensures { result ≡ stage_read (read_view read.now) }
+{
+    match read {
+        Read::Point(stage, _, _) | Read::Window(stage, _) => *stage,
+    }
+}
+
+// The stage is read at this place.
+fn put(lasts: &mut [usize], stage: usize, place: usize)
+    ensures { lasts.new ≡ slice_set lasts.old stage place }
+{
+    if stage < lasts.len() {
+        lasts[stage] = place;
+    }
+}
+
+// Each of these reads is made at this place.
+fn mark_reads(lasts: &mut [usize], reads: &[Read], place: usize)
+    ensures { lasts.new ≡ marked place lasts.old (map read_view reads.now) }
+{
+    for read in reads {
+        put(lasts, stage_of(read), place);
+    }
+}
+
+/// Enters what a stage reads, whose step stands at this place, behind all steps that were entered before.
+pub(crate) fn mark(
+    lasts: &mut Vec<usize>,
+    alloc: Global,
+    job: &Job,
+    stage: usize,
+    place: usize,
+) -> Result<(), AllocError>
+    ensures { OnOk result (lasts.new.items
+        ≡ marked place lasts.old.items (reads_at (pipeline_in job.now) stage)) }
+{
+    if let Some(reads) = job.reads(alloc, stage)? {
+        mark_reads(lasts, &reads, place);
+    }
+    Ok(())
+}
+
+/// For each stage the last place among the steps at which it is read; 0 where it is not.
+pub(crate) fn last_readers(
+    alloc: Global,
+    job: &Job,
+    steps: &[Step],
+) -> Result<Vec<usize>, AllocError>
+    ensures { IfOk result (λ lasts. lasts.items
+        ≡ last_readers (pipeline_in job.now) (map step_view steps.now)) }
+{
+    let mut lasts = vec![in alloc; 0; job.stages().len()]?;
+    for (place, step) in steps.iter().enumerate() {
+        mark(&mut lasts, alloc, job, step.stage, place)?;
+    }
+    Ok(lasts)
+}
