@@ -1,0 +1,4 @@
+pub mod Cuts
+pub mod PartLemmas
+pub mod NumbersAfter
+pub mod ThreeSlices
