@@ -25,6 +25,10 @@ last_made f xs inner y e =
     ∙ slice_get-get_or (inner ++ y ∷ []) (length inner) y within
     ∙ ap Some (get_or-append_seam inner y [] y)
 
+pub last_step : {X : Type 0} (f : X → ℕ × Area) (steps : List X) (inner : List (ℕ × Area)) (last : ℕ × Area)
+    → map f steps ≡ inner ++ last ∷ [] → (x : X) → Some x ≡ slice_get steps (length steps - 1) → f x ≡ last
+last_step f steps inner last made x is = same_Some (f x) last (ap (option_map f) is ∙ last_made f steps inner last made)
+
 module _ {X : Type 0} (f : X → ℕ × Area) (steps : List X) (job : Pipeline) (inlining : List Bool) (g i j : ℕ) (l : Layout) (is :
     IsTileLayout job inlining g i j l) (same : map f steps ≡ l.steps) where
   end : option_map f (slice_get steps (length steps - 1)) ≡ Some (g, is.area)

@@ -17,13 +17,16 @@ use Rattle.job.specs.Totals.{start_of, total_of, joined, values_in_bin, body_tot
 use Rattle.job.specs.Values.{Valuation, formula_value, value}
 use Rattle.job.specs.WellFormed.{InDomainRange, IsJob}
 use Rattle.job.proofs.TotalLaws.{map_same, body_totals-agrees}
-use Rattle.tile_eval.specs.declared.buffers.StageBuffers.{StageBuffers}
+use Rattle.overlap_tiles.specs.Plans.{Layout, IsTileLayout}
 use Rattle.tile_run.specs.KnownTiles.{KnownTiles, AreTrue}
 use Rattle.tile_run.specs.Local.{read_from, local_value, IsAtHand, IsClosed}
-use Rattle.tile_run.specs.Prepared.{IsInputAt, input_at, IsPrepared}
+use Rattle.tile_run.specs.declared.boxes.Boxes.{Boxes}
+use Rattle.tile_run.specs.Prepared.{IsInputAt, IsPrepared, IsPreparedOn}
+use Rattle.tile_run.proofs.LayoutsPrepare.{layout_steps, layout_area}
 use Rattle.tile_run.proofs.ValuesAreLocal.{same_stage, near_inside}
 use Rattle.tile_run.proofs.LocalValuesUnroll.{reads_weaker, read_true, local_is_value}
 use Rattle.accumulators.specs.Bins.{starts, joined_bins}
+use Rattle.accumulators.specs.inside.GatherRooms.{IsLastStep}
 use Rattle.accumulators.specs.Partials.{local_totals, body_joined, joined_over}
 use Rattle.accumulators.proofs.WholeTotals.{totals_is, domain_is_area}
 use Rattle.accumulators.proofs.JoinInto.{joined_all}
@@ -42,31 +45,38 @@ totals_over_is : (job : Pipeline) (area : Area) (g : ℕ) (s : Stage) → slice_
     → totals_over job area g ≡ body_totals (value job) area s.body
 totals_over_is job area g s there = ap (λ (o : Option Stage). option_map_or (λ t. body_totals (value job) area t.body) o []) there
 
--- ---- where all that is read is at hand
+-- ---- where all that is read is at hand, in boxes of local values
 
-module _ (job : Pipeline) (inlining : List Bool) (given : KnownTiles) (boxes : StageBuffers) (g : ℕ) (s : Stage)
-    (there : slice_get job.stages g ≡ Some s) (area : Area) (prepared : IsPrepared job inlining given boxes g area) where
+module _ (job : Pipeline) (l : Layout) (given : KnownTiles) (boxes : Boxes) (g : ℕ) (s : Stage)
+    (there : slice_get job.stages g ≡ Some s) (area : Area) (prepared : IsPrepared job l given boxes g area) where
   within : IsSubarea area s.domain
-  within r c inside = let p = prepared.ready r c inside in subst (λ (t : Stage). HoldsPoint t.domain r c)
+  within r c inside = let p = prepared r c inside in subst (λ (t : Stage). HoldsPoint t.domain r c)
       (same_stage job.stages g p.stage s p.there there) p.inside
 
   pub prepared_near : IsJob job → IsArea area → InDomainRange area.rows × InDomainRange area.cols
   prepared_near is h = let stage = is.stages g s there in near_inside area s.domain h within stage.rows stage.cols
 
-  pub prepared_reads : (r c : ℤ) → HoldsPoint area r c → BodyReads (IsInputAt job inlining given boxes) s.body r c
+  pub prepared_reads : (r c : ℤ) → HoldsPoint area r c → BodyReads (IsInputAt job l given boxes) s.body r c
   prepared_reads r c inside =
-      let p = prepared.ready r c inside in
-      subst (λ (t : Stage). BodyReads (IsInputAt job inlining given boxes) t.body r c) (same_stage job.stages g p.stage s p.there there)
-      p.reads
+      let p = prepared r c inside in
+      subst (λ (t : Stage). BodyReads (IsInputAt job l given boxes) t.body r c) (same_stage job.stages g p.stage s p.there there) p.reads
 
-  -- what is at hand is local, so what is gathered from it is
-  pub prepared_totals : IsArea area → body_totals (input_at job inlining given boxes) area s.body ≡ local_totals job inlining given area g
-  prepared_totals is =
-      let e : Valuation = input_at job inlining given boxes in
-      let h : Valuation = read_from job inlining given (local_value job inlining given) in
-      body_totals-agrees e h area is s.body (λ r c inside. reads_weaker (IsInputAt job inlining given boxes) (SameAt e h) prepared.local
-      s.body r c (prepared_reads r c inside))
-      ∙ sym (local_totals_is job inlining given area g s there)
+-- the last step of a tile's layout is the tile's
+module _ (job : Pipeline) (l : Layout) (given : KnownTiles) (g i j : ℕ) (own : IsTileLayout job l.inlining g i j l) (step : ℕ × Area)
+    (last : IsLastStep l.steps step) where
+  step_is : step ≡ (g, own.area)
+  step_is = last _ _ (layout_steps job l.inlining given l g i j own)
+
+  pub step_area : IsJob job → IsArea step.1
+  step_area good = subst (λ (s : ℕ × Area). IsArea s.1) (sym step_is) (layout_area job l.inlining given l g i j own good)
+
+module _ (job : Pipeline) (l : Layout) (given : KnownTiles) (boxes : Boxes) (g i j : ℕ) (own : IsTileLayout job l.inlining g i j l)
+    (step : ℕ × Area) (last : IsLastStep l.steps step) where
+  pub step_prepared : ((k m n : ℕ) → IsTileLayout job l.inlining k m n l → IsPreparedOn job l given boxes k m n)
+      → IsPrepared job l given boxes step.0 step.1
+  step_prepared all =
+      subst (λ (s : ℕ × Area). IsPrepared job l given boxes s.0 s.1) (sym (step_is job l given g i j own step last))
+      (all g i j own own.area own.tile)
 
 -- where what is given is true, what is gathered from it is what the stage gathers there
 pub true_totals : (job : Pipeline) (inlining : List Bool) (given : KnownTiles) (Inner : ℕ → ℤ → ℤ → Type 0)

@@ -2,3 +2,4 @@
 pub mod Gathering
 pub mod Accumulating
 pub mod Making
+pub mod GatherRooms

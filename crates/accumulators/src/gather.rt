@@ -88,6 +88,71 @@ fn gather_rows<S: RowSource>(
     }
 }
 
+/// Memory in which an accumulator gathers over an area: its bins, and rows of values, of their bins and of operands.
+#[derive(Drop)]
+pub(crate) struct GatherRoom {
+    pub(crate) bins: Vec<i64>,
+    pub(crate) values: Vec<i32>,
+    pub(crate) bins_of: Vec<i32>,
+    pub(crate) temps: Vec<i32>,
+}
+
+impl GatherRoom {
+    ghost use Rattle.accumulators.specs.inside.GatherRooms.{IsRoomOver};
+
+    /// As much as is needed. The bins have what they start from.
+    ///
+    /// # Errors
+    ///
+    /// Fails only where memory is refused.
+    pub(crate) fn over(
+        alloc: Global,
+        accumulator: &Accumulator,
+        area: &Area,
+    ) -> Result<GatherRoom, AllocError>
+        ensures { IfOk result (IsRoomOver accumulator.now area.now) }
+    {
+        let n = area.cols.len() as usize;
+        let room = room_along(accumulator, n).ok_or(AllocError)?;
+        Ok(GatherRoom {
+            bins: starts(alloc, accumulator.fold(), accumulator.bins())?,
+            values: vec![in alloc; 0; n]?,
+            bins_of: vec![in alloc; 0; n]?,
+            temps: vec![in alloc; 0; room]?,
+        })
+    }
+
+    /// What the accumulator gathers in its bins, rising, over the area, where all that it reads is there. No memory is taken.
+    pub(crate) fn gather<S: RowSource>(
+        mut self,
+        source: &S,
+        accumulator: &Accumulator,
+        area: &Area,
+    ) -> Vec<i64>
+        requires rows { InDomainRange area.now.rows }
+        requires cols { InDomainRange area.now.cols }
+        requires formulas { HasFormulas accumulator.now }
+        requires reads { (r c : ℤ) → HoldsPoint area.now r c
+            → ReadsAt (S.has source.now) accumulator.now r c }
+        requires room { IsRoomOver accumulator.now area.now self }
+        ensures { result.items
+            ≡ body_totals (S.samples source.now) area.now (accumulator_by accumulator.now.fold
+            accumulator.now.bins (formula_view accumulator.now.value)
+            (formula_view accumulator.now.bin)) }
+    {
+        gather_rows(
+            source,
+            accumulator,
+            area,
+            &mut self.bins,
+            &mut self.values,
+            &mut self.bins_of,
+            &mut self.temps,
+        );
+        self.bins
+    }
+}
+
 /// What an accumulator gathers in its bins, rising, over an area where all that it reads is there.
 ///
 /// # Errors
@@ -109,20 +174,6 @@ pub(crate) fn gather<S: RowSource>(
         accumulator.now.bins (formula_view accumulator.now.value)
         (formula_view accumulator.now.bin))) }
 {
-    let n = area.cols.len() as usize;
-    let room = room_along(accumulator, n).ok_or(AllocError)?;
-    let mut bins = starts(alloc, accumulator.fold(), accumulator.bins())?;
-    let mut values = vec![in alloc; 0; n]?;
-    let mut bins_of = vec![in alloc; 0; n]?;
-    let mut temps = vec![in alloc; 0; room]?;
-    gather_rows(
-        source,
-        accumulator,
-        area,
-        &mut bins,
-        &mut values,
-        &mut bins_of,
-        &mut temps,
-    );
-    Ok(bins)
+    let room = GatherRoom::over(alloc, accumulator, area)?;
+    Ok(room.gather(source, accumulator, area))
 }

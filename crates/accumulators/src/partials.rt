@@ -2,39 +2,63 @@
 //! What an accumulator gathers over a tile, from what is given.
 
 ghost use Rattle.std.specs.Prelude.{◌≡◌, ℕ, Bool, List, None, IfOk, IfErr};
-ghost use Rattle.domains.specs.Area.{IsArea};
 ghost use Rattle.job.specs.Kept.{pipeline_in, program_id_in};
 ghost use Rattle.overlap_tiles.specs.Plans.{IsTilePlan, IsTileLayout};
 ghost use Rattle.tile_run.specs.KnownTiles.{AreTrue, AreWhole};
-ghost use Rattle.tile_run.specs.Prepared.{IsPrepared};
 ghost use Rattle.tile_run.specs.Runs.{first_missing, NeedsGiven, IsSomeLayout, IsEvalFault};
+ghost use Rattle.overlap_tiles.specs.Views.{step_view};
+ghost use Rattle.accumulators.specs.inside.GatherRooms.{IsAccumulatorOf, IsLastStep};
 ghost use Rattle.accumulators.specs.Partials.{local_totals, AreLocalTotals, AreTotalsOn, IsAccumulatorPlan};
 
-use crate::gather::gather;
-use job::{Body, Job};
+use crate::gather::GatherRoom;
+use job::{Accumulator, Body, Job};
 use overlap_tiles::{Step, TilePlan};
 use std::alloc::{AllocError, Global};
 use tile_run::{EvalFault, Known, Scratch, TileInputs, TileJob, first_missing};
 
-// What a stage gathers over an area where all that it reads is at hand; nothing if it is no accumulator.
+// What an accumulator gathers over the last step's area. All memory is grown before the first value is computed.
+fn gather_tile<K: Known>(
+    alloc: Global,
+    tile: &TileJob<'_, K>,
+    step: &Step,
+    accumulator: &Accumulator,
+    scratch: &mut Scratch,
+) -> Result<Vec<i64>, AllocError>
+    requires layout { IsSomeLayout (pipeline_in tile.now.job.now) tile.now.layout.now }
+    requires needs { NeedsGiven (K.given tile.now.known.now) tile.now.layout.now.needs }
+    requires last { IsLastStep tile.now.layout.now.steps (step_view step.now) }
+    requires accumulator { IsAccumulatorOf (pipeline_in tile.now.job.now) step.now.stage
+        accumulator.now }
+    ensures { IfOk result (λ bins. bins.items
+        ≡ local_totals (pipeline_in tile.now.job.now) tile.now.layout.now.inlining
+        (K.given tile.now.known.now) step.now.area step.now.stage) }
+{
+    let room = GatherRoom::over(alloc, accumulator, &step.area)?;
+    let boxes = tile.prepare(alloc, scratch)?;
+    let tile = *tile;
+    let inputs = TileInputs { tile, boxes };
+    Ok(room.gather(&inputs, accumulator, &step.area))
+}
+
+// What the last step's stage gathers over its area; nothing if it is no accumulator.
 fn gather_step<K: Known>(
     alloc: Global,
-    inputs: &TileInputs<'_, K>,
+    tile: &TileJob<'_, K>,
     step: &Step,
+    scratch: &mut Scratch,
 ) -> Result<Vec<i64>, AllocError>
-    requires area { IsArea step.now.area }
-    requires prepared { IsPrepared (pipeline_in inputs.now.tile.job.now)
-        inputs.now.tile.layout.now.inlining (K.given inputs.now.tile.known.now) inputs.now.boxes.now
-        step.now.stage step.now.area }
+    requires layout { IsSomeLayout (pipeline_in tile.now.job.now) tile.now.layout.now }
+    requires needs { NeedsGiven (K.given tile.now.known.now) tile.now.layout.now.needs }
+    requires last { IsLastStep tile.now.layout.now.steps (step_view step.now) }
     ensures { IfOk result (λ bins. bins.items
-        ≡ local_totals (pipeline_in inputs.now.tile.job.now) inputs.now.tile.layout.now.inlining
-        (K.given inputs.now.tile.known.now) step.now.area step.now.stage) }
+        ≡ local_totals (pipeline_in tile.now.job.now) tile.now.layout.now.inlining
+        (K.given tile.now.known.now) step.now.area step.now.stage) }
 {
-    let Some(found) = inputs.tile.job.stage(step.stage) else {
+    let Some(found) = tile.job.stage(step.stage) else {
         return Ok(Vec::new(alloc));
     };
     match found.body() {
-        Body::Accumulator(accumulator) => gather(alloc, inputs, accumulator, &step.area),
+        Body::Accumulator(accumulator) => gather_tile(alloc, tile, step, accumulator, scratch),
         Body::Plane(_) | Body::Function(_) => Ok(Vec::new(alloc)),
     }
 }
@@ -59,14 +83,7 @@ pub(crate) fn tile_totals<K: Known>(
     let Some(step) = tile.layout.steps().last() else {
         return Ok(Vec::new(alloc));
     };
-    let boxes = tile.prepare(alloc, scratch)?;
-    let inputs = TileInputs {
-        tile: *tile,
-        boxes: &boxes,
-    };
-    let bins = gather_step(alloc, &inputs, step)?;
-    tile.finish(boxes, scratch);
-    Ok(bins)
+    gather_step(alloc, tile, step, scratch)
 }
 
 /// What an accumulator gathers in its bins over a tile, rising, by the tile's plan and from what is given, whatever that is. Where

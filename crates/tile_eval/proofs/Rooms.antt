@@ -10,8 +10,7 @@ use Rattle.job.specs.Views.{case_view, formula_view}
 use Rattle.job.proofs.Steps.{All-from_map}
 use Rattle.tile_eval.specs.Counted.{IsLeast}
 use Rattle.tile_eval.specs.inside.Counted.{IsCounted}
-use Rattle.tile_eval.specs.Reading.{HasRoom}
-use Rattle.tile_eval.specs.inside.Cases.{HasFunctionRoom}
+use Rattle.tile_eval.specs.Reading.{HasRoom, HasFunctionRoom}
 
 -- ---- what is enough from a number on
 

@@ -1,7 +1,9 @@
 -- What a formula reads along a row of points, and the room that its operands take.
-use Rattle.std.specs.Prelude.{ℕ, suc, ◌+◌, ◌-◌, ◌<◌, ◌≤◌, ℤ, pos, ◌+ℤ◌, List, length}
+use Rattle.std.specs.Prelude.{ℕ, suc, ◌+◌, ◌-◌, ◌<◌, ◌≤◌, ℤ, pos, ◌+ℤ◌, Option, List, length, All}
+use Rattle.std.specs.Option.{ForSome}
 use Rattle.domains.specs.Index.{index_at}
 use Rattle.job.specs.Formula.{Formula, number, coordinate, read, neg, binary, literal, abs, clamp, select, stencil}
+use Rattle.job.specs.Pipeline.{JobCase}
 use Rattle.job.specs.Values.{factors, kernel_row, kernel_column}
 use Rattle.row_kernels.specs.Rows.{EachPlace}
 
@@ -39,3 +41,9 @@ HasRoom (select a relation b first second) n room =
     HasRoom first n room × (n + n + n ≤ room) × HasRoom a n (room - (n + n + n)) × HasRoom b n (room - (n + n + n))
     × HasRoom second n (room - (n + n + n))
 HasRoom (stencil g divisor kernel) n room = n + 14 ≤ room
+
+-- room for one row, for the operands of all cases beside it, and for those of what holds elsewhere
+pub record HasFunctionRoom (n room : ℕ) (ps : List JobCase) (otherwise : Option Formula) : Type 0 where
+  pub row : n ≤ room
+  pub operands : All (λ p. HasRoom p.formula n (room - n)) ps
+  pub other : ForSome otherwise (λ f. HasRoom f n room)

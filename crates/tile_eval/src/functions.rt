@@ -1,13 +1,13 @@
 #![tactic(auto)]
 //! Functions on areas.
 
-ghost use Rattle.std.specs.Prelude.{◌≡◌, length, map, IfOk, OnOk};
+ghost use Rattle.std.specs.Prelude.{◌≡◌, length, map, IfOk};
 ghost use Rattle.std.specs.Option.{option_map};
 ghost use Rattle.domains.specs.Span.{len_of};
 ghost use Rattle.domains.specs.Area.{point_count};
 ghost use Rattle.job.specs.Views.{case_view, formula_view};
 ghost use Rattle.tile_eval.specs.Cases.{IsComputable, function_value};
-ghost use Rattle.tile_eval.specs.inside.Cases.{HasFunctionRoom};
+ghost use Rattle.tile_eval.specs.Reading.{HasFunctionRoom};
 ghost use Rattle.tile_eval.specs.Buffer.{raster};
 
 use crate::room::function_room;
@@ -18,8 +18,8 @@ use job::Function;
 use row_kernels::RowSpan;
 use std::alloc::{AllocError, Global};
 
-// Writes the values of a function on an area, row by row.
-fn fill_area<S: RowSource>(
+/// Writes the values of a function on an area of its domain, row by row. What the room for the operands holds means nothing.
+pub fn area_onto<S: RowSource>(
     source: &S,
     function: &Function,
     area: &Area,
@@ -42,30 +42,6 @@ fn fill_area<S: RowSource>(
     first.fill_rows(function, rows, out, temps);
 }
 
-/// The values of a function on an area of its domain, row by row, in a vector whose memory is used again, as that of the
-/// operands is. What they held before means nothing.
-pub fn area_into<S: RowSource>(
-    source: &S,
-    function: &Function,
-    area: &Area,
-    values: &mut Vec<i32>,
-    temps: &mut Vec<i32>,
-) -> Result<(), AllocError>
-    requires { IsComputable (S.has source.now) area.now (map case_view function.now.cases.items)
-        (option_map formula_view function.now.otherwise) }
-    ensures { OnOk result (values.new.items
-        ≡ raster area.now (function_value (S.samples source.now)
-        (map case_view function.now.cases.items)
-        (option_map formula_view function.now.otherwise))) }
-{
-    let cols = area.cols.len() as usize;
-    let room = function_room(function, cols).ok_or(AllocError)?;
-    values.resize(area.points() as usize, 0)?;
-    temps.resize(room, 0)?;
-    fill_area(source, function, area, values, temps);
-    Ok(())
-}
-
 /// The values of a function on its domain, row by row.
 pub fn function_values<S: RowSource>(
     alloc: Global,
@@ -80,8 +56,9 @@ pub fn function_values<S: RowSource>(
         (map case_view function.now.cases.items)
         (option_map formula_view function.now.otherwise))) }
 {
-    let mut values = Vec::new(alloc);
-    let mut temps = Vec::new(alloc);
-    area_into(source, function, domain, &mut values, &mut temps)?;
+    let room = function_room(function, domain.cols.len() as usize).ok_or(AllocError)?;
+    let mut temps = vec![in alloc; 0; room]?;
+    let mut values = vec![in alloc; 0; domain.points() as usize]?;
+    area_onto(source, function, domain, &mut values, &mut temps);
     Ok(values)
 }

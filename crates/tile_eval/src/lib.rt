@@ -18,9 +18,9 @@ mod stencil;
 mod true_stages;
 
 pub use buffers::{Buffer, StageBuffers};
-pub use functions::area_into;
+pub use functions::area_onto;
 pub use parts::number_at;
-pub use room::formula_room;
+pub use room::{formula_room, function_room};
 pub use row_kernels::{BufferView, RowSpan};
 pub use source::RowSource;
 pub use source_row::SourceRow;

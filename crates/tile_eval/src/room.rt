@@ -6,8 +6,7 @@ ghost use Rattle.std.specs.Option.{option_map, ForSome};
 ghost use Rattle.job.specs.Views.{case_view, formula_view};
 ghost use Rattle.tile_eval.specs.Counted.{IsLeast};
 ghost use Rattle.tile_eval.specs.inside.Counted.{IsCounted};
-ghost use Rattle.tile_eval.specs.inside.Cases.{HasFunctionRoom};
-ghost use Rattle.tile_eval.specs.Reading.{HasRoom};
+ghost use Rattle.tile_eval.specs.Reading.{HasRoom, HasFunctionRoom};
 
 use job::{Formula, Function, JobCase};
 

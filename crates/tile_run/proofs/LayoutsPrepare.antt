@@ -1,6 +1,6 @@
 -- What the layout of a tile tells of its steps, where all that it needs is given.
 use Rattle.std.proofs.Common.{arith, ℕ, suc, ℤ, ◌≡◌, ◌⊎◌, inl, inr, refl, length, Bool, true, false, List, [], ◌∷◌, ◌++◌, map}
-use Rattle.std.proofs.Common.{Option, Some, None, cond, ap, sym, ◌∙◌, subst}
+use Rattle.std.proofs.Common.{Option, Some, None, slice_get, cond, ap, sym, ◌∙◌, subst}
 use Rattle.std.specs.Prelude.{AllPairs, Contains, find, unwrap_or}
 use Rattle.std.specs.Option.{is_none}
 use Rattle.std.proofs.lemmas.Bool.{false≢true, true≢false}
@@ -15,7 +15,8 @@ use Rattle.identity.specs.declared.key.Key.{Key}
 use Rattle.job.specs.Answers.{Tile}
 use Rattle.job.specs.Pipeline.{Pipeline}
 use Rattle.job.specs.WellFormed.{IsJob}
-use Rattle.grouping.specs.Costs.{inner_steps}
+use Rattle.grouping.specs.Costs.{inner_steps, steps}
+use Rattle.grouping.specs.Schedules.{is_function}
 use Rattle.grouping.specs.Targets.{Target, IsTarget, target_over}
 use Rattle.overlap_tiles.specs.declared.steps.Step.{Step}
 use Rattle.overlap_tiles.specs.Needs.{key_tile, needs}
@@ -24,12 +25,13 @@ use Rattle.overlap_tiles.specs.Views.{step_view}
 use Rattle.overlap_tiles.proofs.Lists.{Contains-from_map}
 use Rattle.overlap_tiles.proofs.TilesAreTargets.{tile_is_target}
 use Rattle.tile_eval.specs.Buffer.{raster}
-use Rattle.tile_eval.specs.declared.buffers.Buffer.{Buffer}
 use Rattle.tile_run.specs.KnownTiles.{KnownTiles}
 use Rattle.tile_run.specs.Local.{local_value}
 use Rattle.tile_run.specs.Runs.{is_missing, first_missing, NeedsGiven, AreLocalOn}
-use Rattle.tile_run.specs.inside.Steps.{AreComputed, AreRunnable, IsReadyOver}
-use Rattle.tile_run.proofs.StepsFindInputs.{inner_runnable, target_ready}
+use Rattle.tile_run.specs.Prepared.{IsInnerStep}
+use Rattle.tile_run.specs.inside.Steps.{FindsEarlier, IsReadyOver}
+use Rattle.tile_run.proofs.StepsFindInputs.{inner_is_function, inner_area, inner_ready, target_ready}
+use Rattle.tile_run.proofs.StepsRun.{inner_at, steps_long}
 
 pub none_found : {X : Type 0} → (p : X → Bool) (xs : List X) → find p xs ≡ None → (x : X) → Contains xs x → p x ≡ false
 none_found p [] e x h = absurd (omega (arith, h.1))
@@ -97,9 +99,6 @@ module _ (job : Pipeline) (inlining : List Bool) (given : KnownTiles) (l : Layou
     pub by_own : (P : List Bool → Type 0) → P l.inlining → P inlining
     by_own P h = subst P is.layout.layout.inlining h
 
-    pub layout_runnable : IsJob job → NeedsGiven given l.needs → AreRunnable job inlining given (inner_steps of_tile)
-    layout_runnable good are_given = inner_runnable of_tile good given (gives are_given) (target good)
-
     pub layout_area : IsJob job → IsArea is.area
     layout_area good = (target good).area
 
@@ -109,13 +108,32 @@ module _ (job : Pipeline) (inlining : List Bool) (given : KnownTiles) (l : Layou
         let grid : is.tile.grid ≡ at.grid = ap (λ (o : Option Grid). unwrap_or o at.grid) (sym is.tile.there ∙ at.there) in
         is.tile.is ∙ ap (λ (d : Grid). tile_area d i j) grid ∙ sym at.is
 
-    -- after the inner steps all that the tile reads is at hand
-    pub layout_ready : IsJob job → NeedsGiven given l.needs → (buffers : List (Option Buffer))
-        → AreComputed (inner_steps of_tile) (length (inner_steps of_tile)) buffers
-        → (area : Area) → IsTileAt job g i j area → IsReadyOver job inlining given buffers g area
-    layout_ready good are_given buffers done area at =
-        subst (IsReadyOver job inlining given buffers g) (only_area area at)
-        (target_ready of_tile good given (gives are_given) (target good) buffers done)
+    -- a step before the last: a function over an area, and all that it reads is at hand once it finds what the steps before it computed
+    module _ (k h : ℕ) (a : Area) (here : IsInnerStep l k h a) where
+      inner : slice_get (inner_steps of_tile) k ≡ Some (h, a)
+      inner = inner_at of_tile l given is.layout.layout k h a here
+
+      pub inner_function : (good : IsJob job) → NeedsGiven given l.needs → is_function job h ≡ true
+      inner_function good are_given = inner_is_function of_tile good given (gives are_given) k h a inner
+
+      pub inner_is_area : (good : IsJob job) → NeedsGiven given l.needs → IsArea a
+      inner_is_area good are_given = inner_area of_tile good given (gives are_given) k h a inner (target good)
+
+      pub inner_prepared : (good : IsJob job) → NeedsGiven given l.needs → (Inner : ℕ → ℤ → ℤ → Type 0)
+          → FindsEarlier job l.steps k Inner → IsReadyOver job inlining given Inner h a
+      inner_prepared good are_given Inner finds =
+          inner_ready of_tile good given (gives are_given) k h a inner (target good) Inner
+          (subst (λ (ss : List (ℕ × Area)). FindsEarlier job ss k Inner) layout_steps finds)
+
+    -- after them all that the tile reads is at hand
+    pub layout_ready : (good : IsJob job) → NeedsGiven given l.needs → (Inner : ℕ → ℤ → ℤ → Type 0) (k : ℕ) → suc k ≡ length l.steps
+        → FindsEarlier job l.steps k Inner → (area : Area) → IsTileAt job g i j area → IsReadyOver job inlining given Inner g area
+    layout_ready good are_given Inner k end finds area at =
+        let last : k ≡ length (inner_steps of_tile) = omega (arith, end, steps_long of_tile l given is.layout.layout) in
+        subst (IsReadyOver job inlining given Inner g) (only_area area at)
+        (target_ready of_tile good given (gives are_given) (target good) Inner
+        (subst (λ (n : ℕ). FindsEarlier job (steps of_tile) n Inner) last
+        (subst (λ (ss : List (ℕ × Area)). FindsEarlier job ss k Inner) layout_steps finds)))
 
     pub layout_values : (last : ℕ × Area) (numbers : List ℤ) → last ≡ (g, is.area)
         → numbers ≡ raster last.1 (local_value job inlining given last.0) → AreLocalOn job inlining given g i j numbers

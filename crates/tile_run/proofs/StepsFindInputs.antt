@@ -1,5 +1,5 @@
 -- Where all needs are given, each step of a target finds what it reads among what the steps before it computed.
-use Rattle.std.proofs.Common.{arith, ℕ, ℤ, ◌≡◌, ◌<◌, inl, inr, refl, length, Bool, true, false, not, eqb, List, [], ◌∷◌, Option}
+use Rattle.std.proofs.Common.{arith, ℕ, ℤ, ◌≡◌, ◌<◌, inl, inr, refl, length, Bool, true, false, not, eqb, [], ◌∷◌, Option}
 use Rattle.std.proofs.Common.{Some, None, slice_get, ap, sym, ◌∙◌, subst}
 use Rattle.std.specs.Prelude.{Contains, unwrap_or, if◌then◌else◌}
 use Rattle.std.specs.Option.{option_map_or}
@@ -7,7 +7,7 @@ use Rattle.std.proofs.lemmas.Bool.{and_parts, not-true, false≢true}
 use Rattle.std.proofs.lemmas.List.{get_or_append_left, length-append}
 use Rattle.std.proofs.lemmas.Option.{slice_get_within, get_or_from_slice_get}
 use Rattle.domains.proofs.Places.{slice_get-end}
-use Rattle.domains.specs.Area.{HoldsPoint}
+use Rattle.domains.specs.Area.{HoldsPoint, IsArea}
 use Rattle.domains.specs.Tiles.{tile_area, tile_at}
 use Rattle.domains.specs.declared.area.Area.{Area}
 use Rattle.domains.specs.declared.grid.Grid.{Grid}
@@ -23,18 +23,16 @@ use Rattle.grouping.specs.Costs.{inner_steps, steps}
 use Rattle.overlap_tiles.specs.Available.{IsPlaneAt, IsInNeededTile, IsAvailable}
 use Rattle.overlap_tiles.specs.Needs.{needs}
 use Rattle.overlap_tiles.proofs.NeedsAreExact.{from_needs}
-use Rattle.overlap_tiles.proofs.StepsHaveWhatTheyRead.{Both, both_body, reads_available, step_in_domain, step_region}
+use Rattle.overlap_tiles.proofs.StepsHaveWhatTheyRead.{Both, both_body, reads_available, step_in_domain}
 use Rattle.overlap_tiles.proofs.StepsRise.{box_listed}
 use Rattle.grouping.proofs.TilesAreTargets.{grid_fits}
-use Rattle.tile_eval.specs.Buffer.{IsKnownAt}
-use Rattle.tile_eval.specs.declared.buffers.Buffer.{Buffer}
 use Rattle.tile_run.specs.KnownTiles.{KnownTiles, IsGiven, IsGivenAt}
 use Rattle.tile_run.specs.Local.{FunctionAtHand, BodyAtHand, StageAtHand, IsAtHand}
 use Rattle.tile_run.specs.Runs.{NeedsGiven}
-use Rattle.tile_run.specs.inside.Steps.{IsReadyOver, AreComputed, AreRunnable}
+use Rattle.tile_run.specs.inside.Steps.{IsReadyOver, FindsEarlier}
 use Rattle.tile_run.proofs.ValuesAreLocal.{same_stage}
 use Rattle.tile_run.proofs.LocalValuesUnroll.{reads_weaker}
-use Rattle.tile_run.proofs.StepsRun.{to_longer, computed_longer}
+use Rattle.tile_run.proofs.StepsRun.{to_longer}
 
 opposite : (b : Bool) → b ≡ true → b ≡ false → ⊥
 opposite b yes_is no_is = false≢true (sym no_is ∙ yes_is)
@@ -94,17 +92,17 @@ module _ (t : Target) (job : IsJob t.job) (given : KnownTiles) (are_given : Need
         let found = are_given (record { stage = h; row = n.row; col = n.col }) n.needed in
         (found.0, sym (ap (λ (i : ℕ). given h i n.col) only.0 ∙ ap (λ (j : ℕ). given h (tile_at grid r c).0 j) only.1) ∙ found.1)
 
-  module _ (k g : ℕ) (a : Area) (here : slice_get (steps t) k
-      ≡ Some (g, a)) (buffers : List (Option Buffer)) (done : AreComputed (steps t) k buffers) where
+  module _ (k g : ℕ) (a : Area) (here : slice_get (steps t) k ≡ Some (g, a)) (Inner : ℕ → ℤ → ℤ → Type 0)
+      (finds : FindsEarlier t.job (steps t) k Inner) where
     found : (h : ℕ) (r c : ℤ) → Both (IsAvailable t k) (IsReadable t.job.stages) h r c
-        → IsAtHand t.job t.inlining given (IsKnownAt buffers) h r c
+        → IsAtHand t.job t.inlining given Inner h r c
     found h r c both =
-        subst (λ (o : Option Stage). StageAtHand t.job t.inlining given (IsKnownAt buffers) h o r c) (sym both.1.there)
+        subst (λ (o : Option Stage). StageAtHand t.job t.inlining given Inner h o r c) (sym both.1.there)
         (at_body both.1.stage.body refl)
       where
-        known : is_function_body both.1.stage.body ≡ true → is_inlined t.inlining h ≡ true → IsAvailable t k h r c → IsKnownAt buffers h r c
+        known : is_function_body both.1.stage.body ≡ true → is_inlined t.inlining h ≡ true → IsAvailable t k h r c → Inner h r c
         known e inlined (inl p) = absurd (no_plane h r c both.1.stage both.1.there e p)
-        known e inlined (inr (inl q)) = done q.place h q.area q.before q.there r c q.holds
+        known e inlined (inr (inl q)) = finds q.place h q.area q.before q.there q.read r c q.holds
         known e inlined (inr (inr n)) = absurd (opposite (is_inlined t.inlining h) inlined (needed_stored h r c n))
 
         given_there : is_function_body both.1.stage.body ≡ true → has_tiles both.1.stage.body ≡ true → is_inlined t.inlining h ≡ false
@@ -115,35 +113,35 @@ module _ (t : Target) (job : IsJob t.job) (given : KnownTiles) (are_given : Need
         given_there e has stored (inr (inr n)) = tile_given h r c both.1.stage both.1.there has both.1.within n
 
         of_function : is_function_body both.1.stage.body ≡ true → has_tiles both.1.stage.body ≡ true → (b : Bool)
-            → is_inlined t.inlining h ≡ b → FunctionAtHand b (IsKnownAt buffers h r c) (IsGivenAt given h (grid_of t.job both.1.stage) r c)
+            → is_inlined t.inlining h ≡ b → FunctionAtHand b (Inner h r c) (IsGivenAt given h (grid_of t.job both.1.stage) r c)
         of_function e has true inlined = known e inlined both.0
         of_function e has false stored = (both.1.within, given_there e has stored both.0)
 
-        at_body : (body : Body) → both.1.stage.body ≡ body → BodyAtHand t.job t.inlining given (IsKnownAt buffers) h both.1.stage body r c
+        at_body : (body : Body) → both.1.stage.body ≡ body → BodyAtHand t.job t.inlining given Inner h both.1.stage body r c
         at_body (plane n) e = both.1.within
         at_body (function ps o) e = of_function (ap is_function_body e) (ap has_tiles e) (is_inlined t.inlining h) refl
         at_body (accumulator fold bins value bin) e = absurd (subst IsValued e both.1.valued)
 
-    ready : IsTarget t → (s : Stage) → slice_get t.job.stages g ≡ Some s → IsReadyOver t.job t.inlining given buffers g a
+    ready : IsTarget t → (s : Stage) → slice_get t.job.stages g ≡ Some s → IsReadyOver t.job t.inlining given Inner g a
     ready target s there = λ r c holds.
         let inside = (step_in_domain t k g s a job target here there).1 r c holds in
         record {
           stage = s;
           there = there;
           inside = inside;
-          reads = reads_weaker (Both (IsAvailable t k) (IsReadable t.job.stages)) (IsAtHand t.job t.inlining given (IsKnownAt buffers))
+          reads = reads_weaker (Both (IsAvailable t k) (IsReadable t.job.stages)) (IsAtHand t.job t.inlining given Inner)
               found s.body r c
               (both_body (IsAvailable t k) (IsReadable t.job.stages) r c s.body (reads_available t job target k g s a here there r c holds)
               ((job.stages g s there).reads r c inside));
         }
 
-  -- a step before the last
+  -- a step before the last is a function over an area
   module _ (k g : ℕ) (a : Area) (here : slice_get (inner_steps t) k ≡ Some (g, a)) where
     among : slice_get (steps t) k ≡ Some (g, a)
     among = to_longer (inner_steps t) ((t.stage, t.region) ∷ []) k (g, a) here
 
-    own : is_function t.job g ≡ true
-    own = (inner_function t (g, a) (
+    pub inner_is_function : is_function t.job g ≡ true
+    inner_is_function = (inner_function t (g, a) (
       k,
       slice_get_within (inner_steps t) k (g, a) here,
       get_or_from_slice_get (inner_steps t) k (g, a)
@@ -151,29 +149,19 @@ module _ (t : Target) (job : IsJob t.job) (given : KnownTiles) (are_given : Need
     )).0
 
     found_stage : IsFunctionStage t.job g
-    found_stage = function_stage t.job g own
+    found_stage = function_stage t.job g inner_is_function
 
-    step_ready : (buffers : List (Option Buffer)) → AreComputed (inner_steps t) k buffers → IsTarget t
-        → IsReadyOver t.job t.inlining given buffers g a
-    step_ready buffers done target =
-        let inside = slice_get_within (inner_steps t) k (g, a) here in
-        ready k g a among buffers (computed_longer (inner_steps t) ((t.stage, t.region) ∷ []) k buffers (omega arith) done) target
-        found_stage.stage found_stage.there
+    pub inner_area : IsTarget t → IsArea a
+    inner_area target = (step_in_domain t k g found_stage.stage a job target among found_stage.there).0
 
-  pub inner_runnable : IsTarget t → AreRunnable t.job t.inlining given (inner_steps t)
-  inner_runnable target = record {
-    functions = own;
-    areas = λ k g a here. (step_in_domain t k g (found_stage k g a here).stage a job target (among k g a here)
-        (found_stage k g a here).there).0;
-    one_area = λ k n g a b here there. ap (λ (o : Option Area). unwrap_or o b) (sym (step_region t k g a (among k g a here))
-        ∙ step_region t n g b (among n g b there));
-    ready = λ k g a buffers here done. step_ready k g a here buffers done target;
-  }
+    -- all that it reads is at hand where Inner tells of what the steps before it computed
+    pub inner_ready : IsTarget t → (Inner : ℕ → ℤ → ℤ → Type 0) → FindsEarlier t.job (steps t) k Inner
+        → IsReadyOver t.job t.inlining given Inner g a
+    inner_ready target Inner finds = ready k g a among Inner finds target found_stage.stage found_stage.there
 
-  -- after them all that the target reads is at hand
-  pub target_ready : IsTarget t → (buffers : List (Option Buffer)) → AreComputed (inner_steps t) (length (inner_steps t)) buffers
-      → IsReadyOver t.job t.inlining given buffers t.stage t.region
-  target_ready target buffers done =
-      ready (length (inner_steps t)) t.stage t.region (slice_get-end (inner_steps t) (t.stage, t.region)) buffers
-      (computed_longer (inner_steps t) ((t.stage, t.region) ∷ []) (length (inner_steps t)) buffers (omega arith) done) target target.owner
+  -- and so it is with the target
+  pub target_ready : IsTarget t → (Inner : ℕ → ℤ → ℤ → Type 0) → FindsEarlier t.job (steps t) (length (inner_steps t)) Inner
+      → IsReadyOver t.job t.inlining given Inner t.stage t.region
+  target_ready target Inner finds =
+      ready (length (inner_steps t)) t.stage t.region (slice_get-end (inner_steps t) (t.stage, t.region)) Inner finds target target.owner
       target.there

@@ -15,7 +15,6 @@ ghost use Rattle.tile_run.specs.Stored.{stored_tiles, GivesAllTiles};
 ghost use Rattle.tile_run.specs.Work.{is_stored_function, first_too_big, IsRunFault};
 ghost use Rattle.tile_run.specs.KnownTiles.{AreTrue};
 
-use crate::buffers::Scratch;
 use crate::fault::RunFault;
 use crate::room::{Work, first_too_big};
 use crate::stored::{Stored, TileRow, Tiles};
@@ -24,6 +23,7 @@ use domains::Grid;
 use grouping::{Schedule, last_rank};
 use job::{Job, Stage, StageKind};
 use overlap_tiles::{Layout, PlanFault};
+use scratch::Scratch;
 use std::alloc::{AllocError, Global};
 use std::thread::Threads;
 

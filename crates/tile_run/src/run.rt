@@ -1,31 +1,31 @@
 #![tactic(auto)]
 //! A tile of a function, from what is given.
 
-ghost use Rattle.std.specs.Prelude.{◌≡◌, ◌++◌, ◌∷◌, [], ℕ, List, Bool, true, None, map, IfOk, IfErr, IfSome, IfNone};
-ghost use Rattle.domains.specs.Area.{IsArea};
+ghost use Rattle.std.specs.Prelude.{◌≡◌, ◌++◌, ◌∷◌, [], ℕ, List, Bool, None, map, IfOk, IfErr, IfSome, IfNone};
+ghost use Rattle.std.specs.Option.{option_map};
 ghost use Rattle.domains.specs.declared.area.Area.{Area};
-ghost use Rattle.grouping.specs.Schedules.{is_function};
 ghost use Rattle.job.specs.Kept.{pipeline_in, program_id_in};
+ghost use Rattle.job.specs.Views.{case_view, formula_view};
 ghost use Rattle.overlap_tiles.specs.Plans.{IsTilePlan, IsTileLayout};
 ghost use Rattle.overlap_tiles.specs.Views.{step_view};
 ghost use Rattle.tile_eval.specs.Buffer.{raster};
 ghost use Rattle.tile_run.specs.KnownTiles.{AreTrue, AreWhole};
 ghost use Rattle.tile_run.specs.Local.{local_value};
-ghost use Rattle.tile_run.specs.Prepared.{IsPrepared};
 ghost use Rattle.tile_run.specs.Runs.{is_missing, first_missing, AreLocalOn, AreValuesOn, NeedsGiven, IsFunctionPlan, IsEvalFault};
 ghost use Rattle.tile_run.specs.inside.Layouts.{IsFunctionLayout};
+ghost use Rattle.tile_run.specs.inside.Steps.{IsFunctionAt};
 
-use crate::buffers::Scratch;
 use crate::fault::EvalFault;
 use crate::known::Known;
 use crate::steps::function_of;
 use crate::tile_inputs::TileInputs;
 use crate::tile_job::TileJob;
 use identity::Key;
-use job::Job;
+use job::{Function, Job};
 use overlap_tiles::{Step, TilePlan};
+use scratch::Scratch;
 use std::alloc::{AllocError, Global};
-use tile_eval::StageBuffers;
+use tile_eval::function_room;
 
 fn is_missing<K: Known>(known: &K, key: &Key) -> bool
     ensures { result ≡ is_missing (K.given known.now) key.now }
@@ -55,28 +55,33 @@ fn last_of(steps: &[Step]) -> Option<&Step>
 }
 
 impl<K: Known> TileJob<'_, K> {
-    // The values of the last step, where all that it reads is at hand.
+    // The values of a function over the last step's area. All memory is grown before the first value is computed.
     fn target(
         &self,
         alloc: Global,
-        boxes: &StageBuffers,
         step: &Step,
+        function: &Function,
         scratch: &mut Scratch,
     ) -> Result<Vec<i32>, AllocError>
-        requires function { is_function (pipeline_in self.now.job.now) step.now.stage ≡ true }
-        requires area { IsArea step.now.area }
-        requires prepared { IsPrepared (pipeline_in self.now.job.now) self.now.layout.now.inlining
-            (K.given self.now.known.now) boxes.now step.now.stage step.now.area }
+        requires layout { IsFunctionLayout (pipeline_in self.now.job.now) self.now.layout.now }
+        requires needs { NeedsGiven (K.given self.now.known.now) self.now.layout.now.needs }
+        requires last { (inner : List (ℕ × Area)) (last : ℕ × Area)
+            → self.now.layout.now.steps ≡ inner ++ last ∷ [] → step_view step.now ≡ last }
+        requires function { IsFunctionAt (pipeline_in self.now.job.now) step.now.stage
+            (map case_view function.now.cases.items)
+            (option_map formula_view function.now.otherwise) }
         ensures { IfOk result (λ values. values.items
             ≡ raster step.now.area (local_value (pipeline_in self.now.job.now)
             self.now.layout.now.inlining (K.given self.now.known.now) step.now.stage)) }
     {
-        let mut values = Vec::new(alloc);
-        if let Some(function) = function_of(self.job, step.stage) {
-            let inputs = TileInputs { tile: *self, boxes };
-            let temps = &mut scratch.temps;
-            inputs.values(step.stage, function, &step.area, &mut values, temps)?;
-        }
+        let area = &step.area;
+        let room = function_room(function, area.cols.len() as usize).ok_or(AllocError)?;
+        let mut temps = vec![in alloc; 0; room]?;
+        let mut values = vec![in alloc; 0; area.points() as usize]?;
+        let boxes = self.prepare(alloc, scratch)?;
+        let tile = *self;
+        let inputs = TileInputs { tile, boxes };
+        inputs.values(step.stage, function, area, &mut values, &mut temps);
         Ok(values)
     }
 
@@ -96,10 +101,10 @@ impl<K: Known> TileJob<'_, K> {
         let Some(last) = last_of(self.layout.steps()) else {
             return Ok(Vec::new(alloc));
         };
-        let boxes = self.prepare(alloc, scratch)?;
-        let values = self.target(alloc, &boxes, last, scratch)?;
-        self.finish(boxes, scratch);
-        Ok(values)
+        match function_of(self.job, last.stage) {
+            Some(function) => self.target(alloc, last, function, scratch),
+            None => Ok(Vec::new(alloc)),
+        }
     }
 }
 

@@ -1,26 +1,28 @@
 #![tactic(auto)]
-//! The steps of a tile, one after another: inlined functions over their boxes.
+//! The steps of a tile, one after another: inlined functions over their boxes, each in its range of scratch memory.
 
-ghost use Rattle.std.specs.Prelude.{◌≡◌, ◌≢◌, ◌<◌, ◌+◌, ℕ, ℤ, map, length, slice_get, OnOk, IfSome, IfNone};
+ghost use Rattle.std.specs.Prelude.{◌≡◌, ◌≤◌, ◌<◌, ◌+◌, ℕ, suc, false, map, length, IfSome, IfNone};
 ghost use Rattle.std.specs.Option.{option_map};
-ghost use Rattle.std.specs.Prelude.{false};
-ghost use Rattle.domains.specs.Area.{HoldsPoint, IsArea};
+ghost use Rattle.domains.specs.Area.{IsArea, point_count};
+ghost use Rattle.domains.specs.Span.{len_of};
 ghost use Rattle.grouping.specs.Schedules.{is_function};
 ghost use Rattle.job.specs.Kept.{pipeline_in};
 ghost use Rattle.job.specs.Views.{case_view, formula_view};
-ghost use Rattle.overlap_tiles.specs.Views.{step_view};
-ghost use Rattle.tile_eval.specs.Buffer.{IsKnownAt};
-ghost use Rattle.tile_run.specs.inside.Steps.{IsFunctionAt, AreLocal, AreComputed, AreRunnable, IsReadyOver};
+ghost use Rattle.scratch.specs.Lending.{numbers_of};
+ghost use Rattle.scratch.specs.Parts.{with_part};
+ghost use Rattle.tile_eval.specs.Buffer.{raster};
+ghost use Rattle.tile_eval.specs.Reading.{HasFunctionRoom};
+ghost use Rattle.tile_run.specs.Local.{local_value};
+ghost use Rattle.tile_run.specs.Runs.{NeedsGiven, IsSomeLayout};
+ghost use Rattle.tile_run.specs.inside.Steps.{IsFunctionAt, AreComputed, HasStepsRoom, IsPreparedBeside};
 
-use crate::buffers::Scratch;
+use crate::boxes::Boxes;
 use crate::known::Known;
 use crate::tile_inputs::TileInputs;
 use crate::tile_job::TileJob;
-use domains::Area;
 use job::{Body, Function, Job};
 use overlap_tiles::Step;
-use std::alloc::{AllocError, Global};
-use tile_eval::{Buffer, StageBuffers};
+use scratch::Scratch;
 
 /// The function of this number.
 pub(crate) fn function_of(job: &Job, number: usize) -> Option<&Function>
@@ -35,96 +37,78 @@ pub(crate) fn function_of(job: &Job, number: usize) -> Option<&Function>
 }
 
 impl<K: Known> TileJob<'_, K> {
-    // Computes a function over an area of its domain, where all that it reads there is at hand, so that this is at hand from
-    // then on in place of what was computed of it before.
-    fn compute(
+    // Writes the values of a function over its box into the box's range, which starts there. The memory before the range and that
+    // behind it are lent meanwhile.
+    fn write_box(
         &self,
-        alloc: Global,
-        boxes: &mut StageBuffers,
-        number: usize,
+        step: &Step,
         function: &Function,
-        area: &Area,
+        start: usize,
         scratch: &mut Scratch,
-    ) -> Result<(), AllocError>
-        requires function { IsFunctionAt (pipeline_in self.now.job.now) number
+        temps: &mut [i32],
+    )
+        requires function { IsFunctionAt (pipeline_in self.now.job.now) step.now.stage
             (map case_view function.now.cases.items)
             (option_map formula_view function.now.otherwise) }
-        requires area { IsArea area.now }
-        requires room { number < length boxes.old.buffers.items }
-        requires local { AreLocal (pipeline_in self.now.job.now) self.now.layout.now.inlining
-            (K.given self.now.known.now) boxes.old.buffers.items }
-        requires ready { IsReadyOver (pipeline_in self.now.job.now) self.now.layout.now.inlining
-            (K.given self.now.known.now) boxes.old.buffers.items number area.now }
-        ensures room { length boxes.new.buffers.items ≡ length boxes.old.buffers.items }
-        ensures local { OnOk result (AreLocal (pipeline_in self.now.job.now)
-            self.now.layout.now.inlining (K.given self.now.known.now) boxes.new.buffers.items) }
-        ensures computed { OnOk result
-            ((r c : ℤ) → HoldsPoint area.now r c → IsKnownAt boxes.new.buffers.items number r c) }
-        ensures others { (g : ℕ) → g ≢ number
-            → slice_get boxes.new.buffers.items g ≡ slice_get boxes.old.buffers.items g }
+        requires area { IsArea step.now.area }
+        requires inside { (start + point_count step.now.area) ≤ length (numbers_of scratch.old) }
+        requires prepared { IsPreparedBeside (pipeline_in self.now.job.now) self.now.layout.now
+            (K.given self.now.known.now) (numbers_of scratch.old) start step.now.stage step.now.area }
+        requires room { HasFunctionRoom (len_of step.now.area.cols) (length temps.old)
+            (map case_view function.now.cases.items)
+            (option_map formula_view function.now.otherwise) }
+        ensures { numbers_of scratch.new
+            ≡ with_part (numbers_of scratch.old) start (start + point_count step.now.area)
+            (raster step.now.area (local_value (pipeline_in self.now.job.now)
+            self.now.layout.now.inlining (K.given self.now.known.now) step.now.stage)) }
     {
-        let mut values = scratch.spare(alloc);
-        let inputs = TileInputs {
-            tile: *self,
-            boxes: &*boxes,
+        let end = start + step.area.points() as usize;
+        let (before, part, behind) = scratch.parts(start..end);
+        let boxes = Boxes {
+            before,
+            behind,
+            end,
         };
-        inputs.values(number, function, area, &mut values, &mut scratch.temps)?;
-        boxes.put(number, Buffer::new(*area, values));
-        Ok(())
+        let tile = *self;
+        let inputs = TileInputs { tile, boxes };
+        inputs.values(step.stage, function, &step.area, part, temps);
     }
 
-    // Computes the step at this place of a list, where those before it are computed.
-    fn run_step(
-        &self,
-        alloc: Global,
-        boxes: &mut StageBuffers,
-        steps: &[Step],
-        place: usize,
-        scratch: &mut Scratch,
-    ) -> Result<(), AllocError>
-        requires room { length boxes.old.buffers.items
-            ≡ length (pipeline_in self.now.job.now).stages }
-        requires there { place < length steps.now }
-        requires runnable { AreRunnable (pipeline_in self.now.job.now) self.now.layout.now.inlining
-            (K.given self.now.known.now) (map step_view steps.now) }
-        requires local { AreLocal (pipeline_in self.now.job.now) self.now.layout.now.inlining
-            (K.given self.now.known.now) boxes.old.buffers.items }
-        requires before { AreComputed (map step_view steps.now) place boxes.old.buffers.items }
-        ensures room { length boxes.new.buffers.items ≡ length boxes.old.buffers.items }
-        ensures local { OnOk result (AreLocal (pipeline_in self.now.job.now)
-            self.now.layout.now.inlining (K.given self.now.known.now) boxes.new.buffers.items) }
-        ensures computed { OnOk result
-            (AreComputed (map step_view steps.now) (place + 1) boxes.new.buffers.items) }
+    // Computes the step at this place in its range, where those before it that are still read are computed.
+    fn run_step(&self, place: usize, scratch: &mut Scratch, temps: &mut [i32])
+        requires layout { IsSomeLayout (pipeline_in self.now.job.now) self.now.layout.now }
+        requires needs { NeedsGiven (K.given self.now.known.now) self.now.layout.now.needs }
+        requires there { suc place < length self.now.layout.now.steps }
+        requires size { self.now.layout.now.scratch ≤ length (numbers_of scratch.old) }
+        requires room { HasStepsRoom (pipeline_in self.now.job.now) self.now.layout.now.steps
+            (length temps.old) }
+        requires before { AreComputed (pipeline_in self.now.job.now) self.now.layout.now
+            (K.given self.now.known.now) (numbers_of scratch.old) place }
+        ensures size { length (numbers_of scratch.new) ≡ length (numbers_of scratch.old) }
+        ensures computed { AreComputed (pipeline_in self.now.job.now) self.now.layout.now
+            (K.given self.now.known.now) (numbers_of scratch.new) (place + 1) }
     {
-        let step = steps[place];
-        match function_of(self.job, step.stage) {
-            Some(function) => self.compute(alloc, boxes, step.stage, function, &step.area, scratch),
-            None => Ok(()),
+        let step = self.layout.steps()[place];
+        let (start, _) = self.layout.ranges()[place];
+        if let Some(function) = function_of(self.job, step.stage) {
+            self.write_box(&step, function, start, scratch, temps);
         }
     }
 
-    /// Computes each of these steps.
-    pub(crate) fn run_steps(
-        &self,
-        alloc: Global,
-        boxes: &mut StageBuffers,
-        steps: &[Step],
-        scratch: &mut Scratch,
-    ) -> Result<(), AllocError>
-        requires room { length boxes.old.buffers.items
-            ≡ length (pipeline_in self.now.job.now).stages }
-        requires runnable { AreRunnable (pipeline_in self.now.job.now) self.now.layout.now.inlining
-            (K.given self.now.known.now) (map step_view steps.now) }
-        requires local { AreLocal (pipeline_in self.now.job.now) self.now.layout.now.inlining
-            (K.given self.now.known.now) boxes.old.buffers.items }
-        ensures local { OnOk result (AreLocal (pipeline_in self.now.job.now)
-            self.now.layout.now.inlining (K.given self.now.known.now) boxes.new.buffers.items) }
-        ensures computed { OnOk result
-            (AreComputed (map step_view steps.now) (length steps.now) boxes.new.buffers.items) }
+    /// Computes each step before the last.
+    pub(crate) fn run_steps(&self, scratch: &mut Scratch, temps: &mut [i32])
+        requires layout { IsSomeLayout (pipeline_in self.now.job.now) self.now.layout.now }
+        requires needs { NeedsGiven (K.given self.now.known.now) self.now.layout.now.needs }
+        requires size { self.now.layout.now.scratch ≤ length (numbers_of scratch.old) }
+        requires room { HasStepsRoom (pipeline_in self.now.job.now) self.now.layout.now.steps
+            (length temps.old) }
+        ensures size { length (numbers_of scratch.new) ≡ length (numbers_of scratch.old) }
+        ensures computed { (last : ℕ) → suc last ≡ length self.now.layout.now.steps → AreComputed
+            (pipeline_in self.now.job.now) self.now.layout.now
+            (K.given self.now.known.now) (numbers_of scratch.new) last }
     {
-        for place in 0..steps.len() {
-            self.run_step(alloc, boxes, steps, place, scratch)?;
+        for place in 1..self.layout.steps().len() {
+            self.run_step(place - 1, scratch, temps);
         }
-        Ok(())
     }
 }

@@ -1,66 +1,108 @@
 #![tactic(auto)]
 //! What is at hand for a tile: planes, tiles that are given, and boxes of inlined functions.
 
-ghost use Rattle.std.specs.Prelude.{◌≡◌};
+ghost use Rattle.std.specs.Prelude.{◌≡◌, map, slice_get};
+ghost use Rattle.std.specs.Option.{option_map};
 ghost use Rattle.job.specs.Kept.{pipeline_in};
+ghost use Rattle.overlap_tiles.specs.Views.{step_view};
 ghost use Rattle.tile_run.specs.Prepared.{IsInputAt, input_at};
 
+use crate::boxes::Boxes;
 use crate::known::Known;
 use crate::samples::{plane_gather, plane_row, plane_sample};
 use crate::tile_job::TileJob;
 use domains::{Area, Index};
 use job::{Body, Function};
-use std::alloc::AllocError;
-use tile_eval::{RowSource, RowSpan, StageBuffers, area_into};
+use overlap_tiles::Step;
+use tile_eval::{BufferView, RowSource, RowSpan, area_onto};
 
 /// What a tile reads: planes of its job, tiles that are given of functions that are stored, and boxes of functions that are inlined.
 #[derive(Drop)]
-pub struct TileInputs<'a, K: Known> {
+pub struct TileInputs<'a, 'b, K: Known> {
     pub tile: TileJob<'a, K>,
-    pub boxes: &'a StageBuffers,
+    pub boxes: Boxes<'b>,
 }
 
-impl<K: Known> TileInputs<'_, K> {
-    ghost use Rattle.std.specs.Prelude.{map, OnOk};
-    ghost use Rattle.std.specs.Option.{option_map};
-    ghost use Rattle.domains.specs.Area.{IsArea};
+// The area of the step at a place.
+fn area_at(steps: &[Step], place: usize) -> Option<Area>
+    ensures { result ≡ option_map (λ s. s.1) (slice_get (map step_view steps.now) place) }
+{
+    Some(steps.get(place)?.area)
+}
+
+// Where the range at a place starts.
+fn start_at(ranges: &[(usize, usize)], place: usize) -> Option<usize>
+    ensures { result ≡ option_map (λ r. r.0) (slice_get ranges.now place) }
+{
+    Some(ranges.get(place)?.0)
+}
+
+impl<K: Known> TileInputs<'_, '_, K> {
+    ghost use Rattle.std.specs.Prelude.{ℤ, length, IfSome, IfNone};
+    ghost use Rattle.domains.specs.Area.{HoldsPoint, IsArea, point_count};
+    ghost use Rattle.domains.specs.Span.{len_of};
     ghost use Rattle.job.specs.Views.{case_view, formula_view};
-    ghost use Rattle.tile_eval.specs.Buffer.{raster};
+    ghost use Rattle.tile_eval.specs.Buffer.{place_of, raster};
+    ghost use Rattle.tile_eval.specs.Reading.{HasFunctionRoom};
+    ghost use Rattle.tile_eval.specs.Rows.{at};
     ghost use Rattle.tile_run.specs.Local.{local_value};
-    ghost use Rattle.tile_run.specs.Prepared.{IsPrepared};
+    ghost use Rattle.tile_run.specs.Prepared.{IsBoxed, IsPrepared};
     ghost use Rattle.tile_run.specs.inside.Steps.{IsFunctionAt};
 
-    // Writes the values of a function over an area of its domain, row by row, where all that it reads there is at hand. What the
-    // vectors hold before means nothing; their memory is used again.
+    // The box of an inlined function, if it is lent.
+    fn boxed(&self, stage: usize) -> Option<BufferView<'_>>
+        ensures some { IfSome result (λ view. (r c : ℤ)
+            → IsBoxed (pipeline_in self.now.tile.job.now) self.now.tile.layout.now
+            (K.given self.now.tile.known.now) self.now.boxes stage r c
+            → HoldsPoint view.area r c × (at view.values.now (place_of view.area r c)
+            ≡ local_value (pipeline_in self.now.tile.job.now)
+            self.now.tile.layout.now.inlining (K.given self.now.tile.known.now) stage r c)) }
+        ensures none { IfNone result ((r c : ℤ)
+            → ¬ (IsBoxed (pipeline_in self.now.tile.job.now) self.now.tile.layout.now
+            (K.given self.now.tile.known.now) self.now.boxes stage r c)) }
+    {
+        let layout = self.tile.layout;
+        let place = layout.place(stage)?;
+        let area = area_at(layout.steps(), place)?;
+        let start = start_at(layout.ranges(), place)?;
+        let numbers = self.boxes.lent(start, area.points() as usize)?;
+        Some(BufferView::new(area, numbers))
+    }
+
+    /// Writes the values of a function over an area of its domain, row by row, where all that it reads there is at hand. What the
+    /// room for the operands holds means nothing.
     pub(crate) fn values(
         &self,
         number: usize,
         function: &Function,
         area: &Area,
-        values: &mut Vec<i32>,
-        temps: &mut Vec<i32>,
-    ) -> Result<(), AllocError>
+        out: &mut [i32],
+        temps: &mut [i32],
+    )
         requires function { IsFunctionAt (pipeline_in self.now.tile.job.now) number
             (map case_view function.now.cases.items)
             (option_map formula_view function.now.otherwise) }
         requires area { IsArea area.now }
         requires prepared { IsPrepared (pipeline_in self.now.tile.job.now)
-            self.now.tile.layout.now.inlining (K.given self.now.tile.known.now) self.now.boxes.now
+            self.now.tile.layout.now (K.given self.now.tile.known.now) self.now.boxes
             number area.now }
-        ensures { OnOk result (values.new.items
-            ≡ raster area.now (local_value (pipeline_in self.now.tile.job.now)
-            self.now.tile.layout.now.inlining (K.given self.now.tile.known.now) number)) }
+        requires len { length out.old ≡ point_count area.now }
+        requires room { HasFunctionRoom (len_of area.now.cols) (length temps.old)
+            (map case_view function.now.cases.items)
+            (option_map formula_view function.now.otherwise) }
+        ensures { out.new ≡ raster area.now (local_value (pipeline_in self.now.tile.job.now)
+            self.now.tile.layout.now.inlining (K.given self.now.tile.known.now) number) }
     {
-        area_into(self, function, area, values, temps)
+        area_onto(self, function, area, out, temps)
     }
 }
 
-impl<K: Known> RowSource for TileInputs<'_, K> {
-    ghost has = { λ inputs g r c. IsInputAt (pipeline_in inputs.tile.job.now) inputs.tile.layout.now.inlining
-        (K.given inputs.tile.known.now) inputs.boxes.now g r c };
+impl<K: Known> RowSource for TileInputs<'_, '_, K> {
+    ghost has = { λ inputs g r c. IsInputAt (pipeline_in inputs.tile.job.now) inputs.tile.layout.now
+        (K.given inputs.tile.known.now) inputs.boxes g r c };
 
     ghost samples = { λ inputs g r c. input_at (pipeline_in inputs.tile.job.now) inputs.tile.layout.now.inlining
-        (K.given inputs.tile.known.now) inputs.boxes.now g r c };
+        (K.given inputs.tile.known.now) g r c };
 
     fn read_row(&self, stage: usize, row: i32, first: i32, out: &mut [i32]) {
         let Some(found) = self.tile.job.stage(stage) else {
@@ -69,7 +111,9 @@ impl<K: Known> RowSource for TileInputs<'_, K> {
         match found.body() {
             Body::Plane(plane) => plane_row(self.tile.job.picture(), *plane, row, first, out),
             Body::Function(_) if self.tile.layout.inlined(stage) => {
-                self.boxes.read_row(stage, row, first, out);
+                if let Some(view) = self.boxed(stage) {
+                    view.read_row(row, first, out);
+                }
             }
             Body::Function(_) => self.tile.given(stage, found).read_row(row, first, out),
             Body::Accumulator(_) => {}
@@ -80,7 +124,10 @@ impl<K: Known> RowSource for TileInputs<'_, K> {
         let found = self.tile.job.stage(stage)?;
         match found.body() {
             Body::Function(_) if self.tile.layout.inlined(stage) => {
-                self.boxes.borrow_row(stage, row, first, count)
+                match self.boxed(stage) {
+                    Some(view) => Some(view.slice(row, first, count)),
+                    None => None,
+                }
             }
             Body::Function(_) => self.tile.given(stage, found).borrow_row(row, first, count),
             _ => None,
@@ -101,7 +148,9 @@ impl<K: Known> RowSource for TileInputs<'_, K> {
                 out,
             ),
             Body::Function(_) if self.tile.layout.inlined(stage) => {
-                self.boxes.gather(stage, row, col, points, out);
+                if let Some(view) = self.boxed(stage) {
+                    view.gather(row, col, points, out);
+                }
             }
             Body::Function(_) => self.tile.given(stage, found).gather(row, col, points, out),
             Body::Accumulator(_) => {}
@@ -114,9 +163,10 @@ impl<K: Known> RowSource for TileInputs<'_, K> {
         };
         match found.body() {
             Body::Plane(plane) => plane_sample(self.tile.job.picture(), *plane, row, col),
-            Body::Function(_) if self.tile.layout.inlined(stage) => self
-                .boxes
-                .sample(stage, row, col),
+            Body::Function(_) if self.tile.layout.inlined(stage) => match self.boxed(stage) {
+                Some(view) => view.sample(row, col),
+                None => 0,
+            },
             Body::Function(_) => self.tile.given(stage, found).sample(row, col),
             Body::Accumulator(_) => 0,
         }

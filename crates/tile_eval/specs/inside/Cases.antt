@@ -1,7 +1,5 @@
 -- What is needed to evaluate cases along a row of points.
-use Rattle.std.specs.Prelude.{ℕ, ◌-◌, ◌≤◌, ◌≡◌, ℤ, true, Option, List, All}
-use Rattle.std.specs.Option.{ForSome}
-use Rattle.job.specs.Formula.{Formula}
+use Rattle.std.specs.Prelude.{ℕ, ◌-◌, ◌≤◌, ◌≡◌, ℤ, true, All}
 use Rattle.job.specs.Pipeline.{JobCase}
 use Rattle.job.specs.Values.{all_passed}
 use Rattle.job.specs.Boxes.{BoundsHold}
@@ -23,9 +21,3 @@ pub record IsRoomy (n room : ℕ) (p : JobCase) : Type 0 where
   pub tests : All IsTest p.tests
   pub row : n ≤ room
   pub operands : HasRoom p.formula n (room - n)
-
--- room for one row, for the operands of all cases beside it, and for those of what holds elsewhere
-pub record HasFunctionRoom (n room : ℕ) (ps : List JobCase) (otherwise : Option Formula) : Type 0 where
-  pub row : n ≤ room
-  pub operands : All (λ p. HasRoom p.formula n (room - n)) ps
-  pub other : ForSome otherwise (λ f. HasRoom f n room)

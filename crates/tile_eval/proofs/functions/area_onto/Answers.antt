@@ -4,7 +4,7 @@ use Rattle.job.specs.Views.{case_view, formula_view}
 use Rattle.job.proofs.Steps.{All-from_map}
 use Rattle.tile_eval.specs.Cases.{function_value}
 use Rattle.tile_eval.proofs.Domains.{IsLaid, IsReadyOver, cases_ready, other_ready, raster_from}
-use Rattle.tile_eval.proofs.functions.fill_area.Goals as goal
+use Rattle.tile_eval.proofs.functions.area_onto.Goals as goal
 
 pub fill_rows-requires-clause-cases : goal.fill_rows-requires-clause-cases
 fill_rows-requires-clause-cases g c =
