@@ -1,4 +1,5 @@
 pub mod Rows
+pub mod Operands
 pub mod Places
 pub mod Divided
 pub mod RowMask

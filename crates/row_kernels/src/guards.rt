@@ -1,7 +1,7 @@
 #![tactic(auto)]
 //! Tests along rows of points.
 
-ghost use Rattle.std.specs.Prelude.{◌≡◌, ◌<◌, ◌+ℤ◌, ◌≤ℤ◌, ℤ, pos, length, map, All, if◌then◌else◌};
+ghost use Rattle.std.specs.Prelude.{◌≡◌, ◌≢◌, ◌<◌, ◌+ℤ◌, ◌≤ℤ◌, ℤ, pos, length, map, All, if◌then◌else◌};
 ghost use Rattle.std.specs.Ordering.{int_eq};
 ghost use Rattle.domains.specs.Arithmetic.{floor_rem};
 ghost use Rattle.job.specs.Values.{along, is_related, is_passed, all_passed};
@@ -118,18 +118,26 @@ fn left_of(v: i32, modulus: u32) -> u32
     floor_rem(v, modulus as i32) as u32
 }
 
-// What it leaves of the next number.
-fn next_left(left: u32, modulus: u32) -> u32
+// How far behind a number, of which this is left, the first one lies that leaves the rest.
+fn gap_to_rest(left: u32, modulus: u32, rest: u32) -> usize
     requires modulus { IsDivisor modulus }
-    requires below { left < modulus }
-    ensures below { result < modulus }
-    ensures next { (v : ℤ) → pos left ≡ floor_rem v (pos modulus)
-        → pos result ≡ floor_rem (v +ℤ pos 1) (pos modulus) }
+    requires left { left < modulus }
+    requires rest { rest < modulus }
+    ensures few { result < modulus }
+    ensures lands { (v : ℤ) → pos left ≡ floor_rem v (pos modulus)
+        → floor_rem (v +ℤ pos result) (pos modulus) ≡ pos rest }
+    ensures first { (v : ℤ) → pos left ≡ floor_rem v (pos modulus)
+        → EachPlace result (λ d. floor_rem (v +ℤ pos d) (pos modulus) ≢ pos rest) }
 {
-    if left + 1 == modulus { 0 } else { left + 1 }
+    let gap = if rest < left {
+        rest + (modulus - left)
+    } else {
+        rest - left
+    };
+    gap as usize
 }
 
-// Takes the numbers of the other row in the columns that leave this rest.
+// Takes the numbers of the other row in the columns that leave this rest, one of so many.
 fn take_leaving(out: &mut [i32], other: &[i32], modulus: u32, rest: u32, points: &RowSpan)
     requires other { length other.now ≡ length out.old }
     requires modulus { IsDivisor modulus }
@@ -137,10 +145,13 @@ fn take_leaving(out: &mut [i32], other: &[i32], modulus: u32, rest: u32, points:
         ≡ (if int_eq (floor_rem (points.now.col +ℤ pos k) (pos modulus)) (pos rest)
         then at other.now k else at out.old k)) }
 {
-    let mut left = left_of(points.col, modulus);
-    for k in 0..out.len() {
-        out[k] = if left == rest { other[k] } else { out[k] };
-        left = next_left(left, modulus);
+    if rest >= modulus {
+        return;
+    }
+    let mut k = gap_to_rest(left_of(points.col, modulus), modulus, rest);
+    while k < out.len() {
+        out[k] = other[k];
+        k += modulus as usize;
     }
 }
 

@@ -2,22 +2,28 @@
 #![tactic(auto)]
 
 mod buffer_view;
-mod constants;
+mod changes;
 mod divided_columns;
 mod guards;
-mod kernels;
+mod loops;
+mod operand;
+mod operand_rows;
 mod operators;
+mod pairs;
 mod reciprocal;
 mod row_span;
 mod stencil;
 mod stencil3x3;
+mod values;
 
 pub use buffer_view::{BufferView, step_of};
-pub use constants::cut_between;
 pub use divided_columns::DividedColumns;
 pub use guards::{RowMask, take_where, where_passed};
-pub use kernels::{count_up, cut, divide_by, fill, keep_related, make_absolute, negate};
-pub use operators::{combine, combine_literal, combine_number};
+pub use loops::{count_up, fill};
+pub use operand::Operand;
+pub use operators::{
+    combine, combine_literal, combine_scaled, cut, divide_by, keep_related, make_absolute, negate,
+};
 pub use row_span::{RowSpan, number_after};
 pub use stencil::add_taps;
 pub use stencil3x3::Kernel3x3;

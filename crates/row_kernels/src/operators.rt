@@ -1,53 +1,155 @@
 #![tactic(auto)]
-//! What the operators of formulas do to rows of numbers.
+//! What the operators of formulas make of rows of numbers.
 
-ghost use Rattle.std.specs.Prelude.{◌≡◌, length};
-ghost use Rattle.job.specs.Values.{binary_value, literal_value};
-ghost use Rattle.job.specs.WellFormed.{IsLiteral};
+ghost use Rattle.std.specs.Prelude.{◌≡◌, ◌<ℤ◌, ◌*ℤ◌, length, pos, neg_ℤ, unsigned_abs, if◌then◌else◌};
+ghost use Rattle.domains.specs.Arithmetic.{wrapped, clamped, floor_div, floor_rem};
+ghost use Rattle.job.specs.Values.{binary_value, literal_value, is_related};
+ghost use Rattle.job.specs.WellFormed.{IsDivisor, IsLiteral};
+ghost use Rattle.row_kernels.specs.Operands.{operand_at, Serves, IsGiven};
 ghost use Rattle.row_kernels.specs.Rows.{EachPlace, at};
 
-use crate::{constants, kernels};
-use domains::{BinaryOp, LiteralOp};
+use crate::changes::{AbsoluteValue, Count, Cut, Negation, Rest, ShiftedLeft, ShiftedRight};
+use crate::loops::fill;
+use crate::operand::Operand;
+use crate::operand_rows::{keep_where, make_of, make_of_both, place};
+use crate::pairs::{AtMost, Difference, Equal, Exchanged, Greatest, Least, Product, Scaled, Sum};
+use crate::reciprocal::Reciprocal;
+use domains::{BinaryOp, LiteralOp, Relation};
 
-/// Joins a row with the row of the right operands.
-pub fn combine(op: BinaryOp, out: &mut [i32], right: &[i32])
-    requires { length right.now ≡ length out.old }
-    ensures { EachPlace (length out.old)
-        (λ k. at out.new k ≡ binary_value op (at out.old k) (at right.now k)) }
+/// Writes what an operator gives.
+pub fn combine(op: BinaryOp, out: &mut [i32], left: Operand, right: Operand)
+    requires left { Serves (length out.old) left }
+    requires right { Serves (length out.old) right }
+    ensures { EachPlace (length out.old) (λ k. at out.new k
+        ≡ binary_value op (operand_at left.entry out.old k) (operand_at right.entry out.old k)) }
 {
     match op {
-        BinaryOp::Add => kernels::add(out, right),
-        BinaryOp::Sub => kernels::subtract(out, right),
-        BinaryOp::Mul => kernels::multiply(out, right),
-        BinaryOp::Min => kernels::least(out, right),
-        BinaryOp::Max => kernels::greatest(out, right),
+        BinaryOp::Add => make_of_both(out, left, right, Sum),
+        BinaryOp::Sub => make_of_both(out, left, right, Difference),
+        BinaryOp::Mul => make_of_both(out, left, right, Product),
+        BinaryOp::Min => make_of_both(out, left, right, Least),
+        BinaryOp::Max => make_of_both(out, left, right, Greatest),
     }
 }
 
-/// Joins a row with one number, the right operand of each.
-pub fn combine_number(op: BinaryOp, out: &mut [i32], number: i32)
-    ensures { EachPlace (length out.old)
-        (λ k. at out.new k ≡ binary_value op (at out.old k) number) }
+/// Writes what an operator gives whose right operand is taken a number of times.
+pub fn combine_scaled(op: BinaryOp, out: &mut [i32], left: Operand, factor: i32, right: Operand)
+    requires left { Serves (length out.old) left }
+    requires right { Serves (length out.old) right }
+    ensures { EachPlace (length out.old) (λ k. at out.new k
+        ≡ binary_value op (operand_at left.entry out.old k)
+        (wrapped (factor *ℤ operand_at right.entry out.old k))) }
 {
     match op {
-        BinaryOp::Add => constants::add_number(out, number),
-        BinaryOp::Sub => constants::subtract_number(out, number),
-        BinaryOp::Mul => constants::multiply_number(out, number),
-        BinaryOp::Min => constants::cut_above(out, number),
-        BinaryOp::Max => constants::cut_below(out, number),
+        BinaryOp::Add => make_of_both(out, left, right, Scaled(Sum, factor)),
+        BinaryOp::Sub => make_of_both(out, left, right, Scaled(Difference, factor)),
+        BinaryOp::Mul => make_of_both(out, left, right, Scaled(Product, factor)),
+        BinaryOp::Min => make_of_both(out, left, right, Scaled(Least, factor)),
+        BinaryOp::Max => make_of_both(out, left, right, Scaled(Greatest, factor)),
     }
 }
 
-/// Joins a row with a number of the text.
-pub fn combine_literal(op: LiteralOp, out: &mut [i32], number: u32)
-    requires { IsLiteral op number }
+/// Writes the quotients by a number of a text, rounded down.
+pub fn divide_by(out: &mut [i32], of: Operand, number: u32)
+    requires of { Serves (length out.old) of }
+    requires number { IsDivisor number }
     ensures { EachPlace (length out.old)
-        (λ k. at out.new k ≡ literal_value op (at out.old k) number) }
+        (λ k. at out.new k ≡ floor_div (operand_at of.entry out.old k) (pos number)) }
+{
+    if number == 1 {
+        return place(out, of);
+    }
+    let bits = number.ilog2();
+    if number == 1 << bits {
+        make_of(out, of, ShiftedRight(Count { bits }));
+    } else {
+        make_of(out, of, Reciprocal::new(number));
+    }
+}
+
+/// Writes what the division by a number of a text, rounded down, leaves.
+fn leave_remainder(out: &mut [i32], of: Operand, number: u32)
+    requires of { Serves (length out.old) of }
+    requires number { IsDivisor number }
+    ensures { EachPlace (length out.old)
+        (λ k. at out.new k ≡ floor_rem (operand_at of.entry out.old k) (pos number)) }
+{
+    if number == 1 {
+        fill(out, 0);
+    } else {
+        make_of(out, of, Rest(Reciprocal::new(number)));
+    }
+}
+
+/// Writes what an operator gives whose right operand is a number of the text.
+pub fn combine_literal(op: LiteralOp, out: &mut [i32], left: Operand, number: u32)
+    requires left { Serves (length out.old) left }
+    requires number { IsLiteral op number }
+    ensures { EachPlace (length out.old)
+        (λ k. at out.new k ≡ literal_value op (operand_at left.entry out.old k) number) }
 {
     match op {
-        LiteralOp::Div => kernels::divide_by(out, number),
-        LiteralOp::Rem => kernels::leave_remainder(out, number as i32),
-        LiteralOp::Shl => kernels::shift_left(out, number),
-        LiteralOp::Shr => kernels::shift_right(out, number),
+        LiteralOp::Div => divide_by(out, left, number),
+        LiteralOp::Rem => leave_remainder(out, left, number),
+        LiteralOp::Shl => make_of(out, left, ShiftedLeft(Count { bits: number })),
+        LiteralOp::Shr => make_of(out, left, ShiftedRight(Count { bits: number })),
+    }
+}
+
+/// Writes the negations.
+pub fn negate(out: &mut [i32], of: Operand)
+    requires { Serves (length out.old) of }
+    ensures { EachPlace (length out.old)
+        (λ k. at out.new k ≡ wrapped (neg_ℤ (operand_at of.entry out.old k))) }
+{
+    make_of(out, of, Negation);
+}
+
+/// Writes the absolute values.
+pub fn make_absolute(out: &mut [i32], of: Operand)
+    requires { Serves (length out.old) of }
+    ensures { EachPlace (length out.old)
+        (λ k. at out.new k ≡ wrapped (pos (unsigned_abs (operand_at of.entry out.old k)))) }
+{
+    make_of(out, of, AbsoluteValue);
+}
+
+/// Writes the numbers of an operand, cut to at least that of `low`, and then to at most that of `high`.
+pub fn cut(out: &mut [i32], of: Operand, low: Operand, high: Operand)
+    requires of { Serves (length out.old) of }
+    requires low { Serves (length out.old) low }
+    requires high { Serves (length out.old) high × IsGiven high }
+    ensures { EachPlace (length out.old) (λ k. at out.new k
+        ≡ clamped (operand_at of.entry out.old k) (operand_at low.entry out.old k)
+        (operand_at high.entry out.old k)) }
+{
+    if let (Operand::Number(low), Operand::Number(high)) = (low, high) {
+        make_of(out, of, Cut { low, high });
+    } else {
+        make_of_both(out, of, low, Greatest);
+        make_of_both(out, Operand::Written, high, Least);
+    }
+}
+
+/// Keeps a number where the left operand is in the relation to the right one, and takes the other operand elsewhere.
+pub fn keep_related(
+    out: &mut [i32],
+    left: Operand,
+    relation: Relation,
+    right: Operand,
+    other: Operand,
+)
+    requires left { Serves (length out.old) left × IsGiven left }
+    requires right { Serves (length out.old) right × IsGiven right }
+    requires other { Serves (length out.old) other × IsGiven other }
+    ensures { EachPlace (length out.old) (λ k. at out.new k
+        ≡ (if is_related relation (operand_at left.entry out.old k)
+        (operand_at right.entry out.old k) then at out.old k
+        else operand_at other.entry out.old k)) }
+{
+    match relation {
+        Relation::AtMost => keep_where(out, left, right, other, AtMost),
+        Relation::AtLeast => keep_where(out, left, right, other, Exchanged(AtMost)),
+        Relation::Equals => keep_where(out, left, right, other, Equal),
     }
 }

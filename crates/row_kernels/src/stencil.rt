@@ -6,7 +6,8 @@ ghost use Rattle.domains.specs.Arithmetic.{wrapped};
 ghost use Rattle.row_kernels.specs.Rows.{EachPlace, at};
 ghost use Rattle.row_kernels.specs.Stencil.{tap_sum};
 
-use crate::kernels::{add, add_scaled};
+use crate::loops::join;
+use crate::pairs::{Scaled, Sum};
 use crate::stencil3x3::Triple;
 
 // Adds the products of a factor and the samples of a line.
@@ -17,8 +18,8 @@ fn add_tap(out: &mut [i32], line: &[i32], factor: i32)
 {
     match factor {
         0 => {}
-        1 => add(out, line),
-        _ => add_scaled(out, line, factor),
+        1 => join(out, line, Sum),
+        _ => join(out, line, Scaled(Sum, factor)),
     }
 }
 

@@ -12,7 +12,7 @@ ghost use Rattle.tile_eval.specs.inside.Stencil.{row_sum, IsUnder};
 use crate::source::RowSource;
 use crate::source_row::SourceRow;
 use job::Kernel;
-use row_kernels::{Kernel3x3, add_taps, divide_by, fill};
+use row_kernels::{Kernel3x3, Operand, add_taps, divide_by, fill};
 
 impl<'a, S: RowSource> SourceRow<'a, S> {
     // The samples under a row of a kernel.
@@ -150,6 +150,6 @@ impl<'a, S: RowSource> SourceRow<'a, S> {
         if !self.sums_at_once(stage, kernel, out) {
             self.sums_by_rows(stage, kernel, out, temps);
         }
-        divide_by(out, divisor);
+        divide_by(out, Operand::Written, divisor);
     }
 }

@@ -8,10 +8,10 @@ use Rattle.row_kernels.proofs.stencil.add_tap.Goals as goal
 pub returns-in-1 : goal.returns-in-1
 returns-in-1 c = λ k h s e.
     let one : c.args.factor ≡ pos 1 = search rules in
-    tap_of_one s _ (at c.args.line.now k) _ e (c.add.ensures k h) ∙ ap (λ (f : ℤ). wrapped (s +ℤ f *ℤ at c.args.line.now k)) (sym one)
+    tap_of_one s _ (at c.args.line.now k) _ e (c.join.ensures k h) ∙ ap (λ (f : ℤ). wrapped (s +ℤ f *ℤ at c.args.line.now k)) (sym one)
 
 pub returns-in_default : goal.returns-in_default
 returns-in_default c = λ k h s e.
     let factor : FitsSigned w32 c.args.factor = search rules in
-    let here = simp to_z-of_z at (c.add_scaled.ensures k h) in
+    let here = simp to_z-of_z at (c.join-in_default.ensures k h) in
     tap_of_other s _ (c.args.factor *ℤ at c.args.line.now k) _ e here

@@ -1,0 +1,102 @@
+#![tactic(auto)]
+//! Rows whose numbers are made place by place.
+
+ghost use Rattle.std.specs.Prelude.{◌≡◌, ◌≤ℤ◌, ◌+ℤ◌, pos, length, if◌then◌else◌};
+ghost use Rattle.row_kernels.specs.Rows.{EachPlace, at};
+
+use crate::changes::Change;
+use crate::pairs::Pair;
+use crate::values::Values;
+
+/// Each place has the number.
+pub fn fill(out: &mut [i32], number: i32)
+    ensures { EachPlace (length out.old) (λ k. at out.new k ≡ number) }
+{
+    for x in out.iter_mut() {
+        *x = number;
+    }
+}
+
+/// The numbers count up from the first.
+pub fn count_up(out: &mut [i32], first: i32)
+    requires { (first +ℤ pos (length out.old)) ≤ℤ pos 1000000 }
+    ensures { EachPlace (length out.old) (λ k. at out.new k ≡ first +ℤ pos k) }
+{
+    let mut next = first;
+    for k in 0..out.len() {
+        out[k] = next;
+        next += 1;
+    }
+}
+
+/// Each number becomes what is made of it.
+pub(crate) fn change<C: Change>(out: &mut [i32], make: C)
+    ensures { EachPlace (length out.old) (λ k. at out.new k ≡ C.value make (at out.old k)) }
+{
+    for k in 0..out.len() {
+        out[k] = make.of(out[k]);
+    }
+}
+
+/// Writes what is made of the numbers of a line.
+pub(crate) fn write_changed<C: Change>(out: &mut [i32], line: &[i32], make: C)
+    requires { length line.now ≡ length out.old }
+    ensures { EachPlace (length out.old) (λ k. at out.new k ≡ C.value make (at line.now k)) }
+{
+    for k in 0..out.len() {
+        out[k] = make.of(line[k]);
+    }
+}
+
+/// Each number becomes what is made of it and of the number of a line.
+pub(crate) fn join<P: Pair<Made = i32>>(out: &mut [i32], right: &[i32], make: P)
+    requires { length right.now ≡ length out.old }
+    ensures { EachPlace (length out.old)
+        (λ k. at out.new k ≡ P.value make (at out.old k) (at right.now k)) }
+{
+    for k in 0..out.len() {
+        out[k] = make.of(out[k], right[k]);
+    }
+}
+
+/// Writes what is made of the numbers of two lines.
+pub(crate) fn write_joined<P: Pair<Made = i32>>(
+    out: &mut [i32],
+    left: &[i32],
+    right: &[i32],
+    make: P,
+)
+    requires left { length left.now ≡ length out.old }
+    requires right { length right.now ≡ length out.old }
+    ensures { EachPlace (length out.old)
+        (λ k. at out.new k ≡ P.value make (at left.now k) (at right.now k)) }
+{
+    for k in 0..out.len() {
+        out[k] = make.of(left[k], right[k]);
+    }
+}
+
+/// Takes the other number where that of a line is not related to one, and keeps its own where it is.
+pub(crate) fn keep<R: Pair<Made = bool>, V: Values, W: Values>(
+    out: &mut [i32],
+    other: W,
+    left: &[i32],
+    right: V,
+    relate: R,
+)
+    requires left { length left.now ≡ length out.old }
+    requires right { EachPlace (length out.old) (V.has right) }
+    requires other { EachPlace (length out.old) (W.has other) }
+    ensures { EachPlace (length out.old) (λ k. at out.new k
+        ≡ (if R.value relate (at left.now k) (V.number right k) then at out.old k
+        else W.number other k)) }
+{
+    for k in 0..out.len() {
+        let (mine, its) = (out[k], other.at(k));
+        out[k] = if relate.of(left[k], right.at(k)) {
+            mine
+        } else {
+            its
+        };
+    }
+}

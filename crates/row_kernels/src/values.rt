@@ -1,0 +1,41 @@
+#![tactic(auto)]
+//! What has numbers along a row.
+
+ghost use Rattle.std.specs.Prelude.{◌≡◌, ◌<◌, ℕ, ℤ, length};
+ghost use Rattle.row_kernels.specs.Rows.{at};
+
+/// Has a number at places of a row.
+pub(crate) trait Values: Copy {
+    /// Whether there is one.
+    ghost has: { Self → ℕ → Type 0 };
+    /// And the number.
+    ghost number: { Self → ℕ → ℤ };
+
+    /// The number at a place.
+    fn at(&self, k: usize) -> i32
+        requires { has self.now k }
+        ensures { result ≡ number self.now k };
+}
+
+// One number is the same at each place.
+impl Values for i32 {
+    ghost has = { λ _ _. Unit {0} };
+
+    ghost number = { λ n _. n };
+
+    #[inline]
+    fn at(&self, _k: usize) -> i32 {
+        *self
+    }
+}
+
+impl<'a> Values for &'a [i32] {
+    ghost has = { λ line k. k < length line.now };
+
+    ghost number = { λ line k. at line.now k };
+
+    #[inline]
+    fn at(&self, k: usize) -> i32 {
+        self[k]
+    }
+}
