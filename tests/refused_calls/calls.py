@@ -12,7 +12,7 @@ class Call(NamedTuple):
 WITHOUT_MEMORY = ("read_cut", "of_output", "plan_nowhere", "run_tile_missing", "decode_cut", "lend_missing", "command_usage")
 
 # Those that are answered a fault with ample memory.
-FAULTS = (*WITHOUT_MEMORY, "check_cycle", "bounds_left", "make_missing")
+FAULTS = (*WITHOUT_MEMORY, "read_big", "check_cycle", "bounds_left", "make_missing")
 
 # Threads take memory of the system's library, in an order that no program sets: so many growths are tried there.
 FARMS = ("farm", "run_stream")
@@ -22,6 +22,8 @@ CALLS = [Call(*it) for it in (
     ("cover", "`Grid::cover`", "four tiles of one point"),
     ("read_plain", "`netpbm::read`", "a plain picture"),
     ("read_raw", "`netpbm::read`", "a raw picture"),
+    ("read_colours", "`netpbm::read`", "a raw picture of colours"),
+    ("read_big", "`netpbm::read`", "a raw picture with a sample above its greatest"),
     ("read_cut", "`netpbm::read`", "a cut raster"),
     ("raw", "`netpbm::raw`", "a picture of four samples"),
     ("parse", "`parse`", "a text with blanks and a comment"),

@@ -1,13 +1,14 @@
 -- From the elements that loops write to the lists that they make.
 use Rattle.std.proofs.Common.{◌≡◌, ℕ, zero, suc, ◌+◌, ◌-◌, ◌*◌, ◌/◌, ◌%◌, ◌<◌, ◌≤◌, List, [], ◌∷◌, ◌++◌, length, get_or, take}
-use Rattle.std.proofs.Common.{drop, cond, refl, sym, ap, ◌∙◌, arith}
+use Rattle.std.proofs.Common.{cond, All, refl, sym, ap, subst, ◌∙◌, arith}
 use Rattle.std.specs.List.{flat_map, slice_range}
-use Rattle.std.proofs.lemmas.List.{length-take-le, get_or-take, length-drop}
+use Rattle.std.proofs.lemmas.List.{length-take-le, get_or-take}
+use Rattle.std.proofs.lemmas.List.Elements.{All-append}
 use Rattle.std.proofs.lemmas.Grind.{same_number_lists}
 use lib.Seq.{take-add}
 use Rattle.std.proofs.lemmas.Bool.{le-ltb, lt-ltb}
 use Rattle.netpbm.specs.Raw.{two_bytes, raw_raster, pairs}
-use Rattle.netpbm.specs.Colours.{woven, pick, thirds}
+use Rattle.netpbm.specs.Colours.{woven, pick, thirds, separated}
 
 -- ---- one after another
 
@@ -45,20 +46,6 @@ joined out bytes le h =
     let len = length-take-le n out (omega arith) in
     same_number_lists (take n out) (pairs bytes) (len ∙ sym (length-pairs bytes))
     (λ k lt. let inside : k < n = omega arith in get_or-take n out k 0 inside ∙ h k inside ∙ sym (get_or-pairs bytes k (omega arith)))
-
-pub pairs-append : (n : ℕ) (xs ys : List ℕ) → length xs ≡ 2 * n → pairs (xs ++ ys) ≡ pairs xs ++ pairs ys
-pairs-append n [] ys e = refl
-pairs-append n (a ∷ []) ys e = absurd (omega arith)
-pairs-append zero (a ∷ b ∷ xs) ys e = absurd (omega arith)
-pairs-append (suc n) (a ∷ b ∷ xs) ys e = ap (λ l. (256 * a + b) ∷ l) (pairs-append n xs ys (omega arith))
-
--- an odd byte behind the last pair says nothing
-pub pairs_even : (xs : List ℕ) → pairs (take (2 * (length xs / 2)) xs) ≡ pairs xs
-pairs_even [] = refl
-pairs_even (a ∷ []) = refl
-pairs_even (a ∷ b ∷ xs) =
-    let two : 2 * (length (a ∷ b ∷ xs) / 2) ≡ suc (suc (2 * (length xs / 2))) = omega arith in
-    rw two (ap (λ l. (256 * a + b) ∷ l) (pairs_even xs))
 
 pub spread : (samples out : List ℕ) → 2 * length samples ≤ length out
     → ((k : ℕ) → k < length samples
@@ -133,33 +120,10 @@ gathered colour (a ∷ b ∷ c ∷ samples) (x ∷ out) lt le h =
 
 -- ---- a piece more
 
-pub piece_more : (items xs piece : List ℕ) (done count n : ℕ) → done + count ≤ length xs → n ≡ count → items ≡ take done xs
-    → take (length (slice_range xs done (done + count))) piece ≡ slice_range xs done (done + count)
-    → items ++ take n piece ≡ take (done + count) xs
-piece_more items xs piece done count n le same so_far h =
-    let k : (done + count) - done ≡ count = omega arith in
-    let part : slice_range xs done (done + count) ≡ take count (drop done xs) = ap (λ m. take m (drop done xs)) k in
-    let len : length (slice_range xs done (done + count)) ≡ n =
-    ap length part ∙ length-take-le count (drop done xs) (omega (arith, length-drop done xs)) ∙ sym same in
-    let took : take n piece ≡ take count (drop done xs) = ap (λ m. take m piece) (sym len) ∙ h ∙ part in
-    ap (λ l. l ++ take n piece) so_far ∙ ap (λ l. take done xs ++ l) took ∙ sym (take-add done count xs)
-
-pub pairs_more : (items xs piece : List ℕ) (done count n : ℕ) → 2 * (done + count) ≤ length xs → n ≡ count
-    → items ≡ pairs (take (2 * done) xs)
-    → take (length (slice_range xs (2 * done) (2 * (done + count))) / 2) piece ≡ pairs (slice_range xs (2 * done) (2 * (done + count)))
-    → items ++ take n piece ≡ pairs (take (2 * (done + count)) xs)
-pairs_more items xs piece done count n le same so_far h =
-    let k : (2 * (done + count)) - (2 * done) ≡ 2 * count = omega arith in
-    let part : slice_range xs (2 * done) (2 * (done + count)) ≡ take (2 * count) (drop (2 * done) xs) =
-    ap (λ m. take m (drop (2 * done) xs)) k in
-    let full : length (slice_range xs (2 * done) (2 * (done + count))) ≡ 2 * count =
-    ap length part ∙ length-take-le (2 * count) (drop (2 * done) xs) (omega (arith, length-drop (2 * done) xs)) in
-    let len : length (slice_range xs (2 * done) (2 * (done + count))) / 2 ≡ n = omega arith in
-    let took : take n piece ≡ pairs (take (2 * count) (drop (2 * done) xs)) = ap (λ m. take m piece) (sym len) ∙ h ∙ ap pairs part in
-    let sum : 2 * (done + count) ≡ 2 * done + 2 * count = omega arith in
-    ap (λ l. l ++ take n piece) so_far ∙ ap (λ l. pairs (take (2 * done) xs) ++ l) took
-    ∙ sym (pairs-append done (take (2 * done) xs) (take (2 * count) (drop (2 * done) xs)) (length-take-le (2 * done) xs (omega arith)))
-    ∙ ap pairs (sym (take-add (2 * done) (2 * count) xs)) ∙ ap (λ m. pairs (take m xs)) (sym sum)
+pub take_part : (xs : List ℕ) (start end : ℕ) → start ≤ end → take end xs ≡ take start xs ++ slice_range xs start end
+take_part xs start end le =
+    let sum : end ≡ start + (end - start) = omega arith in
+    ap (λ n. take n xs) sum ∙ take-add start (end - start) xs
 
 pub thirds-append : (colour n : ℕ) (xs ys : List ℕ) → length xs ≡ 3 * n → thirds colour (xs ++ ys) ≡ thirds colour xs ++ thirds colour ys
 thirds-append colour n [] ys e = refl
@@ -176,22 +140,37 @@ thirds_whole colour (a ∷ b ∷ c ∷ xs) =
     let three : 3 * (length (a ∷ b ∷ c ∷ xs) / 3) ≡ suc (suc (suc (3 * (length xs / 3)))) = omega arith in
     rw three (ap (λ l. pick colour a b c ∷ l) (thirds_whole colour xs))
 
-pub thirds_more : (colour : ℕ) (items xs piece : List ℕ) (done count n : ℕ) → 3 * (done + count) ≤ length xs → n ≡ count
-    → items ≡ thirds colour (take (3 * done) xs)
-    → take (length (slice_range xs (3 * done) (3 * (done + count))) / 3) piece
-    ≡ thirds colour (slice_range xs (3 * done) (3 * (done + count)))
-    → items ++ take n piece ≡ thirds colour (take (3 * (done + count)) xs)
-thirds_more colour items xs piece done count n le same so_far h =
-    let k : (3 * (done + count)) - (3 * done) ≡ 3 * count = omega arith in
-    let part : slice_range xs (3 * done) (3 * (done + count)) ≡ take (3 * count) (drop (3 * done) xs) =
-    ap (λ m. take m (drop (3 * done) xs)) k in
-    let full : length (slice_range xs (3 * done) (3 * (done + count))) ≡ 3 * count =
-    ap length part ∙ length-take-le (3 * count) (drop (3 * done) xs) (omega (arith, length-drop (3 * done) xs)) in
-    let len : length (slice_range xs (3 * done) (3 * (done + count))) / 3 ≡ n = omega arith in
-    let took : take n piece ≡ thirds colour (take (3 * count) (drop (3 * done) xs)) =
-    ap (λ m. take m piece) (sym len) ∙ h ∙ ap (thirds colour) part in
-    let sum : 3 * (done + count) ≡ 3 * done + 3 * count = omega arith in
-    ap (λ l. l ++ take n piece) so_far ∙ ap (λ l. thirds colour (take (3 * done) xs) ++ l) took
-    ∙ sym (thirds-append colour done (take (3 * done) xs) (take (3 * count) (drop (3 * done) xs))
-    (length-take-le (3 * done) xs (omega arith)))
-    ∙ ap (thirds colour) (sym (take-add (3 * done) (3 * count) xs)) ∙ ap (λ m. thirds colour (take m xs)) (sym sum)
+pub thirds_more : (colour : ℕ) (xs before after : List ℕ) (done end : ℕ) → done ≤ end → 3 * end ≤ length xs
+    → before ≡ thirds colour (take (3 * done) xs) → after ≡ before ++ thirds colour (slice_range xs (3 * done) (3 * end))
+    → after ≡ thirds colour (take (3 * end) xs)
+thirds_more colour xs before after done end le fits so_far is =
+    let part = slice_range xs (3 * done) (3 * end) in
+    is ∙ ap (λ l. l ++ thirds colour part) so_far
+    ∙ sym (thirds-append colour done (take (3 * done) xs) part (length-take-le (3 * done) xs (omega arith)))
+    ∙ ap (thirds colour) (sym (take_part xs (3 * done) (3 * end) (omega arith)))
+
+pub thirds_on : (colour : ℕ) (xs piece before after : List ℕ) (done end : ℕ) → done ≤ end → 3 * end ≤ length xs
+    → take (3 * end - 3 * done) piece ≡ slice_range xs (3 * done) (3 * end) → before ≡ thirds colour (take (3 * done) xs)
+    → after ≡ before ++ thirds colour (take (3 * (end - done)) piece) → after ≡ thirds colour (take (3 * end) xs)
+thirds_on colour xs piece before after done end le fits part so_far is =
+    let n : 3 * (end - done) ≡ 3 * end - 3 * done = omega arith in
+    thirds_more colour xs before after done end le fits so_far
+    (is ∙ ap (λ m. before ++ thirds colour (take m piece)) n ∙ ap (λ l. before ++ thirds colour l) part)
+
+pub samples_on : (xs piece before after : List ℕ) (done end : ℕ) → done ≤ end → take (end - done) piece ≡ slice_range xs done end
+    → before ≡ take done xs → after ≡ before ++ take (end - done) piece → after ≡ take end xs
+samples_on xs piece before after done end le part so_far is =
+    is ∙ ap (λ l. l ++ take (end - done) piece) so_far ∙ ap (λ l. take done xs ++ l) part ∙ sym (take_part xs done end le)
+
+pub bounded_on : (max : ℕ) (xs : List ℕ) (done end : ℕ) → done ≤ end → All (λ s. s ≤ max) (take done xs)
+    → All (λ s. s ≤ max) (slice_range xs done end) → All (λ s. s ≤ max) (take end xs)
+bounded_on max xs done end le h k =
+    subst (All (λ s. s ≤ max)) (sym (take_part xs done end le)) (All-append (λ s. s ≤ max) (take done xs) (slice_range xs done end) h k)
+
+pub are_separated : (xs red green blue : List ℕ) (done : ℕ) → done ≡ length xs / 3 → red ≡ thirds 0 (take (3 * done) xs)
+    → green ≡ thirds 1 (take (3 * done) xs) → blue ≡ thirds 2 (take (3 * done) xs) → red ∷ green ∷ blue ∷ [] ≡ separated 3 xs
+are_separated xs red green blue done all e f g =
+    let whole : (colour : ℕ) → thirds colour (take (3 * done) xs) ≡ thirds colour xs =
+    λ colour. ap (λ n. thirds colour (take (3 * n) xs)) all ∙ thirds_whole colour xs in
+    ap (λ (l : List ℕ). l ∷ green ∷ blue ∷ []) (e ∙ whole 0) ∙ ap (λ (l : List ℕ). thirds 0 xs ∷ l ∷ blue ∷ []) (f ∙ whole 1)
+    ∙ ap (λ (l : List ℕ). thirds 0 xs ∷ thirds 1 xs ∷ l ∷ []) (g ∙ whole 2)

@@ -1,10 +1,11 @@
 -- Reading a raw raster: its whole samples, and the first one above the greatest.
-use Rattle.std.proofs.Common.{◌≡◌, ℕ, zero, suc, ◌+◌, ◌-◌, ◌*◌, ◌/◌, ◌<◌, ◌≤◌, inl, inr, min, cond, ltb, leb, List, [], ◌∷◌}
+use Rattle.std.proofs.Common.{◌≡◌, ℕ, zero, suc, ◌+◌, ◌-◌, ◌*◌, ◌/◌, ◌<◌, ◌≤◌, inl, inr, min, cond, ltb, List, [], ◌∷◌}
 use Rattle.std.proofs.Common.{length, get_or, take, drop, All, Ok, Err, refl, sym, ap, subst, ◌∙◌, arith}
-use Rattle.std.specs.Bool.{OnTrue}
-use Rattle.std.proofs.lemmas.Bool.{cases_lt, lt-ltb, le-ltb, OnTrue_from, leb-true}
-use Rattle.std.proofs.lemmas.List.{take_min, take_rest}
+use Rattle.std.proofs.lemmas.Bool.{cases_lt, lt-ltb, le-ltb}
+use Rattle.std.specs.List.{slice_range}
+use Rattle.std.proofs.lemmas.List.{take_min, take_rest, take_all, length-drop, length-take-le}
 use Rattle.std.proofs.lemmas.List.Elements.{All-from_get_or}
+use lib.Seq.{drop-nil}
 use Rattle.std.proofs.lemmas.List.Sums.{position_or_len_is}
 use Rattle.netpbm.specs.declared.fault.PicFault.TheVariants.{SampleTooBig, RasterCut, TrailingBytes}
 use Rattle.netpbm.specs.Raw.{width_of, pairs, decoded, first_big}
@@ -33,6 +34,17 @@ pairs-take (suc n) (a ∷ b ∷ xs) le =
     let two : 2 * suc n ≡ suc (suc (2 * n)) = omega arith in
     rw two (ap (λ l. (256 * a + b) ∷ l) (pairs-take n xs (omega arith)))
 
+pairs-drop : (n : ℕ) (xs : List ℕ) → pairs (drop (2 * n) xs) ≡ drop n (pairs xs)
+pairs-drop zero xs = refl
+pairs-drop (suc n) [] = ap pairs (drop-nil (2 * suc n))
+pairs-drop (suc n) (a ∷ []) = ap (λ m. pairs (drop m (a ∷ []))) (two n)
+  where
+    two : (n : ℕ) → 2 * suc n ≡ suc (suc (2 * n))
+    two n = omega arith
+pairs-drop (suc n) (a ∷ b ∷ xs) =
+    let two : 2 * suc n ≡ suc (suc (2 * n)) = omega arith in
+    rw two (pairs-drop n xs)
+
 -- the number of whole samples
 pub length-decoded : (max : ℕ) (bytes : List ℕ) → length (decoded max bytes) ≡ length bytes / width_of max
 length-decoded max bytes =
@@ -55,6 +67,32 @@ decoded-take max count bytes =
           ∙ ap (λ m. take (min count m) (pairs bytes)) (sym (length-pairs bytes)) ∙ take_min count (pairs bytes)
           ∙ ap (take count) (sym (decoded_two max bytes le))
     ]
+
+pub decoded_short : (max : ℕ) (bytes : List ℕ) → length (decoded max bytes) ≤ length bytes
+decoded_short max bytes = elim (cases_lt max 256) [
+  | inl lt ↦ rw (decoded_one max bytes lt) (omega arith)
+  | inr le ↦ rw (decoded_two max bytes le, length-pairs bytes) (omega arith)
+]
+
+-- what so many samples of two bytes take
+pub two_bytes_each : (max end : ℕ) (bytes : List ℕ) → 256 ≤ max → end ≤ length (decoded max bytes) → 2 * end ≤ length bytes
+two_bytes_each max end bytes two le =
+    let pairs_fit : end ≤ length (pairs bytes) = subst (λ (l : List ℕ). end ≤ length l) (decoded_two max bytes two) le in
+    omega (arith, length-pairs bytes)
+
+-- the samples from one place up to another are those of their bytes
+pub pairs_part : (max : ℕ) (bytes out : List ℕ) (start end : ℕ) → 256 ≤ max → start ≤ end → 2 * end ≤ length bytes
+    → take (length (slice_range bytes (2 * start) (2 * end)) / 2) out ≡ pairs (slice_range bytes (2 * start) (2 * end))
+    → take (end - start) out ≡ slice_range (decoded max bytes) start end
+pairs_part max bytes out start end two le fits h =
+    let n : (2 * end) - (2 * start) ≡ 2 * (end - start) = omega arith in
+    let rest = drop (2 * start) bytes in
+    let part : slice_range bytes (2 * start) (2 * end) ≡ take (2 * (end - start)) rest = ap (λ m. take m rest) n in
+    let room : 2 * (end - start) ≤ length rest = omega (arith, length-drop (2 * start) bytes) in
+    let many : end - start ≡ length (slice_range bytes (2 * start) (2 * end)) / 2 =
+    omega (arith, ap length part, length-take-le (2 * (end - start)) rest room) in
+    ap (λ m. take m out) many ∙ h ∙ ap pairs part ∙ pairs-take (end - start) rest room
+    ∙ ap (take (end - start)) (pairs-drop start bytes) ∙ ap (λ (l : List ℕ). slice_range l start end) (sym (decoded_two max bytes two))
 
 pub place_fits : (max place : ℕ) (bytes : List ℕ) → place < length (decoded max bytes) → place * width_of max < length bytes
 place_fits max place bytes h =
@@ -86,12 +124,17 @@ pairs_bounded max bytes h = All-from_get_or (λ s. s ≤ max) (pairs bytes) 0 (�
     let inside : k < length bytes / 2 = omega (arith, length-pairs bytes) in
     rw (get_or-pairs bytes k (omega arith)) (h k inside))
 
-pub pairs_below : (max greatest : ℕ) (bytes : List ℕ)
-    → ((k : ℕ) → k < length bytes / 2 → 256 * get_or bytes (2 * k) 0 + get_or bytes (2 * k + 1) 0 ≤ greatest)
-    → OnTrue (leb greatest max) (All (λ s. s ≤ max) (pairs bytes))
-pairs_below max greatest bytes h = OnTrue_from (leb greatest max) (All (λ s. s ≤ max) (pairs bytes)) (λ e.
-    let le : greatest ≤ max = leb-true greatest max e in
-    pairs_bounded max bytes (λ k lt. let here = h k lt in omega arith))
+All-pairs : (bytes : List ℕ) → All (λ b. b ≤ 255) bytes → All (λ s. s ≤ 65535) (pairs bytes)
+All-pairs bytes h = pairs_bounded 65535 bytes (λ k lt.
+    let high = h (2 * k) 0 (omega arith) in
+    let low = h (2 * k + 1) 0 (omega arith) in
+    omega arith)
+
+pub any_byte : (max : ℕ) → max ≡ 255 → (bytes : List ℕ) → All (λ b. b ≤ 255) bytes → All (λ s. s ≤ max) (decoded max bytes)
+any_byte max e bytes h = rw e h
+
+pub any_pair : (max : ℕ) → max ≡ 65535 → (bytes : List ℕ) → All (λ b. b ≤ 255) bytes → All (λ s. s ≤ max) (decoded max bytes)
+any_pair max e bytes h = rw e (All-pairs bytes h)
 
 pub big_pair : (max : ℕ) (bytes : List ℕ) (i : ℕ) → i < length bytes / 2
     → ((k : ℕ) → k < i → 256 * get_or bytes (2 * k) 0 + get_or bytes (2 * k + 1) 0 ≤ max)
@@ -158,3 +201,20 @@ is_whole bytes part start max count same none whole short =
       le-ltb (length (decoded max (drop start bytes))) count whole,
       le-ltb (count * width_of max) (length (drop start bytes)) short,
     ) refl
+
+pub whole_number : (raster : List ℕ) (max count : ℕ) → length raster ≡ count * width_of max → length (decoded max raster) ≡ count
+whole_number raster max count size =
+    length-decoded max raster
+    ∙ elim (cases_lt max 256) [
+      | inl lt ↦ rw (size, width_one max lt) (omega arith)
+      | inr le ↦ rw (size, width_two max le) (omega arith)
+    ]
+
+-- a raster of as many samples as the picture has, none above the greatest
+pub is_bounded_whole : (bytes : List ℕ) (start max count : ℕ) → length (drop start bytes) ≡ count * width_of max
+    → All (λ s. s ≤ max) (decoded max (drop start bytes)) → raw_read bytes start max count ≡ Ok (decoded max (drop start bytes))
+is_bounded_whole bytes start max count size bounded =
+    let raster = drop start bytes in
+    let many = whole_number raster max count size in
+    is_whole bytes raster start max count (sym (take_all count (decoded max raster) (omega arith)))
+    (none_big max (decoded max raster) bounded) (omega arith) (omega arith)

@@ -1,6 +1,6 @@
 -- From what the reader gives to what its callers see.
 use Rattle.std.proofs.Common.{◌≡◌, ℕ, ◌*◌, ◌≤◌, ◌⊎◌, inl, inr, List, [], ◌∷◌, ◌++◌, Result, Ok, Err, refl, sym, ap, subst, ◌∙◌}
-use Rattle.std.proofs.Common.{arith, append_assoc, append-nil}
+use Rattle.std.proofs.Common.{arith, append_assoc, append-nil, length, drop, All}
 use Rattle.std.specs.Prelude.{MatchResult, IfOk, IfErr}
 use Rattle.std.specs.Fmt.{decimal}
 use Rattle.std.proofs.lemmas.Fmt.{decimal_is_IsNumeral}
@@ -11,13 +11,14 @@ use Rattle.netpbm.specs.declared.header.Coding.TheVariants.{Raw}
 use Rattle.netpbm.specs.declared.header.Header.{Header}
 use Rattle.netpbm.specs.Image.{Image, image, IsImage}
 use Rattle.netpbm.specs.Colours.{interleaved, separated}
-use Rattle.netpbm.specs.Raw.{raw_raster}
+use Rattle.netpbm.specs.Raw.{width_of, decoded, raw_raster}
 use Rattle.netpbm.specs.Gives.{IsRead, Fails, Gives, IsReadAs}
 use Rattle.netpbm.specs.Grammar.{IsNumber, nothing, white, IsGap, IsFields, IsPicture}
 use Rattle.netpbm.specs.Faults.{IsFault}
-use Rattle.netpbm.specs.Reading.{◌>>=◌, header_read, raster_read, picture_read}
+use Rattle.netpbm.specs.Reading.{◌>>=◌, header_read, raster_read, planes_read, picture_read}
 use Rattle.netpbm.specs.Spelling.{spelling}
 use Rattle.netpbm.proofs.RawLaws.{AreBytes}
+use Rattle.netpbm.proofs.RawReads.{is_bounded_whole}
 use Rattle.netpbm.proofs.PictureLaws.{picture_view, picture_complete}
 
 -- ---- through the steps
@@ -26,27 +27,53 @@ pub header_fails : (bytes : List ℕ) (e : PicFault) → header_read bytes ≡ E
 unfolding picture_read
 header_fails bytes e h = inl (rw h refl)
 
-is_read_through : (r : Result (List ℕ) PicFault) (f : List ℕ → Image) → IsRead r → IsRead (r >>= λ samples. Ok (f samples))
-is_read_through (Ok x) f h = tt
-is_read_through (Err e) f h = h
+-- a fault of the samples, and what is made of them
+fails_on : {X : Type 0} (r : Result (List ℕ) PicFault) (e : PicFault) (f : List ℕ → List (List ℕ)) (g : List (List ℕ) → X)
+    → Fails e (r >>= λ samples. Ok (f samples)) → Fails e (r >>= λ samples. Ok (g (f samples)))
+fails_on (Ok x) e f g fails = elim fails [ inl is ↦ absurd (never_ok (f x) e is) | inr m ↦ inr m ]
+  where
+    never_ok : (planes : List (List ℕ)) (e : PicFault) → (let r : Result (List (List ℕ)) PicFault = Ok planes in r) ≡ Err e → ⊥
+    never_ok planes e h = cc
+fails_on (Err x) e f g fails = elim fails [ inl is ↦ inl (err_is x e is) | inr m ↦ absurd m.1 ]
+  where
+    err_is : {X : Type 0} (x e : PicFault) → (let r : Result (List (List ℕ)) PicFault = Err x in r) ≡ Err e
+        → (let r : Result X PicFault = Err x in r) ≡ Err e
+    err_is x e h = ap Err cc
 
-pub raster_fails : (bytes : List ℕ) (h : Header) (e : PicFault) → header_read bytes ≡ Ok h
-    → Fails e (raster_read h.coding bytes h.end h.max (h.colours * (h.rows * h.cols))) → Fails e (picture_read bytes)
-unfolding picture_read
-raster_fails bytes h e is fails = elim fails [
-  | inl f ↦ inl (rw (is, f) refl)
-  | inr (m, r) ↦ inr (
-    m,
-    rw is (is_read_through (raster_read h.coding bytes h.end h.max (h.colours * (h.rows * h.cols)))
-        (λ samples. image h.rows h.cols h.max (separated h.colours samples)) r),
-  )
-]
+gives_on : {X : Type 0} (r : Result (List ℕ) PicFault) (planes : List (List ℕ)) (f : List ℕ → List (List ℕ)) (g : List (List ℕ) → X)
+    → (r >>= λ samples. Ok (f samples)) ≡ Ok planes → (r >>= λ samples. Ok (g (f samples))) ≡ Ok (g planes)
+gives_on (Ok x) planes f g h = ap (λ ps. Ok (g ps)) (same_planes (f x) planes h)
+  where
+    same_planes : (a b : List (List ℕ)) → (let r : Result (List (List ℕ)) PicFault = Ok a in r) ≡ Ok b → a ≡ b
+    same_planes a b e = cc
+gives_on (Err e) planes f g h = absurd (never planes e h)
+  where
+    never : (planes : List (List ℕ)) (e : PicFault) → (let r : Result (List (List ℕ)) PicFault = Err e in r) ≡ Ok planes → ⊥
+    never planes e h = cc
 
-pub reads : (bytes : List ℕ) (h : Header) (samples : List ℕ) → header_read bytes ≡ Ok h
-    → raster_read h.coding bytes h.end h.max (h.colours * (h.rows * h.cols)) ≡ Ok samples
-    → picture_read bytes ≡ Ok (image h.rows h.cols h.max (separated h.colours samples))
+pub planes_fail : (bytes : List ℕ) (h : Header) (e : PicFault) → header_read bytes ≡ Ok h → Fails e (planes_read h.coding bytes h)
+    → Fails e (picture_read bytes)
 unfolding picture_read
-reads bytes h samples is r = rw (is, r) refl
+planes_fail bytes h e is fails =
+    rw is (fails_on (raster_read h.coding bytes h.end h.max (h.colours * (h.rows * h.cols))) e (separated h.colours)
+    (λ planes. image h.rows h.cols h.max planes) fails)
+
+pub reads : (bytes : List ℕ) (h : Header) (planes : List (List ℕ)) → header_read bytes ≡ Ok h
+    → planes_read h.coding bytes h ≡ Ok planes → picture_read bytes ≡ Ok (image h.rows h.cols h.max planes)
+unfolding picture_read
+reads bytes h planes is r =
+    rw is (gives_on (raster_read h.coding bytes h.end h.max (h.colours * (h.rows * h.cols))) planes (separated h.colours)
+    (λ planes. image h.rows h.cols h.max planes) r)
+
+-- the planes of a raster of as many samples as the header tells, none above the greatest
+pub raw_planes_are : (bytes raster : List ℕ) (h : Header) (planes : List (List ℕ)) → raster ≡ drop h.end bytes
+    → length raster ≡ (h.colours * (h.rows * h.cols)) * width_of h.max → All (λ s. s ≤ h.max) (decoded h.max raster)
+    → planes ≡ separated h.colours (decoded h.max raster) → planes_read Raw bytes h ≡ Ok planes
+raw_planes_are bytes raster h planes same size bounded are =
+    let count = h.colours * (h.rows * h.cols) in
+    let size' = subst (λ (l : List ℕ). length l ≡ count * width_of h.max) same size in
+    let bounded' = subst (λ (l : List ℕ). All (λ s. s ≤ h.max) (decoded h.max l)) same bounded in
+    rw (is_bounded_whole bytes h.end h.max count size' bounded', are, same) refl
 
 pub is_picture : (bytes : List ℕ) (p : Image) → AreBytes bytes → picture_read bytes ≡ Ok p → IsPicture bytes p
 is_picture bytes p h e = MatchResult-at_ok (IsPicture bytes) (IsFault bytes) p e (picture_view bytes h)

@@ -1,18 +1,19 @@
 -- What is written pixel by pixel is the spelling.
-use Rattle.std.proofs.Common.{◌≡◌, ℕ, zero, suc, ◌+◌, ◌-◌, ◌*◌, ◌≤◌, ◌⊎◌, inl, inr, List, [], ◌∷◌, ◌++◌, length, get_or, take}
+use Rattle.std.proofs.Common.{◌≡◌, ℕ, zero, suc, ◌-◌, ◌*◌, ◌<◌, ◌≤◌, ◌⊎◌, inl, inr, List, [], ◌∷◌, ◌++◌, length, get_or, take}
 use Rattle.std.proofs.Common.{drop, All, refl, sym, ap, subst, ◌∙◌, arith, append_assoc}
 use Rattle.std.specs.Global.{Vec}
 use Rattle.std.specs.List.{slice_range}
-use Rattle.std.proofs.lemmas.List.{append-nil, take_all, length-take-le, length-drop, length-map}
+use Rattle.std.proofs.lemmas.List.{append-nil, take_all, length-take-le, length-map}
 use Rattle.std.proofs.lemmas.List.Elements.{All-cons, All-head, All-tail, All-take, All-drop, All-nil}
 use Rattle.std.proofs.lemmas.Grind.{flat_map-append}
-use lib.Seq.{take-add}
+use Rattle.netpbm.proofs.Rasters.{take_part}
 use Rattle.netpbm.specs.Image.{Image, IsPlane, IsImage}
 use Rattle.netpbm.specs.Planes.{samples_of}
 use Rattle.netpbm.specs.Colours.{woven, interleaved}
 use Rattle.netpbm.specs.Raw.{sample_bytes, raw_raster}
 use Rattle.netpbm.specs.Pixels.{first_pixels, pixels}
 use Rattle.netpbm.specs.Spelling.{header, spelling}
+use Rattle.netpbm.proofs.Planes.{plane_at}
 use Rattle.std.specs.Result.{OnErr}
 use Rattle.std.proofs.Common.{Result, Ok, Err}
 
@@ -66,18 +67,16 @@ three_long planes seen e h none =
     let same : length planes ≡ length seen = sym (length-map planes (λ (v : Vec ℕ). v.items)) ∙ ap length e in
     elim h [ inl one ↦ absurd (none (same ∙ one)) | inr three ↦ same ∙ three ]
 
-pub woven_bounded : (max start end area : ℕ) (rs gs bs out : List ℕ) → IsPlane area max rs → IsPlane area max gs → IsPlane area max bs
-    → start ≤ end → end ≤ area
-    → take (3 * length (slice_range rs start end)) out
-    ≡ woven (slice_range rs start end) (slice_range gs start end) (slice_range bs start end)
-    → All (λ s. s ≤ max) (take (3 * (end - start)) out)
-woven_bounded max start end area rs gs bs out p q r le within e =
-    let P : List ℕ → Type 0 = All (λ s. s ≤ max) in
-    let len : length (slice_range rs start end) ≡ end - start =
-    length-take-le (end - start) (drop start rs) (omega (arith, length-drop start rs, p.whole)) in
-    subst P (sym e ∙ ap (λ n. take (3 * n) out) len)
-    (All-woven max (slice_range rs start end) (slice_range gs start end) (slice_range bs start end) (All-part max rs start end p.bounded)
-    (All-part max gs start end q.bounded) (All-part max bs start end r.bounded))
+-- a part of one of a picture's three planes
+pub part_bounded : (p : Image) (planes : List (Vec ℕ)) (k start end max : ℕ) (plane : Vec ℕ) (samples : List ℕ) → IsImage p
+    → samples_of planes ≡ p.planes → (length planes ≡ 1 → ⊥) → k < 3 → plane ≡ get_or planes k plane → samples ≡ plane.items → max ≡ p.max
+    → All (λ s. s ≤ max) (slice_range samples start end)
+part_bounded p planes k start end max plane samples image same many lt is items top =
+    let area = p.rows * p.cols in
+    let long = three_long planes p.planes same image.colours many in
+    let each = subst (All (IsPlane area p.max)) (sym same) image.planes in
+    let bounded = (plane_at area p.max planes k plane each (omega arith) is).bounded in
+    rw (items, top) (All-part p.max plane.items start end bounded)
 
 -- ---- pixel by pixel
 
@@ -91,11 +90,6 @@ woven-append n (x ∷ rs) (y ∷ gs) [] rs' gs' bs' e f g = absurd (omega arith)
 woven-append zero (x ∷ rs) (y ∷ gs) (z ∷ bs) rs' gs' bs' e f g = absurd (omega arith)
 woven-append (suc n) (x ∷ rs) (y ∷ gs) (z ∷ bs) rs' gs' bs' e f g =
     ap (λ l. x ∷ y ∷ z ∷ l) (woven-append n rs gs bs rs' gs' bs' (omega arith) (omega arith) (omega arith))
-
-take_part : (xs : List ℕ) (start end : ℕ) → start ≤ end → take end xs ≡ take start xs ++ slice_range xs start end
-take_part xs start end le =
-    let sum : end ≡ start + (end - start) = omega arith in
-    ap (λ n. take n xs) sum ∙ take-add start (end - start) xs
 
 pub pixels_more : (area max : ℕ) (planes : List (List ℕ)) (start end : ℕ) → (length planes ≡ 1) ⊎ (length planes ≡ 3)
     → All (IsPlane area max) planes → start ≤ end → end ≤ area

@@ -129,6 +129,12 @@ abbrev pub raster_read : Coding → List ℕ → ℕ → ℕ → ℕ → Result 
 raster_read Plain bytes start max count = plain_read bytes start max count
 raster_read Raw bytes start max count = raw_read bytes start max count
 
+-- the planes that a header tells, of a raster of this coding
+abbrev pub planes_read : Coding → List ℕ → Header → Result (List (List ℕ)) PicFault
+planes_read coding bytes h = do
+  samples ← raster_read coding bytes h.end h.max (h.colours * (h.rows * h.cols))
+  Ok (separated h.colours samples)
+
 unfoldable pub picture_read : List ℕ → Result Image PicFault
 picture_read bytes = do
   h ← header_read bytes

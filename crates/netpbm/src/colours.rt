@@ -1,5 +1,5 @@
 //! Red, green and blue samples in turn.
-ghost use Rattle.std.specs.Prelude.{◌≡◌, ◌≤◌, ◌<◌, ◌*◌, ◌/◌, length, take, IfOk};
+ghost use Rattle.std.specs.Prelude.{◌≡◌, ◌≤◌, ◌<◌, ◌*◌, ◌/◌, ◌++◌, [], ◌∷◌, All, length, take, IfOk, OnOk};
 ghost use Rattle.netpbm.specs.Colours.{woven, thirds, separated};
 ghost use Rattle.netpbm.specs.Planes.{samples_of};
 
@@ -13,47 +13,102 @@ pub fn planes_of(
 ) -> Result<Vec<Vec<u16>>, AllocError>
     ensures { IfOk result (λ planes. samples_of planes.items ≡ separated colours samples.items) }
 {
-    let mut planes = Vec::with_capacity(alloc, 3)?;
-    if colours == 1 {
-        planes.push(samples)?;
-    } else {
-        planes.push(every_third(alloc, samples.as_slice(), 0)?)?;
-        planes.push(every_third(alloc, samples.as_slice(), 1)?)?;
-        planes.push(every_third(alloc, samples.as_slice(), 2)?)?;
+    if colours != 1 {
+        return three_planes(alloc, samples.as_slice());
     }
+    let mut planes = Vec::with_capacity(alloc, 1)?;
+    planes.push(samples)?;
     Ok(planes)
 }
 
-// How many samples of one colour are gathered at a time.
-const PIECE: usize = 16384;
-
-// The samples of one colour, where three stand in turn.
-fn every_third(alloc: Global, samples: &[u16], colour: usize) -> Result<Vec<u16>, AllocError>
-    requires { colour < 3 }
-    ensures { IfOk result (λ plane. plane.items ≡ thirds colour samples.now) }
+// The planes of samples of three colours.
+fn three_planes(alloc: Global, samples: &[u16]) -> Result<Vec<Vec<u16>>, AllocError>
+    ensures { IfOk result (λ planes. samples_of planes.items ≡ separated 3 samples.now) }
 {
     let all = samples.len() / 3;
-    let mut plane = Vec::with_capacity(alloc, all)?;
-    let mut piece = [0u16; PIECE];
+    let mut apart = Apart::with_capacity(alloc, all)?;
     let mut done = 0;
     while done < all {
-        let count = PIECE.min(all - done);
-        gather(&mut piece, &samples[3 * done..3 * (done + count)], colour);
-        plane.extend_from_slice(&piece[..count])?;
-        done += count;
+        let end = all.min(done + PIECE);
+        apart.add(&samples[3 * done..3 * end])?;
+        done = end;
     }
-    Ok(plane)
+    apart.into_planes(alloc)
 }
 
-// Puts the samples of one colour into the front of `out`.
+/// How many pixels are taken apart at a time: few enough that their samples stay in the cache.
+pub const PIECE: usize = 4096;
+
+/// A red, a green and a blue plane that grow.
+#[derive(Drop)]
+pub struct Apart {
+    red: Vec<u16>,
+    green: Vec<u16>,
+    blue: Vec<u16>,
+}
+
+impl Apart {
+    /// Empty planes with room for so many samples each.
+    pub fn with_capacity(alloc: Global, area: usize) -> Result<Apart, AllocError>
+        ensures red { IfOk result (λ apart. apart.red.items ≡ []) }
+        ensures green { IfOk result (λ apart. apart.green.items ≡ []) }
+        ensures blue { IfOk result (λ apart. apart.blue.items ≡ []) }
+    {
+        Ok(Apart {
+            red: Vec::with_capacity(alloc, area)?,
+            green: Vec::with_capacity(alloc, area)?,
+            blue: Vec::with_capacity(alloc, area)?,
+        })
+    }
+
+    /// Adds a red, a green and a blue sample in turn to their planes.
+    pub fn add(&mut self, samples: &[u16]) -> Result<(), AllocError>
+        requires { length samples.now ≤ 12288 }
+        ensures red { OnOk result
+            (self.new.red.items ≡ self.old.red.items ++ thirds 0 samples.now) }
+        ensures green { OnOk result
+            (self.new.green.items ≡ self.old.green.items ++ thirds 1 samples.now) }
+        ensures blue { OnOk result
+            (self.new.blue.items ≡ self.old.blue.items ++ thirds 2 samples.now) }
+    {
+        let mut red = [0u16; PIECE];
+        let mut green = [0u16; PIECE];
+        let mut blue = [0u16; PIECE];
+        part(&mut red, &mut green, &mut blue, samples);
+        let count = samples.len() / 3;
+        self.red.extend_from_slice(&red[..count])?;
+        self.green.extend_from_slice(&green[..count])?;
+        self.blue.extend_from_slice(&blue[..count])
+    }
+
+    /// The three planes.
+    pub fn into_planes(self, alloc: Global) -> Result<Vec<Vec<u16>>, AllocError>
+        ensures { IfOk result (λ planes. samples_of planes.items
+            ≡ self.red.items ∷ self.green.items ∷ self.blue.items ∷ []) }
+    {
+        let Apart { red, green, blue } = self;
+        let mut planes = Vec::with_capacity(alloc, 3)?;
+        planes.push(red)?;
+        planes.push(green)?;
+        planes.push(blue)?;
+        Ok(planes)
+    }
+}
+
+// Puts the red, the green and the blue ones of samples that stand in turn into the fronts of three buffers.
 #[tactic(auto, using(crate::proofs::Rasters::gathered))]
-fn gather(out: &mut [u16], samples: &[u16], colour: usize)
-    requires colour { colour < 3 }
-    requires room { length samples.now ≤ 3 * length out.old }
-    ensures { take (length samples.now / 3) out.new ≡ thirds colour samples.now }
+fn part(red: &mut [u16], green: &mut [u16], blue: &mut [u16], samples: &[u16])
+    requires red { length samples.now ≤ 3 * length red.old }
+    requires green { length samples.now ≤ 3 * length green.old }
+    requires blue { length samples.now ≤ 3 * length blue.old }
+    ensures red { take (length samples.now / 3) red.new ≡ thirds 0 samples.now }
+    ensures green { take (length samples.now / 3) green.new ≡ thirds 1 samples.now }
+    ensures blue { take (length samples.now / 3) blue.new ≡ thirds 2 samples.now }
 {
     for i in 0..samples.len() / 3 {
-        out[i] = samples[3 * i + colour];
+        red[i] = samples[3 * i];
+        green[i] = samples[3 * i + 1];
+        blue[i] = samples[3 * i + 2];
     }
 }
 
@@ -69,5 +124,23 @@ pub fn weave(out: &mut [u16], red: &[u16], green: &[u16], blue: &[u16])
         out[3 * i] = red[i];
         out[3 * i + 1] = green[i];
         out[3 * i + 2] = blue[i];
+    }
+}
+
+/// The same, into bytes.
+#[tactic(auto, using(crate::proofs::Rasters::weaved))]
+pub fn weave_bytes(out: &mut [u8], red: &[u16], green: &[u16], blue: &[u16])
+    requires green { length green.now ≡ length red.now }
+    requires blue { length blue.now ≡ length red.now }
+    requires room { 3 * length red.now ≤ length out.old }
+    requires red_small { All (λ sample. sample < 256) red.now }
+    requires green_small { All (λ sample. sample < 256) green.now }
+    requires blue_small { All (λ sample. sample < 256) blue.now }
+    ensures { take (3 * length red.now) out.new ≡ woven red.now green.now blue.now }
+{
+    for i in 0..red.len() {
+        out[3 * i] = red[i] as u8;
+        out[3 * i + 1] = green[i] as u8;
+        out[3 * i + 2] = blue[i] as u8;
     }
 }

@@ -7,6 +7,7 @@ mod header;
 mod laws;
 mod picture;
 mod plain;
+mod raw_planes;
 mod raw_raster;
 mod reading;
 mod text;

@@ -163,8 +163,8 @@ fn is_plane(area: usize, max: u16, plane: &Vec<u16>) -> bool
     plane.len() == area && is_bounded(max, plane.as_slice())
 }
 
-// Whether no sample is above `max`. It goes to the end, in a loop that is compiled to few steps.
-fn is_bounded(max: u16, samples: &[u16]) -> bool
+/// Whether no sample is above `max`. It goes to the end, in a loop that is compiled to few steps.
+pub fn is_bounded(max: u16, samples: &[u16]) -> bool
     ensures { IsTrue result ↔ All (λ sample. sample ≤ max) samples.now }
 {
     let mut greatest = 0;

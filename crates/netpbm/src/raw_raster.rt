@@ -1,15 +1,10 @@
 //! Rasters of one byte or two a sample.
-ghost use Rattle.std.specs.Prelude.{◌≡◌, ◌≤◌, ◌<◌, ◌*◌, ◌/◌, length, take, drop, All, Ok, Err, IfOk, IfSome, IfNone, MatchResult};
-ghost use Rattle.std.specs.Bool.{OnTrue};
+ghost use Rattle.std.specs.Prelude.{◌≡◌, ◌≤◌, ◌<◌, ◌-◌, ◌*◌, ◌/◌, length, take, drop, slice_range, All, Ok, Err, IfSome, IfNone, MatchResult};
 ghost use Rattle.std.specs.List.{flat_map};
 ghost use Rattle.netpbm.specs.Raw.{width_of, two_bytes, raw_raster, pairs, decoded, first_big};
 ghost use Rattle.netpbm.specs.Reading.{raw_read};
 
 use crate::fault::PicFault;
-use std::alloc::{AllocError, Global};
-
-// How many samples are converted at a time.
-const PIECE: usize = 16384;
 
 /// How many bytes a sample has.
 pub fn sample_width(max: u16) -> usize
@@ -70,12 +65,6 @@ fn first_byte_above(raster: &[u8], max: u16) -> Option<usize>
     ensures within { IfSome result (λ place. place < length raster.now) }
     ensures none { IfNone result (first_big max raster.now ≡ length raster.now) }
 {
-    if max == 255 {
-        return None;
-    }
-    if are_bytes_bounded(raster, max) {
-        return None;
-    }
     for i in 0..raster.len() {
         if u16::from(raster[i]) > max {
             return Some(i);
@@ -84,31 +73,12 @@ fn first_byte_above(raster: &[u8], max: u16) -> Option<usize>
     None
 }
 
-// Whether no byte is above `max`. It goes to the end, in a loop that is compiled to few steps.
-fn are_bytes_bounded(raster: &[u8], max: u16) -> bool
-    ensures { OnTrue result (All (λ byte. byte ≤ max) raster.now) }
-{
-    let mut greatest = 0;
-    for byte in raster {
-        if *byte > greatest {
-            greatest = *byte;
-        }
-    }
-    u16::from(greatest) <= max
-}
-
 // The place of the first pair of bytes above `max`.
 fn first_pair_above(raster: &[u8], max: u16) -> Option<usize>
     ensures place { IfSome result (λ place. place ≡ first_big max (pairs raster.now)) }
     ensures within { IfSome result (λ place. place < length (pairs raster.now)) }
     ensures none { IfNone result (first_big max (pairs raster.now) ≡ length (pairs raster.now)) }
 {
-    if max == 65535 {
-        return None;
-    }
-    if are_pairs_bounded(raster, max) {
-        return None;
-    }
     for i in 0..raster.len() / 2 {
         if 256 * u16::from(raster[2 * i]) + u16::from(raster[2 * i + 1]) > max {
             return Some(i);
@@ -117,60 +87,18 @@ fn first_pair_above(raster: &[u8], max: u16) -> Option<usize>
     None
 }
 
-// Whether no pair of bytes is above `max`. It goes to the end, in a loop that is compiled to few steps.
-fn are_pairs_bounded(raster: &[u8], max: u16) -> bool
-    ensures { OnTrue result (All (λ sample. sample ≤ max) (pairs raster.now)) }
-{
-    let mut greatest = 0;
-    for i in 0..raster.len() / 2 {
-        let sample = 256 * u16::from(raster[2 * i]) + u16::from(raster[2 * i + 1]);
-        if sample > greatest {
-            greatest = sample;
-        }
-    }
-    greatest <= max
-}
-
-/// The samples of a raw raster.
-pub fn raw_samples(alloc: Global, raster: &[u8], max: u16) -> Result<Vec<u16>, AllocError>
-    ensures { IfOk result (λ samples. samples.items ≡ decoded max raster.now) }
+/// Puts the samples from one place up to another, as the bytes spell them, into the front of `out`.
+pub fn decode(out: &mut [u16], raster: &[u8], max: u16, start: usize, end: usize)
+    requires order { start ≤ end }
+    requires within { end ≤ length (decoded max raster.now) }
+    requires room { end - start ≤ length out.old }
+    ensures { take (end - start) out.new ≡ slice_range (decoded max raster.now) start end }
 {
     if max < 256 {
-        one_byte_samples(alloc, raster)
+        widen(out, &raster[start..end]);
     } else {
-        two_byte_samples(alloc, raster)
+        join(out, &raster[2 * start..2 * end]);
     }
-}
-
-fn one_byte_samples(alloc: Global, raster: &[u8]) -> Result<Vec<u16>, AllocError>
-    ensures { IfOk result (λ samples. samples.items ≡ raster.now) }
-{
-    let mut samples = Vec::with_capacity(alloc, raster.len())?;
-    let mut piece = [0u16; PIECE];
-    let mut done = 0;
-    while done < raster.len() {
-        let count = PIECE.min(raster.len() - done);
-        widen(&mut piece, &raster[done..done + count]);
-        samples.extend_from_slice(&piece[..count])?;
-        done += count;
-    }
-    Ok(samples)
-}
-
-fn two_byte_samples(alloc: Global, raster: &[u8]) -> Result<Vec<u16>, AllocError>
-    ensures { IfOk result (λ samples. samples.items ≡ pairs raster.now) }
-{
-    let all = raster.len() / 2;
-    let mut samples = Vec::with_capacity(alloc, all)?;
-    let mut piece = [0u16; PIECE];
-    let mut done = 0;
-    while done < all {
-        let count = PIECE.min(all - done);
-        join(&mut piece, &raster[2 * done..2 * (done + count)]);
-        samples.extend_from_slice(&piece[..count])?;
-        done += count;
-    }
-    Ok(samples)
 }
 
 // Puts the bytes as samples into the front of `out`.

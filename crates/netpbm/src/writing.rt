@@ -1,12 +1,13 @@
 //! From a picture to its one written form.
-ghost use Rattle.std.specs.Prelude.{List, ℕ, ◌≡◌, ◌≤◌, ◌<◌, ◌+◌, ◌-◌, ◌*◌, ◌++◌, ◌∷◌, [], take, length, decimal, IfOk, OnOk, OnErr};
+ghost use Rattle.std.specs.Prelude.{List, ℕ, ◌≡◌, ◌≤◌, ◌<◌, ◌+◌, ◌-◌, ◌*◌, ◌++◌, ◌∷◌, [], All, take, length, decimal, IfOk, OnOk, OnErr};
 ghost use Rattle.std.specs.Io.KnownBytes.{Appends};
+ghost use Rattle.netpbm.specs.Colours.{woven};
 ghost use Rattle.netpbm.specs.Raw.{raw_raster};
 ghost use Rattle.netpbm.specs.Spelling.{header as header_of, spelling};
 ghost use Rattle.streams.specs.Streams.{AppendsPart, CountsFailure};
 ghost use Rattle.netpbm.specs.Pixels.{pixels};
 
-use crate::colours::weave;
+use crate::colours::{weave, weave_bytes};
 use crate::picture::Picture;
 use crate::raw_raster::{put_samples, sample_width};
 use sha2::Digest;
@@ -116,14 +117,31 @@ fn put_pixels(out: &mut [u8], picture: &Picture, start: usize, end: usize) -> us
     if planes.len() == 1 {
         return put_samples(out, &planes[0][start..end], picture.max());
     }
-    let mut woven = [0u16; 3 * PIXELS];
-    weave(
-        &mut woven,
-        &planes[0][start..end],
-        &planes[1][start..end],
-        &planes[2][start..end],
-    );
-    put_samples(out, &woven[..3 * (end - start)], picture.max())
+    let red = &planes[0][start..end];
+    let green = &planes[1][start..end];
+    let blue = &planes[2][start..end];
+    put_colours(out, red, green, blue, picture.max())
+}
+
+// Puts the bytes of red, green and blue samples in turn into the front of `out`, and says how many they are.
+fn put_colours(out: &mut [u8], red: &[u16], green: &[u16], blue: &[u16], max: u16) -> usize
+    requires few { length red.now ≤ 16384 }
+    requires green { length green.now ≡ length red.now }
+    requires blue { length blue.now ≡ length red.now }
+    requires red_bounded { All (λ sample. sample ≤ max) red.now }
+    requires green_bounded { All (λ sample. sample ≤ max) green.now }
+    requires blue_bounded { All (λ sample. sample ≤ max) blue.now }
+    requires room { 98304 ≤ length out.old }
+    ensures end { result ≤ 98304 }
+    ensures written { take result out.new ≡ raw_raster max (woven red.now green.now blue.now) }
+{
+    if max < 256 {
+        weave_bytes(out, red, green, blue);
+        return 3 * red.len();
+    }
+    let mut in_turn = [0u16; 3 * PIXELS];
+    weave(&mut in_turn, red, green, blue);
+    put_samples(out, &in_turn[..3 * red.len()], max)
 }
 
 // Puts the header into the front of `out`, and says how many bytes it has.

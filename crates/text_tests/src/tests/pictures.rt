@@ -27,13 +27,29 @@ fn counting(alloc: Global, header: &[u8], samples: usize) -> Result<Vec<u8>, All
     Ok(bytes)
 }
 
+// Whether a raw picture is read and written as it was.
+fn is_kept(alloc: Global, bytes: &[u8]) -> Option<bool> {
+    let picture = read(alloc, bytes).ok()?;
+    Some(raw(alloc, &picture).ok()?.as_slice() == bytes)
+}
+
 // A body of `raw` that refuses memory above a million samples fails here.
 #[test]
 fn raw_bytes_of_a_million_samples(rt: HostRuntime) -> Result<(), Fail> {
     let bytes = counting(rt.alloc(), b"P5\n1000 1001\n255\n", 1_001_000)?;
-    let picture = read(rt.alloc(), &bytes)?;
-    let is_same = raw(rt.alloc(), &picture)?.as_slice() == bytes.as_slice();
-    holds(Some(is_same), "the raw bytes of a million samples")
+    holds(
+        is_kept(rt.alloc(), &bytes),
+        "the raw bytes of a million samples",
+    )
+}
+
+// A body of `read` that refuses memory for raw colours of more than one piece fails here.
+#[test]
+fn raw_bytes_of_colours(rt: HostRuntime) -> Result<(), Fail> {
+    let one = counting(rt.alloc(), b"P6\n100 171\n250\n", 51_300)?;
+    holds(is_kept(rt.alloc(), &one), "colours of one byte a sample")?;
+    let two = counting(rt.alloc(), b"P6\n171 100\n64250\n", 102_600)?;
+    holds(is_kept(rt.alloc(), &two), "colours of two bytes a sample")
 }
 
 // Whether a picture is written but for what there is no room for, three bytes at a time.

@@ -1,15 +1,8 @@
 -- No pair before the place is above the greatest sample.
-use Rattle.std.proofs.Common.{◌*◌, ◌+◌, arith, rules}
+use Rattle.std.proofs.Common.{arith, rules}
 use Rattle.netpbm.proofs.Rasters.{length-pairs}
-use Rattle.std.proofs.lemmas.Bool.{OnTrue_at}
 use Rattle.netpbm.proofs.RawReads.{none_big, pairs_bounded, big_pair}
 use Rattle.netpbm.proofs.raw_raster.first_pair_above.Goals as goal
-
-pub returns-then-max-eq65535-clause-none : goal.returns-then-max-eq65535-clause-none
-returns-then-max-eq65535-clause-none c =
-    let raster = c.args.raster.now in
-    none_big c.args.max _
-    (pairs_bounded c.args.max raster (λ k lt. omega (arith, c.type_inv.raster (2 * k), c.type_inv.raster (2 * k + 1))))
 
 pub returns-then-from-max-clause-place : goal.returns-then-from-max-clause-place
 returns-then-from-max-clause-place c = big_pair c.args.max c.args.raster.now c.loop-i.i (search rules) c.loop-i.invariant (search rules)
@@ -19,6 +12,3 @@ returns-then-from-max-clause-within c = omega (arith, length-pairs c.args.raster
 
 pub returns-clause-none : goal.returns-clause-none
 returns-clause-none c = none_big c.args.max _ (pairs_bounded c.args.max c.args.raster.now (λ k lt. c.loop-i.invariant k (search rules)))
-
-pub returns-then-are_pairs_bounded-clause-none : goal.returns-then-are_pairs_bounded-clause-none
-returns-then-are_pairs_bounded-clause-none c = none_big c.args.max _ (OnTrue_at c.if-are_pairs_bounded.true c.are_pairs_bounded.ensures)

@@ -1,0 +1,118 @@
+//! Raw rasters, decoded piece by piece into the planes that they are of.
+ghost use Rattle.std.specs.Prelude.{List, ℕ, ◌≡◌, ◌≤◌, ◌-◌, ◌*◌, ◌⊎◌, ◌↔◌, length, take, slice_range, All, IsTrue, IfSome};
+ghost use Rattle.std.specs.Bool.{OnTrue};
+ghost use Rattle.netpbm.specs.Colours.{separated};
+ghost use Rattle.netpbm.specs.Planes.{samples_of};
+ghost use Rattle.netpbm.specs.Raw.{width_of, decoded};
+
+use crate::colours::{Apart, PIECE};
+use crate::picture::is_bounded;
+use crate::raw_raster::decode;
+use std::alloc::Global;
+
+/// The planes of a raw raster of so many pixels; none where a sample is above `max` or memory runs out.
+pub fn raw_planes(
+    alloc: Global,
+    raster: &[u8],
+    max: u16,
+    colours: usize,
+    area: usize,
+) -> Option<Vec<Vec<u16>>>
+    requires colours { (colours ≡ 1) ⊎ (colours ≡ 3) }
+    requires whole { length (decoded max raster.now) ≡ colours * area }
+    ensures planes { IfSome result
+        (λ planes. samples_of planes.items ≡ separated colours (decoded max raster.now)) }
+    ensures bounded { IfSome result
+        (λ _. All (λ sample. sample ≤ max) (decoded max raster.now)) }
+{
+    if colours == 1 {
+        grey_planes(alloc, raster, max, area)
+    } else {
+        coloured_planes(alloc, raster, max, area)
+    }
+}
+
+// The one plane of a raster of grey samples.
+fn grey_planes(alloc: Global, raster: &[u8], max: u16, area: usize) -> Option<Vec<Vec<u16>>>
+    requires { length (decoded max raster.now) ≡ area }
+    ensures planes { IfSome result
+        (λ planes. samples_of planes.items ≡ separated 1 (decoded max raster.now)) }
+    ensures bounded { IfSome result
+        (λ _. All (λ sample. sample ≤ max) (decoded max raster.now)) }
+{
+    let grey = grey_samples(alloc, raster, max, area)?;
+    let mut planes = Vec::with_capacity(alloc, 1).ok()?;
+    planes.push(grey).ok()?;
+    Some(planes)
+}
+
+fn grey_samples(alloc: Global, raster: &[u8], max: u16, area: usize) -> Option<Vec<u16>>
+    requires { length (decoded max raster.now) ≡ area }
+    ensures samples { IfSome result (λ samples. samples.items ≡ decoded max raster.now) }
+    ensures bounded { IfSome result
+        (λ _. All (λ sample. sample ≤ max) (decoded max raster.now)) }
+{
+    let mut grey = Vec::with_capacity(alloc, area).ok()?;
+    let mut piece = [0u16; PIECE];
+    let mut done = 0;
+    while done < area {
+        let end = area.min(done + PIECE);
+        if !decode_bounded(&mut piece, raster, max, done, end) {
+            return None;
+        }
+        grey.extend_from_slice(&piece[..end - done]).ok()?;
+        done = end;
+    }
+    Some(grey)
+}
+
+// The red, the green and the blue plane of a raster in which their samples stand in turn.
+#[tactic(auto, using(crate::proofs::RawReads::decoded_short))]
+fn coloured_planes(alloc: Global, raster: &[u8], max: u16, area: usize) -> Option<Vec<Vec<u16>>>
+    requires { length (decoded max raster.now) ≡ 3 * area }
+    ensures planes { IfSome result
+        (λ planes. samples_of planes.items ≡ separated 3 (decoded max raster.now)) }
+    ensures bounded { IfSome result
+        (λ _. All (λ sample. sample ≤ max) (decoded max raster.now)) }
+{
+    let mut apart = Apart::with_capacity(alloc, area).ok()?;
+    let mut piece = [0u16; 3 * PIECE];
+    let mut done = 0;
+    while done < area {
+        let end = area.min(done + PIECE);
+        if !decode_bounded(&mut piece, raster, max, 3 * done, 3 * end) {
+            return None;
+        }
+        apart.add(&piece[..3 * (end - done)]).ok()?;
+        done = end;
+    }
+    apart.into_planes(alloc).ok()
+}
+
+// Decodes the samples from one place up to another, and says whether none is above `max`.
+fn decode_bounded(out: &mut [u16], raster: &[u8], max: u16, start: usize, end: usize) -> bool
+    requires order { start ≤ end }
+    requires within { end ≤ length (decoded max raster.now) }
+    requires room { end - start ≤ length out.old }
+    ensures written { take (end - start) out.new
+        ≡ slice_range (decoded max raster.now) start end }
+    ensures bounded { IsTrue result
+        ↔ All (λ sample. sample ≤ max) (slice_range (decoded max raster.now) start end) }
+{
+    decode(out, raster, max, start, end);
+    if takes_any_bytes(max) {
+        return true;
+    }
+    is_bounded(max, &out[..end - start])
+}
+
+// Whether no bytes spell a sample above `max`. Where it is so, no sample needs to be looked at.
+fn takes_any_bytes(max: u16) -> bool
+    ensures { OnTrue result ((bytes : List ℕ) → All (λ byte. byte ≤ 255) bytes
+        → All (λ sample. sample ≤ max) (decoded max bytes)) }
+{
+    if max == 255 {
+        return true;
+    }
+    max == 65535
+}
