@@ -1,4 +1,3 @@
 pub mod Cuts
 pub mod PartLemmas
-pub mod NumbersAfter
 pub mod ThreeSlices

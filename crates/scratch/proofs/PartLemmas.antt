@@ -1,10 +1,10 @@
 -- A list whose range is replaced: its length, its places, and a range put back.
-use Rattle.std.proofs.Common.{◌≡◌, ℕ, ℤ, ◌+◌, ◌-◌, ◌<◌, ◌≤◌, List, ◌++◌, length, take, drop, sym, ap, ◌∙◌, arith}
-use Rattle.std.specs.Prelude.{slice_index_or, slice_set}
+use Rattle.std.proofs.Common.{◌≡◌, ℕ, ℤ, ◌-◌, ◌<◌, ◌≤◌, List, ◌++◌, length, take, drop, sym, ap, ◌∙◌, arith}
+use Rattle.std.specs.Prelude.{slice_index_or}
 use Rattle.std.proofs.Math.Seq.{take-add}
 use Rattle.std.proofs.lemmas.List.{length-append, length-take, length-drop, get_or-append_right, get_or_append_left}
 use Rattle.std.proofs.lemmas.List.{get_or-take, get_or-drop}
-use Rattle.std.proofs.lemmas.List.{set-append_left, set-append_right, take-append-drop}
+use Rattle.std.proofs.lemmas.List.{take-append-drop}
 use Rattle.scratch.specs.Parts.{with_part}
 
 module _ (xs : List ℤ) (start end : ℕ) (ordered : start ≤ end) where
@@ -44,13 +44,3 @@ module _ (xs : List ℤ) (start end : ℕ) (ordered : start ≤ end) where
       with_part-behind k d low =
           get_or-append_right (take start xs ++ w) (drop end xs) end k d length-upto low
           ∙ get_or-drop end xs (k - end) d ∙ ap (λ (i : ℕ). slice_index_or xs i d) (omega arith)
-
-      -- a write into the range is one into the list
-      pub with_part-set : (i : ℕ) (x : ℤ) → i < end - start
-          → with_part xs start end (slice_set w i x) ≡ slice_set (with_part xs start end w) (start + i) x
-      with_part-set i x low =
-          let in_range : slice_set (take start xs ++ w) (start + i) x ≡ take start xs ++ slice_set w (start + i - start) x =
-          set-append_right (take start xs) w start (start + i) x length-before (omega arith) in
-          let place : start + i - start ≡ i = omega arith in
-          sym (set-append_left (take start xs ++ w) (drop end xs) (start + i) x (omega (arith, length-upto))
-          ∙ ap (λ (zs : List ℤ). zs ++ drop end xs) (in_range ∙ ap (λ (k : ℕ). take start xs ++ slice_set w k x) place))

@@ -1,3 +1,4 @@
+-- A `Vec` of numbers, as loans have it.
 use Rattle.std.specs.Borrow.{RattleType, i32}
 use Rattle.std.specs.contracts.alloc.Global as global
 use Rattle.std.specs.contracts.vec.Vec as vec

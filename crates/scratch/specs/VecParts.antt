@@ -1,3 +1,4 @@
+-- The loan of a `Vec`'s numbers, and of a range of them.
 use Rattle.std.specs.Prelude.{ℕ, ℤ, List}
 use Rattle.std.specs.Borrow.{Lends, MutBor, Fml, Array, i32}
 use Rattle.std.specs.Vec.{with_items}

@@ -13,7 +13,6 @@ use Rattle.job.specs.Values.{Valuation, body_value}
 use Rattle.job.specs.WellFormed.{IsFormula, IsTest, InDomainRange, IsBody, IsStage, IsJob}
 use Rattle.tile_eval.specs.Cases.{AreBoxedAround, function_value}
 use Rattle.tile_eval.specs.Buffer.{raster}
-use Rattle.tile_eval.specs.Rows.{at}
 use Rattle.tile_eval.proofs.Rasters.{raster_same}
 use Rattle.tile_run.specs.KnownTiles.{KnownTiles}
 use Rattle.tile_run.specs.Local.{read_from, local_value, IsAtHand}
