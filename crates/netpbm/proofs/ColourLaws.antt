@@ -14,7 +14,7 @@ woven-thirds n (a ∷ b ∷ []) e = absurd (omega arith)
 woven-thirds zero (a ∷ b ∷ c ∷ xs) e = absurd (omega arith)
 woven-thirds (suc n) (a ∷ b ∷ c ∷ xs) e = ap (λ (l : List ℕ). a ∷ b ∷ c ∷ l) (woven-thirds n xs (omega arith))
 
-length-thirds : (colour n : ℕ) (xs : List ℕ) → length xs ≡ 3 * n → length (thirds colour xs) ≡ n
+pub length-thirds : (colour n : ℕ) (xs : List ℕ) → length xs ≡ 3 * n → length (thirds colour xs) ≡ n
 length-thirds colour n [] e = omega arith
 length-thirds colour n (a ∷ []) e = absurd (omega arith)
 length-thirds colour n (a ∷ b ∷ []) e = absurd (omega arith)
@@ -37,6 +37,13 @@ All-thirds colour max (a ∷ b ∷ c ∷ xs) h =
     picked zero p q r = p
     picked (suc zero) p q r = q
     picked (suc (suc n)) p q r = r
+
+pub in_turn : (colours area : ℕ) (samples : List ℕ) → (colours ≡ 1) ⊎ (colours ≡ 3) → length samples ≡ colours * area
+    → interleaved (separated colours samples) ≡ samples
+in_turn colours area samples h size = elim h [
+  | inl e ↦ rw e refl
+  | inr e ↦ let three : length samples ≡ 3 * area = size ∙ ap (λ n. n * area) e in rw e (woven-thirds area samples three)
+]
 
 -- what planes of samples in turn are
 pub record AreOf (area max colours : ℕ) (samples : List ℕ) (planes : List (List ℕ)) : Type 0 where

@@ -1,12 +1,15 @@
 pub mod ColourLaws
+pub mod ColourPlaces
 pub mod Decimals
 pub mod HeaderLaws
+pub mod KeptLaws
 pub mod Loops
 pub mod NumberLaws
 pub mod Numbers
 pub mod PictureLaws
 pub mod PlainLaws
 pub mod Planes
+pub mod Ranges
 pub mod Rasters
 pub mod RawLaws
 pub mod RawReads

@@ -127,10 +127,10 @@ before_big max samples n le = All-from_get_or (λ s. s ≤ max) (take n samples)
 quotient_rest : (n w : ℕ) → (w ≡ 1) ⊎ (w ≡ 2) → n - (n / w * w) < w
 quotient_rest n w h = elim h [ inl e ↦ rw e (omega arith) | inr e ↦ rw e (omega arith) ]
 
-width_is : (max : ℕ) → (width_of max ≡ 1) ⊎ (width_of max ≡ 2)
+pub width_is : (max : ℕ) → (width_of max ≡ 1) ⊎ (width_of max ≡ 2)
 width_is max = elim (cases_lt max 256) [ inl lt ↦ inl (width_one max lt) | inr le ↦ inr (width_two max le) ]
 
-fits_quotient : (n w count : ℕ) → (w ≡ 1) ⊎ (w ≡ 2) → n ≤ count * w → count ≤ n / w → n ≡ count * w
+pub fits_quotient : (n w count : ℕ) → (w ≡ 1) ⊎ (w ≡ 2) → n ≤ count * w → count ≤ n / w → n ≡ count * w
 fits_quotient n w count h le ge = elim h [
   | inl e ↦ let le' = subst (λ k. n ≤ count * k) e le in let ge' = subst (λ k. count ≤ n / k) e ge in rw e (omega arith)
   | inr e ↦ let le' = subst (λ k. n ≤ count * k) e le in let ge' = subst (λ k. count ≤ n / k) e ge in rw e (omega arith)

@@ -1,21 +1,19 @@
 -- What is written pixel by pixel is the spelling.
-use Rattle.std.proofs.Common.{◌≡◌, ℕ, zero, suc, ◌-◌, ◌*◌, ◌<◌, ◌≤◌, ◌⊎◌, inl, inr, List, [], ◌∷◌, ◌++◌, length, get_or, take}
+use Rattle.std.proofs.Common.{◌≡◌, ℕ, zero, suc, ◌-◌, ◌*◌, ◌<◌, ◌≤◌, ◌⊎◌, inl, inr, List, [], ◌∷◌, ◌++◌, length, take}
 use Rattle.std.proofs.Common.{drop, All, refl, sym, ap, subst, ◌∙◌, arith, append_assoc}
-use Rattle.std.specs.Global.{Vec}
 use Rattle.std.specs.List.{slice_range}
-use Rattle.std.proofs.lemmas.List.{append-nil, take_all, length-take-le, length-map}
+use Rattle.std.proofs.lemmas.List.{append-nil, take_all, length-take-le}
 use Rattle.std.proofs.lemmas.List.Elements.{All-cons, All-head, All-tail, All-take, All-drop, All-nil}
 use Rattle.std.proofs.lemmas.Grind.{flat_map-append}
-use Rattle.netpbm.proofs.Rasters.{take_part}
+use Rattle.netpbm.proofs.Ranges.{length_range}
+use Rattle.netpbm.proofs.Rasters.{take_part, raw_raster_one}
 use Rattle.netpbm.specs.Image.{Image, IsPlane, IsImage}
-use Rattle.netpbm.specs.Planes.{samples_of}
 use Rattle.netpbm.specs.Colours.{woven, interleaved}
 use Rattle.netpbm.specs.Raw.{sample_bytes, raw_raster}
 use Rattle.netpbm.specs.Pixels.{first_pixels, pixels}
-use Rattle.netpbm.specs.Spelling.{header, spelling}
-use Rattle.netpbm.proofs.Planes.{plane_at}
 use Rattle.std.specs.Result.{OnErr}
-use Rattle.std.proofs.Common.{Result, Ok, Err}
+use Rattle.std.proofs.Common.{Result, Ok, Err, Option, None, Some}
+use Rattle.std.specs.Io.KnownBytes.{Appends}
 
 -- a picture has one plane or three
 pub by_colours : (P : List (List ℕ) → Type 0) → ((grey : List ℕ) → P (grey ∷ []))
@@ -26,23 +24,6 @@ by_colours P one three (a ∷ []) h = one a
 by_colours P one three (a ∷ b ∷ []) h = elim h [ inl e ↦ absurd (omega arith) | inr e ↦ absurd (omega arith) ]
 by_colours P one three (a ∷ b ∷ c ∷ []) h = three a b c
 by_colours P one three (a ∷ b ∷ c ∷ d ∷ planes) h = elim h [ inl e ↦ absurd (omega arith) | inr e ↦ absurd (omega arith) ]
-
-pub one_plane : (planes : List (Vec ℕ)) (grey : Vec ℕ) → length planes ≡ 1 → grey ≡ get_or planes 0 grey
-    → samples_of planes ≡ grey.items ∷ []
-one_plane [] grey e h = absurd (omega arith)
-one_plane (a ∷ []) grey e h = ap (λ (v : Vec ℕ). v.items ∷ []) (sym h)
-one_plane (a ∷ b ∷ planes) grey e h = absurd (omega arith)
-
-pub three_planes : (planes : List (Vec ℕ)) (red green blue : Vec ℕ) → length planes ≡ 3 → red ≡ get_or planes 0 red
-    → green ≡ get_or planes 1 green → blue ≡ get_or planes 2 blue
-    → samples_of planes ≡ red.items ∷ green.items ∷ blue.items ∷ []
-three_planes [] red green blue e f g h = absurd (omega arith)
-three_planes (a ∷ []) red green blue e f g h = absurd (omega arith)
-three_planes (a ∷ b ∷ []) red green blue e f g h = absurd (omega arith)
-three_planes (a ∷ b ∷ c ∷ []) red green blue e f g h =
-    ap (λ (v : Vec ℕ). v.items ∷ b.items ∷ c.items ∷ []) (sym f) ∙ ap (λ (v : Vec ℕ). red.items ∷ v.items ∷ c.items ∷ []) (sym g)
-    ∙ ap (λ (v : Vec ℕ). red.items ∷ green.items ∷ v.items ∷ []) (sym h)
-three_planes (a ∷ b ∷ c ∷ d ∷ planes) red green blue e f g h = absurd (omega arith)
 
 -- ---- bounds
 
@@ -60,23 +41,6 @@ All-woven max (x ∷ rs) (y ∷ gs) (z ∷ bs) p q r =
     (All-cons P y (z ∷ woven rs gs bs) (All-head P y gs q)
     (All-cons P z (woven rs gs bs) (All-head P z bs r)
     (All-woven max rs gs bs (All-tail P x rs p) (All-tail P y gs q) (All-tail P z bs r))))
-
-pub three_long : (planes : List (Vec ℕ)) (seen : List (List ℕ)) → samples_of planes ≡ seen → (length seen ≡ 1) ⊎ (length seen ≡ 3)
-    → (length planes ≡ 1 → ⊥) → length planes ≡ 3
-three_long planes seen e h none =
-    let same : length planes ≡ length seen = sym (length-map planes (λ (v : Vec ℕ). v.items)) ∙ ap length e in
-    elim h [ inl one ↦ absurd (none (same ∙ one)) | inr three ↦ same ∙ three ]
-
--- a part of one of a picture's three planes
-pub part_bounded : (p : Image) (planes : List (Vec ℕ)) (k start end max : ℕ) (plane : Vec ℕ) (samples : List ℕ) → IsImage p
-    → samples_of planes ≡ p.planes → (length planes ≡ 1 → ⊥) → k < 3 → plane ≡ get_or planes k plane → samples ≡ plane.items → max ≡ p.max
-    → All (λ s. s ≤ max) (slice_range samples start end)
-part_bounded p planes k start end max plane samples image same many lt is items top =
-    let area = p.rows * p.cols in
-    let long = three_long planes p.planes same image.colours many in
-    let each = subst (All (IsPlane area p.max)) (sym same) image.planes in
-    let bounded = (plane_at area p.max planes k plane each (omega arith) is).bounded in
-    rw (items, top) (All-part p.max plane.items start end bounded)
 
 -- ---- pixel by pixel
 
@@ -124,33 +88,58 @@ pixels_all area max planes colours each =
     ∙ ap (λ l. woven red green l) (whole blue (h 2 [] (omega arith)).whole))
     planes colours each
 
--- the spelling up to so many pixels
-abbrev pub spelling_to : ℕ → Image → List ℕ
-spelling_to n p = header p ++ raw_raster p.max (first_pixels n p.planes)
+-- the raster up to so many pixels
+abbrev pub raster_to : ℕ → Image → List ℕ
+raster_to n p = raw_raster p.max (first_pixels n p.planes)
 
-pub spelling_more : (p : Image) (start end : ℕ) → IsImage p → start ≤ end → end ≤ p.rows * p.cols
-    → spelling_to start p ++ raw_raster p.max (pixels start end p.planes) ≡ spelling_to end p
-spelling_more p start end h le within =
-    append_assoc (header p) (raw_raster p.max (first_pixels start p.planes)) (raw_raster p.max (pixels start end p.planes))
-    ∙ ap (λ l. header p ++ l) (sym (flat_map-append (sample_bytes p.max) (first_pixels start p.planes) (pixels start end p.planes))
-    ∙ ap (raw_raster p.max) (pixels_more (p.rows * p.cols) p.max p.planes start end h.colours h.planes le within))
+pub raster_more : (p : Image) (start end : ℕ) → IsImage p → start ≤ end → end ≤ p.rows * p.cols
+    → raster_to start p ++ raw_raster p.max (pixels start end p.planes) ≡ raster_to end p
+raster_more p start end h le within =
+    sym (flat_map-append (sample_bytes p.max) (first_pixels start p.planes) (pixels start end p.planes))
+    ∙ ap (raw_raster p.max) (pixels_more (p.rows * p.cols) p.max p.planes start end h.colours h.planes le within)
 
-pub spelling_none : (p : Image) → IsImage p → header p ≡ spelling_to 0 p
-spelling_none p h = sym (ap (λ l. header p ++ raw_raster p.max l) (pixels_none p.planes h.colours) ∙ append-nil (header p))
+pub raster_none : (p : Image) → IsImage p → [] ≡ raster_to 0 p
+raster_none p h = sym (ap (raw_raster p.max) (pixels_none p.planes h.colours))
 
-pub spelling_all : (p : Image) (n : ℕ) → IsImage p → n ≡ p.rows * p.cols → spelling_to n p ≡ spelling p
-spelling_all p n h e =
-    ap (λ m. spelling_to m p) e ∙ ap (λ l. header p ++ raw_raster p.max l) (pixels_all (p.rows * p.cols) p.max p.planes h.colours h.planes)
+pub raster_all : (p : Image) (n : ℕ) → IsImage p → n ≡ p.rows * p.cols → raster_to n p ≡ raw_raster p.max (interleaved p.planes)
+raster_all p n h e =
+    ap (λ m. raster_to m p) e ∙ ap (raw_raster p.max) (pixels_all (p.rows * p.cols) p.max p.planes h.colours h.planes)
 
-pub spelling_parts : (p : Image) (start end : ℕ) → IsImage p → start ≤ end → end ≤ p.rows * p.cols
-    → spelling p
-    ≡ (spelling_to start p ++ raw_raster p.max (pixels start end p.planes)) ++ raw_raster p.max (pixels end (p.rows * p.cols) p.planes)
-spelling_parts p start end h le within =
-    sym (ap (λ l. l ++ raw_raster p.max (pixels end (p.rows * p.cols) p.planes)) (spelling_more p start end h le within)
-    ∙ spelling_more p end (p.rows * p.cols) h within (omega arith) ∙ spelling_all p (p.rows * p.cols) h refl)
+pub raster_parts : (p : Image) (start end : ℕ) → IsImage p → start ≤ end → end ≤ p.rows * p.cols
+    → raw_raster p.max (interleaved p.planes)
+    ≡ (raster_to start p ++ raw_raster p.max (pixels start end p.planes)) ++ raw_raster p.max (pixels end (p.rows * p.cols) p.planes)
+raster_parts p start end h le within =
+    sym (ap (λ l. l ++ raw_raster p.max (pixels end (p.rows * p.cols) p.planes)) (raster_more p start end h le within)
+    ∙ raster_more p end (p.rows * p.cols) h within (omega arith) ∙ raster_all p (p.rows * p.cols) h refl)
+
+-- those of a red, a green and a blue plane of bytes
+pub raster_bytes : (p : Image) (red green blue out : List ℕ) (start end : ℕ) → IsImage p → p.max < 256
+    → p.planes ≡ red ∷ green ∷ blue ∷ [] → end ≤ p.rows * p.cols
+    → take (3 * length (slice_range red start end)) out ≡ woven (slice_range red start end) (slice_range green start end) (slice_range blue start end)
+    → take (3 * (end - start)) out ≡ raw_raster p.max (pixels start end p.planes)
+raster_bytes p red green blue out start end h small planes within is =
+    let each = subst (All (IsPlane (p.rows * p.cols) p.max)) planes h.planes in
+    let first : length red ≡ p.rows * p.cols = (each 0 [] (omega arith)).whole in
+    let many = length_range red start end (omega (arith, first, within)) in
+    ap (λ n. take (3 * n) out) (sym many) ∙ is
+    ∙ sym (raw_raster_one p.max (pixels start end p.planes) small ∙ ap (λ (ps : List (List ℕ)). pixels start end ps) planes)
+
+-- the raster behind what was there, up to so many pixels
+pub behind_more : (p : Image) (start end : ℕ) (before piece : List ℕ) → IsImage p → start ≤ end → end ≤ p.rows * p.cols
+    → piece ≡ raw_raster p.max (pixels start end p.planes) → (before ++ raster_to start p) ++ piece ≡ before ++ raster_to end p
+behind_more p start end before piece h le within is =
+    append_assoc before (raster_to start p) piece
+    ∙ ap (λ (l : List ℕ). before ++ l) (ap (λ (l : List ℕ). raster_to start p ++ l) is ∙ raster_more p start end h le within)
+
+pub behind_none : (p : Image) (before : List ℕ) → IsImage p → before ≡ before ++ raster_to 0 p
+behind_none p before h = sym (ap (λ (l : List ℕ). before ++ l) (sym (raster_none p h)) ∙ append-nil before)
 
 -- ---- a part of the spelling
 
 pub on_err : {X E : Type 0} (r : Result X E) (P : Type 0) → P → OnErr r P
 on_err (Ok x) P h = tt
 on_err (Err e) P h = h
+
+pub Appends_nothing : (known : Option (List ℕ)) → Appends known known []
+Appends_nothing None = tt
+Appends_nothing (Some bytes) = sym (append-nil bytes)

@@ -21,6 +21,13 @@ pub record IsPlane (area max : ℕ) (plane : List ℕ) : Type 0 where
   pub whole : length plane ≡ area
   pub bounded : All (λ sample. sample ≤ max) plane
 
+-- what a picture may have beside its samples
+pub record AreSizes (rows cols max colours : ℕ) : Type 0 where
+  pub high : InRange 4096 rows
+  pub wide : InRange 4096 cols
+  pub deep : InRange 65535 max
+  pub coloured : (colours ≡ 1) ⊎ (colours ≡ 3)
+
 pub record IsImage (p : Image) : Type 0 where
   pub rows : InRange 4096 p.rows
   pub cols : InRange 4096 p.cols

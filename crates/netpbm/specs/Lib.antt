@@ -4,10 +4,14 @@ pub mod Faults
 pub mod Gives
 pub mod Grammar
 pub mod Image
+pub mod MadePlane
 pub mod Pixels
 pub mod Planes
 pub mod Raw
 pub mod Reading
 pub mod Spelling
 pub mod Text
+pub mod Widths
 pub mod Scanning
+pub mod Samples
+pub mod Rasters

@@ -1,5 +1,5 @@
 //! Red, green and blue samples in turn.
-ghost use Rattle.std.specs.Prelude.{◌≡◌, ◌≤◌, ◌<◌, ◌*◌, ◌/◌, ◌++◌, [], ◌∷◌, All, length, take, IfOk, OnOk};
+ghost use Rattle.std.specs.Prelude.{◌≡◌, ◌≤◌, ◌*◌, ◌/◌, ◌++◌, [], ◌∷◌, length, take, IfOk, OnOk};
 ghost use Rattle.netpbm.specs.Colours.{woven, thirds, separated};
 ghost use Rattle.netpbm.specs.Planes.{samples_of};
 
@@ -127,20 +127,17 @@ pub fn weave(out: &mut [u16], red: &[u16], green: &[u16], blue: &[u16])
     }
 }
 
-/// The same, into bytes.
+/// The same of bytes.
 #[tactic(auto, using(crate::proofs::Rasters::weaved))]
-pub fn weave_bytes(out: &mut [u8], red: &[u16], green: &[u16], blue: &[u16])
+pub fn weave_bytes(out: &mut [u8], red: &[u8], green: &[u8], blue: &[u8])
     requires green { length green.now ≡ length red.now }
     requires blue { length blue.now ≡ length red.now }
     requires room { 3 * length red.now ≤ length out.old }
-    requires red_small { All (λ sample. sample < 256) red.now }
-    requires green_small { All (λ sample. sample < 256) green.now }
-    requires blue_small { All (λ sample. sample < 256) blue.now }
     ensures { take (3 * length red.now) out.new ≡ woven red.now green.now blue.now }
 {
-    for i in 0..red.len() {
-        out[3 * i] = red[i] as u8;
-        out[3 * i + 1] = green[i] as u8;
-        out[3 * i + 2] = blue[i] as u8;
+    for pixel in 0..red.len() {
+        out[3 * pixel] = red[pixel];
+        out[3 * pixel + 1] = green[pixel];
+        out[3 * pixel + 2] = blue[pixel];
     }
 }

@@ -1,9 +1,18 @@
 //! A picture: its sides, its greatest sample and its planes.
 ghost use Rattle.std.specs.Prelude.{◌≡◌, ◌≤◌, ◌<◌, ◌+◌, ◌*◌, ◌↔◌, ℕ};
-ghost use Rattle.std.specs.Prelude.{All, length, slice_index, slice_index_or, [], IsTrue, IsOk, IfOk, IfErr};
-ghost use Rattle.netpbm.specs.Image.{Image, InRange, IsPlane, IsImage, image};
+ghost use Rattle.std.specs.Prelude.{All, length, slice_index, slice_index_or, [], IsTrue, IsOk, IfOk, IfErr, IfSome};
+ghost use Rattle.netpbm.specs.Image.{Image, InRange, IsPlane, IsImage, AreSizes, image};
+ghost use Rattle.netpbm.specs.Colours.{separated, interleaved};
 ghost use Rattle.netpbm.specs.Planes.{samples_of};
+ghost use Rattle.netpbm.specs.MadePlane.{made_samples};
+ghost use Rattle.netpbm.specs.Rasters.{bytes_of, IsKept};
+ghost use Rattle.netpbm.specs.Raw.{decoded, raw_raster};
+ghost use Rattle.netpbm.specs.Samples.{IsSamples};
 
+use crate::made_plane::{Plane, is_made_plane};
+use crate::parts::whole_bytes;
+use crate::raster::{KeptRaster, Raster, as_written, samples_in};
+use crate::samples::Samples;
 use std::marker::Model;
 
 /// The longest side of a picture, in samples.
@@ -13,23 +22,26 @@ pub const LONGEST_SIDE: u32 = 4096;
 ///
 /// Both sides are from 1 to 4096 and the greatest sample `max` from 1 to 65535. Each plane has
 /// `rows * cols` samples, none above `max`, from the top row to the bottom one and from left to right.
+/// One that `read_owned` reads of a raw raster keeps the bytes that it was read from.
 #[derive(Debug, Drop)]
 pub struct Picture {
     rows: u32,
     cols: u32,
     max: u16,
-    planes: Vec<Vec<u16>>,
+    raster: Raster,
 }
 
 impl Model for Picture {
+    ghost use Rattle.std.specs.Prelude.{◌*◌};
     ghost use Rattle.netpbm.specs.Image.{Image, IsImage, image};
-    ghost use Rattle.netpbm.specs.Planes.{samples_of};
+    ghost use Rattle.netpbm.specs.Rasters.{planes_of, FitsRaster};
 
     ghost Value = { Image };
 
-    ghost view = { λ p. image p.rows p.cols p.max (samples_of p.planes.items) };
+    ghost view = { λ p. image p.rows p.cols p.max (planes_of p.max p.raster) };
 
-    ghost invariant = { λ p. IsImage (image p.rows p.cols p.max (samples_of p.planes.items)) };
+    ghost invariant = { λ p. IsImage (image p.rows p.cols p.max (planes_of p.max p.raster))
+        × FitsRaster (p.rows * p.cols) p.max p.raster };
 }
 
 impl Picture {
@@ -46,11 +58,29 @@ impl Picture {
         ensures refused { IfErr result (λ back. back ≡ planes) }
     {
         if is_image(rows, cols, max, &planes) {
+            Ok(Picture::from_parts(rows, cols, max, planes))
+        } else {
+            Err(planes)
+        }
+    }
+
+    /// Like `of`, of planes that were made piece by piece.
+    pub fn of_planes(
+        rows: u32,
+        cols: u32,
+        max: u16,
+        planes: Vec<Plane>,
+    ) -> Result<Picture, Vec<Plane>>
+        ensures exact { IsOk result ↔ IsImage (image rows cols max (made_samples planes.items)) }
+        ensures ok { IfOk result (λ p. p ≡ image rows cols max (made_samples planes.items)) }
+        ensures refused { IfErr result (λ back. back ≡ planes) }
+    {
+        if is_made_image(rows, cols, max, &planes) {
             Ok(Picture {
                 rows,
                 cols,
                 max,
-                planes,
+                raster: Raster::Made(planes),
             })
         } else {
             Err(planes)
@@ -66,7 +96,23 @@ impl Picture {
             rows,
             cols,
             max,
-            planes,
+            raster: Raster::Planes(planes),
+        }
+    }
+
+    // The same of a raw raster that is known to be that of a picture.
+    pub(crate) fn from_raster(rows: u32, cols: u32, max: u16, raster: KeptRaster) -> Picture
+        requires image { IsImage (image rows cols max
+            (separated raster.colours (decoded max (bytes_of raster)))) }
+        requires kept { IsKept (rows * cols) max raster }
+        ensures { result ≡ image rows cols max
+            (separated raster.colours (decoded max (bytes_of raster))) }
+    {
+        Picture {
+            rows,
+            cols,
+            max,
+            raster: Raster::Kept(raster),
         }
     }
 
@@ -94,12 +140,32 @@ impl Picture {
         self.max
     }
 
-    /// The planes: one of grey samples, or a red, a green and a blue one.
-    pub fn planes(&self) -> &[Vec<u16>]
-        ensures planes { samples_of result.now ≡ self.now.planes }
+    /// The number of planes: one of grey samples, or a red, a green and a blue one.
+    pub fn plane_count(&self) -> usize
+        ensures value { result ≡ length self.now.planes }
         ensures image { IsImage self.now }
     {
-        self.planes.as_slice()
+        match &self.raster {
+            Raster::Planes(planes) => planes.len(),
+            Raster::Made(planes) => planes.len(),
+            Raster::Kept(raster) => raster.colours,
+        }
+    }
+
+    /// The samples of a plane. Planes count from 0.
+    pub fn samples(&self, plane: usize) -> Samples<'_>
+        requires { plane < length self.now.planes }
+        ensures samples { IsSamples result (slice_index_or self.now.planes plane []) }
+        ensures image { IsImage self.now }
+    {
+        match &self.raster {
+            Raster::Planes(planes) => Samples::Words(planes[plane].as_slice()),
+            Raster::Made(planes) => planes[plane].samples(),
+            Raster::Kept(raster) => {
+                let bytes = &raster.bytes[raster.start..];
+                samples_in(bytes, self.max, raster.colours, self.area(), plane)
+            }
+        }
     }
 
     /// The number of samples in a plane.
@@ -111,6 +177,21 @@ impl Picture {
         self.rows as usize * self.cols as usize
     }
 
+    // The raster that is written, where it lies in memory as it stands.
+    pub(crate) fn written(&self) -> Option<&[u8]>
+        ensures { IfSome result
+            (λ bytes. bytes.now ≡ raw_raster self.now.max (interleaved self.now.planes)) }
+    {
+        match &self.raster {
+            Raster::Planes(_) => None,
+            Raster::Made(planes) => written_bytes(planes, self.max),
+            Raster::Kept(raster) => {
+                let bytes = &raster.bytes[raster.start..];
+                Some(as_written(bytes, self.max, raster.colours, self.area()))
+            }
+        }
+    }
+
     /// The sample at a place of a plane. Planes, rows and columns count from 0.
     pub fn sample(&self, plane: usize, row: u32, col: u32) -> u16
         requires in_planes { plane < length self.now.planes }
@@ -119,13 +200,44 @@ impl Picture {
         ensures { result
             ≡ slice_index (slice_index_or self.now.planes plane []) (row * self.now.cols + col) }
     {
-        self.planes[plane][row as usize * self.cols as usize + col as usize]
+        self.samples(plane)
+            .at(row as usize * self.cols as usize + col as usize)
     }
+}
+
+// The bytes of a grey plane, where they are what is written of it.
+fn written_bytes(planes: &[Plane], max: u16) -> Option<&[u8]>
+    ensures { IfSome result
+        (λ bytes. bytes.now ≡ raw_raster max (interleaved (made_samples planes.now))) }
+{
+    if planes.len() != 1 {
+        return None;
+    }
+    if max > 255 {
+        return None;
+    }
+    whole_bytes(&planes[0].samples())
 }
 
 // Whether these are the parts of a picture.
 fn is_image(rows: u32, cols: u32, max: u16, planes: &[Vec<u16>]) -> bool
     ensures { IsTrue result ↔ IsImage (image rows cols max (samples_of planes.now)) }
+{
+    are_sizes(rows, cols, max, planes.len())
+        && are_planes(rows as usize * cols as usize, max, planes)
+}
+
+// Whether these are the parts of a picture.
+fn is_made_image(rows: u32, cols: u32, max: u16, planes: &[Plane]) -> bool
+    ensures { IsTrue result ↔ IsImage (image rows cols max (made_samples planes.now)) }
+{
+    are_sizes(rows, cols, max, planes.len())
+        && are_made_planes(rows as usize * cols as usize, max, planes)
+}
+
+// Whether a picture may have such sides, such a greatest sample and so many planes.
+fn are_sizes(rows: u32, cols: u32, max: u16, colours: usize) -> bool
+    ensures { IsTrue result ↔ AreSizes rows cols max colours }
 {
     if !is_side(rows) {
         return false;
@@ -136,8 +248,8 @@ fn is_image(rows: u32, cols: u32, max: u16, planes: &[Vec<u16>]) -> bool
     if max == 0 {
         return false;
     }
-    match planes.len() {
-        1 | 3 => are_planes(rows as usize * cols as usize, max, planes),
+    match colours {
+        1 | 3 => true,
         _ => false,
     }
 }
@@ -154,6 +266,13 @@ fn are_planes(area: usize, max: u16, planes: &[Vec<u16>]) -> bool
     ensures { IsTrue result ↔ All (λ plane. IsPlane area max plane.items) planes.now }
 {
     planes.iter().all(|plane| is_plane(area, max, plane))
+}
+
+// The same of planes that were made piece by piece.
+fn are_made_planes(area: usize, max: u16, planes: &[Plane]) -> bool
+    ensures { IsTrue result ↔ All (λ plane. IsPlane area max plane.samples) planes.now }
+{
+    planes.iter().all(|plane| is_made_plane(area, max, plane))
 }
 
 // Whether a plane has so many samples, none above `max`.

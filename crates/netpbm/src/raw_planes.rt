@@ -1,12 +1,12 @@
 //! Raw rasters, decoded piece by piece into the planes that they are of.
-ghost use Rattle.std.specs.Prelude.{List, ℕ, ◌≡◌, ◌≤◌, ◌-◌, ◌*◌, ◌⊎◌, ◌↔◌, length, take, slice_range, All, IsTrue, IfSome};
-ghost use Rattle.std.specs.Bool.{OnTrue};
+ghost use Rattle.std.specs.Prelude.{◌≡◌, ◌≤◌, ◌-◌, ◌*◌, ◌⊎◌, ◌↔◌, length, take, slice_range, All, IsTrue, IfSome};
 ghost use Rattle.netpbm.specs.Colours.{separated};
 ghost use Rattle.netpbm.specs.Planes.{samples_of};
 ghost use Rattle.netpbm.specs.Raw.{width_of, decoded};
 
 use crate::colours::{Apart, PIECE};
 use crate::picture::is_bounded;
+use crate::raw_bounds::takes_any_bytes;
 use crate::raw_raster::decode;
 use std::alloc::Global;
 
@@ -104,15 +104,4 @@ fn decode_bounded(out: &mut [u16], raster: &[u8], max: u16, start: usize, end: u
         return true;
     }
     is_bounded(max, &out[..end - start])
-}
-
-// Whether no bytes spell a sample above `max`. Where it is so, no sample needs to be looked at.
-fn takes_any_bytes(max: u16) -> bool
-    ensures { OnTrue result ((bytes : List ℕ) → All (λ byte. byte ≤ 255) bytes
-        → All (λ sample. sample ≤ max) (decoded max bytes)) }
-{
-    if max == 255 {
-        return true;
-    }
-    max == 65535
 }

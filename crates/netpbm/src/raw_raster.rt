@@ -1,5 +1,5 @@
 //! Rasters of one byte or two a sample.
-ghost use Rattle.std.specs.Prelude.{◌≡◌, ◌≤◌, ◌<◌, ◌-◌, ◌*◌, ◌/◌, length, take, drop, slice_range, All, Ok, Err, IfSome, IfNone, MatchResult};
+ghost use Rattle.std.specs.Prelude.{◌≡◌, ◌≤◌, ◌<◌, ◌-◌, ◌*◌, ◌/◌, length, take, drop, slice_range, All, Ok, Err, IfSome, IfNone, MatchResult, OnOk};
 ghost use Rattle.std.specs.List.{flat_map};
 ghost use Rattle.netpbm.specs.Raw.{width_of, two_bytes, raw_raster, pairs, decoded, first_big};
 ghost use Rattle.netpbm.specs.Reading.{raw_read};
@@ -17,9 +17,10 @@ pub fn sample_width(max: u16) -> usize
 pub fn check_raw(bytes: &[u8], start: usize, max: u16, count: usize) -> Result<(), PicFault>
     requires place { start ≤ length bytes.now }
     requires count { count ≤ 50331648 }
-    ensures { MatchResult result
+    ensures read { MatchResult result
         (λ _. raw_read bytes.now start max count ≡ Ok (decoded max (drop start bytes.now)))
         (λ e. raw_read bytes.now start max count ≡ Err e) }
+    ensures whole { OnOk result (length (drop start bytes.now) ≡ count * width_of max) }
 {
     let width = sample_width(max);
     let raster = &bytes[start..];
@@ -139,8 +140,9 @@ pub fn put_samples(out: &mut [u8], samples: &[u16], max: u16) -> usize
     }
 }
 
+/// Puts samples that are below 256 each as bytes into the front of `out`.
 #[tactic(auto, using(crate::proofs::Rasters::copied))]
-fn narrow(out: &mut [u8], samples: &[u16])
+pub fn narrow(out: &mut [u8], samples: &[u16])
     requires room { length samples.now ≤ length out.old }
     requires small { All (λ sample. sample < 256) samples.now }
     ensures { take (length samples.now) out.new ≡ samples.now }

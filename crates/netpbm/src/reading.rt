@@ -1,18 +1,22 @@
 //! From bytes to a picture.
-ghost use Rattle.std.specs.Prelude.{◌≡◌, ◌≤◌, ◌*◌, ◌⊎◌, length, IfOk, IfErr};
+ghost use Rattle.std.specs.Prelude.{ℕ, ◌≡◌, ◌≤◌, ◌<◌, ◌+◌, ◌*◌, ◌⊎◌, length, drop, slice_index, Ok, Err, IfOk, IfErr, OnOk};
+ghost use Rattle.netpbm.specs.Colours.{separated};
 ghost use Rattle.netpbm.specs.Faults.{IsFault};
+ghost use Rattle.netpbm.specs.Raw.{width_of, decoded};
 ghost use Rattle.netpbm.specs.Gives.{Gives, IsReadAs};
 ghost use Rattle.netpbm.specs.Grammar.{IsPicture};
 ghost use Rattle.netpbm.specs.declared.header.Coding.TheVariants.{Plain, Raw};
 ghost use Rattle.netpbm.specs.Image.{Image, InRange};
 ghost use Rattle.netpbm.specs.Planes.{samples_of};
-ghost use Rattle.netpbm.specs.Reading.{planes_read, picture_read};
+ghost use Rattle.netpbm.specs.Reading.{header_read, planes_read, picture_read};
 
 use crate::colours::planes_of;
 use crate::fault::PicFault;
 use crate::header::{Coding, Header, read_header};
 use crate::picture::Picture;
 use crate::plain::read_plain;
+use crate::raster::KeptRaster;
+use crate::raw_bounds::is_bounded_raster;
 use crate::raw_planes::raw_planes;
 use crate::raw_raster::{check_raw, sample_width};
 use std::alloc::Global;
@@ -29,6 +33,83 @@ pub fn read(alloc: Global, bytes: &[u8]) -> Result<Picture, PicFault>
     ensures fault { IfErr result (IsFault bytes.now) }
 {
     read_picture(alloc, bytes)
+}
+
+/// Reads like `read` what the input spells from a place on, and keeps the input's bytes where they are raw, so that no sample is
+/// copied.
+pub fn read_owned(alloc: Global, input: Vec<u8>, start: usize) -> Result<Picture, PicFault>
+    requires { start ≤ length input.items }
+    // What is read is spelled so.
+    ensures found { IfOk result (IsPicture (drop start input.items)) }
+
+    // What spells a picture is read as it alone, unless memory runs out.
+    ensures only { (p : Image) → IsPicture (drop start input.items) p → IsReadAs result p }
+
+    // A fault is the first one of the bytes, at its place; memory is refused only for a picture.
+    ensures fault { IfErr result (IsFault (drop start input.items)) }
+{
+    are_bytes(input.as_slice());
+    read_input(alloc, input, start)
+}
+
+// Each of some bytes is below 256, which is known of a slice alone. Nothing runs.
+fn are_bytes(bytes: &[u8])
+    ensures { (k : ℕ) → slice_index bytes.now k < 256 }
+{}
+
+// The picture or the fault that reading from the left gives. Digits are read as they are everywhere.
+fn read_input(alloc: Global, input: Vec<u8>, start: usize) -> Result<Picture, PicFault>
+    requires start { start ≤ length input.items }
+    requires bytes { (k : ℕ) → slice_index input.items k < 256 }
+    ensures { Gives (λ picture. picture) result (picture_read (drop start input.items)) }
+{
+    let header = read_header(&input[start..])?;
+    match header.coding {
+        Coding::Plain => read_picture(alloc, &input[start..]),
+        Coding::Raw => keep_raw(input, start, &header),
+    }
+}
+
+// The picture of a raw raster, which stays where it is.
+fn keep_raw(input: Vec<u8>, start: usize, header: &Header) -> Result<Picture, PicFault>
+    requires start { start ≤ length input.items }
+    requires bytes { (k : ℕ) → slice_index input.items k < 256 }
+    requires read { header_read (drop start input.items) ≡ Ok header.now }
+    requires raw { header.now.coding ≡ Raw }
+    requires place { start + header.now.end ≤ length input.items }
+    requires rows { InRange 4096 header.now.rows }
+    requires cols { InRange 4096 header.now.cols }
+    requires colours { (header.now.colours ≡ 1) ⊎ (header.now.colours ≡ 3) }
+    ensures { Gives (λ picture. picture) result (picture_read (drop start input.items)) }
+{
+    check_raster(&input[start..], header)?;
+    let raster = KeptRaster {
+        bytes: input,
+        start: start + header.end,
+        colours: header.colours,
+    };
+    Ok(Picture::from_raster(header.rows, header.cols, header.max, raster))
+}
+
+// Finds the fault of a raw raster. A whole one without fault is looked at once, and not at all where its bytes spell no sample
+// above the greatest.
+fn check_raster(bytes: &[u8], header: &Header) -> Result<(), PicFault>
+    requires place { header.now.end ≤ length bytes.now }
+    requires rows { InRange 4096 header.now.rows }
+    requires cols { InRange 4096 header.now.cols }
+    requires colours { (header.now.colours ≡ 1) ⊎ (header.now.colours ≡ 3) }
+    ensures ok { OnOk result (planes_read Raw bytes.now header.now
+        ≡ Ok (separated header.now.colours (decoded header.now.max (drop header.now.end bytes.now)))) }
+    ensures whole { OnOk result (length (drop header.now.end bytes.now)
+        ≡ (header.now.colours * (header.now.rows * header.now.cols)) * width_of header.now.max) }
+    ensures fault { IfErr result (λ e. planes_read Raw bytes.now header.now ≡ Err e) }
+{
+    let count = header.colours * area_of(header);
+    let raster = &bytes[header.end..];
+    if raster.len() == count * sample_width(header.max) && is_bounded_raster(raster, header.max) {
+        return Ok(());
+    }
+    check_raw(bytes, header.end, header.max, count)
 }
 
 // The picture or the fault that reading from the left gives.

@@ -1,13 +1,15 @@
 //! From a picture to its one written form.
-ghost use Rattle.std.specs.Prelude.{List, ℕ, ◌≡◌, ◌≤◌, ◌<◌, ◌+◌, ◌-◌, ◌*◌, ◌++◌, ◌∷◌, [], All, take, length, decimal, IfOk, OnOk, OnErr};
+ghost use Rattle.std.specs.Prelude.{List, ℕ, ◌≡◌, ◌≤◌, ◌<◌, ◌+◌, ◌-◌, ◌*◌, ◌++◌, ◌∷◌, [], All, take, length, slice_range, slice_index_or, decimal, IfOk, IfSome, OnOk, OnErr};
 ghost use Rattle.std.specs.Io.KnownBytes.{Appends};
-ghost use Rattle.netpbm.specs.Colours.{woven};
+ghost use Rattle.netpbm.specs.Colours.{woven, interleaved};
+ghost use Rattle.netpbm.specs.Image.{IsImage};
 ghost use Rattle.netpbm.specs.Raw.{raw_raster};
 ghost use Rattle.netpbm.specs.Spelling.{header as header_of, spelling};
 ghost use Rattle.streams.specs.Streams.{AppendsPart, CountsFailure};
 ghost use Rattle.netpbm.specs.Pixels.{pixels};
 
 use crate::colours::{weave, weave_bytes};
+use crate::parts::{lend_part, whole_bytes};
 use crate::picture::Picture;
 use crate::raw_raster::{put_samples, sample_width};
 use sha2::Digest;
@@ -29,6 +31,26 @@ pub fn raw(alloc: Global, picture: &Picture) -> Result<Vec<u8>, AllocError>
     let header_len = put_header(&mut header, picture);
     let mut bytes = Vec::with_capacity(alloc, header_len + raster_len(picture))?;
     bytes.extend_from_slice(&header[..header_len])?;
+    add_raster(&mut bytes, picture)?;
+    Ok(bytes)
+}
+
+// Adds the raster of a picture.
+fn add_raster(bytes: &mut Vec<u8>, picture: &Picture) -> Result<(), AllocError>
+    ensures { OnOk result (bytes.new.items
+        ≡ bytes.old.items ++ raw_raster picture.now.max (interleaved picture.now.planes)) }
+{
+    match picture.written() {
+        Some(raster) => bytes.extend_from_slice(raster),
+        None => add_pixels(bytes, picture),
+    }
+}
+
+// Adds the raster of a picture, pixels for pixels.
+fn add_pixels(bytes: &mut Vec<u8>, picture: &Picture) -> Result<(), AllocError>
+    ensures { OnOk result (bytes.new.items
+        ≡ bytes.old.items ++ raw_raster picture.now.max (interleaved picture.now.planes)) }
+{
     let mut piece = [0u8; 6 * PIXELS];
     let area = picture.area();
     let mut done = 0;
@@ -37,7 +59,7 @@ pub fn raw(alloc: Global, picture: &Picture) -> Result<Vec<u8>, AllocError>
         bytes.extend_from_slice(&piece[..len])?;
         done = end;
     }
-    Ok(bytes)
+    Ok(())
 }
 
 /// Writes the written form of a picture. It takes no memory.
@@ -51,6 +73,31 @@ pub fn write_raw<W: Sink>(picture: &Picture, writer: &mut W) -> Result<(), Write
     let mut header = [0u8; LONGEST_HEADER];
     let header_len = put_header(&mut header, picture);
     write_whole(writer, &header[..header_len])?;
+    write_raster(writer, picture)
+}
+
+// Writes the raster of a picture.
+fn write_raster<W: Sink>(writer: &mut W, picture: &Picture) -> Result<(), WriteFailed>
+    ensures ok { OnOk result (Appends (W.contents writer.old) (W.contents writer.new)
+        (raw_raster picture.now.max (interleaved picture.now.planes))) }
+    ensures part { OnErr result (AppendsPart (W.contents writer.old) (W.contents writer.new)
+        (raw_raster picture.now.max (interleaved picture.now.planes))) }
+    ensures failed { CountsFailure result (W.failures writer.old) (W.failures writer.new) }
+{
+    match picture.written() {
+        Some(raster) => write_whole(writer, raster),
+        None => write_pixels(writer, picture),
+    }
+}
+
+// Writes the raster of a picture, pixels for pixels.
+fn write_pixels<W: Sink>(writer: &mut W, picture: &Picture) -> Result<(), WriteFailed>
+    ensures ok { OnOk result (Appends (W.contents writer.old) (W.contents writer.new)
+        (raw_raster picture.now.max (interleaved picture.now.planes))) }
+    ensures part { OnErr result (AppendsPart (W.contents writer.old) (W.contents writer.new)
+        (raw_raster picture.now.max (interleaved picture.now.planes))) }
+    ensures failed { CountsFailure result (W.failures writer.old) (W.failures writer.new) }
+{
     let mut piece = [0u8; 6 * PIXELS];
     let area = picture.area();
     let mut done = 0;
@@ -70,6 +117,25 @@ pub fn hash_raw<D: Digest>(picture: &Picture, hasher: &mut D)
     let mut header = [0u8; LONGEST_HEADER];
     let header_len = put_header(&mut header, picture);
     hasher.update(&header[..header_len]);
+    hash_raster(hasher, picture);
+}
+
+// Adds the raster of a picture to the message that a hasher holds.
+fn hash_raster<D: Digest>(hasher: &mut D, picture: &Picture)
+    ensures { (message : List ℕ) → D.holds hasher.old message → D.holds hasher.new
+        (message ++ raw_raster picture.now.max (interleaved picture.now.planes)) }
+{
+    match picture.written() {
+        Some(raster) => hasher.update(raster),
+        None => hash_pixels(hasher, picture),
+    }
+}
+
+// Adds the raster of a picture to the message that a hasher holds, pixels for pixels.
+fn hash_pixels<D: Digest>(hasher: &mut D, picture: &Picture)
+    ensures { (message : List ℕ) → D.holds hasher.old message → D.holds hasher.new
+        (message ++ raw_raster picture.now.max (interleaved picture.now.planes)) }
+{
     let mut piece = [0u8; 6 * PIXELS];
     let area = picture.area();
     let mut done = 0;
@@ -84,7 +150,7 @@ pub fn hash_raw<D: Digest>(picture: &Picture, hasher: &mut D)
 fn raster_len(picture: &Picture) -> usize
     ensures { result ≤ 100663296 }
 {
-    picture.planes().len() * (picture.area() * sample_width(picture.max()))
+    picture.plane_count() * (picture.area() * sample_width(picture.max()))
 }
 
 // Puts the bytes of the pixels from `start` on, of as many as are written at a time, into the front of `out`. Says where these pixels
@@ -105,6 +171,7 @@ fn put_next(out: &mut [u8], picture: &Picture, start: usize) -> (usize, usize)
 
 // Puts the bytes of these pixels into the front of `out`, and says how many they are.
 fn put_pixels(out: &mut [u8], picture: &Picture, start: usize, end: usize) -> usize
+    requires image { IsImage picture.now }
     requires order { start ≤ end }
     requires within { end ≤ picture.now.rows * picture.now.cols }
     requires few { end - start ≤ 16384 }
@@ -113,14 +180,57 @@ fn put_pixels(out: &mut [u8], picture: &Picture, start: usize, end: usize) -> us
     ensures written { take result out.new
         ≡ raw_raster picture.now.max (pixels start end picture.now.planes) }
 {
-    let planes = picture.planes();
-    if planes.len() == 1 {
-        return put_samples(out, &planes[0][start..end], picture.max());
+    if let Some((red, green, blue)) = byte_planes(picture) {
+        weave_bytes(out, &red[start..end], &green[start..end], &blue[start..end]);
+        return 3 * (end - start);
     }
-    let red = &planes[0][start..end];
-    let green = &planes[1][start..end];
-    let blue = &planes[2][start..end];
+    let mut red_room = [0u16; PIXELS];
+    let red = part_of(&mut red_room, picture, 0, start, end);
+    if picture.plane_count() == 1 {
+        return put_samples(out, red, picture.max());
+    }
+    let mut green_room = [0u16; PIXELS];
+    let mut blue_room = [0u16; PIXELS];
+    let green = part_of(&mut green_room, picture, 1, start, end);
+    let blue = part_of(&mut blue_room, picture, 2, start, end);
     put_colours(out, red, green, blue, picture.max())
+}
+
+// The bytes of a red, a green and a blue plane, where each sample is a byte of its own.
+fn byte_planes(picture: &Picture) -> Option<(&[u8], &[u8], &[u8])>
+    ensures small { IfSome result (λ _. picture.now.max < 256) }
+    ensures planes { IfSome result
+        (λ bytes. picture.now.planes ≡ bytes.0.now ∷ bytes.1.now ∷ bytes.2.now ∷ []) }
+{
+    if picture.max() > 255 {
+        return None;
+    }
+    if picture.plane_count() == 1 {
+        return None;
+    }
+    let red = whole_bytes(&picture.samples(0))?;
+    let green = whole_bytes(&picture.samples(1))?;
+    let blue = whole_bytes(&picture.samples(2))?;
+    Some((red, green, blue))
+}
+
+// The samples of these pixels of a plane, which may be put into `room`.
+fn part_of<'a>(
+    room: &'a mut [u16],
+    picture: &'a Picture,
+    plane: usize,
+    start: usize,
+    end: usize,
+) -> &'a [u16]
+    requires plane { plane < length picture.now.planes }
+    requires order { start ≤ end }
+    requires within { end ≤ picture.now.rows * picture.now.cols }
+    requires room { end - start ≤ length room.old }
+    ensures part { result.now
+        ≡ slice_range (slice_index_or picture.now.planes plane []) start end }
+    ensures bounded { All (λ sample. sample ≤ picture.now.max) result.now }
+{
+    lend_part(room, &picture.samples(plane), start, end)
 }
 
 // Puts the bytes of red, green and blue samples in turn into the front of `out`, and says how many they are.
@@ -135,10 +245,6 @@ fn put_colours(out: &mut [u8], red: &[u16], green: &[u16], blue: &[u16], max: u1
     ensures end { result ≤ 98304 }
     ensures written { take result out.new ≡ raw_raster max (woven red.now green.now blue.now) }
 {
-    if max < 256 {
-        weave_bytes(out, red, green, blue);
-        return 3 * red.len();
-    }
     let mut in_turn = [0u16; 3 * PIXELS];
     weave(&mut in_turn, red, green, blue);
     put_samples(out, &in_turn[..3 * red.len()], max)
@@ -151,7 +257,7 @@ fn put_header(out: &mut [u8], picture: &Picture) -> usize
     ensures end { result ≤ 32 }
     ensures written { take result out.new ≡ header_of picture.now }
 {
-    let magic = if picture.planes().len() == 1 {
+    let magic = if picture.plane_count() == 1 {
         b'5'
     } else {
         b'6'

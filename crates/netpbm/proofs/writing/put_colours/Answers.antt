@@ -1,11 +1,7 @@
 -- No sample of the three is above the greatest, so none of those in turn is.
-use Rattle.std.proofs.Common.{◌≤◌, ◌∙◌, All, sym, subst}
-use Rattle.netpbm.proofs.Rasters.{raw_raster_one}
+use Rattle.std.proofs.Common.{◌≤◌, All, sym, subst}
 use Rattle.netpbm.proofs.Written.{All-woven}
 use Rattle.netpbm.proofs.writing.put_colours.Goals as goal
-
-pub returns-then-max-lt256-clause-written : goal.returns-then-max-lt256-clause-written
-returns-then-max-lt256-clause-written c = c.weave_bytes.ensures ∙ sym (raw_raster_one c.args.max _ c.if-max-lt256.true)
 
 pub put_samples-requires-clause-bounded : goal.put_samples-requires-clause-bounded
 put_samples-requires-clause-bounded c =

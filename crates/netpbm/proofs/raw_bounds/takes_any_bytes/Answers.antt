@@ -1,7 +1,7 @@
 -- What a byte and what two bytes spell at most.
 use Rattle.std.proofs.lemmas.Bool.{OnTrue_from, eqb-true}
 use Rattle.netpbm.proofs.RawReads.{any_byte, any_pair}
-use Rattle.netpbm.proofs.raw_planes.takes_any_bytes.Goals as goal
+use Rattle.netpbm.proofs.raw_bounds.takes_any_bytes.Goals as goal
 
 pub returns-then-max-eq255 : goal.returns-then-max-eq255
 returns-then-max-eq255 c = any_byte c.args.max c.if-max-eq255.true

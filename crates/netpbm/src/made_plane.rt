@@ -1,0 +1,91 @@
+//! A plane that is made piece by piece.
+ghost use Rattle.std.specs.Prelude.{◌≡◌, ◌≤◌, ◌++◌, ◌↔◌, [], All, IfOk, OnOk, IsTrue, length};
+ghost use Rattle.netpbm.specs.Image.{IsPlane};
+ghost use Rattle.netpbm.specs.MadePlane.{made};
+ghost use Rattle.netpbm.specs.Samples.{IsSamples};
+
+use crate::made_samples::{MadeSamples, add_samples, are_bounded, count_of, lent, no_samples};
+use crate::samples::Samples;
+use std::alloc::{AllocError, Global};
+use std::marker::Model;
+
+/// A plane that is made piece by piece: of bytes where no sample may be above 255, else of numbers of 16 bits.
+/// Contracts see its greatest sample and the list of its samples.
+#[derive(Debug, Drop)]
+pub struct Plane {
+    max: u16,
+    samples: MadeSamples,
+}
+
+impl Model for Plane {
+    ghost use Rattle.std.specs.Prelude.{◌≤◌, All};
+    ghost use Rattle.netpbm.specs.MadePlane.{MadePlane, made};
+    ghost use Rattle.netpbm.specs.Widths.{list_of, Holds};
+
+    ghost Value = { MadePlane };
+
+    ghost view = { λ p. made p.max (list_of p.samples) };
+
+    ghost invariant = { λ p. All (λ sample. sample ≤ p.max) (list_of p.samples)
+        × Holds p.max p.samples };
+}
+
+impl Plane {
+    /// No samples yet, and room for so many; none will be above `max`.
+    ///
+    /// # Errors
+    ///
+    /// Fails only where memory is refused.
+    pub fn with_capacity(alloc: Global, max: u16, count: usize) -> Result<Plane, AllocError>
+        ensures { IfOk result (λ plane. plane ≡ made max []) }
+    {
+        Ok(Plane {
+            max,
+            samples: no_samples(alloc, max, count)?,
+        })
+    }
+
+    /// Adds samples behind those that there are.
+    ///
+    /// # Errors
+    ///
+    /// Fails only where memory is refused. A front of the samples may have been added then.
+    pub fn extend_from_slice(&mut self, samples: &[u16]) -> Result<(), AllocError>
+        requires { All (λ sample. sample ≤ self.old.max) samples.now }
+        ensures max { self.new.max ≡ self.old.max }
+        ensures samples { OnOk result (self.new.samples ≡ self.old.samples ++ samples.now) }
+    {
+        add_samples(&mut self.samples, self.max, samples)
+    }
+
+    // The samples as they lie in memory.
+    pub(crate) fn samples(&self) -> Samples<'_>
+        ensures { IsSamples result self.now.samples }
+    {
+        lent(&self.samples)
+    }
+
+    // How many samples there are.
+    pub(crate) fn len(&self) -> usize
+        ensures { result ≡ length self.now.samples }
+    {
+        count_of(&self.samples)
+    }
+
+    // Whether no sample is above `max`. Where none may be, none is looked at.
+    pub(crate) fn is_bounded(&self, max: u16) -> bool
+        ensures { IsTrue result ↔ All (λ sample. sample ≤ max) self.now.samples }
+    {
+        if self.max <= max {
+            return true;
+        }
+        are_bounded(&self.samples, max)
+    }
+}
+
+// Whether a plane has so many samples, none above `max`.
+pub(crate) fn is_made_plane(area: usize, max: u16, plane: &Plane) -> bool
+    ensures { IsTrue result ↔ IsPlane area max plane.now.samples }
+{
+    plane.len() == area && plane.is_bounded(max)
+}

@@ -1,0 +1,110 @@
+//! Samples in bytes or in numbers of 16 bits.
+ghost use Rattle.std.specs.Prelude.{ℕ, ◌≡◌, ◌≤◌, ◌<◌, ◌++◌, ◌↔◌, [], All, take, length, IsTrue, IfOk, OnOk};
+ghost use Rattle.netpbm.specs.Samples.{IsSamples};
+ghost use Rattle.netpbm.specs.Widths.{list_of, Holds};
+
+use crate::picture::is_bounded;
+use crate::raw_raster::narrow;
+use crate::samples::{Samples, SpacedBytes};
+use std::alloc::{AllocError, Global};
+
+// How many samples are narrowed at a time.
+const PIECE: usize = 512;
+
+/// The samples of a plane that grows.
+#[derive(Debug, Drop)]
+pub enum MadeSamples {
+    Bytes(Vec<u8>),
+    Words(Vec<u16>),
+}
+
+/// None yet, and room for so many, none of them above `max`.
+pub fn no_samples(alloc: Global, max: u16, count: usize) -> Result<MadeSamples, AllocError>
+    ensures none { IfOk result (λ samples. list_of samples ≡ []) }
+    ensures holds { IfOk result (λ samples. Holds max samples) }
+{
+    if max < 256 {
+        Ok(MadeSamples::Bytes(Vec::with_capacity(alloc, count)?))
+    } else {
+        Ok(MadeSamples::Words(Vec::with_capacity(alloc, count)?))
+    }
+}
+
+/// Adds samples, or some of the first of them where memory runs out.
+pub fn add_samples(made: &mut MadeSamples, max: u16, samples: &[u16]) -> Result<(), AllocError>
+    requires holds { Holds max made.old }
+    requires bounded { All (λ sample. sample ≤ max) samples.now }
+    ensures holds { Holds max made.new }
+    ensures all { OnOk result (list_of made.new ≡ list_of made.old ++ samples.now) }
+    ensures some { (n : ℕ) × (list_of made.new ≡ list_of made.old ++ take n samples.now) }
+{
+    match made {
+        MadeSamples::Bytes(bytes) => add_bytes(bytes, samples),
+        MadeSamples::Words(words) => add_words(words, samples),
+    }
+}
+
+fn add_words(words: &mut Vec<u16>, samples: &[u16]) -> Result<(), AllocError>
+    ensures all { OnOk result (words.new.items ≡ words.old.items ++ samples.now) }
+    ensures some { (n : ℕ) × (words.new.items ≡ words.old.items ++ take n samples.now) }
+{
+    words.extend_from_slice(samples)
+}
+
+// Adds samples that are below 256 each, piece by piece.
+fn add_bytes(bytes: &mut Vec<u8>, samples: &[u16]) -> Result<(), AllocError>
+    requires { All (λ sample. sample < 256) samples.now }
+    ensures all { OnOk result (bytes.new.items ≡ bytes.old.items ++ samples.now) }
+    ensures some { (n : ℕ) × (bytes.new.items ≡ bytes.old.items ++ take n samples.now) }
+{
+    let mut piece = [0u8; PIECE];
+    let mut done = 0;
+    while done < samples.len() {
+        let end = samples.len().min(done + PIECE);
+        narrow(&mut piece, &samples[done..end]);
+        bytes.extend_from_slice(&piece[..end - done])?;
+        done = end;
+    }
+    Ok(())
+}
+
+/// The samples as they lie in memory.
+pub fn lent(made: &MadeSamples) -> Samples<'_>
+    ensures { IsSamples result (list_of made.now) }
+{
+    match made {
+        MadeSamples::Bytes(bytes) => Samples::Bytes(SpacedBytes {
+            bytes: bytes.as_slice(),
+            step: 1,
+            count: bytes.len(),
+        }),
+        MadeSamples::Words(words) => Samples::Words(words.as_slice()),
+    }
+}
+
+/// How many there are.
+pub fn count_of(made: &MadeSamples) -> usize
+    ensures { result ≡ length (list_of made.now) }
+{
+    match made {
+        MadeSamples::Bytes(bytes) => bytes.len(),
+        MadeSamples::Words(words) => words.len(),
+    }
+}
+
+/// Whether none is above `max`.
+pub fn are_bounded(made: &MadeSamples, max: u16) -> bool
+    ensures { IsTrue result ↔ All (λ sample. sample ≤ max) (list_of made.now) }
+{
+    match made {
+        MadeSamples::Bytes(bytes) => are_small(bytes.as_slice(), max),
+        MadeSamples::Words(words) => is_bounded(max, words.as_slice()),
+    }
+}
+
+// Whether no byte is above `max`.
+fn are_small(bytes: &[u8], max: u16) -> bool
+    ensures { IsTrue result ↔ All (λ byte. byte ≤ max) bytes.now }
+{
+    bytes.iter().all(|byte| u16::from(*byte) <= max)
+}

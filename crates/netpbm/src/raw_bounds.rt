@@ -1,0 +1,56 @@
+//! Whether the samples of a raw raster are above the greatest one, without decoding it.
+ghost use Rattle.std.specs.Prelude.{List, ℕ, ◌≤◌, All};
+ghost use Rattle.std.specs.Bool.{OnTrue};
+ghost use Rattle.netpbm.specs.Raw.{pairs, decoded};
+
+/// Whether no sample of a raster is above `max`.
+pub fn is_bounded_raster(raster: &[u8], max: u16) -> bool
+    ensures { OnTrue result (All (λ sample. sample ≤ max) (decoded max raster.now)) }
+{
+    if takes_any_bytes(max) {
+        return true;
+    }
+    if max < 256 {
+        are_bytes_bounded(raster, max)
+    } else {
+        are_pairs_bounded(raster, max)
+    }
+}
+
+/// Whether no bytes spell a sample above `max`. Where it is so, no sample needs to be looked at.
+pub fn takes_any_bytes(max: u16) -> bool
+    ensures { OnTrue result ((bytes : List ℕ) → All (λ byte. byte ≤ 255) bytes
+        → All (λ sample. sample ≤ max) (decoded max bytes)) }
+{
+    if max == 255 {
+        return true;
+    }
+    max == 65535
+}
+
+// Whether no byte is above `max`. It goes to the end, in a loop that is compiled to few steps.
+fn are_bytes_bounded(raster: &[u8], max: u16) -> bool
+    ensures { OnTrue result (All (λ byte. byte ≤ max) raster.now) }
+{
+    let mut greatest = 0;
+    for byte in raster {
+        if *byte > greatest {
+            greatest = *byte;
+        }
+    }
+    u16::from(greatest) <= max
+}
+
+// Whether no pair of bytes is above `max`. It goes to the end, in a loop that is compiled to few steps.
+fn are_pairs_bounded(raster: &[u8], max: u16) -> bool
+    ensures { OnTrue result (All (λ sample. sample ≤ max) (pairs raster.now)) }
+{
+    let mut greatest = 0;
+    for i in 0..raster.len() / 2 {
+        let sample = 256 * u16::from(raster[2 * i]) + u16::from(raster[2 * i + 1]);
+        if sample > greatest {
+            greatest = sample;
+        }
+    }
+    greatest <= max
+}
