@@ -39,7 +39,7 @@ fn planes_fit(image: &Image, picture: &Picture) -> bool
     ensures image { IsImage picture.now }
     ensures fit { IsTrue result ↔ PlanesFit image.now picture.now }
 {
-    count(&image.names) == picture.planes().len()
+    count(&image.names) == picture.plane_count()
 }
 
 /// Whether the picture has the planes and the extents of the program.

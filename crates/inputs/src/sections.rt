@@ -4,7 +4,7 @@ ghost use Rattle.std.specs.Prelude.{◌≡◌, ℕ, ◌+◌, ◌↔◌, ◌<◌,
 ghost use Rattle.inputs.specs.Sections.{separates, HasNoSeparator, IsFirstSeparator, IsPartedInThree, LacksSeparator};
 
 /// The line that parts two sections.
-const SEPARATOR: &[u8] = b"%%\n";
+pub(crate) const SEPARATOR: &[u8] = b"%%\n";
 
 /// The first section and what stands behind its separator line, or nothing where no line is one.
 ///
@@ -15,12 +15,8 @@ pub fn split_section(input: &[u8]) -> Option<(&[u8], &[u8])>
         × (parts.0.now ≡ take at input.now) × (parts.1.now ≡ drop (at + 3) input.now)) }
     ensures none { IfNone result (HasNoSeparator input.now) }
 {
-    for at in 0..input.len() {
-        if is_separator(input, at) {
-            return Some((&input[..at], &input[at + SEPARATOR.len()..]));
-        }
-    }
-    None
+    let at = first_separator(input)?;
+    Some((&input[..at], &input[at + SEPARATOR.len()..]))
 }
 
 /// The first section, the one behind its separator line, and what stands behind the next separator line; or nothing where
@@ -33,6 +29,20 @@ pub fn split_sections(input: &[u8]) -> Option<(&[u8], &[u8], &[u8])>
     let (text, behind) = split_section(input)?;
     let (middle, rest) = split_section(behind)?;
     Some((text, middle, rest))
+}
+
+/// Where the first separator line stands, of which all bytes are there.
+pub(crate) fn first_separator(input: &[u8]) -> Option<usize>
+    ensures first { IfSome result (IsFirstSeparator input.now) }
+    ensures room { IfSome result (λ at. at + 3 ≤ length input.now) }
+    ensures none { IfNone result (HasNoSeparator input.now) }
+{
+    for at in 0..input.len() {
+        if is_separator(input, at) {
+            return Some(at);
+        }
+    }
+    None
 }
 
 fn is_separator(input: &[u8], at: usize) -> bool

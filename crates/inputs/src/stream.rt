@@ -11,11 +11,12 @@ ghost use Rattle.inputs.specs.Faults.{IsAuditFault, IsFaultAround, IsFaultOf, Is
 ghost use Rattle.inputs.specs.Giving.{Given};
 ghost use Rattle.inputs.specs.Input.{IsInput, IsJobAt, IsReadAround, IsReadAudit, IsReadJob, IsSpelled};
 ghost use Rattle.inputs.specs.Outcomes.{CountsRead, CountsWritten, IsOfReader, most_input};
+ghost use Rattle.inputs.specs.inside.Steps.{IsProgramBefore};
 
 use crate::accepted::accept;
 use crate::bound::told;
 use crate::faults::StreamFault;
-use crate::sections::{split_section, split_sections};
+use crate::sections::{SEPARATOR, first_separator, split_sections};
 use crate::settings::choose;
 use binding::bind;
 use domains::TileSides;
@@ -48,7 +49,8 @@ pub fn read_input<R: Source>(alloc: Global, reader: &mut R) -> Result<Vec<u8>, S
     }
 }
 
-/// The job of the program and the picture that the input spells. The input's bytes are let go once both are read.
+/// The job of the program and the picture that the input spells. The job of a raw picture keeps the input's bytes; where the picture
+/// is spelled in digits they are let go once it is read.
 pub fn job_of(
     alloc: Global,
     sides: TileSides,
@@ -113,25 +115,28 @@ pub fn facts_of(alloc: Global, input: Vec<u8>) -> Result<Vec<Fact>, StreamFault>
     Ok(union_of(alloc, input.as_slice())?)
 }
 
-/// The program and the picture that the input spells; the input is let go.
+/// The program and the picture that the input spells. A raw picture keeps the input's bytes, so that no sample is copied.
 fn read_all(alloc: Global, input: Vec<u8>) -> Result<(Tree, Picture), StreamFault>
     ensures ok { IfOk result (λ read. IsInput input.items (content read.0) read.1) }
     ensures fault { (given : List Given) (sides : Sides)
         → IfErr result (IsFaultOf input.items given sides) }
 {
-    read_sections(alloc, input.as_slice())
+    let (tree, start) = program_of(alloc, input.as_slice())?;
+    let picture = netpbm::read_owned(alloc, input, start)?;
+    Ok((tree, picture))
 }
 
-/// The program and the picture that the input spells.
-fn read_sections(alloc: Global, input: &[u8]) -> Result<(Tree, Picture), StreamFault>
-    ensures ok { IfOk result (λ read. IsInput input.now (content read.0) read.1) }
+/// The program that the first section is, and where the spelling of the picture starts.
+fn program_of(alloc: Global, input: &[u8]) -> Result<(Tree, usize), StreamFault>
+    ensures ok { IfOk result (λ read. IsProgramBefore input.now (content read.0) read.1) }
     ensures fault { (given : List Given) (sides : Sides)
         → IfErr result (IsFaultOf input.now given sides) }
 {
-    let Some((text, spelling)) = split_section(input) else {
+    let Some(at) = first_separator(input) else {
         return Err(StreamFault::NoSeparator);
     };
-    read_spelled(alloc, text, spelling)
+    let tree = parse(alloc, &input[..at])?;
+    Ok((tree, at + SEPARATOR.len()))
 }
 
 /// The program of a text and the picture that is spelled.

@@ -1,10 +1,10 @@
 #![tactic(auto)]
 //! Whether the same bytes are hashed of two inputs.
 
-ghost use Rattle.std.specs.Prelude.{◌≡◌, ◌↔◌, ◌++◌, ◌∷◌, ℕ, List, IsTrue, map, FitsSigned, All};
+ghost use Rattle.std.specs.Prelude.{◌≡◌, ◌<◌, ◌↔◌, ◌++◌, ◌∷◌, ℕ, List, IsTrue, map, FitsSigned, All};
 ghost use Rattle.std.specs.Int.{w32};
 ghost use Rattle.std.specs.List.{flat_map};
-ghost use Rattle.netpbm.specs.Planes.{samples_of};
+ghost use Rattle.netpbm.specs.Samples.{count_in, sample_in};
 ghost use Rattle.job.specs.Identity.{parameter_bytes, input_bytes};
 ghost use Rattle.job.specs.Views.{parameter_view, pipeline_of};
 ghost use Rattle.job.specs.WellFormed.{IsJob};
@@ -12,7 +12,7 @@ ghost use Rattle.job.specs.WellFormed.{IsJob};
 use crate::bound_pipeline::BoundPipeline;
 use crate::outputs::Parameter;
 use domains::TileSides;
-use netpbm::Picture;
+use netpbm::{Picture, Samples};
 
 /// Whether the bytes whose digests are the identities of the inputs are the same. The pictures are compared and not copied; no memory
 /// is taken.
@@ -70,20 +70,36 @@ fn same_parameter(a: &Parameter, b: &Parameter) -> bool
 fn same_picture(a: &Picture, b: &Picture) -> bool
     ensures { IsTrue result ↔ a.now ≡ b.now }
 {
-    a.rows() == b.rows()
-        && a.cols() == b.cols()
-        && a.max() == b.max()
-        && same_planes(a.planes(), b.planes())
+    a.rows() == b.rows() && a.cols() == b.cols() && a.max() == b.max() && same_planes(a, b)
 }
 
-fn same_planes(a: &[Vec<u16>], b: &[Vec<u16>]) -> bool
-    ensures { IsTrue result ↔ samples_of a.now ≡ samples_of b.now }
+fn same_planes(a: &Picture, b: &Picture) -> bool
+    ensures { IsTrue result ↔ a.now.planes ≡ b.now.planes }
 {
-    match (a.split_first(), b.split_first()) {
-        (None, None) => true,
-        (Some((first, rest)), Some((other, others))) => {
-            first.as_slice() == other.as_slice() && same_planes(rest, others)
-        }
-        _ => false,
+    if a.plane_count() != b.plane_count() {
+        return false;
     }
+    for plane in 0..a.plane_count() {
+        if !same_samples(&a.samples(plane), &b.samples(plane)) {
+            return false;
+        }
+    }
+    true
+}
+
+// Whether samples are the same, however they lie in memory.
+fn same_samples(a: &Samples<'_>, b: &Samples<'_>) -> bool
+    ensures { IsTrue result
+        ↔ (count_in a.now ≡ count_in b.now)
+        × ((k : ℕ) → k < count_in a.now → sample_in a.now k ≡ sample_in b.now k) }
+{
+    if a.count() != b.count() {
+        return false;
+    }
+    for k in 0..a.count() {
+        if a.at(k) != b.at(k) {
+            return false;
+        }
+    }
+    true
 }

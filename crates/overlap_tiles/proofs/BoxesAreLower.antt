@@ -1,6 +1,6 @@
--- What has a box in a target has a lower rank than the target.
+-- What has a box in a target: it has whatever the target passes on to what it reads, and a lower rank.
 use Rattle.std.proofs.Common.{ℕ, zero, suc, arith, ◌<◌, ◌≤◌, ◌≡◌, eqb, Bool, true, false, Option, Some, None, List, [], ◌∷◌, map}
-use Rattle.std.proofs.Common.{refl, ap, subst}
+use Rattle.std.proofs.Common.{refl, sym, ap, ◌∙◌, subst}
 use Rattle.std.specs.Prelude.{All, slice_get, filter, if◌then◌else◌}
 use Rattle.std.proofs.lemmas.Bool.{eqb-true}
 use Rattle.std.proofs.lemmas.List.Elements.{All-nil, All-head, All-tail, All-weaker, All-contains}
@@ -29,45 +29,54 @@ demanded_of P o g area (d ∷ ds) e h = by (eqb d.stage g) refl e (λ rest. dema
     by true same cut rest = subst P (eqb-true d.stage g same) (All-head (λ x. P x.stage) d ds h)
     by false other cut rest = rest cut
 
+-- what the target passes on to what it reads, and each inlined function that has it to what this reads, has each stage with a box
+module _ (t : Target) (P : ℕ → Type 0)
+    (own : (s : Stage) → slice_get t.job.stages t.stage ≡ Some s → All (λ x. P (stage_read x)) (reads_of s.body))
+    (inner : (r : ℕ) (s : Stage) → slice_get t.job.stages r ≡ Some s → is_inlined t.inlining r ≡ true → P r
+    → All (λ x. P (stage_read x)) (reads_of s.body)) where
+  passed_on : (boxes : ℕ → Option Area) (r : ℕ) (s : Stage) (a : Area) → slice_get t.job.stages r ≡ Some s
+      → ((b : Area) → boxes r ≡ Some b → P r) → region_by t boxes r ≡ Some a → All (λ x. P (stage_read x)) (reads_of s.body)
+  passed_on boxes r s a there has e = by (eqb r t.stage) refl (is_inlined t.inlining r) refl e
+    where
+      by : (b : Bool) → eqb r t.stage ≡ b → (i : Bool) → is_inlined t.inlining r ≡ i
+          → (if b then Some t.region else (if i then boxes r else None)) ≡ Some a → All (λ x. P (stage_read x)) (reads_of s.body)
+      by true same i is e = own s (sym (ap (slice_get t.job.stages) (eqb-true r t.stage same)) ∙ there)
+      by false other true is e = inner r s there is (has a e)
+      by false other false is e = absurd (cc)
+
+  demands_have : (boxes : ℕ → Option Area) → ((g : ℕ) (a : Area) → boxes g ≡ Some a → P g) → (r : ℕ)
+      → All (λ d. P d.stage) (demands_by t boxes r)
+  demands_have boxes has r = by (slice_get t.job.stages r) refl (region_by t boxes r) refl
+    where
+      by : (o : Option Stage) → slice_get t.job.stages r ≡ o → (p : Option Area) → region_by t boxes r ≡ p
+          → All (λ d. P d.stage) (stage_demands o p)
+      by None there p is = All-nil (λ d. P d.stage)
+      by (Some s) there None is = All-nil (λ d. P d.stage)
+      by (Some s) there (Some a) is = of_body P s.body a (passed_on boxes r s a there (has r) is)
+
+  within_has : (n g : ℕ) (a : Area) → box_within t n g ≡ Some a → P g
+  within_has zero g a e = absurd (cc)
+  within_has (suc n) g a e =
+      demanded_of P (slice_get t.job.stages g) g a (all_demands_by t (box_within t n)) e
+      (All-from_contains (λ d. P d.stage) (all_demands_by t (box_within t n)) (λ d h.
+      let from = Contains-from_flat_map (demands_by t (box_within t n)) (backward t.job.stages) d h in
+      All-contains (λ x. P x.stage) (demands_by t (box_within t n) from.0) d
+      (demands_have (box_within t n) (within_has n) from.0) from.2))
+
+  pub box_has : (g : ℕ) (a : Area) → box t g ≡ Some a → P g
+  unfolding box
+  box_has g a e = within_has (suc (greatest_rank t.job.stages)) g a e
+
 module _ (t : Target) (ranked : IsRanked t.job.stages) where
   abbrev pub IsLower : ℕ → Type 0
   IsLower g = rank_of t.job.stages g < rank_of t.job.stages t.stage
 
-  region_low : (boxes : ℕ → Option Area) (g : ℕ) (a : Area) → ((b : Area) → boxes g ≡ Some b → IsLower g) → region_by t boxes g ≡ Some a
-      → rank_of t.job.stages g ≤ rank_of t.job.stages t.stage
-  region_low boxes g a low e = by (eqb g t.stage) refl (is_inlined t.inlining g) e
-    where
-      by : (b : Bool) → eqb g t.stage ≡ b → (i : Bool) → (if b then Some t.region else (if i then boxes g else None)) ≡ Some a
-          → rank_of t.job.stages g ≤ rank_of t.job.stages t.stage
-      by true same i e =
-          let ranks : rank_of t.job.stages g ≡ rank_of t.job.stages t.stage = ap (rank_of t.job.stages) (eqb-true g t.stage same) in
-          omega arith
-      by false other true e = let lower = low a e in omega arith
-      by false other false e = absurd (cc)
-
-  demands_low : (boxes : ℕ → Option Area) → ((g : ℕ) (a : Area) → boxes g ≡ Some a → IsLower g) → (r : ℕ)
-      → All (λ d. IsLower d.stage) (demands_by t boxes r)
-  demands_low boxes low r = by (slice_get t.job.stages r) refl (region_by t boxes r) refl
-    where
-      by : (o : Option Stage) → slice_get t.job.stages r ≡ o → (p : Option Area) → region_by t boxes r ≡ p
-          → All (λ d. IsLower d.stage) (stage_demands o p)
-      by None there p is = All-nil (λ d. IsLower d.stage)
-      by (Some s) there None is = All-nil (λ d. IsLower d.stage)
-      by (Some s) there (Some a) is =
-          let here = region_low boxes r a (low r) is in
-          of_body IsLower s.body a
-          (All-weaker (λ x. rank_of t.job.stages (stage_read x) < rank_of t.job.stages r) (λ x. IsLower (stage_read x))
-          (λ x falls. omega arith) (reads_of s.body) (reads_fall t.job.stages ranked r s there))
-
-  within_low : (n g : ℕ) (a : Area) → box_within t n g ≡ Some a → IsLower g
-  within_low zero g a e = absurd (cc)
-  within_low (suc n) g a e =
-      demanded_of IsLower (slice_get t.job.stages g) g a (all_demands_by t (box_within t n)) e
-      (All-from_contains (λ d. IsLower d.stage) (all_demands_by t (box_within t n)) (λ d h.
-      let from = Contains-from_flat_map (demands_by t (box_within t n)) (backward t.job.stages) d h in
-      All-contains (λ x. IsLower x.stage) (demands_by t (box_within t n) from.0) d
-      (demands_low (box_within t n) (within_low n) from.0) from.2))
+  lower_reads : (r : ℕ) (s : Stage) → slice_get t.job.stages r ≡ Some s → rank_of t.job.stages r ≤ rank_of t.job.stages t.stage
+      → All (λ x. IsLower (stage_read x)) (reads_of s.body)
+  lower_reads r s there low =
+      All-weaker (λ x. rank_of t.job.stages (stage_read x) < rank_of t.job.stages r) (λ x. IsLower (stage_read x))
+      (λ x falls. omega arith) (reads_of s.body) (reads_fall t.job.stages ranked r s there)
 
   pub box_low : (g : ℕ) (a : Area) → box t g ≡ Some a → IsLower g
-  unfolding box
-  box_low g a e = within_low (suc (greatest_rank t.job.stages)) g a e
+  box_low = box_has t IsLower (λ s there. lower_reads t.stage s there (omega arith))
+      (λ r s there inlined low. lower_reads r s there (omega arith))

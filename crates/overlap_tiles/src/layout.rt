@@ -159,7 +159,7 @@ impl<'a> Layout<'a> {
     }
 
     /// The tiles of stored functions that it reads, each once: stage by stage, and those of a stage row by row.
-    pub(crate) fn needs(&self) -> &[Need]
+    pub fn needs(&self) -> &[Need]
         ensures { map need_view result.now ≡ self.now.needs }
     {
         &self.needs

@@ -1,5 +1,6 @@
--- What the steps from an input to its job are refused with.
-use Rattle.std.specs.Prelude.{◌≡◌, ◌≢◌, ℕ, List, string_bytes}
+-- What the steps from an input to its job give, and what they are refused with.
+use Rattle.std.specs.Prelude.{◌≡◌, ◌≢◌, ℕ, ◌≤◌, List, length, drop, string_bytes}
+use Rattle.pipe_tree.specs.Faults.{IsText}
 use Rattle.pipe_tree.specs.Tree.{Declaration}
 use Rattle.pipe_checks.specs.declared.symbol.Symbol.{Symbol}
 use Rattle.pipe_bounds.specs.declared.fault.ParamFault.{ParamFault}
@@ -10,8 +11,18 @@ use Rattle.inputs.specs.declared.faults.StreamFault.{StreamFault}
 use Rattle.inputs.specs.declared.faults.StreamFault.TheVariants as faults
 use Rattle.inputs.specs.Faults.{IsCheckLine, blamed}
 use Rattle.inputs.specs.Giving.{Given, IsFirstRefused}
+use Rattle.inputs.specs.Sections.{IsParted}
 
--- each may refuse memory
+-- ---- what is read
+
+-- the first section is a program of this tree, and what stands behind its separator line starts at this place
+pub record IsProgramBefore (input : List ℕ) (tree : List Declaration) (start : ℕ) : Type 0 where
+  pub text : List ℕ
+  pub parted : IsParted input text (drop start input)
+  pub program : IsText text tree
+  pub within : start ≤ length input
+
+-- ---- what is refused: each may refuse memory
 
 -- a refused program
 abbrev pub IsRefusal : List Declaration → StreamFault → Type 0

@@ -1,9 +1,37 @@
-use Rattle.std.proofs.Common.{List, ℕ, subst}
-use Rattle.std.specs.Prelude.{IfErr}
+use Rattle.std.proofs.Common.{List, ℕ, ◌≤◌, drop, length, subst}
+use Rattle.std.proofs.lemmas.Result.{err_from_is_err_and}
+use Rattle.pipe_tree.specs.Content.{content}
 use Rattle.inputs.specs.Faults.{IsFaultOf}
+use Rattle.inputs.specs.inside.Steps.{IsProgramBefore}
+use Rattle.inputs.proofs.Known.{picture_fault, spelling_fault}
 use Rattle.inputs.proofs.stream.read_all.Goals as goal
 
-pub returns-clause-fault : goal.returns-clause-fault
-returns-clause-fault c = λ given sides.
-    subst (λ (input : List ℕ). IfErr c.read_sections.result (IsFaultOf input given sides)) c.as_slice.ensures.value
-    (c.read_sections.ensures.fault given sides)
+pub returns-in_err-tree-clause-fault : goal.returns-in_err-tree-clause-fault
+returns-in_err-tree-clause-fault c = λ given sides.
+    let p = err_from_is_err_and c.from_residual.result c.from_residual.ensures.1 in
+    rw (p.1, p.2) (subst (λ (input : List ℕ). IsFaultOf input given sides c.in_err-tree.field-0.0) c.as_slice.ensures.value
+    (c.in_err-tree.ensures.fault given sides))
+
+pub read_owned-requires : goal.read_owned-requires
+read_owned-requires c =
+    subst (λ (input : List ℕ). c.in_ok-tree.start ≤ length input) c.as_slice.ensures.value c.in_ok-tree.ensures.ok.within
+
+pub returns-in_err-picture-clause-fault : goal.returns-in_err-picture-clause-fault
+returns-in_err-picture-clause-fault c = λ given sides.
+    let p = err_from_is_err_and c.from_residual-in_err-picture.result c.from_residual-in_err-picture.ensures.1 in
+    let before = subst (λ (input : List ℕ). IsProgramBefore input (content c.in_ok-tree.tree) c.in_ok-tree.start) c.as_slice.ensures.value
+    c.in_ok-tree.ensures.ok in
+    let spelling = drop c.in_ok-tree.start c.args.input.items in
+    rw (p.1, p.2) (spelling_fault c.args.input.items before.text spelling given sides _ before.parted
+    (picture_fault before.text spelling (content c.in_ok-tree.tree) c.in_err-picture.field-0.0 before.program c.in_err-picture.ensures.fault))
+
+pub returns-clause-ok : goal.returns-clause-ok
+returns-clause-ok c =
+    let before = subst (λ (input : List ℕ). IsProgramBefore input (content c.in_ok-tree.tree) c.in_ok-tree.start) c.as_slice.ensures.value
+    c.in_ok-tree.ensures.ok in
+    record {
+      text = before.text;
+      spelling = drop c.in_ok-tree.start c.args.input.items;
+      parted = before.parted;
+      spelled = record { program = before.program; picture = c.in_ok-picture.ensures.found };
+    }
