@@ -2,7 +2,7 @@
 use Rattle.std.specs.Prelude.{All, slice_get}
 use Rattle.std.specs.List.{Contains, range_with_len, list_all, sum, flat_map}
 use Rattle.std.proofs.Common.{not, subst, ◌<◌, length, get_or, ℕ, ◌+◌, arith, ◌≡◌, Bool, true, false, cond, ◌&&◌, if◌then◌else◌}
-use Rattle.std.proofs.Common.{Option, Some, None, List, [], ◌∷◌, ◌++◌, map, filter, refl, ap, sym, ◌∙◌, append_assoc}
+use Rattle.std.proofs.Common.{Option, Some, None, List, [], ◌∷◌, ◌++◌, map, filter, refl, ap, sym, ◌∙◌}
 use Rattle.std.proofs.Math.Bool.{and-true}
 use Rattle.std.proofs.lemmas.Bool.{leb-true}
 use Rattle.std.proofs.lemmas.Option.{slice_get_within}
@@ -13,8 +13,8 @@ use Rattle.grouping.specs.Costs.{most_scratch, FitsScratch, has_scratch, stage_f
 use Rattle.grouping.specs.Costs.{points_in, inner_steps, scratch, points}
 use Rattle.grouping.specs.Inlining.{AllFitScratch}
 use Rattle.grouping.specs.inside.Tallies.{all_have_scratch, all_stages_fit, over_domain, areas_of_tiles, row_areas, over}
-use Rattle.grouping.specs.inside.Tallies.{inner_points, points_over}
-use Rattle.grouping.proofs.Lists.{range_more, map_range_more}
+use Rattle.grouping.specs.inside.Tallies.{inner_points, points_over, columns_of, area_of}
+use Rattle.grouping.proofs.Lists.{range_more, flat_map_range_more}
 use Rattle.grouping.proofs.TilesAreTargets.{gridded, tile_of_stage_is_target}
 use Rattle.std.proofs.lemmas.List.{map-append}
 use Rattle.job.specs.Pipeline.{Stage, Pipeline}
@@ -28,16 +28,11 @@ use Rattle.job.specs.Readers.{grid_at}
 use Rattle.grouping.specs.Targets.{IsTarget, Target, is_boxed, box, with_number, numbered_box, target_over}
 use Rattle.std.specs.Option.{option_map_or}
 use Rattle.domains.specs.Area.{point_count}
+use Rattle.domains.specs.Span.{Ends}
 use Rattle.domains.specs.declared.area.Area.{Area}
 use Rattle.domains.specs.declared.grid.Grid.{Grid}
 use Rattle.grouping.specs.Schedules.{is_inlined}
 use Rattle.grouping.specs.Order.{in_order}
-
--- one more tile of a row
-pub row_more : (g : Grid) (i j : ℕ) (areas : List Area)
-    → (areas ++ row_areas g i j) ++ tile_area g i j ∷ [] ≡ areas ++ row_areas g i (j + 1)
-row_more g i j areas =
-    append_assoc areas (row_areas g i j) (tile_area g i j ∷ []) ∙ ap (λ xs. areas ++ xs) (sym (map_range_more (tile_area g i) j))
 
 -- ---- points
 
@@ -93,6 +88,18 @@ points_is t = points_append (inner_steps t) ((t.stage, t.region) ∷ []) ∙ ap 
 map_map : {A B C : Type 0} (g : B → C) (f : A → B) (xs : List A) → map g (map f xs) ≡ map (λ x. g (f x)) xs
 map_map g f [] = refl
 map_map g f (x ∷ xs) = ap (λ ys. g (f x) ∷ ys) (map_map g f xs)
+
+-- one more row: its tiles have the rows of the first one, and the columns of those in each row
+pub row_behind : (g : Grid) (i : ℕ) (first : Area) (columns : List Ends) (areas after : List Area)
+    → areas ≡ flat_map (λ i. row_areas g i (tile_cols g)) (range_with_len 0 i) → first ≡ tile_area g i 0
+    → columns ≡ columns_of g (tile_cols g) → after ≡ areas ++ map (area_of first.rows) columns
+    → after ≡ flat_map (λ i. row_areas g i (tile_cols g)) (range_with_len 0 (i + 1))
+row_behind g i first columns areas after was first_is columns_are is =
+    is
+    ∙ (λ k. was k ++ map (area_of (first_is k).rows) (columns_are k))
+    ∙ ap (λ xs. flat_map (λ i. row_areas g i (tile_cols g)) (range_with_len 0 i) ++ xs)
+    (map_map (area_of (tile_area g i 0).rows) (λ j. (tile_area g 0 j).cols) (range_with_len 0 (tile_cols g)))
+    ∙ sym (flat_map_range_more (λ i. row_areas g i (tile_cols g)) i)
 
 map_pairs : {A B C : Type 0} (f : A × B → C) (rs : List A) (cs : List B) → map f (pairs rs cs) ≡ flat_map (λ r. map (λ c. f (r, c)) cs) rs
 map_pairs f [] cs = refl

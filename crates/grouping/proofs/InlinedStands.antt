@@ -19,6 +19,7 @@ use Rattle.grouping.specs.Targets.{Target, box, region, target_over}
 use Rattle.grouping.specs.Costs.{scratch, most_scratch}
 use Rattle.grouping.specs.Greedy.{does_read, readers, Grouping, group, common_group, with_inlined, cost_or_zero, pays, has_room}
 use Rattle.grouping.specs.inside.Standings.{areas_at, boxes_by_tile, StandsStored, StandsInlined, Stands, AllStand, NoneInlinedBelow}
+use Rattle.grouping.specs.inside.Crossed.{boxes_in}
 use Rattle.grouping.specs.inside.Trials.{points_of_box, kept_cost}
 use Rattle.grouping.specs.declared.standing.Standing.{Standing}
 use Rattle.grouping.specs.declared.standing.Standing.TheVariants.{Stored, Inlined}
@@ -43,7 +44,7 @@ with_standing P job c standings r stand there stored inlined = by (slice_get_cas
   where
     from : (s : Standing) → Stands job c r s → P
     from (Stored n tiles) k = stored n tiles.items k
-    from (Inlined boxes) k = inlined boxes.items k
+    from (Inlined boxes) k = inlined (boxes_in boxes) k
 
     by : ((s : Standing) × (r < length standings) × (slice_get standings r ≡ Some s) × (slice_index_or standings r s ≡ s))
         ⊎ ((length standings ≤ r) × (slice_get standings r ≡ None)) → P
@@ -280,7 +281,7 @@ module _ {job : Pipeline} {c : Grouping} {standings : List Standing} {g h : ℕ}
 
   other_stands : (x : ℕ) (y : Standing) → x ≢ g → x ≢ h → Stands job c x y → Stands job (with_inlined c g h) x y
   other_stands x (Stored n tiles) other apart k = other_stored x n tiles.items other apart k
-  other_stands x (Inlined boxes) other apart k = other_inlined x boxes.items other k
+  other_stands x (Inlined boxes) other apart k = other_inlined x (boxes_in boxes) other k
 
   each_stands : (s s' : Standing) → Stands job (with_inlined c g h) g s → Stands job (with_inlined c g h) h s'
       → (x : ℕ) (y : Standing) → slice_get (slice_set (slice_set standings g s) h s') x ≡ Some y → Stands job (with_inlined c g h) x y

@@ -16,6 +16,7 @@ use Rattle.grouping.specs.Targets.{Target, IsTarget, box, region, target_over}
 use Rattle.grouping.specs.inside.Walks.{InDomainRanges}
 use Rattle.grouping.specs.Greedy.{Grouping, group, common_group}
 use Rattle.grouping.specs.inside.Standings.{areas_at, boxes_by_tile, Stands, AllStand}
+use Rattle.grouping.specs.inside.Crossed.{boxes_in}
 use Rattle.grouping.specs.inside.Trials.{kept_box, kept_scratch}
 use Rattle.grouping.specs.declared.standing.Standing.{Standing}
 use Rattle.grouping.specs.declared.standing.Standing.TheVariants.{Stored, Inlined}
@@ -45,7 +46,7 @@ region_kept job c h r place a (Stored n tiles) stands at other is =
     absurd (let own = stands.own in let same : r ≡ h = cc in grind (arith, nat_tests))
 region_kept job c h r place a (Inlined tiles) stands at other is =
     let t : Target = target_over job c.inlining h a in
-    let kept : tiles.items ≡ boxes_by_tile job c.inlining h r = stands.boxes ∙ ap (λ k. boxes_by_tile job c.inlining k r) at in
+    let kept : boxes_in tiles ≡ boxes_by_tile job c.inlining h r = stands.boxes ∙ ap (λ k. boxes_by_tile job c.inlining k r) at in
     ap (λ xs. slice_index_or xs place None) kept
     ∙ map_at (λ b. box (target_over job c.inlining h b) r) (areas_at job h) place a None is
     ∙ sym (λ i. if other i then Some a else (if stands.inlined i then box t r else None))

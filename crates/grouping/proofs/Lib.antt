@@ -18,6 +18,13 @@ pub mod CostsGrow
 pub mod ReadersMakeBoxes
 pub mod VisitsMakeSchedules
 pub mod InlinedStands
+pub mod CrossedLists
 pub mod KeptIsBox
 pub mod GreedyIsTheRule
+pub mod CostsAreKept
+pub mod BoxesBetween
+pub mod KeptBetween
+pub mod TrialsOfBoxes
+pub mod CrossedBoxes
 pub mod GroupsFollowChains
+pub mod CheapOnesAreAdded

@@ -104,7 +104,7 @@ visited_by Q job percent c g same one = by (is_function job g) refl (is_output j
     by false e b f = same
 
 -- what holds of g and of all that was inlined holds of all that is inlined with g
-of_inlined : (P : ℕ → Type 0) (inlining : List Bool) (g k : ℕ) → P g → ((x : ℕ) → is_inlined inlining x ≡ true → P x)
+pub of_inlined : (P : ℕ → Type 0) (inlining : List Bool) (g k : ℕ) → P g → ((x : ℕ) → is_inlined inlining x ≡ true → P x)
     → is_inlined (slice_set inlining g true) k ≡ true → P k
 of_inlined P inlining g k here was inlined = by (nat_eq k g) refl
   where
@@ -112,7 +112,8 @@ of_inlined P inlining g k here was inlined = by (nat_eq k g) refl
     by true e = let same : g ≡ k = grind (arith, nat_tests) in subst P same here
     by false e = let other : k ≢ g = grind (arith, nat_tests) in was k (sym (get_or-set_other inlining g k true false other) ∙ inlined)
 
-one_more_is : (job : Pipeline) (inlining : List Bool) (g : ℕ) → IsSchedule job inlining → is_function job g ≡ true → is_output job g ≡ false
+-- one more function that is no output makes a schedule
+pub one_more_is : (job : Pipeline) (inlining : List Bool) (g : ℕ) → IsSchedule job inlining → is_function job g ≡ true → is_output job g ≡ false
     → IsSchedule job (slice_set inlining g true)
 one_more_is job inlining g h function inner =
     record {

@@ -5,6 +5,7 @@ use Rattle.std.specs.List.{range_with_len}
 use Rattle.job.specs.Pipeline.{Stage, Pipeline}
 use Rattle.job.specs.Answers.{has_tiles, is_output}
 use Rattle.grouping.specs.Schedules.{is_inlined, IsSchedule, inlining_for}
+use Rattle.grouping.specs.Cheap.{AddsCheap}
 use Rattle.grouping.specs.Costs.{cost, FitsScratch}
 use Rattle.grouping.specs.declared.fault.ScheduleFault.{ScheduleFault}
 use Rattle.grouping.specs.declared.fault.ScheduleFault.TheVariants.{OutputInlined, Memory}
@@ -29,6 +30,12 @@ pub record IsScheduleOf (job : Pipeline) (s : Inlining) : Type 0 where
   pub inlining : IsSchedule job s.inlining
   pub costs : s.costs ≡ costs_of job s.inlining
   pub fits : s.fits ≡ true → AllFitScratch job s.inlining
+
+-- a schedule of the job by which each tile has room, and which inlines what was inlined before, and cheap functions as well
+pub record InlinesMore (job : Pipeline) (before : List Bool) (s : Inlining) : Type 0 where
+  pub schedule : IsScheduleOf job s
+  pub fits : AllFitScratch job s.inlining
+  pub adds : AddsCheap job before s.inlining
 
 -- ---- outputs
 

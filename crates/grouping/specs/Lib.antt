@@ -7,4 +7,5 @@ pub mod Inlining
 pub mod Faults
 pub mod Greedy
 pub mod Chains
+pub mod Cheap
 pub mod inside

@@ -3,3 +3,5 @@ pub mod Walks
 pub mod Tallies
 pub mod Standings
 pub mod Trials
+pub mod Between
+pub mod Crossed

@@ -15,41 +15,57 @@ ghost use Rattle.grouping.specs.inside.Walks.{target_of, cut_hull};
 ghost use Rattle.grouping.specs.Costs.{scratch, most_scratch, cost};
 ghost use Rattle.grouping.specs.Inlining.{AllFitScratch, costs_of};
 ghost use Rattle.grouping.specs.Costs.{stage_fits};
-ghost use Rattle.grouping.specs.inside.Tallies.{row_areas, areas_of_tiles, over, inner_points, points_over, all_have_scratch, reads_stored};
+ghost use Rattle.grouping.specs.inside.Tallies.{columns_of, area_of, areas_of_tiles, over, inner_points, points_over, all_have_scratch, reads_stored};
 
 use crate::inlining::InlinedStages;
 use crate::order::in_order;
 use crate::target::TargetWalk;
-use domains::{Area, Grid};
+use domains::{Area, Grid, Span};
 use job::{Job, Read, Stage};
 use std::alloc::{AllocError, Global};
 
 /// The most points that a tile may have in scratch memory.
 pub const MOST_SCRATCH: u64 = 67_108_864;
 
-// Puts the areas of the tiles in row `i` after the others.
-#[tactic(auto, using(crate::proofs::CostsAddUp::row_more))]
-fn add_row(areas: &mut Vec<Area>, grid: &Grid, i: u32) -> Result<(), AllocError>
-    requires { i < tile_rows grid.now }
-    ensures { OnOk result (areas.new.items
-        ≡ areas.old.items ++ row_areas grid.now i (tile_cols grid.now)) }
+// The columns of the tiles in a row.
+fn columns_of(alloc: Global, grid: &Grid, count: u32) -> Result<Vec<Span>, AllocError>
+    requires some { 0 < tile_rows grid.now }
+    requires count { count ≡ tile_cols grid.now }
+    ensures { IfOk result (λ v. v.items ≡ columns_of grid.now count) }
 {
-    for j in 0..grid.tile_cols() {
-        if let Some(area) = grid.tile(i, j) {
-            areas.push(area)?;
+    let mut columns = Vec::with_capacity(alloc, count as usize)?;
+    for j in 0..count {
+        if let Some(tile) = grid.tile(0, j) {
+            columns.push(tile.cols)?;
         }
+    }
+    Ok(columns)
+}
+
+// Puts the areas of these rows, and of each of these columns, after the others.
+fn add_row(areas: &mut Vec<Area>, rows: &Span, columns: &[Span]) -> Result<(), AllocError>
+    ensures { OnOk result (areas.new.items ≡ areas.old.items ++ map (area_of rows.now) columns.now) }
+{
+    for cols in columns {
+        areas.push(Area {
+            rows: *rows,
+            cols: *cols,
+        })?;
     }
     Ok(())
 }
 
 /// The areas of a grid's tiles, row by row.
-#[tactic(auto, using(crate::proofs::Lists::flat_map_range_more))]
 pub(crate) fn areas_of_tiles(alloc: Global, grid: &Grid) -> Result<Vec<Area>, AllocError>
     ensures { IfOk result (λ areas. areas.items ≡ areas_of_tiles grid.now) }
 {
-    let mut areas = Vec::new(alloc);
-    for i in 0..grid.tile_rows() {
-        add_row(&mut areas, grid, i)?;
+    let rows = grid.tile_rows();
+    let columns = columns_of(alloc, grid, grid.tile_cols())?;
+    let mut areas = Vec::with_capacity(alloc, grid.tiles() as usize)?;
+    for i in 0..rows {
+        if let Some(tile) = grid.tile(i, 0) {
+            add_row(&mut areas, &tile.rows, &columns)?;
+        }
     }
     Ok(areas)
 }
@@ -176,8 +192,12 @@ impl TargetWalk<'_> {
     }
 }
 
-// Whether a stage reads nothing that is inlined.
-fn reads_stored(alloc: Global, inlining: &InlinedStages, stage: &Stage) -> Result<bool, AllocError>
+/// Whether a stage reads nothing that is inlined.
+pub(crate) fn reads_stored(
+    alloc: Global,
+    inlining: &InlinedStages,
+    stage: &Stage,
+) -> Result<bool, AllocError>
     ensures { IfOk result (λ b. b
         ≡ reads_stored inlining.now (reads_of (stage_view stage.now).body)) }
 {

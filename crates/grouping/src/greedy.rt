@@ -8,6 +8,7 @@ ghost use Rattle.std.specs.List.{list_all};
 ghost use Rattle.job.specs.Kept.{pipeline_in};
 ghost use Rattle.grouping.specs.Order.{backward};
 ghost use Rattle.grouping.specs.Schedules.{is_inlined, all_stored, IsSchedule};
+ghost use Rattle.grouping.specs.Costs.{cost};
 ghost use Rattle.grouping.specs.Inlining.{costs_of, AllFitScratch};
 ghost use Rattle.grouping.specs.Greedy.{initial_grouping, common_group, group, visited, inlined_if, with_inlined, greedy_inlining};
 ghost use Rattle.grouping.specs.inside.Standings.{areas_at, Stands, AllStand, NoneInlinedBelow};
@@ -19,7 +20,7 @@ use crate::inlining::{InlinedStages, is_function};
 use crate::order::in_order;
 use crate::readers::readers_of;
 use crate::standing::Standing;
-use crate::trial::{Candidate, Trial, tiles_of};
+use crate::trial::{Candidate, Trial};
 use job::Job;
 use std::alloc::{AllocError, Global};
 
@@ -31,16 +32,37 @@ pub(crate) struct Grouper {
     pub(crate) standings: Vec<Standing>,
 }
 
-/// The functions that the greedy rule inlines.
-pub(crate) fn greedy_inlining(
-    alloc: Global,
-    job: &Job,
-    percent: u32,
-) -> Result<InlinedStages, AllocError>
+/// What the greedy rule inlines, and what each stage then costs.
+#[derive(Drop)]
+pub(crate) struct Choice {
+    pub(crate) inlining: InlinedStages,
+    pub(crate) costs: Vec<Option<u64>>,
+}
+
+/// The functions that the greedy rule inlines, with the costs.
+pub(crate) fn greedy_choice(alloc: Global, job: &Job, percent: u32) -> Result<Choice, AllocError>
     requires percent { percent ≤ 10000 }
-    ensures inlining { IfOk result (λ f. f ≡ greedy_inlining (pipeline_in job.now) percent) }
-    ensures schedule { IfOk result (IsSchedule (pipeline_in job.now)) }
-    ensures fits { IfOk result (AllFitScratch (pipeline_in job.now)) }
+    ensures inlining { IfOk result (λ c. c.inlining ≡ greedy_inlining (pipeline_in job.now) percent) }
+    ensures schedule { IfOk result (λ c. IsSchedule (pipeline_in job.now) c.inlining) }
+    ensures fits { IfOk result (λ c. AllFitScratch (pipeline_in job.now) c.inlining) }
+    ensures costs { IfOk result (λ c. c.costs.items ≡ costs_of (pipeline_in job.now) c.inlining) }
+{
+    let grouping = greedy_grouping(alloc, job, percent)?;
+    let costs = grouping.costs(alloc, job)?;
+    Ok(Choice {
+        inlining: grouping.inlining,
+        costs,
+    })
+}
+
+// The grouping when all stages have been visited.
+fn greedy_grouping(alloc: Global, job: &Job, percent: u32) -> Result<Grouper, AllocError>
+    requires percent { percent ≤ 10000 }
+    ensures inlining { IfOk result (λ c. c.inlining ≡ greedy_inlining (pipeline_in job.now) percent) }
+    ensures schedule { IfOk result (λ c. IsSchedule (pipeline_in job.now) c.inlining) }
+    ensures fits { IfOk result (λ c. AllFitScratch (pipeline_in job.now) c.inlining) }
+    ensures stand { IfOk result
+        (λ c. AllStand (pipeline_in job.now) (grouping_of c) c.standings.items) }
 {
     let mut order = in_order(alloc, job.stages())?;
     order.reverse();
@@ -48,7 +70,7 @@ pub(crate) fn greedy_inlining(
     for number in &order {
         grouping.visit(alloc, job, &order, *number, percent)?;
     }
-    Ok(grouping.inlining)
+    Ok(grouping)
 }
 
 impl Grouper {
@@ -167,6 +189,36 @@ impl Grouper {
         }
     }
 
+    // What each stage costs.
+    #[tactic(auto, using(crate::proofs::Lists::map_range_more))]
+    fn costs(&self, alloc: Global, job: &Job) -> Result<Vec<Option<u64>>, AllocError>
+        requires stand { AllStand (pipeline_in job.now) (grouping_of self.now)
+            self.now.standings.items }
+        ensures { IfOk result (λ v. v.items ≡ costs_of (pipeline_in job.now) self.now.inlining) }
+    {
+        let mut costs = Vec::new(alloc);
+        for number in 0..job.stages().len() {
+            costs.push(self.cost(job, number))?;
+        }
+        Ok(costs)
+    }
+
+    // What a stage costs, as is kept of it.
+    #[tactic(auto, using(crate::proofs::CostsAreKept::none_inlined, crate::proofs::CostsAreKept::none_without_tiles))]
+    fn cost(&self, job: &Job, number: usize) -> Option<u64>
+        requires stand { AllStand (pipeline_in job.now) (grouping_of self.now)
+            self.now.standings.items }
+        ensures { result ≡ cost (pipeline_in job.now) self.now.inlining number }
+    {
+        if self.inlining.inlined(number) {
+            return None;
+        }
+        match job.grid(number) {
+            Some(_) => Some(self.kept_cost(number)),
+            None => None,
+        }
+    }
+
     // The stored stage in whose tiles a stage is computed.
     fn group(&self, number: usize) -> usize
         ensures { result ≡ group (grouping_of self.now) number }
@@ -235,10 +287,15 @@ fn cost_at(costs: &[Option<u64>], number: usize) -> u64
 fn no_scratch(alloc: Global, job: &Job, number: usize) -> Result<Vec<u64>, AllocError>
     ensures { IfOk result (λ v. v.items ≡ map (λ a. 0) (areas_at (pipeline_in job.now) number)) }
 {
-    let areas = tiles_of(alloc, job, number)?;
-    let mut scratch = Vec::new(alloc);
-    for area in areas.iter() {
-        scratch.push(0)?;
+    vec![in alloc; 0; tile_count(job, number)]
+}
+
+/// How many tiles a stage has; planes have none.
+pub(crate) fn tile_count(job: &Job, number: usize) -> usize
+    ensures { result ≡ length (areas_at (pipeline_in job.now) number) }
+{
+    match job.grid(number) {
+        Some(grid) => grid.tiles() as usize,
+        None => 0,
     }
-    Ok(scratch)
 }

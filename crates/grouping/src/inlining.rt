@@ -59,6 +59,20 @@ impl InlinedStages {
         is_among_inlined(&self.inlining, stage)
     }
 
+    /// The same once more.
+    pub(crate) fn copied(&self) -> Result<InlinedStages, AllocError>
+        ensures { IfOk result (λ f. f ≡ self.now) }
+    {
+        Ok(InlinedStages {
+            inlining: self.inlining.clone()?,
+        })
+    }
+
+    /// Whether the same stages are inlined.
+    pub(crate) fn is_same(&self, other: &InlinedStages) -> bool {
+        self.inlining == other.inlining
+    }
+
     /// Inlines the stage of this number, or stores it.
     pub(crate) fn set(&mut self, stage: usize, is_inlined: bool)
         ensures { self.new ≡ slice_set self.old stage is_inlined }

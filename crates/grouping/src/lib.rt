@@ -1,6 +1,10 @@
 //! Schedules: which functions of a job are inlined into the tiles that need them, and which area of each a tile needs.
 #![tactic(auto)]
 
+mod across;
+mod between;
+mod boxes;
+mod cheap;
 mod costs;
 mod demands;
 mod fault;
@@ -14,6 +18,7 @@ mod standing;
 mod target;
 mod trial;
 
+pub use cheap::with_cheap_inlined;
 pub use costs::MOST_SCRATCH;
 pub use fault::ScheduleFault;
 pub use order::{in_order, last_rank};

@@ -5,7 +5,7 @@ ghost use Rattle.std.specs.Prelude.{◌≡◌, ◌≤◌, None, IfOk, IfErr, len
 
 use crate::costs::costs_of;
 use crate::fault::ScheduleFault;
-use crate::greedy::greedy_inlining;
+use crate::greedy::greedy_choice;
 use crate::inlining::{InlinedStages, first_output_asked};
 use crate::order::in_order;
 use crate::target::TargetWalk;
@@ -38,7 +38,8 @@ impl Schedule {
     ghost use Rattle.grouping.specs.inside.Walks.{target_of};
     ghost use Rattle.grouping.specs.Costs.{scratch};
     ghost use Rattle.grouping.specs.Greedy.{greedy_inlining};
-    ghost use Rattle.grouping.specs.Inlining.{IsScheduleOf, IsScheduleFault, AllFitScratch, StoresOutputs};
+    ghost use Rattle.grouping.specs.Inlining.{IsScheduleOf, IsScheduleFault, AllFitScratch, StoresOutputs, InlinesMore};
+    ghost use Rattle.grouping.specs.Cheap.{AddsCheap};
 
     /// The schedule that inlines nothing.
     ///
@@ -101,9 +102,40 @@ impl Schedule {
         ensures schedule { IfOk result (IsScheduleOf (pipeline_in job.now)) }
         ensures fits { IfOk result (λ s. AllFitScratch (pipeline_in job.now) s.inlining) }
     {
-        let inlining = greedy_inlining(alloc, job, percent)?;
-        let schedule = Schedule::with_costs(alloc, job, inlining)?;
-        Ok(schedule)
+        let choice = greedy_choice(alloc, job, percent)?;
+        Ok(Schedule {
+            inlining: choice.inlining,
+            costs: choice.costs,
+            fits: true,
+        })
+    }
+
+    /// Which stages are inlined.
+    pub(crate) fn inlining(&self) -> &InlinedStages
+        ensures { result.now ≡ self.now.inlining }
+    {
+        &self.inlining
+    }
+
+    /// The schedule that inlines cheap functions as well, if it then knows that each tile has room in scratch memory, else the
+    /// same one.
+    pub(crate) fn or_better(
+        self,
+        alloc: Global,
+        job: &Job,
+        inlining: InlinedStages,
+    ) -> Result<Schedule, AllocError>
+        requires schedule { IsScheduleOf (pipeline_in job.now) self }
+        requires fits { AllFitScratch (pipeline_in job.now) self.inlining }
+        requires better { IsSchedule (pipeline_in job.now) inlining }
+        requires adds { AddsCheap (pipeline_in job.now) self.inlining inlining }
+        ensures { IfOk result (InlinesMore (pipeline_in job.now) self.inlining) }
+    {
+        if self.inlining.is_same(&inlining) {
+            return Ok(self);
+        }
+        let better = Schedule::with_costs(alloc, job, inlining)?;
+        if better.fits { Ok(better) } else { Ok(self) }
     }
 
     fn with_costs(alloc: Global, job: &Job, inlining: InlinedStages) -> Result<Schedule, AllocError>

@@ -4,6 +4,7 @@
 ghost use Rattle.std.specs.Prelude.{◌≡◌, Some};
 ghost use Rattle.grouping.specs.inside.Trials.{kept_cost, kept_box, kept_scratch};
 
+use crate::boxes::Boxes;
 use domains::Area;
 
 /// How a stage stands.
@@ -11,8 +12,8 @@ use domains::Area;
 pub(crate) enum Standing {
     /// Stored: how many points its tiles take together, and how many each of them has in scratch memory.
     Stored(u64, Vec<u64>),
-    /// Inlined: its box in each tile of its group.
-    Inlined(Vec<Option<Area>>),
+    /// Inlined: its boxes in the tiles of its group.
+    Inlined(Boxes),
 }
 
 impl Standing {
@@ -32,7 +33,7 @@ impl Standing {
     {
         match self {
             Standing::Stored(_, _) => None,
-            Standing::Inlined(boxes) => *boxes.get(place)?,
+            Standing::Inlined(boxes) => boxes.at(place),
         }
     }
 

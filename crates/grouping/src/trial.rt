@@ -1,21 +1,25 @@
 #![tactic(auto)]
 //! What inlining a function would take.
 
-ghost use Rattle.std.specs.Prelude.{◌≡◌, ◌<◌, ◌+◌, ◌^◌, ◌++◌, ◌∷◌, [], nat_le, length, slice_get, slice_set, Some, None, All};
+ghost use Rattle.std.specs.Prelude.{◌≡◌, ◌<◌, ◌+◌, ◌*◌, ◌^◌, ◌++◌, ◌∷◌, [], nat_le, length, slice_get, slice_set, Some, None, All};
 ghost use Rattle.std.specs.Prelude.{IfOk, OnOk, IfSome};
 ghost use Rattle.std.specs.List.{flat_map, list_all};
 ghost use Rattle.job.specs.Kept.{pipeline_in};
 ghost use Rattle.grouping.specs.Costs.{most_scratch};
 ghost use Rattle.grouping.specs.Greedy.{group};
-ghost use Rattle.grouping.specs.inside.Standings.{areas_at, AllStand};
+ghost use Rattle.grouping.specs.inside.Between.{IsSpot, AreWhole};
+ghost use Rattle.grouping.specs.inside.Crossed.{crossed};
+ghost use Rattle.grouping.specs.inside.Standings.{areas_at, boxes_by_tile, AllStand};
 ghost use Rattle.grouping.specs.Targets.{region, box, demands_by, target_over};
-ghost use Rattle.grouping.specs.inside.Trials.{grouping_of, kept_box, kept_scratch, points_of_box, IsCandidate, IsOverTile, IsTrialOf};
+ghost use Rattle.grouping.specs.inside.Trials.{grouping_of, kept_box, kept_scratch, points_of_box, IsCandidate, IsOverTile, IsTrialOf, AreTaken, IsRowOfBoxes};
 ghost use Rattle.grouping.specs.inside.Walks.{InDomainRanges, demanded_all, target_of};
 
+use crate::between::{Spot, Wholes};
+use crate::boxes::{Boxes, Crossing};
 use crate::costs::{MOST_SCRATCH, areas_of_tiles};
-use crate::greedy::Grouper;
+use crate::greedy::{Grouper, tile_count};
 use crate::target::{TargetWalk, no_hulls};
-use domains::Area;
+use domains::{Area, Span};
 use job::Job;
 use std::alloc::{AllocError, Global};
 
@@ -32,22 +36,62 @@ pub(crate) struct Candidate {
 /// scratch memory.
 #[derive(Drop)]
 pub(crate) struct Trial {
-    pub(crate) boxes: Vec<Option<Area>>,
+    pub(crate) boxes: Boxes,
     pub(crate) added: u64,
     pub(crate) scratch: Vec<u64>,
 }
 
 impl Trial {
-    fn none(alloc: Global) -> Trial
-        ensures boxes { result.boxes.items ≡ [] }
-        ensures added { result.added ≡ 0 }
-        ensures scratch { result.scratch.items ≡ [] }
+    /// Whether each tile has room in scratch memory.
+    pub(crate) fn fits(&self) -> bool
+        ensures { result ≡ list_all (λ n. nat_le n most_scratch) self.now.scratch.items }
     {
-        Trial {
-            boxes: Vec::new(alloc),
+        self.scratch.iter().all(|points| *points <= MOST_SCRATCH)
+    }
+}
+
+/// How many points the boxes in the tiles so far have together, and how many each of these tiles then has in scratch memory.
+#[derive(Drop)]
+struct Taken {
+    added: u64,
+    scratch: Vec<u64>,
+}
+
+impl Taken {
+    // One more tile, with so many points of its box, that has had so many in scratch memory.
+    fn add(&mut self, points: u64, before: u64) -> Result<(), AllocError>
+        requires added { self.old.added + points < 2 ^ 64 }
+        requires scratch { before + points < 2 ^ 64 }
+        ensures added { OnOk result (self.new.added ≡ self.old.added + points) }
+        ensures scratch { OnOk result (self.new.scratch.items
+            ≡ self.old.scratch.items ++ (before + points) ∷ []) }
+    {
+        self.added += points;
+        self.scratch.push(before + points)?;
+        Ok(())
+    }
+}
+
+/// The same of the tiles so far, one by one.
+#[derive(Drop)]
+struct Tried {
+    boxes: Vec<Option<Area>>,
+    added: u64,
+    scratch: Vec<u64>,
+}
+
+impl Tried {
+    // None so far, and room for so many.
+    fn none(alloc: Global, count: usize) -> Result<Tried, AllocError>
+        ensures boxes { IfOk result (λ t. t.boxes.items ≡ []) }
+        ensures added { IfOk result (λ t. t.added ≡ 0) }
+        ensures scratch { IfOk result (λ t. t.scratch.items ≡ []) }
+    {
+        Ok(Tried {
+            boxes: Vec::with_capacity(alloc, count)?,
             added: 0,
-            scratch: Vec::new(alloc),
-        }
+            scratch: Vec::with_capacity(alloc, count)?,
+        })
     }
 
     // One more tile, that has had so many points in scratch memory.
@@ -64,13 +108,6 @@ impl Trial {
         self.added += points;
         self.scratch.push(before + points)?;
         Ok(())
-    }
-
-    /// Whether each tile has room in scratch memory.
-    pub(crate) fn fits(&self) -> bool
-        ensures { result ≡ list_all (λ n. nat_le n most_scratch) self.now.scratch.items }
-    {
-        self.scratch.iter().all(|points| *points <= MOST_SCRATCH)
     }
 }
 
@@ -98,9 +135,124 @@ impl Grouper {
         ensures { IfOk result (IsTrialOf (pipeline_in job.now) self.now.inlining
             candidate.now.group candidate.now.number) }
     {
-        let tiles = tiles_of(alloc, job, candidate.group)?;
         let mut hulls = no_hulls(alloc, job)?;
-        self.trial_over(alloc, job, candidate, &tiles, &mut hulls)
+        match self.boxes_across(alloc, job, candidate, &mut hulls)? {
+            Some(spans) => self.trial_of(alloc, job, candidate, spans),
+            None => {
+                let tiles = tiles_of(alloc, job, candidate.group)?;
+                self.trial_over(alloc, job, candidate, &tiles, &mut hulls)
+            }
+        }
+    }
+
+    // The boxes of the function, where those in the first row and the first column of tiles tell all.
+    fn boxes_across(
+        &self,
+        alloc: Global,
+        job: &Job,
+        candidate: &Candidate,
+        hulls: &mut [Option<Area>],
+    ) -> Result<Option<Crossing>, AllocError>
+        requires stand { AllStand (pipeline_in job.now) (grouping_of self.now)
+            self.now.standings.items }
+        requires candidate { IsCandidate (pipeline_in job.now) (grouping_of self.now)
+            candidate.now }
+        requires hulls { length hulls.old ≡ length (pipeline_in job.now).stages }
+        ensures is { IfOk result (λ o. IfSome o (λ s. crossed s.rows.items s.cols.items
+            ≡ boxes_by_tile (pipeline_in job.now) self.now.inlining candidate.now.group candidate.now.number)) }
+        ensures room { length hulls.new ≡ length hulls.old }
+    {
+        match job.grid(candidate.group) {
+            Some(grid) => self.crossed_boxes(alloc, job, candidate, &grid, hulls),
+            None => Ok(None),
+        }
+    }
+
+    // What inlining the function would take with these boxes.
+    fn trial_of(
+        &self,
+        alloc: Global,
+        job: &Job,
+        candidate: &Candidate,
+        spans: Crossing,
+    ) -> Result<Trial, AllocError>
+        requires stand { AllStand (pipeline_in job.now) (grouping_of self.now)
+            self.now.standings.items }
+        requires candidate { IsCandidate (pipeline_in job.now) (grouping_of self.now)
+            candidate.now }
+        requires boxes { crossed spans.rows.items spans.cols.items
+            ≡ boxes_by_tile (pipeline_in job.now) self.now.inlining candidate.now.group candidate.now.number }
+        ensures { IfOk result (IsTrialOf (pipeline_in job.now) self.now.inlining
+            candidate.now.group candidate.now.number) }
+    {
+        let taken = self.taken(alloc, job, candidate, &spans.rows, &spans.cols)?;
+        Ok(Trial {
+            boxes: Boxes::Crossed(spans),
+            added: taken.added,
+            scratch: taken.scratch,
+        })
+    }
+
+    // What all tiles take where the function has these rows and columns in them.
+    fn taken(
+        &self,
+        alloc: Global,
+        job: &Job,
+        candidate: &Candidate,
+        rows: &[Span],
+        cols: &[Span],
+    ) -> Result<Taken, AllocError>
+        requires stand { AllStand (pipeline_in job.now) (grouping_of self.now)
+            self.now.standings.items }
+        requires candidate { IsCandidate (pipeline_in job.now) (grouping_of self.now)
+            candidate.now }
+        requires boxes { crossed rows.now cols.now
+            ≡ boxes_by_tile (pipeline_in job.now) self.now.inlining candidate.now.group candidate.now.number }
+        ensures { IfOk result (AreTaken (pipeline_in job.now) self.now.inlining candidate.now.group
+            candidate.now.number (length rows.now * length cols.now)) }
+    {
+        let mut taken = Taken {
+            added: 0,
+            scratch: Vec::with_capacity(alloc, tile_count(job, candidate.group))?,
+        };
+        for (row, span) in rows.iter().enumerate() {
+            self.take_row(job, candidate, &mut taken, span, cols, row * cols.len())?;
+        }
+        Ok(taken)
+    }
+
+    // A row of tiles more, from this number on.
+    fn take_row(
+        &self,
+        job: &Job,
+        candidate: &Candidate,
+        taken: &mut Taken,
+        rows: &Span,
+        cols: &[Span],
+        first: usize,
+    ) -> Result<(), AllocError>
+        requires stand { AllStand (pipeline_in job.now) (grouping_of self.now)
+            self.now.standings.items }
+        requires candidate { IsCandidate (pipeline_in job.now) (grouping_of self.now)
+            candidate.now }
+        requires taken { AreTaken (pipeline_in job.now) self.now.inlining candidate.now.group
+            candidate.now.number first taken.old }
+        requires row { IsRowOfBoxes (pipeline_in job.now) self.now.inlining candidate.now.group
+            candidate.now.number first rows.now cols.now }
+        ensures { OnOk result (AreTaken (pipeline_in job.now) self.now.inlining candidate.now.group
+            candidate.now.number (first + length cols.now) taken.new) }
+    {
+        for (col, span) in cols.iter().enumerate() {
+            let area = Area {
+                rows: *rows,
+                cols: *span,
+            };
+            taken.add(
+                area.points(),
+                self.kept_scratch(candidate.group, first + col),
+            )?;
+        }
+        Ok(())
     }
 
     // The same over the tiles of its group. The hulls are room to work in.
@@ -121,32 +273,75 @@ impl Grouper {
         ensures { IfOk result (IsTrialOf (pipeline_in job.now) self.now.inlining
             candidate.now.group candidate.now.number) }
     {
-        let mut trial = Trial::none(alloc);
+        let mut trial = Tried::none(alloc, tiles.len())?;
+        let mut wholes = Wholes::none(alloc, job, candidate.group, tiles.len())?;
         for (place, tile) in tiles.iter().enumerate() {
-            let area = self.box_in(job, candidate, place, tile, hulls);
+            let spot = Spot { place, tile: *tile };
+            let area = self.next_box(job, candidate, tiles, &mut wholes, &spot, hulls)?;
             trial.add(area, self.kept_scratch(candidate.group, place))?;
         }
-        Ok(trial)
+        Ok(Trial {
+            boxes: Boxes::Each(trial.boxes),
+            added: trial.added,
+            scratch: trial.scratch,
+        })
     }
 
-    // The box of the function in a tile of its group.
-    fn box_in(
+    // The box of the function in the tile that is next.
+    fn next_box(
         &self,
         job: &Job,
         candidate: &Candidate,
-        place: usize,
-        tile: &Area,
+        tiles: &[Area],
+        wholes: &mut Wholes,
+        spot: &Spot,
+        hulls: &mut [Option<Area>],
+    ) -> Result<Option<Area>, AllocError>
+        requires stand { AllStand (pipeline_in job.now) (grouping_of self.now)
+            self.now.standings.items }
+        requires candidate { IsCandidate (pipeline_in job.now) (grouping_of self.now)
+            candidate.now }
+        requires tiles { tiles.now ≡ areas_at (pipeline_in job.now) candidate.now.group }
+        requires spot { IsSpot (pipeline_in job.now) candidate.now.group spot.now }
+        requires next { length wholes.old.boxes.items ≡ spot.now.place }
+        requires wholes { AreWhole (pipeline_in job.now) self.now candidate.now
+            wholes.old.boxes.items }
+        requires hulls { length hulls.old ≡ length (pipeline_in job.now).stages }
+        ensures is { IfOk result (λ o. o
+            ≡ box (target_over (pipeline_in job.now) self.now.inlining candidate.now.group spot.now.tile)
+            candidate.now.number) }
+        ensures room { length hulls.new ≡ length hulls.old }
+        ensures next { OnOk result (length wholes.new.boxes.items ≡ spot.now.place + 1) }
+        ensures wholes { OnOk result (AreWhole (pipeline_in job.now) self.now candidate.now
+            wholes.new.boxes.items) }
+    {
+        let between = self.box_between(job, candidate, tiles, wholes, spot);
+        if between.is_some() {
+            wholes.add(None)?;
+            return Ok(between);
+        }
+        let area = self.box_in(job, candidate, spot, hulls);
+        let whole = self.if_whole(job, candidate, spot, &area);
+        wholes.add(whole)?;
+        Ok(area)
+    }
+
+    /// The box of the function in a tile of its group.
+    pub(crate) fn box_in(
+        &self,
+        job: &Job,
+        candidate: &Candidate,
+        spot: &Spot,
         hulls: &mut [Option<Area>],
     ) -> Option<Area>
         requires stand { AllStand (pipeline_in job.now) (grouping_of self.now)
             self.now.standings.items }
         requires candidate { IsCandidate (pipeline_in job.now) (grouping_of self.now)
             candidate.now }
-        requires tile { slice_get (areas_at (pipeline_in job.now) candidate.now.group) place
-            ≡ Some tile.now }
+        requires spot { IsSpot (pipeline_in job.now) candidate.now.group spot.now }
         requires hulls { length hulls.old ≡ length (pipeline_in job.now).stages }
         ensures is { result
-            ≡ box (target_over (pipeline_in job.now) self.now.inlining candidate.now.group tile.now)
+            ≡ box (target_over (pipeline_in job.now) self.now.inlining candidate.now.group spot.now.tile)
             candidate.now.number }
         ensures room { length hulls.new ≡ length hulls.old }
     {
@@ -154,10 +349,10 @@ impl Grouper {
             job,
             schedule: &self.inlining,
             stage: candidate.group,
-            region: *tile,
+            region: spot.tile,
         };
         forget(hulls, candidate.number);
-        self.demand_all(hulls, &walk, &candidate.readers, place);
+        self.demand_all(hulls, &walk, &candidate.readers, spot.place);
         walk.box_of(hulls, candidate.number)
     }
 
@@ -197,7 +392,7 @@ impl Grouper {
     }
 
     // The box of a function that was inlined, in a tile of its group.
-    fn kept_box(&self, number: usize, place: usize) -> Option<Area>
+    pub(crate) fn kept_box(&self, number: usize, place: usize) -> Option<Area>
         ensures { result ≡ kept_box (slice_get self.now.standings.items number) place }
     {
         self.standings.get(number)?.box_at(place)

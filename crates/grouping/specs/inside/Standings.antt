@@ -9,6 +9,7 @@ use Rattle.grouping.specs.Schedules.{is_inlined}
 use Rattle.grouping.specs.Targets.{box, target_over}
 use Rattle.grouping.specs.Costs.{scratch, stage_fits}
 use Rattle.grouping.specs.inside.Tallies.{areas_of_tiles}
+use Rattle.grouping.specs.inside.Crossed.{boxes_in}
 use Rattle.grouping.specs.Greedy.{Grouping, group, cost_or_zero}
 use Rattle.grouping.specs.declared.standing.Standing.{Standing}
 use Rattle.grouping.specs.declared.standing.Standing.TheVariants.{Stored, Inlined}
@@ -51,7 +52,7 @@ pub record StandsInlined (job : Pipeline) (c : Grouping) (g : ℕ) (tiles : List
 -- a stage stands as what is kept of it says
 abbrev pub Stands : Pipeline → Grouping → ℕ → Standing → Type 0
 Stands job c g (Stored points tiles) = StandsStored job c g points tiles.items
-Stands job c g (Inlined tiles) = StandsInlined job c g tiles.items
+Stands job c g (Inlined tiles) = StandsInlined job c g (boxes_in tiles)
 
 -- each stage stands so
 pub record AllStand (job : Pipeline) (c : Grouping) (standings : List Standing) : Type 0 where

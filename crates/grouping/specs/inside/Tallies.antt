@@ -4,6 +4,7 @@ use Rattle.std.specs.Prelude.{ℕ, Bool, ◌&&◌, not, if◌then◌else◌, Lis
 use Rattle.std.specs.List.{sum, flat_map, range_with_len, list_all}
 use Rattle.std.specs.Option.{option_map_or}
 use Rattle.domains.specs.Area.{point_count}
+use Rattle.domains.specs.Span.{Ends}
 use Rattle.domains.specs.Tiles.{tile_area, tile_rows, tile_cols}
 use Rattle.domains.specs.declared.area.Area.{Area}
 use Rattle.domains.specs.declared.grid.Grid.{Grid}
@@ -16,6 +17,13 @@ use Rattle.grouping.specs.Costs.{points, has_scratch, stage_fits}
 -- the areas of the tiles in one row, of so many columns, and in all rows
 abbrev pub row_areas : Grid → ℕ → ℕ → List Area
 row_areas g i cols = map (λ j. tile_area g i j) (range_with_len 0 cols)
+
+-- the columns of the tiles in a row, so many, and the area of these rows and of some columns
+abbrev pub columns_of : Grid → ℕ → List Ends
+columns_of g cols = map (λ j. (tile_area g 0 j).cols) (range_with_len 0 cols)
+
+abbrev pub area_of : Ends → Ends → Area
+area_of rows cols = record { rows = rows; cols = cols }
 
 abbrev pub areas_of_tiles : Grid → List Area
 areas_of_tiles g = flat_map (λ i. row_areas g i (tile_cols g)) (range_with_len 0 (tile_rows g))

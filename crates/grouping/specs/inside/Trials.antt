@@ -1,8 +1,9 @@
 -- How the code tries a function: its boxes in the tiles of the group of its readers, and what they add to cost and scratch memory.
-use Rattle.std.specs.Prelude.{ℕ, ◌+◌, ◌<◌, ◌≡◌, Bool, true, false, Option, Some, None, List, map, length, slice_get, slice_index_or}
+use Rattle.std.specs.Prelude.{ℕ, ◌+◌, ◌<◌, ◌≡◌, Bool, true, false, Option, Some, None, List, map, length, take, slice_get, slice_index_or}
 use Rattle.std.specs.List.{sum}
 use Rattle.std.specs.Option.{option_map_or}
 use Rattle.domains.specs.Area.{point_count}
+use Rattle.domains.specs.Span.{Ends}
 use Rattle.domains.specs.declared.area.Area.{Area}
 use Rattle.job.specs.Kept.{pipeline_in}
 use Rattle.job.specs.Pipeline.{Pipeline}
@@ -11,6 +12,9 @@ use Rattle.grouping.specs.Targets.{IsTarget, box, target_over}
 use Rattle.grouping.specs.Costs.{scratch}
 use Rattle.grouping.specs.Greedy.{Grouping, readers, common_group}
 use Rattle.grouping.specs.inside.Standings.{AllStand, areas_at, boxes_by_tile, NoneInlinedBelow}
+use Rattle.grouping.specs.inside.Crossed.{boxes_in}
+use Rattle.grouping.specs.inside.Tallies.{area_of}
+use Rattle.grouping.specs.declared.trial.Taken.{Taken}
 use Rattle.grouping.specs.inside.Walks.{target_of}
 use Rattle.grouping.specs.declared.standing.Standing.{Standing}
 use Rattle.grouping.specs.declared.standing.Standing.TheVariants.{Stored, Inlined}
@@ -37,7 +41,7 @@ kept_cost (Some (Inlined tiles)) = 0
 abbrev pub kept_box : Option Standing → ℕ → Option Area
 kept_box None place = None
 kept_box (Some (Stored points tiles)) place = None
-kept_box (Some (Inlined tiles)) place = slice_index_or tiles.items place None
+kept_box (Some (Inlined tiles)) place = slice_index_or (boxes_in tiles) place None
 
 -- the points in scratch memory that are kept for a tile of a stored stage
 abbrev pub kept_scratch : Option Standing → ℕ → ℕ
@@ -61,9 +65,24 @@ pub record IsOverTile (c : Grouper) (place : ℕ) (w : TargetWalk) : Type 0 wher
   pub stand : AllStand (pipeline_in w.job.now) (grouping_of c) c.standings.items
   pub tile : slice_get (areas_at (pipeline_in w.job.now) w.stage) place ≡ Some w.region
 
+-- what each tile of stage h has in scratch memory with the boxes of stage g
+abbrev pub scratch_with : Pipeline → List Bool → ℕ → ℕ → List ℕ
+scratch_with job inlining h g =
+    map (λ a. scratch (target_over job inlining h a) + points_of_box (box (target_over job inlining h a) g)) (areas_at job h)
+
 -- the boxes of stage g in the tiles of stage h, their points, and what each tile has in scratch memory with them
 pub record IsTrialOf (job : Pipeline) (inlining : List Bool) (h g : ℕ) (t : Trial) : Type 0 where
-  pub boxes : t.boxes.items ≡ boxes_by_tile job inlining h g
+  pub boxes : boxes_in t.boxes ≡ boxes_by_tile job inlining h g
   pub added : t.added ≡ sum (map points_of_box (boxes_by_tile job inlining h g))
-  pub in_scratch : t.scratch.items
-      ≡ map (λ a. scratch (target_over job inlining h a) + points_of_box (box (target_over job inlining h a) g)) (areas_at job h)
+  pub in_scratch : t.scratch.items ≡ scratch_with job inlining h g
+
+-- the same of the first n tiles
+pub record AreTaken (job : Pipeline) (inlining : List Bool) (h g n : ℕ) (t : Taken) : Type 0 where
+  pub added : t.added ≡ sum (map points_of_box (take n (boxes_by_tile job inlining h g)))
+  pub in_scratch : t.scratch.items ≡ take n (scratch_with job inlining h g)
+
+-- from tile number n on the boxes have these rows, and one after the other these columns
+abbrev pub IsRowOfBoxes : Pipeline → List Bool → ℕ → ℕ → ℕ → Ends → List Ends → Type 0
+IsRowOfBoxes job inlining h g n rows cols =
+    (j : ℕ) (c : Ends) → slice_get cols j ≡ Some c
+    → (n + j < length (areas_at job h)) × (slice_index_or (boxes_by_tile job inlining h g) (n + j) None ≡ Some (area_of rows c))

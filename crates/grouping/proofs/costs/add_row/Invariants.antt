@@ -1,6 +1,7 @@
-use Rattle.std.proofs.Common.{◌≡◌, ◌++◌}
-use Rattle.grouping.specs.inside.Tallies.{row_areas}
+use Rattle.std.proofs.Common.{◌≡◌, ◌++◌, map, drop}
+use Rattle.grouping.specs.inside.Tallies.{area_of}
 use Rattle.grouping.proofs.costs.add_row.Given as goal
 
-abbrev pub invariant-loop-j : goal.invariant-loop-j
-invariant-loop-j l = l.areas.items ≡ l.fn.areas.items ++ row_areas l.grid l.fn.i l.j
+abbrev pub invariant-loop-cols : goal.invariant-loop-cols
+invariant-loop-cols l =
+    l.areas.items ++ map (area_of l.rows) (drop l.cols-index l.columns) ≡ l.fn.areas.items ++ map (area_of l.rows) l.columns

@@ -19,13 +19,13 @@ demand_all-requires-clause-walk c =
     let h = c.args.candidate.now.group in
     record {
       target =
-          all_at (λ a. IsTarget (target_over job inlining h a)) (areas_at job h) c.args.place c.args.tile.now
-          (areas_are_targets job inlining h c.args.job.now.well) c.requires.tile;
+          all_at (λ a. IsTarget (target_over job inlining h a)) (areas_at job h) c.args.spot.now.place c.args.spot.now.tile
+          (areas_are_targets job inlining h c.args.job.now.well) c.requires.spot;
       inlining =
           refl;
       stand =
           c.requires.stand;
-      tile = c.requires.tile;
+      tile = c.requires.spot;
     }
 
 pub demand_all-requires-clause-readers : goal.demand_all-requires-clause-readers
@@ -38,7 +38,7 @@ pub returns-clause-is : goal.returns-clause-is
 returns-clause-is c =
     let job = pipeline_in c.args.job.now in
     let g = c.args.candidate.now.number in
-    let t : Target = target_over job c.args.self.now.inlining c.args.candidate.now.group c.args.tile.now in
+    let t : Target = target_over job c.args.self.now.inlining c.args.candidate.now.group c.args.spot.now.tile in
     let there : g < length c.args.hulls.now = subst (λ (n : ℕ). g < n) (sym c.requires.hulls) c.requires.candidate.there in
     let demanded = c.demand_all.ensures
     ∙ (λ i. demanded_all (c.forget.ensures i) (flat_map (demands_by t (box t)) ((c.deref.ensures.value ∙ c.requires.candidate.read) i))) in

@@ -55,10 +55,10 @@ add-requires-clause-added c =
     let h = c.args.candidate.now.group in
     let before = c.loop-place.invariant in
     let added = before.2 in
-    let next = next_small points_of_box c.loop-place.trial.boxes.items _ (boxes_by_tile job inlining h g) c.box_in-area.result
+    let next = next_small points_of_box c.loop-place.trial.boxes.items _ (boxes_by_tile job inlining h g) c.in_ok-area.area
     (next_box (λ b. box (target_over job inlining h b) g) c.loop-place.trial.boxes.items (boxes_by_tile job inlining h g) c.args.tiles.now
-    c.loop-place.place c.index-tiles-place.result c.box_in-area.result c.loop-place-test.true c.index-tiles-place.is
-    c.box_in-area.ensures.is
+    c.loop-place.place c.index-tiles-place.result c.in_ok-area.area c.loop-place-test.true c.index-tiles-place.is
+    c.in_ok-area.ensures.is
     before.1) in
     omega (arith, added, next, boxes_small job inlining h g c.args.job.now.well)
 
@@ -81,7 +81,7 @@ add-requires-clause-scratch c =
       arith,
       kept,
       scratch_small (target_over job self.inlining h a) c.args.job.now.well,
-      ap points_of_box c.box_in-area.ensures.is,
+      ap points_of_box c.in_ok-area.ensures.is,
       box_small (target_over job self.inlining h a) c.args.job.now.well g,
     )
 
@@ -101,15 +101,17 @@ loop-place-preserved c =
     (λ i. length tiles) c.loop-place-test.true c.index-tiles-place.is in
     let kept = c.kept_scratch.ensures ∙ kept_is_scratch job
     (grouping_of self) self.standings.items h c.loop-place.place a c.requires.stand at_group.2 at_group.0 here in
-    let boxes = c.in_ok-add.ensures.boxes ∙ ap (λ (o : Option Area). c.loop-place.trial.boxes.items ++ o ∷ []) c.box_in-area.ensures.is in
+    let boxes = c.in_ok-add.ensures.boxes ∙ ap (λ (o : Option Area). c.loop-place.trial.boxes.items ++ o ∷ []) c.in_ok-area.ensures.is in
     let held = c.in_ok-add.ensures.scratch
-    ∙ (λ i. c.loop-place.trial.scratch.items ++ (kept i + points_of_box (c.box_in-area.ensures.is i)) ∷ []) in (
-      c.box_in-area.ensures.room ∙ before.0,
+    ∙ (λ i. c.loop-place.trial.scratch.items ++ (kept i + points_of_box (c.in_ok-area.ensures.is i)) ∷ []) in (
+      c.next_box.ensures.room ∙ before.0,
       mapped_more (λ b. box (target_over job self.inlining h b) g) c.loop-place.trial.boxes.items c.add.new.self.boxes.items tiles
           c.loop-place.place a _ c.loop-place-test.true c.index-tiles-place.is boxes before.1,
-      sum_more points_of_box c.loop-place.trial.boxes.items c.add.new.self.boxes.items c.box_in-area.result c.loop-place.trial.added
+      sum_more points_of_box c.loop-place.trial.boxes.items c.add.new.self.boxes.items c.in_ok-area.area c.loop-place.trial.added
           c.add.new.self.added c.in_ok-add.ensures.boxes before.2 c.in_ok-add.ensures.added,
       mapped_more (λ b. scratch (target_over job self.inlining h b) + points_of_box (box (target_over job self.inlining h b) g))
           c.loop-place.trial.scratch.items c.add.new.self.scratch.items tiles c.loop-place.place a _ c.loop-place-test.true
           c.index-tiles-place.is held before.3,
+      c.in_ok-area.ensures.next,
+      c.in_ok-area.ensures.wholes,
     )

@@ -4,6 +4,7 @@ use Rattle.job.specs.Kept.{pipeline_in}
 use Rattle.grouping.specs.Targets.{box, target_over}
 use Rattle.grouping.specs.Costs.{scratch}
 use Rattle.grouping.specs.inside.Standings.{areas_at, boxes_by_tile}
+use Rattle.grouping.specs.inside.Between.{AreWhole}
 use Rattle.grouping.specs.inside.Trials.{points_of_box}
 use Rattle.grouping.proofs.greedy.Grouper.trial_over.Given as goal
 
@@ -21,3 +22,5 @@ invariant-loop-place l =
     ≡ map (λ a. scratch (target_over (pipeline_in l.job) l.self.inlining l.candidate.group a)
     + points_of_box (box (target_over (pipeline_in l.job) l.self.inlining l.candidate.group a) l.candidate.number))
     (areas_at (pipeline_in l.job) l.candidate.group))
+    × (length l.wholes.boxes.items ≡ l.place)
+    × AreWhole (pipeline_in l.job) l.self l.candidate l.wholes.boxes.items

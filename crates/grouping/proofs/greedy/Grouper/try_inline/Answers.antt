@@ -5,6 +5,7 @@ use Rattle.job.specs.Pipeline.{Pipeline}
 use Rattle.job.specs.WellFormed.{IsJob}
 use Rattle.grouping.specs.Greedy.{Grouping, common_group, pays, has_room, with_inlined}
 use Rattle.grouping.specs.inside.Standings.{AllStand}
+use Rattle.grouping.specs.inside.Crossed.{boxes_in}
 use Rattle.grouping.specs.inside.Trials.{grouping_of, kept_cost, IsCandidate, IsTrialOf}
 use Rattle.grouping.specs.declared.greedy.Grouper.{Grouper}
 use Rattle.grouping.specs.declared.standing.Standing.{Standing}
@@ -89,7 +90,7 @@ returns-then-fits-clause-stand c =
     let own = c.kept_cost-own.ensures ∙ points_kept job (grouping_of self) self.standings.items h step.stand at_group.2 at_group.0 in
     let fits = sym c.fits.ensures ∙ c.if-fits.true in
     let stand = all_stand step (Inlined c.in_ok-trial.trial.boxes) (Stored points c.in_ok-trial.trial.scratch)
-    (function_stands step c.in_ok-trial.trial.boxes.items trial.boxes)
+    (function_stands step (boxes_in c.in_ok-trial.trial.boxes) trial.boxes)
     (group_stands step points c.in_ok-trial.trial.scratch.items (λ i. own i + trial.added i) trial.in_scratch fits) in
     subst (λ (d : Grouping). AllStand job d c.inline.new.self.standings.items) (sym c.inline.ensures.grouping)
     (subst (AllStand job (with_inlined (grouping_of self) g h)) (sym c.inline.ensures.standings) stand)

@@ -3,7 +3,7 @@ use Rattle.job.specs.Kept.{pipeline_in}
 use Rattle.grouping.specs.Order.{backward}
 use Rattle.grouping.specs.inside.Trials.{grouping_of}
 use Rattle.grouping.proofs.GreedyIsTheRule.{Left}
-use Rattle.grouping.proofs.greedy.greedy_inlining.Given as goal
+use Rattle.grouping.proofs.greedy.greedy_grouping.Given as goal
 
 abbrev pub invariant-loop-number : goal.invariant-loop-number
 invariant-loop-number l =

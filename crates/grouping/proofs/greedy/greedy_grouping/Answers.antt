@@ -10,7 +10,7 @@ use Rattle.grouping.specs.inside.Standings.{AllStand}
 use Rattle.grouping.specs.inside.Trials.{grouping_of}
 use Rattle.grouping.specs.declared.standing.Standing.{Standing}
 use Rattle.grouping.proofs.GreedyIsTheRule.{Left, IsFree, all_left, one_left_less, inlining_at_last, rooms_of}
-use Rattle.grouping.proofs.greedy.greedy_inlining.Goals as goal
+use Rattle.grouping.proofs.greedy.greedy_grouping.Goals as goal
 
 -- the stage that is next, and those that are left after it
 next : (job : Pipeline) (percent : ℕ) (c : Grouping) (standings : List Standing) (gs : List ℕ) (k : ℕ) → k < length gs
@@ -93,3 +93,6 @@ pub returns-clause-fits : goal.returns-clause-fits
 returns-clause-fits c =
     rooms_of (pipeline_in c.args.job.now) (grouping_of c.loop-number.grouping) c.loop-number.grouping.standings.items
     c.loop-number.invariant.1.stand
+
+pub returns-clause-stand : goal.returns-clause-stand
+returns-clause-stand c = c.loop-number.invariant.1.stand

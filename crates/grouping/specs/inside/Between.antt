@@ -1,0 +1,85 @@
+-- How the code spares itself walks: the box of a function in a tile that has its rows in common with one tile, and its columns with
+-- another, has its rows in common with the box in the one, and its columns with that in the other, where the cases of all readers
+-- count in all three.
+use Rattle.std.specs.Prelude.{ℕ, ◌+◌, ◌*◌, ◌<◌, ◌≡◌, ◌==◌, Bool, true, is_some, if◌then◌else◌, Option, Some, None, List, length, slice_get, All}
+use Rattle.std.specs.List.{list_all}
+use Rattle.domains.specs.Span.{Ends}
+use Rattle.domains.specs.Tiles.{HasTile, tile_cols, tile_area}
+use Rattle.domains.specs.declared.area.Area.{Area}
+use Rattle.domains.specs.declared.grid.Grid.{Grid}
+use Rattle.job.specs.Pipeline.{JobCase, Body, plane, function, accumulator, Stage, Pipeline}
+use Rattle.grouping.specs.Demands.{meet_of_areas}
+use Rattle.grouping.specs.Targets.{box, target_over}
+use Rattle.grouping.specs.inside.Standings.{areas_at}
+use Rattle.grouping.specs.inside.Trials.{kept_box}
+use Rattle.grouping.specs.declared.standing.Standing.{Standing}
+use Rattle.grouping.specs.declared.greedy.Grouper.{Grouper}
+use Rattle.grouping.specs.declared.trial.Candidate.{Candidate}
+use Rattle.grouping.specs.declared.between.Spot.{Spot}
+
+-- ---- cases
+
+-- a region meets the box, if there is one
+abbrev pub meets_box : Area → Option Area → Bool
+meets_box region None = true
+meets_box region (Some box) = is_some (meet_of_areas box region)
+
+-- a region meets the box of each case that has one
+abbrev pub meets_cases : Body → Area → Bool
+meets_cases (plane n) region = true
+meets_cases (function cases otherwise) region = list_all (λ (p : JobCase). meets_box region p.box) cases
+meets_cases (accumulator fold bins value bin) region = true
+
+-- a stage that is there has a region, and this meets all of its cases
+abbrev pub IsWhole : Option Stage → Option Area → Type 0
+IsWhole None o = ⊥
+IsWhole (Some s) None = ⊥
+IsWhole (Some s) (Some region) = meets_cases s.body region ≡ true
+
+-- ---- regions
+
+-- the region of stage r in a tile of stage h, as is kept
+abbrev pub kept_region : List Standing → ℕ → Spot → ℕ → Option Area
+kept_region standings h spot r = if r == h then Some spot.tile else kept_box (slice_get standings r) spot.place
+
+-- a region has its rows in common with one, and its columns with another
+abbrev pub IsBetween : Option Area → Option Area → Option Area → Type 0
+IsBetween None left top = ⊥
+IsBetween (Some a) None top = ⊥
+IsBetween (Some a) (Some left) None = ⊥
+IsBetween (Some a) (Some left) (Some top) = (a.rows ≡ left.rows) × (a.cols ≡ top.cols)
+
+-- ---- tiles
+
+-- the tile of this number of a stage, as is kept
+abbrev pub IsSpot : Pipeline → ℕ → Spot → Type 0
+IsSpot job h spot = slice_get (areas_at job h) spot.place ≡ Some spot.tile
+
+-- the function has this box in the tile, and all of its readers are whole there
+pub record HasWhole (job : Pipeline) (c : Grouper) (k : Candidate) (spot : Spot) (area : Area) : Type 0 where
+  pub is : box (target_over job c.inlining k.group spot.tile) k.number ≡ Some area
+  pub readers : All (λ r. IsWhole (slice_get job.stages r) (kept_region c.standings.items k.group spot r)) k.readers.items
+
+-- what is known of tiles: where a box is kept of one, it is that
+abbrev pub AreWhole : Pipeline → Grouper → Candidate → List (Option Area) → Type 0
+AreWhole job c k wholes =
+    (spot : Spot) (area : Area) → IsSpot job k.group spot → slice_get wholes spot.place ≡ Some (Some area) → HasWhole job c k spot area
+
+-- ---- rows and columns of tiles
+
+-- the tile in row i and column j
+abbrev pub spot_of : Grid → ℕ → ℕ → Spot
+spot_of g i j = record { place = i * tile_cols g + j; tile = tile_area g i j }
+
+-- the region of stage r in each tile has its rows in common with that in the first one of the row, and its columns with that in
+-- the first one of the column
+abbrev pub LiesAcross : List Standing → ℕ → Grid → ℕ → Type 0
+LiesAcross standings h g r =
+    (i j : ℕ) → HasTile g i j → IsBetween (kept_region standings h (spot_of g i j) r) (kept_region standings h (spot_of g i 0) r)
+    (kept_region standings h (spot_of g 0 j) r)
+
+-- in each of so many tiles the function has a box and all of its readers are whole; these are the rows, or the columns, of the boxes
+pub record AreSides (job : Pipeline) (c : Grouper) (k : Candidate) (spot : ℕ → Spot) (side : Area → Ends) (n : ℕ) (sides : List Ends)
+    : Type 0 where
+  pub count : length sides ≡ n
+  pub each : (i : ℕ) → i < n → (area : Area) × HasWhole job c k (spot i) area × (slice_get sides i ≡ Some (side area))

@@ -1,0 +1,172 @@
+#![tactic(auto)]
+//! Boxes that follow from those in the first row and the first column of tiles.
+
+ghost use Rattle.std.specs.Prelude.{◌≡◌, ◌++◌, ◌∷◌, true, length, All, IfOk, IfSome, Some};
+ghost use Rattle.domains.specs.Tiles.{HasTile, tile_rows, tile_cols};
+ghost use Rattle.job.specs.Kept.{pipeline_in};
+ghost use Rattle.job.specs.Readers.{grid_at};
+ghost use Rattle.grouping.specs.inside.Between.{spot_of, LiesAcross, HasWhole, AreSides};
+ghost use Rattle.grouping.specs.inside.Crossed.{crossed};
+ghost use Rattle.grouping.specs.inside.Standings.{AllStand, boxes_by_tile};
+ghost use Rattle.grouping.specs.inside.Trials.{grouping_of, IsCandidate};
+
+use crate::between::Spot;
+use crate::boxes::Crossing;
+use crate::greedy::Grouper;
+use crate::standing::Standing;
+use crate::trial::Candidate;
+use domains::{Area, Grid, Span};
+use job::Job;
+use std::alloc::{AllocError, Global};
+
+// The tile in a row and a column of tiles.
+fn spot_of(grid: &Grid, row: u32, col: u32) -> Option<Spot>
+    ensures is { IfSome result (λ s. s ≡ spot_of grid.now row col) }
+    ensures there { IfSome result (λ _. HasTile grid.now row col) }
+{
+    let tile = grid.tile(row, col)?;
+    let place = row as usize * grid.tile_cols() as usize + col as usize;
+    Some(Spot { place, tile })
+}
+
+impl Grouper {
+    /// The boxes of a function in the tiles of its group, where they follow from those in the first row and the first column
+    /// of tiles. The hulls are room to work in.
+    pub(crate) fn crossed_boxes(
+        &self,
+        alloc: Global,
+        job: &Job,
+        candidate: &Candidate,
+        grid: &Grid,
+        hulls: &mut [Option<Area>],
+    ) -> Result<Option<Crossing>, AllocError>
+        requires stand { AllStand (pipeline_in job.now) (grouping_of self.now)
+            self.now.standings.items }
+        requires candidate { IsCandidate (pipeline_in job.now) (grouping_of self.now)
+            candidate.now }
+        requires grid { grid_at (pipeline_in job.now) candidate.now.group ≡ Some grid.now }
+        requires hulls { length hulls.old ≡ length (pipeline_in job.now).stages }
+        ensures is { IfOk result (λ o. IfSome o (λ s. crossed s.rows.items s.cols.items
+            ≡ boxes_by_tile (pipeline_in job.now) self.now.inlining candidate.now.group candidate.now.number)) }
+        ensures room { length hulls.new ≡ length hulls.old }
+    {
+        if !self.all_across(candidate, grid) {
+            return Ok(None);
+        }
+        let Some(rows) = self.rows_down(alloc, job, candidate, grid, hulls)? else {
+            return Ok(None);
+        };
+        let Some(cols) = self.cols_along(alloc, job, candidate, grid, hulls)? else {
+            return Ok(None);
+        };
+        Ok(Some(Crossing { rows, cols }))
+    }
+
+    // The rows of the boxes in the first tile of each row of tiles, where all readers are whole in each.
+    fn rows_down(
+        &self,
+        alloc: Global,
+        job: &Job,
+        candidate: &Candidate,
+        grid: &Grid,
+        hulls: &mut [Option<Area>],
+    ) -> Result<Option<Vec<Span>>, AllocError>
+        requires stand { AllStand (pipeline_in job.now) (grouping_of self.now)
+            self.now.standings.items }
+        requires candidate { IsCandidate (pipeline_in job.now) (grouping_of self.now)
+            candidate.now }
+        requires grid { grid_at (pipeline_in job.now) candidate.now.group ≡ Some grid.now }
+        requires hulls { length hulls.old ≡ length (pipeline_in job.now).stages }
+        ensures sides { IfOk result (λ o. IfSome o (λ v. AreSides (pipeline_in job.now) self.now candidate.now
+            (λ i. spot_of grid.now i 0) (λ a. a.rows) (tile_rows grid.now) v.items)) }
+        ensures room { length hulls.new ≡ length hulls.old }
+    {
+        let mut rows = Vec::new(alloc);
+        for i in 0..grid.tile_rows() {
+            match self.whole_box(job, candidate, grid, i, 0, hulls) {
+                Some(area) => rows.push(area.rows)?,
+                None => return Ok(None),
+            }
+        }
+        Ok(Some(rows))
+    }
+
+    // The columns of the boxes in the first tile of each column of tiles, where all readers are whole in each.
+    fn cols_along(
+        &self,
+        alloc: Global,
+        job: &Job,
+        candidate: &Candidate,
+        grid: &Grid,
+        hulls: &mut [Option<Area>],
+    ) -> Result<Option<Vec<Span>>, AllocError>
+        requires stand { AllStand (pipeline_in job.now) (grouping_of self.now)
+            self.now.standings.items }
+        requires candidate { IsCandidate (pipeline_in job.now) (grouping_of self.now)
+            candidate.now }
+        requires grid { grid_at (pipeline_in job.now) candidate.now.group ≡ Some grid.now }
+        requires hulls { length hulls.old ≡ length (pipeline_in job.now).stages }
+        ensures sides { IfOk result (λ o. IfSome o (λ v. AreSides (pipeline_in job.now) self.now candidate.now
+            (λ j. spot_of grid.now 0 j) (λ a. a.cols) (tile_cols grid.now) v.items)) }
+        ensures room { length hulls.new ≡ length hulls.old }
+    {
+        let mut cols = Vec::new(alloc);
+        for j in 0..grid.tile_cols() {
+            match self.whole_box(job, candidate, grid, 0, j, hulls) {
+                Some(area) => cols.push(area.cols)?,
+                None => return Ok(None),
+            }
+        }
+        Ok(Some(cols))
+    }
+
+    // The box of the function in a tile of its group, where all readers are whole there.
+    fn whole_box(
+        &self,
+        job: &Job,
+        candidate: &Candidate,
+        grid: &Grid,
+        row: u32,
+        col: u32,
+        hulls: &mut [Option<Area>],
+    ) -> Option<Area>
+        requires stand { AllStand (pipeline_in job.now) (grouping_of self.now)
+            self.now.standings.items }
+        requires candidate { IsCandidate (pipeline_in job.now) (grouping_of self.now)
+            candidate.now }
+        requires grid { grid_at (pipeline_in job.now) candidate.now.group ≡ Some grid.now }
+        requires hulls { length hulls.old ≡ length (pipeline_in job.now).stages }
+        ensures is { IfSome result (HasWhole (pipeline_in job.now) self.now candidate.now
+            (spot_of grid.now row col)) }
+        ensures room { length hulls.new ≡ length hulls.old }
+    {
+        let spot = spot_of(grid, row, col)?;
+        let area = self.box_in(job, candidate, &spot, hulls);
+        self.if_whole(job, candidate, &spot, &area)
+    }
+
+    // Whether the regions of all readers lie across rows and columns of tiles.
+    fn all_across(&self, candidate: &Candidate, grid: &Grid) -> bool
+        ensures { result ≡ true → All (LiesAcross self.now.standings.items candidate.now.group grid.now)
+            candidate.now.readers.items }
+    {
+        candidate
+            .readers
+            .iter()
+            .all(|reader| self.lies_across(candidate.group, grid, *reader))
+    }
+
+    fn lies_across(&self, group: usize, grid: &Grid, reader: usize) -> bool
+        ensures { result ≡ true → LiesAcross self.now.standings.items group grid.now reader }
+    {
+        if reader == group {
+            return true;
+        }
+        match self.standings.get(reader) {
+            Some(Standing::Inlined(boxes)) => {
+                boxes.is_crossed(grid.tile_rows() as usize, grid.tile_cols() as usize)
+            }
+            _ => false,
+        }
+    }
+}

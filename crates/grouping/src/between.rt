@@ -1,0 +1,226 @@
+#![tactic(auto)]
+//! Boxes that follow from those in other tiles.
+
+ghost use Rattle.std.specs.Prelude.{◌≡◌, ◌∷◌, ◌++◌, true, [], IfOk, OnOk, map, slice_get, All, IfSome, Some};
+ghost use Rattle.std.specs.List.{list_all};
+ghost use Rattle.job.specs.Kept.{pipeline_in};
+ghost use Rattle.job.specs.Views.{body_view, case_view};
+ghost use Rattle.grouping.specs.Targets.{box, target_over};
+ghost use Rattle.grouping.specs.inside.Between.{meets_box, meets_cases, IsWhole, kept_region, IsBetween, IsSpot, HasWhole, AreWhole};
+ghost use Rattle.grouping.specs.inside.Standings.{areas_at, AllStand};
+ghost use Rattle.grouping.specs.inside.Trials.{grouping_of, IsCandidate};
+
+use crate::demands::common;
+use crate::greedy::Grouper;
+use crate::trial::Candidate;
+use domains::Area;
+use job::{Body, Job, JobCase};
+use std::alloc::{AllocError, Global};
+
+/// A tile of a stage: its number, row by row, and its area.
+#[derive(Clone, Copy)]
+pub(crate) struct Spot {
+    pub(crate) place: usize,
+    pub(crate) tile: Area,
+}
+
+/// The boxes of a function that are known of tiles in which all of its readers are whole; how many tiles a row has, and which is
+/// the first one of the row that is next.
+#[derive(Drop)]
+pub(crate) struct Wholes {
+    boxes: Vec<Option<Area>>,
+    columns: usize,
+    first: usize,
+}
+
+impl Wholes {
+    /// Nothing is known of the tiles of a stage yet, and there is room for so many.
+    pub(crate) fn none(
+        alloc: Global,
+        job: &Job,
+        group: usize,
+        count: usize,
+    ) -> Result<Wholes, AllocError>
+        ensures { IfOk result (λ w. w.boxes.items ≡ []) }
+    {
+        Ok(Wholes {
+            boxes: Vec::with_capacity(alloc, count)?,
+            columns: job.grid(group).map_or(0, |grid| grid.tile_cols() as usize),
+            first: 0,
+        })
+    }
+
+    /// One tile more, with the box that is known of it, if one is.
+    pub(crate) fn add(&mut self, known: Option<Area>) -> Result<(), AllocError>
+        ensures { OnOk result (self.new.boxes.items ≡ self.old.boxes.items ++ known ∷ []) }
+    {
+        self.boxes.push(known)?;
+        if self.boxes.len().saturating_sub(self.first) >= self.columns {
+            self.first = self.boxes.len();
+        }
+        Ok(())
+    }
+
+    // The box that is known of a tile.
+    fn known(&self, place: usize) -> Option<Area>
+        ensures { IfSome result (λ area. slice_get self.now.boxes.items place ≡ Some (Some area)) }
+    {
+        *self.boxes.get(place)?
+    }
+}
+
+impl Grouper {
+    /// The box of a function in a tile of its group, where it follows from those in the first tile of its row and in the first
+    /// one of its column.
+    pub(crate) fn box_between(
+        &self,
+        job: &Job,
+        candidate: &Candidate,
+        tiles: &[Area],
+        wholes: &Wholes,
+        here: &Spot,
+    ) -> Option<Area>
+        requires stand { AllStand (pipeline_in job.now) (grouping_of self.now)
+            self.now.standings.items }
+        requires candidate { IsCandidate (pipeline_in job.now) (grouping_of self.now)
+            candidate.now }
+        requires tiles { tiles.now ≡ areas_at (pipeline_in job.now) candidate.now.group }
+        requires here { IsSpot (pipeline_in job.now) candidate.now.group here.now }
+        requires wholes { AreWhole (pipeline_in job.now) self.now candidate.now
+            wholes.now.boxes.items }
+        ensures { IfSome result (λ a. box
+            (target_over (pipeline_in job.now) self.now.inlining candidate.now.group here.now.tile)
+            candidate.now.number ≡ Some a) }
+    {
+        let left = spot_at(tiles, wholes.first)?;
+        let top = spot_at(tiles, here.place.checked_sub(wholes.first)?)?;
+        let one = wholes.known(left.place)?;
+        let other = wholes.known(top.place)?;
+        if self.are_between(candidate, here, &left, &top) {
+            Some(Area {
+                rows: one.rows,
+                cols: other.cols,
+            })
+        } else {
+            None
+        }
+    }
+
+    // Whether the region of each reader in a tile has its rows in common with that in one, and its columns with that in another.
+    fn are_between(&self, candidate: &Candidate, here: &Spot, left: &Spot, top: &Spot) -> bool
+        ensures { result ≡ true → All
+            (λ r. IsBetween (kept_region self.now.standings.items candidate.now.group here.now r)
+            (kept_region self.now.standings.items candidate.now.group left.now r)
+            (kept_region self.now.standings.items candidate.now.group top.now r))
+            candidate.now.readers.items }
+    {
+        candidate.readers.iter().all(|reader| {
+            is_between(
+                self.kept_region(candidate.group, here, *reader),
+                self.kept_region(candidate.group, left, *reader),
+                self.kept_region(candidate.group, top, *reader),
+            )
+        })
+    }
+
+    /// A box of the function in a tile, if there is one and the region of each reader there meets all cases of the reader.
+    pub(crate) fn if_whole(
+        &self,
+        job: &Job,
+        candidate: &Candidate,
+        spot: &Spot,
+        area: &Option<Area>,
+    ) -> Option<Area>
+        requires { area.now
+            ≡ box (target_over (pipeline_in job.now) self.now.inlining candidate.now.group spot.now.tile)
+            candidate.now.number }
+        ensures { IfSome result (HasWhole (pipeline_in job.now) self.now candidate.now spot.now) }
+    {
+        if self.all_whole(job, candidate, spot) {
+            *area
+        } else {
+            None
+        }
+    }
+
+    // Whether the region of each reader in a tile meets all cases of the reader.
+    fn all_whole(&self, job: &Job, candidate: &Candidate, spot: &Spot) -> bool
+        ensures { result ≡ true → All
+            (λ r. IsWhole (slice_get (pipeline_in job.now).stages r)
+            (kept_region self.now.standings.items candidate.now.group spot.now r))
+            candidate.now.readers.items }
+    {
+        candidate.readers.iter().all(|reader| is_whole(
+            job,
+            *reader,
+            self.kept_region(candidate.group, spot, *reader),
+        ))
+    }
+
+    // The region of a stage in a tile of its group, as is kept.
+    fn kept_region(&self, group: usize, spot: &Spot, number: usize) -> Option<Area>
+        ensures { result ≡ kept_region self.now.standings.items group spot.now number }
+    {
+        if number == group {
+            Some(spot.tile)
+        } else {
+            self.kept_box(number, spot.place)
+        }
+    }
+}
+
+fn spot_at(tiles: &[Area], place: usize) -> Option<Spot>
+    ensures tile { IfSome result (λ spot. slice_get tiles.now place ≡ Some spot.tile) }
+    ensures place { IfSome result (λ spot. spot.place ≡ place) }
+{
+    let tile = *tiles.get(place)?;
+    Some(Spot { place, tile })
+}
+
+fn is_between(here: Option<Area>, left: Option<Area>, top: Option<Area>) -> bool
+    ensures { result ≡ true → IsBetween here left top }
+{
+    match (here, left, top) {
+        (Some(here), Some(left), Some(top)) => here.rows == left.rows && here.cols == top.cols,
+        _ => false,
+    }
+}
+
+fn is_whole(job: &Job, number: usize, region: Option<Area>) -> bool
+    ensures { result ≡ true → IsWhole (slice_get (pipeline_in job.now).stages number) region }
+{
+    match (job.stage(number), region) {
+        (Some(stage), Some(region)) => meets_cases(stage.body(), &region),
+        _ => false,
+    }
+}
+
+// Whether a region meets the box of each case that has one.
+fn meets_cases(body: &Body, region: &Area) -> bool
+    ensures { result ≡ meets_cases (body_view body.now) region.now }
+{
+    match body {
+        Body::Plane(_) | Body::Accumulator(_) => true,
+        Body::Function(function) => meet_all(function.cases(), region),
+    }
+}
+
+fn meet_all(cases: &[JobCase], region: &Area) -> bool
+    ensures { result ≡ list_all (λ p. meets_box region.now p.box) (map case_view cases.now) }
+{
+    for case in cases {
+        if !meets_box(case, region) {
+            return false;
+        }
+    }
+    true
+}
+
+fn meets_box(case: &JobCase, region: &Area) -> bool
+    ensures { result ≡ meets_box region.now (case_view case.now).box }
+{
+    match case.area() {
+        Some(area) => common(area, region).is_some(),
+        None => true,
+    }
+}

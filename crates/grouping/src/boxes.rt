@@ -1,0 +1,60 @@
+#![tactic(auto)]
+//! The boxes of a function in the tiles of its group.
+
+ghost use Rattle.std.specs.Prelude.{◌≡◌, None, true, slice_index_or};
+ghost use Rattle.grouping.specs.inside.Crossed.{crossed, boxes_in, IsCrossed};
+
+use domains::{Area, Span};
+
+/// The boxes of an inlined function in the tiles of its group.
+#[derive(Drop)]
+pub(crate) enum Boxes {
+    /// That in each tile, row by row, if there is one.
+    Each(Vec<Option<Area>>),
+    /// The rows that the boxes in each row of tiles have, and the columns that those in each column of tiles have.
+    Crossed(Crossing),
+}
+
+/// The rows of each row of tiles and the columns of each column of tiles, which are crossed.
+#[derive(Drop)]
+pub(crate) struct Crossing {
+    pub(crate) rows: Vec<Span>,
+    pub(crate) cols: Vec<Span>,
+}
+
+impl Boxes {
+    /// The box in the tile of this number.
+    pub(crate) fn at(&self, place: usize) -> Option<Area>
+        ensures { result ≡ slice_index_or (boxes_in self.now) place None }
+    {
+        match self {
+            Boxes::Each(boxes) => *boxes.get(place)?,
+            Boxes::Crossed(spans) => area_at(&spans.rows, &spans.cols, place),
+        }
+    }
+
+    /// Whether they are kept by so many rows and columns of tiles.
+    pub(crate) fn is_crossed(&self, rows: usize, cols: usize) -> bool
+        ensures { result ≡ true → IsCrossed rows cols self.now }
+    {
+        match self {
+            Boxes::Each(_) => false,
+            Boxes::Crossed(spans) => spans.rows.len() == rows && spans.cols.len() == cols,
+        }
+    }
+}
+
+// The area of this number, where each of these rows is crossed with each of these columns.
+fn area_at(rows: &[Span], cols: &[Span], place: usize) -> Option<Area>
+    ensures { result ≡ slice_index_or (crossed rows.now cols.now) place None }
+{
+    if cols.is_empty() {
+        return None;
+    }
+    let across = *rows.get(place / cols.len())?;
+    let down = *cols.get(place % cols.len())?;
+    Some(Area {
+        rows: across,
+        cols: down,
+    })
+}

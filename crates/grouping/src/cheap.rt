@@ -1,0 +1,246 @@
+#![tactic(auto)]
+//! Functions that take less to compute anew than to store and to read.
+
+ghost use Rattle.std.specs.Prelude.{◌≡◌, ◌≤◌, ◌+◌, true, false, map, slice_get, IfOk, IfSome};
+ghost use Rattle.std.specs.List.{sum, list_all};
+ghost use Rattle.std.specs.Option.{option_map};
+ghost use Rattle.std.specs.Ordering.{int_eq};
+ghost use Rattle.job.specs.Pipeline.{function};
+ghost use Rattle.job.specs.Views.{formula_view, case_view, stage_view};
+ghost use Rattle.job.specs.ReadViews.{read_view};
+ghost use Rattle.job.specs.Reads.{reads_of};
+ghost use Rattle.grouping.specs.Order.{backward};
+ghost use Rattle.grouping.specs.Cheap.{IsCheap, AddsCheap, steps_in, steps_of_case, steps_of, steps_at, is_same, is_plain, reads_plainly};
+ghost use Rattle.job.specs.Kept.{pipeline_in};
+ghost use Rattle.grouping.specs.Schedules.{is_function, IsSchedule};
+ghost use Rattle.job.specs.Answers.{is_output};
+ghost use Rattle.grouping.specs.Inlining.{IsScheduleOf, AllFitScratch, InlinesMore};
+
+use crate::costs::reads_stored;
+use crate::inlining::{InlinedStages, is_function};
+use crate::order::in_order;
+use crate::readers::readers_of;
+use crate::schedule::Schedule;
+use domains::Index;
+use job::{Body, Formula, Function, Job, JobCase, Read, Stage};
+use std::alloc::{AllocError, Global};
+
+/// The most operators and reads that the formulas of a cheap function have together.
+const MOST_STEPS: u32 = 8;
+
+/// The most functions that a cheap function is computed anew for.
+const MOST_READERS: usize = 3;
+
+/// The schedule that inlines cheap functions as well, if each tile then has room in scratch memory, else the same one. Stage by
+/// stage, from the first, it inlines a function that is stored, is no output, has at most eight operators and reads in all,
+/// and no stencil, and reads stored stages alone; two or three stored functions read it, and each of them at the point itself
+/// alone. So it is computed once for each of these, over the very points that they are computed over.
+///
+/// What a job answers is the same: it does not depend on what is inlined.
+///
+/// # Errors
+///
+/// Fails only where memory is refused.
+pub fn with_cheap_inlined(
+    alloc: Global,
+    job: &Job,
+    schedule: Schedule,
+) -> Result<Schedule, AllocError>
+    requires schedule { IsScheduleOf (pipeline_in job.now) schedule }
+    requires fits { AllFitScratch (pipeline_in job.now) schedule.inlining }
+    ensures { IfOk result (InlinesMore (pipeline_in job.now) schedule.inlining) }
+{
+    let inlining = more_inlined(alloc, job, schedule.inlining())?;
+    schedule.or_better(alloc, job, inlining)
+}
+
+// What a schedule inlines, and cheap functions as well.
+#[tactic(auto, using(crate::proofs::CheapOnesAreAdded::adds_none))]
+fn more_inlined(
+    alloc: Global,
+    job: &Job,
+    before: &InlinedStages,
+) -> Result<InlinedStages, AllocError>
+    requires { IsSchedule (pipeline_in job.now) before.now }
+    ensures schedule { IfOk result (IsSchedule (pipeline_in job.now)) }
+    ensures adds { IfOk result (AddsCheap (pipeline_in job.now) before.now) }
+{
+    let mut order = in_order(alloc, job.stages())?;
+    order.reverse();
+    let mut inlining = before.copied()?;
+    for number in 0..job.stages().len() {
+        if takes_less(alloc, job, &inlining, &order, number)? {
+            inlining.set(number, true);
+        }
+    }
+    Ok(inlining)
+}
+
+// Whether a stage is a cheap function that may be inlined, and then is computed once for each of those that read it.
+fn takes_less(
+    alloc: Global,
+    job: &Job,
+    inlining: &InlinedStages,
+    order: &[usize],
+    number: usize,
+) -> Result<bool, AllocError>
+    requires order { order.now ≡ backward (pipeline_in job.now).stages }
+    ensures function { IfOk result (λ b. b ≡ true → is_function (pipeline_in job.now) number ≡ true) }
+    ensures inner { IfOk result (λ b. b ≡ true → is_output (pipeline_in job.now) number ≡ false) }
+    ensures cheap { IfOk result (λ b. b ≡ true → IsCheap (pipeline_in job.now) number) }
+{
+    if !is_function(job, number) || job.is_output(number) || inlining.inlined(number) {
+        return Ok(false);
+    }
+    if !is_cheap(alloc, job, inlining, number)? {
+        return Ok(false);
+    }
+    let readers = readers_of(alloc, job, order, number)?;
+    if readers.len() < 2 || readers.len() > MOST_READERS {
+        return Ok(false);
+    }
+    all_read_plainly(alloc, job, inlining, &readers, number)
+}
+
+// Whether a stage is a function of few steps that reads stored stages alone.
+fn is_cheap(
+    alloc: Global,
+    job: &Job,
+    inlining: &InlinedStages,
+    number: usize,
+) -> Result<bool, AllocError>
+    ensures { IfOk result (λ b. b ≡ true → steps_at (pipeline_in job.now) number ≤ 8) }
+{
+    match job.stage(number) {
+        Some(stage) if has_few_steps(stage) => reads_stored(alloc, inlining, stage),
+        _ => Ok(false),
+    }
+}
+
+fn has_few_steps(stage: &Stage) -> bool
+    ensures { result ≡ true → steps_of (stage_view stage.now).body ≤ 8 }
+{
+    match stage.body() {
+        Body::Plane(_) | Body::Accumulator(_) => false,
+        Body::Function(given) => steps_left(given).is_some(),
+    }
+}
+
+// How many steps a function takes fewer than a cheap one may, if it is cheap.
+fn steps_left(given: &Function) -> Option<u32>
+    ensures { IfSome result (λ left. left
+        + steps_of (function (map case_view given.now.cases.items)
+        (option_map formula_view given.now.otherwise)) ≡ 8) }
+{
+    let left = after_cases(given.cases(), MOST_STEPS)?;
+    match given.otherwise() {
+        Some(formula) => after(formula, left),
+        None => Some(left),
+    }
+}
+
+// How many steps of so many are left after those of these cases.
+fn after_cases(cases: &[JobCase], steps: u32) -> Option<u32>
+    ensures { IfSome result (λ left. left + sum (map steps_of_case (map case_view cases.now))
+        ≡ steps) }
+{
+    let mut left = steps;
+    for case in cases {
+        left = after(case.formula(), left)?;
+    }
+    Some(left)
+}
+
+// How many steps of so many are left after those of a formula: an operator is one, and a read is. A stencil takes too many.
+fn after(formula: &Formula, steps: u32) -> Option<u32>
+    ensures { IfSome result (λ left. left + steps_in (formula_view formula.now) ≡ steps) }
+{
+    match formula {
+        Formula::Number(_) | Formula::Coordinate(_) => Some(steps),
+        Formula::Read(_, _, _) => steps.checked_sub(1),
+        Formula::Neg(operand) | Formula::Abs(operand) | Formula::Literal(_, operand, _) => {
+            after(operand, steps.checked_sub(1)?)
+        }
+        Formula::Binary(_, left, right) => {
+            let rest = after(left, steps.checked_sub(1)?)?;
+            after(right, rest)
+        }
+        Formula::Clamp(value, least, greatest) => {
+            let rest = after(value, steps.checked_sub(1)?)?;
+            let rest = after(least, rest)?;
+            after(greatest, rest)
+        }
+        Formula::Select(left, _, right, then, otherwise) => {
+            let rest = after(left, steps.checked_sub(1)?)?;
+            let rest = after(right, rest)?;
+            let rest = after(then, rest)?;
+            after(otherwise, rest)
+        }
+        Formula::Stencil(_, _, _) => None,
+    }
+}
+
+// Whether these are stored functions that read a stage at the point itself alone.
+fn all_read_plainly(
+    alloc: Global,
+    job: &Job,
+    inlining: &InlinedStages,
+    readers: &[usize],
+    number: usize,
+) -> Result<bool, AllocError>
+    ensures { IfOk result (λ b. b ≡ true
+        → list_all (reads_plainly (pipeline_in job.now) number) readers.now ≡ true) }
+{
+    for reader in readers {
+        if inlining.inlined(*reader) || !reads_plainly(alloc, job, *reader, number)? {
+            return Ok(false);
+        }
+    }
+    Ok(true)
+}
+
+// Whether a stage is a function that reads another at the point itself alone.
+fn reads_plainly(alloc: Global, job: &Job, reader: usize, number: usize) -> Result<bool, AllocError>
+    ensures { IfOk result (λ b. b ≡ reads_plainly (pipeline_in job.now) number reader) }
+{
+    match job.stage(reader) {
+        Some(stage) if is_function(job, reader) => all_plain(alloc, stage, number),
+        _ => Ok(false),
+    }
+}
+
+fn all_plain(alloc: Global, stage: &Stage, number: usize) -> Result<bool, AllocError>
+    ensures { IfOk result (λ b. b
+        ≡ list_all (is_plain number) (reads_of (stage_view stage.now).body)) }
+{
+    let reads = stage.reads(alloc)?;
+    for read in reads.iter() {
+        if !is_plain(read, number) {
+            return Ok(false);
+        }
+    }
+    Ok(true)
+}
+
+// Whether it is no read of the stage of this number, or one at the point itself.
+fn is_plain(read: &Read, number: usize) -> bool
+    ensures { result ≡ is_plain number (read_view read.now) }
+{
+    match read {
+        Read::Point(stage, row, column) => *stage != number || is_same(row) && is_same(column),
+        Read::Window(stage, _) => *stage != number,
+    }
+}
+
+// Whether an index gives each number itself.
+fn is_same(index: &Index) -> bool
+    ensures { result ≡ is_same index.now }
+{
+    are_equal(index.mul(), 1) && are_equal(index.add(), 0) && are_equal(index.div(), 1)
+}
+
+fn are_equal(a: i32, b: i32) -> bool
+    ensures { result ≡ int_eq a b }
+{
+    a == b
+}
