@@ -1,5 +1,5 @@
 -- Which functions of a job are inlined where the options of a command ask for it.
-use Rattle.std.specs.Prelude.{ℕ, Bool, if◌then◌else◌, List}
+use Rattle.std.specs.Prelude.{ℕ, ◌==◌, Bool, not, ◌||◌, if◌then◌else◌, List}
 use Rattle.job.specs.Pipeline.{Pipeline}
 use Rattle.grouping.specs.Greedy.{greedy_inlining}
 use Rattle.grouping.specs.Schedules.{all_stored}
@@ -7,3 +7,7 @@ use Rattle.grouping.specs.Schedules.{all_stored}
 -- none where all are to be stored, else those that the greedy rule inlines
 abbrev pub inlining_asked : Bool → ℕ → Pipeline → List Bool
 inlining_asked stored percent job = if stored then all_stored job else greedy_inlining job percent
+
+-- whether another schedule is asked for than the usual one: all stored, or functions inlined for another percentage than 40
+abbrev pub is_unusual : Bool → ℕ → Bool
+is_unusual stored percent = stored || not (percent == 40)

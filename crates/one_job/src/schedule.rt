@@ -1,14 +1,17 @@
 //! The schedule that the options ask for.
 
-ghost use Rattle.std.specs.Prelude.{◌≡◌, IfOk};
+ghost use Rattle.std.specs.Prelude.{◌≡◌, true, IfOk};
 ghost use Rattle.grouping.specs.Inlining.{AllFitScratch, IsScheduleOf};
 ghost use Rattle.job.specs.Kept.{pipeline_in};
-ghost use Rattle.one_job.specs.Asked.{inlining_asked};
+ghost use Rattle.one_job.specs.Asked.{inlining_asked, is_unusual};
 
 use command_line::Options;
-use grouping::Schedule;
+use grouping::{Schedule, with_cheap_inlined};
 use job::Job;
 use std::alloc::{AllocError, Global};
+
+/// For how many percent more points functions are inlined where nothing else is asked for.
+const USUAL_PERCENT: u32 = 40;
 
 /// The schedule that stores all functions, or else the greedy one. Each of its tiles has room in scratch memory.
 pub fn schedule_of(alloc: Global, job: &Job, options: &Options) -> Result<Schedule, AllocError>
@@ -22,4 +25,32 @@ pub fn schedule_of(alloc: Global, job: &Job, options: &Options) -> Result<Schedu
     } else {
         Schedule::greedy(alloc, job, options.percent.get())
     }
+}
+
+/// The schedule that a job is evaluated by: where the options ask for the usual one, this with cheap functions inlined as well,
+/// else the one that they ask for. Each of its tiles has room in scratch memory.
+pub fn schedule_to_evaluate(
+    alloc: Global,
+    job: &Job,
+    options: &Options,
+) -> Result<Schedule, AllocError>
+    ensures schedule { IfOk result (IsScheduleOf (pipeline_in job.now)) }
+    ensures fits { IfOk result (λ s. AllFitScratch (pipeline_in job.now) s.inlining) }
+    ensures unusual { is_unusual options.now.stored options.now.percent ≡ true
+        → IfOk result (λ s. s.inlining
+        ≡ inlining_asked options.now.stored options.now.percent (pipeline_in job.now)) }
+{
+    let schedule = schedule_of(alloc, job, options)?;
+    if is_unusual(options) {
+        Ok(schedule)
+    } else {
+        with_cheap_inlined(alloc, job, schedule)
+    }
+}
+
+// Whether another schedule is asked for than the usual one.
+fn is_unusual(options: &Options) -> bool
+    ensures { result ≡ is_unusual options.now.stored options.now.percent }
+{
+    options.stored || options.percent.get() != USUAL_PERCENT
 }
