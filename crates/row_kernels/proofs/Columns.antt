@@ -1,9 +1,13 @@
 -- Indices that only add.
 use Rattle.std.proofs.Common.{arith, ℕ, zero, ℤ, ◌≡◌, pos, negsuc, ◌+ℤ◌, ◌*ℤ◌, neg_ℤ, ◌*◌, suc, ◌/◌, ap, sym, ◌∙◌}
 use Rattle.std.proofs.Math.IntN.{suc_ℤ, +ℤ-suc_ℤ, pos-*ℤ-pos, pos-*ℤ-negsuc, *ℤ_comm, suc_ℤ-*ℤ, +ℤ_idr}
-use Rattle.std.proofs.lemmas.Int.{ints}
+use Rattle.std.proofs.Common.{FitsSigned, w32, to_z, of_z}
+use Rattle.std.proofs.lemmas.Int.{ints, to_z-of_z}
 use Rattle.domains.specs.Arithmetic.{floor_div}
-use Rattle.domains.specs.Index.{Scale, index_at}
+use Rattle.domains.specs.Index.{Scale, IsIndex, index_at}
+use Rattle.domains.proofs.Indices.{index_rises}
+use Rattle.domains.proofs.Lengths.{gap_is}
+use Rattle.row_kernels.specs.Columns.{column_gap}
 
 by_one : (z : ℤ) → floor_div z (pos 1) ≡ z
 by_one (pos a) = let same : a / 1 ≡ a = omega arith in ap pos same
@@ -57,3 +61,20 @@ pub columns_step : (x : Scale) (m : ℕ) (v : ℤ) (k : ℕ) → x.mul ≡ pos m
 columns_step x m v k e d =
     undivided x m (v +ℤ pos k) e d ∙ ap (λ (z : ℤ). z +ℤ x.add) (times_further m v k) ∙ further (pos m *ℤ v) x.add (k * m)
     ∙ ap (λ (z : ℤ). z +ℤ pos (k * m)) (sym (undivided x m v e d))
+
+-- ---- how far its columns lie from one another
+
+-- an index goes on by the gap
+pub gap_goes : (x : Scale) (c : ℤ) → IsIndex x → (k : ℕ) → index_at x (c +ℤ pos k) ≡ index_at x c +ℤ pos (column_gap x c k)
+gap_goes x c i k = sym (gap_is (index_at x c) (index_at x (c +ℤ pos k)) (index_rises x c (c +ℤ pos k) i (omega (arith, ints))))
+
+-- and by nothing else
+pub gap_found : (x : Scale) (c : ℤ) (k n : ℕ) → index_at x (c +ℤ pos k) ≡ index_at x c +ℤ pos n → column_gap x c k ≡ n
+gap_found x c k n e =
+    let far = gap_is (index_at x c) (index_at x (c +ℤ pos k)) (omega (arith, ints, e)) in
+    omega (arith, ints, far, e)
+
+-- what the code of a column computes
+pub column_is : (x : Scale) (c v : ℤ) → FitsSigned w32 c → FitsSigned w32 v → v ≡ index_at x (to_z w32 (of_z w32 c))
+    → to_z w32 (of_z w32 v) ≡ index_at x c
+column_is x c v from fits is = to_z-of_z w32 v fits ∙ is ∙ ap (index_at x) (to_z-of_z w32 c from)

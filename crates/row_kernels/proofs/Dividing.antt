@@ -10,9 +10,11 @@ use Rattle.domains.specs.Index.{Scale, index_at}
 use Rattle.domains.proofs.Floors.{floor_only, floor_splits}
 use Rattle.row_kernels.proofs.Columns.{further, times_further}
 
--- what a division leaves is a number from 0 on
-pub rest_natural : (a d q : ℤ) → pos 0 <ℤ d → d ≤ℤ pos 16 → q ≡ floor_rem a d → (floor_rem a d ≡ pos (unsigned_abs q)) × (unsigned_abs q < 16)
-rest_natural a d (pos n) some most is = let f = floor_splits a d some in (sym is, omega (arith, ints, f.below))
+-- what a division leaves is a number from 0 on, below the divisor
+pub rest_natural : (a d q : ℤ) → pos 0 <ℤ d → d ≤ℤ pos 16 → q ≡ floor_rem a d
+    → (floor_rem a d ≡ pos (unsigned_abs q)) × (unsigned_abs q < 16) × (pos (unsigned_abs q) <ℤ d)
+rest_natural a d (pos n) some most is =
+    let f = floor_splits a d some in (sym is, omega (arith, ints, f.below), omega (arith, ints, f.below))
 rest_natural a d (negsuc n) some most is = let f = floor_splits a d some in absurd (omega (arith, ints, f.least))
 
 -- what the code of that division computes
@@ -23,7 +25,7 @@ pub rest_is : (m v k d q : ℤ) → FitsSigned w32 m → FitsSigned w32 v → Fi
     (to_z w32 (of_z w32 d)) → q ≡ floor_rem (m *ℤ v +ℤ k) d
 rest_is m v k d q fm fv fk fd fp fs h = h ∙ simp to_z-of_z
 
-quotients_add : (q : ℤ) (n d : ℕ) → (q +ℤ pos n) *ℤ pos d ≡ q *ℤ pos d +ℤ pos (n * d)
+pub quotients_add : (q : ℤ) (n d : ℕ) → (q +ℤ pos n) *ℤ pos d ≡ q *ℤ pos d +ℤ pos (n * d)
 quotients_add q n d = *ℤ_comm (q +ℤ pos n) (pos d) ∙ times_further d q n ∙ ap (λ (z : ℤ). z +ℤ pos (n * d)) (*ℤ_comm (pos d) q)
 
 -- a division goes on from what it left
@@ -52,3 +54,7 @@ columns_divide x v m d left e f some rest k =
     ap (λ (z : ℤ). z +ℤ x.add) (times_further m v k) ∙ further (pos m *ℤ v) x.add (k * m) in
     of_scale (v +ℤ pos k) ∙ ap (λ (z : ℤ). floor_div z (pos d)) same
     ∙ goes_on a (floor_div a (pos d)) (k * m) (left + k * m) left d some is refl ∙ ap (λ (z : ℤ). z +ℤ pos ((left + k * m) / d)) (sym (of_scale v))
+
+-- where such an index only adds, and divides by 2
+pub halves_go : (left k step divisor : ℕ) → step ≡ 1 → divisor ≡ 2 → (left + k * step) / divisor ≡ (left + k) / 2
+halves_go left k step divisor one two = rw (one, two) (let same : (left + k * 1) / 2 ≡ (left + k) / 2 = omega arith in same)

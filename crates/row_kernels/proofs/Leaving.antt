@@ -1,15 +1,16 @@
 -- What divisions leave of numbers that follow one another.
-use Rattle.std.proofs.Common.{ℕ, ℤ, pos, Bool, true, false, refl, ◌≡◌, ◌≢◌, ◌+◌, ◌-◌, ◌<◌, ◌≤◌, ◌+ℤ◌, ◌*ℤ◌, ◌<ℤ◌, ◌∙◌, ◌⊎◌, inl, inr}
+use Rattle.std.proofs.Common.{ℕ, ℤ, pos, Bool, true, false, refl, ◌≡◌, ◌≢◌, ◌+◌, ◌-◌, ◌/◌, ◌%◌, ◌<◌, ◌≤◌, ◌+ℤ◌, ◌*ℤ◌, ◌<ℤ◌, ◌∙◌, ◌⊎◌, inl, inr}
 use Rattle.std.proofs.Common.{sym, ap, arith, subst, List, length, slice_set, get_or-set_other, get_or-set_same}
 use Rattle.row_kernels.specs.Rows.{at}
 use Rattle.std.proofs.lemmas.Bool.{cases_lt}
 use Rattle.std.proofs.Math.IntN.{suc_ℤ, suc_ℤ-*ℤ}
-use Rattle.std.specs.Prelude.{if◌then◌else◌}
+use Rattle.std.specs.Prelude.{if◌then◌else◌, ◌==◌}
 use Rattle.std.specs.Ordering.{int_eq}
-use Rattle.std.proofs.lemmas.Bool.Decides.{Decides-int_eq}
+use Rattle.std.proofs.lemmas.Bool.Decides.{Decides-int_eq, eqb_tells}
 use Rattle.std.proofs.lemmas.Int.{ints}
 use Rattle.domains.specs.Arithmetic.{floor_div, floor_rem}
 use Rattle.domains.proofs.Floors.{floor_splits, floor_only}
+use Rattle.row_kernels.proofs.Dividing.{quotients_add}
 
 -- of a number that lies d behind one that leaves l, l + d is left, as long as this is below the modulus
 pub stays : (v : ℤ) (m l d : ℕ) → 0 < m → pos l ≡ floor_rem v (pos m) → l + d < m → pos (l + d) ≡ floor_rem (v +ℤ pos d) (pos m)
@@ -63,6 +64,36 @@ kept_where rest z v x y other is = by (int_eq z (pos rest)) refl
     by : (t : Bool) → int_eq z (pos rest) ≡ t → v ≡ if t then x else y
     by true q = absurd (other ((Decides-int_eq z (pos rest)).0 q))
     by false q = is
+
+-- ---- every second number
+
+module _ (v : ℤ) (first rest : ℕ) (small : first < 2) (e : floor_rem (v +ℤ pos first) (pos 2) ≡ pos rest) where
+  -- of numbers that follow one another, each second one leaves what the first of these leaves
+  pub alternate : (k : ℕ) → k % 2 ≡ first → floor_rem (v +ℤ pos k) (pos 2) ≡ pos rest
+  alternate k is =
+      let above : pos 0 <ℤ pos 2 = omega (arith, ints) in
+      let f = floor_splits (v +ℤ pos first) (pos 2) above in
+      let split : v +ℤ pos k ≡ (floor_div (v +ℤ pos first) (pos 2) +ℤ pos (k / 2)) *ℤ pos 2 +ℤ pos rest =
+      omega (arith, ints, f.split, e, is, quotients_add (floor_div (v +ℤ pos first) (pos 2)) (k / 2) 2) in
+      sym (floor_only (v +ℤ pos k) (pos 2) (floor_div (v +ℤ pos first) (pos 2) +ℤ pos (k / 2)) (pos rest) above
+      (record { split = split; least = omega (arith, ints); below = omega (arith, ints, f.below, e) })).1
+
+  -- and no other one
+  pub alternate_not : (k : ℕ) → k % 2 ≢ first → floor_rem (v +ℤ pos k) (pos 2) ≢ pos rest
+  alternate_not k other same =
+      let next : (k + 1) % 2 ≡ first = omega arith in
+      let along : v +ℤ pos k +ℤ pos 1 ≡ v +ℤ pos (k + 1) = omega (arith, ints) in
+      passes (v +ℤ pos k) 2 rest 1 rest (omega arith) (sym same) (omega arith) (omega arith) (omega arith)
+      (ap (λ (z : ℤ). floor_rem z (pos 2)) along ∙ alternate (k + 1) next)
+
+  -- so its test is whether the number is even, or odd
+  pub tested : (k : ℕ) (x y : ℤ) → (if k % 2 == first then x else y) ≡ if int_eq (floor_rem (v +ℤ pos k) (pos 2)) (pos rest) then x else y
+  tested k x y = by (eqb_tells (k % 2) first)
+    where
+      by : (((k % 2 == first) ≡ true) × (k % 2 ≡ first)) ⊎ (((k % 2 == first) ≡ false) × (k % 2 ≢ first))
+          → (if k % 2 == first then x else y) ≡ if int_eq (floor_rem (v +ℤ pos k) (pos 2)) (pos rest) then x else y
+      by (inl h) = rw h.0 (taken_where rest _ x x y (alternate k h.1) refl)
+      by (inr h) = rw h.0 (kept_where rest _ y x y (alternate_not k h.1) refl)
 
 -- ---- a step along a row
 

@@ -5,4 +5,7 @@ pub mod Places
 pub mod Testing
 pub mod Leaving
 pub mod Reciprocals
+pub mod LastBits
 pub mod Taps
+pub mod Pieces
+pub mod Gaps

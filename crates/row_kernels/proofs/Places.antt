@@ -1,5 +1,5 @@
 -- Where the points of an area stand among its values.
-use Rattle.std.proofs.Common.{arith, ℕ, ℤ, ◌≡◌, ◌+◌, ◌*◌, ◌-◌, ◌<◌, ◌≤◌, pos, ◌+ℤ◌, ◌≤ℤ◌, ap, ◌∙◌, sym, subst}
+use Rattle.std.proofs.Common.{arith, ℕ, ℤ, ◌≡◌, ◌+◌, ◌-◌, ◌<◌, ◌≤◌, pos, ◌+ℤ◌, ◌≤ℤ◌, ap, ◌∙◌, sym, subst}
 use Rattle.std.specs.Int.{int_gap}
 use Rattle.std.proofs.Math.IntN.{+ℤ_idr}
 use Rattle.std.proofs.lemmas.Int.{ints}
@@ -11,7 +11,6 @@ use Rattle.domains.specs.declared.area.Area.{Area}
 use Rattle.domains.proofs.Lengths.{gap_is}
 use Rattle.row_kernels.specs.Rows.{EachPlace}
 use Rattle.row_kernels.specs.Places.{place_of}
-use Rattle.row_kernels.proofs.Columns.{columns_step}
 
 -- a number of a span lies less far after its first number than the span is long
 pub gap_below : (s : Ends) (v : ℤ) → Holds s v → int_gap s.lo v < len_of s
@@ -50,12 +49,6 @@ pub places_below : (a : Area) (r : ℤ) (x : Scale) (c : ℤ) (far : ℕ → ℕ
     → EachPlace n (λ k. HoldsPoint a r (index_at x (c +ℤ pos k))) → (k : ℕ) → k < n → place + far k < size
 places_below a r x c far n place size goes is whole each k l =
     omega (arith, whole, place_goes a r x c far n place goes is each k l, place_below a r (index_at x (c +ℤ pos k)) (each k l))
-
--- those of an index that does not divide lie at steps of one length
-pub place_steps : (a : Area) (r : ℤ) (x : Scale) (c : ℤ) (m n place : ℕ) → x.mul ≡ pos m → x.div ≡ pos 1
-    → place ≡ place_of a r (index_at x c) → EachPlace n (λ k. HoldsPoint a r (index_at x (c +ℤ pos k)))
-    → (k : ℕ) → k < n → place + k * m ≡ place_of a r (index_at x (c +ℤ pos k))
-place_steps a r x c m n place e d = place_goes a r x c (λ k. k * m) n place (λ k. columns_step x m c k e d)
 
 -- ---- a row of points of an area
 

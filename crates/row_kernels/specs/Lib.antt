@@ -1,7 +1,10 @@
 pub mod Rows
 pub mod Operands
+pub mod Added
+pub mod Finishes
+pub mod Terms
 pub mod Places
-pub mod Divided
+pub mod Columns
 pub mod RowMask
 pub mod Stencil
 pub mod inside

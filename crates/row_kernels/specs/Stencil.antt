@@ -7,7 +7,7 @@ use Rattle.row_kernels.specs.Rows.{EachPlace, at}
 abbrev pub tap_sum : List ℤ → List ℤ → ℕ → ℤ
 tap_sum stencil line k = sum_below (length stencil) (λ b. at stencil b *ℤ at line (k + b))
 
--- three rows of three factors
-pub record Is3x3 (kernel : List (List ℤ)) : Type 0 where
-  pub height : length kernel ≡ 3
-  pub width : EachPlace 3 (λ a. length (factors kernel a) ≡ 3)
+-- so many rows of so many factors
+pub record HasSize (rows cols : ℕ) (kernel : List (List ℤ)) : Type 0 where
+  pub height : length kernel ≡ rows
+  pub width : EachPlace rows (λ a. length (factors kernel a) ≡ cols)

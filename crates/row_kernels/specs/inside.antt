@@ -1,2 +1,4 @@
 -- What clauses of inner functions cite, and no public clause does.
+pub mod Divided
 pub mod Reciprocal
+pub mod Triples

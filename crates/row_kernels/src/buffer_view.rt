@@ -6,11 +6,10 @@ ghost use Rattle.std.specs.Int.{int_gap};
 ghost use Rattle.domains.specs.Area.{HoldsPoint, point_count};
 ghost use Rattle.domains.specs.Index.{index_at};
 ghost use Rattle.domains.specs.Span.{Holds, len_of};
-ghost use Rattle.row_kernels.specs.Divided.{steps_to};
 ghost use Rattle.row_kernels.specs.Rows.{EachPlace, at};
 ghost use Rattle.row_kernels.specs.Places.{place_of};
 
-use crate::divided_columns::DividedColumns;
+use crate::gathering::gather_along;
 use crate::row_span::RowSpan;
 use domains::{Area, Index, Span};
 
@@ -20,37 +19,6 @@ pub struct BufferView<'a> {
     pub(crate) area: Area,
     pub(crate) values: &'a [i32],
     ghost size: { length values.now ≡ point_count area },
-}
-
-/// What an index multiplies by.
-#[tactic(auto, using(std::proofs::lemmas::Int::ints))]
-pub fn step_of(index: &Index) -> usize
-    ensures { index.now.mul ≡ pos result }
-{
-    index.mul() as usize
-}
-
-// Takes the numbers from a place on, at steps of one length.
-fn take_every(values: &[i32], place: usize, step: usize, out: &mut [i32])
-    requires { EachPlace (length out.old) (λ k. place + k * step < length values.now) }
-    ensures { EachPlace (length out.old) (λ k. at out.new k ≡ at values.now (place + k * step)) }
-{
-    for k in 0..out.len() {
-        out[k] = values[place + k * step];
-    }
-}
-
-// Takes the numbers from a place on, where an index that divides goes.
-fn take_divided(values: &[i32], place: usize, columns: &DividedColumns, out: &mut [i32])
-    requires few { length out.old < 65536 }
-    requires there { EachPlace (length out.old)
-        (λ k. place + steps_to columns.now k < length values.now) }
-    ensures { EachPlace (length out.old)
-        (λ k. at out.new k ≡ at values.now (place + steps_to columns.now k)) }
-{
-    for k in 0..out.len() {
-        out[k] = values[place + columns.steps_to(k)];
-    }
 }
 
 // How far a number of a span lies after the first.
@@ -130,14 +98,8 @@ impl<'a> BufferView<'a> {
         if out.is_empty() {
             return;
         }
-        let place = self.place(row, points.col_at(col));
-        if col.div() == 1 {
-            // the places of the columns lie at steps of one length
-            take_every(self.values, place, step_of(col), out);
-        } else {
-            let columns = DividedColumns::from(col, points.col);
-            take_divided(self.values, place, &columns, out);
-        }
+        let place = self.place(row, col.at(points.col));
+        gather_along(self.values, place, col, points, out);
     }
 
     /// One value.

@@ -3,10 +3,13 @@
 
 ghost use Rattle.std.specs.Prelude.{◌≡◌, ℤ, ◌<◌, ◌^◌, ◌*ℤ◌, pos, neg_ℤ, unsigned_abs};
 ghost use Rattle.domains.specs.Arithmetic.{wrapped, clamped, floor_div, floor_rem};
+ghost use Rattle.row_kernels.specs.Added.{added};
 
 use crate::pairs::Pair;
 use crate::reciprocal::Reciprocal;
-use domains::arithmetic::{clamp, shr, wrapping_abs, wrapping_neg, wrapping_shl};
+use domains::arithmetic::{
+    clamp, shr, wrapping_abs, wrapping_add, wrapping_neg, wrapping_shl, wrapping_sub,
+};
 
 /// Makes another number of one.
 pub(crate) trait Change: Copy {
@@ -45,8 +48,8 @@ impl Change for AbsoluteValue {
 }
 
 /// The number cut to at least `low`, and then to at most `high`.
-#[derive(Clone, Copy)]
-pub(crate) struct Cut {
+#[derive(Clone, Copy, Debug)]
+pub struct Cut {
     pub(crate) low: i32,
     pub(crate) high: i32,
 }
@@ -84,8 +87,8 @@ impl Change for Rest {
 }
 
 /// How far numbers of 32 bits are shifted.
-#[derive(Clone, Copy)]
-pub(crate) struct Count {
+#[derive(Clone, Copy, Debug)]
+pub struct Count {
     pub(crate) bits: u32,
     ghost few: { bits < 32 },
 }
@@ -116,6 +119,43 @@ impl Change for ShiftedRight {
     }
 }
 
+/// The sum with a number, divided by a power of two, rounded down.
+#[derive(Clone, Copy, Debug)]
+pub struct RoundedShift {
+    pub(crate) add: i32,
+    pub(crate) count: Count,
+}
+
+impl Change for RoundedShift {
+    ghost value = { λ s a. floor_div (added a s.add) (pos (2 ^ s.count.bits)) };
+
+    #[inline]
+    fn of(&self, number: i32) -> i32 {
+        shr(add_to(number, self.add), self.count.bits)
+    }
+}
+
+// The sum of two numbers. (Nothing is added where the right one is 0, so that there is nothing to choose.)
+#[inline]
+fn add_to(left: i32, right: i32) -> i32
+    ensures { result ≡ added left right }
+{
+    wrapping_add(left, right)
+}
+
+/// What another change makes of what one makes.
+#[derive(Clone, Copy)]
+pub(crate) struct Chained<C: Change, D: Change>(pub(crate) C, pub(crate) D);
+
+impl<C: Change, D: Change> Change for Chained<C, D> {
+    ghost value = { λ s a. D.value s.1 (C.value s.0 a) };
+
+    #[inline]
+    fn of(&self, number: i32) -> i32 {
+        self.1.of(self.0.of(number))
+    }
+}
+
 /// What a pair makes of the number and one that stands left of it.
 #[derive(Clone, Copy)]
 pub(crate) struct After<P: Pair<Made = i32>>(pub(crate) i32, pub(crate) P);
@@ -139,5 +179,36 @@ impl<P: Pair<Made = i32>> Change for Twice<P> {
     #[inline]
     fn of(&self, number: i32) -> i32 {
         self.0.of(number, number)
+    }
+}
+
+/// What the division by a power of two, rounded down, leaves.
+#[derive(Clone, Copy)]
+pub(crate) struct LastBits {
+    pub(crate) count: Count,
+}
+
+impl Change for LastBits {
+    ghost value = { λ s a. floor_rem a (pos (2 ^ s.count.bits)) };
+
+    #[inline]
+    fn of(&self, number: i32) -> i32 {
+        let bits = self.count.bits;
+        wrapping_sub(number, wrapping_shl(shr(number, bits), bits))
+    }
+}
+
+/// What a change makes of what a pair makes.
+#[derive(Clone, Copy)]
+pub(crate) struct Finished<P: Pair<Made = i32>, C: Change>(pub(crate) P, pub(crate) C);
+
+impl<P: Pair<Made = i32>, C: Change> Pair for Finished<P, C> {
+    type Made = i32;
+
+    ghost value = { λ s a b. C.value s.1 (P.value s.0 a b) };
+
+    #[inline]
+    fn of(&self, left: i32, right: i32) -> i32 {
+        self.1.of(self.0.of(left, right))
     }
 }

@@ -1,7 +1,7 @@
 #![tactic(auto)]
 //! Where an index that divides goes along a row, without a division at each point.
 
-ghost use Rattle.std.specs.Prelude.{◌≡◌, ◌<◌, ◌≤◌, ◌+ℤ◌, ◌*ℤ◌, ◌<ℤ◌, ◌≤ℤ◌, ℕ, pos, negsuc};
+ghost use Rattle.std.specs.Prelude.{◌≡◌, ◌<◌, ◌≤◌, ◌+ℤ◌, ◌*ℤ◌, ◌<ℤ◌, ◌≤ℤ◌, ◌==◌, ◌&&◌, ℕ, pos, negsuc};
 ghost use Rattle.domains.specs.Arithmetic.{floor_rem};
 
 use crate::reciprocal::Reciprocal;
@@ -15,6 +15,7 @@ pub struct DividedColumns {
     step: u32,
     reciprocal: Reciprocal,
     ghost left_most: { left < 16 },
+    ghost left_below: { left < reciprocal.divisor },
     ghost step_most: { step ≤ 16 },
 }
 
@@ -43,13 +44,14 @@ fn rest_at(index: &Index, col: i32) -> u32
     requires most { col ≤ℤ pos 32768 }
     ensures rest { floor_rem (index.now.mul *ℤ col +ℤ index.now.add) index.now.div ≡ pos result }
     ensures most { result < 16 }
+    ensures below { pos result <ℤ index.now.div }
 {
     floor_rem(index.mul() * col + index.add(), index.div()) as u32
 }
 
 impl DividedColumns {
     ghost use Rattle.domains.specs.Index.{index_at};
-    ghost use Rattle.row_kernels.specs.Divided.{steps_to};
+    ghost use Rattle.row_kernels.specs.inside.Divided.{steps_to};
 
     /// Those of an index from a column on.
     #[tactic(auto, using(std::proofs::lemmas::Int::ints))]
@@ -65,6 +67,21 @@ impl DividedColumns {
             step: factor_of(index),
             reciprocal: Reciprocal::new(divisor_of(index)),
         }
+    }
+
+    /// What the division leaves at the first column.
+    pub fn left(&self) -> usize
+        ensures number { result ≡ self.now.left }
+        ensures below { result < self.now.reciprocal.divisor }
+    {
+        self.left as usize
+    }
+
+    /// Whether the index only adds, and divides by 2.
+    pub fn are_halved(&self) -> bool
+        ensures { result ≡ (self.now.step == 1) && (self.now.reciprocal.divisor == 2) }
+    {
+        self.step == 1 && self.reciprocal.divisor() == 2
     }
 
     /// How far the column at point number `k` lies after the first.

@@ -1,7 +1,7 @@
 #![tactic(auto)]
 //! Tests along rows of points.
 
-ghost use Rattle.std.specs.Prelude.{◌≡◌, ◌≢◌, ◌<◌, ◌+ℤ◌, ◌≤ℤ◌, ℤ, pos, length, map, All, if◌then◌else◌};
+ghost use Rattle.std.specs.Prelude.{◌≡◌, ◌≢◌, ◌<◌, ◌==◌, ◌%◌, ◌+ℤ◌, ◌≤ℤ◌, ℤ, pos, length, map, All, if◌then◌else◌};
 ghost use Rattle.std.specs.Ordering.{int_eq};
 ghost use Rattle.domains.specs.Arithmetic.{floor_rem};
 ghost use Rattle.job.specs.Values.{along, is_related, is_passed, all_passed};
@@ -11,6 +11,7 @@ ghost use Rattle.job.specs.Views.{axis_view, test_view};
 ghost use Rattle.row_kernels.specs.Rows.{EachPlace, at};
 ghost use Rattle.row_kernels.specs.RowMask.{HoldsWhere};
 
+use crate::loops::choose;
 use crate::row_span::RowSpan;
 use domains::Relation;
 use domains::arithmetic::floor_rem;
@@ -137,10 +138,24 @@ fn gap_to_rest(left: u32, modulus: u32, rest: u32) -> usize
     gap as usize
 }
 
+// Takes the numbers of the other row at every second place. (Each place is written, which is what vector code is made of.)
+fn take_alternate(out: &mut [i32], other: &[i32], first: u32)
+    requires other { length other.now ≡ length out.old }
+    requires short { length out.old < 65536 }
+    ensures { EachPlace (length out.old) (λ k. at out.new k
+        ≡ (if k % 2 == first then at other.now k else at out.old k)) }
+{
+    for k in 0..out.len() {
+        let (mine, its) = (out[k], other[k]);
+        out[k] = choose(k as u32 % 2 == first, its, mine);
+    }
+}
+
 // Takes the numbers of the other row in the columns that leave this rest, one of so many.
 fn take_leaving(out: &mut [i32], other: &[i32], modulus: u32, rest: u32, points: &RowSpan)
     requires other { length other.now ≡ length out.old }
     requires modulus { IsDivisor modulus }
+    requires fits { length out.old ≡ points.now.len }
     ensures { EachPlace (length out.old) (λ k. at out.new k
         ≡ (if int_eq (floor_rem (points.now.col +ℤ pos k) (pos modulus)) (pos rest)
         then at other.now k else at out.old k)) }
@@ -148,7 +163,11 @@ fn take_leaving(out: &mut [i32], other: &[i32], modulus: u32, rest: u32, points:
     if rest >= modulus {
         return;
     }
-    let mut k = gap_to_rest(left_of(points.col, modulus), modulus, rest);
+    let first = gap_to_rest(left_of(points.col, modulus), modulus, rest);
+    if modulus == 2 {
+        return take_alternate(out, other, first as u32);
+    }
+    let mut k = first;
     while k < out.len() {
         out[k] = other[k];
         k += modulus as usize;

@@ -4,26 +4,45 @@
 mod buffer_view;
 mod changes;
 mod divided_columns;
+mod finish;
+mod finishes;
+mod gathering;
 mod guards;
+mod kernel_columns;
 mod loops;
 mod operand;
 mod operand_rows;
 mod operators;
 mod pairs;
+mod products;
+mod quintuple;
 mod reciprocal;
 mod row_span;
+mod row_sums;
+mod sample_rows;
 mod stencil;
 mod stencil3x3;
+mod sums;
+mod sums_of_nine;
+mod term;
 mod values;
 
-pub use buffer_view::{BufferView, step_of};
-pub use divided_columns::DividedColumns;
+pub use buffer_view::BufferView;
+pub use finish::Finish;
+pub use finishes::finish_row;
+pub use gathering::gather_along;
 pub use guards::{RowMask, take_where, where_passed};
+pub use kernel_columns::{Kernel3x1, Kernel5x1};
 pub use loops::{count_up, fill};
 pub use operand::Operand;
 pub use operators::{
-    combine, combine_literal, combine_scaled, cut, divide_by, keep_related, make_absolute, negate,
+    combine, combine_literal, combine_scaled, cut, divide_by, keep_related, negate,
 };
 pub use row_span::{RowSpan, number_after};
+pub use row_sums::write_taps;
+pub use sample_rows::{gather_samples, take_samples};
 pub use stencil::add_taps;
 pub use stencil3x3::Kernel3x3;
+pub use sums::add_terms;
+pub use term::Term;
+pub use values::Values;

@@ -76,6 +76,52 @@ pub(crate) fn write_joined<P: Pair<Made = i32>>(
     }
 }
 
+/// Each number is joined with that of a line, and what this makes with that of another line.
+pub(crate) fn join_twice<P: Pair<Made = i32>, Q: Pair<Made = i32>>(
+    out: &mut [i32],
+    second: &[i32],
+    third: &[i32],
+    inner: P,
+    outer: Q,
+)
+    requires second { length second.now ≡ length out.old }
+    requires third { length third.now ≡ length out.old }
+    ensures { EachPlace (length out.old) (λ k. at out.new k
+        ≡ Q.value outer (P.value inner (at out.old k) (at second.now k)) (at third.now k)) }
+{
+    for k in 0..out.len() {
+        out[k] = outer.of(inner.of(out[k], second[k]), third[k]);
+    }
+}
+
+/// Writes what is made of the numbers of two lines, joined with those of a third.
+pub(crate) fn write_joined_twice<P: Pair<Made = i32>, Q: Pair<Made = i32>>(
+    out: &mut [i32],
+    first: &[i32],
+    second: &[i32],
+    third: &[i32],
+    inner: P,
+    outer: Q,
+)
+    requires first { length first.now ≡ length out.old }
+    requires second { length second.now ≡ length out.old }
+    requires third { length third.now ≡ length out.old }
+    ensures { EachPlace (length out.old) (λ k. at out.new k
+        ≡ Q.value outer (P.value inner (at first.now k) (at second.now k)) (at third.now k)) }
+{
+    for k in 0..out.len() {
+        out[k] = outer.of(inner.of(first[k], second[k]), third[k]);
+    }
+}
+
+/// One of two numbers. (Both are at hand when it is called: a choice between places to read from is no vector code.)
+#[inline]
+pub(crate) fn choose(holds: bool, one: i32, other: i32) -> i32
+    ensures { result ≡ (if holds then one else other) }
+{
+    if holds { one } else { other }
+}
+
 /// Takes the other number where that of a line is not related to one, and keeps its own where it is.
 pub(crate) fn keep<R: Pair<Made = bool>, V: Values, W: Values>(
     out: &mut [i32],
@@ -93,10 +139,6 @@ pub(crate) fn keep<R: Pair<Made = bool>, V: Values, W: Values>(
 {
     for k in 0..out.len() {
         let (mine, its) = (out[k], other.at(k));
-        out[k] = if relate.of(left[k], right.at(k)) {
-            mine
-        } else {
-            its
-        };
+        out[k] = choose(relate.of(left[k], right.at(k)), mine, its);
     }
 }

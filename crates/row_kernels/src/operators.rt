@@ -1,52 +1,64 @@
 #![tactic(auto)]
 //! What the operators of formulas make of rows of numbers.
 
-ghost use Rattle.std.specs.Prelude.{◌≡◌, ◌<ℤ◌, ◌*ℤ◌, length, pos, neg_ℤ, unsigned_abs, if◌then◌else◌};
+ghost use Rattle.std.specs.Prelude.{◌≡◌, ◌<ℤ◌, ◌*ℤ◌, length, pos, neg_ℤ, if◌then◌else◌};
 ghost use Rattle.domains.specs.Arithmetic.{wrapped, clamped, floor_div, floor_rem};
 ghost use Rattle.job.specs.Values.{binary_value, literal_value, is_related};
 ghost use Rattle.job.specs.WellFormed.{IsDivisor, IsLiteral};
+ghost use Rattle.row_kernels.specs.Finishes.{finish_value};
 ghost use Rattle.row_kernels.specs.Operands.{operand_at, Serves, IsGiven};
 ghost use Rattle.row_kernels.specs.Rows.{EachPlace, at};
 
-use crate::changes::{AbsoluteValue, Count, Cut, Negation, Rest, ShiftedLeft, ShiftedRight};
-use crate::loops::fill;
+use crate::changes::{Count, LastBits, Negation, Rest, ShiftedLeft, ShiftedRight};
+use crate::finish::Finish;
+use crate::finishes::{finish_both, finish_row};
 use crate::operand::Operand;
 use crate::operand_rows::{keep_where, make_of, make_of_both, place};
 use crate::pairs::{AtMost, Difference, Equal, Exchanged, Greatest, Least, Product, Scaled, Sum};
 use crate::reciprocal::Reciprocal;
 use domains::{BinaryOp, LiteralOp, Relation};
 
-/// Writes what an operator gives.
-pub fn combine(op: BinaryOp, out: &mut [i32], left: Operand, right: Operand)
+/// Writes what a finish makes of what an operator gives. (The lesser and the greater number are finished in a second pass, so that
+/// fewer loops are compiled.)
+pub fn combine(op: BinaryOp, out: &mut [i32], left: Operand, right: Operand, finish: Finish)
     requires left { Serves (length out.old) left }
     requires right { Serves (length out.old) right }
-    ensures { EachPlace (length out.old) (λ k. at out.new k
-        ≡ binary_value op (operand_at left.entry out.old k) (operand_at right.entry out.old k)) }
+    ensures { EachPlace (length out.old) (λ k. at out.new k ≡ finish_value finish
+        (binary_value op (operand_at left.entry out.old k) (operand_at right.entry out.old k))) }
 {
     match op {
-        BinaryOp::Add => make_of_both(out, left, right, Sum),
-        BinaryOp::Sub => make_of_both(out, left, right, Difference),
-        BinaryOp::Mul => make_of_both(out, left, right, Product),
+        BinaryOp::Add => return finish_both(out, left, right, Sum, finish),
+        BinaryOp::Sub => return finish_both(out, left, right, Difference, finish),
+        BinaryOp::Mul => return finish_both(out, left, right, Product, finish),
         BinaryOp::Min => make_of_both(out, left, right, Least),
         BinaryOp::Max => make_of_both(out, left, right, Greatest),
     }
+    finish_row(out, Operand::Written, finish);
 }
 
-/// Writes what an operator gives whose right operand is taken a number of times.
-pub fn combine_scaled(op: BinaryOp, out: &mut [i32], left: Operand, factor: i32, right: Operand)
+/// Writes what a finish makes of what an operator gives whose right operand is taken a number of times.
+pub fn combine_scaled(
+    op: BinaryOp,
+    out: &mut [i32],
+    left: Operand,
+    factor: i32,
+    right: Operand,
+    finish: Finish,
+)
     requires left { Serves (length out.old) left }
     requires right { Serves (length out.old) right }
-    ensures { EachPlace (length out.old) (λ k. at out.new k
-        ≡ binary_value op (operand_at left.entry out.old k)
-        (wrapped (factor *ℤ operand_at right.entry out.old k))) }
+    ensures { EachPlace (length out.old) (λ k. at out.new k ≡ finish_value finish
+        (binary_value op (operand_at left.entry out.old k)
+        (wrapped (factor *ℤ operand_at right.entry out.old k)))) }
 {
     match op {
-        BinaryOp::Add => make_of_both(out, left, right, Scaled(Sum, factor)),
-        BinaryOp::Sub => make_of_both(out, left, right, Scaled(Difference, factor)),
+        BinaryOp::Add => return finish_both(out, left, right, Scaled(Sum, factor), finish),
+        BinaryOp::Sub => return finish_both(out, left, right, Scaled(Difference, factor), finish),
         BinaryOp::Mul => make_of_both(out, left, right, Scaled(Product, factor)),
         BinaryOp::Min => make_of_both(out, left, right, Scaled(Least, factor)),
         BinaryOp::Max => make_of_both(out, left, right, Scaled(Greatest, factor)),
     }
+    finish_row(out, Operand::Written, finish);
 }
 
 /// Writes the quotients by a number of a text, rounded down.
@@ -74,8 +86,15 @@ fn leave_remainder(out: &mut [i32], of: Operand, number: u32)
     ensures { EachPlace (length out.old)
         (λ k. at out.new k ≡ floor_rem (operand_at of.entry out.old k) (pos number)) }
 {
-    if number == 1 {
-        fill(out, 0);
+    let bits = number.ilog2();
+    if number == 1 << bits {
+        make_of(
+            out,
+            of,
+            LastBits {
+                count: Count { bits },
+            },
+        );
     } else {
         make_of(out, of, Rest(Reciprocal::new(number)));
     }
@@ -105,16 +124,7 @@ pub fn negate(out: &mut [i32], of: Operand)
     make_of(out, of, Negation);
 }
 
-/// Writes the absolute values.
-pub fn make_absolute(out: &mut [i32], of: Operand)
-    requires { Serves (length out.old) of }
-    ensures { EachPlace (length out.old)
-        (λ k. at out.new k ≡ wrapped (pos (unsigned_abs (operand_at of.entry out.old k)))) }
-{
-    make_of(out, of, AbsoluteValue);
-}
-
-/// Writes the numbers of an operand, cut to at least that of `low`, and then to at most that of `high`.
+/// Writes the numbers of an operand, cut to at least that of `low`, and then to at most that of `high`. (A finish cuts to two numbers.)
 pub fn cut(out: &mut [i32], of: Operand, low: Operand, high: Operand)
     requires of { Serves (length out.old) of }
     requires low { Serves (length out.old) low }
@@ -123,12 +133,8 @@ pub fn cut(out: &mut [i32], of: Operand, low: Operand, high: Operand)
         ≡ clamped (operand_at of.entry out.old k) (operand_at low.entry out.old k)
         (operand_at high.entry out.old k)) }
 {
-    if let (Operand::Number(low), Operand::Number(high)) = (low, high) {
-        make_of(out, of, Cut { low, high });
-    } else {
-        make_of_both(out, of, low, Greatest);
-        make_of_both(out, Operand::Written, high, Least);
-    }
+    make_of_both(out, of, low, Greatest);
+    make_of_both(out, Operand::Written, high, Least);
 }
 
 /// Keeps a number where the left operand is in the relation to the right one, and takes the other operand elsewhere.

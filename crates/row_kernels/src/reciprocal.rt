@@ -33,6 +33,13 @@ impl Reciprocal {
         }
     }
 
+    /// The divisor.
+    pub fn divisor(&self) -> u32
+        ensures { result ≡ self.now.divisor }
+    {
+        self.divisor
+    }
+
     /// `n / divisor`.
     #[inline]
     pub fn quotient(&self, n: u32) -> u32

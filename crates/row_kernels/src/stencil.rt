@@ -1,13 +1,15 @@
 #![tactic(auto)]
 //! A row of a kernel along a line of numbers.
 
-ghost use Rattle.std.specs.Prelude.{◌≡◌, ◌+◌, ◌+ℤ◌, ◌*ℤ◌, ℤ, length};
+ghost use Rattle.std.specs.Prelude.{◌≡◌, ◌<◌, ◌≤◌, ◌+◌, ◌+ℤ◌, ◌*ℤ◌, ℤ, length};
 ghost use Rattle.domains.specs.Arithmetic.{wrapped};
+ghost use Rattle.job.specs.Values.{sum_below};
 ghost use Rattle.row_kernels.specs.Rows.{EachPlace, at};
 ghost use Rattle.row_kernels.specs.Stencil.{tap_sum};
 
 use crate::loops::join;
 use crate::pairs::{Scaled, Sum};
+use crate::quintuple::Quintuple;
 use crate::stencil3x3::Triple;
 
 // Adds the products of a factor and the samples of a line.
@@ -23,15 +25,26 @@ fn add_tap(out: &mut [i32], line: &[i32], factor: i32)
     }
 }
 
-// Adds the products of factors and the samples of a line, a factor at a time.
-fn add_each_tap(out: &mut [i32], line: &[i32], factors: &[i32])
-    requires { length line.now + 1 ≡ length out.old + length factors.now }
-    ensures { EachPlace (length out.old) (λ k. (s : ℤ) → at out.old k ≡ wrapped s
-        → at out.new k ≡ wrapped (s +ℤ tap_sum factors.now line.now k)) }
+// Adds the products of the first factors of a line: of five where there are so many, else of three, else of one. Answers of how many.
+fn add_piece(out: &mut [i32], line: &[i32], factors: &[i32]) -> usize
+    requires some { 0 < length factors.now }
+    requires line { length line.now + 1 ≡ length out.old + length factors.now }
+    ensures more { 0 < result }
+    ensures within { result ≤ length factors.now }
+    ensures sums { EachPlace (length out.old) (λ k. (s : ℤ) → at out.old k ≡ wrapped s
+        → at out.new k
+        ≡ wrapped (s +ℤ sum_below result (λ b. at factors.now b *ℤ at line.now (k + b)))) }
 {
-    for b in 0..factors.len() {
-        add_tap(out, &line[b..b + out.len()], factors[b]);
+    if let Some(five) = Quintuple::first_of(factors) {
+        five.add_sums(out, line);
+        return 5;
     }
+    if let Some(three) = Triple::first_of(factors) {
+        three.add_sums(out, line);
+        return 3;
+    }
+    add_tap(out, &line[..out.len()], factors[0]);
+    1
 }
 
 /// Adds the products of factors and the samples of a line, which begins with those of the first factor.
@@ -40,8 +53,8 @@ pub fn add_taps(out: &mut [i32], line: &[i32], factors: &[i32])
     ensures { EachPlace (length out.old) (λ k. (s : ℤ) → at out.old k ≡ wrapped s
         → at out.new k ≡ wrapped (s +ℤ tap_sum factors.now line.now k)) }
 {
-    match Triple::of(factors) {
-        Some(triple) => triple.add_sums(out, line),
-        None => add_each_tap(out, line, factors),
+    let mut b = 0;
+    while b < factors.len() {
+        b += add_piece(out, &line[b..], &factors[b..]);
     }
 }

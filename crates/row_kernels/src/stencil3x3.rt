@@ -1,15 +1,25 @@
 #![tactic(auto)]
 //! Rows of three factors, and kernels of three such rows.
 
-ghost use Rattle.std.specs.Prelude.{◌≡◌, ◌<◌, ◌≤◌, ◌+◌, ◌+ℤ◌, ◌*ℤ◌, ℤ, length, IfSome, IfNone};
+ghost use Rattle.std.specs.Prelude.{◌≡◌, ◌<◌, ◌≤◌, ◌+◌, ◌+ℤ◌, ◌*ℤ◌, neg_ℤ, ℤ, [], ◌∷◌, take, length, IfSome, IfNone, IsTrue};
 ghost use Rattle.domains.specs.Arithmetic.{wrapped};
 ghost use Rattle.job.specs.Values.{factors};
 ghost use Rattle.row_kernels.specs.Rows.{EachPlace, at};
-ghost use Rattle.row_kernels.specs.Stencil.{tap_sum, Is3x3};
+ghost use Rattle.row_kernels.specs.Stencil.{tap_sum, HasSize};
+ghost use Rattle.row_kernels.specs.inside.Triples.{three_ones, three_zeros, negated, IsDifference, HasDifferences};
 
-use domains::arithmetic::{wrapping_add, wrapping_mul};
+use crate::products::add_gap;
+use crate::sums_of_nine::{write_sums_of_nine, write_sums_of_three};
+use domains::arithmetic::{wrapping_add, wrapping_mul, wrapping_neg, wrapping_sub};
 use job::Kernel;
 use std::marker::Model;
+
+// Whether a factor subtracts what another one adds.
+fn is_negation(factor: i32, other: i32) -> bool
+    ensures { IsTrue result → factor ≡ wrapped (neg_ℤ other) }
+{
+    factor == wrapping_neg(other)
+}
 
 /// A row of three factors. Contracts see their list.
 #[derive(Debug, Drop)]
@@ -43,6 +53,76 @@ impl Triple {
         }
     }
 
+    /// The first three factors, if there are so many.
+    pub fn first_of(factors: &[i32]) -> Option<Triple>
+        ensures is { IfSome result (λ t. t ≡ take 3 factors.now) }
+        ensures many { IfSome result (λ t. 3 ≤ length factors.now) }
+    {
+        match factors {
+            [left, middle, right, ..] => Some(Triple {
+                left: *left,
+                middle: *middle,
+                right: *right,
+            }),
+            _ => None,
+        }
+    }
+
+    // Whether all three are 1.
+    fn are_ones(&self) -> bool
+        ensures { IsTrue result → self.now ≡ three_ones }
+    {
+        self.left == 1 && self.middle == 1 && self.right == 1
+    }
+
+    // Whether all three are 0.
+    fn are_zeros(&self) -> bool
+        ensures { IsTrue result → self.now ≡ three_zeros }
+    {
+        self.left == 0 && self.middle == 0 && self.right == 0
+    }
+
+    // Whether the left factor is subtracted as the right one is added, and the middle one is 0.
+    fn is_difference(&self) -> bool
+        ensures { IsTrue result → IsDifference self.now }
+    {
+        self.middle == 0 && self.left == wrapping_neg(self.right)
+    }
+
+    // Whether each factor is the negation of the other row's.
+    fn negates(&self, other: &Triple) -> bool
+        ensures { IsTrue result → self.now ≡ negated other.now }
+    {
+        is_negation(self.left, other.left)
+            && is_negation(self.middle, other.middle)
+            && is_negation(self.right, other.right)
+    }
+
+    // What the factors give along a line from place `k` on, and their negations along another.
+    #[inline]
+    fn gap_sum(&self, from: &[i32], to: &[i32], k: usize) -> i32
+        requires from { k + 2 < length from.now }
+        requires to { k + 2 < length to.now }
+        ensures { result
+            ≡ wrapped (tap_sum (negated self.now) from.now k +ℤ tap_sum self.now to.now k) }
+    {
+        let one = add_gap(0, self.left, from, to, k);
+        let two = add_gap(one, self.middle, from, to, k + 1);
+        add_gap(two, self.right, from, to, k + 2)
+    }
+
+    // A sum and what the factors give from place `k` on, by one product.
+    #[inline]
+    fn add_difference(&self, sum: i32, line: &[i32], k: usize) -> i32
+        requires row { IsDifference self.now }
+        requires line { k + 2 < length line.now }
+        ensures { (s : ℤ) → sum ≡ wrapped s
+            → result ≡ wrapped (s +ℤ tap_sum self.now line.now k) }
+    {
+        let gap = wrapping_sub(line[k + 2], line[k]);
+        wrapping_add(sum, wrapping_mul(self.right, gap))
+    }
+
     /// The factors times the numbers from place `k` on, wrapped at 32 bits.
     #[inline]
     pub fn sum(&self, line: &[i32], k: usize) -> i32
@@ -57,12 +137,36 @@ impl Triple {
 
     /// Adds at each place the factors times the numbers from there on.
     pub fn add_sums(self, out: &mut [i32], line: &[i32])
-        requires { length line.now ≡ length out.old + 2 }
+        requires { length out.old + 2 ≤ length line.now }
         ensures { EachPlace (length out.old)
             (λ k. at out.new k ≡ wrapped (at out.old k +ℤ wrapped (tap_sum self line.now k))) }
     {
         for k in 0..out.len() {
             out[k] = wrapping_add(out[k], self.sum(line, k));
+        }
+    }
+
+    // Writes at each place the factors times the numbers from there on, each factor multiplied.
+    fn write_products(self, out: &mut [i32], line: &[i32])
+        requires { length out.old + 2 ≤ length line.now }
+        ensures { EachPlace (length out.old)
+            (λ k. at out.new k ≡ wrapped (tap_sum self line.now k)) }
+    {
+        for k in 0..out.len() {
+            out[k] = self.sum(line, k);
+        }
+    }
+
+    /// Writes at each place the factors times the numbers from there on.
+    pub fn write_sums(self, out: &mut [i32], line: &[i32])
+        requires { length out.old + 2 ≤ length line.now }
+        ensures { EachPlace (length out.old)
+            (λ k. at out.new k ≡ wrapped (tap_sum self line.now k)) }
+    {
+        if self.are_ones() {
+            write_sums_of_three(out, line);
+        } else {
+            self.write_products(out, line);
         }
     }
 }
@@ -87,8 +191,8 @@ impl Kernel3x3 {
     /// This kernel, if it has three rows of three factors.
     pub fn of(kernel: &Kernel) -> Option<Kernel3x3>
         ensures is { IfSome result (λ s. s ≡ kernel.now) }
-        ensures square { IfSome result (λ s. Is3x3 kernel.now) }
-        ensures none { IfNone result (¬ (Is3x3 kernel.now)) }
+        ensures square { IfSome result (λ s. HasSize 3 3 kernel.now) }
+        ensures none { IfNone result (¬ (HasSize 3 3 kernel.now)) }
     {
         match kernel.as_slice() {
             [top, middle, bottom] => Some(Kernel3x3 {
@@ -115,8 +219,15 @@ impl Kernel3x3 {
         wrapping_add(sum, self.bottom.sum(bottom, k))
     }
 
-    /// Writes at each place what the rows give along their lines from there on.
-    pub fn write_sums(self, out: &mut [i32], top: &[i32], middle: &[i32], bottom: &[i32])
+    // Whether all factors are 1.
+    fn has_ones(&self) -> bool
+        ensures { IsTrue result → self.now ≡ three_ones ∷ three_ones ∷ three_ones ∷ [] }
+    {
+        self.top.are_ones() && self.middle.are_ones() && self.bottom.are_ones()
+    }
+
+    // Writes what the rows give, each factor multiplied.
+    fn write_products(self, out: &mut [i32], top: &[i32], middle: &[i32], bottom: &[i32])
         requires top { length top.now ≡ length out.old + 2 }
         requires middle { length middle.now ≡ length out.old + 2 }
         requires bottom { length bottom.now ≡ length out.old + 2 }
@@ -126,6 +237,143 @@ impl Kernel3x3 {
     {
         for k in 0..out.len() {
             out[k] = self.sum(top, middle, bottom, k);
+        }
+    }
+
+    // Whether the middle row adds nothing.
+    fn has_empty_middle(&self) -> bool
+        ensures { IsTrue result → factors self.now 1 ≡ three_zeros }
+    {
+        self.middle.are_zeros()
+    }
+
+    // What the outer rows give along their lines from place `k` on.
+    #[inline]
+    fn outer_sum(&self, top: &[i32], bottom: &[i32], k: usize) -> i32
+        requires top { k + 2 < length top.now }
+        requires bottom { k + 2 < length bottom.now }
+        ensures { result
+            ≡ wrapped (tap_sum (factors self.now 0) top.now k
+            +ℤ tap_sum (factors self.now 2) bottom.now k) }
+    {
+        wrapping_add(self.top.sum(top, k), self.bottom.sum(bottom, k))
+    }
+
+    // Writes what the outer rows give, each factor multiplied.
+    fn write_outer_products(self, out: &mut [i32], top: &[i32], bottom: &[i32])
+        requires top { length top.now ≡ length out.old + 2 }
+        requires bottom { length bottom.now ≡ length out.old + 2 }
+        ensures { EachPlace (length out.old) (λ k. at out.new k
+            ≡ wrapped (tap_sum (factors self 0) top.now k +ℤ tap_sum (factors self 2) bottom.now k)) }
+    {
+        for k in 0..out.len() {
+            out[k] = self.outer_sum(top, bottom, k);
+        }
+    }
+
+    // Whether the top row subtracts what the bottom row adds.
+    fn has_opposites(&self) -> bool
+        ensures { IsTrue result → factors self.now 0 ≡ negated (factors self.now 2) }
+    {
+        self.top.negates(&self.bottom)
+    }
+
+    // What the outer rows give along their lines from place `k` on, by one product for two factors.
+    #[inline]
+    fn outer_gaps(&self, top: &[i32], bottom: &[i32], k: usize) -> i32
+        requires rows { factors self.now 0 ≡ negated (factors self.now 2) }
+        requires top { k + 2 < length top.now }
+        requires bottom { k + 2 < length bottom.now }
+        ensures { result
+            ≡ wrapped (tap_sum (factors self.now 0) top.now k
+            +ℤ tap_sum (factors self.now 2) bottom.now k) }
+    {
+        self.bottom.gap_sum(top, bottom, k)
+    }
+
+    // Writes what the outer rows give where they are opposites.
+    fn write_outer_gaps(self, out: &mut [i32], top: &[i32], bottom: &[i32])
+        requires rows { factors self 0 ≡ negated (factors self 2) }
+        requires top { length top.now ≡ length out.old + 2 }
+        requires bottom { length bottom.now ≡ length out.old + 2 }
+        ensures { EachPlace (length out.old) (λ k. at out.new k
+            ≡ wrapped (tap_sum (factors self 0) top.now k +ℤ tap_sum (factors self 2) bottom.now k)) }
+    {
+        for k in 0..out.len() {
+            out[k] = self.outer_gaps(top, bottom, k);
+        }
+    }
+
+    // Writes what the outer rows give.
+    fn write_outer_sums(self, out: &mut [i32], top: &[i32], bottom: &[i32])
+        requires top { length top.now ≡ length out.old + 2 }
+        requires bottom { length bottom.now ≡ length out.old + 2 }
+        ensures { EachPlace (length out.old) (λ k. at out.new k
+            ≡ wrapped (tap_sum (factors self 0) top.now k +ℤ tap_sum (factors self 2) bottom.now k)) }
+    {
+        if self.has_opposites() {
+            self.write_outer_gaps(out, top, bottom);
+        } else {
+            self.write_outer_products(out, top, bottom);
+        }
+    }
+
+    // Whether each row is a difference.
+    fn has_differences(&self) -> bool
+        ensures { IsTrue result → HasDifferences self.now }
+    {
+        self.top.is_difference() && self.middle.is_difference() && self.bottom.is_difference()
+    }
+
+    // What the rows give, by one product each.
+    #[inline]
+    fn differences(&self, top: &[i32], middle: &[i32], bottom: &[i32], k: usize) -> i32
+        requires rows { HasDifferences self.now }
+        requires top { k + 2 < length top.now }
+        requires middle { k + 2 < length middle.now }
+        requires bottom { k + 2 < length bottom.now }
+        ensures { result
+            ≡ wrapped (tap_sum (factors self.now 0) top.now k
+            +ℤ tap_sum (factors self.now 1) middle.now k
+            +ℤ tap_sum (factors self.now 2) bottom.now k) }
+    {
+        let one = self.top.add_difference(0, top, k);
+        let two = self.middle.add_difference(one, middle, k);
+        self.bottom.add_difference(two, bottom, k)
+    }
+
+    // Writes what rows give that are differences.
+    fn write_differences(self, out: &mut [i32], top: &[i32], middle: &[i32], bottom: &[i32])
+        requires rows { HasDifferences self }
+        requires top { length top.now ≡ length out.old + 2 }
+        requires middle { length middle.now ≡ length out.old + 2 }
+        requires bottom { length bottom.now ≡ length out.old + 2 }
+        ensures { EachPlace (length out.old) (λ k. at out.new k
+            ≡ wrapped (tap_sum (factors self 0) top.now k +ℤ tap_sum (factors self 1) middle.now k
+            +ℤ tap_sum (factors self 2) bottom.now k)) }
+    {
+        for k in 0..out.len() {
+            out[k] = self.differences(top, middle, bottom, k);
+        }
+    }
+
+    /// Writes at each place what the rows give along their lines from there on.
+    pub fn write_sums(self, out: &mut [i32], top: &[i32], middle: &[i32], bottom: &[i32])
+        requires top { length top.now ≡ length out.old + 2 }
+        requires middle { length middle.now ≡ length out.old + 2 }
+        requires bottom { length bottom.now ≡ length out.old + 2 }
+        ensures { EachPlace (length out.old) (λ k. at out.new k
+            ≡ wrapped (tap_sum (factors self 0) top.now k +ℤ tap_sum (factors self 1) middle.now k
+            +ℤ tap_sum (factors self 2) bottom.now k)) }
+    {
+        if self.has_ones() {
+            write_sums_of_nine(out, top, middle, bottom);
+        } else if self.has_empty_middle() {
+            self.write_outer_sums(out, top, bottom);
+        } else if self.has_differences() {
+            self.write_differences(out, top, middle, bottom);
+        } else {
+            self.write_products(out, top, middle, bottom);
         }
     }
 }

@@ -1,11 +1,11 @@
 #![tactic(auto)]
 //! What has numbers along a row.
 
-ghost use Rattle.std.specs.Prelude.{◌≡◌, ◌<◌, ℕ, ℤ, length};
+ghost use Rattle.std.specs.Prelude.{◌≡◌, ◌<◌, ℕ, ℤ, pos, length, slice_index};
 ghost use Rattle.row_kernels.specs.Rows.{at};
 
 /// Has a number at places of a row.
-pub(crate) trait Values: Copy {
+pub trait Values: Copy {
     /// Whether there is one.
     ghost has: { Self → ℕ → Type 0 };
     /// And the number.
@@ -37,5 +37,17 @@ impl<'a> Values for &'a [i32] {
     #[inline]
     fn at(&self, k: usize) -> i32 {
         self[k]
+    }
+}
+
+// Samples of planes.
+impl<'a> Values for &'a [u16] {
+    ghost has = { λ samples k. k < length samples.now };
+
+    ghost number = { λ samples k. pos (slice_index samples.now k) };
+
+    #[inline]
+    fn at(&self, k: usize) -> i32 {
+        i32::from(self[k])
     }
 }

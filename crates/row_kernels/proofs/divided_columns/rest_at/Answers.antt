@@ -1,4 +1,4 @@
-use Rattle.std.proofs.Common.{rules, arith, ◌≡◌, ◌<◌, ◌+ℤ◌, ◌*ℤ◌, pos, unsigned_abs, w32, to_z, of_z, FitsSigned}
+use Rattle.std.proofs.Common.{rules, arith, ◌≡◌, ◌<◌, ◌+ℤ◌, ◌*ℤ◌, ◌<ℤ◌, pos, unsigned_abs, w32, to_z, of_z, FitsSigned}
 use Rattle.std.proofs.lemmas.Int.{ints, to_z-of_z}
 use Rattle.domains.specs.Arithmetic.{floor_rem}
 use Rattle.domains.proofs.Indices.{product_fits, sum_fits}
@@ -7,6 +7,7 @@ use Rattle.row_kernels.proofs.divided_columns.rest_at.Goals as goal
 
 both : (c : goal.After-floor_rem) → (floor_rem (c.args.index.now.mul *ℤ c.args.col +ℤ c.args.index.now.add) c.args.index.now.div
     ≡ pos (unsigned_abs (to_z w32 (of_z w32 c.floor_rem.result)))) × (unsigned_abs (to_z w32 (of_z w32 c.floor_rem.result)) < 16)
+    × (pos (unsigned_abs (to_z w32 (of_z w32 c.floor_rem.result))) <ℤ c.args.index.now.div)
 both c =
     let x = c.args.index.now in
     let index = c.mul.ensures.within in
@@ -26,3 +27,6 @@ returns-clause-rest c = (both c).0
 
 pub returns-clause-most : goal.returns-clause-most
 returns-clause-most c = (both c).1
+
+pub returns-clause-below : goal.returns-clause-below
+returns-clause-below c = (both c).2

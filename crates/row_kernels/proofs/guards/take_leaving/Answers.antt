@@ -1,17 +1,19 @@
-use Rattle.std.proofs.Common.{rules, ◌≡◌, ◌<◌, pos, refl, length, slice_index_or, FitsSigned, w32}
+use Rattle.std.proofs.Common.{rules, ℕ, ◌≡◌, ◌<◌, ◌+ℤ◌, ◌∙◌, pos, refl, subst, ap, sym, length, slice_index_or, FitsSigned, w32}
+use Rattle.std.specs.Prelude.{if◌then◌else◌}
+use Rattle.std.specs.Ordering.{int_eq}
 use Rattle.std.proofs.lemmas.Int.{to_z-of_z}
 use Rattle.domains.specs.Arithmetic.{floor_rem}
 use Rattle.row_kernels.specs.Rows.{at}
-use Rattle.row_kernels.proofs.Leaving.{kept_where, taken_more, next_rest}
+use Rattle.row_kernels.proofs.Leaving.{kept_where, taken_more, next_rest, tested}
 use Rattle.row_kernels.proofs.guards.take_leaving.Goals as goal
 
 pub loop-k-init : goal.loop-k-init
 loop-k-init c =
     let number : pos c.left_of.result ≡ floor_rem c.args.points.now.col (pos c.args.modulus) = search rules in
     record {
-      done = λ j l h. kept_where c.args.rest _ _ (at c.args.other.now j) _ (c.gap_to_rest-k.ensures.first _ number j l) refl;
+      done = λ j l h. kept_where c.args.rest _ _ (at c.args.other.now j) _ (c.gap_to_rest-first.ensures.first _ number j l) refl;
       ahead = λ j l. refl;
-      here = c.gap_to_rest-k.ensures.lands _ number;
+      here = c.gap_to_rest-first.ensures.lands _ number;
     }
 
 pub loop-k-preserved : goal.loop-k-preserved
@@ -28,3 +30,15 @@ loop-k-preserved c =
       here = next_rest c.args.points.now.col c.args.modulus c.args.rest c.args.other.now c.args.out.now c.loop-k.k small
           c.loop-k.invariant.here;
     }
+
+pub returns-then-modulus-eq2 : goal.returns-then-modulus-eq2
+returns-then-modulus-eq2 c = λ k h.
+    let two : c.args.modulus ≡ 2 = search rules in
+    let number : pos c.left_of.result ≡ floor_rem c.args.points.now.col (pos c.args.modulus) = search rules in
+    let small : c.gap_to_rest-first.result < 2 = search rules in
+    let lands : floor_rem (c.args.points.now.col +ℤ pos c.gap_to_rest-first.result) (pos 2) ≡ pos c.args.rest =
+    subst (λ (m : ℕ). floor_rem (c.args.points.now.col +ℤ pos c.gap_to_rest-first.result) (pos m) ≡ pos c.args.rest) two
+    (c.gap_to_rest-first.ensures.lands _ number) in
+    c.take_alternate.ensures k h ∙ tested c.args.points.now.col c.gap_to_rest-first.result c.args.rest small lands k _ _
+    ∙ ap (λ (m : ℕ). if int_eq (floor_rem (c.args.points.now.col +ℤ pos k) (pos m)) (pos c.args.rest) then at c.args.other.now k
+    else at c.args.out.now k) (sym two)

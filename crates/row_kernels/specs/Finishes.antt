@@ -1,0 +1,23 @@
+-- What is made of the numbers that an operator gives.
+use Rattle.std.specs.Prelude.{ℤ, pos, ◌^◌, unsigned_abs}
+use Rattle.domains.specs.Arithmetic.{wrapped, clamped, floor_div}
+use Rattle.row_kernels.specs.Added.{added}
+use Rattle.row_kernels.specs.declared.changes.Cut.{Cut as Bounds}
+use Rattle.row_kernels.specs.declared.changes.RoundedShift.{RoundedShift}
+use Rattle.row_kernels.specs.declared.finish.Finish.{Finish}
+use Rattle.row_kernels.specs.declared.finish.Finish.TheVariants.{Nothing, Absolute, Shift, Cut, ShiftAndCut}
+
+-- a number is added, and the sum divided by a power of two, rounded down
+abbrev pub shifted : RoundedShift → ℤ → ℤ
+shifted s v = floor_div (added v s.add) (pos (2 ^ s.count.bits))
+
+abbrev pub cut : Bounds → ℤ → ℤ
+cut c v = clamped v c.low c.high
+
+-- what a finish makes of a number
+abbrev pub finish_value : Finish → ℤ → ℤ
+finish_value Nothing v = v
+finish_value Absolute v = wrapped (pos (unsigned_abs v))
+finish_value (Shift s) v = shifted s v
+finish_value (Cut c) v = cut c v
+finish_value (ShiftAndCut s c) v = cut c (shifted s v)

@@ -1,0 +1,45 @@
+#![tactic(auto)]
+//! What a row of a kernel gives along a line of numbers, written in one pass where the row is short.
+
+ghost use Rattle.std.specs.Prelude.{◌≡◌, ◌<◌, ◌≤◌, ◌+◌, ◌*ℤ◌, length};
+ghost use Rattle.domains.specs.Arithmetic.{wrapped};
+ghost use Rattle.job.specs.Values.{sum_below};
+ghost use Rattle.row_kernels.specs.Rows.{EachPlace, at};
+ghost use Rattle.row_kernels.specs.Stencil.{tap_sum};
+
+use crate::loops::fill;
+use crate::quintuple::Quintuple;
+use crate::stencil::add_taps;
+use crate::stencil3x3::Triple;
+
+// Writes the products of the first factors of a line, added up: of five where there are so many, else of three, else of none.
+// Answers of how many.
+fn write_piece(out: &mut [i32], line: &[i32], factors: &[i32]) -> usize
+    requires { length line.now + 1 ≡ length out.old + length factors.now }
+    ensures within { result ≤ length factors.now }
+    ensures sums { EachPlace (length out.old) (λ k. at out.new k
+        ≡ wrapped (sum_below result (λ b. at factors.now b *ℤ at line.now (k + b)))) }
+{
+    if let Some(five) = Quintuple::first_of(factors) {
+        five.write_sums(out, line);
+        return 5;
+    }
+    if let Some(three) = Triple::first_of(factors) {
+        three.write_sums(out, line);
+        return 3;
+    }
+    fill(out, 0);
+    0
+}
+
+/// Writes the products of factors and the samples of a line, which begins with those of the first factor, added up.
+pub fn write_taps(out: &mut [i32], line: &[i32], factors: &[i32])
+    requires { length line.now + 1 ≡ length out.old + length factors.now }
+    ensures { EachPlace (length out.old)
+        (λ k. at out.new k ≡ wrapped (tap_sum factors.now line.now k)) }
+{
+    let b = write_piece(out, line, factors);
+    if b < factors.len() {
+        add_taps(out, &line[b..], &factors[b..]);
+    }
+}

@@ -1,0 +1,196 @@
+#![tactic(auto)]
+//! Samples of planes as rows of numbers, however they lie in memory.
+
+ghost use Rattle.std.specs.Prelude.{◌≡◌, ◌≤◌, ◌<◌, ◌+◌, ◌*◌, ◌^◌, ℕ, pos, length, slice_index};
+ghost use Rattle.netpbm.specs.Samples.{count_in, sample_in};
+ghost use Rattle.row_kernels.specs.Columns.{column_gap};
+ghost use Rattle.row_kernels.specs.Rows.{EachPlace, at};
+
+use crate::gathering::gather_along;
+use crate::row_span::RowSpan;
+use crate::values::Values;
+use domains::Index;
+use netpbm::{Samples, SpacedBytes, SpacedPairs};
+
+// Bytes that are any distance apart.
+impl<'a> Values for SpacedBytes<'a> {
+    ghost has = { λ s k. k < s.count };
+
+    ghost number = { λ s k. pos (slice_index s.bytes.now (k * s.step)) };
+
+    #[inline]
+    fn at(&self, k: usize) -> i32 {
+        i32::from(self.bytes[k * self.step])
+    }
+}
+
+// Pairs of bytes that are any distance apart.
+impl<'a> Values for SpacedPairs<'a> {
+    ghost has = { λ s k. k < s.count };
+
+    ghost number = { λ s k. pos (256 * slice_index s.bytes.now (k * s.step)
+        + slice_index s.bytes.now (k * s.step + 1)) };
+
+    #[inline]
+    fn at(&self, k: usize) -> i32 {
+        let place = k * self.step;
+        256 * i32::from(self.bytes[place]) + i32::from(self.bytes[place + 1])
+    }
+}
+
+// Bytes side by side. (A distance that is known is what vector code is made of.)
+#[derive(Clone, Copy)]
+struct EachByte<'a>(SpacedBytes<'a>);
+
+impl<'a> Values for EachByte<'a> {
+    ghost has = { λ s k. k < s.0.count × s.0.step ≡ 1 };
+
+    ghost number = { λ s k. pos (slice_index s.0.bytes.now (k * s.0.step)) };
+
+    #[inline]
+    fn at(&self, k: usize) -> i32 {
+        i32::from(self.0.bytes[k])
+    }
+}
+
+// Every third byte: one colour of three.
+#[derive(Clone, Copy)]
+struct EveryThird<'a>(SpacedBytes<'a>);
+
+impl<'a> Values for EveryThird<'a> {
+    ghost has = { λ s k. k < s.0.count × s.0.step ≡ 3 };
+
+    ghost number = { λ s k. pos (slice_index s.0.bytes.now (k * s.0.step)) };
+
+    #[inline]
+    fn at(&self, k: usize) -> i32 {
+        i32::from(self.0.bytes[k * 3])
+    }
+}
+
+// Pairs of bytes side by side.
+#[derive(Clone, Copy)]
+struct EachPair<'a>(SpacedPairs<'a>);
+
+impl<'a> Values for EachPair<'a> {
+    ghost has = { λ s k. k < s.0.count × s.0.step ≡ 2 };
+
+    ghost number = { λ s k. pos (256 * slice_index s.0.bytes.now (k * s.0.step)
+        + slice_index s.0.bytes.now (k * s.0.step + 1)) };
+
+    #[inline]
+    fn at(&self, k: usize) -> i32 {
+        256 * i32::from(self.0.bytes[k * 2]) + i32::from(self.0.bytes[k * 2 + 1])
+    }
+}
+
+// Takes the numbers from a place on.
+fn take_from<V: Values>(numbers: V, place: usize, out: &mut [i32])
+    requires few { (j : ℕ) → V.has numbers j → j < 2 ^ 64 }
+    requires there { EachPlace (length out.old) (λ k. V.has numbers (place + k)) }
+    ensures { EachPlace (length out.old) (λ k. at out.new k ≡ V.number numbers (place + k)) }
+{
+    for k in 0..out.len() {
+        out[k] = numbers.at(place + k);
+    }
+}
+
+fn take_bytes(spaced: &SpacedBytes<'_>, place: usize, out: &mut [i32])
+    requires { place + length out.old ≤ spaced.now.count }
+    ensures { EachPlace (length out.old) (λ k. at out.new k
+        ≡ pos (slice_index spaced.now.bytes.now ((place + k) * spaced.now.step))) }
+{
+    prove!(spaced.count <= usize::MAX);
+    match spaced.step {
+        1 => take_from(EachByte(*spaced), place, out),
+        3 => take_from(EveryThird(*spaced), place, out),
+        _ => take_from(*spaced, place, out),
+    }
+}
+
+fn take_pairs(spaced: &SpacedPairs<'_>, place: usize, out: &mut [i32])
+    requires { place + length out.old ≤ spaced.now.count }
+    ensures { EachPlace (length out.old) (λ k. at out.new k
+        ≡ pos (256 * slice_index spaced.now.bytes.now ((place + k) * spaced.now.step)
+        + slice_index spaced.now.bytes.now ((place + k) * spaced.now.step + 1))) }
+{
+    prove!(spaced.count <= usize::MAX);
+    match spaced.step {
+        2 => take_from(EachPair(*spaced), place, out),
+        _ => take_from(*spaced, place, out),
+    }
+}
+
+/// Writes the samples from a place on.
+pub fn take_samples(samples: &Samples<'_>, place: usize, out: &mut [i32])
+    requires { place + length out.old ≤ count_in samples.now }
+    ensures { EachPlace (length out.old)
+        (λ k. at out.new k ≡ pos (sample_in samples.now (place + k))) }
+{
+    match samples {
+        Samples::Words(words) => take_from(*words, place, out),
+        Samples::Bytes(spaced) => take_bytes(spaced, place, out),
+        Samples::Pairs(spaced) => take_pairs(spaced, place, out),
+    }
+}
+
+fn gather_bytes(
+    spaced: &SpacedBytes<'_>,
+    place: usize,
+    col: &Index,
+    points: &RowSpan,
+    out: &mut [i32],
+)
+    requires fits { length out.old ≡ points.now.len }
+    requires there { EachPlace (length out.old)
+        (λ k. place + column_gap col.now points.now.col k < spaced.now.count) }
+    ensures { EachPlace (length out.old) (λ k. at out.new k
+        ≡ pos (slice_index spaced.now.bytes.now
+        ((place + column_gap col.now points.now.col k) * spaced.now.step))) }
+{
+    // a count is below 2^64
+    prove!(spaced.count <= usize::MAX);
+    gather_along(*spaced, place, col, points, out)
+}
+
+fn gather_pairs(
+    spaced: &SpacedPairs<'_>,
+    place: usize,
+    col: &Index,
+    points: &RowSpan,
+    out: &mut [i32],
+)
+    requires fits { length out.old ≡ points.now.len }
+    requires there { EachPlace (length out.old)
+        (λ k. place + column_gap col.now points.now.col k < spaced.now.count) }
+    ensures { EachPlace (length out.old) (λ k. at out.new k
+        ≡ pos (256 * slice_index spaced.now.bytes.now
+        ((place + column_gap col.now points.now.col k) * spaced.now.step)
+        + slice_index spaced.now.bytes.now
+        ((place + column_gap col.now points.now.col k) * spaced.now.step + 1))) }
+{
+    // a count is below 2^64
+    prove!(spaced.count <= usize::MAX);
+    gather_along(*spaced, place, col, points, out)
+}
+
+/// Writes the samples from a place on, where an index goes along the columns of some points.
+pub fn gather_samples(
+    samples: &Samples<'_>,
+    place: usize,
+    col: &Index,
+    points: &RowSpan,
+    out: &mut [i32],
+)
+    requires fits { length out.old ≡ points.now.len }
+    requires there { EachPlace (length out.old)
+        (λ k. place + column_gap col.now points.now.col k < count_in samples.now) }
+    ensures { EachPlace (length out.old) (λ k. at out.new k
+        ≡ pos (sample_in samples.now (place + column_gap col.now points.now.col k))) }
+{
+    match samples {
+        Samples::Words(words) => gather_along(*words, place, col, points, out),
+        Samples::Bytes(spaced) => gather_bytes(spaced, place, col, points, out),
+        Samples::Pairs(spaced) => gather_pairs(spaced, place, col, points, out),
+    }
+}
