@@ -1,19 +1,24 @@
 -- Where the tests of a case hold along a row of points.
-use Rattle.std.proofs.Common.{arith, ℕ, ℤ, zero, suc, map, ◌≡◌, ◌+◌, ◌-◌, ◌<◌, ◌≤◌, ◌⊎◌, inl, inr, pos, ◌+ℤ◌, ◌-ℤ◌, ◌≤ℤ◌, ◌↔◌}
-use Rattle.std.proofs.Common.{List, [], ◌∷◌, Bool, true, false, Option, Some, length, take, drop, subst, sym, ap, ◌∙◌, refl}
+use Rattle.std.proofs.Common.{arith, ℕ, ℤ, ◌≡◌, ◌+◌, ◌-◌, ◌<◌, ◌≤◌, ◌⊎◌, inl, inr, pos, ◌+ℤ◌, ◌-ℤ◌, ◌≤ℤ◌, ◌↔◌}
+use Rattle.std.proofs.Common.{List, Bool, true, false, Option, length, take, drop, subst, sym, ap, ◌∙◌, refl}
 use Rattle.std.specs.Prelude.{if◌then◌else◌, slice_index_or}
-use Rattle.std.specs.Option.{option_map_or}
+use Rattle.std.specs.Option.{ForSome}
+use Rattle.std.specs.Prelude.{All}
 use Rattle.std.proofs.lemmas.Int.{ints}
 use Rattle.std.proofs.lemmas.Bool.{cases_lt}
+use Rattle.std.proofs.lemmas.List.Elements.{All-take, All-drop}
 use Rattle.std.proofs.lemmas.Grind.{common_steps}
 use borrow.Rule.Slice.PartMut.{put_mid}
 use Rattle.domains.specs.Span.{Ends, Holds, IsMeet}
 use Rattle.job.specs.Formula.{Formula}
 use Rattle.job.specs.Pipeline.{JobCase}
-use Rattle.job.specs.Values.{Valuation, all_passed, formula_value, chosen}
-use Rattle.row_kernels.specs.Rows.{at}
-use Rattle.tile_eval.specs.Cases.{function_value}
-use Rattle.tile_eval.specs.inside.Cases.{IsRoomy}
+use Rattle.row_kernels.specs.Rows.{EachPlace, at}
+use Rattle.tile_eval.specs.Reading.{HasRoom}
+use Rattle.tile_eval.specs.inside.Cases.{IsReady, IsRoomy}
+use Rattle.job.specs.Reads.{EachRead}
+use Rattle.job.specs.WellFormed.{IsFormula}
+use Rattle.job.specs.Views.{case_view}
+use Rattle.job.specs.declared.stage.JobCase.{JobCase as KeptCase}
 use Rattle.tile_eval.proofs.Gathering.{room_less}
 
 -- ---- a part of a row
@@ -43,25 +48,6 @@ part_taken a b k xs ys passed x o le len inside outside = by (cases_lt k a) (cas
     by (inl h) l = put_before a b k xs ys h (omega arith) ∙ no_test passed x (at xs k) (outside (λ m n. omega arith))
     by (inr h) (inl l) = put_within a b k xs ys h l le len ∙ inside h l
     by (inr h) (inr l) = put_after a b k xs ys (omega arith) l le len ∙ no_test passed x (at xs k) (outside (λ m n. omega arith))
-
--- the first of two formulas that may be chosen
-pub chosen_first : (passed : Bool) (f : Formula) (o : Option Formula) (v : Formula → ℤ)
-    → option_map_or v (if passed then Some f else o) (pos 0) ≡ if passed then v f else option_map_or v o (pos 0)
-chosen_first true f o v = refl
-chosen_first false f o v = refl
-
--- ---- lists of cases
-
--- the cases from one on
-pub chosen_step : {X : Type 0} (f : X → JobCase) (xs : List X) (i : ℕ) (x : X) (env : Valuation) (otherwise : Option Formula) (r c : ℤ)
-    → i < length xs → x ≡ slice_index_or xs i x
-    → function_value env (map f (drop i xs)) otherwise r c ≡ if all_passed (f x).tests r c then formula_value env (f x).formula r c
-    else function_value env (map f (drop (suc i) xs)) otherwise r c
-chosen_step f [] i x env otherwise r c l e = absurd (omega arith)
-chosen_step f (y ∷ ys) zero x env otherwise r c l e =
-    ap (λ z. function_value env (f z ∷ map f ys) otherwise r c) (sym e)
-    ∙ chosen_first (all_passed (f x).tests r c) (f x).formula (chosen (map f ys) otherwise r c) (λ a. formula_value env a r c)
-chosen_step f (y ∷ ys) (suc i) x env otherwise r c l e = chosen_step f ys i x env otherwise r c (omega arith) e
 
 -- ---- the part of a row that lies in an area
 
@@ -101,6 +87,23 @@ pub from_after : (P : ℤ → ℤ → Type 0) (row col r c : ℤ) (a j k : ℕ) 
     → P row (col +ℤ pos k)
 from_after P row col r c a j k e f s h = subst (λ (z : ℤ). P row z) (column_is c col a j k f s) (subst (λ (z : ℤ). P z (c +ℤ pos j)) e h)
 
+-- what holds at the points of a part holds along it
+pub part_each : (P : ℤ → ℤ → Type 0) (row col r c : ℤ) (a b : ℕ) (xs : List ℤ) → a < b → b ≤ length xs → r ≡ row → c ≡ col +ℤ pos a
+    → ((k : ℕ) → k < length xs → a ≤ k → k < b → P row (col +ℤ pos k)) → EachPlace (length (take (b - a) (drop a xs))) (λ j. P r (c +ℤ pos j))
+part_each P row col r c a b xs o le e f h j l =
+    let short : j < b - a = subst (λ (n : ℕ). j < n) (cut_len a b xs o le) l in
+    to_after P row col r c a j (a + j) e f refl (h (a + j) (omega arith) (omega arith) (omega arith))
+
+-- what a part is given stands in the row
+pub part_values : (v : ℤ → ℤ → ℤ) (row col r c : ℤ) (a b k : ℕ) (xs ys : List ℤ) → a < b → b ≤ length xs → length ys ≡ length (take (b - a) (drop a xs))
+    → r ≡ row → c ≡ col +ℤ pos a → EachPlace (length (take (b - a) (drop a xs))) (λ j. at ys j ≡ v r (c +ℤ pos j))
+    → a ≤ k → k < b → at (put_mid a (b - a) xs ys) k ≡ v row (col +ℤ pos k)
+part_values v row col r c a b k xs ys o le len e f h low high =
+    let cut = cut_len a b xs o le in
+    let short : k - a < length (take (b - a) (drop a xs)) = rw cut (omega arith) in
+    put_within a b k xs ys low high le (len ∙ cut)
+    ∙ from_after (λ x y. at ys (k - a) ≡ v x y) row col r c a (k - a) k e f (omega arith) (h (k - a) short)
+
 pub roomy_less : (n m room : ℕ) (p : JobCase) → m ≤ n → IsRoomy n room p → IsRoomy m room p
 roomy_less n m room p le is =
     let row = is.row in
@@ -112,3 +115,44 @@ roomy_less n m room p le is =
       row = omega arith;
       operands = room_less p.formula n m (room - n) (room - m) le (omega arith) is.operands;
     }
+
+cut_less : (a b : ℕ) (xs : List ℤ) → a < b → b ≤ length xs → length (take (b - a) (drop a xs)) ≤ length xs
+cut_less a b xs o le = rw (cut_len a b xs o le) (omega arith)
+
+-- what is asked of cases, and of what holds elsewhere, is so along a part
+pub part_cases : (has : ℕ → ℤ → ℤ → Type 0) (row col r c : ℤ) (a b room : ℕ) (xs : List ℤ) (ps : List KeptCase) → a < b → b ≤ length xs
+    → r ≡ row → c ≡ col +ℤ pos a
+    → All (λ p. EachPlace (length xs) (λ k. IsReady has (case_view p) row (col +ℤ pos k)) × IsRoomy (length xs) room (case_view p)) ps
+    → All (λ p. EachPlace (length (take (b - a) (drop a xs))) (λ j. IsReady has (case_view p) r (c +ℤ pos j))
+    × IsRoomy (length (take (b - a) (drop a xs))) room (case_view p)) ps
+part_cases has row col r c a b room xs ps o le e f h = λ i d l. (
+  part_each (IsReady has (case_view (slice_index_or ps i d))) row col r c a b xs o le e f (λ k m low high. (h i d l).0 k m),
+  roomy_less (length xs) _ room (case_view (slice_index_or ps i d)) (cut_less a b xs o le) (h i d l).1,
+)
+
+pub part_other : (has : ℕ → ℤ → ℤ → Type 0) (row col r c : ℤ) (a b room : ℕ) (xs : List ℤ) (other : Option Formula) → a < b → b ≤ length xs
+    → r ≡ row → c ≡ col +ℤ pos a
+    → ForSome other (λ g. EachPlace (length xs) (λ k. EachRead has g row (col +ℤ pos k)) × IsFormula g × HasRoom g (length xs) room)
+    → ForSome other (λ g. EachPlace (length (take (b - a) (drop a xs))) (λ j. EachRead has g r (c +ℤ pos j)) × IsFormula g
+    × HasRoom g (length (take (b - a) (drop a xs))) room)
+part_other has row col r c a b room xs other o le e f h = λ g is.
+    let it = h g is in
+    let same : room ≤ room = omega arith in (
+      part_each (EachRead has g) row col r c a b xs o le e f (λ k m low high. it.0 k m),
+      it.1,
+      room_less g (length xs) _ room room (cut_less a b xs o le) same it.2,
+    )
+
+-- ---- the cases behind the first
+
+pub fewer_cases : (ps : List KeptCase) → 1 ≤ length ps → length (take (length ps - 1) (drop 1 ps)) + 1 ≡ length ps
+fewer_cases ps some = grind (arith, common_steps)
+
+pub cases_behind : (has : ℕ → ℤ → ℤ → Type 0) (row col : ℤ) (n room : ℕ) (ps : List KeptCase)
+    → All (λ p. EachPlace n (λ k. IsReady has (case_view p) row (col +ℤ pos k)) × IsRoomy n room (case_view p)) ps
+    → All (λ p. EachPlace n (λ k. IsReady has (case_view p) row (col +ℤ pos k)) × IsRoomy n room (case_view p)) (take (length ps - 1)
+    (drop 1 ps))
+cases_behind has row col n room ps h = All-take P (length ps - 1) (drop 1 ps) (All-drop P 1 ps h)
+  where
+    P : KeptCase → Type 0
+    P p = EachPlace n (λ k. IsReady has (case_view p) row (col +ℤ pos k)) × IsRoomy n room (case_view p)

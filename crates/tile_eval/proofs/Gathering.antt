@@ -23,6 +23,10 @@ odd_positive : (n : ℕ) → n % 2 ≡ 1 → 0 < n
 odd_positive zero h = absurd (cc)
 odd_positive (suc n) h = omega arith
 
+-- a kernel has a row
+pub has_rows : (kernel : List (List ℤ)) → IsKernel kernel → 0 < length kernel
+has_rows kernel is = odd_positive (length kernel) is.height.0
+
 -- the rows of a kernel have its width
 pub row_width : (kernel : List (List ℤ)) (a : ℕ) → IsKernel kernel → a < length kernel
     → length (factors kernel a) ≡ length (factors kernel 0)

@@ -1,5 +1,6 @@
 -- What clauses of inner functions cite, and no public clause does.
 pub mod Cases
+pub mod Operators
 pub mod Stencil
 pub mod Counted
 pub mod Kept

@@ -1,13 +1,16 @@
 #![tactic(auto)]
 //! Functions by cases along rows of points.
 
-ghost use Rattle.std.specs.Prelude.{◌≡◌, ◌≤◌, ◌<◌, ◌+ℤ◌, ◌≤ℤ◌, ◌↔◌, ℕ, pos, length, map, All, IfSome, IfNone, if◌then◌else◌};
+ghost use Rattle.std.specs.Prelude.{◌≡◌, ◌≤◌, ◌<◌, ◌+ℤ◌, ◌≤ℤ◌, ◌↔◌, ◌⊎◌, ℕ, ℤ, List, pos, length, map, true, false, All, IfSome, IfNone, if◌then◌else◌};
 ghost use Rattle.std.specs.Option.{option_map, option_map_or, ForSome};
 ghost use Rattle.domains.specs.Area.{HoldsPoint};
 ghost use Rattle.job.specs.Values.{all_passed, formula_value};
 ghost use Rattle.job.specs.Reads.{EachRead};
-ghost use Rattle.job.specs.WellFormed.{IsFormula};
+ghost use Rattle.job.specs.WellFormed.{IsFormula, IsTest};
 ghost use Rattle.job.specs.Views.{case_view, formula_view};
+ghost use Rattle.job.specs.Formula.{Test};
+ghost use Rattle.job.specs.Boxes.{BoundsHold};
+ghost use Rattle.row_kernels.specs.RowMask.{HoldsWhere};
 ghost use Rattle.row_kernels.specs.Rows.{EachPlace, at};
 ghost use Rattle.tile_eval.specs.Reading.{HasRoom};
 ghost use Rattle.tile_eval.specs.Cases.{InBox, function_value};
@@ -34,6 +37,19 @@ fn overlap(area: &Area, points: &RowSpan) -> Option<(usize, usize)>
     let columns = points.columns()?;
     let common = area.cols.meet(&columns)?;
     Some((points.gap(common.lo()), points.gap(common.hi()) + 1))
+}
+
+// Whether in each column the tests of the one hold or those of the other, by turns.
+fn are_turned(first: RowMask, second: RowMask) -> bool
+    ensures { result ≡ true → (xs ys : List Test) (r c : ℤ) → HoldsWhere first xs r
+        → HoldsWhere second ys r → BoundsHold xs r c → BoundsHold ys r c
+        → all_passed xs r c ≡ false → all_passed ys r c ≡ true }
+{
+    match (first, second) {
+        (RowMask::Leaving(2, 0), RowMask::Leaving(2, 1)) => true,
+        (RowMask::Leaving(2, 1), RowMask::Leaving(2, 0)) => true,
+        _ => false,
+    }
 }
 
 impl<S: RowSource> SourceRow<'_, S> {
@@ -108,7 +124,177 @@ impl<S: RowSource> SourceRow<'_, S> {
         }
     }
 
-    /// The values of a function: first what holds elsewhere, then the cases from the last to the first.
+    // The part of a row where the tests of a case hold, if this is told at once: from which place on and up to which.
+    fn held(&self, case: &JobCase) -> Option<(usize, usize)>
+        requires some { 0 < self.now.points.len }
+        requires ready { EachPlace self.now.points.len (λ k. IsReady (S.has self.now.source.now)
+            (case_view case.now) self.now.points.row (self.now.points.col +ℤ pos k)) }
+        requires tests { All IsTest (case_view case.now).tests }
+        ensures most { IfSome result (λ p. (p.0 ≤ p.1) × (p.1 ≤ self.now.points.len)) }
+        ensures held { IfSome result (λ p. EachPlace self.now.points.len
+            (λ k. (all_passed (case_view case.now).tests self.now.points.row
+            (self.now.points.col +ℤ pos k) ≡ true) ↔ ((p.0 ≤ k) × (k < p.1)))) }
+    {
+        let Some(area) = case.area() else {
+            return Some((0, 0));
+        };
+        let Some((from, to)) = overlap(area, &self.points) else {
+            return Some((0, 0));
+        };
+        match where_passed(case.tests(), &self.points) {
+            RowMask::Nowhere => Some((0, 0)),
+            RowMask::Everywhere => Some((from, to)),
+            _ => None,
+        }
+    }
+
+    // The part of a row where the tests of a case hold unless those of the case before it do, if this is told at once.
+    fn held_by_turns(&self, before: &JobCase, case: &JobCase) -> Option<(usize, usize)>
+        requires some { 0 < self.now.points.len }
+        requires before { EachPlace self.now.points.len (λ k. IsReady (S.has self.now.source.now)
+            (case_view before.now) self.now.points.row (self.now.points.col +ℤ pos k)) }
+        requires ready { EachPlace self.now.points.len (λ k. IsReady (S.has self.now.source.now)
+            (case_view case.now) self.now.points.row (self.now.points.col +ℤ pos k)) }
+        requires first { All IsTest (case_view before.now).tests }
+        requires tests { All IsTest (case_view case.now).tests }
+        ensures most { IfSome result (λ p. (p.0 ≤ p.1) × (p.1 ≤ self.now.points.len)) }
+        ensures inside { IfSome result (λ p. EachPlace self.now.points.len (λ k. p.0 ≤ k → k < p.1
+            → InBox (case_view case.now).box self.now.points.row (self.now.points.col +ℤ pos k))) }
+        ensures held { IfSome result (λ p. EachPlace self.now.points.len
+            (λ k. all_passed (case_view before.now).tests self.now.points.row
+            (self.now.points.col +ℤ pos k) ≡ false
+            → (all_passed (case_view case.now).tests self.now.points.row
+            (self.now.points.col +ℤ pos k) ≡ true) ↔ ((p.0 ≤ k) × (k < p.1)))) }
+    {
+        let (Some(area), Some(box_before)) = (case.area(), before.area()) else {
+            return None;
+        };
+        let (from, to) = overlap(area, &self.points)?;
+        let (first, second) = overlap(box_before, &self.points)?;
+        let passed = where_passed(case.tests(), &self.points);
+        if first == from
+            && second == to
+            && are_turned(where_passed(before.tests(), &self.points), passed)
+        {
+            Some((from, to))
+        } else {
+            None
+        }
+    }
+
+    // The values of a formula at a part of the points.
+    fn evaluate_part(
+        &self,
+        formula: &Formula,
+        from: usize,
+        to: usize,
+        out: &mut [i32],
+        temps: &mut [i32],
+    )
+        requires fits { length out.old ≡ self.now.points.len }
+        requires order { from ≤ to }
+        requires most { to ≤ length out.old }
+        requires formula { IsFormula (formula_view formula.now) }
+        requires reads { EachPlace (length out.old) (λ k. from ≤ k → k < to
+            → EachRead (S.has self.now.source.now) (formula_view formula.now)
+            self.now.points.row (self.now.points.col +ℤ pos k)) }
+        requires room { HasRoom (formula_view formula.now) (length out.old) (length temps.old) }
+        ensures inside { EachPlace (length out.old) (λ k. from ≤ k → k < to → at out.new k
+            ≡ formula_value (S.samples self.now.source.now) (formula_view formula.now)
+            self.now.points.row (self.now.points.col +ℤ pos k)) }
+        ensures outside { EachPlace (length out.old) (λ k. (k < from) ⊎ (to ≤ k)
+            → at out.new k ≡ at out.old k) }
+    {
+        if from < to {
+            let points = self.points.part(from, to);
+            let inner = SourceRow {
+                source: self.source,
+                points,
+            };
+            inner.evaluate(formula, &mut out[from..to], temps);
+        }
+    }
+
+    // The values of a function at a part of the points.
+    #[cycle(by_cases)]
+    fn by_cases_part(
+        &self,
+        cases: &[JobCase],
+        otherwise: &Option<Formula>,
+        from: usize,
+        to: usize,
+        out: &mut [i32],
+        temps: &mut [i32],
+    )
+        requires fits { length out.old ≡ self.now.points.len }
+        requires order { from ≤ to }
+        requires most { to ≤ length out.old }
+        requires cases { All (λ p. EachPlace (length out.old) (λ k. IsReady
+            (S.has self.now.source.now) (case_view p) self.now.points.row
+            (self.now.points.col +ℤ pos k))
+            × IsRoomy (length out.old) (length temps.old) (case_view p)) cases.now }
+        requires other { ForSome (option_map formula_view otherwise.now)
+            (λ f. EachPlace (length out.old) (λ k. EachRead (S.has self.now.source.now) f
+            self.now.points.row (self.now.points.col +ℤ pos k))
+            × IsFormula f × HasRoom f (length out.old) (length temps.old)) }
+        ensures inside { EachPlace (length out.old) (λ k. from ≤ k → k < to → at out.new k
+            ≡ function_value (S.samples self.now.source.now) (map case_view cases.now)
+            (option_map formula_view otherwise.now) self.now.points.row
+            (self.now.points.col +ℤ pos k)) }
+        ensures outside { EachPlace (length out.old) (λ k. (k < from) ⊎ (to ≤ k)
+            → at out.new k ≡ at out.old k) }
+    {
+        if from < to {
+            let points = self.points.part(from, to);
+            let inner = SourceRow {
+                source: self.source,
+                points,
+            };
+            inner.by_cases(cases, otherwise, &mut out[from..to], temps);
+        }
+    }
+
+    // The values of a function at points where a case before its own does not hold.
+    #[cycle(by_cases)]
+    fn behind_case(
+        &self,
+        before: &JobCase,
+        cases: &[JobCase],
+        otherwise: &Option<Formula>,
+        out: &mut [i32],
+        temps: &mut [i32],
+    )
+        requires some { 0 < length out.old }
+        requires fits { length out.old ≡ self.now.points.len }
+        requires before { EachPlace (length out.old) (λ k. IsReady (S.has self.now.source.now)
+            (case_view before.now) self.now.points.row (self.now.points.col +ℤ pos k)) }
+        requires tests { All IsTest (case_view before.now).tests }
+        requires cases { All (λ p. EachPlace (length out.old) (λ k. IsReady
+            (S.has self.now.source.now) (case_view p) self.now.points.row
+            (self.now.points.col +ℤ pos k))
+            × IsRoomy (length out.old) (length temps.old) (case_view p)) cases.now }
+        requires other { ForSome (option_map formula_view otherwise.now)
+            (λ f. EachPlace (length out.old) (λ k. EachRead (S.has self.now.source.now) f
+            self.now.points.row (self.now.points.col +ℤ pos k))
+            × IsFormula f × HasRoom f (length out.old) (length temps.old)) }
+        ensures { EachPlace (length out.old) (λ k. all_passed (case_view before.now).tests
+            self.now.points.row (self.now.points.col +ℤ pos k) ≡ false → at out.new k
+            ≡ function_value (S.samples self.now.source.now) (map case_view cases.now)
+            (option_map formula_view otherwise.now) self.now.points.row
+            (self.now.points.col +ℤ pos k)) }
+    {
+        if let [case, rest @ ..] = cases {
+            if let Some((from, to)) = self.held_by_turns(before, case) {
+                self.by_cases_part(rest, otherwise, 0, from, out, temps);
+                self.by_cases_part(rest, otherwise, to, out.len(), out, temps);
+                return self.evaluate_part(case.formula(), from, to, out, temps);
+            }
+        }
+        self.by_cases(cases, otherwise, out, temps);
+    }
+
+    /// The values of a function: what stands behind a case is not computed where all tests of the case hold, if this is told at once.
+    #[cycle(by_cases)]
     pub(crate) fn by_cases(
         &self,
         cases: &[JobCase],
@@ -131,9 +317,19 @@ impl<S: RowSource> SourceRow<'_, S> {
             (option_map formula_view otherwise.now) self.now.points.row
             (self.now.points.col +ℤ pos k)) }
     {
-        self.elsewhere(otherwise, out, temps);
-        for i in (0..cases.len()).rev() {
-            self.take_case(&cases[i], out, temps);
+        let [case, behind @ ..] = cases else {
+            return self.elsewhere(otherwise, out, temps);
+        };
+        match self.held(case) {
+            Some((from, to)) => {
+                self.by_cases_part(behind, otherwise, 0, from, out, temps);
+                self.by_cases_part(behind, otherwise, to, out.len(), out, temps);
+                self.evaluate_part(case.formula(), from, to, out, temps);
+            }
+            None => {
+                self.behind_case(case, behind, otherwise, out, temps);
+                self.take_case(case, out, temps);
+            }
         }
     }
 }

@@ -5,22 +5,26 @@ ghost use Rattle.std.specs.Prelude.{◌≡◌, ◌≤◌, ◌-◌, ℕ, ◌+◌,
 ghost use Rattle.job.specs.Values.{Valuation, binary_value, formula_value};
 ghost use Rattle.job.specs.WellFormed.{IsFormula};
 ghost use Rattle.job.specs.Views.{formula_view};
+ghost use Rattle.row_kernels.specs.Finishes.{finish_value};
 ghost use Rattle.row_kernels.specs.Operands.{operand_at, Serves, IsGiven};
 ghost use Rattle.row_kernels.specs.Rows.{EachPlace, at};
+ghost use Rattle.row_kernels.specs.Terms.{term_at};
 ghost use Rattle.tile_eval.specs.Reading.{ReadsWithin, HasRoom};
+ghost use Rattle.tile_eval.specs.inside.Operators.{IsBinary};
 
+use crate::finishes::{after_operator, cut_between};
 use crate::source::RowSource;
 use crate::source_row::SourceRow;
 use domains::BinaryOp;
 use domains::arithmetic::wrapping_neg;
 use job::{Axis, Formula};
 use row_kernels::{
-    Operand, RowSpan, combine, combine_literal, combine_scaled, count_up, cut, fill, keep_related,
-    make_absolute, negate,
+    Finish, Operand, RowSpan, Term, add_terms, combine, combine_literal, combine_scaled, count_up,
+    cut, fill, finish_row, keep_related, negate,
 };
 
-// The number that a formula is all along a row of points, if it is one.
-fn number_along(formula: &Formula, points: &RowSpan) -> Option<i32>
+/// The number that a formula is all along a row of points, if it is one.
+pub fn number_along(formula: &Formula, points: &RowSpan) -> Option<i32>
     ensures { IfSome result (λ number. (env : Valuation) (c : ℤ)
         → formula_value env (formula_view formula.now) points.now.row c ≡ number) }
 {
@@ -29,6 +33,39 @@ fn number_along(formula: &Formula, points: &RowSpan) -> Option<i32>
         Formula::Coordinate(Axis::Row) => Some(points.row),
         Formula::Neg(a) => Some(wrapping_neg(number_along(a, points)?)),
         _ => None,
+    }
+}
+
+/// The values of a formula along a row of points: as they lie, where it is a read whose samples the source gives side by side, else
+/// computed into `own`.
+#[cycle(evaluate)]
+pub fn line_along<'a, S: RowSource>(
+    source: &'a S,
+    points: &RowSpan,
+    formula: &Formula,
+    own: &'a mut [i32],
+    temps: &mut [i32],
+) -> &'a [i32]
+    requires fits { length own.old ≡ points.now.len }
+    requires formula { IsFormula (formula_view formula.now) }
+    requires reads { ReadsWithin (S.has source.now) (formula_view formula.now) points.now.row
+        points.now.col (length own.old) }
+    requires room { HasRoom (formula_view formula.now) (length own.old) (length temps.old) }
+    ensures count { length result.now ≡ length own.old }
+    ensures values { EachPlace (length own.old) (λ k. at result.now k
+        ≡ formula_value (S.samples source.now) (formula_view formula.now) points.now.row
+        (points.now.col +ℤ pos k)) }
+{
+    let row = SourceRow {
+        source,
+        points: *points,
+    };
+    match row.given(formula) {
+        Some(line) => line,
+        None => {
+            row.evaluate(formula, own, temps);
+            own
+        }
     }
 }
 
@@ -52,16 +89,9 @@ fn operand<'a, S: RowSource>(
         ≡ formula_value (S.samples source.now) (formula_view formula.now) points.now.row
         (points.now.col +ℤ pos k)) }
 {
-    let row = SourceRow {
-        source,
-        points: *points,
-    };
-    match row.at_hand(formula) {
-        Some(it) => it,
-        None => {
-            row.evaluate(formula, own, temps);
-            Operand::Line(own)
-        }
+    match number_along(formula, points) {
+        Some(number) => Operand::Number(number),
+        None => Operand::Line(line_along(source, points, formula, own, temps)),
     }
 }
 
@@ -119,6 +149,31 @@ impl<'a, S: RowSource> SourceRow<'a, S> {
         }
     }
 
+    // A formula as an operand of a sum, where nothing is to be computed but a product with a number.
+    fn term(&self, formula: &Formula) -> Option<Term<'a>>
+        requires { ReadsWithin (S.has self.now.source.now) (formula_view formula.now)
+            self.now.points.row self.now.points.col self.now.points.len }
+        ensures serves { IfSome result (λ it. Serves self.now.points.len it.of) }
+        ensures given { IfSome result (λ it. IsGiven it.of) }
+        ensures values { IfSome result (λ it. (out : List ℤ)
+            → EachPlace self.now.points.len (λ k. term_at it out k
+            ≡ formula_value (S.samples self.now.source.now) (formula_view formula.now)
+            self.now.points.row (self.now.points.col +ℤ pos k))) }
+    {
+        if let Formula::Binary(BinaryOp::Mul, factor, of) = formula {
+            if let Some(factor) = number_along(factor, &self.points) {
+                return Some(Term {
+                    factor: Some(factor),
+                    of: self.at_hand(of)?,
+                });
+            }
+        }
+        Some(Term {
+            factor: None,
+            of: self.at_hand(formula)?,
+        })
+    }
+
     // A formula as an operand, which is computed into the row itself where it is not at hand.
     #[cycle(evaluate)]
     fn placed(&self, formula: &Formula, out: &mut [i32], temps: &mut [i32]) -> Operand<'a>
@@ -141,9 +196,17 @@ impl<'a, S: RowSource> SourceRow<'a, S> {
         }
     }
 
-    // Joins an operand with the values of the right one, which may be taken a number of times.
+    // Joins an operand with the values of the right one, which may be taken a number of times, and finishes what that gives.
     #[cycle(evaluate)]
-    fn join(&self, op: BinaryOp, left: Operand, right: &Formula, out: &mut [i32], temps: &mut [i32])
+    fn join(
+        &self,
+        op: BinaryOp,
+        left: Operand,
+        right: &Formula,
+        finish: Finish,
+        out: &mut [i32],
+        temps: &mut [i32],
+    )
         requires fits { length out.old ≡ self.now.points.len }
         requires left { Serves (length out.old) left }
         requires formula { IsFormula (formula_view right.now) }
@@ -153,19 +216,102 @@ impl<'a, S: RowSource> SourceRow<'a, S> {
         requires room { HasRoom (formula_view right.now) (length out.old)
             (length temps.old - length out.old) }
         ensures { EachPlace (length out.old) (λ k. at out.new k
-            ≡ binary_value op (operand_at left.entry out.old k)
+            ≡ finish_value finish (binary_value op (operand_at left.entry out.old k)
             (formula_value (S.samples self.now.source.now) (formula_view right.now)
-            self.now.points.row (self.now.points.col +ℤ pos k))) }
+            self.now.points.row (self.now.points.col +ℤ pos k)))) }
     {
         if let Formula::Binary(BinaryOp::Mul, a, b) = right {
             if let Some(factor) = number_along(a, &self.points) {
                 let (_, temps) = temps.split_at_mut(out.len());
                 let right = beside(self.source, &self.points, left, b, out, temps);
-                return combine_scaled(op, out, left, factor, right);
+                return combine_scaled(op, out, left, factor, right, finish);
             }
         }
         let right = beside(self.source, &self.points, left, right, out, temps);
-        combine(op, out, left, right);
+        combine(op, out, left, right, finish);
+    }
+
+    // The right operand of a product as an operand, in the room of the product.
+    #[cycle(evaluate)]
+    fn placed_in_rest(&self, formula: &Formula, out: &mut [i32], temps: &mut [i32]) -> Operand<'a>
+        requires fits { length out.old ≡ self.now.points.len }
+        requires formula { IsFormula (formula_view formula.now) }
+        requires reads { ReadsWithin (S.has self.now.source.now) (formula_view formula.now)
+            self.now.points.row self.now.points.col (length out.old) }
+        requires own { length out.old ≤ length temps.old }
+        requires room { HasRoom (formula_view formula.now) (length out.old)
+            (length temps.old - length out.old) }
+        ensures serves { Serves (length out.old) result }
+        ensures values { EachPlace (length out.old) (λ k. operand_at result out.new k
+            ≡ formula_value (S.samples self.now.source.now) (formula_view formula.now)
+            self.now.points.row (self.now.points.col +ℤ pos k)) }
+    {
+        let (_, rest) = temps.split_at_mut(out.len());
+        self.placed(formula, out, rest)
+    }
+
+    // Finishes what an operator gives: in the pass of the operator before it, where the left operand of a sum is a product with a
+    // number, or a sum whose right operand is at hand.
+    #[cycle(evaluate)]
+    fn operate(&self, formula: &Formula, finish: Finish, out: &mut [i32], temps: &mut [i32])
+        requires fits { length out.old ≡ self.now.points.len }
+        requires binary { IsBinary (formula_view formula.now) }
+        requires formula { IsFormula (formula_view formula.now) }
+        requires reads { ReadsWithin (S.has self.now.source.now) (formula_view formula.now)
+            self.now.points.row self.now.points.col (length out.old) }
+        requires room { HasRoom (formula_view formula.now) (length out.old) (length temps.old) }
+        ensures { EachPlace (length out.old) (λ k. at out.new k
+            ≡ finish_value finish (formula_value (S.samples self.now.source.now)
+            (formula_view formula.now) self.now.points.row (self.now.points.col +ℤ pos k))) }
+    {
+        let Formula::Binary(op, a, b) = formula else {
+            return;
+        };
+        if let (BinaryOp::Add, Formula::Binary(BinaryOp::Mul, factor, of)) = (*op, &**a) {
+            if let Some(factor) = number_along(factor, &self.points) {
+                let left = self.placed_in_rest(of, out, temps);
+                let right = beside(self.source, &self.points, left, b, out, temps);
+                return combine_scaled(BinaryOp::Add, out, right, factor, left, finish);
+            }
+        }
+        if let (BinaryOp::Add, Formula::Binary(BinaryOp::Add, first, second)) = (*op, &**a) {
+            if let (Some(second), Some(third)) = (self.term(second), self.term(b)) {
+                let first = self.placed(first, out, temps);
+                return add_terms(out, first, second, third, finish);
+            }
+        }
+        let left = self.placed(a, out, temps);
+        self.join(*op, left, b, finish, out, temps);
+    }
+
+    // What a finish makes of the values of a formula, in the pass of its last operator if that may be.
+    #[cycle(evaluate)]
+    fn finished(&self, formula: &Formula, finish: Finish, out: &mut [i32], temps: &mut [i32])
+        requires fits { length out.old ≡ self.now.points.len }
+        requires formula { IsFormula (formula_view formula.now) }
+        requires reads { ReadsWithin (S.has self.now.source.now) (formula_view formula.now)
+            self.now.points.row self.now.points.col (length out.old) }
+        requires room { HasRoom (formula_view formula.now) (length out.old) (length temps.old) }
+        ensures { EachPlace (length out.old) (λ k. at out.new k
+            ≡ finish_value finish (formula_value (S.samples self.now.source.now)
+            (formula_view formula.now) self.now.points.row (self.now.points.col +ℤ pos k))) }
+    {
+        match formula {
+            Formula::Literal(op, a, number) => {
+                if let Some(earlier) = finish.after_literal(*op, *number) {
+                    return self.finished(a, earlier, out, temps);
+                }
+            }
+            Formula::Binary(op, a, b) => {
+                if let Some(earlier) = after_operator(finish, *op, b) {
+                    return self.finished(a, earlier, out, temps);
+                }
+                return self.operate(formula, finish, out, temps);
+            }
+            _ => {}
+        }
+        let of = self.placed(formula, out, temps);
+        finish_row(out, of, finish);
     }
 
     /// The values of a formula, where reads take what the source gives.
@@ -189,19 +335,19 @@ impl<'a, S: RowSource> SourceRow<'a, S> {
                 let of = self.placed(a, out, temps);
                 negate(out, of);
             }
-            Formula::Binary(op, a, b) => {
-                let left = self.placed(a, out, temps);
-                self.join(*op, left, b, out, temps);
-            }
+            Formula::Binary(_, _, _) => self.operate(formula, Finish::Nothing, out, temps),
             Formula::Literal(op, a, number) => {
+                if let Some(finish) = Finish::Nothing.after_literal(*op, *number) {
+                    return self.finished(a, finish, out, temps);
+                }
                 let left = self.placed(a, out, temps);
                 combine_literal(*op, out, left, *number);
             }
-            Formula::Abs(a) => {
-                let of = self.placed(a, out, temps);
-                make_absolute(out, of);
-            }
+            Formula::Abs(a) => self.finished(a, Finish::Absolute, out, temps),
             Formula::Clamp(a, low, high) => {
+                if let Some(finish) = cut_between(low, high, &self.points) {
+                    return self.finished(a, finish, out, temps);
+                }
                 let of = self.placed(a, out, temps);
                 let n = out.len();
                 let (least, rest) = temps.split_at_mut(n);

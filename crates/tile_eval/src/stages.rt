@@ -14,8 +14,8 @@ use crate::planes::plane_values;
 use job::{Body, Job, Read, StageKind};
 use std::alloc::{AllocError, Global};
 
-// The stage that is read.
-fn stage_of(read: &Read) -> usize
+/// The stage that is read.
+pub fn stage_of(read: &Read) -> usize
     ensures { result ≡ stage_read (read_view read.now) }
 {
     match read {

@@ -12,7 +12,7 @@ ghost use Rattle.tile_eval.specs.inside.Stencil.{row_sum, IsUnder};
 use crate::source::RowSource;
 use crate::source_row::SourceRow;
 use job::Kernel;
-use row_kernels::{Kernel3x3, Operand, add_taps, divide_by, fill};
+use row_kernels::{Kernel3x1, Kernel3x3, Kernel5x1, Operand, add_taps, divide_by, write_taps};
 
 impl<'a, S: RowSource> SourceRow<'a, S> {
     // The samples under a row of a kernel.
@@ -54,6 +54,46 @@ impl<'a, S: RowSource> SourceRow<'a, S> {
         self.source.borrow_row(stage, row, col, count)
     }
 
+    // The samples under a row of a kernel: as the source gives them, or else written to the room for them.
+    fn line_under<'b>(
+        &'b self,
+        stage: usize,
+        kernel: &Kernel,
+        a: usize,
+        room: &'b mut [i32],
+    ) -> &'b [i32]
+        requires kernel { IsKernel kernel.now }
+        requires a { a < length kernel.now }
+        requires reads { EachPlace (length room.old) (λ j. S.has self.now.source.now stage
+            (kernel_row kernel.now self.now.points.row a)
+            (kernel_column kernel.now self.now.points.col j)) }
+        ensures many { length result.now ≡ length room.old }
+        ensures line { IsUnder kernel.now (S.samples self.now.source.now stage) self.now.points.row
+            self.now.points.col a result.now }
+    {
+        if let Some(line) = self.borrowed_line(stage, kernel, a, room.len()) {
+            return line;
+        }
+        self.kernel_line(stage, kernel, a, room);
+        room
+    }
+
+    // Writes what the first row of a kernel gives.
+    fn write_first_row(&self, stage: usize, kernel: &Kernel, out: &mut [i32], temps: &mut [i32])
+        requires kernel { IsKernel kernel.now }
+        requires reads { KernelWithin (S.has self.now.source.now stage) kernel.now
+            self.now.points.row self.now.points.col (length out.old) }
+        requires room { length out.old + 14 ≤ length temps.old }
+        ensures { EachPlace (length out.old) (λ k. at out.new k
+            ≡ wrapped (row_sum kernel.now (S.samples self.now.source.now stage) self.now.points.row
+            (self.now.points.col +ℤ pos k) 0)) }
+    {
+        let factors = kernel.as_slice()[0].as_slice();
+        let count = out.len() + factors.len() - 1;
+        let line = self.line_under(stage, kernel, 0, &mut temps[..count]);
+        write_taps(out, line, factors);
+    }
+
     // Adds what a row of a kernel gives.
     fn add_kernel_row(
         &self,
@@ -76,14 +116,8 @@ impl<'a, S: RowSource> SourceRow<'a, S> {
     {
         let factors = kernel.as_slice()[a].as_slice();
         let count = out.len() + factors.len() - 1;
-        match self.borrowed_line(stage, kernel, a, count) {
-            Some(line) => add_taps(out, line, factors),
-            None => {
-                let line = &mut temps[..count];
-                self.kernel_line(stage, kernel, a, line);
-                add_taps(out, line, factors);
-            }
-        }
+        let line = self.line_under(stage, kernel, a, &mut temps[..count]);
+        add_taps(out, line, factors);
     }
 
     // The sums of a stencil, a row of the kernel at a time.
@@ -96,15 +130,15 @@ impl<'a, S: RowSource> SourceRow<'a, S> {
             ≡ wrapped (weighted_sum kernel.now (S.samples self.now.source.now stage)
             self.now.points.row (self.now.points.col +ℤ pos k))) }
     {
-        fill(out, 0);
-        for a in 0..kernel.as_slice().len() {
+        self.write_first_row(stage, kernel, out, temps);
+        for a in 1..kernel.as_slice().len() {
             self.add_kernel_row(stage, kernel, a, out, temps);
         }
     }
 
-    // The sums of a stencil, all rows of the kernel at once. Answers false, and writes nothing, unless the kernel has three rows
-    // of three factors and the source gives all that it reads.
-    fn sums_at_once(&self, stage: usize, kernel: &Kernel, out: &mut [i32]) -> bool
+    // The sums of a stencil whose kernel has three rows of three factors. Answers false, and writes nothing, if it has not, or if
+    // the source does not give all that it reads.
+    fn sums_of_square(&self, stage: usize, kernel: &Kernel, out: &mut [i32]) -> bool
         requires kernel { IsKernel kernel.now }
         requires reads { KernelWithin (S.has self.now.source.now stage) kernel.now
             self.now.points.row self.now.points.col (length out.old) }
@@ -127,6 +161,76 @@ impl<'a, S: RowSource> SourceRow<'a, S> {
             }
             _ => false,
         }
+    }
+
+    // The sums of a stencil whose kernel has three rows of one factor, likewise.
+    fn sums_of_three(&self, stage: usize, kernel: &Kernel, out: &mut [i32]) -> bool
+        requires kernel { IsKernel kernel.now }
+        requires reads { KernelWithin (S.has self.now.source.now stage) kernel.now
+            self.now.points.row self.now.points.col (length out.old) }
+        ensures { IsTrue result
+            → EachPlace (length out.old) (λ k. at out.new k
+            ≡ wrapped (weighted_sum kernel.now (S.samples self.now.source.now stage)
+            self.now.points.row (self.now.points.col +ℤ pos k))) }
+    {
+        let Some(column) = Kernel3x1::of(kernel) else {
+            return false;
+        };
+        let count = out.len();
+        let top = self.borrowed_line(stage, kernel, 0, count);
+        let middle = self.borrowed_line(stage, kernel, 1, count);
+        let bottom = self.borrowed_line(stage, kernel, 2, count);
+        match (top, middle, bottom) {
+            (Some(top), Some(middle), Some(bottom)) => {
+                column.write_sums(out, top, middle, bottom);
+                true
+            }
+            _ => false,
+        }
+    }
+
+    // The sums of a stencil whose kernel has five rows of one factor, likewise.
+    fn sums_of_five(&self, stage: usize, kernel: &Kernel, out: &mut [i32]) -> bool
+        requires kernel { IsKernel kernel.now }
+        requires reads { KernelWithin (S.has self.now.source.now stage) kernel.now
+            self.now.points.row self.now.points.col (length out.old) }
+        ensures { IsTrue result
+            → EachPlace (length out.old) (λ k. at out.new k
+            ≡ wrapped (weighted_sum kernel.now (S.samples self.now.source.now stage)
+            self.now.points.row (self.now.points.col +ℤ pos k))) }
+    {
+        let Some(column) = Kernel5x1::of(kernel) else {
+            return false;
+        };
+        let count = out.len();
+        let a = self.borrowed_line(stage, kernel, 0, count);
+        let b = self.borrowed_line(stage, kernel, 1, count);
+        let c = self.borrowed_line(stage, kernel, 2, count);
+        let d = self.borrowed_line(stage, kernel, 3, count);
+        let e = self.borrowed_line(stage, kernel, 4, count);
+        match (a, b, c, d, e) {
+            (Some(a), Some(b), Some(c), Some(d), Some(e)) => {
+                column.write_sums(out, a, b, c, d, e);
+                true
+            }
+            _ => false,
+        }
+    }
+
+    // The sums of a stencil, all rows of the kernel at once, if it is of one of these forms and the source gives all that it
+    // reads. Answers whether it is.
+    fn sums_at_once(&self, stage: usize, kernel: &Kernel, out: &mut [i32]) -> bool
+        requires kernel { IsKernel kernel.now }
+        requires reads { KernelWithin (S.has self.now.source.now stage) kernel.now
+            self.now.points.row self.now.points.col (length out.old) }
+        ensures { IsTrue result
+            → EachPlace (length out.old) (λ k. at out.new k
+            ≡ wrapped (weighted_sum kernel.now (S.samples self.now.source.now stage)
+            self.now.points.row (self.now.points.col +ℤ pos k))) }
+    {
+        self.sums_of_square(stage, kernel, out)
+            || self.sums_of_three(stage, kernel, out)
+            || self.sums_of_five(stage, kernel, out)
     }
 
     /// The values of a stencil.
