@@ -1,8 +1,8 @@
 -- Rows of what is given.
-use Rattle.std.proofs.Common.{ℕ, ℤ, pos, ◌+ℤ◌, ◌≡◌, ◌<◌, ap, sym, ◌∙◌, Option, Some, slice_get}
+use Rattle.std.proofs.Common.{ℕ, ℤ, pos, ◌+ℤ◌, ◌≡◌, ap, sym, ◌∙◌, Option, Some, slice_get}
 use Rattle.std.specs.Option.{option_map, option_map_or}
 use Rattle.std.proofs.lemmas.Option.{same_Some}
-use Rattle.domains.specs.Area.{HoldsPoint, IsArea}
+use Rattle.domains.specs.Area.{HoldsPoint}
 use Rattle.domains.specs.Sides.{Sides}
 use Rattle.domains.specs.Tiles.{IsTileOf, tile_area, tile_at}
 use Rattle.domains.specs.declared.area.Area.{Area}
@@ -15,7 +15,7 @@ use Rattle.job.specs.WellFormed.{IsJob}
 use Rattle.tile_eval.specs.Rows.{EachPlace}
 use Rattle.tile_eval.proofs.Rasters.{raster_at}
 use Rattle.tile_run.specs.KnownTiles.{KnownTiles, number_in, number_at, given_number}
-use Rattle.tile_run.specs.KnownTiles.{given_at, AreTrue, IsGivenAt, IsGivenStage, IsGivenLine}
+use Rattle.tile_run.specs.KnownTiles.{given_at, AreTrue, IsGivenStage, IsGivenLine}
 use Rattle.tile_run.proofs.LocalValuesUnroll.{grid_is}
 
 -- the tiles of a stage are those of its grid
@@ -26,19 +26,17 @@ parted_is job g s there domain sides grid found same made =
     let area : domain ≡ s.domain = same_Some domain s.domain (found ∙ ap (option_map (λ (x : Stage). x.domain)) there) in
     made ∙ (λ i. record { area = area i; sides = same i })
 
-module _ (job : Pipeline) (is : IsJob job) (given : KnownTiles) (g : ℕ) (row first : ℤ) (count : ℕ)
-    (line : IsGivenLine job given g row first count) where
-  abbrev parted : Grid
-  parted = grid_of job line.stage
-
-  pub line_area : IsArea parted.area
-  line_area = (grid_is job is g line.stage line.tiles.there).area
-
-  of_point : (k : ℕ) → k < count → IsTileOf parted row (first +ℤ pos k) (tile_at parted row (first +ℤ pos k))
-  of_point k low = tile_is parted row (first +ℤ pos k) (grid_is job is g line.stage line.tiles.there) (line.within k low)
-
-  pub line_given : EachPlace count (λ k. IsGivenAt given g parted row (first +ℤ pos k))
-  line_given k low = (line.within k low, line.tiles.all _ _ (of_point k low).there)
+-- a row of points of a stage all of whose tiles are given
+pub whole_line : (job : Pipeline) → IsJob job → (given : KnownTiles) (g : ℕ) (s : Stage) → IsGivenStage job given g s
+    → (row first : ℤ) (count : ℕ) → EachPlace count (λ k. HoldsPoint s.domain row (first +ℤ pos k))
+    → IsGivenLine job given g row first count
+whole_line job is given g s tiles row first count within = record {
+  stage = s;
+  there = tiles.there;
+  whole = tiles.whole;
+  points = λ k low.
+      (within k low, tiles.all _ _ (tile_is (grid_of job s) row (first +ℤ pos k) (grid_is job is g s tiles.there) (within k low)).there);
+}
 
 pub number_is : (job : Pipeline) (given : KnownTiles) (g : ℕ) (s : Stage) → slice_get job.stages g ≡ Some s → (r c : ℤ)
     → number_at given g (grid_of job s) r c ≡ given_at job given g r c

@@ -9,6 +9,8 @@ pub mod StepsHaveRoom
 pub mod StepsRun
 pub mod LayoutsPrepare
 pub mod RunsStep
+pub mod NeedsAreHeld
+pub mod LastsAreFound
 pub mod RunAllStores
 pub mod NeedsCloseTargets
 pub mod TrueTilesGiveValues
@@ -17,3 +19,5 @@ pub mod FirstFound
 pub mod FirstTooBig
 pub mod GivenLines
 pub mod TestsOfRanks
+pub mod PlanesAreWide
+pub mod RowsSideBySide

@@ -84,32 +84,17 @@ module _ (given : KnownTiles) (g : ℕ) (grid : Grid) (r c : ℤ) (block : Buffe
 row_held : (a : Area) (r c : ℤ) (n k : ℕ) → HoldsPoint a r c → (c +ℤ pos n) ≤ℤ (a.cols.hi +ℤ pos 1) → k < n → HoldsPoint a r (c +ℤ pos k)
 row_held a r c n k h most l = let low = h.1.0 in (h.0, (omega (arith, ints), omega (arith, ints)))
 
+-- as far as a part of a row goes
+pub part_held : (a : Area) (cols : Ends) (r c : ℤ) (n : ℕ) → HoldsPoint a r c → cols ≡ a.cols → (c +ℤ pos n) ≤ℤ (cols.hi +ℤ pos 1)
+    → EachPlace n (λ k. HoldsPoint a r (c +ℤ pos k))
+part_held a cols r c n h same most k l =
+    row_held a r c n k h (subst (λ (s : Ends). (c +ℤ pos n) ≤ℤ (s.hi +ℤ pos 1)) same most) l
+
 take_len : (n : ℕ) (xs : List ℤ) → n ≤ length xs → length (take n xs) ≡ n
 take_len n xs le = grind (arith, common_steps)
 
-in_front : (k : ℕ) (xs ys : List ℤ) → k < length xs → at (xs ++ ys) k ≡ at xs k
+pub in_front : (k : ℕ) (xs ys : List ℤ) → k < length xs → at (xs ++ ys) k ≡ at xs k
 in_front k xs ys l = grind (arith, common_steps)
-
--- as far as a part of a row goes
-pub part_held : (a : Area) (cols : Ends) (r c c' : ℤ) (n k : ℕ) (out : List ℤ) → HoldsPoint a r c → cols ≡ a.cols → c' ≡ c
-    → (c' +ℤ pos n) ≤ℤ (cols.hi +ℤ pos 1) → n ≤ length out → k < length (take n out) → HoldsPoint a r (c +ℤ pos k)
-part_held a cols r c c' n k out h same col most le l =
-    let end : (c +ℤ pos n) ≤ℤ (a.cols.hi +ℤ pos 1) = subst (λ (z : ℤ). (z +ℤ pos n) ≤ℤ (a.cols.hi +ℤ pos 1)) col
-    (subst (λ (s : Ends). (c' +ℤ pos n) ≤ℤ (s.hi +ℤ pos 1)) same most) in
-    row_held a r c n k h end (subst (λ (m : ℕ). k < m) (take_len n out le) l)
-
--- the numbers of a part of a row
-pub part_number : (given : KnownTiles) (g : ℕ) (grid : Grid) (r c r' c' : ℤ) (block : BufferView) (n k : ℕ) (out new rest : List ℤ)
-    → IsTileAbout given g grid r c block → r' ≡ r → c' ≡ c → n ≤ length out → length new ≡ length (take n out) → k < n
-    → EachPlace (length (take n out)) (λ j. HoldsPoint block.area r (c +ℤ pos j))
-    → EachPlace (length (take n out)) (λ j. at new j ≡ at block.values.now (place_of block.area r' (c' +ℤ pos j)))
-    → at (new ++ rest) k ≡ number_at given g grid r (c +ℤ pos k)
-part_number given g grid r c r' c' block n k out new rest about row col le len l held numbers =
-    let within : k < length (take n out) = subst (λ (m : ℕ). k < m) (sym (take_len n out le)) l in
-    in_front k new rest (subst (λ (m : ℕ). k < m) (sym len) within)
-    ∙ numbers k within
-    ∙ (λ i. at block.values.now (place_of block.area (row i) (col i +ℤ pos k)))
-    ∙ number_is given g grid r (c +ℤ pos k) block (about_more given g grid r c block about (c +ℤ pos k) (held k within))
 
 -- ---- columns that an index takes, from the first on
 

@@ -63,8 +63,9 @@ pub record IsGivenStage (job : Pipeline) (given : KnownTiles) (g : ℕ) (s : Sta
   pub all : (i j : ℕ) → HasTile (grid_of job s) i j → (xs : List ℤ) × (given g i j ≡ Some xs)
   pub whole : HasWholeTiles given g (grid_of job s)
 
--- and so many points of a row, from this column on, lie in its domain
+-- so many points of a row, from this column on, lie in tiles of stage g that are given
 pub record IsGivenLine (job : Pipeline) (given : KnownTiles) (g : ℕ) (row first : ℤ) (count : ℕ) : Type 0 where
   pub stage : Stage
-  pub tiles : IsGivenStage job given g stage
-  pub within : EachPlace count (λ k. HoldsPoint stage.domain row (first +ℤ pos k))
+  pub there : slice_get job.stages g ≡ Some stage
+  pub whole : HasWholeTiles given g (grid_of job stage)
+  pub points : EachPlace count (λ k. IsGivenAt given g (grid_of job stage) row (first +ℤ pos k))

@@ -2,5 +2,7 @@
 pub mod Tiles
 pub mod Steps
 pub mod Layouts
+pub mod Lasting
 pub mod Running
 pub mod Room
+pub mod RowWorks

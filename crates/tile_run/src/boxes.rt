@@ -4,17 +4,21 @@
 ghost use Rattle.std.specs.Prelude.{◌≡◌, ◌≤◌, ◌<◌, ◌+◌, length, IfSome, IfNone};
 ghost use Rattle.tile_eval.specs.Rows.{EachPlace, at};
 
-/// What a step reads of scratch memory: the numbers before the range that it writes, and those from the range's end on.
+use crate::wide_planes::WidePlanes;
+
+/// What a step reads of scratch memory: the numbers before the range that it writes, and those from the range's end on; and what there
+/// is of planes.
 #[derive(Clone, Copy)]
 pub struct Boxes<'a> {
     pub(crate) before: &'a [i32],
     pub(crate) behind: &'a [i32],
     pub(crate) end: usize,
+    pub(crate) planes: &'a WidePlanes,
     ghost ordered: { length before.now ≤ end },
 }
 
-// So many numbers from a place on, if there are so many.
-fn part_of(numbers: &[i32], start: usize, len: usize) -> Option<&[i32]>
+/// So many numbers from a place on, if there are so many.
+pub(crate) fn part_of(numbers: &[i32], start: usize, len: usize) -> Option<&[i32]>
     ensures count { IfSome result (λ part. length part.now ≡ len) }
     ensures numbers { IfSome result
         (λ part. EachPlace len (λ k. at part.now k ≡ at numbers.now (start + k))) }
@@ -28,16 +32,18 @@ impl<'a> Boxes<'a> {
     ghost use Rattle.std.specs.Prelude.{ℤ};
     ghost use Rattle.tile_run.specs.Prepared.{IsLent, IsNumberAt};
 
-    /// All of scratch memory, for a step that writes none of it.
-    pub(crate) fn all(numbers: &'a [i32]) -> Boxes<'a>
+    /// All of scratch memory, for a step that writes none of it, and these planes.
+    pub(crate) fn all(numbers: &'a [i32], planes: &'a WidePlanes) -> Boxes<'a>
         ensures before { result.before.now ≡ numbers.now }
         ensures behind { length result.behind.now ≡ 0 }
         ensures end { result.end ≡ length numbers.now }
+        ensures planes { result.planes.now ≡ planes.now }
     {
         Boxes {
             before: numbers,
             behind: &[],
             end: numbers.len(),
+            planes,
         }
     }
 

@@ -6,17 +6,21 @@ ghost use Rattle.job.specs.Kept.{pipeline_in};
 ghost use Rattle.overlap_tiles.specs.Plans.{IsTileLayout};
 ghost use Rattle.tile_run.specs.Prepared.{IsPreparedOn};
 ghost use Rattle.tile_run.specs.Runs.{NeedsGiven, IsSomeLayout};
+ghost use Rattle.tile_run.specs.Wide.{AreWide};
 
 use crate::boxes::Boxes;
 use crate::known::Known;
+use crate::memory::{Scratch, grown_out_of};
 use crate::operands::steps_room;
+use crate::plane_reads::plane_areas;
 use crate::tile_job::TileJob;
-use scratch::Scratch;
+use crate::wide_planes::WidePlanes;
 use std::alloc::{AllocError, Global};
+use std::mem;
 
 impl<K: Known> TileJob<'_, K> {
-    /// Computes the boxes of the inlined functions that the tile's layout names, so that all that the tile reads is at hand. All
-    /// memory is grown before the first value is computed.
+    /// Computes the boxes of the inlined functions that the tile's layout names, so that all that the tile reads is at hand.
+    /// Samples that are read again and again are made numbers before. All memory is grown before the first value is computed.
     ///
     /// # Errors
     ///
@@ -28,16 +32,25 @@ impl<K: Known> TileJob<'_, K> {
     ) -> Result<Boxes<'s>, AllocError>
         requires layout { IsSomeLayout (pipeline_in self.now.job.now) self.now.layout.now }
         requires needs { NeedsGiven (K.given self.now.known.now) self.now.layout.now.needs }
-        ensures { IfOk result (λ boxes. (g i j : ℕ)
+        ensures prepared { IfOk result (λ boxes. (g i j : ℕ)
             → IsTileLayout (pipeline_in self.now.job.now) self.now.layout.now.inlining g i j
             self.now.layout.now
             → IsPreparedOn (pipeline_in self.now.job.now) self.now.layout.now
             (K.given self.now.known.now) boxes g i j) }
+        ensures wide { IfOk result
+            (λ boxes. AreWide (pipeline_in self.now.job.now).picture boxes.planes.now) }
     {
         let room = steps_room(self.job, self.layout.steps()).ok_or(AllocError)?;
-        let mut temps = vec![in alloc; 0; room]?;
-        scratch.grow(self.layout.scratch())?;
-        self.run_steps(scratch, &mut temps);
-        Ok(Boxes::all(scratch.whole()))
+        let areas = plane_areas(self.job, self.layout.steps());
+        let mut operands = grown_out_of(alloc, &mut scratch.operands_of_steps, room)?;
+        scratch.boxes.grow(self.layout.scratch())?;
+        scratch.planes.grow(&areas)?;
+        scratch.planes.take(self.job.picture(), &areas);
+        // the planes are read while the memory of the boxes is written
+        let planes = mem::replace(&mut scratch.planes, WidePlanes::none(alloc));
+        self.run_steps(&planes, &mut scratch.boxes, &mut operands[..room]);
+        scratch.planes = planes;
+        scratch.operands_of_steps = operands;
+        Ok(Boxes::all(scratch.boxes.whole(), &scratch.planes))
     }
 }

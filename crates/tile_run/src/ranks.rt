@@ -1,111 +1,42 @@
 #![tactic(auto)]
-//! All stored functions of a job, each after those that it reads.
+//! The stored functions of a job, each after those that it reads.
 
-ghost use Rattle.std.specs.Prelude.{◌≡◌, ◌<◌, ◌+◌, ℕ, Some, None, true, false, length, map, IfOk, IfErr};
-ghost use Rattle.domains.specs.Tiles.{HasTile, tile_rows, tile_cols};
+ghost use Rattle.std.specs.Prelude.{◌≡◌, ◌+◌, ℕ, None, true, false, length, IfOk, IfErr};
 ghost use Rattle.job.specs.Kept.{pipeline_in, program_id_in};
 ghost use Rattle.job.specs.Pipeline.{rank_of};
 ghost use Rattle.job.specs.Views.{stage_view};
 ghost use Rattle.grouping.specs.Inlining.{IsScheduleOf};
+ghost use Rattle.grouping.specs.Order.{greatest_rank};
 ghost use Rattle.grouping.specs.Schedules.{is_inlined, is_function_body};
-ghost use Rattle.overlap_tiles.specs.Plans.{IsTileLayout};
-ghost use Rattle.tile_run.specs.inside.Running.{row_numbers, tile_values, row_values, grid_values, AreTilesOf, AreStored};
-ghost use Rattle.tile_run.specs.inside.Running.{IsStageReady, StoredFit};
+ghost use Rattle.tile_run.specs.inside.Running.{AreTilesOf, AreStored, StoredFit};
 ghost use Rattle.tile_run.specs.Stored.{stored_tiles, GivesAllTiles};
+ghost use Rattle.tile_run.specs.Uses.{is_used, HasLasts, GivesForAnswer};
+ghost use Rattle.tile_run.specs.UsesOnce.{HasLasts-prop};
 ghost use Rattle.tile_run.specs.Work.{is_stored_function, first_too_big, IsRunFault};
 ghost use Rattle.tile_run.specs.KnownTiles.{AreTrue};
+ghost use Rattle.tile_run.specs.declared.turn.Turn.TheVariants.{Rank};
 
 use crate::fault::RunFault;
+use crate::memory::Scratch;
 use crate::room::{Work, first_too_big};
-use crate::stored::{Stored, TileRow, Tiles};
-use crate::tile_job::TileJob;
+use crate::stage_run::StageRun;
+use crate::stored::{Stored, Tiles};
+use crate::uses::Uses;
 use domains::Grid;
 use grouping::{Schedule, last_rank};
 use job::{Job, Stage, StageKind};
-use overlap_tiles::{Layout, PlanFault};
-use scratch::Scratch;
 use std::alloc::{AllocError, Global};
+use std::mem;
 use std::thread::Threads;
 
-// A stored function of a job, whose tiles are to be made, with what is stored of those that it reads.
+// A job whose stored functions are made, and how long each is kept.
 #[derive(Clone, Copy)]
-struct StageRun<'a> {
+struct KeptRun<'a> {
     job: &'a Job,
     schedule: &'a Schedule,
-    stored: &'a Stored,
-    stage: usize,
-    grid: Grid,
-}
-
-impl StageRun<'_> {
-    // The layout of a tile.
-    fn layout(&self, alloc: Global, row: u32, col: u32) -> Result<Layout<'_>, AllocError>
-        requires ready { IsStageReady (pipeline_in self.now.job.now) self.now.schedule.now.inlining
-            self.now.stored.now.stages.items self.now.stage self.now.grid }
-        requires tile { HasTile self.now.grid row col }
-        ensures { IfOk result (IsTileLayout (pipeline_in self.now.job.now)
-            self.now.schedule.now.inlining self.now.stage row col) }
-    {
-        match Layout::of(alloc, self.job, self.schedule, self.stage, row, col) {
-            Ok(layout) => Ok(layout),
-            Err(PlanFault::NoSuchTile | PlanFault::ScratchTooBig) => unreachable!(),
-            Err(PlanFault::Memory) => Err(AllocError),
-        }
-    }
-
-    // The values of a tile.
-    fn tile(
-        &self,
-        alloc: Global,
-        row: u32,
-        col: u32,
-        scratch: &mut Scratch,
-    ) -> Result<Vec<i32>, AllocError>
-        requires ready { IsStageReady (pipeline_in self.now.job.now) self.now.schedule.now.inlining
-            self.now.stored.now.stages.items self.now.stage self.now.grid }
-        requires tile { HasTile self.now.grid row col }
-        ensures { IfOk result (λ values. values.items
-            ≡ tile_values (pipeline_in self.now.job.now) self.now.stage self.now.grid row col) }
-    {
-        let layout = self.layout(alloc, row, col)?;
-        let tile = TileJob {
-            job: self.job,
-            layout: &layout,
-            known: self.stored,
-        };
-        tile.run(alloc, scratch)
-    }
-
-    // Those of a row of tiles.
-    fn row(&self, alloc: Global, row: u32, scratch: &mut Scratch) -> Result<TileRow, AllocError>
-        requires ready { IsStageReady (pipeline_in self.now.job.now) self.now.schedule.now.inlining
-            self.now.stored.now.stages.items self.now.stage self.now.grid }
-        requires row { row < tile_rows self.now.grid }
-        ensures { IfOk result (λ tiles. row_numbers tiles
-            ≡ row_values (pipeline_in self.now.job.now) self.now.stage self.now.grid row
-            (tile_cols self.now.grid)) }
-    {
-        let mut tiles = Vec::new(alloc);
-        for col in 0..self.grid.tile_cols() {
-            tiles.push(self.tile(alloc, row, col, scratch)?)?;
-        }
-        Ok(TileRow { tiles })
-    }
-
-    // Those of all tiles.
-    fn tiles(&self, alloc: Global, scratch: &mut Scratch) -> Result<Tiles, AllocError>
-        requires ready { IsStageReady (pipeline_in self.now.job.now) self.now.schedule.now.inlining
-            self.now.stored.now.stages.items self.now.stage self.now.grid }
-        ensures { IfOk result (λ tiles. map row_numbers tiles.rows.items
-            ≡ grid_values (pipeline_in self.now.job.now) self.now.stage self.now.grid
-            (tile_rows self.now.grid)) }
-    {
-        let mut rows = Vec::new(alloc);
-        for row in 0..self.grid.tile_rows() {
-            rows.push(self.row(alloc, row, scratch)?)?;
-        }
-        Ok(Tiles { rows })
-    }
+    uses: &'a Uses,
+    ghost fit: { StoredFit (pipeline_in job.now) schedule.now.inlining },
+    ghost lasts: { HasLasts (pipeline_in job.now) schedule.now.inlining uses.now.lasts.items } by { HasLasts-prop (pipeline_in job.now) schedule.now.inlining uses.now.lasts.items },
 }
 
 impl Stored {
@@ -124,31 +55,66 @@ impl Stored {
         Ok(Stored { stages })
     }
 
-    // The tiles of a stage, if it is a stored function.
+    // Lets the tiles go of all stages but outputs that nothing reads after the turn of this rank. Their vectors are for those to come.
+    fn let_go(&mut self, alloc: Global, run: &KeptRun<'_>, rank: usize, scratch: &mut Scratch)
+        requires { AreStored (pipeline_in run.now.job.now) run.now.schedule.now.inlining
+            run.now.uses.now.lasts.items (rank + 1) (Rank rank) self.old.stages.items }
+        ensures { AreStored (pipeline_in run.now.job.now) run.now.schedule.now.inlining
+            run.now.uses.now.lasts.items (rank + 1) (Rank (rank + 1)) self.new.stages.items }
+    {
+        for number in 0..run.job.stages().len() {
+            if run.uses.last(number).is_over(rank) && !run.job.is_output(number) {
+                let none = Tiles {
+                    rows: Vec::new(alloc),
+                };
+                let over = mem::replace(&mut self.stages[number], none);
+                scratch.take_stage_back(over);
+            }
+        }
+    }
+}
+
+impl KeptRun<'_> {
+    // Whether a stage is a function that is used and not inlined.
+    fn is_wanted(&self, number: usize, stage: &Stage) -> bool
+        ensures wanted { result ≡ true → is_function_body (stage_view stage.now).body ≡ true
+            × is_inlined self.now.schedule.now.inlining number ≡ false
+            × is_used self.now.uses.now.lasts.items number ≡ true }
+        ensures other { result ≡ false → is_function_body (stage_view stage.now).body ≡ true
+            → is_inlined self.now.schedule.now.inlining number ≡ false
+            → is_used self.now.uses.now.lasts.items number ≡ false }
+    {
+        stage.kind() == StageKind::Function
+            && !self.schedule.inlined(number)
+            && self.uses.is_used(number)
+    }
+
+    // The tiles of a stage, if it is a stored function that is used.
     fn tiles_of(
         &self,
+        rt: &(impl Threads + Sync),
         alloc: Global,
-        job: &Job,
-        schedule: &Schedule,
+        stored: &Stored,
         stage: usize,
         scratch: &mut Scratch,
     ) -> Result<Tiles, AllocError>
-        requires fit { StoredFit (pipeline_in job.now) schedule.now.inlining }
-        requires lower { AreStored (pipeline_in job.now) schedule.now.inlining
-            (rank_of (pipeline_in job.now).stages stage) self.now.stages.items }
-        ensures { IfOk result (AreTilesOf (pipeline_in job.now) schedule.now.inlining stage) }
+        requires stored { AreStored (pipeline_in self.now.job.now) self.now.schedule.now.inlining
+            self.now.uses.now.lasts.items (rank_of (pipeline_in self.now.job.now).stages stage)
+            (Rank (rank_of (pipeline_in self.now.job.now).stages stage)) stored.now.stages.items }
+        ensures { IfOk result (AreTilesOf (pipeline_in self.now.job.now)
+            self.now.schedule.now.inlining self.now.uses.now.lasts.items stage) }
     {
-        match job.stage(stage) {
-            Some(found) if is_stored(schedule, stage, found) => {
-                let grid = Grid::new(*found.domain(), job.sides());
+        match self.job.stage(stage) {
+            Some(found) if self.is_wanted(stage, found) => {
+                let grid = Grid::new(*found.domain(), self.job.sides());
                 let run = StageRun {
-                    job,
-                    schedule,
-                    stored: self,
+                    job: self.job,
+                    schedule: self.schedule,
+                    stored,
                     stage,
                     grid,
                 };
-                run.tiles(alloc, scratch)
+                run.tiles(rt, alloc, scratch)
             }
             _ => Ok(Tiles {
                 rows: Vec::new(alloc),
@@ -156,69 +122,91 @@ impl Stored {
         }
     }
 
-    // The tiles of a rank besides, where those of lower ranks are stored.
-    fn add_rank(
-        &mut self,
+    // The turn of a rank: its tiles are made, where those of lower ranks are stored, and those are let go that nothing reads afterwards.
+    fn take_turn(
+        &self,
+        rt: &(impl Threads + Sync),
         alloc: Global,
-        job: &Job,
-        schedule: &Schedule,
+        stored: &mut Stored,
         rank: usize,
         scratch: &mut Scratch,
     ) -> Result<(), AllocError>
-        requires fit { StoredFit (pipeline_in job.now) schedule.now.inlining }
-        requires lower { AreStored (pipeline_in job.now) schedule.now.inlining rank
-            self.old.stages.items }
-        ensures { IfOk result (λ done. AreStored (pipeline_in job.now) schedule.now.inlining
-            (rank + 1) self.new.stages.items) }
+        requires stored { AreStored (pipeline_in self.now.job.now) self.now.schedule.now.inlining
+            self.now.uses.now.lasts.items rank (Rank rank) stored.old.stages.items }
+        ensures { IfOk result (λ done. AreStored (pipeline_in self.now.job.now)
+            self.now.schedule.now.inlining self.now.uses.now.lasts.items (rank + 1) (Rank (rank + 1))
+            stored.new.stages.items) }
     {
-        for number in 0..job.stages().len() {
-            if job.rank(number) == Some(rank) {
-                self.stages[number] = self.tiles_of(alloc, job, schedule, number, scratch)?;
+        for number in 0..self.job.stages().len() {
+            if self.job.rank(number) == Some(rank) {
+                stored.stages[number] = self.tiles_of(rt, alloc, stored, number, scratch)?;
             }
         }
+        stored.let_go(alloc, self, rank, scratch);
         Ok(())
     }
 
-    // The tiles of all ranks up to this one.
+    // The tiles that are kept once all ranks up to this one are made.
     fn through(
+        &self,
+        rt: &(impl Threads + Sync),
         alloc: Global,
-        job: &Job,
-        schedule: &Schedule,
-        rank: usize,
+        last: usize,
     ) -> Result<Stored, AllocError>
-        requires fit { StoredFit (pipeline_in job.now) schedule.now.inlining }
-        ensures { IfOk result (λ stored. AreStored (pipeline_in job.now) schedule.now.inlining
-            (rank + 1) stored.stages.items) }
+        requires last { last ≡ greatest_rank (pipeline_in self.now.job.now).stages }
+        ensures { IfOk result (λ stored. AreStored (pipeline_in self.now.job.now)
+            self.now.schedule.now.inlining self.now.uses.now.lasts.items
+            (greatest_rank (pipeline_in self.now.job.now).stages + 1)
+            (Rank (greatest_rank (pipeline_in self.now.job.now).stages + 1)) stored.stages.items) }
     {
-        let mut stored = Stored::none(alloc, job.stages().len())?;
+        let mut stored = Stored::none(alloc, self.job.stages().len())?;
         let mut scratch = Scratch::new(alloc);
-        for lower in 0..rank {
-            stored.add_rank(alloc, job, schedule, lower, &mut scratch)?;
+        for rank in 0..last {
+            self.take_turn(rt, alloc, &mut stored, rank, &mut scratch)?;
         }
-        stored.add_rank(alloc, job, schedule, rank, &mut scratch)?;
+        self.take_turn(rt, alloc, &mut stored, last, &mut scratch)?;
         Ok(stored)
     }
 }
 
-// Whether a stage is a function that is not inlined.
-fn is_stored(schedule: &Schedule, number: usize, stage: &Stage) -> bool
-    ensures stored { result ≡ true
-        → is_function_body (stage_view stage.now).body ≡ true
-        × is_inlined schedule.now.inlining number ≡ false }
-    ensures other { result ≡ false → is_function_body (stage_view stage.now).body ≡ true
-        → is_inlined schedule.now.inlining number ≡ true }
+/// The tiles of the stored functions of a job that are used, as far as they are kept to the end: those of a rank after those of lower
+/// ranks, and each only as long as what reads it is to be made. Several threads compute those of a function together, where there is
+/// work for more than one.
+///
+/// # Errors
+///
+/// Fails only where memory is refused.
+pub fn run_kept(
+    rt: &(impl Threads + Sync),
+    alloc: Global,
+    job: &Job,
+    schedule: &Schedule,
+    uses: &Uses,
+) -> Result<Stored, AllocError>
+    requires room { first_too_big (pipeline_in job.now) schedule.now.inlining
+        (is_stored_function (pipeline_in job.now) schedule.now.inlining) ≡ None }
+    requires lasts { HasLasts (pipeline_in job.now) schedule.now.inlining uses.now.lasts.items }
+    ensures held { IfOk result (λ stored. GivesForAnswer (pipeline_in job.now)
+        schedule.now.inlining uses.now.lasts.items (stored_tiles stored.stages.items)) }
+    ensures values { IfOk result
+        (λ stored. AreTrue (pipeline_in job.now) (stored_tiles stored.stages.items)) }
 {
-    stage.kind() == StageKind::Function && !schedule.inlined(number)
+    let run = KeptRun {
+        job,
+        schedule,
+        uses,
+    };
+    run.through(rt, alloc, last_rank(job.stages()))
 }
 
-/// All tiles of the stored functions of a job: those of a rank after those of lower ranks. One thread computes them; `_rt` starts none
-/// yet.
+/// All tiles of the stored functions of a job: those of a rank after those of lower ranks. Several threads compute those of
+/// a function together, where there is work for more than one.
 ///
 /// # Errors
 ///
 /// Fails where a tile takes too much scratch memory, with the first one and before any is made; and where memory is refused.
 pub fn run_all(
-    _rt: &(impl Threads + Sync),
+    rt: &(impl Threads + Sync),
     alloc: Global,
     job: &Job,
     schedule: &Schedule,
@@ -236,6 +224,7 @@ pub fn run_all(
     if let Some(key) = first_too_big(alloc, job, schedule, Work::Functions)? {
         return Err(RunFault::ScratchTooBig(key));
     }
-    let stored = Stored::through(alloc, job, schedule, last_rank(job.stages()))?;
+    let uses = Uses::all(alloc, job)?;
+    let stored = run_kept(rt, alloc, job, schedule, &uses)?;
     Ok(stored)
 }

@@ -17,13 +17,13 @@ ghost use Rattle.tile_run.specs.inside.Steps.{IsFunctionAt};
 
 use crate::fault::EvalFault;
 use crate::known::Known;
+use crate::memory::{Scratch, grown_out_of};
 use crate::steps::function_of;
 use crate::tile_inputs::TileInputs;
 use crate::tile_job::TileJob;
 use identity::Key;
 use job::{Function, Job};
 use overlap_tiles::{Step, TilePlan};
-use scratch::Scratch;
 use std::alloc::{AllocError, Global};
 use tile_eval::function_room;
 
@@ -76,12 +76,20 @@ impl<K: Known> TileJob<'_, K> {
     {
         let area = &step.area;
         let room = function_room(function, area.cols.len() as usize).ok_or(AllocError)?;
-        let mut temps = vec![in alloc; 0; room]?;
-        let mut values = vec![in alloc; 0; area.points() as usize]?;
+        let mut operands = grown_out_of(alloc, &mut scratch.operands, room)?;
+        let mut values = scratch.tile_room(alloc);
+        values.resize(area.points() as usize, 0)?;
         let boxes = self.prepare(alloc, scratch)?;
         let tile = *self;
         let inputs = TileInputs { tile, boxes };
-        inputs.values(step.stage, function, area, &mut values, &mut temps);
+        inputs.values(
+            step.stage,
+            function,
+            area,
+            &mut values,
+            &mut operands[..room],
+        );
+        scratch.operands = operands;
         Ok(values)
     }
 
@@ -90,7 +98,7 @@ impl<K: Known> TileJob<'_, K> {
     /// # Errors
     ///
     /// Fails only where memory is refused.
-    pub(crate) fn run(&self, alloc: Global, scratch: &mut Scratch) -> Result<Vec<i32>, AllocError>
+    pub fn run(&self, alloc: Global, scratch: &mut Scratch) -> Result<Vec<i32>, AllocError>
         requires layout { IsFunctionLayout (pipeline_in self.now.job.now) self.now.layout.now }
         requires needs { NeedsGiven (K.given self.now.known.now) self.now.layout.now.needs }
         ensures { IfOk result (λ values. (inlining : List Bool) (g i j : ℕ)

@@ -14,12 +14,14 @@ ghost use Rattle.tile_eval.specs.Buffer.{raster};
 ghost use Rattle.tile_eval.specs.Reading.{HasFunctionRoom};
 ghost use Rattle.tile_run.specs.Local.{local_value};
 ghost use Rattle.tile_run.specs.Runs.{NeedsGiven, IsSomeLayout};
+ghost use Rattle.tile_run.specs.Wide.{AreWide};
 ghost use Rattle.tile_run.specs.inside.Steps.{IsFunctionAt, AreComputed, HasStepsRoom, IsPreparedBeside};
 
 use crate::boxes::Boxes;
 use crate::known::Known;
 use crate::tile_inputs::TileInputs;
 use crate::tile_job::TileJob;
+use crate::wide_planes::WidePlanes;
 use job::{Body, Function, Job};
 use overlap_tiles::Step;
 use scratch::Scratch;
@@ -41,6 +43,7 @@ impl<K: Known> TileJob<'_, K> {
     // behind it are lent meanwhile.
     fn write_box(
         &self,
+        planes: &WidePlanes,
         step: &Step,
         function: &Function,
         start: usize,
@@ -57,6 +60,7 @@ impl<K: Known> TileJob<'_, K> {
         requires room { HasFunctionRoom (len_of step.now.area.cols) (length temps.old)
             (map case_view function.now.cases.items)
             (option_map formula_view function.now.otherwise) }
+        requires wide { AreWide (pipeline_in self.now.job.now).picture planes.now }
         ensures { numbers_of scratch.new
             ≡ with_part (numbers_of scratch.old) start (start + point_count step.now.area)
             (raster step.now.area (local_value (pipeline_in self.now.job.now)
@@ -68,6 +72,7 @@ impl<K: Known> TileJob<'_, K> {
             before,
             behind,
             end,
+            planes,
         };
         let tile = *self;
         let inputs = TileInputs { tile, boxes };
@@ -75,7 +80,7 @@ impl<K: Known> TileJob<'_, K> {
     }
 
     // Computes the step at this place in its range, where those before it that are still read are computed.
-    fn run_step(&self, place: usize, scratch: &mut Scratch, temps: &mut [i32])
+    fn run_step(&self, place: usize, planes: &WidePlanes, scratch: &mut Scratch, temps: &mut [i32])
         requires layout { IsSomeLayout (pipeline_in self.now.job.now) self.now.layout.now }
         requires needs { NeedsGiven (K.given self.now.known.now) self.now.layout.now.needs }
         requires there { suc place < length self.now.layout.now.steps }
@@ -84,6 +89,7 @@ impl<K: Known> TileJob<'_, K> {
             (length temps.old) }
         requires before { AreComputed (pipeline_in self.now.job.now) self.now.layout.now
             (K.given self.now.known.now) (numbers_of scratch.old) place }
+        requires wide { AreWide (pipeline_in self.now.job.now).picture planes.now }
         ensures size { length (numbers_of scratch.new) ≡ length (numbers_of scratch.old) }
         ensures computed { AreComputed (pipeline_in self.now.job.now) self.now.layout.now
             (K.given self.now.known.now) (numbers_of scratch.new) (place + 1) }
@@ -91,24 +97,25 @@ impl<K: Known> TileJob<'_, K> {
         let step = self.layout.steps()[place];
         let (start, _) = self.layout.ranges()[place];
         if let Some(function) = function_of(self.job, step.stage) {
-            self.write_box(&step, function, start, scratch, temps);
+            self.write_box(planes, &step, function, start, scratch, temps);
         }
     }
 
     /// Computes each step before the last.
-    pub(crate) fn run_steps(&self, scratch: &mut Scratch, temps: &mut [i32])
+    pub(crate) fn run_steps(&self, planes: &WidePlanes, scratch: &mut Scratch, temps: &mut [i32])
         requires layout { IsSomeLayout (pipeline_in self.now.job.now) self.now.layout.now }
         requires needs { NeedsGiven (K.given self.now.known.now) self.now.layout.now.needs }
         requires size { self.now.layout.now.scratch ≤ length (numbers_of scratch.old) }
         requires room { HasStepsRoom (pipeline_in self.now.job.now) self.now.layout.now.steps
             (length temps.old) }
+        requires wide { AreWide (pipeline_in self.now.job.now).picture planes.now }
         ensures size { length (numbers_of scratch.new) ≡ length (numbers_of scratch.old) }
         ensures computed { (last : ℕ) → suc last ≡ length self.now.layout.now.steps → AreComputed
             (pipeline_in self.now.job.now) self.now.layout.now
             (K.given self.now.known.now) (numbers_of scratch.new) last }
     {
         for place in 1..self.layout.steps().len() {
-            self.run_step(place - 1, scratch, temps);
+            self.run_step(place - 1, planes, scratch, temps);
         }
     }
 }

@@ -5,8 +5,8 @@ use crate::known::Known;
 
 /// The tiles in one row of a grid, each with its numbers row by row.
 #[derive(Drop)]
-pub(crate) struct TileRow {
-    pub(crate) tiles: Vec<Vec<i32>>,
+pub struct TileRow {
+    pub tiles: Vec<Vec<i32>>,
 }
 
 /// The tiles of one stage.

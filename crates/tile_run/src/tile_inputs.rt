@@ -6,6 +6,7 @@ ghost use Rattle.std.specs.Option.{option_map};
 ghost use Rattle.job.specs.Kept.{pipeline_in};
 ghost use Rattle.overlap_tiles.specs.Views.{step_view};
 ghost use Rattle.tile_run.specs.Prepared.{IsInputAt, input_at};
+ghost use Rattle.tile_run.specs.Wide.{AreWide};
 
 use crate::boxes::Boxes;
 use crate::known::Known;
@@ -21,6 +22,7 @@ use tile_eval::{BufferView, RowSource, RowSpan, area_onto};
 pub struct TileInputs<'a, 'b, K: Known> {
     pub tile: TileJob<'a, K>,
     pub boxes: Boxes<'b>,
+    ghost wide: { AreWide (pipeline_in tile.job.now).picture boxes.planes.now },
 }
 
 // The area of the step at a place.
@@ -38,13 +40,15 @@ fn start_at(ranges: &[(usize, usize)], place: usize) -> Option<usize>
 }
 
 impl<K: Known> TileInputs<'_, '_, K> {
-    ghost use Rattle.std.specs.Prelude.{ℤ, length, IfSome, IfNone};
+    ghost use Rattle.std.specs.Prelude.{ℤ, ◌<◌, ◌+ℤ◌, pos, length, IfSome, IfNone};
     ghost use Rattle.domains.specs.Area.{HoldsPoint, IsArea, point_count};
     ghost use Rattle.domains.specs.Span.{len_of};
+    ghost use Rattle.job.specs.Values.{sample_at};
     ghost use Rattle.job.specs.Views.{case_view, formula_view};
+    ghost use Rattle.job.specs.WellFormed.{picture_area};
     ghost use Rattle.tile_eval.specs.Buffer.{place_of, raster};
     ghost use Rattle.tile_eval.specs.Reading.{HasFunctionRoom};
-    ghost use Rattle.tile_eval.specs.Rows.{at};
+    ghost use Rattle.tile_eval.specs.Rows.{EachPlace, at};
     ghost use Rattle.tile_run.specs.Local.{local_value};
     ghost use Rattle.tile_run.specs.Prepared.{IsBoxed, IsPrepared};
     ghost use Rattle.tile_run.specs.inside.Steps.{IsFunctionAt};
@@ -67,6 +71,21 @@ impl<K: Known> TileInputs<'_, '_, K> {
         let start = start_at(layout.ranges(), place)?;
         let numbers = self.boxes.lent(start, area.points() as usize)?;
         Some(BufferView::new(area, numbers))
+    }
+
+    // Writes the samples of a plane along a row, from a column on.
+    fn read_plane(&self, plane: usize, row: i32, first: i32, out: &mut [i32])
+        requires plane { plane < length (pipeline_in self.now.tile.job.now).picture.planes }
+        requires there { EachPlace (length out.old)
+            (λ k. HoldsPoint (picture_area (pipeline_in self.now.tile.job.now).picture) row
+            (first +ℤ pos k)) }
+        ensures { EachPlace (length out.old) (λ k. at out.new k
+            ≡ sample_at (pipeline_in self.now.tile.job.now).picture plane row (first +ℤ pos k)) }
+    {
+        match self.boxes.planes.row(plane, row, first, out.len()) {
+            Some(line) => out.copy_from_slice(line),
+            None => plane_row(self.tile.job.picture(), plane, row, first, out),
+        }
     }
 
     /// Writes the values of a function over an area of its domain, row by row, where all that it reads there is at hand. What the
@@ -109,7 +128,7 @@ impl<K: Known> RowSource for TileInputs<'_, '_, K> {
             return;
         };
         match found.body() {
-            Body::Plane(plane) => plane_row(self.tile.job.picture(), *plane, row, first, out),
+            Body::Plane(plane) => self.read_plane(*plane, row, first, out),
             Body::Function(_) if self.tile.layout.inlined(stage) => {
                 if let Some(view) = self.boxed(stage) {
                     view.read_row(row, first, out);
@@ -130,7 +149,8 @@ impl<K: Known> RowSource for TileInputs<'_, '_, K> {
                 }
             }
             Body::Function(_) => self.tile.given(stage, found).borrow_row(row, first, count),
-            _ => None,
+            Body::Plane(plane) => self.boxes.planes.row(*plane, row, first, count),
+            Body::Accumulator(_) => None,
         }
     }
 

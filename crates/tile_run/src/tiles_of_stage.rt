@@ -88,6 +88,23 @@ impl<'a, K: Known> TilesOfStage<'a, K> {
         Some(BufferView::new(area, numbers))
     }
 
+    /// The numbers along a row, from a column on, as far as the tile of the first of them goes, but at most so many.
+    pub(crate) fn lend_part(&self, row: i32, first: i32, most: usize) -> &'a [i32]
+        requires some { 0 < most }
+        requires there { EachPlace most (λ k. IsGivenAt (K.given self.now.known.now) self.now.stage
+            self.now.grid row (first +ℤ pos k)) }
+        ensures some { 0 < length result.now }
+        ensures most { length result.now ≤ most }
+        ensures numbers { EachPlace (length result.now) (λ k. at result.now k
+            ≡ number_at (K.given self.now.known.now) self.now.stage self.now.grid row
+            (first +ℤ pos k)) }
+    {
+        match self.block(row, first) {
+            Some(block) => block.slice(row, first, reach(block.columns(), first, most)),
+            None => unreachable!(),
+        }
+    }
+
     // Writes the numbers along a row as far as the tile of its first point goes, and tells how many these are.
     fn part(&self, row: i32, first: i32, out: &mut [i32]) -> usize
         requires some { 0 < length out.old }
@@ -99,14 +116,9 @@ impl<'a, K: Known> TilesOfStage<'a, K> {
             ≡ number_at (K.given self.now.known.now) self.now.stage self.now.grid row
             (first +ℤ pos k)) }
     {
-        match self.block(row, first) {
-            Some(block) => {
-                let count = reach(block.columns(), first, out.len());
-                block.read_row(row, first, &mut out[..count]);
-                count
-            }
-            None => out.len(),
-        }
+        let line = self.lend_part(row, first, out.len());
+        out[..line.len()].copy_from_slice(line);
+        line.len()
     }
 
     /// Writes the numbers along a row, from a column on.

@@ -2,10 +2,12 @@ use Rattle.std.proofs.Common.{rules, ℕ, ℤ, ◌+ℤ◌, pos, ◌≡◌, sym, 
 use Rattle.std.proofs.lemmas.Int.{to_z-of_z}
 use Rattle.job.specs.Answers.{grid_of}
 use Rattle.job.specs.Kept.{pipeline_in}
+use Rattle.job.specs.Values.{sample_at}
 use Rattle.job.specs.Views.{stage_view}
 use Rattle.tile_run.specs.Local.{local_value}
 use Rattle.tile_run.specs.Prepared.{IsBoxed}
-use Rattle.tile_run.proofs.InputsAreRead.{function_body, of_stored, read_stored, given_by, number_by, some_then}
+use Rattle.tile_run.proofs.InputsAreRead.{plane_body, function_body, of_stored, read_plane, read_stored, given_by, number_by, some_then}
+use Rattle.tile_run.proofs.PlanesAreWide.{some_both}
 use Rattle.tile_run.proofs.BoxesAreRead.{view_holds, view_reads}
 use Rattle.tile_eval.specs.Buffer.{place_of}
 use Rattle.tile_eval.specs.Rows.{at}
@@ -84,3 +86,24 @@ returns-in-Some g c =
           (to_z-of_z w32 c.args.first first i +ℤ pos k)))
           ∙ view_reads job tile.layout.now given c.args.self.now.boxes c.args.stage s there _ _ body flag c.args.row (c.args.first +ℤ pos k) (c.requires k h) c.in-Some.view c.in-Some.ensures.some,
     )
+
+pub returns-in-Plane : goal.returns-in-Plane
+returns-in-Plane g c =
+    let tile = c.args.self.now.tile in
+    let job = pipeline_in tile.job.now in
+    let inlining = tile.layout.now.inlining in
+    let given = g.K.Known.given tile.known.now in
+    let s = stage_view c.in_ok-found.found.now in
+    let row : FitsSigned w32 c.args.row = search rules in
+    let first : FitsSigned w32 c.args.first = search rules in
+    let there : slice_get job.stages c.args.stage ≡ Some s = sym c.in_ok-found.ensures in
+    let body = plane_body c.in_ok-found.found.now c.body.result.now c.in-Plane.plane c.body.ensures c.in-Plane.is in
+    some_then c.row.result
+    (some_both _ _ c.row.result c.row.ensures.count (c.row.ensures.samples job.picture c.args.self.now.wide)) (λ line is. (
+      is.0,
+      λ k h.
+          is.1 k h
+          ∙ (λ i. sample_at job.picture c.in-Plane.plane (to_z-of_z w32 c.args.row row i) (to_z-of_z w32 c.args.first first i +ℤ pos k))
+          ∙ sym (read_plane job inlining given (local_value job inlining given) c.args.stage s there c.args.row
+          (c.args.first +ℤ pos k) c.in-Plane.plane body),
+    ))

@@ -1,11 +1,8 @@
-use Rattle.std.proofs.Common.{rules, ℕ, ℤ, ◌+ℤ◌, pos, ◌≡◌, sym, ap, subst, ◌∙◌, Some, slice_get, w32, FitsSigned, ◌<◌, length}
+use Rattle.std.proofs.Common.{rules, ℕ, ℤ, ◌+ℤ◌, pos, ◌≡◌, sym, ap, ◌∙◌, Some, slice_get, w32, FitsSigned}
 use Rattle.std.proofs.lemmas.Int.{to_z-of_z}
-use Rattle.domains.specs.Area.{HoldsPoint}
-use Rattle.netpbm.specs.Image.{Image}
 use Rattle.job.specs.Answers.{grid_of}
 use Rattle.job.specs.Kept.{pipeline_in}
 use Rattle.job.specs.Views.{stage_view}
-use Rattle.job.specs.WellFormed.{picture_area}
 use Rattle.tile_run.specs.Local.{local_value}
 use Rattle.tile_run.specs.Prepared.{IsBoxed}
 use Rattle.tile_run.proofs.InputsAreRead.{plane_body, function_body, of_plane}
@@ -16,17 +13,16 @@ use Rattle.tile_eval.specs.Buffer.{place_of}
 use Rattle.tile_eval.specs.Rows.{at}
 use Rattle.tile_run.proofs.tile_inputs.TileInputsRowSource.read_row.Goals as goal
 
-pub plane_row-requires-clause-plane : goal.plane_row-requires-clause-plane
-plane_row-requires-clause-plane g c =
+pub read_plane-requires-clause-plane : goal.read_plane-requires-clause-plane
+read_plane-requires-clause-plane g c =
     let tile = c.args.self.now.tile in
     let job = pipeline_in tile.job.now in
     let s = stage_view c.in-Some.found.now in
-    subst (λ (p : Image). c.in-Plane.plane < length p.planes) (sym c.picture.ensures)
     (planes_lie job tile.job.now.well c.args.stage c.in-Plane.plane s (sym c.in-Some.ensures)
     (plane_body c.in-Some.found.now c.body.result.now c.in-Plane.plane c.body.ensures c.in-Plane.is)).0
 
-pub plane_row-requires-clause-there : goal.plane_row-requires-clause-there
-plane_row-requires-clause-there g c =
+pub read_plane-requires-clause-there : goal.read_plane-requires-clause-there
+read_plane-requires-clause-there g c =
     let tile = c.args.self.now.tile in
     let job = pipeline_in tile.job.now in
     let inlining = tile.layout.now.inlining in
@@ -36,13 +32,10 @@ plane_row-requires-clause-there g c =
     let row : FitsSigned w32 c.args.row = search rules in
     let first : FitsSigned w32 c.args.first = search rules in
     let there : slice_get job.stages c.args.stage ≡ Some s = sym c.in-Some.ensures in
+    let body = plane_body c.in-Some.found.now c.body.result.now c.in-Plane.plane c.body.ensures c.in-Plane.is in
     rw (to_z-of_z w32 c.args.row row) (rw (to_z-of_z w32 c.args.first first) (λ k h.
-    subst (λ (p : Image). HoldsPoint (picture_area p) c.args.row (c.args.first +ℤ pos k)) (sym c.picture.ensures)
-    ((planes_lie job tile.job.now.well c.args.stage c.in-Plane.plane s there
-    (plane_body c.in-Some.found.now c.body.result.now c.in-Plane.plane c.body.ensures c.in-Plane.is)).1 c.args.row
-    (c.args.first +ℤ pos k)
-    (of_plane job inlining given Inner c.args.stage c.args.row (c.args.first +ℤ pos k) s there (c.requires k h)
-    c.in-Plane.plane (plane_body c.in-Some.found.now c.body.result.now c.in-Plane.plane c.body.ensures c.in-Plane.is)))))
+    (planes_lie job tile.job.now.well c.args.stage c.in-Plane.plane s there body).1 c.args.row (c.args.first +ℤ pos k)
+    (of_plane job inlining given Inner c.args.stage c.args.row (c.args.first +ℤ pos k) s there (c.requires k h) c.in-Plane.plane body)))
 
 pub read_row-requires-in-Function-2 : goal.read_row-requires-in-Function-2
 read_row-requires-in-Function-2 g c = λ k h.

@@ -1,4 +1,4 @@
-use Rattle.std.proofs.Common.{rules, ◌≡◌, ◌≤◌, length, subst, List}
+use Rattle.std.proofs.Common.{rules, ℕ, ◌≡◌, ◌≤◌, length, subst, List}
 use Rattle.job.specs.Kept.{pipeline_in}
 use Rattle.scratch.specs.Lending.{numbers_of}
 use Rattle.tile_run.specs.inside.Steps.{HasStepsRoom}
@@ -11,11 +11,11 @@ run_steps-requires-clause-room g c =
     let l = c.args.self.now.layout.now in
     let room : HasStepsRoom job l.steps c.in_ok-room.room =
     subst (λ (ss : List _). HasStepsRoom job ss c.in_ok-room.room) c.steps.ensures (search rules) in
-    let long : c.in_ok-room.room ≡ length c.deref_mut.result.now = search rules in
-    subst (HasStepsRoom job l.steps) long room
+    let long : (n : ℕ) → c.in_ok-room.room ≡ n → HasStepsRoom job l.steps n = λ n e. subst (HasStepsRoom job l.steps) e room in
+    long _ (search rules)
 
-pub returns : goal.returns
-returns g c = λ k i j is.
+pub returns-clause-prepared : goal.returns-clause-prepared
+returns-clause-prepared g c = λ k i j is.
     let job = pipeline_in c.args.self.now.job.now in
     let l = c.args.self.now.layout.now in
     let given = g.K.Known.given c.args.self.now.known.now in

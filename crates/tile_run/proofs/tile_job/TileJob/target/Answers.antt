@@ -16,4 +16,4 @@ values-requires-clause-prepared g c =
     let end : step_view c.args.step.now ≡ (some.stage, own.area) =
     c.requires.last _ _ (layout_steps job l.inlining given l some.stage some.row some.col own) in
     subst (λ (s : ℕ × Area). IsPrepared job l given c.in_ok-boxes.boxes s.0 s.1) (sym end)
-    (c.in_ok-boxes.ensures some.stage some.row some.col own own.area own.tile)
+    (c.in_ok-boxes.ensures.prepared some.stage some.row some.col own own.area own.tile)

@@ -1,0 +1,50 @@
+-- How the tiles of one stage are made.
+use Rattle.std.specs.Prelude.{ℕ, ℤ, ◌≡◌, ◌≤◌, ◌==◌, ◌&&◌, Bool, if◌then◌else◌, Some, None, List, map}
+use Rattle.std.specs.List.{range_with_len}
+use Rattle.domains.specs.Tiles.{HasTile, tile_area}
+use Rattle.domains.specs.declared.grid.Grid.{Grid}
+use Rattle.job.specs.Pipeline.{Stage, Pipeline}
+use Rattle.job.specs.Answers.{grid_of}
+use Rattle.job.specs.Values.{value}
+use Rattle.grouping.specs.Costs.{scratch, most_scratch}
+use Rattle.overlap_tiles.specs.Plans.{Layout, IsTileLayout}
+use Rattle.tile_eval.specs.Buffer.{raster}
+use Rattle.tile_run.specs.KnownTiles.{KnownTiles, AreTrue}
+use Rattle.tile_run.specs.Runs.{NeedsGiven}
+use Rattle.tile_run.specs.Stored.{numbers_in, IsStoredFunction}
+use Rattle.tile_run.specs.declared.stored.TileRow.{TileRow}
+
+-- whatever the tiles of stage g need is given
+abbrev pub GivesNeedsOf : Pipeline → List Bool → KnownTiles → ℕ → Type 0
+GivesNeedsOf job inlining given g = (i j : ℕ) (l : Layout) → IsTileLayout job inlining g i j l → NeedsGiven given l.needs
+
+-- the tile has room in scratch memory
+abbrev pub FitsAt : Pipeline → List Bool → ℕ → Grid → ℕ → ℕ → Type 0
+FitsAt job inlining g grid i j = scratch (record { job = job; inlining = inlining; stage = g; region = tile_area grid i j }) ≤ most_scratch
+
+-- all is there that the tiles of stage g, a stored function with this grid, are made of, and it is true
+pub record IsStageReady (job : Pipeline) (inlining : List Bool) (given : KnownTiles) (g : ℕ) (grid : Grid) : Type 0 where
+  pub stage : Stage
+  pub function : IsStoredFunction job inlining g stage
+  pub parted : grid ≡ grid_of job stage
+  pub fit : (i j : ℕ) → HasTile grid i j → FitsAt job inlining g grid i j
+  pub right : AreTrue job given
+  pub needs : GivesNeedsOf job inlining given g
+
+-- ---- what is made
+
+-- the numbers of a row of tiles
+abbrev pub row_numbers : TileRow → List (List ℤ)
+row_numbers row = map (λ t. t.items) row.tiles.items
+
+-- the values of the tile in row i and column j of the grid of stage g
+abbrev pub tile_values : Pipeline → ℕ → Grid → ℕ → ℕ → List ℤ
+tile_values job g grid i j = raster (tile_area grid i j) (value job g)
+
+-- those of the first n tiles of row i
+abbrev pub row_values : Pipeline → ℕ → Grid → ℕ → ℕ → List (List ℤ)
+row_values job g grid i n = map (tile_values job g grid i) (range_with_len 0 n)
+
+-- what one row of tiles of stage g gives
+abbrev pub lent_row : ℕ → ℕ → TileRow → KnownTiles
+lent_row g row tiles h i j = if (h == g) && (i == row) then numbers_in (Some tiles) j else None

@@ -1,0 +1,7 @@
+-- Rows of tiles that are to be made.
+use Rattle.std.specs.Prelude.{ℕ}
+use Rattle.tile_run.specs.declared.stage_run.RowWork.{RowWork}
+
+-- the row of the grid
+abbrev pub row_of : RowWork → ℕ
+row_of work = work.row

@@ -1,0 +1,27 @@
+#![tactic(auto)]
+//! One row of tiles.
+
+use crate::known::Known;
+use crate::stored::TileRow;
+
+/// The tiles of one stage in one row of its grid, and no other.
+#[derive(Clone, Copy)]
+pub struct LentRow<'a> {
+    pub stage: usize,
+    pub row: u32,
+    pub tiles: &'a TileRow,
+}
+
+impl Known for LentRow<'_> {
+    ghost use Rattle.tile_run.specs.StageRuns.{lent_row};
+
+    ghost given = { λ lent. lent_row lent.stage lent.row lent.tiles.now };
+
+    fn tile(&self, stage: usize, row: u32, col: u32) -> Option<&[i32]> {
+        if stage != self.stage || row != self.row {
+            return None;
+        }
+        let numbers = self.tiles.tiles.get(col as usize)?;
+        Some(numbers.as_slice())
+    }
+}

@@ -1,0 +1,190 @@
+#![tactic(auto)]
+//! The tiles of a stored function, row by row.
+
+ghost use Rattle.std.specs.Prelude.{◌≡◌, ◌<◌, map, IfOk};
+ghost use Rattle.std.specs.List.{range_with_len};
+ghost use Rattle.domains.specs.Tiles.{HasTile, tile_rows, tile_cols};
+ghost use Rattle.job.specs.Kept.{pipeline_in};
+ghost use Rattle.overlap_tiles.specs.Plans.{IsTileLayout};
+ghost use Rattle.tile_run.specs.StageRuns.{row_numbers, tile_values, row_values, IsStageReady};
+ghost use Rattle.tile_run.specs.Stored.{stored_tiles};
+ghost use Rattle.tile_run.specs.inside.Running.{grid_values};
+ghost use Rattle.tile_run.specs.inside.RowWorks.{row_of};
+
+use crate::memory::Scratch;
+use crate::pieces::least_rows;
+use crate::stored::{Stored, TileRow, Tiles};
+use crate::tile_job::TileJob;
+use domains::Grid;
+use grouping::Schedule;
+use job::Job;
+use overlap_tiles::{Layout, PlanFault};
+use rayon::prelude::*;
+use std::alloc::{AllocError, Global};
+use std::thread::Threads;
+
+/// A stored function of a job, whose tiles are to be made, with its number and its grid, and with what is stored of those that it reads.
+#[derive(Clone, Copy)]
+pub struct StageRun<'a> {
+    pub job: &'a Job,
+    pub schedule: &'a Schedule,
+    pub stored: &'a Stored,
+    pub stage: usize,
+    pub grid: Grid,
+}
+
+// A row of tiles that is to be made, and vectors of earlier tiles, in which its numbers may be written.
+#[derive(Drop)]
+struct RowWork {
+    row: u32,
+    room: TileRow,
+}
+
+impl StageRun<'_> {
+    // The layout of a tile.
+    fn layout(&self, alloc: Global, row: u32, col: u32) -> Result<Layout<'_>, AllocError>
+        requires ready { IsStageReady (pipeline_in self.now.job.now) self.now.schedule.now.inlining
+            (stored_tiles self.now.stored.now.stages.items) self.now.stage self.now.grid }
+        requires tile { HasTile self.now.grid row col }
+        ensures { IfOk result (IsTileLayout (pipeline_in self.now.job.now)
+            self.now.schedule.now.inlining self.now.stage row col) }
+    {
+        match Layout::of(alloc, self.job, self.schedule, self.stage, row, col) {
+            Ok(layout) => Ok(layout),
+            Err(PlanFault::NoSuchTile | PlanFault::ScratchTooBig) => unreachable!(),
+            Err(PlanFault::Memory) => Err(AllocError),
+        }
+    }
+
+    // The values of a tile.
+    fn tile(
+        &self,
+        alloc: Global,
+        row: u32,
+        col: u32,
+        scratch: &mut Scratch,
+    ) -> Result<Vec<i32>, AllocError>
+        requires ready { IsStageReady (pipeline_in self.now.job.now) self.now.schedule.now.inlining
+            (stored_tiles self.now.stored.now.stages.items) self.now.stage self.now.grid }
+        requires tile { HasTile self.now.grid row col }
+        ensures { IfOk result (λ values. values.items
+            ≡ tile_values (pipeline_in self.now.job.now) self.now.stage self.now.grid row col) }
+    {
+        let layout = self.layout(alloc, row, col)?;
+        let tile = TileJob {
+            job: self.job,
+            layout: &layout,
+            known: self.stored,
+        };
+        tile.run(alloc, scratch)
+    }
+
+    /// The values of a row of tiles, tile by tile.
+    ///
+    /// # Errors
+    ///
+    /// Fails only where memory is refused.
+    pub fn row(&self, alloc: Global, row: u32, scratch: &mut Scratch) -> Result<TileRow, AllocError>
+        requires ready { IsStageReady (pipeline_in self.now.job.now) self.now.schedule.now.inlining
+            (stored_tiles self.now.stored.now.stages.items) self.now.stage self.now.grid }
+        requires row { row < tile_rows self.now.grid }
+        ensures { IfOk result (λ tiles. row_numbers tiles
+            ≡ row_values (pipeline_in self.now.job.now) self.now.stage self.now.grid row
+            (tile_cols self.now.grid)) }
+    {
+        let mut tiles = Vec::new(alloc);
+        for col in 0..self.grid.tile_cols() {
+            tiles.push(self.tile(alloc, row, col, scratch)?)?;
+        }
+        Ok(TileRow { tiles })
+    }
+
+    /// Those of all rows: several rows to a thread, where there is work for more than one thread.
+    ///
+    /// # Errors
+    ///
+    /// Fails only where memory is refused.
+    pub(crate) fn tiles(
+        &self,
+        rt: &(impl Threads + Sync),
+        alloc: Global,
+        scratch: &mut Scratch,
+    ) -> Result<Tiles, AllocError>
+        requires ready { IsStageReady (pipeline_in self.now.job.now) self.now.schedule.now.inlining
+            (stored_tiles self.now.stored.now.stages.items) self.now.stage self.now.grid }
+        ensures { IfOk result (λ tiles. map row_numbers tiles.rows.items
+            ≡ grid_values (pipeline_in self.now.job.now) self.now.stage self.now.grid
+            (tile_rows self.now.grid)) }
+    {
+        let least = least_rows(self.job, self.schedule, self.stage);
+        if self.grid.tile_rows() as usize / 2 < least {
+            self.tiles_in_turn(alloc, scratch)
+        } else {
+            self.tiles_side_by_side(rt, alloc, scratch, least)
+        }
+    }
+
+    // Those of all rows, row by row.
+    fn tiles_in_turn(&self, alloc: Global, scratch: &mut Scratch) -> Result<Tiles, AllocError>
+        requires ready { IsStageReady (pipeline_in self.now.job.now) self.now.schedule.now.inlining
+            (stored_tiles self.now.stored.now.stages.items) self.now.stage self.now.grid }
+        ensures { IfOk result (λ tiles. map row_numbers tiles.rows.items
+            ≡ grid_values (pipeline_in self.now.job.now) self.now.stage self.now.grid
+            (tile_rows self.now.grid)) }
+    {
+        let mut rows = Vec::new(alloc);
+        for row in 0..self.grid.tile_rows() {
+            rows.push(self.row(alloc, row, scratch)?)?;
+        }
+        Ok(Tiles { rows })
+    }
+
+    // The rows that are to be made, with the vectors of earlier tiles.
+    fn works(&self, alloc: Global, scratch: &mut Scratch) -> Result<Vec<RowWork>, AllocError>
+        ensures { IfOk result (λ works. map row_of works.items
+            ≡ range_with_len 0 (tile_rows self.now.grid)) }
+    {
+        let mut works = Vec::new(alloc);
+        for row in 0..self.grid.tile_rows() {
+            let room = scratch.room_for_row(alloc, self.grid.tile_cols())?;
+            works.push(RowWork { row, room })?;
+        }
+        Ok(works)
+    }
+
+    // Those of all rows, of which a thread has as many as this or more, and scratch memory of its own.
+    fn tiles_side_by_side(
+        &self,
+        rt: &(impl Threads + Sync),
+        alloc: Global,
+        scratch: &mut Scratch,
+        least: usize,
+    ) -> Result<Tiles, AllocError>
+        requires ready { IsStageReady (pipeline_in self.now.job.now) self.now.schedule.now.inlining
+            (stored_tiles self.now.stored.now.stages.items) self.now.stage self.now.grid }
+        ensures { IfOk result (λ tiles. map row_numbers tiles.rows.items
+            ≡ grid_values (pipeline_in self.now.job.now) self.now.stage self.now.grid
+            (tile_rows self.now.grid)) }
+    {
+        let works = self.works(alloc, scratch)?;
+        let rows = works
+            .into_par_iter()
+            .with_min_len(least)
+            .map_init(
+                || Scratch::new(alloc),
+                |scratch: &mut Scratch, work: RowWork| -> Result<TileRow, AllocError>
+                    requires { IsStageReady (pipeline_in self.now.job.now) self.now.schedule.now.inlining
+                        (stored_tiles self.now.stored.now.stages.items) self.now.stage self.now.grid
+                        × (work.row < tile_rows self.now.grid) }
+                    ensures { IfOk result (λ tiles. row_numbers tiles
+                        ≡ row_values (pipeline_in self.entry.now.job.now) self.entry.now.stage
+                        self.entry.now.grid work.row (tile_cols self.entry.now.grid)) }
+                {
+                    scratch.take_back(work.room);
+                    self.row(alloc, work.row, scratch)
+                },
+            )
+            .collect::<Result<Vec<TileRow>, AllocError>>(rt, alloc)??;
+        Ok(Tiles { rows })
+    }
+}
