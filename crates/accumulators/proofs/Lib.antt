@@ -1,6 +1,7 @@
 pub mod TotalsInAnyOrder
 pub mod TakeValues
 pub mod JoinInto
+pub mod GatherOnto
 pub mod PlanesRowByRow
 pub mod TilesJoinInTurn
 pub mod PictureOfAnswer
@@ -13,3 +14,9 @@ pub mod TrueTilesGiveTotals
 pub mod LastStepIsTile
 pub mod TakenPartials
 pub mod TrueImage
+pub mod RowsOfTiles
+pub mod LentRows
+pub mod OutputsAreMade
+pub mod MadeInOrder
+pub mod StripsAreRows
+pub mod RowsJoin

@@ -1,7 +1,7 @@
 -- The picture of a job, from the planes of its output's functions.
 use Rattle.std.proofs.Common.{◌≡◌, ◌≤◌, ◌*◌, ◌||◌, ℕ, ℤ, pos, inl, inr, Bool, true, false, eqb, List, [], ◌∷◌, Option, Some}
 use Rattle.std.proofs.Common.{length, map, unsigned_abs, refl, sym, ap, ◌∙◌, subst, arith}
-use Rattle.std.specs.Prelude.{Contains, slice_get, slice_index, slice_index_or}
+use Rattle.std.specs.Prelude.{All, Contains, slice_get, slice_index, slice_index_or}
 use Rattle.std.specs.Int.{int_min, int_max}
 use Rattle.std.specs.List.{list_any}
 use Rattle.std.specs.Option.{option_map_or}
@@ -22,7 +22,8 @@ use Rattle.overlap_tiles.proofs.Lists.{All-from_contains}
 use Rattle.std.proofs.lemmas.Option.{same_Some}
 use Rattle.tile_run.specs.KnownTiles.{KnownTiles, AreWhole}
 use Rattle.tile_run.specs.Stored.{IsStoredFunction, GivesAllTiles}
-use Rattle.accumulators.specs.Pictures.{picture_from, samples_from, IsLentStage, GivesOutputs}
+use Rattle.accumulators.specs.inside.Planes.{IsOutputStage}
+use Rattle.accumulators.specs.Pictures.{picture_from, picture_with, samples_from, IsLentStage, GivesOutputs}
 
 -- ---- samples
 
@@ -32,8 +33,17 @@ least_of a max = grind (arith, ints)
 sample_most : (max : ℕ) (v : ℤ) → sample_of max v ≤ max
 sample_most max v = least_of v max
 
+-- no value is cut to a sample above the greatest
+pub cuts_bounded : (max : ℕ) (vs : List ℤ) → All (λ sample. sample ≤ max) (map (sample_of max) vs)
+cuts_bounded max vs = All-map (λ n. n ≤ max) (sample_of max) vs (λ k v within. sample_most max (slice_index_or vs k v))
+
 abbrev pub sample_at : Valuation → ℕ → ℕ → ℤ × ℤ → ℕ
 sample_at env max g p = sample_of max (env g p.0 p.1)
+
+-- nor is any of the samples at these points
+pub samples_bounded : (env : Valuation) (max g : ℕ) (ps : List (ℤ × ℤ)) → All (λ sample. sample ≤ max) (map (sample_at env max g) ps)
+samples_bounded env max g ps = All-map (λ n. n ≤ max) (sample_at env max g) ps (λ k p within.
+    let q = slice_index_or ps k p in sample_most max (env g q.0 q.1))
 
 pub samples_are : (job : Pipeline) (env : Valuation) (max g : ℕ) (s : Stage) → slice_get job.stages g ≡ Some s
     → samples_from job env max g ≡ map (sample_at env max g) (points_of s.domain)
@@ -71,11 +81,15 @@ is_picture job env o is =
           o.stages is.equal_sides);
     }
 
-pub same_picture : (job : Pipeline) (env : Valuation) (o : Output) (rows cols max : ℕ) (planes : List (List ℕ))
-    → rows ≡ height_of job (slice_index o.stages 0) → cols ≡ width_of job (slice_index o.stages 0) → max ≡ o.max
-    → planes ≡ map (samples_from job env max) o.stages → image rows cols max planes ≡ picture_from job env o
-same_picture job env o rows cols max planes high wide most made =
-    (λ i. image (high i) (wide i) (most i) ((made ∙ ap (λ n. map (samples_from job env n) o.stages) most) i))
+pub same_picture : (job : Pipeline) (o : Output) (rows cols max : ℕ) (planes : List (List ℕ)) → rows ≡ height_of job (slice_index o.stages 0)
+    → cols ≡ width_of job (slice_index o.stages 0) → max ≡ o.max → image rows cols max planes ≡ picture_with job o planes
+same_picture job o rows cols max planes high wide most = (λ i. image (high i) (wide i) (most i) planes)
+
+-- planes of an output that are those of env make a picture
+pub planes_picture : (job : Pipeline) (env : Valuation) (o : Output) (planes : List (List ℕ)) → IsOutput job o
+    → planes ≡ map (samples_from job env o.max) o.stages → IsImage (picture_with job o planes)
+planes_picture job env o planes is made =
+    subst (λ (x : List (List ℕ)). IsImage (picture_with job o x)) (sym made) (is_picture job env o is)
 
 -- ---- outputs are stored
 
@@ -139,3 +153,17 @@ outputs_lent job inlining given good schedule all whole o there =
         whole = whole g own.stage own.there;
       },
     ))
+
+-- the stages of the output are stored functions
+pub outputs_stored : (job : Pipeline) (inlining : List Bool) → IsJob job → IsSchedule job inlining → (o : Output) → job.output ≡ Some o
+    → All (IsOutputStage job inlining) o.stages
+outputs_stored job inlining good schedule o there =
+    let is : IsOutput job o = good.output o there in
+    All-from_contains (IsOutputStage job inlining) o.stages (λ g has.
+    let own = All-contains (IsOutputPlane job (height_of job (slice_index o.stages 0)) (width_of job (slice_index o.stages 0)))
+    o.stages g is.equal_sides has in
+    record {
+      stage = own.stage;
+      function = output_stored job inlining o g own.stage schedule there is has own.there;
+      output = is_among job o g there has;
+    })

@@ -1,32 +1,25 @@
 -- A tile of an accumulator, from all tiles of the stored functions.
-use Rattle.std.proofs.Common.{ℕ, ℤ, ◌≡◌, ◌≤◌, arith, sym, ap, ◌∙◌, subst, Bool, true, false, not, eqb, Option, Some, None, List, length}
-use Rattle.std.specs.Prelude.{Contains, IsSomeAnd}
-use Rattle.std.specs.Option.{option_map_or}
-use Rattle.std.proofs.lemmas.Bool.{and_parts, not-true}
+use Rattle.std.proofs.Common.{ℕ, ℤ, ◌≡◌, ◌≤◌, arith, sym, ap, ◌∙◌, subst, Bool, true, Option, None, List, length}
+use Rattle.std.specs.Prelude.{IsSomeAnd}
 use Rattle.std.proofs.lemmas.Option.{same_Some}
 use Rattle.domains.specs.Span.{Ends}
 use Rattle.domains.specs.Tiles.{HasTile, tile_area}
 use Rattle.domains.specs.declared.area.Area.{Area}
 use Rattle.domains.specs.declared.grid.Grid.{Grid}
 use Rattle.domains.specs.declared.operators.Fold.{Fold}
-use Rattle.job.specs.Answers.{Tile, grid_of, has_tiles}
+use Rattle.job.specs.Answers.{grid_of, has_tiles}
 use Rattle.job.specs.Identity.{HasTileAt}
-use Rattle.job.specs.Pipeline.{Pipeline, Stage}
+use Rattle.job.specs.Pipeline.{Pipeline}
 use Rattle.job.specs.Totals.{totals_over}
 use Rattle.job.specs.Values.{value}
 use Rattle.job.specs.WellFormed.{IsJob}
 use Rattle.grouping.specs.Costs.{scratch, most_scratch}
-use Rattle.grouping.specs.Schedules.{is_inlined, is_function, is_function_body}
-use Rattle.grouping.specs.Targets.{Target, is_boxed, target_over}
-use Rattle.overlap_tiles.specs.Needs.{IsNeeded}
+use Rattle.grouping.specs.Targets.{target_over}
 use Rattle.overlap_tiles.specs.Plans.{Layout, IsTileAt, IsTileFault, IsTileLayout}
 use Rattle.overlap_tiles.specs.declared.fault.PlanFault.TheVariants.{ScratchTooBig}
-use Rattle.overlap_tiles.proofs.NeedsAreExact.{from_needs}
-use Rattle.grouping.proofs.TilesAreTargets.{gridded}
 use Rattle.tile_eval.proofs.Rasters.{raster_len}
 use Rattle.tile_run.specs.KnownTiles.{KnownTiles, AreTrue, AreWhole}
-use Rattle.tile_run.specs.Runs.{NeedsGiven}
-use Rattle.tile_run.specs.Stored.{IsStoredFunction, GivesAllTiles}
+use Rattle.tile_run.specs.StageRuns.{GivesNeedsOf}
 use Rattle.tile_run.specs.Work.{first_too_big, is_accumulator_at}
 use Rattle.tile_run.proofs.FirstTooBig.{none_too_big}
 use Rattle.accumulators.specs.inside.Making.{IsGathered}
@@ -64,30 +57,10 @@ module _ (job : Pipeline) (g : ℕ) (way : Fold) (bins : Ends) (grid : Grid) (is
   not_too_big inlining none tile fault =
       let room = has_room inlining fault.area none tile fault.tile in let over = fault.reason in omega arith
 
-  module _ (inlining : List Bool) (given : KnownTiles) (good : IsJob job) (all : GivesAllTiles job inlining given) (l : Layout)
-      (layout : IsTileLayout job inlining g i j l) where
-    abbrev of_tile : Target
-    of_tile = target_over job inlining g layout.area
-
-    gives : (n : Tile) → IsNeeded of_tile n → (xs : List ℤ) × (given n.stage n.row n.col ≡ Some xs)
-    gives n needed =
-        let at = gridded job n.stage needed.grid needed.there in
-        let both = and_parts (is_boxed of_tile n.stage) (not (is_inlined inlining n.stage)) needed.stored in
-        let boxed = and_parts (is_function job n.stage) (not (eqb n.stage g)) both.0 in
-        let stored : IsStoredFunction job inlining n.stage at.stage = record {
-          there = at.there;
-          function = sym (ap (λ (o : Option Stage). option_map_or (λ s. is_function_body s.body) o false) at.there) ∙ boxed.0;
-          stored = not-true (is_inlined inlining n.stage) both.1;
-        } in
-        (_, all n.stage at.stage stored n.row n.col (subst (λ (d : Grid). HasTile d n.row n.col) (sym at.is) needed.meets.there))
-
-    -- each tile that it needs is given
-    pub all_given : NeedsGiven given l.needs
-    all_given n k = gives n (from_needs of_tile n good (subst (λ (ns : List Tile). Contains ns n) layout.layout.layout.needs k))
-
-    -- and what is gathered from true tiles is what the job gathers
-    pub totals_are : AreTrue job given → (xs : List ℤ) → AreLocalTotals job inlining given g i j xs
-        → xs ≡ totals_over job (tile_area grid i j) g
-    totals_are right xs local =
-        layout_totals_true job inlining given l g i j layout good all_given right xs local layout.area layout.tile
-        ∙ ap (λ (a : Area). totals_over job a g) (same_area layout.area layout.tile)
+  -- what is gathered from true tiles, where all is given that it needs, is what the job gathers
+  pub totals_are : (inlining : List Bool) (given : KnownTiles) → IsJob job → GivesNeedsOf job inlining given g → (l : Layout)
+      → IsTileLayout job inlining g i j l → AreTrue job given → (xs : List ℤ) → AreLocalTotals job inlining given g i j xs
+      → xs ≡ totals_over job (tile_area grid i j) g
+  totals_are inlining given good needs l layout right xs local =
+      layout_totals_true job inlining given l g i j layout good (needs i j l layout) right xs local layout.area layout.tile
+      ∙ ap (λ (a : Area). totals_over job a g) (same_area layout.area layout.tile)

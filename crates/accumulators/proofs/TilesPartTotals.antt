@@ -23,7 +23,7 @@ use Rattle.accumulators.proofs.TotalsInAnyOrder.{total_among-append, total_of-pe
 
 -- ---- the numbers of a span, part by part
 
-numbers-append : (v : ℤ) (m n : ℕ) → numbers_from v (m + n) ≡ numbers_from v m ++ numbers_from (v +ℤ pos m) n
+pub numbers-append : (v : ℤ) (m n : ℕ) → numbers_from v (m + n) ≡ numbers_from v m ++ numbers_from (v +ℤ pos m) n
 numbers-append v zero n =
     let count : 0 + n ≡ n = omega arith in
     let first : v ≡ v +ℤ pos 0 = omega (arith, ints) in
@@ -36,12 +36,12 @@ numbers-append v (suc m) n =
     ∙ ap (λ (z : ℤ). v ∷ (numbers_from (v +ℤ pos 1) m ++ numbers_from z n)) first
 
 -- how many of n numbers are left behind i parts
-abbrev left_behind : ℕ → ℕ → ℕ → ℕ
+abbrev pub left_behind : ℕ → ℕ → ℕ → ℕ
 left_behind n side i = n - i * side
 
 module _ (s : Ends) (side : ℕ) (is : IsSpan s) (some : 1 ≤ side) where
   -- behind the last part nothing is left
-  none_left : (i : ℕ) → part_count s side ≤ i → left_behind (len_of s) side i ≡ 0
+  pub none_left : (i : ℕ) → part_count s side ≤ i → left_behind (len_of s) side i ≡ 0
   none_left i h = by (cases_lt (i * side) (len_of s))
     where
       by : (i * side < len_of s) ⊎ (len_of s ≤ i * side) → left_behind (len_of s) side i ≡ 0
@@ -49,7 +49,7 @@ module _ (s : Ends) (side : ℕ) (is : IsSpan s) (some : 1 ≤ side) where
       by (inr most) = omega arith
 
   -- a part, and what is left behind it
-  part_and_rest : (i : ℕ) → i < part_count s side
+  pub part_and_rest : (i : ℕ) → i < part_count s side
       → numbers_from (s.lo +ℤ pos (i * side)) (left_behind (len_of s) side i)
       ≡ numbers_of (part_of s side i) ++ numbers_from (s.lo +ℤ pos ((i + 1) * side)) (left_behind (len_of s) side (i + 1))
   part_and_rest i h = by (cases_lt ((i + 1) * side) (len_of s))

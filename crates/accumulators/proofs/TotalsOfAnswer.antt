@@ -8,14 +8,12 @@ use Rattle.std.proofs.lemmas.Option.{none-some, same_Some}
 use Rattle.domains.proofs.Spans.{length-numbers_from}
 use Rattle.domains.specs.Span.{Ends, len_of, numbers_of}
 use Rattle.domains.specs.Tiles.{tiles_of}
-use Rattle.domains.specs.declared.area.Area.{Area}
 use Rattle.domains.specs.declared.grid.Grid.{Grid}
 use Rattle.domains.specs.declared.operators.Fold.{Fold}
 use Rattle.job.specs.Answers.{grid_of, has_tiles, is_accumulator}
 use Rattle.job.specs.Pipeline.{Body, plane, function, accumulator, Pipeline, Stage}
 use Rattle.job.specs.Readers.{fold_of, bins_of, stage_fold, stage_bins, stage_grid, grid_at}
-use Rattle.job.specs.Totals.{body_totals, totals, totals_over}
-use Rattle.job.specs.Values.{value}
+use Rattle.job.specs.Totals.{totals}
 use Rattle.job.specs.WellFormed.{IsJob}
 use Rattle.tile_run.specs.Work.{is_accumulator_at}
 use Rattle.accumulators.specs.Answers.{body_gathered, gathered_at}
@@ -98,13 +96,6 @@ module _ (job : Pipeline) (g : ℕ) (way : Fold) (bins : Ends) (grid : Grid) (is
 
   pub gathers : gathered_at job g ≡ record { stage = g; lo = bins.lo; bins = totals job g } ∷ []
   gathers = ap (λ (o : Option Stage). option_map_or (λ s. body_gathered job g s.body) o []) is.there ∙ ap (body_gathered job g) is.body
-
-  pub length-over : (area : Area) → length (totals_over job area g) ≡ len_of bins
-  length-over area =
-      let over : totals_over job area g ≡ body_totals (value job) area (accumulator way bins is.value is.bin) =
-      ap (λ (o : Option Stage). option_map_or (λ s. body_totals (value job) area s.body) o []) is.there
-      ∙ ap (body_totals (value job) area) is.body in
-      ap length over ∙ length-map (numbers_of bins) _ ∙ length-numbers_from bins.lo (len_of bins)
 
   -- all tiles that came in give the totals
   pub all_joined : IsJob job → fold (with_tile job g way grid) (starts way bins) (tiles_of grid) ≡ totals job g

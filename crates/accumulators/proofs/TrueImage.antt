@@ -17,7 +17,7 @@ use Rattle.accumulators.specs.Pictures.{samples_from, picture_from, given_image,
 use Rattle.accumulators.proofs.PictureOfAnswer.{sample_at, samples_are}
 use Rattle.accumulators.proofs.WholeTotals.{domain_is_area}
 
-map_all : {X Y : Type 0} (f h : X → Y) (xs : List X) → All (λ x. f x ≡ h x) xs → map f xs ≡ map h xs
+pub map_all : {X Y : Type 0} (f h : X → Y) (xs : List X) → All (λ x. f x ≡ h x) xs → map f xs ≡ map h xs
 map_all f h [] same = refl
 map_all f h (x ∷ xs) same =
     let first = All-head (λ y. f y ≡ h y) x xs same in
@@ -25,7 +25,7 @@ map_all f h (x ∷ xs) same =
     λ i. first i ∷ rest i
 
 module _ (job : Pipeline) (given : KnownTiles) (good : IsJob job) (right : AreTrue job given) where
-  same_samples : (max g : ℕ) → IsLentStage job given g → samples_from job (given_at job given) max g ≡ samples job max g
+  pub same_samples : (max g : ℕ) → IsLentStage job given g → samples_from job (given_at job given) max g ≡ samples job max g
   same_samples max g lent =
       let domain : Area = lent.0.domain in
       samples_are job (given_at job given) max g lent.0 lent.1.there

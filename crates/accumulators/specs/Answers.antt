@@ -1,10 +1,14 @@
 -- The answer of a job: the picture of its output and the totals of its accumulators.
-use Rattle.std.specs.Prelude.{ℕ, ℤ, ◌≡◌, List, [], ◌∷◌, map, length, slice_get}
+use Rattle.std.specs.Prelude.{ℕ, ℤ, ◌≡◌, Bool, Option, Some, List, [], ◌∷◌, map, length, slice_get}
 use Rattle.std.specs.List.{flat_map, range_with_len}
-use Rattle.std.specs.Option.{option_map_or}
-use Rattle.job.specs.Answers.{image}
+use Rattle.std.specs.Option.{option_map, option_map_or, option_or}
+use Rattle.job.specs.Answers.{Tile, image}
 use Rattle.job.specs.Pipeline.{Body, plane, function, accumulator, Pipeline}
 use Rattle.job.specs.Totals.{totals}
+use Rattle.overlap_tiles.specs.Needs.{key_of}
+use Rattle.tile_run.specs.Work.{first_too_big, is_accumulator_at, is_stored_function}
+use Rattle.tile_run.specs.declared.fault.RunFault.{RunFault}
+use Rattle.tile_run.specs.declared.fault.RunFault.TheVariants.{ScratchTooBig, Memory}
 use Rattle.accumulators.specs.declared.answer.Answer.{Answer}
 use Rattle.accumulators.specs.declared.answer.Total.{Total}
 
@@ -34,3 +38,15 @@ all_gathered job = flat_map (gathered_at job) (range_with_len 0 (length job.stag
 pub record IsAnswer (job : Pipeline) (answer : Answer) : Type 0 where
   pub picture : answer.picture ≡ image job
   pub totals : map gathered answer.totals.items ≡ all_gathered job
+
+-- ---- why a job has no answer
+
+-- the first tile without room: of stored functions, or, where all of these have room, of accumulators
+abbrev pub first_lacking_room : Pipeline → List Bool → Option Tile
+first_lacking_room job inlining =
+    option_or (first_too_big job inlining (is_stored_function job inlining)) (first_too_big job inlining (is_accumulator_at job))
+
+-- a tile has no room, and none before it; memory may be refused at any
+abbrev pub IsEvaluationFault : List ℕ → Pipeline → List Bool → RunFault → Type 0
+IsEvaluationFault program job inlining (ScratchTooBig key) = option_map (key_of program job) (first_lacking_room job inlining) ≡ Some key
+IsEvaluationFault program job inlining Memory = Unit {0}

@@ -13,14 +13,18 @@ abbrev pub samples_from : Pipeline → Valuation → ℕ → ℕ → List ℕ
 samples_from job env max g =
     option_map_or (λ s. map (λ p. sample_of max (env g p.0 p.1)) (points_of s.domain)) (slice_get job.stages g) []
 
--- a plane for each stage of the output
-abbrev pub picture_from : Pipeline → Valuation → Output → Image
-picture_from job env o = record {
+-- the picture of an output, whose planes these are
+abbrev pub picture_with : Pipeline → Output → List (List ℕ) → Image
+picture_with job o planes = record {
   rows = height_of job (slice_index o.stages 0);
   cols = width_of job (slice_index o.stages 0);
   max = o.max;
-  planes = map (samples_from job env o.max) o.stages;
+  planes = planes;
 }
+
+-- a plane for each stage of the output
+abbrev pub picture_from : Pipeline → Valuation → Output → Image
+picture_from job env o = picture_with job o (map (samples_from job env o.max) o.stages)
 
 -- the picture of a job that has an output, by the numbers that are given, whatever they are
 abbrev pub given_image : Pipeline → KnownTiles → Option Image

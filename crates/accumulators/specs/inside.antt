@@ -3,3 +3,4 @@ pub mod Gathering
 pub mod Accumulating
 pub mod Making
 pub mod GatherRooms
+pub mod Planes

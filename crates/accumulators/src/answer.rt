@@ -8,17 +8,18 @@ ghost use Rattle.job.specs.Kept.{pipeline_in, program_id_in};
 ghost use Rattle.netpbm.specs.Image.{IsImage};
 ghost use Rattle.tile_run.specs.KnownTiles.{AreTrue};
 ghost use Rattle.tile_run.specs.Stored.{stored_tiles, GivesAllTiles};
-ghost use Rattle.tile_run.specs.Work.{first_too_big, is_accumulator_at, IsRunFault};
-ghost use Rattle.accumulators.specs.Answers.{IsAnswer};
+ghost use Rattle.tile_run.specs.Work.{first_too_big, is_accumulator_at, is_stored_function, IsRunFault};
+ghost use Rattle.accumulators.specs.Answers.{IsAnswer, IsEvaluationFault};
 
 use crate::computed::Computed;
+use crate::outputs::Outputs;
 use crate::picture::image_of;
 use grouping::Schedule;
 use job::Job;
 use netpbm::Picture;
 use std::alloc::Global;
 use std::thread::Threads;
-use tile_run::{RunFault, Stored, Work, first_too_big};
+use tile_run::{RunFault, Stored, Uses, Work, first_too_big, run_kept};
 
 /// What an accumulator gathered: its stage, its first bin, and what is in its bins from there on.
 #[derive(Debug, Drop)]
@@ -36,14 +37,14 @@ pub struct Answer {
 }
 
 /// The answer of a job, from the tiles of all stored functions. The picture is made row by row, and the totals are put together
-/// tile by tile as they are made. One thread makes them; `_rt` starts none yet.
+/// tile by tile as they are made, by several threads where the work is worth it.
 ///
 /// # Errors
 ///
 /// Fails where a tile of an accumulator takes too much scratch memory, with the first by dependence order, row and column, before
 /// anything is computed; and where memory is refused.
 pub fn answer_of(
-    _rt: &(impl Threads + Sync),
+    rt: &(impl Threads + Sync),
     alloc: Global,
     job: &Job,
     schedule: &Schedule,
@@ -69,6 +70,54 @@ pub fn answer_of(
         stored,
     };
     let picture = image_of(alloc, job, stored)?;
-    let totals = computed.totals(alloc)?;
+    let totals = computed.totals(rt, alloc)?;
+    Ok(Answer { picture, totals })
+}
+
+/// The answer of a job. Of the stored functions those are made that an output or an accumulator needs, each after those that it
+/// reads, and each is kept only as long as it is read. An output that nothing else reads is put into the picture as its tiles are
+/// made, one row of them after the other. Several threads part the rows of tiles of a stage where the work is worth it.
+///
+/// # Errors
+///
+/// Fails where a tile of a stored function takes too much scratch memory, with the first by dependence order, row and column; where all
+/// of these have room, and a tile of an accumulator has not, with the first of these; both before anything is computed; and where
+/// memory is refused.
+pub fn evaluate(
+    rt: &(impl Threads + Sync),
+    alloc: Global,
+    job: &Job,
+    schedule: &Schedule,
+) -> Result<Answer, RunFault>
+    requires schedule { IsScheduleOf (pipeline_in job.now) schedule.now }
+    ensures answer { IfOk result (IsAnswer (pipeline_in job.now)) }
+    ensures image { IfOk result (λ answer. ForSome answer.picture IsImage) }
+    ensures functions { IfOk result (λ answer. first_too_big (pipeline_in job.now)
+        schedule.now.inlining
+        (is_stored_function (pipeline_in job.now) schedule.now.inlining) ≡ None) }
+    ensures accumulators { IfOk result (λ answer. first_too_big (pipeline_in job.now)
+        schedule.now.inlining (is_accumulator_at (pipeline_in job.now)) ≡ None) }
+    ensures fault { IfErr result (IsEvaluationFault (program_id_in job.now) (pipeline_in job.now)
+        schedule.now.inlining) }
+{
+    if let Some(key) = first_too_big(alloc, job, schedule, Work::Functions)? {
+        return Err(RunFault::ScratchTooBig(key));
+    }
+    if let Some(key) = first_too_big(alloc, job, schedule, Work::Accumulators)? {
+        return Err(RunFault::ScratchTooBig(key));
+    }
+    let uses = Uses::of(alloc, job, schedule)?;
+    let stored = run_kept(rt, alloc, job, schedule, &uses)?;
+    let computed = Computed {
+        job,
+        schedule,
+        stored: &stored,
+    };
+    let outputs = Outputs {
+        of: computed,
+        uses: &uses,
+    };
+    let picture = outputs.image(rt, alloc)?;
+    let totals = computed.totals(rt, alloc)?;
     Ok(Answer { picture, totals })
 }

@@ -5,7 +5,7 @@ use grouping::Schedule;
 use job::Job;
 use tile_run::Stored;
 
-/// A job with its schedule, and with all tiles of its stored functions.
+/// A job with its schedule, and with those tiles of its stored functions that its answer needs.
 #[derive(Clone, Copy)]
 pub(crate) struct Computed<'a> {
     pub(crate) job: &'a Job,

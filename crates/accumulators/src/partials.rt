@@ -1,22 +1,86 @@
 #![tactic(auto)]
 //! What an accumulator gathers over a tile, from what is given.
 
-ghost use Rattle.std.specs.Prelude.{◌≡◌, ℕ, Bool, List, None, IfOk, IfErr};
+ghost use Rattle.std.specs.Prelude.{◌≡◌, ℕ, Bool, List, None, IfOk, IfErr, OnOk, OnErr};
 ghost use Rattle.job.specs.Kept.{pipeline_in, program_id_in};
 ghost use Rattle.overlap_tiles.specs.Plans.{IsTilePlan, IsTileLayout};
 ghost use Rattle.tile_run.specs.KnownTiles.{AreTrue, AreWhole};
 ghost use Rattle.tile_run.specs.Runs.{first_missing, NeedsGiven, IsSomeLayout, IsEvalFault};
 ghost use Rattle.overlap_tiles.specs.Views.{step_view};
-ghost use Rattle.accumulators.specs.inside.GatherRooms.{IsAccumulatorOf, IsLastStep};
+ghost use Rattle.accumulators.specs.Bins.{joined_bins};
+ghost use Rattle.accumulators.specs.inside.Accumulating.{AreBins};
+ghost use Rattle.accumulators.specs.inside.GatherRooms.{IsAccumulatorOf, IsLastStep, TookLocalTotals};
 ghost use Rattle.accumulators.specs.Partials.{local_totals, AreLocalTotals, AreTotalsOn, IsAccumulatorPlan};
 
-use crate::gather::GatherRoom;
+use crate::rows_room::RowsRoom;
+use crate::starts::starts;
 use job::{Accumulator, Body, Job};
 use overlap_tiles::{Step, TilePlan};
 use std::alloc::{AllocError, Global};
 use tile_run::{EvalFault, Known, Scratch, TileInputs, TileJob, first_missing};
 
-// What an accumulator gathers over the last step's area. All memory is grown before the first value is computed.
+// Joins to each bin what an accumulator gathers in it over the last step's area. All memory is grown before the first value is
+// computed.
+fn gather_onto<K: Known>(
+    alloc: Global,
+    tile: &TileJob<'_, K>,
+    step: &Step,
+    accumulator: &Accumulator,
+    scratch: &mut Scratch,
+    rows: &mut RowsRoom,
+    bins: &mut [i64],
+) -> Result<(), AllocError>
+    requires layout { IsSomeLayout (pipeline_in tile.now.job.now) tile.now.layout.now }
+    requires needs { NeedsGiven (K.given tile.now.known.now) tile.now.layout.now.needs }
+    requires last { IsLastStep tile.now.layout.now.steps (step_view step.now) }
+    requires accumulator { IsAccumulatorOf (pipeline_in tile.now.job.now) step.now.stage
+        accumulator.now }
+    requires bins { AreBins accumulator.now bins.old }
+    ensures ok { OnOk result (bins.new
+        ≡ joined_bins accumulator.now.fold bins.old (local_totals (pipeline_in tile.now.job.now)
+        tile.now.layout.now.inlining (K.given tile.now.known.now) step.now.area step.now.stage)) }
+    ensures err { OnErr result (bins.new ≡ bins.old) }
+{
+    rows.reach(accumulator, &step.area)?;
+    let boxes = tile.prepare(alloc, scratch)?;
+    let tile = *tile;
+    let inputs = TileInputs { tile, boxes };
+    rows.gather_onto(&inputs, accumulator, &step.area, bins);
+    Ok(())
+}
+
+/// Joins to each bin what an accumulator gathers in it over its tile.
+///
+/// # Errors
+///
+/// Fails only where memory is refused, with the bins as they were.
+pub(crate) fn tile_onto<K: Known>(
+    alloc: Global,
+    tile: &TileJob<'_, K>,
+    accumulator: &Accumulator,
+    scratch: &mut Scratch,
+    rows: &mut RowsRoom,
+    bins: &mut [i64],
+) -> Result<(), AllocError>
+    requires layout { IsSomeLayout (pipeline_in tile.now.job.now) tile.now.layout.now }
+    requires needs { NeedsGiven (K.given tile.now.known.now) tile.now.layout.now.needs }
+    requires accumulator { (inlining : List Bool) (g i j : ℕ)
+        → IsTileLayout (pipeline_in tile.now.job.now) inlining g i j tile.now.layout.now
+        → IsAccumulatorOf (pipeline_in tile.now.job.now) g accumulator.now }
+    requires bins { AreBins accumulator.now bins.old }
+    ensures ok { OnOk result ((inlining : List Bool) (g i j : ℕ)
+        → IsTileLayout (pipeline_in tile.now.job.now) inlining g i j tile.now.layout.now
+        → TookLocalTotals (pipeline_in tile.now.job.now) inlining (K.given tile.now.known.now) g i j
+        accumulator.now.fold bins.old bins.new) }
+    ensures err { OnErr result (bins.new ≡ bins.old) }
+{
+    let Some(step) = tile.layout.steps().last() else {
+        unreachable!()
+    };
+    gather_onto(alloc, tile, step, accumulator, scratch, rows, bins)
+}
+
+// What an accumulator gathers over the last step's area.
 fn gather_tile<K: Known>(
     alloc: Global,
     tile: &TileJob<'_, K>,
@@ -33,11 +97,18 @@ fn gather_tile<K: Known>(
         ≡ local_totals (pipeline_in tile.now.job.now) tile.now.layout.now.inlining
         (K.given tile.now.known.now) step.now.area step.now.stage) }
 {
-    let room = GatherRoom::over(alloc, accumulator, &step.area)?;
-    let boxes = tile.prepare(alloc, scratch)?;
-    let tile = *tile;
-    let inputs = TileInputs { tile, boxes };
-    Ok(room.gather(&inputs, accumulator, &step.area))
+    let mut bins = starts(alloc, accumulator.fold(), accumulator.bins())?;
+    let mut rows = RowsRoom::new(alloc);
+    gather_onto(
+        alloc,
+        tile,
+        step,
+        accumulator,
+        scratch,
+        &mut rows,
+        &mut bins,
+    )?;
+    Ok(bins)
 }
 
 // What the last step's stage gathers over its area; nothing if it is no accumulator.

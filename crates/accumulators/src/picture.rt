@@ -6,30 +6,33 @@ ghost use Rattle.std.specs.Option.{ForSome, option_map};
 ghost use Rattle.domains.specs.Area.{points_of};
 ghost use Rattle.domains.specs.Span.{numbers_from};
 ghost use Rattle.netpbm.specs.Image.{IsImage};
-ghost use Rattle.netpbm.specs.Planes.{samples_of};
+ghost use Rattle.netpbm.specs.MadePlane.{made, made_samples};
 ghost use Rattle.job.specs.Answers.{height_of, sample_of, width_of};
 ghost use Rattle.job.specs.Kept.{pipeline_in};
 ghost use Rattle.job.specs.Views.{output_view};
 ghost use Rattle.job.specs.WellFormed.{IsOutput};
 ghost use Rattle.tile_run.specs.KnownTiles.{given_at, IsGivenLine};
-ghost use Rattle.accumulators.specs.Pictures.{given_image, picture_from, samples_from, IsLentStage, GivesOutputs};
+ghost use Rattle.accumulators.specs.Pictures.{given_image, picture_from, picture_with, samples_from, IsLentStage, GivesOutputs};
+ghost use Rattle.accumulators.specs.RowAreas.{IsGivenArea};
 
+use crate::sheet::{OpenPlane, Sheet};
 use domains::Area;
 use domains::arithmetic::clamp;
 use job::{Job, Output};
-use netpbm::Picture;
+use netpbm::{Picture, Plane};
+use row_kernels::number_after;
 use std::alloc::{AllocError, Global};
 use tile_eval::number_at;
-use tile_run::{Known, read_given_row};
+use tile_run::{Known, lend_given_row};
 
 // How many values are cut before their samples are added.
 const PIECE: usize = 512;
 
-// A job with whatever lends the tiles of its functions.
+/// A job with whatever lends the tiles of its functions.
 #[derive(Drop)]
-struct KnownTiles<'a, K: Known> {
-    job: &'a Job,
-    known: &'a K,
+pub struct KnownTiles<'a, K: Known> {
+    pub job: &'a Job,
+    pub known: &'a K,
 }
 
 /// The picture of a job that has an output, from the numbers that are lent of its functions, whatever these are: each is cut to 0 and
@@ -77,22 +80,15 @@ impl<K: Known> KnownTiles<'_, K> {
             (output_view output.now)) }
         ensures image { IfOk result IsImage }
     {
-        let max = output.max() as u16;
-        let planes = self.planes(alloc, output.stages(), max)?;
-        let first = output.stages()[0];
-        let rows = height_of(self.job, first);
-        let cols = width_of(self.job, first);
-        match Picture::of(rows, cols, max, planes) {
-            Ok(picture) => Ok(picture),
-            Err(_) => unreachable!(),
-        }
+        let planes = self.planes(alloc, output.stages(), output.max() as u16)?;
+        Ok(picture_with(self.job, output, planes))
     }
 
     // The planes of functions.
-    fn planes(&self, alloc: Global, stages: &[usize], max: u16) -> Result<Vec<Vec<u16>>, AllocError>
+    fn planes(&self, alloc: Global, stages: &[usize], max: u16) -> Result<Vec<Plane>, AllocError>
         requires stored { All
             (IsLentStage (pipeline_in self.now.job.now) (K.given self.now.known.now)) stages.now }
-        ensures { IfOk result (λ planes. samples_of planes.items
+        ensures { IfOk result (λ planes. made_samples planes.items
             ≡ map (samples_from (pipeline_in self.now.job.now)
             (given_at (pipeline_in self.now.job.now) (K.given self.now.known.now)) max)
             stages.now) }
@@ -104,17 +100,21 @@ impl<K: Known> KnownTiles<'_, K> {
         Ok(planes)
     }
 
-    // The values of a function, row by row, cut to 0 and the greatest sample.
-    fn plane(&self, alloc: Global, stage: usize, max: u16) -> Result<Vec<u16>, AllocError>
+    /// The values of a function, row by row, cut to 0 and the greatest sample.
+    ///
+    /// # Errors
+    ///
+    /// Fails only where memory is refused.
+    pub(crate) fn plane(&self, alloc: Global, stage: usize, max: u16) -> Result<Plane, AllocError>
         requires stored { IsLentStage (pipeline_in self.now.job.now) (K.given self.now.known.now)
             stage }
-        ensures { IfOk result (λ plane. plane.items
-            ≡ samples_from (pipeline_in self.now.job.now)
-            (given_at (pipeline_in self.now.job.now) (K.given self.now.known.now)) max stage) }
+        ensures { IfOk result (λ plane. plane
+            ≡ made max (samples_from (pipeline_in self.now.job.now)
+            (given_at (pipeline_in self.now.job.now) (K.given self.now.known.now)) max stage)) }
     {
         match self.job.domain(stage) {
             Some(domain) => self.plane_over(alloc, stage, &domain, max),
-            None => Ok(Vec::new(alloc)),
+            None => unreachable!(),
         }
     }
 
@@ -125,61 +125,108 @@ impl<K: Known> KnownTiles<'_, K> {
         stage: usize,
         domain: &Area,
         max: u16,
-    ) -> Result<Vec<u16>, AllocError>
+    ) -> Result<Plane, AllocError>
         requires stored { IsLentStage (pipeline_in self.now.job.now) (K.given self.now.known.now)
             stage }
         requires domain { option_map (λ s. s.domain)
             (slice_get (pipeline_in self.now.job.now).stages stage) ≡ Some domain.now }
-        ensures { IfOk result (λ plane. plane.items
-            ≡ map (λ p. sample_of max (given_at (pipeline_in self.now.job.now)
-            (K.given self.now.known.now) stage p.0 p.1)) (points_of domain.now)) }
+        ensures { IfOk result (λ plane. plane
+            ≡ made max (map (λ p. sample_of max (given_at (pipeline_in self.now.job.now)
+            (K.given self.now.known.now) stage p.0 p.1)) (points_of domain.now))) }
     {
-        let mut plane = Vec::with_capacity(alloc, domain.points() as usize)?;
-        let mut room = vec![in alloc; 0; domain.cols.len() as usize]?;
-        let line = room.as_mut_slice();
-        let first = domain.cols.lo();
-        for place in 0..domain.rows.len() {
-            let row = number_at(&domain.rows, place);
-            self.push_row(&mut plane, line, stage, row, first, max)?;
-        }
-        Ok(plane)
+        let mut sheet = OpenPlane::with_capacity(alloc, max, domain.points() as usize)?;
+        self.push_area(&mut sheet, stage, domain)?;
+        Ok(sheet.into_plane())
     }
 
-    // Adds the values of a row, cut to 0 and the greatest sample. The line is room for them.
-    fn push_row(
+    /// Adds the values of a function on an area to a sheet, row by row, cut to 0 and its greatest sample.
+    ///
+    /// # Errors
+    ///
+    /// Fails only where memory is refused.
+    pub fn push_area<S: Sheet>(
         &self,
-        plane: &mut Vec<u16>,
-        line: &mut [i32],
+        sheet: &mut S,
+        stage: usize,
+        area: &Area,
+    ) -> Result<(), AllocError>
+        requires { IsGivenArea (pipeline_in self.now.job.now) (K.given self.now.known.now) stage
+            area.now }
+        ensures max { S.greatest_of sheet.new ≡ S.greatest_of sheet.old }
+        ensures samples { OnOk result (S.samples sheet.new
+            ≡ S.samples sheet.old
+            ++ map (λ p. sample_of (S.greatest_of sheet.old) (given_at (pipeline_in self.now.job.now)
+            (K.given self.now.known.now) stage p.0 p.1)) (points_of area.now)) }
+    {
+        let first = area.cols.lo();
+        let count = area.cols.len() as usize;
+        for place in 0..area.rows.len() {
+            let row = number_at(&area.rows, place);
+            self.push_row(sheet, stage, row, first, count)?;
+        }
+        Ok(())
+    }
+
+    // Adds the values of a row from a column on, cut to 0 and the greatest sample: tile by tile, from the numbers of the tiles.
+    fn push_row<S: Sheet>(
+        &self,
+        sheet: &mut S,
         stage: usize,
         row: i32,
         first: i32,
-        max: u16,
+        count: usize,
     ) -> Result<(), AllocError>
-        requires stored { IsGivenLine (pipeline_in self.now.job.now) (K.given self.now.known.now)
-            stage row first (length line.old) }
-        ensures { OnOk result (plane.new.items
-            ≡ plane.old.items
-            ++ map (λ c. sample_of max (given_at (pipeline_in self.now.job.now)
-            (K.given self.now.known.now) stage row c))
-            (numbers_from first (length line.old))) }
+        requires { IsGivenLine (pipeline_in self.now.job.now) (K.given self.now.known.now) stage row
+            first count }
+        ensures max { S.greatest_of sheet.new ≡ S.greatest_of sheet.old }
+        ensures samples { OnOk result (S.samples sheet.new
+            ≡ S.samples sheet.old
+            ++ map (λ c. sample_of (S.greatest_of sheet.old) (given_at (pipeline_in self.now.job.now)
+            (K.given self.now.known.now) stage row c)) (numbers_from first count)) }
     {
-        read_given_row(self.known, self.job, stage, row, first, line);
-        push_cut(plane, line, max)
+        let mut done = 0;
+        while done < count {
+            let from = number_after(first, done);
+            let part = lend_given_row(self.known, self.job, stage, row, from, count - done);
+            push_cut(sheet, part)?;
+            done += part.len();
+        }
+        Ok(())
     }
 }
 
-// Adds values, cut to 0 and the greatest sample, piece by piece.
-fn push_cut(samples: &mut Vec<u16>, values: &[i32], max: u16) -> Result<(), AllocError>
-    ensures { OnOk result
-        (samples.new.items ≡ samples.old.items ++ map (sample_of max) values.now) }
+/// The picture of an output, whose planes these are.
+pub fn picture_with(job: &Job, output: &Output, planes: Vec<Plane>) -> Picture
+    requires output { IsOutput (pipeline_in job.now) (output_view output.now) }
+    requires image { IsImage (picture_with (pipeline_in job.now) (output_view output.now)
+        (made_samples planes.items)) }
+    ensures picture { result
+        ≡ picture_with (pipeline_in job.now) (output_view output.now) (made_samples planes.items) }
+    ensures image { IsImage result }
 {
+    let first = output.stages()[0];
+    let rows = height_of(job, first);
+    let cols = width_of(job, first);
+    match Picture::of_planes(rows, cols, output.max() as u16, planes) {
+        Ok(picture) => picture,
+        Err(_) => unreachable!(),
+    }
+}
+
+// Adds values to a sheet, cut to 0 and its greatest sample, piece by piece.
+fn push_cut<S: Sheet>(sheet: &mut S, values: &[i32]) -> Result<(), AllocError>
+    ensures max { S.greatest_of sheet.new ≡ S.greatest_of sheet.old }
+    ensures samples { OnOk result (S.samples sheet.new
+        ≡ S.samples sheet.old ++ map (sample_of (S.greatest_of sheet.old)) values.now) }
+{
+    let max = sheet.greatest();
     let mut room = [0; PIECE];
     let mut rest = values;
     while !rest.is_empty() {
         let (piece, behind) = rest.split_at(rest.len().min(PIECE));
         let cuts = &mut room[..piece.len()];
         cut_into(cuts, piece, max);
-        samples.extend_from_slice(cuts)?;
+        sheet.add(cuts)?;
         rest = behind;
     }
     Ok(())

@@ -1,11 +1,13 @@
 -- What an accumulator reads and takes in at points.
-use Rattle.std.specs.Prelude.{ℕ, ℤ, List}
+use Rattle.std.specs.Prelude.{ℕ, ℤ, ◌≡◌, List, length}
+use Rattle.domains.specs.Span.{len_of}
 use Rattle.job.specs.declared.stage.Accumulator.{Accumulator}
 use Rattle.job.specs.Reads.{EachRead}
 use Rattle.job.specs.Values.{Valuation, formula_value}
 use Rattle.job.specs.Views.{formula_view}
 use Rattle.job.specs.WellFormed.{IsFormula}
 use Rattle.tile_eval.specs.Reading.{HasRoom}
+use Rattle.accumulators.specs.Bins.{starts, joined_bins}
 use Rattle.accumulators.specs.inside.Gathering.{TookIn}
 
 -- the numbers of the text fit
@@ -26,3 +28,8 @@ pub record HasRoomAlong (a : Accumulator) (n room : ℕ) : Type 0 where
 abbrev pub TookPoints : Valuation → Accumulator → List (ℤ × ℤ) → List ℤ → List ℤ → Type 0
 TookPoints env a points old new =
     TookIn a.fold (formula_value env (formula_view a.value)) (formula_value env (formula_view a.bin)) a.bins.lo points old new
+
+-- numbers of the bins of an accumulator: each is left as it is by what bins start from
+pub record AreBins (a : Accumulator) (xs : List ℤ) : Type 0 where
+  pub count : length xs ≡ len_of a.bins
+  pub kept : joined_bins a.fold xs (starts a.fold a.bins) ≡ xs

@@ -1,20 +1,23 @@
--- Memory in which an accumulator gathers over an area.
-use Rattle.std.specs.Prelude.{ℕ, ◌≡◌, Some, List, [], ◌∷◌, ◌++◌, length, slice_get}
+-- Rows by which an accumulator gathers over an area, and which accumulator gathers over a tile.
+use Rattle.std.specs.Prelude.{ℕ, ℤ, ◌≡◌, ◌≤◌, Bool, Some, List, [], ◌∷◌, ◌++◌, length, slice_get}
 use Rattle.domains.specs.Span.{len_of}
 use Rattle.domains.specs.declared.area.Area.{Area}
+use Rattle.domains.specs.declared.operators.Fold.{Fold}
 use Rattle.job.specs.declared.stage.Accumulator.{Accumulator}
 use Rattle.job.specs.Pipeline.{accumulator, Stage, Pipeline}
 use Rattle.job.specs.Views.{formula_view}
-use Rattle.accumulators.specs.Bins.{starts}
-use Rattle.accumulators.specs.declared.gather.GatherRoom.{GatherRoom}
+use Rattle.overlap_tiles.specs.Plans.{IsTileAt}
+use Rattle.tile_run.specs.KnownTiles.{KnownTiles}
+use Rattle.accumulators.specs.Bins.{joined_bins}
+use Rattle.accumulators.specs.Partials.{local_totals}
+use Rattle.accumulators.specs.declared.rows_room.RowsRoom.{RowsRoom}
 use Rattle.accumulators.specs.inside.Accumulating.{HasRoomAlong}
 
--- the bins have what they start from, and there is room for a row of values, a row of their bins, and operands
-pub record IsRoomOver (a : Accumulator) (area : Area) (room : GatherRoom) : Type 0 where
-  pub bins : room.bins.items ≡ starts a.fold a.bins
-  pub values : length room.values.items ≡ len_of area.cols
-  pub bins_of : length room.bins_of.items ≡ len_of area.cols
-  pub temps : HasRoomAlong a (len_of area.cols) (length room.temps.items)
+-- there is room for a row of values, a row of their bins, and operands
+pub record HasRowsOver (a : Accumulator) (area : Area) (rows : RowsRoom) : Type 0 where
+  pub values : len_of area.cols ≤ length rows.values.items
+  pub bins_of : len_of area.cols ≤ length rows.bins_of.items
+  pub temps : HasRoomAlong a (len_of area.cols) (length rows.temps.items)
 
 -- stage g is this accumulator
 pub record IsAccumulatorOf (job : Pipeline) (g : ℕ) (a : Accumulator) : Type 0 where
@@ -25,3 +28,8 @@ pub record IsAccumulatorOf (job : Pipeline) (g : ℕ) (a : Accumulator) : Type 0
 -- the step is the last of these
 abbrev pub IsLastStep : List (ℕ × Area) → ℕ × Area → Type 0
 IsLastStep steps step = (inner : List (ℕ × Area)) (last : ℕ × Area) → steps ≡ inner ++ last ∷ [] → step ≡ last
+
+-- bins are joined with what accumulator g gathers over its tile in row i and column j
+abbrev pub TookLocalTotals : Pipeline → List Bool → KnownTiles → ℕ → ℕ → ℕ → Fold → List ℤ → List ℤ → Type 0
+TookLocalTotals job inlining given g i j way old new =
+    (area : Area) → IsTileAt job g i j area → new ≡ joined_bins way old (local_totals job inlining given area g)

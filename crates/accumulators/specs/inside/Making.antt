@@ -1,7 +1,8 @@
 -- On the way to the answer of a job.
-use Rattle.std.specs.Prelude.{ℕ, ℤ, ◌≡◌, Some, None, List, slice_get}
+use Rattle.std.specs.Prelude.{ℕ, ℤ, ◌≡◌, true, Some, None, List, slice_get, map, fold}
+use Rattle.std.specs.List.{range_with_len}
 use Rattle.domains.specs.Span.{Ends}
-use Rattle.domains.specs.Tiles.{tile_area}
+use Rattle.domains.specs.Tiles.{tile_area, tile_cols}
 use Rattle.domains.specs.declared.grid.Grid.{Grid}
 use Rattle.grouping.specs.Inlining.{IsScheduleOf}
 use Rattle.domains.specs.declared.operators.Fold.{Fold}
@@ -11,16 +12,20 @@ use Rattle.job.specs.Kept.{pipeline_in}
 use Rattle.job.specs.Pipeline.{accumulator, Stage, Pipeline}
 use Rattle.job.specs.Totals.{totals_over}
 use Rattle.tile_run.specs.KnownTiles.{AreTrue}
-use Rattle.tile_run.specs.Stored.{stored_tiles, GivesAllTiles}
+use Rattle.tile_run.specs.StageRuns.{GivesNeedsOf}
+use Rattle.tile_run.specs.Stored.{stored_tiles}
 use Rattle.tile_run.specs.Work.{first_too_big, is_accumulator_at}
 use Rattle.accumulators.specs.declared.computed.Computed.{Computed}
 use Rattle.accumulators.specs.declared.totals.Accumulation.{Accumulation}
-use Rattle.accumulators.specs.Bins.{joined_bins}
+use Rattle.accumulators.specs.Bins.{joined_bins, starts}
+use Rattle.accumulators.specs.inside.Accumulating.{AreBins}
+use Rattle.accumulators.specs.inside.GatherRooms.{IsAccumulatorOf}
 
--- all tiles of the stored functions of the job are there, with its values
+-- what the accumulators of the job need of its stored functions is there, with its values
 pub record IsComputed (c : Computed) : Type 0 where
   pub scheduled : IsScheduleOf (pipeline_in c.job.now) c.schedule.now
-  pub all : GivesAllTiles (pipeline_in c.job.now) c.schedule.now.inlining (stored_tiles c.stored.now.stages.items)
+  pub needs : (g : ℕ) → is_accumulator_at (pipeline_in c.job.now) g ≡ true
+      → GivesNeedsOf (pipeline_in c.job.now) c.schedule.now.inlining (stored_tiles c.stored.now.stages.items) g
   pub values : AreTrue (pipeline_in c.job.now) (stored_tiles c.stored.now.stages.items)
 
 -- ---- totals
@@ -42,8 +47,20 @@ pub record IsGathered (job : Pipeline) (g : ℕ) (way : Fold) (bins : Ends) (gri
 pub record IsTally (t : Accumulation) : Type 0 where
   pub computed : IsComputed t.of
   pub fits : TotalsFit t.of
-  pub gathered : IsGathered (pipeline_in t.of.job.now) t.stage t.op t.bins t.grid
+  pub own : IsAccumulatorOf (pipeline_in t.of.job.now) t.stage t.accumulator.now
+  pub gathered : IsGathered (pipeline_in t.of.job.now) t.stage t.accumulator.now.fold t.accumulator.now.bins t.grid
 
 -- what bins are once the totals over a tile came in
 abbrev pub with_tile : Pipeline → ℕ → Fold → Grid → List ℤ → ℕ × ℕ → List ℤ
 with_tile job g way grid bins t = joined_bins way bins (totals_over job (tile_area grid t.0 t.1) g)
+
+-- what is in the bins of an accumulator from their start on, once the totals over row i of the tiles came in
+abbrev pub totals_of_row : Accumulation → ℕ → List ℤ
+totals_of_row t i =
+    fold (with_tile (pipeline_in t.of.job.now) t.stage t.accumulator.now.fold t.grid) (starts t.accumulator.now.fold t.accumulator.now.bins)
+    (map (λ j. (i, j)) (range_with_len 0 (tile_cols t.grid)))
+
+-- bins that are these
+pub record AreTotalsOfRow (t : Accumulation) (i : ℕ) (bins : List ℤ) : Type 0 where
+  pub are : AreBins t.accumulator.now bins
+  pub totals : bins ≡ totals_of_row t i

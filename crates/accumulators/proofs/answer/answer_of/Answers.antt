@@ -1,6 +1,7 @@
 use Rattle.std.proofs.Common.{◌∙◌}
 use Rattle.job.specs.Kept.{pipeline_in}
 use Rattle.tile_run.specs.Stored.{stored_tiles}
+use Rattle.tile_run.proofs.NeedsAreHeld.{needs_all}
 use Rattle.accumulators.proofs.PictureOfAnswer.{outputs_lent}
 use Rattle.accumulators.proofs.TileTotals.{whole}
 use Rattle.accumulators.proofs.TrueImage.{image_true}
@@ -12,6 +13,16 @@ image_of-requires g c =
     let given = stored_tiles c.args.stored.now.stages.items in
     outputs_lent job c.args.schedule.now.inlining given c.args.job.now.well c.requires.schedule.inlining c.requires.all
     (whole job given c.requires.values)
+
+pub totals-requires-clause-computed : goal.totals-requires-clause-computed
+totals-requires-clause-computed g c κs within =
+    let job = pipeline_in c.args.job.now in
+    let given = stored_tiles c.args.stored.now.stages.items in
+    record {
+      scheduled = c.requires.schedule;
+      needs = λ k is. needs_all job c.args.schedule.now.inlining given k c.args.job.now.well c.requires.all;
+      values = c.requires.values;
+    }
 
 pub returns-clause-answer : goal.returns-clause-answer
 returns-clause-answer g c =

@@ -7,5 +7,5 @@ use Rattle.accumulators.proofs.bins.take_all.Given as goal
 abbrev pub invariant-loop-k : goal.invariant-loop-k
 invariant-loop-k l =
     EachPlace (length l.bins) (λ j. after_values l.fn.op (at l.bins j)
-    (values_of_bin (drop l.k l.values) (drop l.k l.bins_of) (l.span.lo +ℤ pos j))
-    ≡ after_values l.fn.op (at l.initial.bins j) (values_of_bin l.values l.bins_of (l.span.lo +ℤ pos j)))
+    (values_of_bin (drop l.k l.values) (drop l.k l.bins_of) (l.fn.lo +ℤ pos j))
+    ≡ after_values l.fn.op (at l.initial.bins j) (values_of_bin l.values l.bins_of (l.fn.lo +ℤ pos j)))

@@ -1,65 +1,20 @@
-use Rattle.std.proofs.Common.{ap, sym, ◌∙◌, subst}
+use Rattle.std.proofs.Common.{sym, ap, ◌≡◌, ◌∙◌, length}
+use Rattle.domains.specs.Area.{points_of}
 use Rattle.job.specs.Kept.{pipeline_in}
-use Rattle.job.specs.Pipeline.{Body}
-use Rattle.job.specs.Reads.{BodyReads}
 use Rattle.job.specs.Totals.{body_totals}
-use Rattle.overlap_tiles.specs.Views.{step_view}
-use Rattle.tile_run.specs.Prepared.{IsInputAt, input_at}
-use Rattle.tile_run.proofs.LayoutsPrepare.{own_layout}
-use Rattle.accumulators.proofs.PartialsJoin.{prepared_near, prepared_reads, local_totals_is, step_prepared, step_area}
-use Rattle.accumulators.proofs.WholeTotals.{has_formulas}
+use Rattle.job.specs.Values.{Valuation, formula_value}
+use Rattle.job.specs.Views.{formula_view}
+use Rattle.tile_run.specs.Local.{read_from, local_value}
+use Rattle.accumulators.specs.Bins.{starts, joined_bins}
+use Rattle.accumulators.proofs.GatherOnto.{first_bins, from_starts}
+use Rattle.accumulators.proofs.PartialsJoin.{local_totals_is}
+use Rattle.accumulators.proofs.TilesJoinInTurn.{written}
 use Rattle.accumulators.proofs.partials.gather_tile.Goals as goal
 
-pub gather-requires-clause-rows : goal.gather-requires-clause-rows
-gather-requires-clause-rows g c =
-    let t = c.args.tile.now in
-    let job = pipeline_in t.job.now in
-    let l = t.layout.now in
-    let given = g.K.Known.given t.known.now in
-    let step = c.args.step.now in
-    let a = c.requires.accumulator in
-    let some = c.requires.layout in
-    let own = own_layout job some.inlining given l some.stage some.row some.col some.layout in
-    let prepared = step_prepared job l given c.in_ok-boxes.boxes some.stage some.row some.col own (step_view step) c.requires.last
-    c.in_ok-boxes.ensures in
-    (prepared_near job l given c.in_ok-boxes.boxes step.stage a.stage a.there step.area prepared t.job.now.well
-    (step_area job l given some.stage some.row some.col own (step_view step) c.requires.last t.job.now.well)).0
-
-pub gather-requires-clause-cols : goal.gather-requires-clause-cols
-gather-requires-clause-cols g c =
-    let t = c.args.tile.now in
-    let job = pipeline_in t.job.now in
-    let l = t.layout.now in
-    let given = g.K.Known.given t.known.now in
-    let step = c.args.step.now in
-    let a = c.requires.accumulator in
-    let some = c.requires.layout in
-    let own = own_layout job some.inlining given l some.stage some.row some.col some.layout in
-    let prepared = step_prepared job l given c.in_ok-boxes.boxes some.stage some.row some.col own (step_view step) c.requires.last
-    c.in_ok-boxes.ensures in
-    (prepared_near job l given c.in_ok-boxes.boxes step.stage a.stage a.there step.area prepared t.job.now.well
-    (step_area job l given some.stage some.row some.col own (step_view step) c.requires.last t.job.now.well)).1
-
-pub gather-requires-clause-formulas : goal.gather-requires-clause-formulas
-gather-requires-clause-formulas g c =
-    let a = c.requires.accumulator in
-    has_formulas (pipeline_in c.args.tile.now.job.now) a.stage c.args.accumulator.now
-    (c.args.tile.now.job.now.well.stages c.args.step.now.stage a.stage a.there) a.body
-
-pub gather-requires-clause-reads : goal.gather-requires-clause-reads
-gather-requires-clause-reads g c = λ r k inside.
-    let t = c.args.tile.now in
-    let job = pipeline_in t.job.now in
-    let l = t.layout.now in
-    let given = g.K.Known.given t.known.now in
-    let step = c.args.step.now in
-    let a = c.requires.accumulator in
-    let some = c.requires.layout in
-    let own = own_layout job some.inlining given l some.stage some.row some.col some.layout in
-    let prepared = step_prepared job l given c.in_ok-boxes.boxes some.stage some.row some.col own (step_view step) c.requires.last
-    c.in_ok-boxes.ensures in
-    subst (λ (b : Body). BodyReads (IsInputAt job l given c.in_ok-boxes.boxes) b r k) a.body
-    (prepared_reads job l given c.in_ok-boxes.boxes step.stage a.stage a.there step.area prepared r k inside)
+pub gather_onto-requires-clause-bins : goal.gather_onto-requires-clause-bins
+gather_onto-requires-clause-bins g c =
+    first_bins c.args.accumulator.now c.deref_mut.result.now
+    (c.deref_mut.ensures.value ∙ c.in_ok-bins.ensures ∙ (λ i. starts (c.fold.ensures i) (c.bins.ensures i)))
 
 pub returns : goal.returns
 returns g c =
@@ -68,6 +23,16 @@ returns g c =
     let inlining = t.layout.now.inlining in
     let given = g.K.Known.given t.known.now in
     let step = c.args.step.now in
-    let a = c.requires.accumulator in
-    c.gather.ensures ∙ ap (body_totals (input_at job inlining given) step.area) (sym a.body)
-    ∙ sym (local_totals_is job inlining given step.area step.stage a.stage a.there)
+    let a = c.args.accumulator.now in
+    let own = c.requires.accumulator in
+    let env : Valuation = read_from job inlining given (local_value job inlining given) in
+    let local = local_totals_is job inlining given step.area step.stage own.stage own.there ∙ ap (body_totals env step.area) own.body in
+    let first : c.deref_mut.result.now ≡ starts a.fold a.bins = c.deref_mut.ensures.value ∙ c.in_ok-bins.ensures
+    ∙ (λ i. starts (c.fold.ensures i) (c.bins.ensures i)) in
+    written c.in_ok-bins.bins.len c.gather_onto.new.bins c.in_ok-bins.bins.items (c.gather_onto.auto.bins ∙ ap length c.deref_mut.ensures.value)
+    (sym (c.gather_onto.auto.bins ∙ c.deref_mut.ensures.len))
+    ∙ c.in_ok-gather_onto.ensures.ok
+    ∙ ap (joined_bins a.fold c.deref_mut.result.now) local
+    ∙ from_starts a (formula_value env (formula_view a.value)) (formula_value env (formula_view a.bin)) (points_of step.area)
+    c.deref_mut.result.now first
+    ∙ sym local

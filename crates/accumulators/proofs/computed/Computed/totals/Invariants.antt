@@ -5,4 +5,4 @@ use Rattle.accumulators.specs.Answers.{gathered, gathered_at}
 use Rattle.accumulators.proofs.computed.Computed.totals.Given as goal
 
 abbrev pub invariant-loop-stage : goal.invariant-loop-stage
-invariant-loop-stage l = map gathered l.all.items ≡ flat_map (gathered_at (pipeline_in l.fn.self.job.now)) (range_with_len 0 l.stage)
+invariant-loop-stage g l = map gathered l.all.items ≡ flat_map (gathered_at (pipeline_in l.fn.self.job.now)) (range_with_len 0 l.stage)

@@ -1,5 +1,5 @@
 use Rattle.std.proofs.Common.{◌≡◌, ◌++◌, drop, map}
-use Rattle.netpbm.specs.Planes.{samples_of}
+use Rattle.netpbm.specs.MadePlane.{made_samples}
 use Rattle.job.specs.Kept.{pipeline_in}
 use Rattle.tile_run.specs.KnownTiles.{given_at}
 use Rattle.accumulators.specs.Pictures.{samples_from}
@@ -7,7 +7,7 @@ use Rattle.accumulators.proofs.picture.KnownTiles.planes.Given as goal
 
 abbrev pub invariant-loop-stage : goal.invariant-loop-stage
 invariant-loop-stage g l =
-    samples_of l.planes.items
+    made_samples l.planes.items
     ++ map (samples_from (pipeline_in l.fn.self.job.now)
     (given_at (pipeline_in l.fn.self.job.now) (g.K.Known.given l.fn.self.known.now)) l.max) (drop l.stage-index l.stages)
     ≡ map (samples_from (pipeline_in l.fn.self.job.now) (given_at (pipeline_in l.fn.self.job.now) (g.K.Known.given l.fn.self.known.now))

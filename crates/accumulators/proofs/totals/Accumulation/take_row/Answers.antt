@@ -1,32 +1,22 @@
-use Rattle.std.proofs.Common.{arith, ◌<◌, length, sym, ap, ◌∙◌}
-use Rattle.domains.specs.Span.{Ends, len_of}
+use Rattle.std.proofs.Common.{arith, ◌<◌}
 use Rattle.domains.specs.Tiles.{tile_area, tile_cols}
-use Rattle.domains.specs.declared.operators.Fold.{Fold}
 use Rattle.job.specs.Kept.{pipeline_in}
-use Rattle.accumulators.specs.Bins.{joined_bins}
+use Rattle.job.specs.Totals.{totals_over}
 use Rattle.accumulators.specs.inside.Making.{with_tile}
+use Rattle.accumulators.proofs.GatherOnto.{joined_are_bins}
 use Rattle.accumulators.proofs.TilesJoinInTurn.{tile_more}
-use Rattle.accumulators.proofs.TotalsOfAnswer.{length-over}
 use Rattle.accumulators.proofs.totals.Accumulation.take_row.Goals as goal
 
-pub take-requires : goal.take-requires
-take-requires c =
-    let self = c.args.self.now in
-    ap length (c.deref.ensures.value ∙ c.in_ok-partial.ensures)
-    ∙ length-over (pipeline_in self.of.job.now) self.stage self.op self.bins self.grid c.requires.tally.gathered
-    (tile_area self.grid c.args.row c.loop-col.col)
-    ∙ ap (λ (e : Ends). len_of e) (sym c.loop-col.invariant.2)
+pub take_tile-requires-clause-bins : goal.take_tile-requires-clause-bins
+take_tile-requires-clause-bins c = c.loop-col.invariant.0
 
 pub loop-col-preserved : goal.loop-col-preserved
 loop-col-preserved c =
     let self = c.args.self.now in
+    let job = pipeline_in self.of.job.now in
     let within : c.loop-col.col < tile_cols self.grid = omega (arith, c.tile_cols-col-end.ensures.number) in (
-      c.take.ensures.stage ∙ c.loop-col.invariant.0,
-      c.take.ensures.op ∙ c.loop-col.invariant.1,
-      c.take.ensures.span ∙ c.loop-col.invariant.2,
-      tile_more (with_tile (pipeline_in self.of.job.now) self.stage self.op self.grid) c.args.row c.loop-col.col (tile_cols self.grid)
-          c.loop-col.gathering.bins.items c.take.new.self.bins.items _ within c.loop-col.invariant.3
-          (c.take.ensures.bins
-          ∙ ap (λ (op : Fold). joined_bins op c.loop-col.gathering.bins.items c.deref.result.now) c.loop-col.invariant.1
-          ∙ ap (joined_bins self.op c.loop-col.gathering.bins.items) (c.deref.ensures.value ∙ c.in_ok-partial.ensures)),
+      joined_are_bins self.accumulator.now c.loop-col.bins (totals_over job (tile_area self.grid c.args.row c.loop-col.col) self.stage)
+          c.take_tile.new.bins c.loop-col.invariant.0 c.take_tile.auto.bins c.in_ok-take_tile.ensures,
+      tile_more (with_tile job self.stage self.accumulator.now.fold self.grid) c.args.row c.loop-col.col (tile_cols self.grid)
+          c.loop-col.bins c.take_tile.new.bins _ within c.loop-col.invariant.1 c.in_ok-take_tile.ensures,
     )

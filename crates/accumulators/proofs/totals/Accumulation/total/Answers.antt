@@ -1,57 +1,40 @@
-use Rattle.std.proofs.Common.{arith, ◌≡◌, ◌<◌, ◌≤◌, ◌∷◌, [], sym, ap, ◌∙◌}
-use Rattle.std.specs.List.{range_with_len}
-use Rattle.domains.specs.Tiles.{tile_cols, tile_rows}
+use Rattle.std.proofs.Common.{rules, ◌≡◌, ℤ, List, ◌∷◌, [], sym, ap, ◌∙◌, w32, to_z, of_z, FitsSigned, length}
+use Rattle.std.specs.Prelude.{fold}
+use Rattle.std.proofs.lemmas.Int.{to_z-of_z}
+use Rattle.domains.specs.Span.{Ends}
+use Rattle.domains.specs.Tiles.{tiles_of}
 use Rattle.job.specs.Kept.{pipeline_in}
 use Rattle.job.specs.Totals.{totals}
+use Rattle.accumulators.specs.Bins.{starts}
 use Rattle.accumulators.specs.inside.Making.{with_tile}
-use Rattle.accumulators.proofs.TilesJoinInTurn.{none_came, row_more, all_came}
+use Rattle.accumulators.proofs.GatherOnto.{first_bins}
+use Rattle.accumulators.proofs.TilesJoinInTurn.{written}
 use Rattle.accumulators.proofs.TotalsOfAnswer.{all_joined, gathers}
 use Rattle.accumulators.proofs.totals.Accumulation.total.Goals as goal
 
-pub loop-row-init : goal.loop-row-init
-loop-row-init c =
-    let self = c.args.self.now in
-    let job = pipeline_in self.of.job.now in (
-      c.in_ok-gathering.ensures.stage,
-      c.in_ok-gathering.ensures.op,
-      c.in_ok-gathering.ensures.span,
-      none_came (with_tile job self.stage self.op self.grid) (tile_rows self.grid) (range_with_len 0 (tile_cols self.grid))
-          c.in_ok-gathering.gathering.bins.items _ _ c.in_ok-gathering.ensures.bins
-          (all_joined job self.stage self.op self.bins self.grid c.requires.gathered self.of.job.now.well),
-    )
-
-pub take_row-requires : goal.take_row-requires
-take_row-requires c = record {
-  tally = c.requires;
-  row = omega (arith, c.tile_rows-row-end.ensures.number);
-  op = c.loop-row.invariant.1;
-  span = c.loop-row.invariant.2;
-}
-
-pub loop-row-preserved : goal.loop-row-preserved
-loop-row-preserved c =
-    let self = c.args.self.now in
-    let within : c.loop-row.row < tile_rows self.grid = omega (arith, c.tile_rows-row-end.ensures.number) in (
-      c.in_ok-take_row.ensures.stage ∙ c.loop-row.invariant.0,
-      c.in_ok-take_row.ensures.op,
-      c.in_ok-take_row.ensures.span,
-      row_more (with_tile (pipeline_in self.of.job.now) self.stage self.op self.grid) c.loop-row.row (tile_rows self.grid)
-          (range_with_len 0 (tile_cols self.grid)) c.loop-row.gathering.bins.items c.take_row.new.gathering.bins.items _ within
-          c.loop-row.invariant.3 c.in_ok-take_row.ensures.bins,
-    )
+pub take_tiles-requires-clause-bins : goal.take_tiles-requires-clause-bins
+take_tiles-requires-clause-bins g c κs within =
+    first_bins c.args.self.now.accumulator.now c.deref_mut.result.now
+    (c.deref_mut.ensures.value ∙ c.in_ok-bins.ensures ∙ (λ i. starts (c.fold.ensures i) (c.bins.ensures i)))
 
 pub returns : goal.returns
-returns c =
+returns g c =
     let self = c.args.self.now in
+    let a = self.accumulator.now in
     let job = pipeline_in self.of.job.now in
-    let past : tile_rows self.grid ≤ c.loop-row.row = omega (arith, c.tile_rows-row-end.ensures.number, c.loop-row-test.false) in
-    let all : c.loop-row.gathering.bins.items ≡ totals job self.stage =
-    all_came (with_tile job self.stage self.op self.grid) c.loop-row.row (tile_rows self.grid)
-    (range_with_len 0 (tile_cols self.grid)) c.loop-row.gathering.bins.items (totals job self.stage) past c.loop-row.invariant.3 in
-    gathers job self.stage self.op self.bins self.grid c.requires.gathered
+    let first : c.deref_mut.result.now ≡ starts a.fold a.bins = c.deref_mut.ensures.value ∙ c.in_ok-bins.ensures
+    ∙ (λ i. starts (c.fold.ensures i) (c.bins.ensures i)) in
+    let all : c.take_tiles.new.bins ≡ totals job self.stage = c.in_ok-take_tiles.ensures
+    ∙ ap (λ (xs : List ℤ). fold (with_tile job self.stage a.fold self.grid) xs (tiles_of self.grid)) first
+    ∙ all_joined job self.stage a.fold a.bins self.grid c.requires.gathered self.of.job.now.well in
+    let kept = written c.in_ok-bins.bins.len c.take_tiles.new.bins c.in_ok-bins.bins.items (c.take_tiles.auto.bins ∙ ap length c.deref_mut.ensures.value)
+    (sym (c.take_tiles.auto.bins ∙ c.deref_mut.ensures.len)) ∙ all in
+    let fits : FitsSigned w32 c.lo.result = search rules in
+    let lo : to_z w32 (of_z w32 c.lo.result) ≡ a.bins.lo = to_z-of_z w32 c.lo.result fits ∙ c.lo.ensures.end
+    ∙ ap (λ (e : Ends). e.lo) c.bins-2.ensures in
+    gathers job self.stage a.fold a.bins self.grid c.requires.gathered
     ∙ (λ i. record {
-      stage = sym c.loop-row.invariant.0 i;
-      lo = (sym c.loop-row.invariant.2 i).lo;
-      bins = sym all i;
+      stage = self.stage;
+      lo = sym lo i;
+      bins = sym kept i;
     } ∷ [])
-    ∙ ap (λ x. x ∷ []) (sym c.into_total.ensures.total)

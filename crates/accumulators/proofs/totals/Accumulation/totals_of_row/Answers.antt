@@ -1,0 +1,32 @@
+use Rattle.std.proofs.Common.{◌≡◌, ℕ, ℤ, List, map, length, sym, subst, ap, ◌∙◌}
+use Rattle.std.specs.Prelude.{fold}
+use Rattle.std.specs.List.{range_with_len}
+use Rattle.domains.specs.Tiles.{tile_cols}
+use Rattle.job.specs.Kept.{pipeline_in}
+use Rattle.accumulators.specs.Bins.{starts}
+use Rattle.accumulators.specs.inside.Accumulating.{AreBins}
+use Rattle.accumulators.specs.inside.Making.{with_tile}
+use Rattle.accumulators.proofs.GatherOnto.{first_bins}
+use Rattle.accumulators.proofs.TilesJoinInTurn.{written}
+use Rattle.accumulators.proofs.totals.Accumulation.totals_of_row.Goals as goal
+
+pub take_row-requires-clause-bins : goal.take_row-requires-clause-bins
+take_row-requires-clause-bins c =
+    first_bins c.args.self.now.accumulator.now c.deref_mut.result.now
+    (c.deref_mut.ensures.value ∙ c.in_ok-bins.ensures ∙ (λ i. starts (c.fold.ensures i) (c.bins.ensures i)))
+
+pub returns : goal.returns
+returns c =
+    let self = c.args.self.now in
+    let a = self.accumulator.now in
+    let kept = written c.in_ok-bins.bins.len c.take_row.new.bins c.in_ok-bins.bins.items (c.take_row.auto.bins
+    ∙ ap length c.deref_mut.ensures.value) (sym (c.take_row.auto.bins ∙ c.deref_mut.ensures.len)) in
+    let first : c.deref_mut.result.now ≡ starts a.fold a.bins = c.deref_mut.ensures.value ∙ c.in_ok-bins.ensures
+    ∙ (λ i. starts (c.fold.ensures i) (c.bins.ensures i)) in
+    record {
+      are = subst (AreBins a) (sym kept) c.in_ok-take_row.ensures.are;
+      totals =
+          kept ∙ c.in_ok-take_row.ensures.bins
+          ∙ ap (λ (xs : List ℤ). fold (with_tile (pipeline_in self.of.job.now) self.stage a.fold self.grid) xs
+          (map (λ (j : ℕ). (c.args.row, j)) (range_with_len 0 (tile_cols self.grid)))) first;
+    }

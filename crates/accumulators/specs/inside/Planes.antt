@@ -1,0 +1,36 @@
+-- Planes that are made of tiles, whole or a row of tiles at a time.
+use Rattle.std.specs.Prelude.{ℕ, ◌≡◌, Bool, true, None, List}
+use Rattle.grouping.specs.Inlining.{Inlining, IsScheduleOf}
+use Rattle.job.specs.Answers.{is_output, samples_over}
+use Rattle.job.specs.Kept.{pipeline_in}
+use Rattle.job.specs.Pipeline.{Stage, Pipeline}
+use Rattle.tile_run.specs.KnownTiles.{KnownTiles, AreTrue}
+use Rattle.tile_run.specs.Stored.{IsStoredFunction}
+use Rattle.tile_run.specs.Uses.{HasLasts, GivesForAnswer}
+use Rattle.tile_run.specs.Work.{first_too_big, is_stored_function}
+use Rattle.tile_run.specs.declared.turn.Turn.{Turn}
+use Rattle.accumulators.specs.RowAreas.{row_area}
+use Rattle.accumulators.specs.declared.streamed.Streamed.{Streamed}
+use Rattle.accumulators.specs.declared.strip.Strip.{Strip}
+
+-- ---- a row of tiles at a time
+
+-- the samples of row i of the tiles of an output, cut to the greatest
+pub record IsStripOf (s : Streamed) (max i : ℕ) (strip : Strip) : Type 0 where
+  pub samples : strip.samples.items ≡ samples_over (pipeline_in s.run.job.now) max s.run.stage (row_area s.run.grid i)
+
+-- ---- outputs
+
+-- a stored function of the output
+pub record IsOutputStage (job : Pipeline) (inlining : List Bool) (g : ℕ) : Type 0 where
+  pub stage : Stage
+  pub function : IsStoredFunction job inlining g stage
+  pub output : is_output job g ≡ true
+
+-- what is kept for the answer is given, with the values of the job, and the tiles of all stored functions have room
+pub record IsKept (job : Pipeline) (schedule : Inlining) (lasts : List Turn) (given : KnownTiles) : Type 0 where
+  pub scheduled : IsScheduleOf job schedule
+  pub read : HasLasts job schedule.inlining lasts
+  pub held : GivesForAnswer job schedule.inlining lasts given
+  pub right : AreTrue job given
+  pub fits : first_too_big job schedule.inlining (is_stored_function job schedule.inlining) ≡ None

@@ -1,0 +1,62 @@
+#![tactic(auto)]
+//! Parts of planes.
+
+ghost use Rattle.std.specs.Prelude.{◌≡◌, ◌≤◌, ◌++◌, [], All, IfOk, OnOk};
+ghost use Rattle.std.specs.List.{flat_map};
+
+use crate::sheet::Sheet;
+use netpbm::Plane;
+use std::alloc::{AllocError, Global};
+
+/// The samples of some rows of a plane, which are kept until those of the rows before are there.
+#[derive(Drop)]
+pub(crate) struct Strip {
+    max: u16,
+    samples: Vec<u16>,
+}
+
+impl Strip {
+    /// No samples yet, and room for so many.
+    ///
+    /// # Errors
+    ///
+    /// Fails only where memory is refused.
+    pub(crate) fn with_capacity(alloc: Global, max: u16, count: usize) -> Result<Strip, AllocError>
+        ensures max { IfOk result (λ strip. strip.max ≡ max) }
+        ensures samples { IfOk result (λ strip. strip.samples.items ≡ []) }
+    {
+        let samples = Vec::with_capacity(alloc, count)?;
+        Ok(Strip { max, samples })
+    }
+}
+
+impl Sheet for Strip {
+    ghost greatest_of = { λ strip. strip.max };
+
+    ghost samples = { λ strip. strip.samples.items };
+
+    fn greatest(&self) -> u16 {
+        self.max
+    }
+
+    fn add(&mut self, more: &[u16]) -> Result<(), AllocError> {
+        self.samples.extend_from_slice(more)
+    }
+}
+
+/// Adds strips to a plane, one behind the other.
+///
+/// # Errors
+///
+/// Fails only where memory is refused.
+pub(crate) fn add_strips(plane: &mut Plane, strips: &[Strip]) -> Result<(), AllocError>
+    requires { All (λ strip. All (λ sample. sample ≤ plane.old.max) strip.samples.items) strips.now }
+    ensures max { plane.new.max ≡ plane.old.max }
+    ensures samples { OnOk result (plane.new.samples
+        ≡ plane.old.samples ++ flat_map (λ strip. strip.samples.items) strips.now) }
+{
+    for strip in strips {
+        plane.extend_from_slice(&strip.samples)?;
+    }
+    Ok(())
+}

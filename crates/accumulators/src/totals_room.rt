@@ -1,0 +1,22 @@
+//! Memory in which totals are put together.
+
+use crate::rows_room::RowsRoom;
+use std::alloc::Global;
+use tile_run::Scratch;
+
+/// Memory in which the totals over tiles are put together, kept from one to the next. What it holds means nothing between calls.
+#[derive(Drop)]
+pub(crate) struct TotalsRoom {
+    pub(crate) scratch: Scratch,
+    pub(crate) rows: RowsRoom,
+}
+
+impl TotalsRoom {
+    /// No memory yet.
+    pub(crate) fn new(alloc: Global) -> TotalsRoom {
+        TotalsRoom {
+            scratch: Scratch::new(alloc),
+            rows: RowsRoom::new(alloc),
+        }
+    }
+}
