@@ -1,30 +1,29 @@
--- Where each tile has room in scratch memory no tile is too big.
-use Rattle.std.proofs.Common.{◌≡◌, ℕ, List, true, None, refl, sym, ap, ◌∙◌, subst}
-use Rattle.std.specs.Option.{option_map}
+-- Where each tile has room in scratch memory no tile is too big, so that memory is all that an answer can lack.
+use Rattle.std.proofs.Common.{◌≡◌, ℕ, List, true, Option, None, refl, sym, ap, ◌∙◌}
+use Rattle.std.specs.Option.{option_map, option_or}
 use Rattle.std.proofs.lemmas.Option.{none-some}
 use Rattle.grouping.specs.Inlining.{Inlining, AllFitScratch, IsScheduleOf}
+use Rattle.job.specs.Answers.{Tile}
 use Rattle.job.specs.Pipeline.{Pipeline}
-use Rattle.identity.specs.declared.key.Key.{Key}
 use Rattle.overlap_tiles.specs.Needs.{key_of}
 use Rattle.tile_run.specs.declared.fault.RunFault.{RunFault}
 use Rattle.tile_run.specs.declared.fault.RunFault.TheVariants.{Memory, ScratchTooBig}
 use Rattle.tile_run.specs.declared.room.Work.{Work}
-use Rattle.tile_run.specs.Work.{wanted_by, first_too_big, IsRunFault}
+use Rattle.tile_run.specs.declared.room.Work.TheVariants.{Accumulators, Functions}
+use Rattle.tile_run.specs.Work.{wanted_by, first_too_big}
 use Rattle.tile_run.proofs.FirstTooBig.{fits_none}
+use Rattle.accumulators.specs.Answers.{IsEvaluationFault}
 
-pub never_too_big : (program : List ℕ) (job : Pipeline) (s : Inlining) (work : Work) (key : Key) (fault : RunFault) → IsScheduleOf job s
-    → AllFitScratch job s.inlining → fault ≡ ScratchTooBig key
-    → IsRunFault program job s.inlining (wanted_by job s.inlining work) fault → ⊥
-never_too_big program job s work key fault is fit same told =
-    let fitting : Inlining = record s { fits = true } in
-    let schedule : IsScheduleOf job fitting = record { inlining = is.inlining; costs = is.costs; fits = λ e. fit } in
-    let none : first_too_big job s.inlining (wanted_by job s.inlining work) ≡ None = fits_none job fitting work schedule refl in
-    none-some key (sym (ap (option_map (key_of program job)) none)
-    ∙ subst (IsRunFault program job s.inlining (wanted_by job s.inlining work)) same told)
+none_too_big : (job : Pipeline) (s : Inlining) (work : Work) → IsScheduleOf job s → AllFitScratch job s.inlining
+    → first_too_big job s.inlining (wanted_by job s.inlining work) ≡ None
+none_too_big job s work is fit =
+    fits_none job (record s { fits = true }) work (record { inlining = is.inlining; costs = is.costs; fits = λ e. fit }) refl
 
--- so that memory is all that a run can lack
-pub only_memory : (program : List ℕ) (job : Pipeline) (s : Inlining) (work : Work) (fault : RunFault) → IsScheduleOf job s
-    → AllFitScratch job s.inlining → IsRunFault program job s.inlining (wanted_by job s.inlining work) fault → fault ≡ Memory
-only_memory program job s work Memory is fit told = refl
-only_memory program job s work (ScratchTooBig key) is fit told =
-    absurd (never_too_big program job s work key (ScratchTooBig key) is fit refl told)
+pub only_memory : (program : List ℕ) (job : Pipeline) (s : Inlining) (fault : RunFault) → IsScheduleOf job s
+    → AllFitScratch job s.inlining → IsEvaluationFault program job s.inlining fault → fault ≡ Memory
+only_memory program job s Memory is fit told = refl
+only_memory program job s (ScratchTooBig key) is fit told =
+    let found : (f a : Option Tile) → Option Tile = λ f a. option_or f a in
+    absurd (none-some key
+    (sym (λ i. option_map (key_of program job) (found (none_too_big job s Functions is fit i) (none_too_big job s Accumulators is fit i)))
+    ∙ told))

@@ -8,16 +8,16 @@ ghost use Rattle.tile_run.specs.declared.fault.RunFault.TheVariants.{Memory};
 ghost use Rattle.results.specs.Replies.{reply_bytes};
 ghost use Rattle.results.specs.Results.{result_bytes};
 
-use accumulators::{Answer, answer_of};
+use accumulators::Answer;
 use command_line::Options;
 use domains::TileSides;
 use grouping::Schedule;
 use job::Job;
-use one_job::schedule_of;
+use one_job::schedule_to_evaluate;
 use results::{Reply, reply_of};
 use std::alloc::AllocError;
 use std::thread::Threads;
-use tile_run::{RunFault, run_all};
+use tile_run::RunFault;
 
 /// How many rows and columns tiles have where nothing else is asked for.
 const USUAL_SIDE: u32 = 64;
@@ -34,7 +34,7 @@ pub fn evaluate(
     ensures { IfOk result (λ reply. reply_bytes reply ≡ result_bytes (pipeline_in job)) }
 {
     let job = with_long_rows(job);
-    let schedule = schedule_of(rt.alloc(), &job, options)?;
+    let schedule = schedule_to_evaluate(rt.alloc(), &job, options)?;
     let Ok(answer) = answer(rt, &job, &schedule) else {
         return Err(AllocError);
     };
@@ -55,7 +55,7 @@ fn with_long_rows(job: Job) -> Job
     }
 }
 
-/// The answer of a job by a schedule of which each tile has room in scratch memory. The stored tiles are let go.
+/// The answer of a job by a schedule of which each tile has room in scratch memory.
 fn answer(
     rt: &(impl AllocGlobal + Threads + Sync),
     job: &Job,
@@ -66,6 +66,5 @@ fn answer(
     ensures answer { IfOk result (IsAnswer (pipeline_in job.now)) }
     ensures memory { IfErr result (λ fault. fault ≡ Memory) }
 {
-    let stored = run_all(rt, rt.alloc(), job, schedule)?;
-    answer_of(rt, rt.alloc(), job, schedule, &stored)
+    bands::evaluate(rt, rt.alloc(), job, schedule)
 }

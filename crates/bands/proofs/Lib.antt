@@ -1,0 +1,4 @@
+pub mod RowsAreTargets
+pub mod RowsAreKept
+pub mod StripsGrow
+pub mod StripsAreOf

@@ -1,0 +1,202 @@
+#![tactic(auto)]
+//! The answer of a job, band by band.
+
+ghost use Rattle.std.specs.Prelude.{◌≡◌, [], false, None, map, IfOk, IfErr, IfSome};
+ghost use Rattle.std.specs.Option.{ForSome};
+ghost use Rattle.grouping.specs.Inlining.{IsScheduleOf};
+ghost use Rattle.job.specs.Kept.{pipeline_in, program_id_in};
+ghost use Rattle.netpbm.specs.Image.{IsImage};
+ghost use Rattle.tile_run.specs.Work.{first_too_big, is_accumulator_at, is_stored_function};
+ghost use Rattle.accumulators.specs.Answers.{all_gathered, gathered_at, IsAnswer, IsEvaluationFault};
+
+use crate::picture::picture;
+use accumulators::Answer;
+use grouping::Schedule;
+use job::{Body, Job};
+use rayon::current_num_threads;
+use std::alloc::{AllocError, Global};
+use std::thread::Threads;
+use tile_run::{RunFault, Uses, WORK_OF_TILE, Work, first_too_big, least_rows, point_work};
+
+/// How much work, in reads and operators, several threads are worth in all: some three milliseconds of it.
+const WORK_WORTH_THREADS: u64 = 16_777_216;
+
+/// How much work each sample of the picture is then: less is done sooner than the parts of several threads are put together.
+const WORK_WORTH_JOINING: u64 = 100;
+
+/// How much work there is in all where less for each sample is worth several threads, too.
+const MUCH_WORK: u64 = 268_435_456;
+
+/// How much that is.
+const WORK_WORTH_JOINING_MUCH: u64 = 40;
+
+/// The answer of a job, as `accumulators::evaluate` gives it, and under the same clauses. Where there is work for one thread alone, the job
+/// has no accumulator, and no output is read by another stage, it is made band by band: a row of tiles of each output, once those
+/// rows of the other functions are made that it needs; and each row is kept only as long as it is read.
+///
+/// # Errors
+///
+/// Fails where a tile of a stored function takes too much scratch memory, with the first by dependence order, row and column; where all
+/// of these have room, and a tile of an accumulator has not, with the first of these; both before anything is computed; and where
+/// memory is refused.
+pub fn evaluate(
+    rt: &(impl Threads + Sync),
+    alloc: Global,
+    job: &Job,
+    schedule: &Schedule,
+) -> Result<Answer, RunFault>
+    requires schedule { IsScheduleOf (pipeline_in job.now) schedule.now }
+    ensures answer { IfOk result (IsAnswer (pipeline_in job.now)) }
+    ensures image { IfOk result (λ answer. ForSome answer.picture IsImage) }
+    ensures functions { IfOk result (λ answer. first_too_big (pipeline_in job.now)
+        schedule.now.inlining
+        (is_stored_function (pipeline_in job.now) schedule.now.inlining) ≡ None) }
+    ensures accumulators { IfOk result (λ answer. first_too_big (pipeline_in job.now)
+        schedule.now.inlining (is_accumulator_at (pipeline_in job.now)) ≡ None) }
+    ensures fault { IfErr result (IsEvaluationFault (program_id_in job.now) (pipeline_in job.now)
+        schedule.now.inlining) }
+{
+    if is_for_one(rt, job, schedule) {
+        if let Some(answer) = in_bands(alloc, job, schedule)? {
+            return Ok(answer);
+        }
+    }
+    accumulators::evaluate(rt, alloc, job, schedule)
+}
+
+// Whether one thread answers as soon as several: where there is one processor, where no stage has rows of tiles for two threads, and
+// where there is little work, in all or for each sample.
+fn is_for_one(rt: &impl Threads, job: &Job, schedule: &Schedule) -> bool {
+    current_num_threads(rt) == 1 || are_small(job, schedule) || is_little(job, schedule)
+}
+
+// Whether the work that a job takes is little, by a guess.
+fn is_little(job: &Job, schedule: &Schedule) -> bool {
+    let work = work_of_all(job, schedule);
+    let each = if work < MUCH_WORK {
+        WORK_WORTH_JOINING
+    } else {
+        WORK_WORTH_JOINING_MUCH
+    };
+    work < WORK_WORTH_THREADS || work < samples_of_all(job).saturating_mul(each)
+}
+
+// How much work the tiles of all stages are: the schedule says how many points they take together, and each is taken for one of the
+// stage's own.
+fn work_of_all(job: &Job, schedule: &Schedule) -> u64 {
+    let mut work = 0u64;
+    for stage in 0..job.stages().len() {
+        work = work.saturating_add(work_of_stage(job, schedule, stage));
+    }
+    work
+}
+
+// That of the tiles of a stage.
+fn work_of_stage(job: &Job, schedule: &Schedule, stage: usize) -> u64 {
+    match (job.stage(stage), job.grid(stage), schedule.cost(stage)) {
+        (Some(found), Some(grid), Some(points)) => points
+            .saturating_mul(point_work(found))
+            .saturating_add(grid.tiles().saturating_mul(WORK_OF_TILE)),
+        _ => 0,
+    }
+}
+
+// How many samples the picture of a job has.
+fn samples_of_all(job: &Job) -> u64 {
+    let mut samples = 0u64;
+    for output in job.outputs() {
+        if let Some(area) = job.domain(*output) {
+            samples = samples.saturating_add(area.points());
+        }
+    }
+    samples
+}
+
+// Whether no stage has rows of tiles for two threads.
+fn are_small(job: &Job, schedule: &Schedule) -> bool {
+    for stage in 0..job.stages().len() {
+        if !is_small(job, schedule, stage) {
+            return false;
+        }
+    }
+    true
+}
+
+// Whether a stage has rows of tiles for one thread alone.
+fn is_small(job: &Job, schedule: &Schedule, stage: usize) -> bool {
+    match job.grid(stage) {
+        Some(grid) => {
+            schedule.inlined(stage)
+                || grid.tile_rows() as usize / 2 < least_rows(job, schedule, stage)
+        }
+        None => true,
+    }
+}
+
+// The answer of a job whose tiles have room, if it can be made band by band.
+fn in_bands(alloc: Global, job: &Job, schedule: &Schedule) -> Result<Option<Answer>, AllocError>
+    requires schedule { IsScheduleOf (pipeline_in job.now) schedule.now }
+    ensures answer { IfOk result (λ found. IfSome found (IsAnswer (pipeline_in job.now))) }
+    ensures image { IfOk result (λ found. IfSome found
+        (λ answer. ForSome answer.picture IsImage)) }
+    ensures functions { IfOk result (λ found. IfSome found
+        (λ answer. first_too_big (pipeline_in job.now) schedule.now.inlining
+        (is_stored_function (pipeline_in job.now) schedule.now.inlining) ≡ None)) }
+    ensures accumulators { IfOk result (λ found. IfSome found
+        (λ answer. first_too_big (pipeline_in job.now) schedule.now.inlining
+        (is_accumulator_at (pipeline_in job.now)) ≡ None)) }
+{
+    if has_accumulators(job) || has_read_outputs(alloc, job, schedule)? {
+        return Ok(None);
+    }
+    if first_too_big(alloc, job, schedule, Work::Functions)?.is_some() {
+        return Ok(None);
+    }
+    if first_too_big(alloc, job, schedule, Work::Accumulators)?.is_some() {
+        return Ok(None);
+    }
+    let Some(picture) = picture(alloc, job, schedule)? else {
+        return Ok(None);
+    };
+    Ok(Some(Answer {
+        picture: Some(picture),
+        totals: Vec::new(alloc),
+    }))
+}
+
+// Whether a job has accumulators.
+#[tactic(auto, using(grouping::proofs::Lists::flat_map_range_more))]
+fn has_accumulators(job: &Job) -> bool
+    ensures { result ≡ false → all_gathered (pipeline_in job.now) ≡ [] }
+{
+    for stage in 0..job.stages().len() {
+        if is_accumulator(job, stage) {
+            return true;
+        }
+    }
+    false
+}
+
+// Whether the stage of this number is an accumulator.
+fn is_accumulator(job: &Job, stage: usize) -> bool
+    ensures { result ≡ false → gathered_at (pipeline_in job.now) stage ≡ [] }
+{
+    match job.stage(stage) {
+        Some(found) => match found.body() {
+            Body::Accumulator(_) => true,
+            Body::Plane(_) | Body::Function(_) => false,
+        },
+        None => false,
+    }
+}
+
+// Whether anything reads an output.
+fn has_read_outputs(alloc: Global, job: &Job, schedule: &Schedule) -> Result<bool, AllocError> {
+    let uses = Uses::of(alloc, job, schedule)?;
+    for output in job.outputs() {
+        if uses.is_used(*output) {
+            return Ok(true);
+        }
+    }
+    Ok(false)
+}

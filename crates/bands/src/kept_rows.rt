@@ -1,0 +1,108 @@
+#![tactic(auto)]
+//! Rows of tiles that are kept as long as they are read.
+
+ghost use Rattle.std.specs.Prelude.{◌≡◌, []};
+
+use job::Job;
+use std::alloc::{AllocError, Global};
+use std::mem;
+use tile_run::{Known, TileRow};
+
+/// The rows of tiles of one stage, from the first. Those that were let go, and those that are not made, have no tiles.
+#[derive(Drop)]
+pub(crate) struct StageRows {
+    pub(crate) rows: Vec<TileRow>,
+}
+
+/// The rows of tiles that are kept of each stage.
+#[derive(Drop)]
+pub(crate) struct KeptRows {
+    pub(crate) stages: Vec<StageRows>,
+}
+
+impl Known for KeptRows {
+    ghost use Rattle.bands.specs.Kept.{kept_tiles};
+
+    ghost given = { λ kept. kept_tiles kept.stages.items };
+
+    fn tile(&self, stage: usize, row: u32, col: u32) -> Option<&[i32]> {
+        let kept = self.stages.get(stage)?;
+        let row = kept.rows.get(row as usize)?;
+        let numbers = row.tiles.get(col as usize)?;
+        Some(numbers.as_slice())
+    }
+}
+
+/// A row without tiles.
+pub(crate) fn no_tiles(alloc: Global) -> TileRow
+    ensures { result.tiles.items ≡ [] }
+{
+    TileRow {
+        tiles: Vec::new(alloc),
+    }
+}
+
+impl StageRows {
+    ghost use Rattle.std.specs.Prelude.{IfOk};
+    ghost use Rattle.bands.specs.Kept.{IsFromRow, HasNoTiles};
+
+    // None of so many rows is made.
+    fn none(alloc: Global, count: u32) -> Result<StageRows, AllocError>
+        ensures { IfOk result HasNoTiles }
+    {
+        let mut rows = Vec::with_capacity(alloc, count as usize)?;
+        for row in 0..count {
+            rows.push(no_tiles(alloc))?;
+        }
+        Ok(StageRows { rows })
+    }
+
+    // Puts tiles in the place of a row's, and gives those that were there. Where there is no such row, they are given back.
+    fn replace(&mut self, row: u32, tiles: TileRow) -> TileRow
+        ensures { IsFromRow self.old self.new row tiles }
+    {
+        let place = row as usize;
+        if place < self.rows.len() {
+            mem::replace(&mut self.rows[place], tiles)
+        } else {
+            tiles
+        }
+    }
+}
+
+impl KeptRows {
+    ghost use Rattle.std.specs.Prelude.{IfOk};
+    ghost use Rattle.bands.specs.Kept.{kept_tiles, GivesNothing, IsFrom};
+
+    /// No row of any stage is made.
+    pub(crate) fn none(alloc: Global, job: &Job) -> Result<KeptRows, AllocError>
+        ensures { IfOk result (λ kept. GivesNothing (kept_tiles kept.stages.items)) }
+    {
+        let mut stages = Vec::with_capacity(alloc, job.stages().len())?;
+        for stage in 0..job.stages().len() {
+            stages.push(StageRows::none(alloc, rows_of(job, stage))?)?;
+        }
+        Ok(KeptRows { stages })
+    }
+
+    /// Puts tiles in the place of those of a stage's row, and gives those that were there. Where there is no such row, they are
+    /// given back.
+    pub(crate) fn replace(&mut self, stage: usize, row: u32, tiles: TileRow) -> TileRow
+        ensures { IsFrom (kept_tiles self.old.stages.items) (kept_tiles self.new.stages.items)
+            stage row tiles }
+    {
+        if stage < self.stages.len() {
+            self.stages[stage].replace(row, tiles)
+        } else {
+            tiles
+        }
+    }
+}
+
+// How many rows of tiles a stage has.
+fn rows_of(job: &Job, stage: usize) -> u32 {
+    match job.grid(stage) {
+        Some(grid) => grid.tile_rows(),
+        None => 0,
+    }
+}

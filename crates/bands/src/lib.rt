@@ -1,0 +1,13 @@
+//! The answer of a job, band by band: of each stored function only those rows of tiles are in memory that are still to be read.
+#![tactic(auto)]
+
+mod answer;
+mod band;
+mod band_run;
+mod kept_rows;
+mod picture;
+mod row_range;
+mod strip;
+mod windows;
+
+pub use answer::evaluate;

@@ -1,0 +1,74 @@
+#![tactic(auto)]
+//! Rows of tiles that follow one another.
+
+ghost use Rattle.std.specs.Prelude.{List, Bool, IfSome};
+ghost use Rattle.grouping.specs.Targets.{IsTarget, target_over};
+ghost use Rattle.job.specs.Kept.{pipeline_in};
+
+use domains::Area;
+use job::Job;
+
+/// Rows of a stage's tiles, from the first up to the one before the end.
+#[derive(Clone, Copy)]
+pub(crate) struct RowRange {
+    pub(crate) first: u32,
+    pub(crate) end: u32,
+}
+
+impl RowRange {
+    /// One row.
+    pub(crate) fn one(row: u32) -> RowRange {
+        RowRange {
+            first: row,
+            end: row.saturating_add(1),
+        }
+    }
+
+    /// The rows of tiles of a stage that meet an area of its domain.
+    pub(crate) fn meeting(job: &Job, stage: usize, area: &Area) -> Option<RowRange> {
+        let grid = job.grid(stage)?;
+        let (first, _) = grid.tile_of(area.rows.lo(), area.cols.lo())?;
+        let (last, _) = grid.tile_of(area.rows.hi(), area.cols.lo())?;
+        Some(RowRange {
+            first,
+            end: last.saturating_add(1),
+        })
+    }
+
+    /// All rows from the first to the last of these or of others.
+    pub(crate) fn hull(self, other: RowRange) -> RowRange {
+        RowRange {
+            first: self.first.min(other.first),
+            end: self.end.max(other.end),
+        }
+    }
+
+    /// Those that come no earlier than this one, if there are any.
+    pub(crate) fn from(self, row: u32) -> Option<RowRange> {
+        let first = self.first.max(row);
+        if first < self.end {
+            Some(RowRange {
+                first,
+                end: self.end,
+            })
+        } else {
+            None
+        }
+    }
+
+    /// The points of these rows of a stage, if it has them.
+    pub(crate) fn region(self, job: &Job, stage: usize) -> Option<Area>
+        ensures { IfSome result (λ region. (inlining : List Bool)
+            → IsTarget (target_over (pipeline_in job.now) inlining stage region)) }
+    {
+        let domain = job.domain(stage)?;
+        let grid = job.grid(stage)?;
+        let first = grid.tile(self.first, 0)?;
+        let last = grid.tile(self.end.checked_sub(1)?, 0)?;
+        let rows = Area {
+            rows: first.rows.hull(&last.rows),
+            cols: domain.cols,
+        };
+        rows.meet(&domain)
+    }
+}

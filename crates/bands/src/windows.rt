@@ -1,0 +1,202 @@
+#![tactic(auto)]
+//! Which rows of tiles are kept, and which are made next. No clause tells: what a tile needs is looked for before it is made, and
+//! where it is not there, nothing is made of it.
+
+use crate::row_range::RowRange;
+use grouping::{Schedule, in_order};
+use job::Job;
+use std::alloc::{AllocError, Global};
+
+/// Which rows of a stage's tiles are kept, and which of the others are wanted. Rows are made in their order, each at most once.
+#[derive(Drop)]
+pub(crate) struct Window {
+    // The first row that is kept.
+    first: u32,
+    // The first row that is not made.
+    next: u32,
+    // The rows that are wanted.
+    wanted: Option<RowRange>,
+    // The other stages that the rows made last read, each with the first of its rows that is read.
+    reads: Vec<(usize, u32)>,
+    // How many rows it has.
+    count: u32,
+}
+
+impl Window {
+    fn new(alloc: Global, count: u32) -> Window {
+        Window {
+            first: 0,
+            next: 0,
+            wanted: None,
+            reads: Vec::new(alloc),
+            count,
+        }
+    }
+
+    fn want(&mut self, rows: RowRange) {
+        self.wanted = match self.wanted {
+            Some(wanted) => Some(wanted.hull(rows)),
+            None => Some(rows),
+        };
+    }
+
+    // The rows that are wanted and not made.
+    fn missing(&self) -> Option<RowRange> {
+        self.wanted?.from(self.next)
+    }
+
+    // The rows before this one are made.
+    fn made(&mut self, end: u32) {
+        self.next = self.next.max(end);
+        self.wanted = None;
+    }
+
+    // Whether all rows are made, so that it reads no more.
+    fn is_done(&self) -> bool {
+        self.next >= self.count
+    }
+}
+
+/// Windows over the rows of all stages.
+#[derive(Drop)]
+pub(crate) struct Windows {
+    windows: Vec<Window>,
+    // The stages in dependence order.
+    order: Vec<usize>,
+}
+
+impl Windows {
+    /// Nothing is made, and nothing wanted.
+    pub(crate) fn new(alloc: Global, job: &Job) -> Result<Windows, AllocError> {
+        let mut windows = Vec::with_capacity(alloc, job.stages().len())?;
+        for stage in 0..job.stages().len() {
+            let count = match job.grid(stage) {
+                Some(grid) => grid.tile_rows(),
+                None => 0,
+            };
+            windows.push(Window::new(alloc, count))?;
+        }
+        let order = in_order(alloc, job.stages())?;
+        Ok(Windows { windows, order })
+    }
+
+    /// How many stages there are.
+    pub(crate) fn len(&self) -> usize {
+        self.order.len()
+    }
+
+    /// The stage at this place of the dependence order.
+    pub(crate) fn stage_at(&self, place: usize) -> usize {
+        match self.order.get(place) {
+            Some(stage) => *stage,
+            None => 0,
+        }
+    }
+
+    fn want(&mut self, stage: usize, rows: RowRange) {
+        if stage < self.windows.len() {
+            self.windows[stage].want(rows);
+        }
+    }
+
+    /// The rows of a stage that are wanted and not made.
+    pub(crate) fn missing(&self, stage: usize) -> Option<RowRange> {
+        self.windows.get(stage)?.missing()
+    }
+
+    /// The rows of a stage before this one are made.
+    pub(crate) fn made(&mut self, stage: usize, end: u32) {
+        if stage < self.windows.len() {
+            self.windows[stage].made(end);
+        }
+    }
+
+    /// Wants what these rows of a stage read.
+    pub(crate) fn want_reads(
+        &mut self,
+        alloc: Global,
+        job: &Job,
+        schedule: &Schedule,
+        stage: usize,
+        rows: RowRange,
+    ) -> Result<(), AllocError> {
+        let Some(region) = rows.region(job, stage) else {
+            return Ok(());
+        };
+        let boxes = schedule.boxes(alloc, job, stage, region)?;
+        let mut reads = Vec::new(alloc);
+        for (read, area) in boxes.iter() {
+            if schedule.inlined(*read) {
+                continue;
+            }
+            if let Some(rows) = RowRange::meeting(job, *read, area) {
+                self.want(*read, rows);
+                reads.push((*read, rows.first))?;
+            }
+        }
+        if stage < self.windows.len() {
+            self.windows[stage].reads = reads;
+        }
+        Ok(())
+    }
+
+    /// Wants all that is read, at one or more removes, by the rows that are wanted.
+    pub(crate) fn want_all(
+        &mut self,
+        alloc: Global,
+        job: &Job,
+        schedule: &Schedule,
+    ) -> Result<(), AllocError> {
+        for behind in 0..self.order.len() {
+            let place = self.order.len().saturating_sub(1).saturating_sub(behind);
+            let stage = self.stage_at(place);
+            if let Some(rows) = self.missing(stage) {
+                self.want_reads(alloc, job, schedule, stage, rows)?;
+            }
+        }
+        Ok(())
+    }
+
+    // For each stage the first row that what is still to be made may read.
+    fn floors(&self, alloc: Global) -> Result<Vec<u32>, AllocError> {
+        let mut floors = Vec::with_capacity(alloc, self.windows.len())?;
+        for window in &self.windows {
+            floors.push(window.next)?;
+        }
+        for window in &self.windows {
+            if !window.is_done() {
+                lower(&mut floors, &window.reads);
+            }
+        }
+        Ok(floors)
+    }
+
+    /// The rows of a stage that are read no more, of which one is let go after the other.
+    pub(crate) fn pass(&mut self, alloc: Global) -> Result<Vec<(usize, RowRange)>, AllocError> {
+        let floors = self.floors(alloc)?;
+        let mut past = Vec::new(alloc);
+        for stage in 0..self.windows.len().min(floors.len()) {
+            let first = self.windows[stage].first;
+            if first < floors[stage] {
+                past.push((
+                    stage,
+                    RowRange {
+                        first,
+                        end: floors[stage],
+                    },
+                ))?;
+                self.windows[stage].first = floors[stage];
+            }
+        }
+        Ok(past)
+    }
+}
+
+// No floor is above what is read.
+fn lower(floors: &mut [u32], reads: &[(usize, u32)]) {
+    for (stage, first) in reads {
+        if *stage < floors.len() {
+            floors[*stage] = floors[*stage].min(*first);
+        }
+    }
+}
