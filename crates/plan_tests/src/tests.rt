@@ -1,6 +1,7 @@
 //! Where points are computed.
 
 mod areas;
+mod cheap;
 mod greedy;
 mod plans;
 mod schedules;

@@ -8,8 +8,8 @@ use node_state::{AnswerFault, NodeState};
 use std::alloc::Global;
 use std::test::Fail;
 use test_checks::{holds, tells};
-use test_jobs::job_of;
 use test_jobs::programs::{CHAIN, COPY, ONE_TO_NINE, ONES, REMAINDERS};
+use test_jobs::{has_samples, job_of};
 use tile_fact::{Bins, Body, Fact, Samples};
 
 fn copied(alloc: Global, sides: (u32, u32)) -> Result<Job, Fail> {
@@ -71,8 +71,7 @@ fn answer_of(state: &NodeState, job: &Job) -> Result<Answer, Fail> {
 fn has_plane(state: &NodeState, job: &Job, wanted: &[u16]) -> Result<(), Fail> {
     let answer = answer_of(state, job)?;
     let picture = answer.picture.as_ref().ok_or("no picture")?;
-    let plane = picture.planes().first().ok_or("no plane")?;
-    holds(Some(plane.as_slice() == wanted), "the plane")
+    holds(Some(has_samples(picture, wanted)), "the plane")
 }
 
 // One tile of a picture, told in two ways.

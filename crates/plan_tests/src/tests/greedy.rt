@@ -13,10 +13,10 @@ use test_jobs::job_of;
 use test_jobs::programs::{CHAIN, FULL, TOO_BIG};
 
 /// A picture of six rows and six columns, and one of one point.
-const SIX: &[u8] =
+pub(super) const SIX: &[u8] =
     b"P5 6 6 1\n\0\0\0\0\0\0\0\0\0\0\0\0\0\0\0\0\0\0\0\0\0\0\0\0\0\0\0\0\0\0\0\0\0\0\0\0";
 
-const ONE: &[u8] = b"P5 1 1 1\n\0";
+pub(super) const ONE: &[u8] = b"P5 1 1 1\n\0";
 
 /// What a schedule does with a stage: nothing with a plane.
 #[derive(Clone, Copy, Debug)]
@@ -34,7 +34,12 @@ fn choice_at(schedule: &Schedule, stage: usize) -> Choice {
     }
 }
 
-fn makes(alloc: Global, job: &Job, schedule: &Schedule, wanted: &str) -> Result<(), Fail> {
+pub(super) fn makes(
+    alloc: Global,
+    job: &Job,
+    schedule: &Schedule,
+    wanted: &str,
+) -> Result<(), Fail> {
     let mut choices = Vec::new(alloc);
     for stage in 0..job.stages().len() {
         choices.push(choice_at(schedule, stage))?;

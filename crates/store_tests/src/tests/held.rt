@@ -9,7 +9,7 @@ use std::alloc::Global;
 use std::test::Fail;
 use test_checks::holds;
 use test_jobs::programs::COPY;
-use test_jobs::{job_of, tile};
+use test_jobs::{has_samples, job_of, tile};
 
 /// Takes the fact that a tile has these numbers.
 pub fn takes<S: FactStore>(
@@ -90,11 +90,7 @@ fn answers<S: FactStore>(alloc: Global, job: &Job) -> Result<(), Fail> {
     takes(alloc, &mut state, key, &[1, 2, 3, 4], Taken::New)?;
     let answer = state.answer(job).ok().ok_or("no answer")?;
     let picture = answer.picture.as_ref().ok_or("no picture")?;
-    let plane = picture.planes().first().ok_or("no plane")?;
-    holds(
-        Some(plane.as_slice() == [1, 2, 3, 4].as_slice()),
-        "the plane",
-    )
+    holds(Some(has_samples(picture, &[1, 2, 3, 4])), "the plane")
 }
 
 /// Two facts of one tile in either order, and one of them alone.

@@ -194,6 +194,40 @@ fn halves_then_doubles(rt: HostRuntime) -> Result<(), Fail> {
     have_all(&rt, alloc, &job)
 }
 
+/// The same of a picture of 64 rows and 64 columns.
+const MANY: &str = "image I(64,64);
+func f(x in [0..31], y in [0..31]) { else : I(2*x, 2*y); }
+func g(x in [0..63], y in [0..63]) { else : f(x/2, y/2); }
+output g max 255;";
+
+// A picture of 64 rows and 64 columns, in which neighbours differ.
+fn many_samples(alloc: Global) -> Result<Vec<u8>, Fail> {
+    let mut file = b"P5 64 64 255\n".as_slice().to_vec(alloc)?;
+    for place in 0..4096u32 {
+        file.push((place.wrapping_mul(7) % 251) as u8)?;
+    }
+    Ok(file)
+}
+
+// Compares where the halves are stored and where they are inlined.
+fn compare_many(rt: &(impl Threads + Sync), alloc: Global, job: &Job) -> Result<(), Fail> {
+    for inlined in [false, true] {
+        let schedule = schedule_of(alloc, job, &[false, inlined, false])?;
+        let stored = run_all(rt, alloc, job, &schedule)?;
+        compare(alloc, job, &schedule, &stored)?;
+    }
+    Ok(())
+}
+
+// So many tiles are made by several threads, where there are several processors.
+#[test]
+fn halves_then_doubles_of_many_points(rt: HostRuntime) -> Result<(), Fail> {
+    let alloc = rt.alloc();
+    let file = many_samples(alloc)?;
+    let job = job_of(alloc, MANY, &[], &file, (1, 1))?;
+    compare_many(&rt, alloc, &job)
+}
+
 // Whether it was refused since the first tile of the stage behind an inlined function has no room.
 fn is_without_room<T>(job: &Job, made: &Result<T, RunFault>) -> Option<bool> {
     match made {

@@ -4,7 +4,7 @@
 ghost use Rattle.job.specs.Kept.{pipeline_in};
 
 use crate::tests::tiles::lacks_room;
-use accumulators::{Answer, answer_of, join_into, whole};
+use accumulators::{Answer, answer_of, evaluate, join_into, whole};
 use domains::Fold;
 use job::Job;
 use std::alloc::Global;
@@ -12,7 +12,7 @@ use std::test::Fail;
 use std::thread::Threads;
 use test_checks::{holds, tells};
 use test_jobs::programs::{ONE_TO_NINE, REMAINDERS};
-use test_jobs::{chosen, job_of, schedule_of};
+use test_jobs::{chosen, has_samples, job_of, schedule_of};
 use tile_run::run_all;
 
 /// How many samples of the first tile of two rows and two columns leave each remainder by 4.
@@ -34,16 +34,19 @@ accum h [0..0] over (x in [0..1023], y in [0..1023]) sum a(8*x, 8*y) + a(8*x+8, 
 
 const SIXTEEN: &[u8] = b"P2 4 4 15 0 1 2 3 4 5 6 7 8 9 10 11 15 13 12 14";
 
-// The answer of a job at the schedule that inlines wherever it may, or that stores all.
-fn answer_by_tiles(
+// The answers of a job at the schedule that inlines wherever it may, or that stores all: at once, and from the tiles of all stored
+// functions.
+fn answers_by_tiles(
     rt: &(impl Threads + Sync),
     alloc: Global,
     job: &Job,
     inline: bool,
-) -> Result<Answer, Fail> {
+) -> Result<(Answer, Answer), Fail> {
     let schedule = chosen(alloc, job, inline)?;
     let stored = run_all(rt, alloc, job, &schedule)?;
-    Ok(answer_of(rt, alloc, job, &schedule, &stored)?)
+    let from_tiles = answer_of(rt, alloc, job, &schedule, &stored)?;
+    let at_once = evaluate(rt, alloc, job, &schedule)?;
+    Ok((at_once, from_tiles))
 }
 
 fn answer(
@@ -55,7 +58,8 @@ fn answer(
     inline: bool,
 ) -> Result<Answer, Fail> {
     let job = job_of(alloc, text, &[], file, sides)?;
-    answer_by_tiles(rt, alloc, &job, inline)
+    let (at_once, _) = answers_by_tiles(rt, alloc, &job, inline)?;
+    Ok(at_once)
 }
 
 fn has_whole(alloc: Global, job: &Job, wanted: &str) -> Result<(), Fail> {
@@ -133,8 +137,8 @@ fn has_greatest(answer: &Answer) -> Option<bool> {
 }
 
 fn has_squares(answer: &Answer) -> Option<bool> {
-    let plane = answer.picture.as_ref()?.planes().first()?;
-    Some(plane.as_slice() == [64, 64, 64, 64, 121, 64, 36, 49].as_slice())
+    let picture = answer.picture.as_ref()?;
+    Some(has_samples(picture, &[64, 64, 64, 64, 121, 64, 36, 49]))
 }
 
 // Differences of rows two apart are -8 -8 -8 -8 and -11 -8 -6 -7: half of that, rounded down, is -4 and -6 -4 -3 -4.
@@ -152,9 +156,11 @@ fn has_extremes_at(
     alloc: Global,
     sides: (u32, u32),
 ) -> Result<(), Fail> {
+    let job = job_of(alloc, EXTREMES, &[], SIXTEEN, sides)?;
     for inline in [false, true] {
-        let answer = answer(rt, alloc, EXTREMES, SIXTEEN, sides, inline)?;
-        has_extremes(&answer)?;
+        let (at_once, from_tiles) = answers_by_tiles(rt, alloc, &job, inline)?;
+        has_extremes(&at_once)?;
+        has_extremes(&from_tiles)?;
     }
     Ok(())
 }
@@ -170,11 +176,11 @@ fn extremes_at_every_schedule(rt: HostRuntime) -> Result<(), Fail> {
 fn has_no_room(rt: &(impl Threads + Sync), alloc: Global, job: &Job) -> Result<(), Fail> {
     let schedule = schedule_of(alloc, job, &[false, true, false])?;
     let stored = run_all(rt, alloc, job, &schedule)?;
-    let answer = answer_of(rt, alloc, job, &schedule, &stored);
-    lacks_room(job, &answer)
+    lacks_room(job, &answer_of(rt, alloc, job, &schedule, &stored))?;
+    lacks_room(job, &evaluate(rt, alloc, job, &schedule))
 }
 
-// A body of `answer_of` that answers memory in place of this fault fails here.
+// A body of `answer_of` or of `evaluate` that answers memory in place of this fault fails here.
 #[test]
 fn a_tile_of_an_accumulator_without_room_is_told(rt: HostRuntime) -> Result<(), Fail> {
     let alloc = rt.alloc();

@@ -12,7 +12,7 @@ use std::alloc::Global;
 use std::test::Fail;
 use test_checks::{holds, says, tells};
 use test_jobs::programs::TOO_BIG;
-use test_jobs::{admit, chosen, job_of, schedule_of};
+use test_jobs::{admit, chosen, has_samples, job_of, schedule_of};
 use worlds::{FinishFault, NodeSchedules, World, WorldFault};
 
 /// A program that copies a grey picture.
@@ -334,19 +334,15 @@ const COMES: &[u8] = b"deliver 0 5\ndeliver 1 12\nmerge 0 1\ndeliver 0 7\ndelive
 deliver 1 8\ndeliver 0 9\ndeliver 1 6\ndeliver 0 11\ndeliver 1 12\ndeliver 0 5\n";
 
 // Compares the picture that a node answers.
-fn has_picture(alloc: Global, world: &World, job: &Job, n: u8) -> Result<(), Fail> {
+fn has_picture(world: &World, job: &Job, n: u8) -> Result<(), Fail> {
     let node = world.node(n).ok_or("no node")?;
     let answer = match node.answer(job) {
         Ok(answer) => answer,
         Err(fault) => return Err(Fail::new(fault)),
     };
     let picture = answer.picture.as_ref().ok_or("no picture")?;
-    let plane = picture.planes().first().ok_or("no plane")?;
-    tells(
-        alloc,
-        &plane.as_slice(),
-        "[0, 0, 2, 2, 0, 0, 2, 2, 8, 8, 10, 10, 8, 8, 10, 10]",
-    )
+    let wanted = [0, 0, 2, 2, 0, 0, 2, 2, 8, 8, 10, 10, 8, 8, 10, 10];
+    holds(Some(has_samples(picture, &wanted)), "the picture")
 }
 
 // Whether the nodes make all facts, and forget them.
@@ -377,8 +373,8 @@ fn are_taken(alloc: Global, world: &mut World) -> Result<(), Fail> {
 fn are_agreed(alloc: Global, world: &mut World, job: &Job) -> Result<(), Fail> {
     are_made(alloc, world)?;
     are_taken(alloc, world)?;
-    has_picture(alloc, world, job, 0)?;
-    has_picture(alloc, world, job, 1)
+    has_picture(world, job, 0)?;
+    has_picture(world, job, 1)
 }
 
 #[test]
