@@ -1,0 +1,71 @@
+//! Computes all tiles of the stored functions of a job, by the schedule and in the tiles that `eval` takes, and keeps them; prints how
+//! many points that takes, and for how long it runs.
+#![tactic(auto)]
+
+use anyhow::{Context, Result};
+use domains::TileSides;
+use grouping::{Schedule, with_cheap_inlined};
+use inputs::{job_of, read_input};
+use job::Job;
+use std::env;
+use std::fs::File;
+use std::rt::{Clock, Env, Files};
+use std::thread::Threads;
+use std::time::Instant;
+use streams::Metered;
+use tile_run::run_all;
+
+/// For how many percent more points a function is inlined.
+const PERCENT: u32 = 40;
+
+// The parameter that a word of the form NAME=VALUE gives.
+fn parameter(rt: &impl AllocGlobal, word: &str) -> Result<(String, i32)> {
+    let (name, value) = word.split_once('=').context("NAME=VALUE")?;
+    Ok((String::from_str(rt.alloc(), name)?, value.parse::<i32>()?))
+}
+
+// The job of a program and a picture, with these parameters, in tiles of 64 rows and 1,024 columns.
+fn read_job(
+    rt: &(impl AllocGlobal + Files),
+    path: &str,
+    parameters: &[(String, i32)],
+) -> Result<Job> {
+    let mut source = Metered::new(File::open(rt, path)?);
+    let input = read_input(rt.alloc(), &mut source)?;
+    let usual = TileSides::new(64, 64).context("sides of tiles")?;
+    let wide = TileSides::new(64, 1024).context("sides of tiles")?;
+    Ok(job_of(rt.alloc(), usual, parameters, input)?.with_wider_tiles(wide))
+}
+
+// How many points a schedule has computed.
+fn points(job: &Job, schedule: &Schedule) -> u64 {
+    let mut points = 0u64;
+    for stage in 0..job.stages().len() {
+        points = points.saturating_add(schedule.cost(stage).unwrap_or(0));
+    }
+    points
+}
+
+fn run(rt: &(impl AllocGlobal + Clock + Print + Eprint + Threads + Sync), job: &Job) -> Result<()> {
+    let greedy = Schedule::greedy(rt.alloc(), job, PERCENT)?;
+    let schedule = with_cheap_inlined(rt.alloc(), job, greedy)?;
+    let start = Instant::now(rt)?;
+    let stored = run_all(rt, rt.alloc(), job, &schedule)?;
+    let took = start.elapsed(rt)?;
+    drop(stored);
+    println!(rt; "{} points", points(job, &schedule))?;
+    eprintln!(rt; "run_all {:?}", took)?;
+    Ok(())
+}
+
+fn main(rt: HostRuntime) -> Result<()> {
+    let mut args = env::args(&rt)?;
+    let _ = args.next();
+    let path = args.next().context("a path")?;
+    let mut parameters = Vec::new(rt.alloc());
+    for word in args {
+        parameters.push(parameter(&rt, word.as_str())?)?;
+    }
+    let job = read_job(&rt, path.as_str(), &parameters)?;
+    run(&rt, &job)
+}
