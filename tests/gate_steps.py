@@ -20,7 +20,18 @@ BUILT = "crates/tilefarm/out/tilefarm"
 PROGRAMS = (BUILT, f"{BUILT}.by-rattle")
 COUNT = re.compile(r"(\d+) passed, (\d+) failed$")
 PROVED = re.compile(r"rt: (\w+)(: its tests are)? proved$")
+# What a line that tells of a failure has in it.
+TROUBLE = re.compile(r"\bNOT [A-Z]+|\bBAD EDIT|\bFAIL|\bkilled\b")
+REFUSED = re.compile(r"rt: .* NOT PROVED$")
 JUDGED = re.compile(r"edits: (\w+): (\d+) of (\d+) refused, (\d+) checks, ([\d.]+) s of processor, ([\d.]+) s by the clock$")
+
+
+# How many lines that tell of failures are told once more at the end, of each step that failed.
+TOLD = 12
+# How many bytes of memory are to be free, of a machine with twice as many or more, before wrong bodies are judged beside proofs.
+ROOM = 8e9
+# Begins a command that the system is to end before any other where memory runs out.
+FIRST_TO_GO = ("sh", "-c", '{ echo 1000 > /proc/self/oom_score_adj; } 2> /dev/null; exec "$@"', "sh")
 
 
 class Step(NamedTuple):
@@ -29,6 +40,7 @@ class Step(NamedTuple):
     failed: int
     processor: float
     clock: float
+    troubles: tuple[str, ...] = ()
 
     def line(self) -> str:
         took = f"{minutes(self.processor)} of processor, {minutes(self.clock)} by the clock"
@@ -74,6 +86,15 @@ def minutes(seconds: float) -> str:
     return f"{whole // 60}:{whole % 60:02}" if seconds else ""
 
 
+def memory(word: str) -> float:
+    """What the system tells of its memory, in bytes; no end of it where nothing is told."""
+    try:
+        with open("/proc/meminfo", encoding="ascii") as told:
+            return next(1024.0 * int(line.split()[1]) for line in told if line.startswith(f"{word}:"))
+    except (OSError, StopIteration):
+        return float("inf")
+
+
 def tell(*lines: str) -> None:
     for line in lines:
         print(line, flush=True)
@@ -82,14 +103,17 @@ def tell(*lines: str) -> None:
 def run(name: str, folder: str, words: list[str], hear: Callable[[str], None] = lambda line: None) -> Step:
     """Runs a command with its lines as they come. Its last line counts what it tried; a command that counts nothing is one."""
     tell(f"== gate: {name}: {' '.join(words)}")
-    began, last = time.monotonic(), ""
+    began, last, troubles = time.monotonic(), "", []
     how = {"stdin": subprocess.DEVNULL, "stdout": subprocess.PIPE, "stderr": subprocess.STDOUT, "errors": "replace"}
     ran = subprocess.Popen(words, cwd=folder, **how)
     try:
         for line in ran.stdout:
-            last = line.rstrip("\n")
+            before, last = last, line.rstrip("\n")
             tell(last)
             hear(last)
+            if TROUBLE.search(last):
+                # (the toolchain tells why a crate is refused on the line before)
+                troubles += [before, last] if REFUSED.match(last) else [last]
     except BaseException:
         ran.terminate()
         raise
@@ -98,7 +122,8 @@ def run(name: str, folder: str, words: list[str], hear: Callable[[str], None] = 
     ran.returncode = os.waitstatus_to_exitcode(status)
     counted = COUNT.match(last)
     passed, failed = (int(counted[1]), int(counted[2])) if counted else (int(ran.returncode == 0), 0)
-    step = Step(name, passed, failed or int(ran.returncode != 0), used.ru_utime + used.ru_stime, time.monotonic() - began)
+    failed = failed or int(ran.returncode != 0)
+    step = Step(name, passed, failed, used.ru_utime + used.ru_stime, time.monotonic() - began, tuple(troubles[:TOLD]) if failed else ())
     tell(step.line())
     return step
 
@@ -106,8 +131,9 @@ def run(name: str, folder: str, words: list[str], hear: Callable[[str], None] = 
 class WrongBodies:
     """Judges the wrong bodies of each crate.
 
-    Those of a crate that is proved are judged while others are being proved, on processors that this leaves idle. What is left
-    when the last proof ends is judged by all processors.
+    Those of a crate that is proved are judged while others are being proved, on processors that this leaves idle, where there is memory
+    for both: when it runs out, this is what the system ends first. What is left when the last proof ends is judged by all processors, and so
+    are those once more of which one was not refused before.
     """
 
     def __init__(self, clone: str, times: Times):
@@ -117,6 +143,7 @@ class WrongBodies:
         self.choosing = threading.Lock()
         self.proved: queue.SimpleQueue[str] = queue.SimpleQueue()
         self.done: list[Step] = []
+        self.proofs_ended = threading.Event()
         half = max(1, len(os.sched_getaffinity(0)) // 2)
         self.early = [threading.Thread(target=self.judge_early, daemon=True) for _ in range(half)]
         for thread in self.early:
@@ -130,8 +157,18 @@ class WrongBodies:
     def judge_early(self) -> None:
         """Judges crates as they come, until an empty name comes."""
         while name := self.proved.get():
+            self.wait_for_memory()
             if self.chosen([name]):
-                self.judge(["env", "RT_JOBS=1", "nice", "-n", "19"], [name])
+                step = self.judged([*FIRST_TO_GO, "env", "RT_JOBS=1", "nice", "-n", "19"], [name])
+                if step.failed:
+                    self.leave(name)
+                else:
+                    self.done.append(step)
+
+    def wait_for_memory(self) -> None:
+        """Returns once there is memory for a check beside the proofs, or these have ended: none of them is to be killed for it."""
+        while memory("MemAvailable") < min(ROOM, memory("MemTotal") / 2) and not self.proofs_ended.wait(5):
+            pass
 
     def chosen(self, names: list[str]) -> list[str]:
         """Those of these crates that are left, which are left no more."""
@@ -140,23 +177,33 @@ class WrongBodies:
             self.left.difference_update(found)
             return found
 
-    def judge(self, before: list[str], names: list[str]) -> None:
-        step = run(f"wrong bodies of {', '.join(names)}", self.clone, [*before, "tests/run_edits", "--as-built", *names], self.times.hear)
-        self.done.append(step)
+    def leave(self, name: str) -> None:
+        with self.choosing:
+            self.left.add(name)
+
+    def judged(self, before: list[str], names: list[str]) -> Step:
+        words = [*before, "tests/run_edits", "--as-built", *names]
+        return run(f"wrong bodies of {', '.join(names)}", self.clone, words, self.times.hear)
 
     def end(self, is_proved: bool) -> None:
-        """Where all is proved, judges what is left. Else none is begun any more."""
+        """Where all is proved, judges what is left, and then what failed before. Else none is begun any more."""
         rest = self.chosen([*self.left])
+        self.proofs_ended.set()
         for _ in self.early:
             self.proved.put("")
-        if is_proved and rest:
-            self.judge([], rest)
+        self.judge_rest(is_proved, rest)
         for thread in self.early:
             thread.join()
+        self.judge_rest(is_proved, self.chosen([*self.left]))
+
+    def judge_rest(self, is_proved: bool, names: list[str]) -> None:
+        if is_proved and names:
+            self.done.append(self.judged([], names))
 
     def step(self, clock: float) -> Step:
         passed, failed, processor = (sum(it[k] for it in self.done) for k in (1, 2, 3))
-        return Step("wrong bodies", passed, failed, processor, clock)
+        troubles = tuple(line for it in self.done for line in it.troubles)
+        return Step("wrong bodies", passed, failed, processor, clock, troubles)
 
 
 def prove(clone: str, times: Times, bodies: WrongBodies) -> Step:
@@ -177,8 +224,9 @@ def prove(clone: str, times: Times, bodies: WrongBodies) -> Step:
 
 def steps(clone: str, times: Times) -> list[Step]:
     """Runs each step. Without the proofs there is nothing to judge edits over, and no proved program."""
+    formatted = run("format", clone, ["tests/test_format"])
     bodies = WrongBodies(clone, times)
-    done = [prove(clone, times, bodies)]
+    done = [prove(clone, times, bodies), formatted]
     began = time.monotonic()
     bodies.end(is_proved=not done[0].failed)
     if not done[0].failed:
@@ -194,6 +242,7 @@ def steps(clone: str, times: Times) -> list[Step]:
         done.append(run("damaged pictures, fact files and scripts", clone, ["tests/damage", BUILT]))
         done.append(run("limits, each at its value and one past", clone, ["tests/edges", BUILT]))
         done.append(run("reads and writes that stop", clone, ["tests/stops", BUILT]))
+        done.append(run("one processor and several", clone, ["tests/threads", BUILT]))
         done.append(run("random jobs", clone, ["tests/fuzz", BUILT]))
         done.append(run("results of the examples", clone, ["examples/expected"]))
         done.append(run("page of the examples", clone, ["examples/show", "--check", BUILT]))
@@ -235,6 +284,9 @@ def main() -> int:
     tell("== gate: crate by crate, in minutes and seconds (proofs run side by side)", *times.table())
     tell("== gate: step by step", *(it.line() for it in done), f"gate: {minutes(time.monotonic() - began)} by the clock in all")
     failed = sum(it.failed for it in done)
+    for it in done:
+        if it.failed:
+            tell(f"== gate: {it.name}: what failed", *it.troubles)
     if done[0].failed:
         tell("gate: not tried, since a proof failed: wrong bodies, conformance cases, examples, tf, errors, guide, gallery")
     tell(f"{sum(it.passed for it in done)} passed, {failed} failed")

@@ -23,7 +23,7 @@ mkdir -p crates/tilefarm/out
 echo program > crates/tilefarm/out/tilefarm
 echo "3 passed, 0 failed"
 """
-REFUSES = "#!/bin/sh\necho 'rt: small NOT PROVED'\necho '1 passed, 1 failed'\nexit 1\n"
+REFUSES = "#!/bin/sh\necho 'the reason'\necho 'rt: small NOT PROVED'\necho '1 passed, 1 failed'\nexit 1\n"
 # (judges as many edits as it is given crates, and tells when it began)
 JUDGES = """shift
 [ -e crates/tilefarm/out/tilefarm ] && when=late || when=early
@@ -31,15 +31,18 @@ for name; do echo "edits: $name: 1 of 1 refused, 2 checks, 61.0 s of processor, 
 echo "$when: $*"
 echo "$# passed, 0 failed"
 """
+# (the same, where no early check comes to its end)
+JUDGES_LATE = JUDGES.replace('echo "$#', '[ $when = early ] && echo "0 passed, 1 failed" && exit 1\necho "$#')
 STUBS = {
     "tests/run_edits": JUDGES,
     "tests/test_run_edits.py": "echo '5 passed, 0 failed'",
     "tests/test_gate.py": "echo '1 passed, 0 failed'",
     "tests/run_cases": "cat \"$1\"\necho '6 passed, 1 failed'\nexit 1",
     "examples/expected": "exit 0",
-    **{it: "echo '1 passed, 0 failed'" for it in ("tests/test_pages", "tools/make_usage", "tests/test_tf", "tests/test_errors",
-                                                  "tests/test_guide", "tests/refusals", "tests/refused_calls/sweep", "tests/damage",
-                                                  "tests/edges", "tests/stops", "tests/fuzz", "docs/gallery/make")},
+    **{it: "echo '1 passed, 0 failed'" for it in ("tests/test_format", "tests/test_pages", "tools/make_usage", "tests/test_tf",
+                                                  "tests/test_errors", "tests/test_guide", "tests/refusals",
+                                                  "tests/refused_calls/sweep", "tests/damage", "tests/edges", "tests/stops",
+                                                  "tests/threads", "tests/fuzz", "docs/gallery/make")},
     "examples/show": "echo 'a difference'\nexit 3",
 }
 
@@ -83,8 +86,8 @@ class Gate(unittest.TestCase):
         write(f"{self.top}/crates/small/src/lib.rt", "changed")
         status, lines = self.gate(PROVES)
         self.assertEqual(status, 1)
-        # proofs 3, edits 3, tests 5 and 1, cases 6 and one that fails, the results 1, the page fails, and twelve steps of one
-        self.assertEqual(lines[-1], "31 passed, 2 failed")
+        # proofs 3, edits 3, tests 5 and 1, cases 6 and one that fails, the results 1, the page fails, and thirteen steps of one
+        self.assertEqual(lines[-1], "33 passed, 2 failed")
         self.assertIn("gate: HEAD is judged, and not these changes, which are not committed:", lines)
         self.assertIn(" M crates/small/src/lib.rt", lines)
         self.assertIn("small 0:01 1 of 1 2 1:01 0:30", [" ".join(it.split()) for it in lines])
@@ -95,10 +98,19 @@ class Gate(unittest.TestCase):
         _, lines = self.gate(PROVES)
         self.assertEqual([it for it in lines if it.startswith(("early: ", "late: "))], ["early: small", "late: other tilefarm"])
 
+    def test_what_failed_early_is_judged_once_more(self):
+        write(f"{self.top}/tests/run_edits", f"#!/bin/sh\n{JUDGES_LATE}\n")
+        self.git("-c", "user.name=n", "-c", "user.email=e", "commit", "-qam", "early checks fail")
+        _, lines = self.gate(PROVES)
+        self.assertEqual([it for it in lines if it.startswith(("early: ", "late: "))], ["early: small", "late: other small tilefarm"])
+        self.assertEqual(lines[-1], "33 passed, 2 failed")
+
     def test_without_the_proofs_nothing_stands_on_them(self):
         status, lines = self.gate(REFUSES)
         self.assertEqual(status, 1)
-        self.assertEqual(lines[-1], "9 passed, 1 failed")
+        self.assertEqual(lines[-1], "10 passed, 1 failed")
+        told = lines.index("== gate: proofs: what failed")
+        self.assertEqual(lines[told + 1 : told + 3], ["the reason", "rt: small NOT PROVED"])
         self.assertIn("gate: not tried, since a proof failed: wrong bodies, conformance cases, examples, tf, errors, guide, gallery", lines)
         self.assertFalse(os.path.exists(f"{self.top}/crates/tilefarm/out"))
 

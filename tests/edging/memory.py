@@ -17,7 +17,8 @@ from fuzzing.facts import Fact, file_of
 MEMORY, NO_THREAD = (5, b"memory\n"), (4, b"farm: 1 SpawnFailed\n")
 KINDS = {"address space": resource.RLIMIT_AS, "data": resource.RLIMIT_DATA}
 SECONDS, LIMITS, PAGE, MOST = 60, 48, 4096, 1 << 32
-SIDE = 192
+# (a raw picture takes little more than its bytes, so what only reads one is given a large one)
+SIDE, LARGE = 192, 1024
 TEXT = b"""param R;param C;image I(R,C);
 func a(x in[1..R-2],y in[1..C-2]){else:stencil(I,9,[[1,1,1],[1,1,1],[1,1,1]]);}
 func b(x in[2..R-3],y in[2..C-3]){else:a(x-1,y)-a(x+1,y);}
@@ -32,12 +33,12 @@ class Command(NamedTuple):
 
 def commands() -> list[Command]:
     random = Random(1)
-    picture = b"P5 %d %d 255\n" % (SIDE, SIDE) + random.randbytes(SIDE**2)
+    picture, large = (b"P5 %d %d 255\n" % (side, side) + random.randbytes(side**2) for side in (SIDE, LARGE))
     script = "".join(f"make 0 0:1:{row}:{col}\n" for row in range(12) for col in range(12))
     script += "".join(f"deliver 0 {it}\n" for it in range(144)) + "keep 0\nmerge 1 0\nrestart 1\n"
     facts = [Fact(random.randbytes(32), random.randbytes(32), 1, 0, 0, 0, tuple(range(256))) for _ in range(200)]
     text = b"\n".join(file_of([it]).hex().encode() for it in facts)
-    sides, job = ("--rows", "16", "--cols", "16"), b"\n%%\n".join([TEXT, picture])
+    sides, job = ("--rows", "16", "--cols", "16"), b"\n%%\n".join([TEXT, large])
     return [
         *(Command((it, *sides), job) for it in ("eval", "check", "plan")),
         Command(("run", "--turns", "20", *sides), job),

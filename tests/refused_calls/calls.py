@@ -55,6 +55,8 @@ CALLS = [Call(*it) for it in (
     ("whole", "`whole`", "a count"),
     ("answer_of", "`answer_of`", "a count"),
     ("answer_of_picture", "`answer_of`", "a picture"),
+    ("evaluate", "`evaluate`", "a count"),
+    ("evaluate_picture", "`evaluate`", "a picture"),
     ("encode", "`encode`", "two facts"),
     ("decode", "`decode`", "two facts"),
     ("decode_cut", "`decode`", "a cut file"),
