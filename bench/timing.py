@@ -101,7 +101,8 @@ class Bench:
         self.native, self.held = known.c or f"{room}/pipelines", None
         if not known.c:
             sources = sorted(glob.glob(f"{TOP}/{self.suite.sources}"))
-            subprocess.run(["gcc", "-O3", f"-march={known.march}", "-o", self.native, *sources], check=True)
+            kept = ["-DNUMBERS"] * known.numbers
+            subprocess.run(["gcc", "-O3", f"-march={known.march}", *kept, "-o", self.native, *sources], check=True)
 
     def sides(self, name):
         """The rows and columns of a pipeline's picture, of which its parameters are a whole part."""
@@ -163,6 +164,7 @@ def arguments(usage):
     words.add_argument("--only", nargs="+", choices=sorted({*FIFTEEN.pipelines, *EXAMPLES.pipelines}))
     words.add_argument("--program", type=os.path.abspath, default=PROGRAM)
     words.add_argument("--march", default="native")
+    words.add_argument("--numbers", action="store_true")
     words.add_argument("--c", type=os.path.abspath)
     return words
 

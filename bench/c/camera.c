@@ -5,7 +5,7 @@
 static struct stage cleaned(const struct picture *p) {
     struct stage f = within(p, 2, 2);
     EACH_ROW(f) {
-        const uint16_t *restrict above = words(p, x - 2), *restrict raw = words(p, x), *restrict below = words(p, x + 2);
+        const word *restrict above = words(p, x - 2), *restrict raw = words(p, x), *restrict below = words(p, x + 2);
         number *restrict to = row(f, x);
         EACH_COLUMN(f) to[y] = least(raw[y], greatest(greatest(above[y], below[y]), greatest(raw[y - 2], raw[y + 2])));
     }

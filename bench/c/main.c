@@ -1,9 +1,11 @@
 /* The pipelines of bench/pipelines in plain C, stage by stage and on one thread: a raw picture in, the result out.
    gcc -O3 -march=native -o pipelines bench/c/[a-z]*.c && ./pipelines PIPELINE < INPUT > RESULT
 
-   PIPELINE is the name of a file NAME.pipe. Samples are kept in bytes, as they are read, or in words. What a stencil or an index other
+   PIPELINE is the name of a file NAME.pipe. Samples are kept in bytes, as they are read, or in words; with -DNUMBERS in whole arrays of
+   32-bit numbers, as stages are. What a stencil or an index other
    than a point's own reads is a whole array of 32-bit numbers, filled by loops over its rows; what is read at a point alone is computed
-   where it is read. An array is let go behind the last stage that reads it. */
+   where it is read. An array is let go behind the last stage that reads it. With -fopenmp several threads have rows of their own in
+   each loop over rows; with -DTIMES it is told how many milliseconds the stages took. */
 #include "pipelines.h"
 
 #include <stdio.h>

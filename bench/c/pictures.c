@@ -2,6 +2,20 @@
 #include "pictures.h"
 
 #include <stdio.h>
+#include <time.h>
+
+/* With -DTIMES it is told on standard error how many milliseconds lie between reading a picture and putting the result together. */
+static struct timespec picture_read;
+
+static void begin(void) { clock_gettime(CLOCK_MONOTONIC, &picture_read); }
+
+static void end(void) {
+#ifdef TIMES
+    struct timespec now;
+    clock_gettime(CLOCK_MONOTONIC, &now);
+    fprintf(stderr, "%.3f\n", (now.tv_sec - picture_read.tv_sec) * 1e3 + (now.tv_nsec - picture_read.tv_nsec) / 1e6);
+#endif
+}
 
 void *with_memory(void *memory) {
     if (!memory) exit(5);
@@ -13,10 +27,16 @@ static void refuse(void) {
     exit(2);
 }
 
+static void widen(struct picture *p, const uint8_t *restrict raster, size_t area) {
+    byte *restrict bytes = with_memory(malloc(area * sizeof(byte)));
+    for (size_t i = 0; i < area; i++) bytes[i] = raster[i];
+    p->bytes[0] = bytes;
+}
+
 static void part(struct picture *p, const uint8_t *restrict raster, size_t area) {
-    uint8_t *restrict red = with_memory(malloc(area));
-    uint8_t *restrict green = with_memory(malloc(area));
-    uint8_t *restrict blue = with_memory(malloc(area));
+    byte *restrict red = with_memory(malloc(area * sizeof(byte)));
+    byte *restrict green = with_memory(malloc(area * sizeof(byte)));
+    byte *restrict blue = with_memory(malloc(area * sizeof(byte)));
     for (size_t i = 0; i < area; i++) {
         red[i] = raster[3 * i];
         green[i] = raster[3 * i + 1];
@@ -28,12 +48,12 @@ static void part(struct picture *p, const uint8_t *restrict raster, size_t area)
 }
 
 static void join(struct picture *p, const uint8_t *restrict raster, size_t area) {
-    uint16_t *restrict words = with_memory(malloc(2 * area));
+    word *restrict words = with_memory(malloc(area * sizeof(word)));
     for (size_t i = 0; i < area; i++) words[i] = raster[2 * i] << 8 | raster[2 * i + 1];
     p->words = words;
 }
 
-struct picture read_picture(void) {
+static struct picture read_whole(void) {
     struct picture p = {0};
     int kind;
     if (scanf("P%d %d %d %d", &kind, &p.cols, &p.rows, &p.max) != 4 || (kind != 5 && kind != 6)) refuse();
@@ -43,12 +63,23 @@ struct picture read_picture(void) {
     size_t area = (size_t)p.rows * p.cols, length = area * p.planes * (p.max > 255 ? 2 : 1);
     uint8_t *raster = with_memory(malloc(length));
     if (fread(raster, 1, length, stdin) != length || getchar() != EOF) refuse();
-    if (p.planes == 1 && p.max < 256) {
-        p.bytes[0] = raster;
+    if (p.planes == 3)
+        part(&p, raster, area);
+    else if (p.max > 255)
+        join(&p, raster, area);
+    else if (sizeof(byte) > 1)
+        widen(&p, raster, area);
+    else {
+        p.bytes[0] = (byte *)raster;
         return p;
     }
-    p.planes == 3 ? part(&p, raster, area) : join(&p, raster, area);
     free(raster);
+    return p;
+}
+
+struct picture read_picture(void) {
+    struct picture p = read_whole();
+    begin();
     return p;
 }
 
@@ -60,12 +91,27 @@ struct stage stage(int top, int bottom, int left, int right) {
 
 void drop(struct stage f) { free(f.numbers); }
 
+struct stage numbers_of(const struct picture *p, int plane) {
+#ifdef NUMBERS
+    return (struct stage){0, p->rows - 1, 0, p->cols - 1, p->bytes[plane]};
+#else
+    struct stage f = within(p, 0, 0);
+    EACH_ROW(f) {
+        const byte *restrict samples = bytes(p, plane, x);
+        number *restrict to = row(f, x);
+        EACH_COLUMN(f) to[y] = samples[y];
+    }
+    return f;
+#endif
+}
+
 static void write_raster(int kind, struct stage f, int max, const uint8_t *raster, size_t length) {
     printf("P%d\n%d %d\n%d\n", kind, f.right - f.left + 1, f.bottom - f.top + 1, max);
     fwrite(raster, 1, length, stdout);
 }
 
 void write_grey(struct stage f, int max) {
+    end();
     size_t area = (size_t)(f.bottom - f.top + 1) * (f.right - f.left + 1), length = area * (max > 255 ? 2 : 1);
     const number *restrict numbers = f.numbers;
     uint8_t *restrict raster = with_memory(malloc(length));
@@ -81,6 +127,7 @@ void write_grey(struct stage f, int max) {
 }
 
 void write_colours(struct stage r, struct stage g, struct stage b) {
+    end();
     size_t area = (size_t)(r.bottom - r.top + 1) * (r.right - r.left + 1);
     const number *restrict red = r.numbers, *restrict green = g.numbers, *restrict blue = b.numbers;
     uint8_t *restrict raster = with_memory(malloc(3 * area));
@@ -93,6 +140,7 @@ void write_colours(struct stage r, struct stage g, struct stage b) {
 }
 
 void write_bins(const char *name, int count, const int64_t *bins) {
+    end();
     printf("%s 0..%d:", name, count - 1);
     for (int bin = 0; bin < count; bin++) printf(" %lld", (long long)bins[bin]);
     printf("\n");

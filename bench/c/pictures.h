@@ -5,11 +5,19 @@
 
 typedef int32_t number;
 
+/* samples up to 255, and greater ones: as they are read or, with -DNUMBERS, in whole arrays of numbers as all else is */
+#ifdef NUMBERS
+typedef number byte, word;
+#else
+typedef uint8_t byte;
+typedef uint16_t word;
+#endif
+
 /* The samples of each plane, row by row: bytes where none is above 255, else words. A picture has one plane or three. */
 struct picture {
     int rows, cols, planes, max;
-    uint8_t *bytes[3];
-    uint16_t *words;
+    byte *bytes[3];
+    word *words;
 };
 
 /* A function of a program over whole rows and columns, the first and the last of which are counted. */
@@ -23,6 +31,8 @@ struct picture read_picture(void);
 /* an array whose numbers nobody has written yet */
 struct stage stage(int top, int bottom, int left, int right);
 void drop(struct stage f);
+/* the samples of a plane: as they lie, where they are numbers already */
+struct stage numbers_of(const struct picture *p, int plane);
 /* write one stage as a grey picture, or three as a coloured one, each number cut to 0 to max; three have a max of at most 255 */
 void write_grey(struct stage f, int max);
 void write_colours(struct stage red, struct stage green, struct stage blue);
@@ -37,10 +47,15 @@ static inline number *row(struct stage f, int x) {
     return f.numbers + (ptrdiff_t)(x - f.top) * (f.right - f.left + 1) - f.left;
 }
 
-static inline const uint8_t *bytes(const struct picture *p, int plane, int x) { return p->bytes[plane] + (size_t)x * p->cols; }
-static inline const uint16_t *words(const struct picture *p, int x) { return p->words + (size_t)x * p->cols; }
+static inline const byte *bytes(const struct picture *p, int plane, int x) { return p->bytes[plane] + (size_t)x * p->cols; }
+static inline const word *words(const struct picture *p, int x) { return p->words + (size_t)x * p->cols; }
 
+/* with -fopenmp several threads have rows of their own */
+#ifdef _OPENMP
+#define EACH_ROW(f) _Pragma("omp parallel for") for (int x = (f).top; x <= (f).bottom; x++)
+#else
 #define EACH_ROW(f) for (int x = (f).top; x <= (f).bottom; x++)
+#endif
 #define EACH_COLUMN(f) for (int y = (f).left; y <= (f).right; y++)
 
 static inline number least(number a, number b) { return a < b ? a : b; }

@@ -22,7 +22,7 @@ enum { MOST = 5 };
         for (int y = 0; y < cols; y++)                                                                                             \
             to[y] += floored(m[y] * (a[y] - large_a[y]) + (255 - m[y]) * (b[y] - large_b[y]) + 127, 255);                          \
     }
-ROWS_OF(bytes, uint8_t)
+ROWS_OF(bytes, byte)
 ROWS_OF(numbers, number)
 
 /* half as many columns of what is let go */
@@ -156,7 +156,7 @@ void blend(const struct picture *p) {
 /* at what rate each value is known, and the value times that */
 static void rates(const struct picture *p, struct stage rate, struct stage sum) {
     EACH_ROW(rate) {
-        const uint8_t *restrict value = bytes(p, 0, x), *restrict known = bytes(p, 2, x);
+        const byte *restrict value = bytes(p, 0, x), *restrict known = bytes(p, 2, x);
         number *restrict to_rate = row(rate, x), *restrict to_sum = row(sum, x);
         EACH_COLUMN(rate) {
             to_rate[y] = 16 * known[y] + (known[y] >> 4);

@@ -4,7 +4,7 @@
 void blur(const struct picture *p) {
     struct stage across = within(p, 0, 1), f = within(p, 1, 1);
     EACH_ROW(across) {
-        const uint8_t *restrict I = bytes(p, 0, x);
+        const byte *restrict I = bytes(p, 0, x);
         number *restrict to = row(across, x);
         EACH_COLUMN(across) to[y] = (I[y - 1] + I[y] + I[y + 1]) / 3;
     }
@@ -21,14 +21,14 @@ void blur(const struct picture *p) {
 static struct stage sharpened(const struct picture *p, int plane) {
     struct stage across = within(p, 0, 2), f = within(p, 2, 2);
     EACH_ROW(across) {
-        const uint8_t *restrict I = bytes(p, plane, x);
+        const byte *restrict I = bytes(p, plane, x);
         number *restrict to = row(across, x);
         EACH_COLUMN(across) to[y] = (I[y - 2] + 4 * I[y - 1] + 6 * I[y] + 4 * I[y + 1] + I[y + 2]) >> 4;
     }
     EACH_ROW(f) {
         const number *restrict a = row(across, x - 2), *restrict b = row(across, x - 1), *restrict c = row(across, x);
         const number *restrict d = row(across, x + 1), *restrict e = row(across, x + 2);
-        const uint8_t *restrict I = bytes(p, plane, x);
+        const byte *restrict I = bytes(p, plane, x);
         number *restrict to = row(f, x);
         EACH_COLUMN(f) {
             number blurred = (a[y] + 4 * b[y] + 6 * c[y] + 4 * d[y] + e[y]) >> 4;
@@ -56,7 +56,7 @@ void sobel(const struct picture *p) {
             EACH_COLUMN(f) to[y] = 0;
             continue;
         }
-        const uint8_t *restrict a = bytes(p, 0, x - 1), *restrict b = bytes(p, 0, x), *restrict c = bytes(p, 0, x + 1);
+        const byte *restrict a = bytes(p, 0, x - 1), *restrict b = bytes(p, 0, x), *restrict c = bytes(p, 0, x + 1);
         to[0] = to[f.right] = 0;
         for (int y = 1; y < f.right; y++) to[y] = abs(ACROSS(a, b, c, y)) + abs(DOWN(a, b, c, y));
     }
@@ -70,7 +70,7 @@ void sobel(const struct picture *p) {
 /* the products of the changes */
 static void products(const struct picture *p, struct stage xx, struct stage yy, struct stage xy) {
     EACH_ROW(xx) {
-        const uint8_t *restrict a = bytes(p, 0, x - 1), *restrict b = bytes(p, 0, x), *restrict c = bytes(p, 0, x + 1);
+        const byte *restrict a = bytes(p, 0, x - 1), *restrict b = bytes(p, 0, x), *restrict c = bytes(p, 0, x + 1);
         number *restrict to_xx = row(xx, x), *restrict to_yy = row(yy, x), *restrict to_xy = row(xy, x);
         EACH_COLUMN(xx) {
             number across = ACROSS(a, b, c, y) >> 3, down = DOWN(a, b, c, y) >> 3;
@@ -112,27 +112,21 @@ static void add_tent(number *restrict sums, const number *restrict I, int cols, 
 }
 
 void conv15(const struct picture *p) {
-    struct stage whole = within(p, 0, 0), f = within(p, 7, 7);
+    struct stage whole = numbers_of(p, 0), f = within(p, 7, 7);
     int cols = f.right - f.left + 1;
-    EACH_ROW(whole) {
-        const uint8_t *restrict I = bytes(p, 0, x);
-        number *restrict to = row(whole, x);
-        EACH_COLUMN(whole) to[y] = I[y];
-    }
     EACH_ROW(f) {
         number *to = row(f, x);
         EACH_COLUMN(f) to[y] = 0;
         for (int a = 0; a < 15; a++) add_tent(to + f.left, row(whole, x + a - 7), cols, tent[a]);
         EACH_COLUMN(f) to[y] >>= 12;
     }
-    drop(whole);
     write_grey(f, 255);
 }
 
 static const number near[5] = {1, 2, 3, 2, 1};
 
 /* adds what a row's points differ from those of another, as far as that counts */
-static void add_near(number *restrict sums, const uint8_t *restrict I, const uint8_t *restrict around, int cols, number weight) {
+static void add_near(number *restrict sums, const byte *restrict I, const byte *restrict around, int cols, number weight) {
     for (int y = 0; y < cols; y++) {
         number sum = sums[y];
 #pragma GCC unroll 5
@@ -145,7 +139,7 @@ void bilateral(const struct picture *p) {
     struct stage f = within(p, 2, 2);
     int cols = f.right - f.left + 1;
     EACH_ROW(f) {
-        const uint8_t *I = bytes(p, 0, x);
+        const byte *I = bytes(p, 0, x);
         number *to = row(f, x);
         EACH_COLUMN(f) to[y] = 40;
         for (int a = 0; a < 5; a++) add_near(to + f.left, I, bytes(p, 0, x + a - 2), cols, near[a]);
