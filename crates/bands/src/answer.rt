@@ -27,7 +27,7 @@ const WORK_WORTH_JOINING: u64 = 100;
 /// How much work there is in all where less for each sample is worth several threads, too.
 const MUCH_WORK: u64 = 268_435_456;
 
-/// How much that is.
+/// How much work each sample of the picture is in that case.
 const WORK_WORTH_JOINING_MUCH: u64 = 40;
 
 /// The answer of a job, as `accumulators::evaluate` gives it, and under the same clauses. Where there is work for one thread alone, the job
@@ -57,7 +57,7 @@ pub fn evaluate(
         schedule.now.inlining) }
 {
     if is_for_one(rt, job, schedule) {
-        if let Some(answer) = in_bands(alloc, job, schedule)? {
+        if let Some(answer) = evaluate_in_bands(alloc, job, schedule)? {
             return Ok(answer);
         }
     }
@@ -133,8 +133,17 @@ fn is_small(job: &Job, schedule: &Schedule, stage: usize) -> bool {
     }
 }
 
-// The answer of a job whose tiles have room, if it can be made band by band.
-fn in_bands(alloc: Global, job: &Job, schedule: &Schedule) -> Result<Option<Answer>, AllocError>
+/// The answer of a job by one thread, band by band. There is none where the job has an accumulator, where another stage reads an output,
+/// where a tile takes too much scratch memory, and where a row would be needed once it has gone.
+///
+/// # Errors
+///
+/// Fails only where memory is refused.
+pub fn evaluate_in_bands(
+    alloc: Global,
+    job: &Job,
+    schedule: &Schedule,
+) -> Result<Option<Answer>, AllocError>
     requires schedule { IsScheduleOf (pipeline_in job.now) schedule.now }
     ensures answer { IfOk result (λ found. IfSome found (IsAnswer (pipeline_in job.now))) }
     ensures image { IfOk result (λ found. IfSome found

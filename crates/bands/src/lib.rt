@@ -10,4 +10,4 @@ mod row_range;
 mod strip;
 mod windows;
 
-pub use answer::evaluate;
+pub use answer::{evaluate, evaluate_in_bands};

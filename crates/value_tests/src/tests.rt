@@ -2,6 +2,7 @@
 
 mod given;
 mod identities;
+mod in_bands;
 mod jobs;
 mod tiles;
 mod totals;
