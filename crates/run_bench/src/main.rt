@@ -6,7 +6,7 @@ use anyhow::{Context, Result};
 use domains::TileSides;
 use grouping::{Schedule, with_cheap_inlined};
 use inputs::{job_of, read_input};
-use job::Job;
+use job::{Job, StageKind};
 use std::env;
 use std::fs::File;
 use std::rt::{Clock, Env, Files};
@@ -37,11 +37,13 @@ fn read_job(
     Ok(job_of(rt.alloc(), usual, parameters, input)?.with_wider_tiles(wide))
 }
 
-// How many points a schedule has computed.
+// How many points a schedule has computed for functions.
 fn points(job: &Job, schedule: &Schedule) -> u64 {
     let mut points = 0u64;
     for stage in 0..job.stages().len() {
-        points = points.saturating_add(schedule.cost(stage).unwrap_or(0));
+        if job.kind(stage) == Some(StageKind::Function) {
+            points = points.saturating_add(schedule.cost(stage).unwrap_or(0));
+        }
     }
     points
 }
