@@ -16,7 +16,7 @@ use pipe_terms::{ParseError, Parser};
 use pipe_tokens::{Keyword, Punct, Token};
 use pipe_tree::{
     Accum, Case, Cases, Condition, Expr, Func, Image, Item, ItemStart, MAX_LEVELS, Names, Output,
-    Param, Role, Test, Variable,
+    Param, Role, Table, Test, Variable,
 };
 use std::alloc::Global;
 
@@ -30,6 +30,18 @@ fn param(parser: &mut Parser<'_>) -> Result<Param, ParseError>
     let name = parser.name(Role::Param)?;
     parser.mark(Punct::Semicolon, Role::Plain)?;
     Ok(Param { name })
+}
+
+#[tactic(auto, unfolding(pipe_tree::specs::Reading::a_table))]
+fn table(parser: &mut Parser<'_>) -> Result<Table, ParseError>
+    ensures exact { Reads (λ t. (t, at parser.new)) result (reading.a_table (at parser.old)) }
+    ensures shorter { length parser.new.rest.now ≤ length parser.old.rest.now }
+    ensures passes { OnOk result (length parser.new.rest.now < length parser.old.rest.now) }
+{
+    parser.word(Keyword::Table, Role::Plain)?;
+    let name = parser.name(Role::Table)?;
+    let span = parser.span()?;
+    Ok(parser.ended(Table { name, span }, Punct::Semicolon)?)
 }
 
 // One name, or three.
@@ -228,6 +240,7 @@ fn item_of(token: Option<Token>) -> ItemStart
 {
     match token {
         Some(Token::Keyword(Keyword::Param)) => ItemStart::Param,
+        Some(Token::Keyword(Keyword::Table)) => ItemStart::Table,
         Some(Token::Keyword(Keyword::Func)) => ItemStart::Func,
         Some(Token::Keyword(Keyword::Accum)) => ItemStart::Accum,
         Some(Token::Keyword(Keyword::Output)) => ItemStart::Output,
@@ -245,6 +258,7 @@ fn item(parser: &mut Parser<'_>) -> Result<Item, ParseError>
 {
     match item_of(parser.ahead()) {
         ItemStart::Param => Ok(Item::Param(param(parser)?)),
+        ItemStart::Table => Ok(Item::Table(table(parser)?)),
         ItemStart::Func => Ok(Item::Func(func(parser)?)),
         ItemStart::Accum => Ok(Item::Accum(accum(parser)?)),
         ItemStart::Output => Ok(Item::Output(output(parser)?)),
@@ -296,7 +310,7 @@ fn goes_on(token: Option<Token>, items: &[Item]) -> bool
     ensures { result ≡ reading.goes_on (declarations items.now) token }
 {
     match item_of(token) {
-        ItemStart::Param | ItemStart::Func | ItemStart::Accum => true,
+        ItemStart::Param | ItemStart::Table | ItemStart::Func | ItemStart::Accum => true,
         ItemStart::Output => !has_output(items),
         ItemStart::Nothing => false,
     }

@@ -17,7 +17,7 @@ use Rattle.pipe_tree.specs.Operators.{factor_at}
 use Rattle.pipe_tree.specs.Tree.{Node, binary, literal}
 use Rattle.pipe_tree.specs.Grammar.{Rule, Then, Gives, Takes, Some_of, times, many, leaf, literal_number, named, a_stencil}
 use Rattle.pipe_tree.specs.Grammar.{operand, product_more, product, sum_op, sum_more, sums, negation, group, pair, absolute}
-use Rattle.pipe_tree.specs.Grammar.{clamped, selected, opened, Unary, Product, Expression}
+use Rattle.pipe_tree.specs.Grammar.{clamped, selected, opened, looked_up, Unary, Product, Expression}
 use Rattle.pipe_tree.specs.Grammar as g
 use Rattle.pipe_print.specs.declared.place.Place.{Place}
 use Rattle.pipe_print.specs.declared.place.Place.TheVariants as place
@@ -25,7 +25,7 @@ use Rattle.pipe_print.specs.Canonical as c
 use Rattle.pipe_print.specs.Canonical.{◌⌢◌, grouped, expression_tokens, literal_mark, relation_mark}
 use Rattle.pipe_print.proofs.Printed.{Shortens, nothing, leaves_out, Shortens-append, Printed, fused, joined, at_text, chain}
 use Rattle.pipe_print.proofs.Printed.{rechain, ended, gives, takes, gives_dropped, relabel, becomes, skip_back}
-use Rattle.pipe_print.proofs.SingleTokens.{means, sign_printed, relation_printed, int_printed, some_is}
+use Rattle.pipe_print.proofs.SingleTokens.{means, name_printed, sign_printed, relation_printed, int_printed, some_is}
 use Rattle.pipe_print.proofs.IndexTexts.{named_printed, stencil_printed}
 
 -- ---- turns
@@ -141,7 +141,7 @@ group_printed m e d text p =
     let all : Printed (group (sums (product (Unary m)))) e (grouped d) (bracketed text) =
     joined {Q = λ _. Then (sums (product (Unary m))) (λ a. Then (g.mark mark.CloseRound plain) (λ _. Gives a))}
     (takes (mark_again mark.OpenRound)) inner in
-    becomes (λ t h. inr (inl (inl (inl (inl (inl (inr h))))))) all
+    becomes (λ t h. inl (inr (inl (inl (inl (inl (inl (inr h)))))))) all
 
 -- ---- the places of an expression
 
@@ -172,7 +172,7 @@ leaf_printed p text e (inr h) = becomes (λ t k. inr k) (stencil_printed p text 
 leaf_in : (m : ℕ) (text : List Tagged) (e : Node) → leaf text e → Unary m text e
 unfolding Unary
 leaf_in zero text e h = h
-leaf_in (suc m) text e h = inl h
+leaf_in (suc m) text e h = inl (inl h)
 
 leaf_fits : (m : ℕ) (text : List Tagged) (e : Node) → leaf text e → Everywhere (Unary m) e text
 leaf_fits m text e h = same_places (Unary m) e text (λ p. becomes (λ t k. leaf_in m t e k) (leaf_printed p text e h))
@@ -393,6 +393,15 @@ module _ (U E V F : Rule Node) (unary : (text : List Tagged) (e : Node) → U te
       (rechain p6 (takes p6.first) (rechain p7 (inner p7.front p7.value p7.first) (rechain p8 (takes p8.first)
       (rechain p9 (inner p9.front p9.value p9.first) (rechain p10 (takes p10.first) (gives p10.second)))))))))))
 
+  looked_printed : (p : Place) (text : List Tagged) (e : Node) → looked_up E text e → Printed (looked_up F) e (expression_tokens e p) text
+  looked_printed p text e p1 =
+      let p2 = p1.second in
+      let p3 = p2.second in
+      let p4 = p3.second in
+      relabel (ap (λ (e : Node). expression_tokens e p) (sym p4.second.value))
+      (rechain p1 (name_printed p1.first)
+      (rechain p2 (takes p2.first) (rechain p3 (inner p3.front p3.value p3.first) (rechain p4 (takes p4.first) (gives p4.second)))))
+
 -- ---- all levels
 
 bracketed_is : (n : ℕ) (text : List Tagged) (e : Node) (p : group (sums (product (Unary n))) text e) → text ≡ bracketed p.second.front
@@ -428,29 +437,35 @@ module _ (n : ℕ) (each : UnaryFits n) (m : ℕ) (low : n ≤ m) where
   opened_fits : (text : List Tagged) (e : Node) → opened (Unary n) (sums (product (Unary n))) text e → Everywhere (Unary (suc m)) e text
   unfolding Unary
   opened_fits text e (inl (inl (inl (inl (inl (inl h)))))) =
-      same_places (Unary (suc m)) e text (λ p. becomes (λ t k. inr (inl (inl (inl (inl (inl (inl k)))))))
+      same_places (Unary (suc m)) e text (λ p. becomes (λ t k. inl (inr (inl (inl (inl (inl (inl (inl k))))))))
       (negation_printed (Unary n) (sums (product (Unary n))) (Unary m) (sums (product (Unary m))) operand_at inner_at p text e h))
   opened_fits text e (inl (inl (inl (inl (inl (inr h)))))) = group_fits text e h
   opened_fits text e (inl (inl (inl (inl (inr h))))) =
-      same_places (Unary (suc m)) e text (λ p. becomes (λ t k. inr (inl (inl (inl (inl (inr k))))))
+      same_places (Unary (suc m)) e text (λ p. becomes (λ t k. inl (inr (inl (inl (inl (inl (inr k)))))))
       (pair_printed (Unary n) (sums (product (Unary n))) (Unary m) (sums (product (Unary m))) operand_at inner_at word.Min Min p
       (λ a b. refl) text e h))
-  opened_fits text e (inl (inl (inl (inr h)))) = same_places (Unary (suc m)) e text (λ p. becomes (λ t k. inr (inl (inl (inl (inr k)))))
+  opened_fits text e (inl (inl (inl (inr h)))) = same_places (Unary (suc m)) e text (λ p. becomes (λ t k. inl (inr (inl (inl (inl (inr k))))))
       (pair_printed (Unary n) (sums (product (Unary n))) (Unary m) (sums (product (Unary m))) operand_at inner_at word.Max Max p
       (λ a b. refl) text e h))
-  opened_fits text e (inl (inl (inr h))) = same_places (Unary (suc m)) e text (λ p. becomes (λ t k. inr (inl (inl (inr k))))
+  opened_fits text e (inl (inl (inr h))) = same_places (Unary (suc m)) e text (λ p. becomes (λ t k. inl (inr (inl (inl (inr k)))))
       (absolute_printed (Unary n) (sums (product (Unary n))) (Unary m) (sums (product (Unary m))) operand_at inner_at p text e h))
-  opened_fits text e (inl (inr h)) = same_places (Unary (suc m)) e text (λ p. becomes (λ t k. inr (inl (inr k)))
+  opened_fits text e (inl (inr h)) = same_places (Unary (suc m)) e text (λ p. becomes (λ t k. inl (inr (inl (inr k))))
       (clamped_printed (Unary n) (sums (product (Unary n))) (Unary m) (sums (product (Unary m))) operand_at inner_at p text e h))
-  opened_fits text e (inr h) = same_places (Unary (suc m)) e text (λ p. becomes (λ t k. inr (inr k))
+  opened_fits text e (inr h) = same_places (Unary (suc m)) e text (λ p. becomes (λ t k. inl (inr (inr k)))
       (selected_printed (Unary n) (sums (product (Unary n))) (Unary m) (sums (product (Unary m))) operand_at inner_at p text e h))
+
+  looked_fits : (text : List Tagged) (e : Node) → looked_up (sums (product (Unary n))) text e → Everywhere (Unary (suc m)) e text
+  unfolding Unary
+  looked_fits text e h = same_places (Unary (suc m)) e text (λ p. becomes (λ t k. inr k)
+      (looked_printed (Unary n) (sums (product (Unary n))) (Unary m) (sums (product (Unary m))) operand_at inner_at p text e h))
 
 -- one level more
 more_levels : (n : ℕ) → UnaryFits n → UnaryFits (suc n)
 unfolding Unary
 more_levels n each zero h text e p = absurd (omega arith)
-more_levels n each (suc m) h text e (inl p) = leaf_fits (suc m) text e p
-more_levels n each (suc m) h text e (inr p) = opened_fits n each m (omega arith) text e p
+more_levels n each (suc m) h text e (inl (inl p)) = leaf_fits (suc m) text e p
+more_levels n each (suc m) h text e (inl (inr p)) = opened_fits n each m (omega arith) text e p
+more_levels n each (suc m) h text e (inr p) = looked_fits n each m (omega arith) text e p
 
 unary_fits : (n : ℕ) → UnaryFits n
 unfolding Unary

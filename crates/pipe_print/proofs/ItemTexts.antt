@@ -9,15 +9,16 @@ use Rattle.pipe_tree.specs.declared.tree.Test.{Test}
 use Rattle.pipe_tree.specs.declared.tree.Names.{Names}
 use Rattle.pipe_tree.specs.declared.tree.Param.{Param}
 use Rattle.pipe_tree.specs.declared.tree.Image.{Image}
+use Rattle.pipe_tree.specs.declared.tree.Table.{Table}
 use Rattle.pipe_tree.specs.declared.tree.Output.{Output}
 use Rattle.pipe_tree.specs.declared.tree.Variable.{Variable}
 use Rattle.pipe_tree.specs.Limits.{Tagged}
-use Rattle.pipe_tree.specs.Tree.{Node, Branch, Function, Accumulator, Declaration, param, image, function, accumulator, output}
-use Rattle.pipe_tree.specs.Grammar.{names, a_param, an_image, variables, a_test, condition, value, a_case, otherwise, a_function}
+use Rattle.pipe_tree.specs.Tree.{Node, Branch, Function, Accumulator, Declaration, param, image, table, function, accumulator, output}
+use Rattle.pipe_tree.specs.Grammar.{names, a_param, a_table, an_image, variables, a_test, condition, value, a_case, otherwise, a_function}
 use Rattle.pipe_tree.specs.Grammar.{an_accumulator, an_output, FirstOutput, other, Program}
 use Rattle.pipe_print.specs.Canonical as c
 use Rattle.pipe_print.specs.Canonical.{names_tokens, variables_tokens, test_tokens, condition_tokens, value_tokens, case_tokens}
-use Rattle.pipe_print.specs.Canonical.{otherwise_tokens, param_tokens, image_tokens, function_tokens, accumulator_tokens}
+use Rattle.pipe_print.specs.Canonical.{otherwise_tokens, param_tokens, table_tokens, image_tokens, function_tokens, accumulator_tokens}
 use Rattle.pipe_print.specs.Canonical.{output_tokens, item_tokens, canonical_tokens}
 use Rattle.pipe_print.proofs.Printed.{Printed, chain, gives, takes, relabel, becomes, Adds, adds_one, many_adds, flat_map-append}
 use Rattle.pipe_print.proofs.SingleTokens.{name_printed, relation_printed, fold_printed, int_printed}
@@ -47,6 +48,15 @@ param_printed text x p1 =
     let p3 = p2.second in
     relabel (ap param_tokens (sym p3.second.value))
     (chain p1 (takes p1.first) (chain p2 (name_printed p2.first) (chain p3 (takes p3.first) (gives p3.second))))
+
+table_printed : (text : List Tagged) (x : Table) → a_table text x → Printed a_table x (table_tokens x) text
+table_printed text x p1 =
+    let p2 = p1.second in
+    let p3 = p2.second in
+    let p4 = p3.second in
+    relabel (ap table_tokens (sym p4.second.value))
+    (chain p1 (takes p1.first) (chain p2 (name_printed p2.first)
+    (chain p3 (span_printed p3.front p3.value p3.first) (chain p4 (takes p4.first) (gives p4.second)))))
 
 image_printed : (text : List Tagged) (x : Image) → an_image text x → Printed an_image x (image_tokens x) text
 unfolding an_image
@@ -181,18 +191,21 @@ module _ (levels : ℕ) where
 
   other_adds : (items more : List Declaration) (text : List Tagged) → other levels items text more
       → Adds (other levels items) item_tokens items text more
-  other_adds items more text (inl (inl (inl p))) =
+  other_adds items more text (inl (inl (inl (inl p)))) =
       adds_one (param p.value) p.second.value (relabel (append-nil (param_tokens p.value))
-      (becomes (λ t k. inl (inl (inl k))) (chain p (param_printed p.front p.value p.first) (gives p.second))))
-  other_adds items more text (inl (inl (inr p))) =
+      (becomes (λ t k. inl (inl (inl (inl k)))) (chain p (param_printed p.front p.value p.first) (gives p.second))))
+  other_adds items more text (inl (inl (inl (inr p)))) =
       adds_one (function p.value) p.second.value (relabel (append-nil (function_tokens p.value))
-      (becomes (λ t k. inl (inl (inr k))) (chain p (function_printed p.front p.value p.first) (gives p.second))))
-  other_adds items more text (inl (inr p)) =
+      (becomes (λ t k. inl (inl (inl (inr k)))) (chain p (function_printed p.front p.value p.first) (gives p.second))))
+  other_adds items more text (inl (inl (inr p))) =
       adds_one (accumulator p.value) p.second.value (relabel (append-nil (accumulator_tokens p.value))
-      (becomes (λ t k. inl (inr k)) (chain p (accumulator_printed p.front p.value p.first) (gives p.second))))
-  other_adds items more text (inr p) =
+      (becomes (λ t k. inl (inl (inr k))) (chain p (accumulator_printed p.front p.value p.first) (gives p.second))))
+  other_adds items more text (inl (inr p)) =
       adds_one (output p.value) p.second.value (relabel (append-nil (output_tokens p.value))
-      (becomes (λ t k. inr k) (chain p (first_output items p.front p.value p.first) (gives p.second))))
+      (becomes (λ t k. inl (inr k)) (chain p (first_output items p.front p.value p.first) (gives p.second))))
+  other_adds items more text (inr p) =
+      adds_one (table p.value) p.second.value (relabel (append-nil (table_tokens p.value))
+      (becomes (λ t k. inr k) (chain p (table_printed p.front p.value p.first) (gives p.second))))
 
   -- A program's canonical text is read with as many levels.
   pub program_printed : (text : List Tagged) (tree : List Declaration) → Program levels text tree

@@ -29,9 +29,10 @@ use Rattle.pipe_tree.specs.declared.tree.Names.{Names}
 use Rattle.pipe_tree.specs.declared.tree.Names.TheVariants.{One, Three}
 use Rattle.pipe_tree.specs.declared.tree.Param.{Param}
 use Rattle.pipe_tree.specs.declared.tree.Image.{Image}
+use Rattle.pipe_tree.specs.declared.tree.Table.{Table}
 use Rattle.pipe_tree.specs.declared.tree.Output.{Output}
-use Rattle.pipe_tree.specs.Tree.{Node, number, variable, read, neg, binary, literal, abs, clamp, select, stencil, Branch}
-use Rattle.pipe_tree.specs.Tree.{Function, Accumulator, Declaration, param, image, function, accumulator, output}
+use Rattle.pipe_tree.specs.Tree.{Node, number, variable, read, lookup, neg, binary, literal, abs, clamp, select, stencil, Branch}
+use Rattle.pipe_tree.specs.Tree.{Function, Accumulator, Declaration, param, image, table, function, accumulator, output}
 use Rattle.pipe_print.specs.declared.place.Place.{Place}
 use Rattle.pipe_print.specs.declared.place.Place.TheVariants as places
 
@@ -182,6 +183,7 @@ abbrev pub expression_tokens : Node → Place → List Token
 expression_tokens (number n) p = int n
 expression_tokens (variable x) p = name x
 expression_tokens (read x row column) p = read_tokens x row column
+expression_tokens (lookup x a) p = name x ⌢ mark OpenSquare ⌢ expression_tokens a places.Sum ⌢ mark CloseSquare
 expression_tokens (neg a) p = mark Minus ⌢ expression_tokens a places.Unary
 expression_tokens (binary Add a b) p = sum_in p (expression_tokens a places.Sum ⌢ mark Plus ⌢ expression_tokens b places.Product)
 expression_tokens (binary Sub a b) p = sum_in p (expression_tokens a places.Sum ⌢ mark Minus ⌢ expression_tokens b places.Product)
@@ -232,6 +234,9 @@ fold_word folds.Max = words.Max
 abbrev pub param_tokens : Param → List Token
 param_tokens p = word words.Param ⌢ name p.name ⌢ mark Semicolon
 
+abbrev pub table_tokens : Table → List Token
+table_tokens t = word words.Table ⌢ name t.name ⌢ span_tokens t.span ⌢ mark Semicolon
+
 abbrev pub image_tokens : Image → List Token
 image_tokens i =
     word words.Image ⌢ names_tokens i.names ⌢ mark OpenRound ⌢ affine_tokens i.rows ⌢ mark Comma ⌢ affine_tokens i.columns ⌢ mark CloseRound
@@ -257,6 +262,7 @@ output_tokens o = word words.Output ⌢ names_tokens o.names ⌢ word words.Max 
 abbrev pub item_tokens : Declaration → List Token
 item_tokens (param p) = param_tokens p
 item_tokens (image i) = image_tokens i
+item_tokens (table t) = table_tokens t
 item_tokens (function f) = function_tokens f
 item_tokens (accumulator a) = accumulator_tokens a
 item_tokens (output o) = output_tokens o

@@ -7,7 +7,7 @@ use Rattle.pipe_tree.specs.Grammar.{Program}
 use Rattle.pipe_tree.specs.Tree.{Declaration}
 
 -- the bytes are a text of the tree in which at most so many levels are open at once, and in which there are so many
--- nodes, stages and parameters
+-- nodes, stages, parameters and tables
 pub record IsTextWithin (levels : ℕ) (counts : CountsSoFar) (bytes : List ℕ) (tree : List Declaration) : Type 0 where
   pub tokens : List Token
   pub starts : List ℕ

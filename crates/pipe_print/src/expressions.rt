@@ -28,6 +28,7 @@ fn is_grouped(e: &Expr, place: Place) -> bool
         Expr::Number(_)
         | Expr::Name(_)
         | Expr::Read(..)
+        | Expr::Lookup(..)
         | Expr::Neg(_)
         | Expr::Abs(_)
         | Expr::Clamp(..)
@@ -97,6 +98,11 @@ impl Printer {
             Expr::Number(value) => self.int(*value),
             Expr::Name(name) => self.name(name),
             Expr::Read(name, row, column) => self.read(name, row, column),
+            Expr::Lookup(name, index) => {
+                self.name(name)?;
+                self.behind(Punct::OpenSquare, index, Place::Sum)?;
+                self.mark(Punct::CloseSquare)
+            }
             Expr::Stencil(name, divisor, kernel) => self.stencil(name, *divisor, kernel),
             Expr::Neg(a) => self.behind(Punct::Minus, a, Place::Unary),
             Expr::Binary(op, a, b) => self.binary(*op, a, b),

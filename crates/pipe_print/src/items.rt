@@ -5,8 +5,8 @@ ghost use Rattle.std.specs.Prelude.{◌≡◌, ◌++◌, OnOk};
 ghost use Rattle.std.specs.List.{flat_map};
 ghost use Rattle.std.specs.Option.{option_map};
 ghost use Rattle.pipe_tree.specs.Tree.{view, branches, function_of, accumulator_of, declaration};
-ghost use Rattle.pipe_print.specs.Canonical.{fold_word, param_tokens, names_tokens, image_tokens, variables_tokens, test_tokens};
-ghost use Rattle.pipe_print.specs.Canonical.{condition_tokens, value_tokens, case_tokens, otherwise_tokens, function_tokens};
+ghost use Rattle.pipe_print.specs.Canonical.{fold_word, param_tokens, table_tokens, names_tokens, image_tokens, variables_tokens};
+ghost use Rattle.pipe_print.specs.Canonical.{test_tokens, condition_tokens, value_tokens, case_tokens, otherwise_tokens, function_tokens};
 ghost use Rattle.pipe_print.specs.Canonical.{update_tokens, accumulator_tokens, output_tokens, item_tokens};
 
 use crate::lists::Entry;
@@ -15,7 +15,7 @@ use crate::printer::Printer;
 use domains::Fold;
 use pipe_tokens::{Keyword, Punct, Token};
 use pipe_tree::{
-    Accum, Case, Condition, Expr, Func, Image, Item, Names, Output, Param, Test, Variable,
+    Accum, Case, Condition, Expr, Func, Image, Item, Names, Output, Param, Table, Test, Variable,
 };
 use std::alloc::AllocError;
 
@@ -35,6 +35,15 @@ impl Printer {
     {
         self.word(Keyword::Param)?;
         self.name(&param.name)?;
+        self.mark(Punct::Semicolon)
+    }
+
+    fn table(&mut self, table: &Table) -> Result<(), AllocError>
+        ensures { OnOk result (self.new ≡ self.old ++ table_tokens table.now) }
+    {
+        self.word(Keyword::Table)?;
+        self.name(&table.name)?;
+        self.span(&table.span)?;
         self.mark(Punct::Semicolon)
     }
 
@@ -168,6 +177,7 @@ impl Printer {
         match item {
             Item::Param(param) => self.param(param),
             Item::Image(image) => self.image(image),
+            Item::Table(table) => self.table(table),
             Item::Func(func) => self.func(func),
             Item::Accum(accum) => self.accum(accum),
             Item::Output(output) => self.output(output),

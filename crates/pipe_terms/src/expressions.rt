@@ -11,7 +11,7 @@ use crate::lookahead::{factor_of, sign_of, start_of};
 use crate::parse_error::ParseError;
 use crate::parser::Parser;
 use domains::BinaryOp;
-use pipe_tokens::{Keyword, Punct};
+use pipe_tokens::{Keyword, Name, Punct};
 use pipe_tree::{Expr, Factor, Kind, Opening, Role, Start};
 
 // The word of `min`, and of `max` else.
@@ -91,14 +91,14 @@ impl Parser<'_> {
     }
 
     #[cycle(expression)]
-    #[tactic(auto, unfolding(pipe_tree::specs::Reading::unary_at, pipe_tree::specs::Reading::product_at, pipe_tree::specs::Reading::expression_at))]
+    #[tactic(auto, using(pipe_tree::proofs::ExpressionLaws::names_at), unfolding(pipe_tree::specs::Reading::unary_at, pipe_tree::specs::Reading::product_at, pipe_tree::specs::Reading::expression_at))]
     fn unary(&mut self, levels: u32) -> Result<Expr, ParseError>
         ensures exact { Reads (λ e. (view e, at self.new)) result (unary_at levels (at self.old)) }
         ensures shorter { length self.new.rest.now ≤ length self.old.rest.now }
     {
         match start_of(self.ahead()) {
             Start::Number => Ok(Expr::Number(self.int(Role::Node)?)),
-            Start::Name => self.named(),
+            Start::Name => self.named(levels),
             Start::Stencil => self.stencil(),
             Start::Opening(opening) => {
                 let levels = self.open_level(levels)?;
@@ -106,6 +106,38 @@ impl Parser<'_> {
             }
             Start::Nothing => Err(self.refuse()),
         }
+    }
+
+    // A name, a read of what it names, or an entry of a table, which opens a level.
+    #[cycle(expression)]
+    #[tactic(auto, unfolding(pipe_tree::specs::Reading::named, pipe_tree::specs::Reading::unary_at, pipe_tree::specs::Reading::product_at, pipe_tree::specs::Reading::expression_at))]
+    fn named(&mut self, levels: u32) -> Result<Expr, ParseError>
+        ensures exact { Reads (λ e. (view e, at self.new)) result
+            (reading.named (reading.entry_at levels) (at self.old)) }
+        ensures shorter { length self.new.rest.now ≤ length self.old.rest.now }
+    {
+        let name = self.name(Role::Node)?;
+        if self.is_mark(Punct::OpenRound) {
+            return self.read_end(name);
+        }
+        if self.is_mark(Punct::OpenSquare) {
+            let levels = self.open_level(levels)?;
+            return self.table_entry(name, levels);
+        }
+        Ok(Expr::Name(name))
+    }
+
+    // An entry of a table, with so many levels left behind the bracket.
+    #[cycle(expression)]
+    fn table_entry(&mut self, name: Name, levels: u32) -> Result<Expr, ParseError>
+        ensures exact { Reads (λ e. (view e, at self.new)) result
+            (reading.entry_of (expression_at levels) name (at self.old)) }
+        ensures shorter { length self.new.rest.now ≤ length self.old.rest.now }
+    {
+        self.mark(Punct::OpenSquare, Role::Plain)?;
+        let index = self.operand(levels)?;
+        self.mark(Punct::CloseSquare, Role::Plain)?;
+        Ok(Expr::Lookup(name, index))
     }
 
     // What opens a level, with so many left behind it.

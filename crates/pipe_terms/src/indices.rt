@@ -109,16 +109,11 @@ impl Parser<'_> {
         })
     }
 
-    // A name, or a read of what it names.
-    #[tactic(auto, unfolding(pipe_tree::specs::Reading::named))]
-    pub(crate) fn named(&mut self) -> Result<Expr, ParseError>
-        ensures exact { Reads (λ e. (view e, at self.new)) result (reading.named (at self.old)) }
+    // A read of what a name names.
+    pub(crate) fn read_end(&mut self, name: Name) -> Result<Expr, ParseError>
+        ensures exact { Reads (λ e. (view e, at self.new)) result (reading.read_end name (at self.old)) }
         ensures shorter { length self.new.rest.now ≤ length self.old.rest.now }
     {
-        let name = self.name(Role::Node)?;
-        if !self.is_mark(Punct::OpenRound) {
-            return Ok(Expr::Name(name));
-        }
         self.mark(Punct::OpenRound, Role::Plain)?;
         let row = self.index()?;
         self.mark(Punct::Comma, Role::Plain)?;

@@ -40,6 +40,7 @@ impl<'a> Parser<'a> {
                 nodes: 0,
                 stages: 0,
                 params: 0,
+                tables: 0,
                 cases: 0,
             },
         }

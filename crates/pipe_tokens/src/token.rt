@@ -145,7 +145,7 @@ impl Keyword {
     }
 
     /// The reserved word that the bytes spell, if they are one.
-    pub(crate) fn of(bytes: &[u8]) -> Option<Self>
+    pub fn of(bytes: &[u8]) -> Option<Self>
         ensures { result ≡ word_of bytes.now }
     {
         Keyword::ALL.iter().copied().find(|w| w.bytes() == bytes)

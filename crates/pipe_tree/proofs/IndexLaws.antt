@@ -9,10 +9,10 @@ use Rattle.pipe_tree.specs.declared.limits.Role.TheVariants as roles
 use Rattle.pipe_tree.specs.Operators.{name_at, sign_at}
 use Rattle.pipe_tree.specs.Lookahead.{is_mark_at, is_number_at}
 use Rattle.pipe_tree.specs.Grammar as g
-use Rattle.pipe_tree.specs.Tree.{variable, number}
+use Rattle.pipe_tree.specs.Tree.{number}
 use Rattle.pipe_tree.specs.Reading.{At, ◌>>=◌, gives, choose, while, next_behind, mark, minus, is_sign_at, scaled, addend}
-use Rattle.pipe_tree.specs.Reading.{divisor, index_end, grouped_index, index, name_end}
-use Rattle.pipe_tree.specs.Reading.{named, entry, row, kernel, a_stencil, literal_number}
+use Rattle.pipe_tree.specs.Reading.{divisor, index_end, grouped_index, index, read_end}
+use Rattle.pipe_tree.specs.Reading.{entry, row, kernel, a_stencil, literal_number}
 use Rattle.pipe_tree.proofs.Laws.{Follow, Any, Parses, Starts, parses_then, parses_next, parses_gives, parses_any, parses_choose}
 use Rattle.pipe_tree.proofs.TokenLaws.{parses_mark, parses_word, parses_name, parses_sign, parses_int}
 use Rattle.pipe_tree.proofs.StartLaws.{Behind, Passing, Failing, starts_then, starts_by, starts_with, starts_means, starts_int}
@@ -31,13 +31,17 @@ NoSlash h = is_mark_at marks.Slash h ≡ false
 abbrev pub NoIndexEnd : Follow
 NoIndexEnd h = (is_mark_at marks.Slash h ≡ false) × (is_sign_at h ≡ false)
 
--- behind a name
-abbrev pub NoOpen : Follow
-NoOpen h = is_mark_at marks.OpenRound h ≡ false
+-- behind a name that no index is behind
+abbrev pub NoRound : Follow
+NoRound h = is_mark_at marks.OpenRound h ≡ false
 
-name_is_no_open : (t : Token) (x : List ℕ) → name_at (Some t) ≡ Some x → NoOpen (Some t)
-name_is_no_open (token.Name y) x e = refl
-name_is_no_open t x e = absurd cc
+-- behind a name that stands alone
+abbrev pub NoOpen : Follow
+NoOpen h = (is_mark_at marks.OpenRound h ≡ false) × (is_mark_at marks.OpenSquare h ≡ false)
+
+name_is_no_round : (t : Token) (x : List ℕ) → name_at (Some t) ≡ Some x → NoRound (Some t)
+name_is_no_round (token.Name y) x e = refl
+name_is_no_round t x e = absurd cc
 
 sign_is_no_slash : (t : Token) (x : Bool) → sign_at (Some t) ≡ Some x → NoSlash (Some t)
 sign_is_no_slash (token.Punct marks.Plus) x e = refl
@@ -57,11 +61,11 @@ module _ (n : ℕ) where
       (λ m. starts_by (g.name roles.Plain) _ Any (Failing is_number_at)
       (starts_means name_at roles.Plain Any (Failing is_number_at) name_is_no_number))
 
-  scaled_starts : Starts g.scaled Any NoOpen
+  scaled_starts : Starts g.scaled Any NoRound
   scaled_starts =
-      starts_or _ _ Any NoOpen
-      (starts_by (g.int roles.Plain) _ Any NoOpen (starts_int roles.Plain Any NoOpen (λ k. refl) refl))
-      (starts_by (g.name roles.Plain) _ Any NoOpen (starts_means name_at roles.Plain Any NoOpen name_is_no_open))
+      starts_or _ _ Any NoRound
+      (starts_by (g.int roles.Plain) _ Any NoRound (starts_int roles.Plain Any NoRound (λ k. refl) refl))
+      (starts_by (g.name roles.Plain) _ Any NoRound (starts_means name_at roles.Plain Any NoRound name_is_no_round))
 
   pub parses_addend : Parses n addend NoSign (λ _. g.addend)
   unfolding addend
@@ -112,26 +116,18 @@ module _ (n : ℕ) where
       (parses_any n grouped_index NoIndexEnd _ parses_grouped_index)
       (parses_next n _ _ NoIndexEnd _ _ parses_scaled (λ f. parses_index_end f))
       (λ m. starts_with (token.Punct marks.OpenRound) roles.Plain _ NoIndexEnd (Passing (is_mark_at marks.OpenRound)) refl)
-      (λ m. starts_by g.scaled _ NoIndexEnd NoOpen scaled_starts)
+      (λ m. starts_by g.scaled _ NoIndexEnd NoRound scaled_starts)
 
-  parses_name_end : (x : List ℕ) → Parses n (name_end x) NoOpen (λ _. g.name_end x)
-  parses_name_end x =
-      parses_choose n (is_mark_at marks.OpenRound) _ _ NoOpen _ _
-      (parses_next n _ _ NoOpen _ _ (parses_mark n marks.OpenRound roles.Plain) (λ _.
-      parses_then n index _ NoIndexEnd NoOpen _ _ parses_index (λ i.
-      parses_next n _ _ NoOpen _ _ (parses_mark n marks.Comma roles.Plain) (λ _.
-      parses_then n index _ NoIndexEnd NoOpen _ _ parses_index (λ j.
-      parses_next n _ _ NoOpen _ _ (parses_mark n marks.CloseRound roles.Plain) (λ _.
-      parses_gives n _ NoOpen))
-      (λ m j. starts_with (token.Punct marks.CloseRound) roles.Plain _ NoOpen NoIndexEnd (refl, refl))))
-      (λ m i. starts_with (token.Punct marks.Comma) roles.Plain _ NoOpen NoIndexEnd (refl, refl))))
-      (parses_gives n (variable x) NoOpen)
-      (λ m. starts_with (token.Punct marks.OpenRound) roles.Plain _ NoOpen (Passing (is_mark_at marks.OpenRound)) refl)
-      (λ m. starts_gives (variable x) NoOpen NoOpen (λ h s. s))
-
-  pub parses_named : Parses n named NoOpen (λ _. g.named)
-  unfolding named
-  parses_named = parses_next n _ _ NoOpen _ _ (parses_name n roles.Node) (λ x. parses_name_end x)
+  pub parses_read_end : (x : List ℕ) → Parses n (read_end x) Any (λ _. g.read_end x)
+  parses_read_end x =
+      parses_next n _ _ Any _ _ (parses_mark n marks.OpenRound roles.Plain) (λ _.
+      parses_then n index _ NoIndexEnd Any _ _ parses_index (λ i.
+      parses_next n _ _ Any _ _ (parses_mark n marks.Comma roles.Plain) (λ _.
+      parses_then n index _ NoIndexEnd Any _ _ parses_index (λ j.
+      parses_next n _ _ Any _ _ (parses_mark n marks.CloseRound roles.Plain) (λ _.
+      parses_gives n _ Any))
+      (λ m j. starts_with (token.Punct marks.CloseRound) roles.Plain _ Any NoIndexEnd (refl, refl))))
+      (λ m i. starts_with (token.Punct marks.Comma) roles.Plain _ Any NoIndexEnd (refl, refl)))
 
   -- ---- kernels
 

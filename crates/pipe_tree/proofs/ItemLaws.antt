@@ -12,7 +12,7 @@ use Rattle.pipe_tree.specs.Operators.{relation_at}
 use Rattle.pipe_tree.specs.Lookahead.{is_mark_at, is_word_at}
 use Rattle.pipe_tree.specs.Tree.{Branch}
 use Rattle.pipe_tree.specs.Grammar as g
-use Rattle.pipe_tree.specs.Reading.{At, ◌>>=◌, gives, choose, while, word, names_end, names, a_param, an_image, variables}
+use Rattle.pipe_tree.specs.Reading.{At, ◌>>=◌, gives, choose, while, word, names_end, names, a_param, a_table, an_image, variables}
 use Rattle.pipe_tree.specs.Reading.{test_end, a_test, condition, next_behind}
 use Rattle.pipe_tree.specs.Reading.{value, a_case, cases_at, otherwise, a_function, an_accumulator, an_output}
 use Rattle.pipe_tree.proofs.Laws.{Follow, Any, Parses, Starts, parses_then, parses_next, parses_gives, parses_choose}
@@ -48,7 +48,7 @@ relation_is_no_percent (token.Punct marks.Equals) x e = refl
 relation_is_no_percent t x e = absurd cc
 
 module _ (n : ℕ) where
-  -- ---- parameters and images
+  -- ---- parameters, tables and images
 
   pub parses_param : Parses n a_param Any (λ _. g.a_param)
   unfolding a_param
@@ -57,6 +57,15 @@ module _ (n : ℕ) where
       parses_next n _ _ Any _ _ (parses_name n roles.Param) (λ x.
       parses_next n _ _ Any _ _ (parses_mark n marks.Semicolon roles.Plain) (λ _.
       parses_gives n _ Any)))
+
+  pub parses_table : Parses n a_table Any (λ _. g.a_table)
+  unfolding a_table
+  parses_table =
+      parses_next n _ _ Any _ _ (parses_word n words.Table roles.Plain) (λ _.
+      parses_next n _ _ Any _ _ (parses_name n roles.Table) (λ x.
+      parses_next n _ _ Any _ _ (parses_span n) (λ s.
+      parses_next n _ _ Any _ _ (parses_mark n marks.Semicolon roles.Plain) (λ _.
+      parses_gives n _ Any))))
 
   parses_names_end : (role : Role) (x : List ℕ) → Parses n (names_end role x) NoComma (λ _. g.names_end role x)
   parses_names_end role x =
@@ -142,7 +151,7 @@ module _ (n : ℕ) where
       parses_then n _ _ NoOperator Any _ _ (parses_expression n) (λ e.
       parses_next n _ _ Any _ _ (parses_mark n marks.Semicolon roles.Plain) (λ _.
       parses_gives n _ Any))
-      (λ m e. starts_with (token.Punct marks.Semicolon) roles.Plain _ Any NoOperator (refl, refl, refl)))
+      (λ m e. starts_with (token.Punct marks.Semicolon) roles.Plain _ Any NoOperator ((refl, refl), refl, refl)))
 
   parses_case : (cases : List Branch) → Parses n (a_case n cases) Any (λ m. g.a_case m cases)
   parses_case cases =
@@ -220,8 +229,8 @@ module _ (n : ℕ) where
       parses_then n _ _ NoOperator Any _ _ (parses_expression n) (λ b.
       parses_next n _ _ Any _ _ (parses_mark n marks.Semicolon roles.Plain) (λ _.
       parses_gives n _ Any))
-      (λ m b. starts_with (token.Punct marks.Semicolon) roles.Plain _ Any NoOperator (refl, refl, refl))))
-      (λ m v. starts_with (token.Keyword words.At) roles.Plain _ Any NoOperator (refl, refl, refl))))))))
+      (λ m b. starts_with (token.Punct marks.Semicolon) roles.Plain _ Any NoOperator ((refl, refl), refl, refl))))
+      (λ m v. starts_with (token.Keyword words.At) roles.Plain _ Any NoOperator ((refl, refl), refl, refl))))))))
 
   pub parses_output : Parses n an_output Any (λ _. g.an_output)
   unfolding an_output

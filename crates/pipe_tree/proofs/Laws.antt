@@ -483,6 +483,14 @@ refuse_sound R W has s = record {
 }
 
 module _ {X : Type 0} (test : Option Token → Bool) (r q : Reader X) (R W : Rule X) (s : At) where
+  -- where the first is sound if the test passes
+  pub choose_when : (b : Bool) → test (head s.rest) ≡ b → (test (head s.rest) ≡ true → Sound r R W s (r s)) → Sound q R W s (q s)
+      → Sound (choose test r q) R W s (if b then r s else q s)
+  choose_when true e f g =
+      retarget r (choose test r q) R W s (r s) (λ s' same. ap (λ (b : Bool). if b then r s' else q s') (ap test same ∙ e)) (f e)
+  choose_when false e f g =
+      retarget q (choose test r q) R W s (q s) (λ s' same. ap (λ (b : Bool). if b then r s' else q s') (ap test same ∙ e)) g
+
   choose_sound : (b : Bool) → test (head s.rest) ≡ b → Sound r R W s (r s) → Sound q R W s (q s)
       → Sound (choose test r q) R W s (if b then r s else q s)
   choose_sound true e f g =
@@ -491,14 +499,14 @@ module _ {X : Type 0} (test : Option Token → Bool) (r q : Reader X) (R W : Rul
       retarget q (choose test r q) R W s (q s) (λ s' same. ap (λ (b : Bool). if b then r s' else q s') (ap test same ∙ e)) g
 
 module _ {X : Type 0} (deep : Type 0) (test : Option Token → Bool) (r q : Reader X) (S : Follow) where
-  choose_left : (R : Rule X) → Starts R S (λ h. test h ≡ true) → All deep r S R → All deep (choose test r q) S R
+  pub choose_left : (R : Rule X) → Starts R S (λ h. test h ≡ true) → All deep r S R → All deep (choose test r q) S R
   choose_left R starts p = record {
     read_all = λ c text rest x h t.
         subst (λ (b : Bool). Ends deep c x text rest (if b then r (state c (on text rest)) else q (state c (on text rest))))
         (sym (starts text rest x h t)) (p.read_all c text rest x h t);
   }
 
-  choose_right : (R : Rule X) → Starts R S (λ h. test h ≡ false) → All deep q S R → All deep (choose test r q) S R
+  pub choose_right : (R : Rule X) → Starts R S (λ h. test h ≡ false) → All deep q S R → All deep (choose test r q) S R
   choose_right R starts p = record {
     read_all = λ c text rest x h t.
         subst (λ (b : Bool). Ends deep c x text rest (if b then r (state c (on text rest)) else q (state c (on text rest))))

@@ -14,17 +14,17 @@ use Rattle.pipe_tree.specs.declared.tree.Image.{Image}
 use Rattle.pipe_tree.specs.Tokens.{head}
 use Rattle.pipe_tree.specs.Lookahead.{item_at}
 use Rattle.pipe_tree.specs.Limits.{Tagged}
-use Rattle.pipe_tree.specs.Tree.{Declaration, param, image, function, accumulator, output}
+use Rattle.pipe_tree.specs.Tree.{Declaration, param, image, table, function, accumulator, output}
 use Rattle.pipe_tree.specs.Grammar as g
 use Rattle.pipe_tree.specs.Grammar.{Rule, Then, Gives, FirstOutput, is_output, ◌or◌}
-use Rattle.pipe_tree.specs.Reading.{At, Answer, Reader, on_ok, ◌>>=◌, gives, refuse, choose, turns, loop, a_param, a_function}
+use Rattle.pipe_tree.specs.Reading.{At, Answer, Reader, on_ok, ◌>>=◌, gives, refuse, choose, turns, loop, a_param, a_table, a_function}
 use Rattle.pipe_tree.specs.Reading.{an_accumulator, an_output, item_by, item, goes_on_by, goes_on, other, others, program_at}
 use Rattle.pipe_tree.proofs.Laws.{on, state, Within, Sound, HasText, Follow, Any, Ends, All, Parses, Starts, retarget, widen}
 use Rattle.pipe_tree.proofs.Laws.{has_within, or_wider, or_all}
 use Rattle.pipe_tree.proofs.Laws.{refuse_sound, parses_then, parses_next, parses_gives, parses_weaker, parses_same}
 use Rattle.pipe_tree.proofs.LoopLaws.{Turns, loop_unroll, parses_loop}
 use Rattle.pipe_tree.proofs.StartLaws.{starts_by, starts_with, long_front, long_token}
-use Rattle.pipe_tree.proofs.ItemLaws.{parses_param, parses_image, parses_function, parses_accumulator, parses_output}
+use Rattle.pipe_tree.proofs.ItemLaws.{parses_param, parses_table, parses_image, parses_function, parses_accumulator, parses_output}
 
 -- ---- a reader by another name
 
@@ -104,6 +104,9 @@ module _ (n : ℕ) (items : List Declaration) where
   puts_param : Parses n (put a_param param) Any (λ _. Behind g.a_param param items)
   puts_param = parses_put a_param (λ _. g.a_param) param (parses_param n)
 
+  puts_table : Parses n (put a_table table) Any (λ _. Behind g.a_table table items)
+  puts_table = parses_put a_table (λ _. g.a_table) table (parses_table n)
+
   puts_function : Parses n (put (a_function n) function) Any (λ m. Behind (g.a_function m) function items)
   puts_function = parses_put (a_function n) g.a_function function (parses_function n)
 
@@ -136,7 +139,7 @@ module _ (n : ℕ) (items : List Declaration) where
   output_is b e s = ap (λ (b : Bool). if (if b then false else true) then put an_output output s else refuse s) e
 
   has_other : (m : ℕ) → HasText (g.other m items)
-  has_other m = has_within (Behind g.a_param param items) (g.other m items) (λ text x p. inl (inl (inl p))) puts_param.has
+  has_other m = has_within (Behind g.a_param param items) (g.other m items) (λ text x p. inl (inl (inl (inl p)))) puts_param.has
 
   refuses : (s : At) → Sound refuse (g.other n items) (g.other (suc n) items) s (refuse s)
   refuses s = refuse_sound (g.other n items) (g.other (suc n) items) (has_other n) s
@@ -146,22 +149,26 @@ module _ (n : ℕ) (items : List Declaration) where
   sound_output s e true some = sound_as refuse turn _ _ s (λ s' same. alike s s' start.Output e same ∙ output_is true some s') (refuses s)
   sound_output s e false none =
       sound_as (put an_output output) turn _ _ s (λ s' same. alike s s' start.Output e same ∙ output_is false none s')
-      (widen (put an_output output) _ _ (g.other n items) (g.other (suc n) items) s (put an_output output s) (λ text x p. inr p)
-      (λ text x p. inr p) ((puts_output none).sound s))
+      (widen (put an_output output) _ _ (g.other n items) (g.other (suc n) items) s (put an_output output s) (λ text x p. inl (inr p))
+      (λ text x p. inl (inr p)) ((puts_output none).sound s))
 
   sound_by : (s : At) (k : ItemStart) → item_at (head s.rest) ≡ k → Sound turn (g.other n items) (g.other (suc n) items) s (turn s)
   sound_by s start.Param e =
       sound_as (put a_param param) turn _ _ s (λ s' same. alike s s' start.Param e same)
-      (widen (put a_param param) _ _ (g.other n items) (g.other (suc n) items) s (put a_param param s) (λ text x p. inl (inl (inl p)))
-      (λ text x p. inl (inl (inl p))) (puts_param.sound s))
+      (widen (put a_param param) _ _ (g.other n items) (g.other (suc n) items) s (put a_param param s)
+      (λ text x p. inl (inl (inl (inl p)))) (λ text x p. inl (inl (inl (inl p)))) (puts_param.sound s))
+  sound_by s start.Table e =
+      sound_as (put a_table table) turn _ _ s (λ s' same. alike s s' start.Table e same)
+      (widen (put a_table table) _ _ (g.other n items) (g.other (suc n) items) s (put a_table table s) (λ text x p. inr p)
+      (λ text x p. inr p) (puts_table.sound s))
   sound_by s start.Func e =
       sound_as (put (a_function n) function) turn _ _ s (λ s' same. alike s s' start.Func e same)
       (widen (put (a_function n) function) _ _ (g.other n items) (g.other (suc n) items) s (put (a_function n) function s)
-      (λ text x p. inl (inl (inr p))) (λ text x p. inl (inl (inr p))) (puts_function.sound s))
+      (λ text x p. inl (inl (inl (inr p)))) (λ text x p. inl (inl (inl (inr p)))) (puts_function.sound s))
   sound_by s start.Accum e =
       sound_as (put (an_accumulator n) accumulator) turn _ _ s (λ s' same. alike s s' start.Accum e same)
       (widen (put (an_accumulator n) accumulator) _ _ (g.other n items) (g.other (suc n) items) s (put (an_accumulator n) accumulator s)
-      (λ text x p. inl (inr p)) (λ text x p. inl (inr p)) (puts_accumulator.sound s))
+      (λ text x p. inl (inl (inr p))) (λ text x p. inl (inl (inr p))) (puts_accumulator.sound s))
   sound_by s start.Output e = sound_output s e (list_any is_output items) refl
   sound_by s start.Nothing e = sound_as refuse turn _ _ s (λ s' same. alike s s' start.Nothing e same) (refuses s)
 
@@ -172,6 +179,10 @@ module _ (n : ℕ) (items : List Declaration) where
   begins_param : Starts (Behind g.a_param param items) Any (Begun start.Param)
   begins_param =
       starts_by g.a_param _ Any (Begun start.Param) (starts_with (token.Keyword words.Param) roles.Plain _ Any (Begun start.Param) refl)
+
+  begins_table : Starts (Behind g.a_table table items) Any (Begun start.Table)
+  begins_table =
+      starts_by g.a_table _ Any (Begun start.Table) (starts_with (token.Keyword words.Table) roles.Plain _ Any (Begun start.Table) refl)
 
   begins_function : (m : ℕ) → Starts (Behind (g.a_function m) function items) Any (Begun start.Func)
   unfolding g.a_function
@@ -205,10 +216,11 @@ module _ (n : ℕ) (items : List Declaration) where
   first_goes h e = goes_at start.Output h e.0 (ap (λ (b : Bool). if b then false else true) e.1)
 
   pub other_begins : (m : ℕ) → Starts (g.other m items) Any (λ h. goes_on items h ≡ true)
-  other_begins m text rest x (inl (inl (inl p))) s = goes_at start.Param (head (on text rest)) (begins_param text rest x p s) refl
-  other_begins m text rest x (inl (inl (inr p))) s = goes_at start.Func (head (on text rest)) (begins_function m text rest x p s) refl
-  other_begins m text rest x (inl (inr p)) s = goes_at start.Accum (head (on text rest)) (begins_accumulator m text rest x p s) refl
-  other_begins m text rest x (inr p) s = first_goes (head (on text rest)) (begins_output text rest x p s)
+  other_begins m text rest x (inl (inl (inl (inl p)))) s = goes_at start.Param (head (on text rest)) (begins_param text rest x p s) refl
+  other_begins m text rest x (inl (inl (inl (inr p)))) s = goes_at start.Func (head (on text rest)) (begins_function m text rest x p s) refl
+  other_begins m text rest x (inl (inl (inr p))) s = goes_at start.Accum (head (on text rest)) (begins_accumulator m text rest x p s) refl
+  other_begins m text rest x (inl (inr p)) s = first_goes (head (on text rest)) (begins_output text rest x p s)
+  other_begins m text rest x (inr p) s = goes_at start.Table (head (on text rest)) (begins_table text rest x p s) refl
 
   first_reads : (s : At) → First (head s.rest) → turn s ≡ put an_output output s
   unfolding First
@@ -224,12 +236,14 @@ module _ (n : ℕ) (items : List Declaration) where
       or_all (n < m) turn Any _ _
       (or_all (n < m) turn Any _ _
       (or_all (n < m) turn Any _ _
+      (or_all (n < m) turn Any _ _
       (all_as (put a_param param) turn (n < m) Any (Begun start.Param) _ begins_param (λ s e. turn_is s start.Param e) (puts_param.all m))
       (all_as (put (a_function n) function) turn (n < m) Any (Begun start.Func) _ (begins_function m) (λ s e. turn_is s start.Func e)
       (puts_function.all m)))
       (all_as (put (an_accumulator n) accumulator) turn (n < m) Any (Begun start.Accum) _ (begins_accumulator m)
       (λ s e. turn_is s start.Accum e) (puts_accumulator.all m)))
-      (output_all m (list_any is_output items) refl)
+      (output_all m (list_any is_output items) refl))
+      (all_as (put a_table table) turn (n < m) Any (Begun start.Table) _ begins_table (λ s e. turn_is s start.Table e) (puts_table.all m))
 
   parses_turn : Parses n turn Any (λ m. g.other m items)
   parses_turn = record {
@@ -237,9 +251,11 @@ module _ (n : ℕ) (items : List Declaration) where
     wider =
         or_wider _ _ _ _
         (or_wider _ _ _ _
+        (or_wider _ _ _ _
         (or_wider _ _ _ _ puts_param.wider puts_function.wider)
         puts_accumulator.wider)
-        (λ text x p. p);
+        (λ text x p. p))
+        puts_table.wider;
     has = has_other n;
     all = turn_all;
   }
@@ -283,14 +299,16 @@ NoItem h = item_at h ≡ start.Nothing
 
 other_long : (m : ℕ) (items : List Declaration) (text : List Tagged) (x : List Declaration) → g.other m items text x → 0 < length text
 unfolding g.a_function g.an_accumulator
-other_long m items text x (inl (inl (inl p))) =
+other_long m items text x (inl (inl (inl (inl p)))) =
     long_front g.a_param _ (long_front _ _ (long_token (token.Keyword words.Param) roles.Plain)) text x p
-other_long m items text x (inl (inl (inr p))) =
+other_long m items text x (inl (inl (inl (inr p)))) =
     long_front (g.a_function m) _ (long_front _ _ (long_token (token.Keyword words.Func) roles.Function)) text x p
-other_long m items text x (inl (inr p)) =
+other_long m items text x (inl (inl (inr p))) =
     long_front (g.an_accumulator m) _ (long_front _ _ (long_token (token.Keyword words.Accum) roles.Plain)) text x p
-other_long m items text x (inr p) =
+other_long m items text x (inl (inr p)) =
     long_front (FirstOutput items) _ (λ text o p. long_front _ _ (long_token (token.Keyword words.Output) roles.Plain) text o p.it) text x p
+other_long m items text x (inr p) =
+    long_front g.a_table _ (long_front _ _ (long_token (token.Keyword words.Table) roles.Plain)) text x p
 
 module _ (n : ℕ) where
   item_turns : Turns n goes_on (guarded goes_on (other n)) Any NoItem (λ items m. g.other m items)

@@ -20,10 +20,10 @@ use Rattle.pipe_tree.specs.Limits.{Tagged, fits, counted, counted_next, counted_
 use Rattle.pipe_tree.specs.Grammar as g
 use Rattle.pipe_tree.specs.Grammar.{Rule, Then, Gives, Takes, Means, Some_of, many, times, ◌or◌}
 use Rattle.pipe_tree.specs.Faults.{IsText}
-use Rattle.pipe_tree.specs.Sizes.{Weights, nodes, stages, params, cases, node_size, cases_size, optional_size, names_size}
+use Rattle.pipe_tree.specs.Sizes.{Weights, nodes, stages, params, tables, cases, node_size, cases_size, optional_size, names_size}
 use Rattle.pipe_tree.specs.Sizes.{item_size, size, KeepsLimits}
-use Rattle.pipe_tree.specs.Tree.{Node, number, variable, read, neg, binary, literal, abs, clamp, select, stencil, Branch}
-use Rattle.pipe_tree.specs.Tree.{Function, Declaration, image, param, function, accumulator, output}
+use Rattle.pipe_tree.specs.Tree.{Node, number, variable, read, lookup, neg, binary, literal, abs, clamp, select, stencil, Branch}
+use Rattle.pipe_tree.specs.Tree.{Function, Declaration, image, table, param, function, accumulator, output}
 use Rattle.pipe_tree.proofs.Laws.{counted_all-append, counted_all-none}
 
 -- ---- the weight of a text
@@ -32,6 +32,7 @@ abbrev pub role_weight : Weights → Role → ℕ
 role_weight w roles.Node = w.node
 role_weight w roles.Stage = w.stage
 role_weight w roles.Param = w.param
+role_weight w roles.Table = w.table
 role_weight w roles.Function = w.function
 role_weight w roles.Case = w.case
 role_weight w roles.Plain = 0
@@ -253,12 +254,18 @@ module _ (w : Weights) where
         (λ _. both _ _ _ _ _ inner (λ c. light _ _ _ _ (takes _ roles.Plain _)
         (λ _. both _ _ _ _ _ inner (λ d. light _ _ _ _ (takes _ roles.Plain _) (λ _. gives _ _ node (omega arith))))))))))))
 
+    looked : Adds 0 (g.looked_up E) node
+    looked =
+        both 0 _ _ _ _ (means _ roles.Node) (λ x. light _ _ _ _ (takes _ roles.Plain _) (λ _. both _ _ _ _ _ inner
+        (λ a. light _ _ _ _ (takes _ roles.Plain _) (λ _. gives _ _ node (omega arith)))))
+
   unary : (m : ℕ) → Weighs (g.Unary m) node
   unfolding g.Unary
   unary zero = adds _ _ leaf
   unary (suc m) =
-      adds _ _ (choice 0 _ _ _ leaf
+      adds _ _ (choice 0 _ _ _ (choice 0 _ _ _ leaf
       (opened (g.Unary m) (g.sums (g.product (g.Unary m))) (unary m) (sums (g.product (g.Unary m)) (product (g.Unary m) (unary m)))))
+      (looked (g.Unary m) (g.sums (g.product (g.Unary m))) (unary m) (sums (g.product (g.Unary m)) (product (g.Unary m) (unary m)))))
 
   expression : (m : ℕ) → Weighs (g.Expression m) node
   unfolding g.Expression g.Product
@@ -293,6 +300,11 @@ module _ (w : Weights) where
   a_param =
       adds _ _ (light 0 _ _ _ (takes _ roles.Plain _) (λ _. both 0 _ _ _ _ (means _ roles.Param)
       (λ x. light _ _ _ _ (takes _ roles.Plain _) (λ _. gives _ _ (λ _. w.param) (omega arith)))))
+
+  a_table : Weighs g.a_table (λ _. w.table)
+  a_table =
+      adds _ _ (light 0 _ _ _ (takes _ roles.Plain _) (λ _. both 0 _ _ _ _ (means _ roles.Table) (λ x. light _ _ _ _ (adds _ _ span)
+      (λ s. light _ _ _ _ (takes _ roles.Plain _) (λ _. gives _ _ (λ _. w.table) (omega arith))))))
 
   an_image : Weighs g.an_image (λ i. names_size w.stage i.names)
   unfolding g.an_image
@@ -335,11 +347,12 @@ module _ (w : Weights) where
 
   other : (m : ℕ) (items : List Declaration) → Adds (size w items) (g.other m items) (size w)
   other m items =
-      choice _ _ _ _ (choice _ _ _ _ (choice _ _ _ _
+      choice _ _ _ _ (choice _ _ _ _ (choice _ _ _ _ (choice _ _ _ _
       (both _ _ _ _ _ a_param (λ p. gives _ _ (size w) (pushed items (param p) _ refl)))
       (both _ _ _ _ _ (a_function m) (λ f. gives _ _ (size w) (pushed items (function f) _ refl))))
       (both _ _ _ _ _ (an_accumulator m) (λ a. gives _ _ (size w) (pushed items (accumulator a) _ refl))))
-      (both _ _ _ _ _ (λ text o p. an_output text o p.it) (λ o. gives _ _ (size w) (pushed items (output o) _ refl)))
+      (both _ _ _ _ _ (λ text o p. an_output text o p.it) (λ o. gives _ _ (size w) (pushed items (output o) _ refl))))
+      (both _ _ _ _ _ a_table (λ t. gives _ _ (size w) (pushed items (table t) _ refl)))
 
   pub program_weighs : (m : ℕ) → Weighs (g.Program m) (size w)
   unfolding g.Program
@@ -352,16 +365,18 @@ module _ (w : Weights) where
 -- ---- what is counted
 
 abbrev functions : Weights
-functions = record { node = 0; stage = 0; param = 0; function = 1; case = 0 }
+functions = record { node = 0; stage = 0; param = 0; table = 0; function = 1; case = 0 }
 
 -- one more token
 record Steps (role : Role) (c d : Counts) : Type 0 where
   more_nodes : c.nodes + role_weight nodes role ≡ d.nodes
   more_stages : c.stages + role_weight stages role ≡ d.stages
   more_params : c.params + role_weight params role ≡ d.params
+  more_tables : c.tables + role_weight tables role ≡ d.tables
   few_nodes : c.nodes ≤ 4096 → d.nodes ≤ 4096
   few_stages : c.stages ≤ 64 → d.stages ≤ 64
   few_params : c.params ≤ 64 → d.params ≤ 64
+  few_tables : c.tables ≤ 16 → d.tables ≤ 16
 
 some_is : {X : Type 0} (x y : X) → Some x ≡ Some y → x ≡ y
 some_is x y e = cc
@@ -377,9 +392,11 @@ step roles.Plain c d e =
           omega arith;
       more_stages = omega arith;
       more_params = omega arith;
+      more_tables = omega arith;
       few_nodes = λ h. h;
       few_stages = λ h. h;
       few_params = λ h. h;
+      few_tables = λ h. h;
     })
 step roles.Node c d e =
     step_if roles.Node c (record c { nodes = c.nodes + 1 }) d (nat_lt c.nodes 4096) e (λ less. record {
@@ -388,9 +405,11 @@ step roles.Node c d e =
       more_stages =
           omega arith;
       more_params = omega arith;
+      more_tables = omega arith;
       few_nodes = λ h. grind (arith, less);
       few_stages = λ h. h;
       few_params = λ h. h;
+      few_tables = λ h. h;
     })
 step roles.Stage c d e =
     step_if roles.Stage c (record c { stages = c.stages + 1 }) d (nat_lt c.stages 64) e (λ less. record {
@@ -399,9 +418,11 @@ step roles.Stage c d e =
       more_stages =
           omega arith;
       more_params = omega arith;
+      more_tables = omega arith;
       few_nodes = λ h. h;
       few_stages = λ h. grind (arith, less);
       few_params = λ h. h;
+      few_tables = λ h. h;
     })
 step roles.Param c d e =
     step_if roles.Param c (record c { params = c.params + 1 }) d (nat_lt c.params 64) e (λ less. record {
@@ -410,9 +431,24 @@ step roles.Param c d e =
       more_stages =
           omega arith;
       more_params = omega arith;
+      more_tables = omega arith;
       few_nodes = λ h. h;
       few_stages = λ h. h;
       few_params = λ h. grind (arith, less);
+      few_tables = λ h. h;
+    })
+step roles.Table c d e =
+    step_if roles.Table c (record c { tables = c.tables + 1 }) d (nat_lt c.tables 16) e (λ less. record {
+      more_nodes =
+          omega arith;
+      more_stages =
+          omega arith;
+      more_params = omega arith;
+      more_tables = omega arith;
+      few_nodes = λ h. h;
+      few_stages = λ h. h;
+      few_params = λ h. h;
+      few_tables = λ h. grind (arith, less);
     })
 step roles.Function c d e =
     subst (λ (q : Counts). Steps roles.Function c q) (some_is (record c { cases = 0 }) d e) (record {
@@ -420,9 +456,11 @@ step roles.Function c d e =
           omega arith;
       more_stages = omega arith;
       more_params = omega arith;
+      more_tables = omega arith;
       few_nodes = λ h. h;
       few_stages = λ h. h;
       few_params = λ h. h;
+      few_tables = λ h. h;
     })
 step roles.Case c d e =
     step_if roles.Case c (record c { cases = c.cases + 1 }) d (nat_lt c.cases 16) e (λ less. record {
@@ -430,9 +468,11 @@ step roles.Case c d e =
           omega arith;
       more_stages = omega arith;
       more_params = omega arith;
+      more_tables = omega arith;
       few_nodes = λ h. h;
       few_stages = λ h. h;
       few_params = λ h. h;
+      few_tables = λ h. h;
     })
 
 next_step : (t : Tagged) (c d : Counts) (b : Bool) → (if b then counted t.role c else None) ≡ Some d → Steps t.role c d
@@ -444,12 +484,14 @@ record Few (c : Counts) (text : List Tagged) : Type 0 where
   few_nodes : c.nodes ≤ 4096 → c.nodes + weight nodes text ≤ 4096
   few_stages : c.stages ≤ 64 → c.stages + weight stages text ≤ 64
   few_params : c.params ≤ 64 → c.params + weight params text ≤ 64
+  few_tables : c.tables ≤ 16 → c.tables + weight tables text ≤ 16
 
 few_next : (t : Tagged) (text : List Tagged) (c d : Counts) → Steps t.role c d → Few d text → Few c (t ∷ text)
 few_next t text c d s f = record {
   few_nodes = λ h. omega (arith, s.more_nodes, f.few_nodes (s.few_nodes h));
   few_stages = λ h. omega (arith, s.more_stages, f.few_stages (s.few_stages h));
   few_params = λ h. omega (arith, s.more_params, f.few_params (s.few_params h));
+  few_tables = λ h. omega (arith, s.more_tables, f.few_tables (s.few_tables h));
 }
 
 few_by : (t : Tagged) (text : List Tagged) (c d : Counts) → ((c1 : Counts) → counted_all (Some c1) text ≡ Some d → Few c1 text)
@@ -458,7 +500,12 @@ few_by t text c d others None is e = let never = counted_all-none text in absurd
 few_by t text c d others (Some c1) is e = few_next t text c c1 (next_step t c c1 (fits t.token) is) (others c1 e)
 
 few : (text : List Tagged) (c d : Counts) → counted_all (Some c) text ≡ Some d → Few c text
-few [] c d e = record { few_nodes = λ h. omega (arith, h); few_stages = λ h. omega (arith, h); few_params = λ h. omega (arith, h) }
+few [] c d e = record {
+  few_nodes = λ h. omega (arith, h);
+  few_stages = λ h. omega (arith, h);
+  few_params = λ h. omega (arith, h);
+  few_tables = λ h. omega (arith, h);
+}
 few (t ∷ text) c d e = few_by t text c d (λ c1 later. few text c1 d later) (counted_next (Some c) t) refl e
 
 -- ---- the cases of one function
@@ -471,6 +518,7 @@ no_node (neg a) = omega (arith, no_node a)
 no_node (binary op a b) = omega (arith, no_node a, no_node b)
 no_node (literal op a n) = omega (arith, no_node a)
 no_node (abs a) = omega (arith, no_node a)
+no_node (lookup x a) = omega (arith, no_node a)
 no_node (clamp a b c) = omega (arith, no_node a, no_node b, no_node c)
 no_node (select a r b c d) = omega (arith, no_node a, no_node b, no_node c, no_node d)
 no_node (stencil x d k) = refl
@@ -500,6 +548,7 @@ case_step roles.Plain c d f e = kept roles.Plain c d refl (ap (λ (q : Counts). 
 case_step roles.Node c d f e = kept roles.Node c d refl (case_if c (record c { nodes = c.nodes + 1 }) d (nat_lt c.nodes 4096) e refl)
 case_step roles.Stage c d f e = kept roles.Stage c d refl (case_if c (record c { stages = c.stages + 1 }) d (nat_lt c.stages 64) e refl)
 case_step roles.Param c d f e = kept roles.Param c d refl (case_if c (record c { params = c.params + 1 }) d (nat_lt c.params 64) e refl)
+case_step roles.Table c d f e = kept roles.Table c d refl (case_if c (record c { tables = c.tables + 1 }) d (nat_lt c.tables 16) e refl)
 case_step roles.Function c d f e = absurd (omega (arith, f))
 case_step roles.Case c d f e = case_more c d (nat_lt c.cases 16) refl e
 
@@ -565,17 +614,19 @@ FewCases item = item_size cases item ≤ 16
 
 other_cases : (m : ℕ) (items : List Declaration) (text : List Tagged) (x : List Declaration) (c d : Counts) → g.other m items text x
     → counted_all (Some c) text ≡ Some d → All FewCases items → All FewCases x
-other_cases m items text x c d (inl (inl (inl p))) e all =
+other_cases m items text x c d (inl (inl (inl (inl p)))) e all =
     subst (All FewCases) (sym p.second.value) (All-push FewCases items (param p.value) all (omega arith))
-other_cases m items text x c d (inl (inl (inr p))) e all =
+other_cases m items text x c d (inl (inl (inl (inr p)))) e all =
     let s = split_text text p.front p.back c d p.parts e in
     subst (All FewCases) (sym p.second.value)
     (All-push FewCases items (function p.value) all (function_cases m p.front p.value c s.0 p.first s.1))
-other_cases m items text x c d (inl (inr p)) e all =
+other_cases m items text x c d (inl (inl (inr p))) e all =
     subst (All FewCases) (sym p.second.value)
     (All-push FewCases items (accumulator p.value) all (omega (arith, no_node p.value.value, no_node p.value.bin)))
-other_cases m items text x c d (inr p) e all =
+other_cases m items text x c d (inl (inr p)) e all =
     subst (All FewCases) (sym p.second.value) (All-push FewCases items (output p.value) all (omega arith))
+other_cases m items text x c d (inr p) e all =
+    subst (All FewCases) (sym p.second.value) (All-push FewCases items (table p.value) all (omega arith))
 
 times_cases : (m n : ℕ) (items : List Declaration) (text : List Tagged) (x : List Declaration) (c d : Counts)
     → times (g.other m) n items text x → counted_all (Some c) text ≡ Some d → All FewCases items → All FewCases x
@@ -607,5 +658,6 @@ keeps_limits bytes tree is =
       few_nodes = omega (arith, program_weighs nodes most_levels t.text tree t.program, f.few_nodes (omega arith));
       few_stages = omega (arith, program_weighs stages most_levels t.text tree t.program, f.few_stages (omega arith));
       few_params = omega (arith, program_weighs params most_levels t.text tree t.program, f.few_params (omega arith));
+      few_tables = omega (arith, program_weighs tables most_levels t.text tree t.program, f.few_tables (omega arith));
       few_cases = program_cases most_levels t.text tree none_yet t.counts t.program t.few;
     }

@@ -22,6 +22,7 @@ use Rattle.pipe_tree.specs.declared.tree.Names.TheVariants.{One, Three}
 use Rattle.pipe_tree.specs.declared.tree.Output.{Output}
 use Rattle.pipe_tree.specs.declared.tree.Param.{Param}
 use Rattle.domains.specs.declared.operators.Relation.{Relation}
+use Rattle.pipe_tree.specs.declared.tree.Table.{Table}
 use Rattle.pipe_tree.specs.declared.tree.Term.{Term}
 use Rattle.pipe_tree.specs.declared.tree.Test.{Test}
 use Rattle.pipe_tree.specs.declared.tree.Test.TheVariants.{Compare, Remainder}
@@ -30,8 +31,8 @@ use Rattle.pipe_tree.specs.declared.ahead.Factor.{Factor}
 use Rattle.pipe_tree.specs.declared.ahead.Factor.TheVariants as factors
 use Rattle.pipe_tree.specs.Limits.{Tagged}
 use Rattle.pipe_tree.specs.Operators.{name_at, sign_at, factor_at, relation_at, fold_at}
-use Rattle.pipe_tree.specs.Tree.{Node, number, variable, read, neg, binary, literal, abs, clamp, select, stencil, Branch}
-use Rattle.pipe_tree.specs.Tree.{Function, Accumulator, Declaration, param, image, function, accumulator, output}
+use Rattle.pipe_tree.specs.Tree.{Node, number, variable, read, lookup, neg, binary, literal, abs, clamp, select, stencil, Branch}
+use Rattle.pipe_tree.specs.Tree.{Function, Accumulator, Declaration, param, image, table, function, accumulator, output}
 
 abbrev pub Rule : Type 0 → Type 1
 Rule X = List Tagged → X → Type 0
@@ -233,16 +234,19 @@ index = grouped_index
 
 -- ---- expressions
 
--- a name, or a read of what it names
-abbrev pub name_end : List ℕ → Rule Node
-name_end x = (do
+-- a read of what a name names
+abbrev pub read_end : List ℕ → Rule Node
+read_end x = do
   _ ← mark OpenRound roles.Plain
   i ← index
   _ ← mark Comma roles.Plain
   j ← index
   _ ← mark CloseRound roles.Plain
-  Gives (read x i j))
-    or Gives (variable x)
+  Gives (read x i j)
+
+-- a name, or a read of what it names
+abbrev pub name_end : List ℕ → Rule Node
+name_end x = read_end x or Gives (variable x)
 
 abbrev pub named : Rule Node
 named = do
@@ -393,10 +397,23 @@ opened unary expression =
     or clamped expression
     or selected expression
 
+-- the entry of a table at what an expression says, which opens a level
+abbrev pub entry_of : Rule Node → List ℕ → Rule Node
+entry_of expression x = do
+  _ ← mark OpenSquare roles.Plain
+  a ← expression
+  _ ← mark CloseSquare roles.Plain
+  Gives (lookup x a)
+
+abbrev pub looked_up : Rule Node → Rule Node
+looked_up expression = do
+  x ← name roles.Node
+  entry_of expression x
+
 -- with at most so many levels open at once
 unfoldable pub Unary : ℕ → Rule Node
 Unary zero = leaf
-Unary (suc levels) = leaf or opened (Unary levels) (sums (product (Unary levels)))
+Unary (suc levels) = leaf or opened (Unary levels) (sums (product (Unary levels))) or looked_up (sums (product (Unary levels)))
 
 unfoldable pub Product : ℕ → Rule Node
 Product levels = product (Unary levels)
@@ -426,6 +443,14 @@ a_param = do
   x ← name roles.Param
   _ ← mark Semicolon roles.Plain
   Gives (record { name = x })
+
+abbrev pub a_table : Rule Table
+a_table = do
+  _ ← word words.Table roles.Plain
+  x ← name roles.Table
+  s ← span
+  _ ← mark Semicolon roles.Plain
+  Gives (record { name = x; span = s })
 
 unfoldable pub an_image : Rule Image
 an_image = do
@@ -549,6 +574,9 @@ other levels items = (do
     or (do
       o ← FirstOutput items
       Gives (items ++ output o ∷ []))
+    or (do
+      t ← a_table
+      Gives (items ++ table t ∷ []))
 
 -- Items in any order, of which exactly one is an image and at most one an output.
 unfoldable pub Program : ℕ → Rule (List Declaration)

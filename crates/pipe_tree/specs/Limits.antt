@@ -3,7 +3,7 @@ use Rattle.std.specs.Prelude.{ℕ, ◌+◌, Bool, true, false, nat_lt, nat_le, L
 use Rattle.pipe_tokens.specs.declared.token.Token.{Token}
 use Rattle.pipe_tokens.specs.declared.token.Token.TheVariants as token
 use Rattle.pipe_tree.specs.declared.limits.Role.{Role}
-use Rattle.pipe_tree.specs.declared.limits.Role.TheVariants.{Plain, Node, Stage, Param, Function, Case}
+use Rattle.pipe_tree.specs.declared.limits.Role.TheVariants.{Plain, Node, Stage, Param, Table, Function, Case}
 use Rattle.pipe_tree.specs.declared.limits.Counts.{Counts}
 
 -- bytes of a text
@@ -21,13 +21,14 @@ plain = Plain
 abbrev pub CountsSoFar : Type 0
 CountsSoFar = Counts
 
--- The counts with one more, unless that passes its limit: 4,096 nodes of expressions, 64 stages, 64 parameters, and 16
--- cases in each function.
+-- The counts with one more, unless that passes its limit: 4,096 nodes of expressions, 64 stages, 64 parameters, 16
+-- tables, and 16 cases in each function.
 abbrev pub counted : Role → Counts → Option Counts
 counted Plain c = Some c
 counted Node c = if nat_lt c.nodes 4096 then Some (record c { nodes = c.nodes + 1 }) else None
 counted Stage c = if nat_lt c.stages 64 then Some (record c { stages = c.stages + 1 }) else None
 counted Param c = if nat_lt c.params 64 then Some (record c { params = c.params + 1 }) else None
+counted Table c = if nat_lt c.tables 16 then Some (record c { tables = c.tables + 1 }) else None
 counted Function c = Some (record c { cases = 0 })
 counted Case c = if nat_lt c.cases 16 then Some (record c { cases = c.cases + 1 }) else None
 
@@ -64,4 +65,4 @@ counted_all counts [] = counts
 counted_all counts (t ∷ text) = counted_all (counted_next counts t) text
 
 abbrev pub none_yet : Counts
-none_yet = record { nodes = 0; stages = 0; params = 0; cases = 0 }
+none_yet = record { nodes = 0; stages = 0; params = 0; tables = 0; cases = 0 }

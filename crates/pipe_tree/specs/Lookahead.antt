@@ -45,6 +45,7 @@ start_at _ = start.Nothing
 
 abbrev pub item_at : Option Token → ItemStart
 item_at (Some (token.Keyword word.Param)) = item.Param
+item_at (Some (token.Keyword word.Table)) = item.Table
 item_at (Some (token.Keyword word.Func)) = item.Func
 item_at (Some (token.Keyword word.Accum)) = item.Accum
 item_at (Some (token.Keyword word.Output)) = item.Output

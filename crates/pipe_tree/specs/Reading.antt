@@ -1,6 +1,6 @@
 -- Reading tokens from left to right, with one token ahead and the first fault that is met. Only the contracts of
 -- functions inside the parser cite this. What is read is what the grammar says: that is proved of each reader.
-use Rattle.std.specs.Prelude.{◌≡◌, ℕ, zero, suc, nat_le, ℤ, pos, Bool, true, false, List, [], ◌∷◌, ◌++◌, length, Option, Some}
+use Rattle.std.specs.Prelude.{ℕ, zero, suc, nat_le, ℤ, pos, Bool, true, false, List, [], ◌∷◌, ◌++◌, length, Option, Some}
 use Rattle.std.specs.Prelude.{None, is_some, Result, Ok, Err, if◌then◌else◌}
 use Rattle.std.specs.List.{list_any}
 use Rattle.pipe_tokens.specs.declared.token.Punct.{Punct}
@@ -36,6 +36,7 @@ use Rattle.pipe_tree.specs.declared.tree.Names.TheVariants.{One, Three}
 use Rattle.pipe_tree.specs.declared.tree.Output.{Output}
 use Rattle.pipe_tree.specs.declared.tree.Param.{Param}
 use Rattle.domains.specs.declared.operators.Relation.{Relation}
+use Rattle.pipe_tree.specs.declared.tree.Table.{Table}
 use Rattle.pipe_tree.specs.declared.tree.Term.{Term}
 use Rattle.pipe_tree.specs.declared.tree.Test.{Test}
 use Rattle.pipe_tree.specs.declared.tree.Test.TheVariants.{Compare, Remainder}
@@ -45,8 +46,8 @@ use Rattle.pipe_tree.specs.Limits.{most_levels, counted, none_yet}
 use Rattle.pipe_tree.specs.Operators.{name_at, sign_at, factor_at, relation_at, fold_at}
 use Rattle.pipe_tree.specs.Lookahead.{is_mark_at, is_word_at, is_number_at, start_at, item_at}
 use Rattle.pipe_tree.specs.Grammar.{signed, sum_op, is_output}
-use Rattle.pipe_tree.specs.Tree.{Node, number, variable, read, neg, binary, literal, abs, clamp, select, stencil, Branch}
-use Rattle.pipe_tree.specs.Tree.{Function, Accumulator, Declaration, param, image, function, accumulator, output}
+use Rattle.pipe_tree.specs.Tree.{Node, number, variable, read, lookup, neg, binary, literal, abs, clamp, select, stencil, Branch}
+use Rattle.pipe_tree.specs.Tree.{Function, Accumulator, Declaration, param, image, table, function, accumulator, output}
 
 -- where a reader is: what was counted so far, and the tokens that remain
 pub record At : Type 0 where
@@ -277,21 +278,23 @@ index = choose (is_mark_at OpenRound)
 
 -- ---- expressions
 
-abbrev pub name_end : List ℕ → Reader Node
-name_end x = choose (is_mark_at OpenRound)
-    (do
-      _ ← mark OpenRound roles.Plain
-      i ← index
-      _ ← mark Comma roles.Plain
-      j ← index
-      _ ← mark CloseRound roles.Plain
-      gives (read x i j))
-    (gives (variable x))
+abbrev pub read_end : List ℕ → Reader Node
+read_end x = do
+  _ ← mark OpenRound roles.Plain
+  i ← index
+  _ ← mark Comma roles.Plain
+  j ← index
+  _ ← mark CloseRound roles.Plain
+  gives (read x i j)
 
-unfoldable pub named : Reader Node
-named = do
+-- what is behind a name, where `entry` reads an entry of a table
+abbrev pub name_end : (List ℕ → Reader Node) → List ℕ → Reader Node
+name_end entry x = choose (is_mark_at OpenRound) (read_end x) (choose (is_mark_at OpenSquare) (entry x) (gives (variable x)))
+
+unfoldable pub named : (List ℕ → Reader Node) → Reader Node
+named entry = do
   x ← name roles.Node
-  name_end x
+  name_end entry x
 
 unfoldable pub entry : Reader ℤ
 entry = do
@@ -432,18 +435,33 @@ opened unary expression opening.Clamp = clamped expression
 opened unary expression opening.Select = selected expression
 opened unary expression (opening.Pair op) = pair op expression
 
+-- the entry of a table at what an expression says
+abbrev pub entry_of : Reader Node → List ℕ → Reader Node
+entry_of expression x = do
+  _ ← mark OpenSquare roles.Plain
+  a ← expression
+  _ ← mark CloseSquare roles.Plain
+  gives (lookup x a)
+
 -- a unary by what it begins with
-abbrev pub unary_by : (Opening → Reader Node) → Start → Reader Node
-unary_by open_level start.Number = literal_number
-unary_by open_level start.Name = named
-unary_by open_level start.Stencil = a_stencil
-unary_by open_level (start.Opening o) = open_level o
-unary_by open_level start.Nothing = refuse
+abbrev pub unary_by : (Opening → Reader Node) → (List ℕ → Reader Node) → Start → Reader Node
+unary_by open_level entry start.Number = literal_number
+unary_by open_level entry start.Name = named entry
+unary_by open_level entry start.Stencil = a_stencil
+unary_by open_level entry (start.Opening o) = open_level o
+unary_by open_level entry start.Nothing = refuse
 
 -- with so many levels that may still be opened
 unfoldable pub unary_at : ℕ → Reader Node
-unary_at zero = by_key start_at (unary_by (λ _. stop TooDeep))
-unary_at (suc levels) = by_key start_at (unary_by (opened (unary_at levels) (sum_of (product_of (unary_at levels)))))
+unary_at zero = by_key start_at (unary_by (λ _. stop TooDeep) (λ _. stop TooDeep))
+unary_at (suc levels) =
+    by_key start_at
+    (unary_by (opened (unary_at levels) (sum_of (product_of (unary_at levels)))) (entry_of (sum_of (product_of (unary_at levels)))))
+
+-- the entry of a table, with so many levels that may still be opened
+abbrev pub entry_at : ℕ → List ℕ → Reader Node
+entry_at zero x = stop TooDeep
+entry_at (suc levels) x = entry_of (sum_of (product_of (unary_at levels))) x
 
 unfoldable pub product_at : ℕ → Reader Node
 product_at levels = product_of (unary_at levels)
@@ -474,6 +492,14 @@ a_param = do
   x ← name roles.Param
   _ ← mark Semicolon roles.Plain
   gives (record { name = x })
+
+unfoldable pub a_table : Reader Table
+a_table = do
+  _ ← word words.Table roles.Plain
+  x ← name roles.Table
+  s ← span
+  _ ← mark Semicolon roles.Plain
+  gives (record { name = x; span = s })
 
 unfoldable pub an_image : Reader Image
 an_image = do
@@ -581,6 +607,7 @@ an_output = do
 -- an item by what it begins with
 abbrev pub item_by : ℕ → ItemStart → Reader Declaration
 item_by levels item_start.Param = a_param >>= λ p. gives (param p)
+item_by levels item_start.Table = a_table >>= λ t. gives (table t)
 item_by levels item_start.Func = a_function levels >>= λ f. gives (function f)
 item_by levels item_start.Accum = an_accumulator levels >>= λ a. gives (accumulator a)
 item_by levels item_start.Output = an_output >>= λ o. gives (output o)
@@ -592,6 +619,7 @@ item levels = by_key item_at (item_by levels)
 -- whether one more item begins that is no image
 abbrev pub goes_on_by : List Declaration → ItemStart → Bool
 goes_on_by items item_start.Param = true
+goes_on_by items item_start.Table = true
 goes_on_by items item_start.Func = true
 goes_on_by items item_start.Accum = true
 goes_on_by items item_start.Output = if list_any is_output items then false else true

@@ -3,14 +3,15 @@ use Rattle.std.specs.Prelude.{ℕ, ◌+◌, ◌≤◌, List, Option, Some, None}
 use Rattle.std.specs.Prelude.{sum_by, All}
 use Rattle.pipe_tree.specs.declared.tree.Names.{Names}
 use Rattle.pipe_tree.specs.declared.tree.Names.TheVariants.{One, Three}
-use Rattle.pipe_tree.specs.Tree.{Node, number, variable, read, neg, binary, literal, abs, clamp, select, stencil, Branch}
-use Rattle.pipe_tree.specs.Tree.{Declaration, param, image, function, accumulator, output}
+use Rattle.pipe_tree.specs.Tree.{Node, number, variable, read, lookup, neg, binary, literal, abs, clamp, select, stencil, Branch}
+use Rattle.pipe_tree.specs.Tree.{Declaration, param, image, table, function, accumulator, output}
 
--- what a node of an expression, a stage, a parameter, a function and a case weigh
+-- what a node of an expression, a stage, a parameter, a table, a function and a case weigh
 pub record Weights : Type 0 where
   pub node : ℕ
   pub stage : ℕ
   pub param : ℕ
+  pub table : ℕ
   pub function : ℕ
   pub case : ℕ
 
@@ -18,6 +19,7 @@ abbrev pub node_size : ℕ → Node → ℕ
 node_size w (number n) = w
 node_size w (variable x) = w
 node_size w (read x i j) = w
+node_size w (lookup x a) = w + node_size w a
 node_size w (neg a) = w + node_size w a
 node_size w (binary op a b) = w + node_size w a + node_size w b
 node_size w (literal op a n) = w + node_size w a
@@ -41,6 +43,7 @@ names_size w (Three x y z) = w + w + w
 abbrev pub item_size : Weights → Declaration → ℕ
 item_size w (param p) = w.param
 item_size w (image i) = names_size w.stage i.names
+item_size w (table t) = w.table
 item_size w (function f) = w.function + w.stage + cases_size w f.cases + optional_size w.node f.otherwise
 item_size w (accumulator a) = w.stage + node_size w.node a.value + node_size w.node a.bin
 item_size w (output o) = 0
@@ -50,20 +53,24 @@ size w tree = sum_by (item_size w) tree
 
 -- each of these alone
 abbrev pub nodes : Weights
-nodes = record { node = 1; stage = 0; param = 0; function = 0; case = 0 }
+nodes = record { node = 1; stage = 0; param = 0; table = 0; function = 0; case = 0 }
 
 abbrev pub stages : Weights
-stages = record { node = 0; stage = 1; param = 0; function = 0; case = 0 }
+stages = record { node = 0; stage = 1; param = 0; table = 0; function = 0; case = 0 }
 
 abbrev pub params : Weights
-params = record { node = 0; stage = 0; param = 1; function = 0; case = 0 }
+params = record { node = 0; stage = 0; param = 1; table = 0; function = 0; case = 0 }
+
+abbrev pub tables : Weights
+tables = record { node = 0; stage = 0; param = 0; table = 1; function = 0; case = 0 }
 
 abbrev pub cases : Weights
-cases = record { node = 0; stage = 0; param = 0; function = 0; case = 1 }
+cases = record { node = 0; stage = 0; param = 0; table = 0; function = 0; case = 1 }
 
 -- what each tree of a text keeps
 pub record KeepsLimits (tree : List Declaration) : Type 0 where
   pub few_nodes : size nodes tree ≤ 4096
   pub few_stages : size stages tree ≤ 64
   pub few_params : size params tree ≤ 64
+  pub few_tables : size tables tree ≤ 16
   pub few_cases : All (λ item. item_size cases item ≤ 16) tree

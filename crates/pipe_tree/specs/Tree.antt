@@ -12,6 +12,7 @@ use Rattle.pipe_tree.specs.declared.tree.AffineSpan.{AffineSpan}
 use Rattle.pipe_tree.specs.declared.tree.Variable.{Variable}
 use Rattle.pipe_tree.specs.declared.tree.Param.{Param}
 use Rattle.pipe_tree.specs.declared.tree.Image.{Image}
+use Rattle.pipe_tree.specs.declared.tree.Table.{Table}
 use Rattle.pipe_tree.specs.declared.tree.Output.{Output}
 use Rattle.pipe_tree.specs.declared.tree.Case.{Case}
 use Rattle.pipe_tree.specs.declared.tree.Cases.{Cases}
@@ -20,7 +21,7 @@ use Rattle.pipe_tree.specs.declared.tree.Accum.{Accum}
 use Rattle.pipe_tree.specs.declared.tree.Item.{Item}
 use Rattle.pipe_tree.specs.declared.tree.Item.TheVariants as items
 use Rattle.pipe_tree.specs.declared.tree.Expr.{Expr}
-use Rattle.pipe_tree.specs.declared.tree.Expr.TheVariants.{Number, Name, Read, Neg', Binary', Literal', Abs', Clamp', Select', Stencil}
+use Rattle.pipe_tree.specs.declared.tree.Expr.TheVariants.{Number, Name, Read, Lookup', Neg', Binary', Literal', Abs', Clamp', Select', Stencil}
 
 -- ---- the data
 
@@ -29,6 +30,7 @@ pub data Node : Type 0 where
   number : ℕ → Node
   variable : List ℕ → Node
   read : List ℕ → Index → Index → Node
+  lookup : List ℕ → Node → Node
   neg : Node → Node
   binary : BinaryOp → Node → Node → Node
   literal : LiteralOp → Node → ℕ → Node
@@ -62,6 +64,7 @@ pub record Accumulator : Type 0 where
 pub data Declaration : Type 0 where
   param : Param → Declaration
   image : Image → Declaration
+  table : Table → Declaration
   function : Function → Declaration
   accumulator : Accumulator → Declaration
   output : Output → Declaration
@@ -72,6 +75,7 @@ abbrev pub view : Expr → Node
 view (Number n) = number n
 view (Name x) = variable x
 view (Read x i j) = read x i j
+view (Lookup' x p a) = lookup x (view a)
 view (Neg' p a) = neg (view a)
 view (Binary' op p a q b) = binary op (view a) (view b)
 view (Literal' op p a n) = literal op (view a) n
@@ -101,6 +105,7 @@ accumulator_of a =
 abbrev pub declaration : Item → Declaration
 declaration (items.Param p) = param p
 declaration (items.Image i) = image i
+declaration (items.Table t) = table t
 declaration (items.Func f) = function (function_of f)
 declaration (items.Accum a) = accumulator (accumulator_of a)
 declaration (items.Output o) = output o

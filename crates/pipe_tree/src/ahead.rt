@@ -35,6 +35,7 @@ pub enum Factor {
 #[derive(Clone, Copy)]
 pub enum ItemStart {
     Param,
+    Table,
     Func,
     Accum,
     Output,

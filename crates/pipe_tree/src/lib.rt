@@ -15,6 +15,6 @@ pub use limits::{Counts, MAX_BYTES, MAX_LEVELS, Role};
 pub use sizes::trees_keep_limits;
 pub use tree::{
     Accum, Affine, AffineSpan, Case, Cases, Condition, Expr, Func, Image, Index, Item, Kernel,
-    Names, Output, Param, Row, Term, Test, Tree, Variable,
+    Names, Output, Param, Row, Table, Term, Test, Tree, Variable,
 };
 pub use uniqueness::{faults_are_determined, texts_have_one_tree};

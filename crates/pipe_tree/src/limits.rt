@@ -19,6 +19,9 @@ pub const MAX_STAGES: u32 = 64;
 /// Parameters that a text may have.
 pub const MAX_PARAMS: u32 = 64;
 
+/// Tables that a text may have.
+pub const MAX_TABLES: u32 = 16;
+
 /// Cases that a function may have.
 pub const MAX_CASES: u32 = 16;
 
@@ -33,6 +36,8 @@ pub enum Role {
     Stage,
     /// It names a parameter.
     Param,
+    /// It names a table.
+    Table,
     /// It begins a function, which has no cases yet.
     Function,
     /// It begins a case of the last function.
@@ -45,6 +50,7 @@ pub struct Counts {
     pub nodes: u32,
     pub stages: u32,
     pub params: u32,
+    pub tables: u32,
     /// Of the last function.
     pub cases: u32,
 }
@@ -66,6 +72,10 @@ impl Counts {
             }),
             Role::Param => (self.params < MAX_PARAMS).then(|| Counts {
                 params: self.params + 1,
+                ..self
+            }),
+            Role::Table => (self.tables < MAX_TABLES).then(|| Counts {
+                tables: self.tables + 1,
                 ..self
             }),
             Role::Function => Some(Counts { cases: 0, ..self }),

@@ -40,6 +40,7 @@ impl Tree {
 pub enum Item {
     Param(Param),
     Image(Image),
+    Table(Table),
     Func(Func),
     Accum(Accum),
     Output(Output),
@@ -57,6 +58,13 @@ pub struct Image {
     pub names: Names,
     pub rows: Affine,
     pub columns: Affine,
+}
+
+/// `table NAME[FIRST .. LAST];`: a number for each index of a span. The numbers are given with the picture.
+#[derive(Debug, Drop)]
+pub struct Table {
+    pub name: Name,
+    pub span: AffineSpan,
 }
 
 /// `func NAME(ROW, COLUMN) { CASES else }`: a function on a rectangle. The first case that holds at a point gives
@@ -231,6 +239,8 @@ pub enum Expr {
     Name(Name),
     /// `NAME(ROW, COLUMN)`: the value of a stage at another point.
     Read(Name, Index, Index),
+    /// `NAME[INDEX]`: the entry of a table at an index.
+    Lookup(Name, Box<Expr>),
     Neg(Box<Expr>),
     Binary(BinaryOp, Box<Expr>, Box<Expr>),
     /// An operation whose right operand is a number of the text.

@@ -65,20 +65,3 @@ impl<T: fmt::Debug> fmt::Debug for Sequence<T> {
         self.items.fmt(f)
     }
 }
-
-#[cfg(test)]
-mod tests {
-    use super::Sequence;
-    use std::test::Fail;
-
-    #[test]
-    fn a_sequence_is_its_list(rt: HostRuntime) -> Result<(), Fail> {
-        let inner = Sequence::new(vec![in rt.alloc(); 1, -2]?);
-        let outer = Sequence::new(vec![in rt.alloc(); inner]?);
-        let text = format!(in rt.alloc(); "{outer:?}")?;
-        assert_eq!(rt; text.as_str(), "[[1, -2]]");
-        let copy = outer.clone()?;
-        assert_eq!(rt; copy.into_vec().len(), 1);
-        Ok(())
-    }
-}

@@ -16,6 +16,12 @@ decreases-product l = 6 * l.levels + 3
 abbrev pub decreases-unary : goal.decreases-unary
 decreases-unary l = 6 * l.levels + 2
 
+abbrev pub decreases-named : goal.decreases-named
+decreases-named l = 6 * l.levels + 1
+
+abbrev pub decreases-table_entry : goal.decreases-table_entry
+decreases-table_entry l = 6 * l.levels + 6
+
 abbrev pub decreases-opened : goal.decreases-opened
 decreases-opened l = 6 * l.levels + 7
 

@@ -1,0 +1,3 @@
+pub mod FaultTable
+pub mod Entries
+pub mod Lines

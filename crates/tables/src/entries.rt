@@ -1,0 +1,125 @@
+//! The entries of a table as formulas hold them.
+
+ghost use Rattle.std.specs.Prelude.{◌≡◌, ◌<◌, IfOk, IfNone, IfSome, All, FitsSigned, length};
+ghost use Rattle.std.specs.Int.{w32, int_gap};
+ghost use Rattle.domains.specs.Arithmetic.{clamped};
+ghost use Rattle.domains.specs.Span.{Holds, len_of};
+ghost use Rattle.tables.specs.Entries.{AreEntries, IsEntries, entry_at, span_from};
+
+use crate::table::{MOST_ENTRIES, MOST_INDEX, Table};
+use domains::Span;
+use domains::arithmetic::clamp;
+use sequences::Numbers;
+use std::alloc::AllocError;
+use std::marker::Model;
+
+/// The entries of a table, one for each number of a span of indices. Copies share them.
+#[derive(Debug, Drop)]
+pub struct Entries {
+    span: Span,
+    values: Numbers<i32>,
+}
+
+impl Model for Entries {
+    ghost use Rattle.std.specs.Prelude.{length};
+    ghost use Rattle.tables.specs.Entries.{Entries as Shown, AreEntries};
+
+    ghost Value = { Shown };
+
+    ghost view = { λ e. record { span = e.span; values = e.values } };
+
+    ghost invariant = { λ e. AreEntries e.span (length e.values) };
+}
+
+impl Entries {
+    /// The entries of a table, which are shared and not copied; none where there are none, more than 4,096, or an index
+    /// lies beyond 16,384 of 0.
+    ///
+    /// # Errors
+    ///
+    /// Fails only where too many copies live to be counted.
+    pub fn of(table: &Table) -> Result<Option<Entries>, AllocError>
+        ensures some { IfOk result (λ found. IfSome found (λ e. e
+            ≡ record {
+              span =
+                  span_from table.now.lo (length table.now.values);
+              values = table.now.values;
+            })) }
+        ensures within { IfOk result (λ found. IfSome found IsEntries) }
+        ensures none { IfOk result (λ found. IfNone found
+            (¬ (AreEntries (span_from table.now.lo (length table.now.values))
+            (length table.now.values)))) }
+    {
+        let Some(span) = table.span() else {
+            return Ok(None);
+        };
+        fit_numbers(table.values.as_slice());
+        Ok(Some(Entries {
+            span,
+            values: table.values.clone()?,
+        }))
+    }
+
+    /// The indices.
+    pub fn span(&self) -> &Span
+        ensures { result.now ≡ self.now.span }
+    {
+        &self.span
+    }
+
+    /// The entries, from that of the first index.
+    pub fn values(&self) -> &[i32]
+        ensures values { result.now ≡ self.now.values }
+        ensures within { IsEntries self.now }
+    {
+        fit_numbers(self.values.as_slice());
+        self.values.as_slice()
+    }
+
+    /// The entry at an index, which is cut to the span.
+    pub fn entry(&self, index: i32) -> i32
+        ensures { result ≡ entry_at self.now index }
+    {
+        self.values.as_slice()[distance(&self.span, cut_into(&self.span, index))]
+    }
+}
+
+/// The same entries once more, which are shared.
+impl Clone for Entries {
+    ghost is_clone = { λ it copy. copy ≡ it };
+
+    fn clone(&self) -> Result<Self, AllocError> {
+        Ok(Entries {
+            span: self.span,
+            values: self.values.clone()?,
+        })
+    }
+}
+
+// The number of the span that is next to v.
+#[inline]
+fn cut_into(span: &Span, v: i32) -> i32
+    ensures holds { Holds span.now result }
+    ensures value { result ≡ clamped v span.now.lo span.now.hi }
+{
+    clamp(v, span.lo(), span.hi())
+}
+
+// How far a number of a span lies after the first.
+#[inline]
+fn distance(span: &Span, v: i32) -> usize
+    requires { Holds span.now v }
+    ensures number { result ≡ int_gap span.now.lo v }
+    ensures below { result < len_of span.now }
+{
+    (v - span.lo()) as usize
+}
+
+// Numbers of 32 bits are within them.
+fn fit_numbers(numbers: &[i32])
+    ensures { All (FitsSigned w32) numbers.now }
+{
+    for number in numbers {
+        let _number = *number;
+    }
+}

@@ -1,0 +1,17 @@
+//! Tables: numbers that are handed in beside a picture, a line of text for each table, and the entry that an index takes.
+#![tactic(auto)]
+
+mod entries;
+mod fault;
+mod integers;
+pub mod laws;
+mod line;
+mod table;
+mod words;
+
+pub use entries::Entries;
+pub use fault::TableFault;
+pub use table::{MOST_ENTRIES, MOST_INDEX, Table};
+
+#[cfg(test)]
+mod tests;
