@@ -15,17 +15,20 @@ use Rattle.pipe_bounds.specs.declared.fault.Axis.{Axis}
 use Rattle.pipe_bounds.specs.declared.fault.Axis.TheVariants.{Rows, Columns}
 use Rattle.pipe_bounds.specs.declared.fault.BoundFault.{BoundFault}
 use Rattle.pipe_bounds.specs.declared.fault.BoundFault.TheVariants.{ParamUnset, EmptyDomain, DomainTooWide, OutOfBounds, Memory}
+use Rattle.pipe_bounds.specs.declared.fault.BoundFault.TheVariants.{EmptyTable, TableTooWide}
 use Rattle.pipe_bounds.specs.declared.params.Setting.{Setting}
 use Rattle.pipe_checks.specs.declared.access.Access.{Access}
 use Rattle.pipe_checks.specs.declared.access.Access.TheVariants.{Read, Stencil}
-use Rattle.pipe_checks.specs.Names.{stages_of}
+use Rattle.domains.specs.Span.{Ends}
+use Rattle.pipe_checks.specs.Names.{tables_of, stages_of}
 use Rattle.pipe_checks.specs.Accesses.{stage_read}
 use Rattle.pipe_bounds.specs.Within.{AllSet, IsFirstUnset, IsStageDomain, HaveDomains, IsFirstFaultyDomain}
+use Rattle.pipe_bounds.specs.Tables.{IsTableSpan, TablesStand, IsFirstFaultyTable}
 use Rattle.pipe_bounds.specs.InBounds.{ReadCase, IsInBox, TakesRow, TakesColumn, Stays, AllStay, StageStays, StaysAt, AreInBounds}
 use Rattle.pipe_bounds.specs.InBounds.{StaysAlong, AreExtremes, Leaves, TellsRead, IsFirstRead, IsFirstCase, IsFirstStage}
 use Rattle.pipe_bounds.specs.InBounds.{IsFirstDeparture, IsBoundFault, IsInBounds, stage_cases, scale_of}
-use Rattle.pipe_bounds.specs.inside.Taken.{TellsDomain, domain_fault}
-use Rattle.pipe_bounds.proofs.OneDomain.{not_ok_and_err, same_area, same_fault}
+use Rattle.pipe_bounds.specs.inside.Taken.{TellsDomain, domain_fault, TellsTable, table_fault}
+use Rattle.pipe_bounds.proofs.OneDomain.{not_ok_and_err, same_area, same_fault, not_span_and_fault, same_table_fault}
 
 -- ---- lists
 
@@ -73,6 +76,15 @@ no_domains ss ds stages areas fault k h first = by_area (slice_get_cases areas k
         ⊎ ((length areas ≤ k) × (slice_get areas k ≡ None)) → ⊥
     by_area (inl a) = not_ok_and_err ss ds first.stage a.0 fault (h.domain k first.stage a.0 first.there a.2) first.faulty
     by_area (inr past) = omega (arith, past.0, slice_get_within stages k first.stage first.there, h.each)
+
+-- ---- tables
+
+-- a faulty table has no span
+no_spans : (ss : List Setting) (ds : List Declaration) (tables : List Symbol) (fault : IntervalFault) (k : ℕ) → TablesStand ss ds tables
+    → IsFirstFaultyTable ss ds tables fault k → ⊥
+no_spans ss ds tables fault k h first =
+    let e = h k first.declared first.there in
+    not_span_and_fault ss ds first.declared e.0 fault e.1 first.faulty
 
 -- ---- reads
 
@@ -212,35 +224,62 @@ one_faulty ss ds stages f g h e =
     (subst (λ (s : Symbol). IsStageDomain ss ds s (Err e.fault)) (sym stage) e.first.faulty) in
     h.told ∙ (λ i. domain_fault (fault i) (number i)) ∙ sym e.told
 
+one_faulty_table : (ss : List Setting) (ds : List Declaration) (tables : List Symbol) (f g : BoundFault) → TellsTable ss ds tables f
+    → TellsTable ss ds tables g → f ≡ g
+one_faulty_table ss ds tables f g h e =
+    let number = one_first (λ k (s : Symbol). (a : Ends) × IsTableSpan ss ds s (Ok a)) tables h.number e.number h.first.declared
+    e.first.declared h.first.there e.first.there h.first.before e.first.before
+    (λ a. not_span_and_fault ss ds h.first.declared a.0 h.fault a.1 h.first.faulty)
+    (λ a. not_span_and_fault ss ds e.first.declared a.0 e.fault a.1 e.first.faulty) in
+    let table = same_place tables h.number e.number h.first.declared e.first.declared h.first.there e.first.there number in
+    let fault =
+    same_table_fault ss ds h.first.declared h.fault e.fault h.first.faulty
+    (subst (λ (s : Symbol). IsTableSpan ss ds s (Err e.fault)) (sym table) e.first.faulty) in
+    h.told ∙ (λ i. table_fault (fault i) (number i)) ∙ sym e.told
+
 -- ---- the whole
 
 data Phase (ss : List Setting) (ds : List Declaration) (f : BoundFault) : Type 0 where
   memory : f ≡ Memory → Phase ss ds f
   unset : (n : ℕ) → f ≡ ParamUnset n → IsFirstUnset ss n → Phase ss ds f
-  faulty : AllSet ss → TellsDomain ss ds (stages_of ds) f → Phase ss ds f
-  departs : AllSet ss → IsFirstDeparture ss ds f → Phase ss ds f
+  faulty_table : AllSet ss → TellsTable ss ds (tables_of ds) f → Phase ss ds f
+  faulty : AllSet ss → TablesStand ss ds (tables_of ds) → TellsDomain ss ds (stages_of ds) f → Phase ss ds f
+  departs : AllSet ss → TablesStand ss ds (tables_of ds) → IsFirstDeparture ss ds f → Phase ss ds f
 
 phase_of : (ss : List Setting) (ds : List Declaration) (f : BoundFault) → IsBoundFault ss ds f → Phase ss ds f
 phase_of ss ds (ParamUnset n) h = unset n refl h
-phase_of ss ds (EmptyDomain k) h = faulty h.0 (record { fault = Empty; stage = k; told = refl; first = h.1 })
-phase_of ss ds (DomainTooWide k) h = faulty h.0 (record { fault = TooWide; stage = k; told = refl; first = h.1 })
-phase_of ss ds (OutOfBounds k n m axis least greatest) h = departs h.0 h.1
+phase_of ss ds (EmptyTable k) h = faulty_table h.0 (record { fault = Empty; number = k; told = refl; first = h.1 })
+phase_of ss ds (TableTooWide k) h = faulty_table h.0 (record { fault = TooWide; number = k; told = refl; first = h.1 })
+phase_of ss ds (EmptyDomain k) h = faulty h.0 h.1 (record { fault = Empty; stage = k; told = refl; first = h.2 })
+phase_of ss ds (DomainTooWide k) h = faulty h.0 h.1 (record { fault = TooWide; stage = k; told = refl; first = h.2 })
+phase_of ss ds (OutOfBounds k n m axis least greatest) h = departs h.0 h.1 h.2
 phase_of ss ds Memory h = memory refl
 
 one_phase : (ss : List Setting) (ds : List Declaration) (f g : BoundFault) → f ≢ Memory → g ≢ Memory → Phase ss ds f → Phase ss ds g → f ≡ g
 one_phase ss ds f g nf ng (memory e) p = absurd (nf e)
 one_phase ss ds f g nf ng p (memory e) = absurd (ng e)
 one_phase ss ds f g nf ng (unset m e first) (unset n d other) = e ∙ ap ParamUnset (one_unset ss m n first other) ∙ sym d
-one_phase ss ds f g nf ng (unset m e first) (faulty set other) = absurd (unset_not_set ss m first set)
-one_phase ss ds f g nf ng (unset m e first) (departs set other) = absurd (unset_not_set ss m first set)
-one_phase ss ds f g nf ng (faulty set h) (unset n e first) = absurd (unset_not_set ss n first set)
-one_phase ss ds f g nf ng (faulty set h) (faulty also other) = one_faulty ss ds (stages_of ds) f g h other
-one_phase ss ds f g nf ng (faulty set h) (departs also other) =
+one_phase ss ds f g nf ng (unset m e first) (faulty_table set other) = absurd (unset_not_set ss m first set)
+one_phase ss ds f g nf ng (unset m e first) (faulty set stand other) = absurd (unset_not_set ss m first set)
+one_phase ss ds f g nf ng (unset m e first) (departs set stand other) = absurd (unset_not_set ss m first set)
+one_phase ss ds f g nf ng (faulty_table set h) (unset n e first) = absurd (unset_not_set ss n first set)
+one_phase ss ds f g nf ng (faulty_table set h) (faulty_table also other) = one_faulty_table ss ds (tables_of ds) f g h other
+one_phase ss ds f g nf ng (faulty_table set h) (faulty also stand other) =
+    absurd (no_spans ss ds (tables_of ds) h.fault h.number stand h.first)
+one_phase ss ds f g nf ng (faulty_table set h) (departs also stand other) =
+    absurd (no_spans ss ds (tables_of ds) h.fault h.number stand h.first)
+one_phase ss ds f g nf ng (faulty set stand h) (unset n e first) = absurd (unset_not_set ss n first set)
+one_phase ss ds f g nf ng (faulty set stand h) (faulty_table also other) =
+    absurd (no_spans ss ds (tables_of ds) other.fault other.number stand other.first)
+one_phase ss ds f g nf ng (faulty set stand h) (faulty also too other) = one_faulty ss ds (stages_of ds) f g h other
+one_phase ss ds f g nf ng (faulty set stand h) (departs also too other) =
     absurd (no_domains ss ds (stages_of ds) other.areas h.fault h.stage other.domains h.first)
-one_phase ss ds f g nf ng (departs set h) (unset n e first) = absurd (unset_not_set ss n first set)
-one_phase ss ds f g nf ng (departs set h) (faulty also other) =
+one_phase ss ds f g nf ng (departs set stand h) (unset n e first) = absurd (unset_not_set ss n first set)
+one_phase ss ds f g nf ng (departs set stand h) (faulty_table also other) =
+    absurd (no_spans ss ds (tables_of ds) other.fault other.number stand other.first)
+one_phase ss ds f g nf ng (departs set stand h) (faulty also too other) =
     absurd (no_domains ss ds (stages_of ds) h.areas other.fault other.stage h.domains other.first)
-one_phase ss ds f g nf ng (departs set h) (departs also other) = one_departure ss ds f g h other
+one_phase ss ds f g nf ng (departs set stand h) (departs also too other) = one_departure ss ds f g h other
 
 pub one_fault : (ss : List Setting) (ds : List Declaration) (f g : BoundFault) → IsBoundFault ss ds f → IsBoundFault ss ds g → f ≢ Memory
     → g ≢ Memory → f ≡ g
@@ -249,8 +288,9 @@ one_fault ss ds f g h e nf ng = one_phase ss ds f g nf ng (phase_of ss ds f h) (
 no_phase : (ss : List Setting) (ds : List Declaration) (f : BoundFault) → IsInBounds ss ds → Phase ss ds f → f ≡ Memory
 no_phase ss ds f ok (memory e) = e
 no_phase ss ds f ok (unset n e first) = absurd (unset_not_set ss n first ok.set)
-no_phase ss ds f ok (faulty set h) = absurd (no_domains ss ds (stages_of ds) ok.areas h.fault h.stage ok.domains h.first)
-no_phase ss ds f ok (departs set h) =
+no_phase ss ds f ok (faulty_table set h) = absurd (no_spans ss ds (tables_of ds) h.fault h.number ok.tables h.first)
+no_phase ss ds f ok (faulty set stand h) = absurd (no_domains ss ds (stages_of ds) ok.areas h.fault h.stage ok.domains h.first)
+no_phase ss ds f ok (departs set stand h) =
     let areas = same_areas ss ds (stages_of ds) h.areas ok.areas h.domains ok.domains in
     absurd (not_in_bounds ss ds (stages_of ds) ok.areas f (subst (λ xs. IsFirstStage ss ds (stages_of ds) xs f) areas h.stage) ok.stays)
 

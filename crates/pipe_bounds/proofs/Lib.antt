@@ -4,6 +4,8 @@ pub mod Stages
 pub mod Taking
 pub mod Firsts
 pub mod Sounding
+pub mod TableSpans
+pub mod Telling
 pub mod Spanning
 pub mod OneDomain
 pub mod BoundFaultsAreDetermined

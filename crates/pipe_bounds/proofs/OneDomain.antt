@@ -1,10 +1,11 @@
--- A stage has one domain, or one fault of its intervals.
+-- A stage has one domain, or one fault of its intervals; and a table one span.
 use Rattle.std.proofs.Common.{ℤ, pos, negsuc, ◌+ℤ◌, ◌≤ℤ◌, ◌<ℤ◌, ◌≡◌, ◌⊎◌, inl, inr, Result, Ok, Err, List, refl, sym, ◌∙◌, ap, subst, arith}
 use Rattle.std.proofs.lemmas.Int.{ints}
 use Rattle.std.proofs.lemmas.Option.{same_Some}
 use Rattle.domains.specs.Span.{Ends}
 use Rattle.domains.specs.declared.area.Area.{Area}
-use Rattle.pipe_tree.specs.Tree.{Declaration, param, image, function, accumulator, output}
+use Rattle.pipe_tree.specs.declared.tree.Table.{Table}
+use Rattle.pipe_tree.specs.Tree.{Declaration, param, image, table, function, accumulator, output}
 use Rattle.pipe_checks.specs.declared.symbol.Symbol.{Symbol}
 use Rattle.pipe_bounds.specs.declared.domain.IntervalFault.{IntervalFault}
 use Rattle.pipe_bounds.specs.declared.domain.IntervalFault.TheVariants.{Empty, TooWide}
@@ -12,6 +13,7 @@ use Rattle.pipe_bounds.specs.declared.params.Setting.{Setting}
 use Rattle.pipe_bounds.specs.Settings.{affine_value}
 use Rattle.pipe_bounds.specs.Domains.{IsSpanFrom, IsInterval, IsExtent, IsBins, IsSpanOf, IsArea, IsAfter, IsDomain}
 use Rattle.pipe_bounds.specs.Within.{IsStageDomain}
+use Rattle.pipe_bounds.specs.Tables.{IsTableSpan}
 
 -- at most one answer meets P
 abbrev IsFunctional : {X : Type 0} → (Result X IntervalFault → Type 0) → Type 0
@@ -100,6 +102,7 @@ one_after B T b t (Err f) (Err e) (inr h) (inr g) = ap Err (same_err T f e t h.2
 one_domain : (ss : List Setting) (d : Declaration) → IsFunctional (IsDomain ss d)
 one_domain ss (param p) r q h g = h ∙ sym g
 one_domain ss (image i) r q h g = one_area _ _ (one_extent (affine_value ss i.rows)) (one_extent (affine_value ss i.columns)) r q h g
+one_domain ss (table t) r q h g = h ∙ sym g
 one_domain ss (function f) r q h g =
     one_area (IsSpanOf ss f.row.span) (IsSpanOf ss f.column.span) (one_interval _ _) (one_interval _ _) r q h g
 one_domain ss (accumulator a) r q h g =
@@ -124,3 +127,22 @@ same_area ss ds s a b h g = same_ok (IsStageDomain ss ds s) a b (one_stage_domai
 pub same_fault : (ss : List Setting) (ds : List Declaration) (s : Symbol) (f e : IntervalFault) → IsStageDomain ss ds s (Err f)
     → IsStageDomain ss ds s (Err e) → f ≡ e
 same_fault ss ds s f e h g = same_err (IsStageDomain ss ds s) f e (one_stage_domain ss ds s) h g
+
+-- ---- tables
+
+one_span : (ss : List Setting) (ds : List Declaration) (s : Symbol) → IsFunctional (IsTableSpan ss ds s)
+one_span ss ds s r q h g =
+    let same : h.0 ≡ g.0 = same_table (same_Some (table h.0) (table g.0) (sym h.1 ∙ g.1)) in
+    one_bins (affine_value ss h.0.span.first) (affine_value ss h.0.span.last) r q h.2
+    (subst (λ (t : Table). IsBins (affine_value ss t.span.first) (affine_value ss t.span.last) q) (sym same) g.2)
+  where
+    same_table : {t u : Table} → ◌≡◌ {A = Declaration} (table t) (table u) → t ≡ u
+    same_table e = cc
+
+pub not_span_and_fault : (ss : List Setting) (ds : List Declaration) (s : Symbol) (e : Ends) (f : IntervalFault) → IsTableSpan ss ds s (Ok e)
+    → IsTableSpan ss ds s (Err f) → ⊥
+not_span_and_fault ss ds s e f ok err = not_both (IsTableSpan ss ds s) e f (one_span ss ds s) ok err
+
+pub same_table_fault : (ss : List Setting) (ds : List Declaration) (s : Symbol) (f e : IntervalFault) → IsTableSpan ss ds s (Err f)
+    → IsTableSpan ss ds s (Err e) → f ≡ e
+same_table_fault ss ds s f e h g = same_err (IsTableSpan ss ds s) f e (one_span ss ds s) h g

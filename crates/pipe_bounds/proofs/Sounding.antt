@@ -10,8 +10,8 @@ use Rattle.std.proofs.lemmas.Int.{ints}
 use Rattle.std.proofs.lemmas.Option.{same_Some, none-some}
 use Rattle.domains.specs.Index.{IsIndex}
 use Rattle.pipe_tree.specs.declared.tree.Index.{Index}
-use Rattle.pipe_tree.specs.Tree.{Node, number, variable, read, neg, binary, literal, abs, clamp, select, stencil, Branch}
-use Rattle.pipe_tree.specs.Tree.{Declaration, param, image, function, accumulator, output}
+use Rattle.pipe_tree.specs.Tree.{Node, number, variable, read, lookup, neg, binary, literal, abs, clamp, select, stencil, Branch}
+use Rattle.pipe_tree.specs.Tree.{Declaration, param, image, table, function, accumulator, output}
 use Rattle.pipe_tree.specs.declared.tree.Names.{Names}
 use Rattle.pipe_tree.specs.declared.tree.Names.TheVariants.{One, Three}
 use Rattle.pipe_checks.specs.declared.symbol.Symbol.{Symbol}
@@ -27,12 +27,12 @@ use Rattle.pipe_checks.proofs.Places.{position_within}
 
 -- ---- lists
 
-each_of : {X : Type 0} (P : X → Type 0) (xs : List X) → AllByRecursion P xs → (i : ℕ) (x : X) → slice_get xs i ≡ Some x → P x
+pub each_of : {X : Type 0} (P : X → Type 0) (xs : List X) → AllByRecursion P xs → (i : ℕ) (x : X) → slice_get xs i ≡ Some x → P x
 each_of P [] h i x there = absurd (none-some x there)
 each_of P (y ∷ ys) h zero x there = subst P (same_Some y x there) h.0
 each_of P (y ∷ ys) h (suc i) x there = each_of P ys h.1 i x there
 
-all_both : {X : Type 0} (P : X → Type 0) (xs ys : List X) → AllByRecursion P xs → AllByRecursion P ys → AllByRecursion P (xs ++ ys)
+pub all_both : {X : Type 0} (P : X → Type 0) (xs ys : List X) → AllByRecursion P xs → AllByRecursion P ys → AllByRecursion P (xs ++ ys)
 all_both P [] ys h g = g
 all_both P (x ∷ xs) ys h g = (h.0, all_both P xs ys h.1 g)
 
@@ -53,6 +53,7 @@ named_by m n (image i) h = by_names i.names
     by_names : (names : Names) → AllByRecursion (λ s. s.item < m) (names_of n names)
     by_names (One x) = (h, tt)
     by_names (Three x y z) = (h, (h, (h, tt)))
+named_by m n (table t) h = (h, tt)
 named_by m n (function f) h = (h, tt)
 named_by m n (accumulator a) h = (h, tt)
 named_by m n (output o) h = tt
@@ -115,6 +116,7 @@ node_sound : (names stages : List Symbol) (a : Node) → accepted.IsSound names 
 node_sound names stages (number n) h = tt
 node_sound names stages (variable x) h = tt
 node_sound names stages (read x i j) h = read_sound stages x i j (index_is i h.1) (index_is j h.2)
+node_sound names stages (lookup x a) h = node_sound names stages a h.1
 node_sound names stages (neg a) h = node_sound names stages a h
 node_sound names stages (binary op a b) h =
     both_sound stages (accesses_of stages a) (accesses_of stages b) (node_sound names stages a h.0) (node_sound names stages b h.1)
@@ -154,6 +156,7 @@ otherwise_sound names stages row (Some a) h = (node_sound names stages a (h a re
 item_sound : (names stages : List Symbol) (d : Declaration) → IsSoundItem names d → AllByRecursion (SoundCase stages) (item_cases stages d)
 item_sound names stages (param p) h = tt
 item_sound names stages (image i) h = tt
+item_sound names stages (table t) h = tt
 item_sound names stages (function f) h =
     all_both (SoundCase stages) (map (branch_case stages f.row.name) f.cases) (otherwise_cases stages f.row.name f.otherwise)
     (branches_sound names stages f.row.name f.cases h.0) (otherwise_sound names stages f.row.name f.otherwise h.1)

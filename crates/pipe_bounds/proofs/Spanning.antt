@@ -5,7 +5,7 @@ use Rattle.domains.specs.Span.{Ends}
 use Rattle.domains.specs.Area.{IsArea}
 use Rattle.domains.specs.Cuts.{IsCutArea}
 use Rattle.domains.specs.declared.area.Area.{Area}
-use Rattle.pipe_tree.specs.Tree.{Declaration, param, image, function, accumulator, output}
+use Rattle.pipe_tree.specs.Tree.{Declaration, param, image, table, function, accumulator, output}
 use Rattle.pipe_bounds.specs.declared.params.Setting.{Setting}
 use Rattle.pipe_bounds.specs.Domains.{IsSpanFrom, IsSides, IsDomain}
 use Rattle.pipe_bounds.specs.inside.Taken.{InDomainRange, InDomainRanges}
@@ -19,6 +19,7 @@ near_sides side e h v holds = (omega (arith, ints, h.lo, holds), omega (arith, i
 pub near_domain : (ss : List Setting) (d : Declaration) (a : Area) → IsDomain ss d (Ok a) → InDomainRanges a
 near_domain ss (param p) a h = let never : ⊥ = cc in absurd never
 near_domain ss (image i) a h = (near_sides _ a.rows h.0, near_sides _ a.cols h.1)
+near_domain ss (table t) a h = let never : ⊥ = cc in absurd never
 near_domain ss (function f) a h = (near_span _ _ a.rows h.0, near_span _ _ a.cols h.1)
 near_domain ss (accumulator x) a h = (near_span _ _ a.rows h.2.0, near_span _ _ a.cols h.2.1)
 near_domain ss (output o) a h = let never : ⊥ = cc in absurd never

@@ -1,5 +1,5 @@
 -- Parameters that all have values, and stages that all have domains.
-use Rattle.std.proofs.Common.{ℕ, zero, suc, ℤ, ◌<◌, ◌≡◌, ◌⊎◌, inl, inr, true, Option, Some, None, is_some, Result, Ok, Err, List}
+use Rattle.std.proofs.Common.{ℕ, zero, suc, ℤ, ◌<◌, ◌≡◌, true, Option, Some, None, is_some, Result, Ok, Err, List}
 use Rattle.std.proofs.Common.{[], ◌∷◌, length, slice_get, refl, sym, ◌∙◌, ap, subst, arith}
 use Rattle.std.specs.Option.{option_map}
 use Rattle.std.proofs.lemmas.Bool.{false≢true}
@@ -11,10 +11,7 @@ use Rattle.pipe_checks.specs.declared.symbol.Symbol.{Symbol}
 use Rattle.pipe_bounds.specs.declared.params.Setting.{Setting}
 use Rattle.pipe_bounds.specs.StageBounds.{StageBounds, domains_in, IsBoundsOf, AreBoundsOf}
 use Rattle.pipe_bounds.specs.declared.fault.BoundFault.{BoundFault}
-use Rattle.pipe_bounds.specs.declared.fault.BoundFault.TheVariants.{Memory}
-use Rattle.pipe_checks.specs.Names.{stages_of}
-use Rattle.pipe_bounds.specs.InBounds.{AreInBounds, IsBoundFault, IsFirstStage, IsInBounds}
-use Rattle.pipe_bounds.specs.Within.{AllSet, IsStageDomain, HaveDomains}
+use Rattle.pipe_bounds.specs.Within.{IsStageDomain, HaveDomains}
 
 pub some_of : (o : Option ℤ) → is_some o ≡ true → (v : ℤ) × (o ≡ Some v)
 some_of None e = absurd (false≢true e)
@@ -70,37 +67,3 @@ pub domain_here : (found : List StageBounds) (k : ℕ) (b : StageBounds) (a : Ar
     → slice_get (domains_in found) k ≡ Some a
 domain_here found k b a there is =
     slice_get-map (λ (x : StageBounds). x.domain) found k ∙ ap (option_map (λ (x : StageBounds). x.domain)) there ∙ ap Some (sym is)
-
--- ---- the whole program
-
--- what holds of the items and the stages that a program has
-on_program : (P : List Declaration → List Symbol → Type 0) (ds items : List Declaration) (stages : List Symbol) → items ≡ ds
-    → stages ≡ stages_of ds → P items stages → P ds (stages_of ds)
-on_program P ds items stages same is p = subst (P ds) is (subst (λ (es : List Declaration). P es stages) same p)
-
-module _ (ss : List Setting) (ds items : List Declaration) (stages : List Symbol) (same : items ≡ ds) (is : stages ≡ stages_of ds)
-    (found : List StageBounds) (h : AreBoundsOf ss items stages found) where
-  pub found_is : AreBoundsOf ss ds (stages_of ds) found
-  found_is = on_program (λ es xs. AreBoundsOf ss es xs found) ds items stages same is h
-
-  pub in_bounds : AllSet ss → AreInBounds ss items stages (domains_in found) → IsInBounds ss ds
-  in_bounds set stays = record {
-    set = set;
-    areas = domains_in found;
-    domains = found_domains ss ds (stages_of ds) found found_is;
-    stays = on_program (λ es xs. AreInBounds ss es xs (domains_in found)) ds items stages same is stays;
-  }
-
-  pub departs : (f : BoundFault) → AllSet ss → (f ≡ Memory) ⊎ IsFirstStage ss items stages (domains_in found) f → IsBoundFault ss ds f
-  departs f set (inl e) = subst (IsBoundFault ss ds) (sym e) tt
-  departs f set (inr first) =
-      let here = on_program (λ es xs. IsFirstStage ss es xs (domains_in found) f) ds items stages same is first in
-      let told = here.case.read.tells.told in
-      subst (IsBoundFault ss ds) (sym told) (
-        set,
-        record {
-          areas = domains_in found;
-          domains = found_domains ss ds (stages_of ds) found found_is;
-          stage = subst (IsFirstStage ss ds (stages_of ds) (domains_in found)) told here;
-        },
-      )

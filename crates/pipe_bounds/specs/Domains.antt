@@ -3,7 +3,7 @@ use Rattle.std.specs.Prelude.{ℤ, pos, negsuc, ◌≤ℤ◌, ◌<ℤ◌, ◌+�
 use Rattle.domains.specs.Span.{Ends}
 use Rattle.domains.specs.declared.area.Area.{Area}
 use Rattle.pipe_tree.specs.declared.tree.AffineSpan.{AffineSpan}
-use Rattle.pipe_tree.specs.Tree.{Declaration, param, image, function, accumulator, output}
+use Rattle.pipe_tree.specs.Tree.{Declaration, param, image, table, function, accumulator, output}
 use Rattle.pipe_bounds.specs.declared.domain.IntervalFault.{IntervalFault}
 use Rattle.pipe_bounds.specs.declared.domain.IntervalFault.TheVariants.{Empty, TooWide}
 use Rattle.pipe_bounds.specs.declared.params.Setting.{Setting}
@@ -34,7 +34,7 @@ IsExtent side (Ok e) = IsSides side e
 IsExtent side (Err Empty) = side <ℤ pos 1
 IsExtent side (Err TooWide) = pos 4096 <ℤ side
 
--- at most 4,096 bins
+-- at most 4,096 bins, or entries of a table
 abbrev pub IsBins : ℤ → ℤ → Result Ends IntervalFault → Type 0
 IsBins first last (Ok e) = IsSpanFrom first last e × (last <ℤ (first +ℤ pos 4096))
 IsBins first last (Err Empty) = last <ℤ first
@@ -57,6 +57,7 @@ IsAfter Before Then (Err f) = Before (Err f) ⊎ ((e : Ends) × Before (Ok e) ×
 abbrev pub IsDomain : List Setting → Declaration → Result Area IntervalFault → Type 0
 IsDomain ss (param p) r = r ≡ Err Empty
 IsDomain ss (image i) r = IsArea (IsExtent (affine_value ss i.rows)) (IsExtent (affine_value ss i.columns)) r
+IsDomain ss (table t) r = r ≡ Err Empty
 IsDomain ss (function f) r = IsArea (IsSpanOf ss f.row.span) (IsSpanOf ss f.column.span) r
 IsDomain ss (accumulator a) r =
     IsAfter (IsBins (affine_value ss a.bins.first) (affine_value ss a.bins.last))

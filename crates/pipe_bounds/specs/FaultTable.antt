@@ -19,6 +19,8 @@ bound_number (bound.EmptyDomain stage) = 2
 bound_number (bound.DomainTooWide stage) = 3
 bound_number (bound.OutOfBounds stage case read axis least greatest) = 4
 bound_number bound.Memory = 5
+bound_number (bound.EmptyTable table) = 6
+bound_number (bound.TableTooWide table) = 7
 
 abbrev pub bound_name : BoundFault → List ℕ
 bound_name (bound.ParamUnset param) = codes "ParamUnset"
@@ -26,3 +28,5 @@ bound_name (bound.EmptyDomain stage) = codes "EmptyDomain"
 bound_name (bound.DomainTooWide stage) = codes "DomainTooWide"
 bound_name (bound.OutOfBounds stage case read axis least greatest) = codes "OutOfBounds"
 bound_name bound.Memory = codes "Memory"
+bound_name (bound.EmptyTable table) = codes "EmptyTable"
+bound_name (bound.TableTooWide table) = codes "TableTooWide"

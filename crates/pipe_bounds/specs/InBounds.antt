@@ -6,20 +6,22 @@ use Rattle.domains.specs.Index.{Scale, index_at}
 use Rattle.domains.specs.declared.area.Area.{Area}
 use Rattle.pipe_tree.specs.declared.tree.Index.{Index}
 use Rattle.pipe_tree.specs.declared.tree.Test.{Test}
-use Rattle.pipe_tree.specs.Tree.{Node, Branch, Declaration, param, image, function, accumulator, output}
+use Rattle.pipe_tree.specs.Tree.{Node, Branch, Declaration, param, image, table, function, accumulator, output}
 use Rattle.pipe_checks.specs.declared.symbol.Symbol.{Symbol}
 use Rattle.pipe_bounds.specs.declared.fault.Axis.{Axis}
 use Rattle.pipe_bounds.specs.declared.fault.Axis.TheVariants.{Rows, Columns}
 use Rattle.pipe_bounds.specs.declared.fault.BoundFault.{BoundFault}
 use Rattle.pipe_bounds.specs.declared.fault.BoundFault.TheVariants.{ParamUnset, EmptyDomain, DomainTooWide, OutOfBounds, Memory}
+use Rattle.pipe_bounds.specs.declared.fault.BoundFault.TheVariants.{EmptyTable, TableTooWide}
 use Rattle.pipe_bounds.specs.declared.domain.IntervalFault.TheVariants.{Empty, TooWide}
 use Rattle.pipe_bounds.specs.declared.params.Setting.{Setting}
 use Rattle.pipe_checks.specs.declared.access.Access.{Access}
 use Rattle.pipe_checks.specs.declared.access.Access.TheVariants.{Read, Stencil}
 use Rattle.pipe_bounds.specs.Boxes.{BoundsHold}
-use Rattle.pipe_checks.specs.Names.{stages_of}
+use Rattle.pipe_checks.specs.Names.{tables_of, stages_of}
 use Rattle.pipe_checks.specs.Accesses.{accesses_of, stage_read}
 use Rattle.pipe_bounds.specs.Within.{AllSet, IsFirstUnset, HaveDomains, IsFirstFaultyDomain}
+use Rattle.pipe_bounds.specs.Tables.{TablesStand, IsFirstFaultyTable}
 
 -- ---- cases
 
@@ -44,6 +46,7 @@ otherwise_cases stages row (Some a) = whole_case row (accesses_of stages a) ∷ 
 abbrev pub item_cases : List Symbol → Declaration → List ReadCase
 item_cases stages (param p) = []
 item_cases stages (image i) = []
+item_cases stages (table t) = []
 item_cases stages (function f) = map (branch_case stages f.row.name) f.cases ++ otherwise_cases stages f.row.name f.otherwise
 item_cases stages (accumulator a) = whole_case a.row.name (accesses_of stages a.value ++ accesses_of stages a.bin) ∷ []
 item_cases stages (output o) = []
@@ -107,9 +110,11 @@ StaysAt ss ds stages areas k s = (domain : Area) → slice_get areas k ≡ Some 
 abbrev pub AreInBounds : List Setting → List Declaration → List Symbol → List Area → Type 0
 AreInBounds ss ds stages areas = (k : ℕ) (s : Symbol) → slice_get stages k ≡ Some s → StaysAt ss ds stages areas k s
 
--- a program means something at the values of its parameters: all are set, each stage has its domain, and each read stays
+-- a program means something at the values of its parameters: all are set, each table has its span and each stage its domain, and
+-- each read stays
 pub record IsInBounds (ss : List Setting) (ds : List Declaration) : Type 0 where
   pub set : AllSet ss
+  pub tables : TablesStand ss ds (tables_of ds)
   pub areas : List Area
   pub domains : HaveDomains ss ds (stages_of ds) areas
   pub stays : AreInBounds ss ds (stages_of ds) areas
@@ -192,7 +197,12 @@ pub record IsFirstDeparture (ss : List Setting) (ds : List Declaration) (f : Bou
 
 abbrev pub IsBoundFault : List Setting → List Declaration → BoundFault → Type 0
 IsBoundFault ss ds (ParamUnset n) = IsFirstUnset ss n
-IsBoundFault ss ds (EmptyDomain k) = AllSet ss × IsFirstFaultyDomain ss ds (stages_of ds) Empty k
-IsBoundFault ss ds (DomainTooWide k) = AllSet ss × IsFirstFaultyDomain ss ds (stages_of ds) TooWide k
-IsBoundFault ss ds (OutOfBounds k n m axis least greatest) = AllSet ss × IsFirstDeparture ss ds (OutOfBounds k n m axis least greatest)
+IsBoundFault ss ds (EmptyTable k) = AllSet ss × IsFirstFaultyTable ss ds (tables_of ds) Empty k
+IsBoundFault ss ds (TableTooWide k) = AllSet ss × IsFirstFaultyTable ss ds (tables_of ds) TooWide k
+IsBoundFault ss ds (EmptyDomain k) =
+    AllSet ss × TablesStand ss ds (tables_of ds) × IsFirstFaultyDomain ss ds (stages_of ds) Empty k
+IsBoundFault ss ds (DomainTooWide k) =
+    AllSet ss × TablesStand ss ds (tables_of ds) × IsFirstFaultyDomain ss ds (stages_of ds) TooWide k
+IsBoundFault ss ds (OutOfBounds k n m axis least greatest) =
+    AllSet ss × TablesStand ss ds (tables_of ds) × IsFirstDeparture ss ds (OutOfBounds k n m axis least greatest)
 IsBoundFault ss ds Memory = Unit {0}

@@ -5,5 +5,6 @@ pub mod Boxes
 pub mod Domains
 pub mod StageBounds
 pub mod Within
+pub mod Tables
 pub mod InBounds
 pub mod inside

@@ -5,7 +5,7 @@ use Rattle.domains.specs.Area.{IsArea}
 use Rattle.domains.specs.Cuts.{IsCutArea}
 use Rattle.domains.specs.declared.area.Area.{Area}
 use Rattle.pipe_tree.specs.declared.tree.Test.{Test}
-use Rattle.pipe_tree.specs.Tree.{Branch, Declaration, param, image, function, accumulator, output}
+use Rattle.pipe_tree.specs.Tree.{Branch, Declaration, param, image, table, function, accumulator, output}
 use Rattle.pipe_checks.specs.declared.symbol.Symbol.{Symbol}
 use Rattle.pipe_bounds.specs.declared.params.Setting.{Setting}
 use Rattle.pipe_bounds.specs.Settings.{affine_value}
@@ -25,6 +25,7 @@ domains_in found = map (λ b. b.domain) found
 abbrev pub HasBins : List Setting → Declaration → Option Ends → Type 0
 HasBins ss (param p) bins = bins ≡ None
 HasBins ss (image i) bins = bins ≡ None
+HasBins ss (table t) bins = bins ≡ None
 HasBins ss (function f) bins = bins ≡ None
 HasBins ss (accumulator a) bins =
     (e : Ends) × (bins ≡ Some e) × IsBins (affine_value ss a.bins.first) (affine_value ss a.bins.last) (Ok e)
@@ -45,6 +46,7 @@ pub record AreBoxes (ss : List Setting) (row : List ℕ) (domain : Area) (cases 
 abbrev pub HasBoxes : List Setting → Declaration → Area → List (Option Area) → Type 0
 HasBoxes ss (param p) domain boxes = boxes ≡ []
 HasBoxes ss (image i) domain boxes = boxes ≡ []
+HasBoxes ss (table t) domain boxes = boxes ≡ []
 HasBoxes ss (function f) domain boxes = AreBoxes ss f.row.name domain f.cases boxes
 HasBoxes ss (accumulator a) domain boxes = boxes ≡ []
 HasBoxes ss (output o) domain boxes = boxes ≡ []

@@ -1,10 +1,10 @@
 #![tactic(auto)]
-//! Where stages lie: their domains, and the bins of accumulators.
+//! Where stages lie: their domains, and the bins of accumulators; and the spans of tables.
 
 ghost use Rattle.std.specs.Prelude.{◌≡◌, None};
 ghost use Rattle.pipe_bounds.specs.Domains.{IsInterval, IsExtent, IsBins, IsArea, IsSpanOf};
 ghost use Rattle.pipe_bounds.specs.Settings.{affine_value};
-ghost use Rattle.pipe_bounds.specs.inside.Taken.{IsPlaced};
+ghost use Rattle.pipe_bounds.specs.inside.Taken.{IsItemSpan, IsPlaced};
 ghost use Rattle.pipe_tree.specs.Tree.{declaration, accumulator, accumulator_of};
 
 use crate::affine::affine_value;
@@ -12,10 +12,10 @@ use crate::params::Params;
 use domains::{Area, Span};
 use pipe_tree::{Accum, Affine, AffineSpan, Func, Image, Item};
 
-/// The ends of a domain and of the bins lie from `-MAX_END` to `MAX_END`.
+/// The ends of a domain, of bins and of a table lie from `-MAX_END` to `MAX_END`.
 const MAX_END: i128 = 16384;
 
-/// The greatest extent of a picture, and the most bins.
+/// The greatest extent of a picture, and the most bins or entries of a table.
 const MAX_SIZE: i128 = 4096;
 
 /// Why an interval is none.
@@ -77,12 +77,12 @@ fn extent_of(params: &Params, side: &Affine) -> Result<Span, IntervalFault>
     extent(affine_value(params, side))
 }
 
-// The bins of an accumulator.
-fn bins(params: &Params, accum: &Accum) -> Result<Span, IntervalFault>
-    ensures { IsBins (affine_value params.now accum.now.bins.first)
-        (affine_value params.now accum.now.bins.last) result }
+// The bins of an accumulator, or the span of a table.
+fn bins_of(params: &Params, span: &AffineSpan) -> Result<Span, IntervalFault>
+    ensures { IsBins (affine_value params.now span.now.first)
+        (affine_value params.now span.now.last) result }
 {
-    let bins = interval_of(params, &accum.bins)?;
+    let bins = interval_of(params, span)?;
     if i128::from(bins.len()) <= MAX_SIZE {
         Ok(bins)
     } else {
@@ -111,7 +111,7 @@ fn func_domain(params: &Params, func: &Func) -> Result<Area, IntervalFault>
 fn accum_place(params: &Params, accum: &Accum) -> Result<Place, IntervalFault>
     ensures { IsPlaced params.now (accumulator (accumulator_of accum.now)) result }
 {
-    let bins = bins(params, accum)?;
+    let bins = bins_of(params, &accum.bins)?;
     let rows = interval_of(params, &accum.row.span)?;
     let cols = interval_of(params, &accum.column.span)?;
     Ok(Place {
@@ -134,6 +134,18 @@ pub(crate) fn place_of(params: &Params, item: &Item) -> Result<Place, IntervalFa
         Item::Image(image) => Ok(without_bins(image_domain(params, image)?)),
         Item::Func(func) => Ok(without_bins(func_domain(params, func)?)),
         Item::Accum(accum) => accum_place(params, accum),
-        Item::Param(_) | Item::Output(_) => Err(IntervalFault::Empty),
+        Item::Param(_) | Item::Table(_) | Item::Output(_) => Err(IntervalFault::Empty),
+    }
+}
+
+/// The span of the table that an item declares.
+pub(crate) fn table_span(params: &Params, item: &Item) -> Result<Span, IntervalFault>
+    ensures { IsItemSpan params.now (declaration item.now) result }
+{
+    match item {
+        Item::Table(table) => bins_of(params, &table.span),
+        Item::Param(_) | Item::Image(_) | Item::Func(_) | Item::Accum(_) | Item::Output(_) => Err(
+            IntervalFault::Empty,
+        ),
     }
 }

@@ -37,7 +37,8 @@ pub enum Axis {
     Columns,
 }
 
-/// Why a program means nothing at the values of its parameters. Parameters and stages are given by their numbers.
+/// Why a program means nothing at the values of its parameters. Parameters, tables and stages are given by their numbers. A
+/// parameter without a value is told first, then the first table with a fault, then the first stage with one, then a read.
 #[derive(Clone, Copy, Debug, PartialEq, Eq, Error)]
 pub enum BoundFault {
     /// 1: a parameter without a value.
@@ -64,6 +65,12 @@ pub enum BoundFault {
     /// 5: no memory was left.
     #[error("out of memory")]
     Memory,
+    /// 6: a table whose last number is below its first.
+    #[error("table {0} has no entry")]
+    EmptyTable(usize),
+    /// 7: a table that leaves -16384 to 16384, or has more than 4096 entries.
+    #[error("table {0} is too wide")]
+    TableTooWide(usize),
 }
 
 impl Fault for BoundFault {
@@ -76,6 +83,7 @@ impl Fault for BoundFault {
     fn row(&self) -> FaultRow {
         fault_row!(self, BoundFault {
             ParamUnset(_) = 1, EmptyDomain(_) = 2, DomainTooWide(_) = 3, OutOfBounds { .. } = 4, Memory = 5,
+            EmptyTable(_) = 6, TableTooWide(_) = 7,
         })
     }
 }

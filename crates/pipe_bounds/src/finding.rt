@@ -35,7 +35,9 @@ fn item_boxes(
 {
     match item {
         Item::Func(func) => case_boxes(alloc, params, &func.row.name, domain, func.cases.list()),
-        Item::Param(_) | Item::Image(_) | Item::Accum(_) | Item::Output(_) => Ok(Vec::new(alloc)),
+        Item::Param(_) | Item::Image(_) | Item::Table(_) | Item::Accum(_) | Item::Output(_) => Ok(
+            Vec::new(alloc),
+        ),
     }
 }
 

@@ -12,6 +12,7 @@ mod index;
 mod params;
 mod reader;
 mod stage_bounds;
+mod table_spans;
 mod taken;
 mod within;
 
@@ -21,4 +22,4 @@ pub use fault::{Axis, BoundFault, ParamFault};
 pub use index::index_of;
 pub use params::{Params, Setting};
 pub use stage_bounds::StageBounds;
-pub use within::{bounds, bounds_by_stage};
+pub use within::{ProgramBounds, bounds, bounds_by_stage};

@@ -164,7 +164,7 @@ impl Reader<'_> {
         match item {
             Item::Func(func) => self.func(func),
             Item::Accum(accum) => self.accum(accum),
-            Item::Param(_) | Item::Image(_) | Item::Output(_) => Ok(()),
+            Item::Param(_) | Item::Image(_) | Item::Table(_) | Item::Output(_) => Ok(()),
         }
     }
 }

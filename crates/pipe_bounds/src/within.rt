@@ -10,13 +10,16 @@ ghost use Rattle.pipe_bounds.specs.InBounds.{AreInBounds, IsBoundFault, IsFirstS
 ghost use Rattle.pipe_bounds.specs.inside.Taken.{AreDeclared, AreSoundItems, IsAnswer};
 ghost use Rattle.pipe_bounds.specs.Within.{AreSet, IsFirstUnset};
 ghost use Rattle.pipe_bounds.specs.StageBounds.{AreBoundsOf, domains_in};
-ghost use Rattle.pipe_checks.specs.Names.{stages_of};
+ghost use Rattle.pipe_bounds.specs.Tables.{AreSpansOf};
+ghost use Rattle.pipe_checks.specs.Names.{tables_of, stages_of};
 
 use crate::fault::BoundFault;
 use crate::finding::bounds_of_stages;
 use crate::params::Params;
 use crate::reader::Reader;
 use crate::stage_bounds::StageBounds;
+use crate::table_spans::spans_of_tables;
+use domains::Span;
 use pipe_checks::{Checked, Symbol};
 use pipe_tree::Item;
 use std::alloc::Global;
@@ -63,31 +66,47 @@ fn judge_reads(
     Ok(())
 }
 
-/// What is found of each stage, by its number, where the program means something at the values of its parameters; else the
-/// first fault. Both are as `bounds` has them.
+/// What judging the bounds finds of a program.
+#[derive(Debug, Drop)]
+pub struct ProgramBounds {
+    /// What is found of each stage, by its number.
+    pub stages: Vec<StageBounds>,
+    /// The span of each table, by its number.
+    pub tables: Vec<Span>,
+}
+
+/// What is found of each stage and each table, by its number, where the program means something at the values of its
+/// parameters; else the first fault. Both are as `bounds` has them.
 pub fn bounds_by_stage(
     alloc: Global,
     checked: &Checked,
     params: &Params,
-) -> Result<Vec<StageBounds>, BoundFault>
+) -> Result<ProgramBounds, BoundFault>
     ensures ok { OnOk result (IsInBounds params.now (content (tree_in checked.now))) }
-    ensures found { IfOk result (λ v. AreBoundsOf params.now (content (tree_in checked.now))
-        (stages_of (content (tree_in checked.now))) v.items) }
+    ensures found { IfOk result (λ b. AreBoundsOf params.now (content (tree_in checked.now))
+        (stages_of (content (tree_in checked.now))) b.stages.items) }
+    ensures spans { IfOk result (λ b. AreSpansOf params.now (content (tree_in checked.now))
+        (tables_of (content (tree_in checked.now))) b.tables.items) }
     ensures fault { IfErr result (IsBoundFault params.now (content (tree_in checked.now))) }
     ensures unset { (n : ℕ) → IsFirstUnset params.now n → result ≡ Err (ParamUnset n) }
 {
     all_set(params)?;
     let items = checked.tree().items();
+    let tables = spans_of_tables(alloc, params, items, checked.tables())?;
     let stages = checked.stages();
     let found = bounds_of_stages(alloc, params, items, stages)?;
     judge_reads(alloc, params, items, stages, &found)?;
-    Ok(found)
+    Ok(ProgramBounds {
+        stages: found,
+        tables,
+    })
 }
 
-/// Whether the program means something at the values of its parameters: all have values, each stage has a domain, and at each
-/// point of each case's box each read takes points of the domain of what it reads alone. Else the first fault: a parameter
-/// without a value; then a stage with an interval that is empty or too wide; then a read that leaves, by stage, case and
-/// read, and the rows before the columns. The values are those of `params`, which are to be of this program.
+/// Whether the program means something at the values of its parameters: all have values, each table has a span and each stage a
+/// domain, and at each point of each case's box each read takes points of the domain of what it reads alone. Else the first
+/// fault: a parameter without a value; then a table that is empty or too wide; then a stage with an interval that is; then a
+/// read that leaves, by stage, case and read, and the rows before the columns. The values are those of `params`, which are to be
+/// of this program.
 pub fn bounds(alloc: Global, checked: &Checked, params: &Params) -> Result<(), BoundFault>
     ensures ok { OnOk result (IsInBounds params.now (content (tree_in checked.now))) }
     ensures fault { IfErr result (IsBoundFault params.now (content (tree_in checked.now))) }

@@ -20,7 +20,7 @@ use Rattle.pipe_tree.specs.Tree as tree
 use Rattle.pipe_tree.specs.Tree.{Node, Branch, Declaration}
 use Rattle.pipe_checks.specs.declared.symbol.Symbol.{Symbol}
 use Rattle.pipe_checks.specs.declared.symbol.NameKind.{NameKind}
-use Rattle.pipe_checks.specs.declared.symbol.NameKind.TheVariants.{Param, Plane, Func, Accum}
+use Rattle.pipe_checks.specs.declared.symbol.NameKind.TheVariants.{Param, Table, Plane, Func, Accum}
 use Rattle.pipe_checks.specs.declared.fault.Violation.{Violation}
 use Rattle.pipe_checks.specs.declared.fault.Violation.TheVariants.{Kind, BadKernel, BadLiteral}
 use Rattle.pipe_checks.specs.declared.uses.Locals.{Locals}
@@ -41,15 +41,24 @@ use Rattle.pipe_checks.specs.Uses.{branch_places, branches_places, otherwise_pla
 
 abbrev pub IsReadableKind : NameKind → Type 0
 IsReadableKind Param = ⊥
+IsReadableKind Table = ⊥
 IsReadableKind Plane = Unit {0}
 IsReadableKind Func = Unit {0}
 IsReadableKind Accum = ⊥
 
 abbrev pub IsFuncKind : NameKind → Type 0
 IsFuncKind Param = ⊥
+IsFuncKind Table = ⊥
 IsFuncKind Plane = ⊥
 IsFuncKind Func = Unit {0}
 IsFuncKind Accum = ⊥
+
+abbrev pub IsTableKind : NameKind → Type 0
+IsTableKind Param = ⊥
+IsTableKind Table = Unit {0}
+IsTableKind Plane = ⊥
+IsTableKind Func = ⊥
+IsTableKind Accum = ⊥
 
 -- the name is declared, for something of this kind
 pub record IsNameOf (IsKind : NameKind → Type 0) (names : List Symbol) (x : List ℕ) : Type 0 where
@@ -80,6 +89,7 @@ abbrev pub IsSound : List Symbol → Node → Type 0
 IsSound names (tree.number n) = n ≤ greatest_number
 IsSound names (tree.variable x) = Unit {0}
 IsSound names (tree.read x i j) = IsNameOf IsReadableKind names x × IsSoundIndex i × IsSoundIndex j
+IsSound names (tree.lookup x a) = IsNameOf IsTableKind names x × IsSound names a
 IsSound names (tree.neg a) = IsSound names a
 IsSound names (tree.binary op a b) = IsSound names a × IsSound names b
 IsSound names (tree.literal op a n) = IsSound names a × IsSoundLiteral op n
@@ -103,6 +113,7 @@ AreFuncs names (Three x y z) = IsNameOf IsFuncKind names x × IsNameOf IsFuncKin
 abbrev pub IsSoundItem : List Symbol → Declaration → Type 0
 IsSoundItem names (tree.param p) = Unit {0}
 IsSoundItem names (tree.image i) = Unit {0}
+IsSoundItem names (tree.table t) = Unit {0}
 IsSoundItem names (tree.function f) = All (IsSoundBranch names) f.cases × ForSome f.otherwise (IsSound names)
 IsSoundItem names (tree.accumulator a) = IsSound names a.value × IsSound names a.bin
 IsSoundItem names (tree.output o) = AreFuncs names o.names × IsWithin 1 65535 o.max
@@ -191,15 +202,24 @@ by_kind w IsKind kinds no_row no_column names locals x = by (is_it locals.row x)
 
 readable_kind : (k : NameKind) → allows expected.Readable (role_of k) ≡ true → IsReadableKind k
 readable_kind Param h = absurd (false≢true h)
+readable_kind Table h = absurd (false≢true h)
 readable_kind Plane h = tt
 readable_kind Func h = tt
 readable_kind Accum h = absurd (false≢true h)
 
 func_kind : (k : NameKind) → allows expected.Func (role_of k) ≡ true → IsFuncKind k
 func_kind Param h = absurd (false≢true h)
+func_kind Table h = absurd (false≢true h)
 func_kind Plane h = absurd (false≢true h)
 func_kind Func h = tt
 func_kind Accum h = absurd (false≢true h)
+
+table_kind : (k : NameKind) → allows expected.Table (role_of k) ≡ true → IsTableKind k
+table_kind Param h = absurd (false≢true h)
+table_kind Table h = tt
+table_kind Plane h = absurd (false≢true h)
+table_kind Func h = absurd (false≢true h)
+table_kind Accum h = absurd (false≢true h)
 
 module _ (names : List Symbol) (locals : Locals) where
   readable_name : (x : List ℕ) → is_served names locals (name x expected.Readable) ≡ true → IsNameOf IsReadableKind names x
@@ -207,6 +227,9 @@ module _ (names : List Symbol) (locals : Locals) where
 
   func_name : (x : List ℕ) → is_served names locals (name x expected.Func) ≡ true → IsNameOf IsFuncKind names x
   func_name = by_kind expected.Func IsFuncKind func_kind refl refl names locals
+
+  table_name : (x : List ℕ) → is_served names locals (name x expected.Table) ≡ true → IsNameOf IsTableKind names x
+  table_name = by_kind expected.Table IsTableKind table_kind refl refl names locals
 
   index_ok : (i : Index) (w : Expected) → are_served names locals (index_places i w) ≡ true → IsSoundIndex i
   unfolding index_places
@@ -233,6 +256,9 @@ module _ (names : List Symbol) (locals : Locals) where
       let first = first_of names locals (name x expected.Readable) (index_places i expected.Row ++ index_places j expected.Column) h in
       let second = both_of (index_places i expected.Row) (index_places j expected.Column) first.1 in
       (readable_name x first.0, index_ok i expected.Row second.0, index_ok j expected.Column second.1)
+  sound (tree.lookup x a) h =
+      let first = first_of names locals (name x expected.Table) (expr_places a) h in
+      (table_name x first.0, sound a first.1)
   sound (tree.neg a) h = sound a h
   sound (tree.binary op a b) h = let both = both_of (expr_places a) (expr_places b) h in (sound a both.0, sound b both.1)
   sound (tree.literal op a n) h =
@@ -295,6 +321,7 @@ module _ (names : List Symbol) (locals : Locals) where
 pub sound_item : (names : List Symbol) (d : Declaration) → is_good names d ≡ true → IsSoundItem names d
 sound_item names (tree.param p) h = tt
 sound_item names (tree.image i) h = tt
+sound_item names (tree.table t) h = tt
 sound_item names (tree.function f) h =
     let locals = locals_of (tree.function f) in
     let values = branches_places f.cases ++ otherwise_places f.otherwise in

@@ -217,6 +217,7 @@ planes_come n (Three x y z) = All-from_recursion (λ d. d.item ≡ n) (names_of 
 item_comes : (n : ℕ) (d : Declaration) → All (λ x. x.item ≡ n) (item_names n d)
 item_comes n (tree.param x) = All-from_recursion (λ d. d.item ≡ n) (item_names n (tree.param x)) (refl, tt)
 item_comes n (tree.image i) = planes_come n i.names
+item_comes n (tree.table x) = All-from_recursion (λ d. d.item ≡ n) (item_names n (tree.table x)) (refl, tt)
 item_comes n (tree.function f) = All-from_recursion (λ d. d.item ≡ n) (item_names n (tree.function f)) (refl, tt)
 item_comes n (tree.accumulator a) = All-from_recursion (λ d. d.item ≡ n) (item_names n (tree.accumulator a)) (refl, tt)
 item_comes n (tree.output o) = All-nil (λ d. d.item ≡ n)

@@ -10,7 +10,7 @@ use Rattle.std.proofs.lemmas.List.Elements.{All-nil, All-append, All-weaker, All
 use Rattle.std.proofs.lemmas.Option.{slice_get_within, slice_get-map, get_or_from_slice_get, slice_get_cases}
 use Rattle.pipe_tree.specs.declared.tree.Names.{Names}
 use Rattle.pipe_tree.specs.declared.tree.Names.TheVariants.{One, Three}
-use Rattle.pipe_tree.specs.Tree.{Declaration, param, image, function, accumulator, output}
+use Rattle.pipe_tree.specs.Tree.{Declaration, param, image, table, function, accumulator, output}
 use Rattle.pipe_checks.specs.declared.symbol.Symbol.{Symbol}
 use Rattle.pipe_checks.specs.Links.{Links}
 use Rattle.pipe_checks.specs.Names.{names_of, item_names, names_from, declared_names, stages_of}
@@ -37,6 +37,7 @@ blank_here n (image i) = by_names i.names
     by_names : (names : Names) → AllByRecursion (BlankHere n (image i)) (names_of n names)
     by_names (One x) = ((λ e. (refl, (λ names. refl))), tt)
     by_names (Three x y z) = ((λ e. (refl, (λ names. refl))), ((λ e. (refl, (λ names. refl))), ((λ e. (refl, (λ names. refl))), tt)))
+blank_here n (table t) = ((λ e. absurd (false≢true e)), tt)
 blank_here n (function f) = ((λ e. absurd (false≢true e)), tt)
 blank_here n (accumulator a) = ((λ e. absurd (false≢true e)), tt)
 blank_here n (output o) = tt

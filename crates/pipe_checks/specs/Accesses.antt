@@ -1,10 +1,10 @@
 -- The reads and stencils of expressions, and what each stage reads.
 use Rattle.std.specs.Prelude.{ℕ, ℤ, Bool, true, false, Option, Some, None, List, [], ◌∷◌, ◌++◌, map, length, slice_get}
 use Rattle.pipe_tree.specs.declared.tree.Index.{Index}
-use Rattle.pipe_tree.specs.Tree.{Node, number, variable, read, neg, binary, literal, abs, clamp, select, stencil, Branch}
-use Rattle.pipe_tree.specs.Tree.{Declaration, param, image, function, accumulator, output}
+use Rattle.pipe_tree.specs.Tree.{Node, number, variable, read, lookup, neg, binary, literal, abs, clamp, select, stencil, Branch}
+use Rattle.pipe_tree.specs.Tree.{Declaration, param, image, table, function, accumulator, output}
 use Rattle.pipe_checks.specs.declared.symbol.NameKind.{NameKind}
-use Rattle.pipe_checks.specs.declared.symbol.NameKind.TheVariants.{Param, Plane, Func, Accum}
+use Rattle.pipe_checks.specs.declared.symbol.NameKind.TheVariants.{Param, Table, Plane, Func, Accum}
 use Rattle.pipe_checks.specs.declared.symbol.Symbol.{Symbol}
 use Rattle.pipe_checks.specs.declared.access.Access.{Access}
 use Rattle.pipe_checks.specs.declared.access.Access.TheVariants.{Read, Stencil}
@@ -31,6 +31,7 @@ abbrev pub accesses_of : List Symbol → Node → List Access
 accesses_of names (number n) = []
 accesses_of names (variable x) = []
 accesses_of names (read x i j) = read_at (number_of names x) i j
+accesses_of names (lookup x a) = accesses_of names a
 accesses_of names (neg a) = accesses_of names a
 accesses_of names (binary op a b) = accesses_of names a ++ accesses_of names b
 accesses_of names (literal op a n) = accesses_of names a
@@ -51,6 +52,7 @@ otherwise_accesses names (Some a) = accesses_of names a
 abbrev pub item_accesses : List Symbol → Declaration → List Access
 item_accesses names (param p) = []
 item_accesses names (image i) = []
+item_accesses names (table t) = []
 item_accesses names (function f) = branch_accesses names f.cases ++ otherwise_accesses names f.otherwise
 item_accesses names (accumulator a) = accesses_of names a.value ++ accesses_of names a.bin
 item_accesses names (output o) = []
@@ -61,6 +63,7 @@ stage_read (Stencil g rows columns) = g
 
 abbrev pub is_plane : NameKind → Bool
 is_plane Param = false
+is_plane Table = false
 is_plane Plane = true
 is_plane Func = false
 is_plane Accum = false

@@ -4,14 +4,16 @@ use Rattle.pipe_tree.specs.declared.tree.Tree.{Tree}
 use Rattle.pipe_checks.specs.declared.symbol.Symbol.{Symbol}
 use Rattle.pipe_checks.specs.Links.{Links}
 
--- a program, its stages and its parameters in the order of the text, and by the numbers of stages what each reads, and its rank
+-- a program, its stages, parameters and tables in the order of the text, and by the numbers of stages what each reads, and its rank
 pub record CheckedProgram : Type 0 where
   pub tree : Tree
   pub stages : List Symbol
   pub params : List Symbol
+  pub tables : List Symbol
   pub graph : List Links
   pub ranks : List ℕ
 
--- a program with its tables
-abbrev pub with_tables : Tree → List Symbol → List Symbol → List Links → List ℕ → CheckedProgram
-with_tables tree stages params graph ranks = record { tree = tree; stages = stages; params = params; graph = graph; ranks = ranks }
+-- a program with what is known of it
+abbrev pub with_lists : Tree → List Symbol → List Symbol → List Symbol → List Links → List ℕ → CheckedProgram
+with_lists tree stages params tables graph ranks =
+    record { tree = tree; stages = stages; params = params; tables = tables; graph = graph; ranks = ranks }

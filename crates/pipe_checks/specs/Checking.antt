@@ -2,7 +2,7 @@
 use Rattle.std.specs.Prelude.{ℕ, ◌<◌, ◌≡◌, ◌⊎◌, Bool, true, false, IsTrue, Option, Some, None, is_some, List, take, slice_get}
 use Rattle.std.specs.List.{list_any}
 use Rattle.pipe_tree.specs.declared.tree.Tree.{Tree}
-use Rattle.pipe_tree.specs.Tree.{Declaration, param, image, function, accumulator, output}
+use Rattle.pipe_tree.specs.Tree.{Declaration, param, image, table, function, accumulator, output}
 use Rattle.pipe_tree.specs.Content.{content}
 use Rattle.pipe_checks.specs.declared.symbol.Symbol.{Symbol}
 use Rattle.pipe_checks.specs.declared.fault.Violation.{Violation}
@@ -12,7 +12,7 @@ use Rattle.pipe_checks.specs.declared.fault.CheckFault.TheVariants.{Unknown, Twi
 use Rattle.pipe_checks.specs.declared.checked.Checked.{Checked}
 use Rattle.pipe_checks.specs.Links.{Links}
 use Rattle.pipe_checks.specs.Graph.{IsRanking, IsShortestCycle}
-use Rattle.pipe_checks.specs.Names.{declared_names, params_of, stages_of, number_of}
+use Rattle.pipe_checks.specs.Names.{declared_names, params_of, tables_of, stages_of, number_of}
 use Rattle.pipe_checks.specs.Accesses.{graph_of}
 use Rattle.pipe_checks.specs.Twice.{locals_of, varies_again}
 use Rattle.pipe_checks.specs.Uses.{places_of, are_served, IsFirstUnserved}
@@ -61,6 +61,7 @@ pub record IsFirstWrong (names : List Symbol) (ds : List Declaration) (wrong : V
 abbrev pub is_result : Declaration → Bool
 is_result (param p) = false
 is_result (image i) = false
+is_result (table t) = false
 is_result (function f) = false
 is_result (accumulator a) = true
 is_result (output o) = true
@@ -96,6 +97,9 @@ stages_in c = c.stages
 abbrev pub params_in : Checked → List Symbol
 params_in c = c.params
 
+abbrev pub tables_in : Checked → List Symbol
+tables_in c = c.tables
+
 abbrev pub graph_in : Checked → List Links
 graph_in c = c.graph
 
@@ -109,5 +113,6 @@ pub record IsCheckedOf (tree : Tree) (c : Checked) : Type 0 where
   pub result : list_any is_result (content tree) ≡ true
   pub stages : stages_in c ≡ stages_of (content tree)
   pub params : params_in c ≡ params_of (content tree)
+  pub tables : tables_in c ≡ tables_of (content tree)
   pub reads : graph_in c ≡ graph_of (content tree)
   pub ranks : IsRanking (graph_of (content tree)) (ranks_in c)

@@ -1,11 +1,11 @@
 -- The names that a program declares.
-use Rattle.std.specs.Prelude.{ℕ, ◌+◌, Bool, true, false, not, Option, Some, None, List, [], ◌∷◌, ◌++◌, filter, position, slice_get}
+use Rattle.std.specs.Prelude.{ℕ, ◌+◌, Bool, true, false, Option, Some, None, List, [], ◌∷◌, ◌++◌, filter, position, slice_get}
 use Rattle.std.specs.Str.{bytes_eq}
 use Rattle.pipe_tree.specs.declared.tree.Names.{Names}
 use Rattle.pipe_tree.specs.declared.tree.Names.TheVariants.{One, Three}
-use Rattle.pipe_tree.specs.Tree.{Declaration, param, image, function, accumulator, output}
+use Rattle.pipe_tree.specs.Tree.{Declaration, param, image, table, function, accumulator, output}
 use Rattle.pipe_checks.specs.declared.symbol.NameKind.{NameKind}
-use Rattle.pipe_checks.specs.declared.symbol.NameKind.TheVariants.{Param, Plane, Func, Accum}
+use Rattle.pipe_checks.specs.declared.symbol.NameKind.TheVariants.{Param, Table, Plane, Func, Accum}
 use Rattle.pipe_checks.specs.declared.symbol.Symbol.{Symbol}
 
 -- the planes that item n declares
@@ -19,6 +19,7 @@ names_of n (Three x y z) =
 abbrev pub item_names : ℕ → Declaration → List Symbol
 item_names n (param p) = record { name = p.name; kind = Param; item = n } ∷ []
 item_names n (image i) = names_of n i.names
+item_names n (table t) = record { name = t.name; kind = Table; item = n } ∷ []
 item_names n (function f) = record { name = f.name; kind = Func; item = n } ∷ []
 item_names n (accumulator a) = record { name = a.name; kind = Accum; item = n } ∷ []
 item_names n (output o) = []
@@ -33,16 +34,35 @@ declared_names ds = names_from 0 ds
 
 abbrev pub is_param : NameKind → Bool
 is_param Param = true
+is_param Table = false
 is_param Plane = false
 is_param Func = false
 is_param Accum = false
 
--- the parameters of a program, and its stages: a stage's number is its place here
+abbrev pub is_table : NameKind → Bool
+is_table Param = false
+is_table Table = true
+is_table Plane = false
+is_table Func = false
+is_table Accum = false
+
+-- what has a number at each point, or for each bin
+abbrev pub is_stage : NameKind → Bool
+is_stage Param = false
+is_stage Table = false
+is_stage Plane = true
+is_stage Func = true
+is_stage Accum = true
+
+-- the parameters of a program, its tables, and its stages: the number of each is its place here
 abbrev pub params_of : List Declaration → List Symbol
 params_of ds = filter (λ d. is_param d.kind) (declared_names ds)
 
+abbrev pub tables_of : List Declaration → List Symbol
+tables_of ds = filter (λ d. is_table d.kind) (declared_names ds)
+
 abbrev pub stages_of : List Declaration → List Symbol
-stages_of ds = filter (λ d. not (is_param d.kind)) (declared_names ds)
+stages_of ds = filter (λ d. is_stage d.kind) (declared_names ds)
 
 -- the number of the first of the names that is this one
 abbrev pub number_of : List Symbol → List ℕ → Option ℕ

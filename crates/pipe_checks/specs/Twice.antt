@@ -1,7 +1,7 @@
 -- Names that stand for two things.
 use Rattle.std.specs.Prelude.{ℕ, Bool, false, ◌||◌, Option, Some, None, is_some, List}
 use Rattle.std.specs.Str.{bytes_eq}
-use Rattle.pipe_tree.specs.Tree.{Declaration, param, image, function, accumulator, output}
+use Rattle.pipe_tree.specs.Tree.{Declaration, param, image, table, function, accumulator, output}
 use Rattle.pipe_checks.specs.declared.symbol.Symbol.{Symbol}
 use Rattle.pipe_checks.specs.declared.uses.Locals.{Locals}
 use Rattle.pipe_checks.specs.Names.{number_of}
@@ -10,6 +10,7 @@ use Rattle.pipe_checks.specs.Names.{number_of}
 abbrev pub locals_of : Declaration → Locals
 locals_of (param p) = record { row = None; column = None }
 locals_of (image i) = record { row = None; column = None }
+locals_of (table t) = record { row = None; column = None }
 locals_of (function f) = record { row = Some f.row.name; column = Some f.column.name }
 locals_of (accumulator a) = record { row = Some a.row.name; column = Some a.column.name }
 locals_of (output o) = record { row = None; column = None }

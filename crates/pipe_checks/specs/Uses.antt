@@ -12,8 +12,8 @@ use Rattle.pipe_tree.specs.declared.tree.Test.{Test}
 use Rattle.pipe_tree.specs.declared.tree.Test.TheVariants.{Compare, Remainder}
 use Rattle.pipe_tree.specs.declared.tree.Names.{Names}
 use Rattle.pipe_tree.specs.declared.tree.Names.TheVariants.{One, Three}
-use Rattle.pipe_tree.specs.Tree.{Node, number, variable, read, neg, binary, literal, abs, clamp, select, stencil, Branch}
-use Rattle.pipe_tree.specs.Tree.{Function, Accumulator, Declaration, param, image, function, accumulator, output}
+use Rattle.pipe_tree.specs.Tree.{Node, number, variable, read, lookup, neg, binary, literal, abs, clamp, select, stencil, Branch}
+use Rattle.pipe_tree.specs.Tree.{Function, Accumulator, Declaration, param, image, table, function, accumulator, output}
 use Rattle.pipe_checks.specs.declared.symbol.NameKind.{NameKind}
 use Rattle.pipe_checks.specs.declared.symbol.NameKind.TheVariants as kind
 use Rattle.pipe_checks.specs.declared.symbol.Symbol.{Symbol}
@@ -84,6 +84,7 @@ abbrev pub expr_places : Node → List Place
 expr_places (number n) = ranged n 0 greatest_number ∷ []
 expr_places (variable x) = name x expected.Number ∷ []
 expr_places (read x i j) = read_places x i j
+expr_places (lookup x a) = name x expected.Table ∷ expr_places a
 expr_places (neg a) = expr_places a
 expr_places (binary op a b) = expr_places a ++ expr_places b
 expr_places (literal op a n) = expr_places a ++ ranged n (least_literal op) (greatest_literal op) ∷ []
@@ -126,6 +127,7 @@ output_places (Three x y z) = name x expected.Func ∷ name y expected.Func ∷ 
 abbrev pub places_of : Declaration → List Place
 places_of (param p) = []
 places_of (image i) = affine_places i.rows ++ affine_places i.columns
+places_of (table t) = span_places t.span
 places_of (function f) = function_places f
 places_of (accumulator a) = accumulator_places a
 places_of (output o) = output_places o.names ++ ranged o.max 1 65535 ∷ []
@@ -138,6 +140,7 @@ is_it (Some y) x = bytes_eq y x
 
 abbrev pub role_of : NameKind → NameRole
 role_of kind.Param = role.Param
+role_of kind.Table = role.Table
 role_of kind.Plane = role.Plane
 role_of kind.Func = role.Func
 role_of kind.Accum = role.Accum
@@ -155,6 +158,7 @@ role_at names locals x =
 -- which names are of these roles
 abbrev pub allows : Expected → NameRole → Bool
 allows expected.Param role.Param = true
+allows expected.Table role.Table = true
 allows expected.Readable role.Plane = true
 allows expected.Readable role.Func = true
 allows expected.Func role.Func = true

@@ -91,6 +91,7 @@ pub fn add_accesses(
     match expr {
         Expr::Number(_) | Expr::Name(_) => Ok(()),
         Expr::Read(name, row, column) => add_read(found, stages, name, row, column),
+        Expr::Lookup(_, index) => add_accesses(found, stages, index),
         Expr::Neg(operand) | Expr::Abs(operand) | Expr::Literal(_, operand, _) => {
             add_accesses(found, stages, operand)
         }

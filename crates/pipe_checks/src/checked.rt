@@ -10,8 +10,8 @@ ghost use Rattle.pipe_checks.specs.Names.{declared_names};
 ghost use Rattle.pipe_checks.specs.Graph.{IsRanking};
 ghost use Rattle.pipe_checks.specs.Twice.{locals_of};
 ghost use Rattle.pipe_checks.specs.Uses.{places_of, IsFirstUnserved};
-ghost use Rattle.pipe_checks.specs.Checking.{IsNamed, IsFault, IsCheckedOf, tree_in, stages_in, params_in, graph_in, ranks_in};
-ghost use Rattle.pipe_checks.specs.Checking.{is_result, is_good, reads_at};
+ghost use Rattle.pipe_checks.specs.Checking.{IsNamed, IsFault, IsCheckedOf, tree_in, stages_in, params_in, tables_in, graph_in};
+ghost use Rattle.pipe_checks.specs.Checking.{ranks_in, is_result, is_good, reads_at};
 ghost use Rattle.pipe_checks.specs.inside.Tables.{IsTableOf};
 ghost use Rattle.pipe_checks.specs.inside.Search.{IsCyclic, IsJudged, IsFound, fault_of};
 
@@ -19,7 +19,7 @@ use crate::cycles::shortest_cycle;
 use crate::fault::{CheckFault, Cycle, Violation};
 use crate::graph::{Links, graph};
 use crate::ranks::ranks;
-use crate::symbol::{Symbol, params_of, stages_of};
+use crate::symbol::{Symbol, params_of, stages_of, tables_of};
 use crate::table::{DeclaredNames, NameTable, declare_all};
 use crate::twice::{first_twice, locals_of};
 use crate::uses::judge_item;
@@ -34,6 +34,7 @@ pub struct Checked {
     tree: Tree,
     stages: Vec<Symbol>,
     params: Vec<Symbol>,
+    tables: Vec<Symbol>,
     graph: Vec<Links>,
     ranks: Vec<usize>,
 }
@@ -41,7 +42,7 @@ pub struct Checked {
 impl Model for Checked {
     ghost use Rattle.std.specs.Coded.{codes};
     ghost use Rattle.pipe_tree.specs.contracts.tree.Expr as expr;
-    ghost use Rattle.pipe_checks.specs.CheckedProgram.{CheckedProgram, with_tables};
+    ghost use Rattle.pipe_checks.specs.CheckedProgram.{CheckedProgram, with_lists};
 
     ghost Value = { CheckedProgram };
 
@@ -49,10 +50,11 @@ impl Model for Checked {
 
     ghost use Rattle.pipe_checks.specs.Checking.{IsCheckedOf};
 
-    ghost view = { λ c. with_tables c.tree c.stages.items c.params.items c.graph.items c.ranks.items };
+    ghost view = { λ c. with_lists c.tree c.stages.items c.params.items c.tables.items c.graph.items
+        c.ranks.items };
 
     ghost invariant = { λ c. IsCheckedOf c.tree
-        (with_tables c.tree c.stages.items c.params.items c.graph.items c.ranks.items) };
+        (with_lists c.tree c.stages.items c.params.items c.tables.items c.graph.items c.ranks.items) };
 }
 
 impl Checked {
@@ -76,6 +78,13 @@ impl Checked {
         ensures { result.now ≡ params_in self.now }
     {
         &self.params
+    }
+
+    /// The tables in the order of the text. A table's number is its place here.
+    pub fn tables(&self) -> &[Symbol]
+        ensures { result.now ≡ tables_in self.now }
+    {
+        &self.tables
     }
 
     /// The rank of a stage: 0 for a plane, else one more than the greatest rank that it reads, or 1.
@@ -147,7 +156,7 @@ fn is_result(item: &Item) -> bool
 {
     match item {
         Item::Accum(_) | Item::Output(_) => true,
-        Item::Param(_) | Item::Image(_) | Item::Func(_) => false,
+        Item::Param(_) | Item::Table(_) | Item::Image(_) | Item::Func(_) => false,
     }
 }
 
@@ -179,6 +188,7 @@ fn ranks_of(alloc: Global, graph: &[Links]) -> Result<Vec<usize>, CheckFault>
 struct Found {
     stages: Vec<Symbol>,
     params: Vec<Symbol>,
+    tables: Vec<Symbol>,
     graph: Vec<Links>,
     ranks: Vec<usize>,
 }
@@ -197,9 +207,11 @@ fn findings(alloc: Global, items: &[Item]) -> Result<Found, CheckFault>
     let graph = graph(alloc, items, &stages)?;
     let ranks = ranks_of(alloc, &graph)?;
     let params = params_of(alloc, names)?;
+    let tables = tables_of(alloc, names)?;
     Ok(Found {
         stages,
         params,
+        tables,
         graph,
         ranks,
     })
@@ -217,6 +229,7 @@ pub fn check(alloc: Global, tree: Tree) -> Result<Checked, (Tree, CheckFault)>
             tree,
             stages: found.stages,
             params: found.params,
+            tables: found.tables,
             graph: found.graph,
             ranks: found.ranks,
         }),

@@ -44,9 +44,9 @@ pub enum CheckFault {
     #[error("item {0} has a name that stands for two things")]
     Twice(usize),
     /// 3: a name of another kind than its place wants. Extents, intervals and the bounds of tests want parameters; what is
-    /// read or stenciled is a plane or a function; the first index of a read wants the first variable of the item and the
-    /// second the second; a test wants a variable, any other name of an expression a variable or a parameter; and outputs
-    /// are functions.
+    /// read or stenciled is a plane or a function, and what is looked up a table; the first index of a read wants the first
+    /// variable of the item and the second the second; a test wants a variable, any other name of an expression a variable or
+    /// a parameter; and outputs are functions.
     #[error("item {0} has a name of another kind than its place wants")]
     Kind(usize),
     /// 4: a kernel with rows of unequal length, an even side or a side over 15.

@@ -92,7 +92,7 @@ pub(crate) fn item_accesses(
             add_accesses(&mut found, stages, &accum.value)?;
             add_accesses(&mut found, stages, &accum.bin)?;
         }
-        Item::Param(_) | Item::Image(_) | Item::Output(_) => {}
+        Item::Param(_) | Item::Table(_) | Item::Image(_) | Item::Output(_) => {}
     }
     Ok(found)
 }

@@ -16,5 +16,5 @@ mod uses;
 pub use access::{Access, accesses, add_accesses};
 pub use checked::{Checked, check};
 pub use fault::{CheckFault, Cycle};
-pub use symbol::{NameKind, Symbol, declared_stages, is_same, number_of};
+pub use symbol::{NameKind, Symbol, declared_stages, declared_tables, is_same, number_of};
 pub use uniqueness::check_faults_are_determined;

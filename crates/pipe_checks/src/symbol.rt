@@ -1,11 +1,12 @@
 #![tactic(auto)]
 //! The names that the items of a program declare.
 
-ghost use Rattle.std.specs.Prelude.{◌≡◌, ◌++◌, ◌∷◌, [], ◌==◌, OnOk, IfOk, filter, not};
+ghost use Rattle.std.specs.Prelude.{◌≡◌, ◌++◌, ◌∷◌, [], ◌==◌, OnOk, IfOk, filter};
 ghost use Rattle.std.specs.Str.{bytes_eq};
 ghost use Rattle.pipe_tree.specs.Tree.{declaration, declarations};
 ghost use Rattle.pipe_checks.specs.Accesses.{is_plane};
-ghost use Rattle.pipe_checks.specs.Names.{number_of, names_of, item_names, names_from, is_param, stages_of};
+ghost use Rattle.pipe_checks.specs.Names.{number_of, names_of, item_names, names_from, is_param, is_table, is_stage};
+ghost use Rattle.pipe_checks.specs.Names.{tables_of, stages_of};
 
 use pipe_tokens::Name;
 use pipe_tree::{Item, Names};
@@ -15,6 +16,7 @@ use std::alloc::{AllocError, Global};
 #[derive(Clone, Copy, Debug, PartialEq, Eq)]
 pub enum NameKind {
     Param,
+    Table,
     Plane,
     Func,
     Accum,
@@ -27,7 +29,7 @@ impl NameKind {
     {
         match self {
             NameKind::Plane => true,
-            NameKind::Param | NameKind::Func | NameKind::Accum => false,
+            NameKind::Param | NameKind::Table | NameKind::Func | NameKind::Accum => false,
         }
     }
 
@@ -36,7 +38,25 @@ impl NameKind {
     {
         match self {
             NameKind::Param => true,
-            NameKind::Plane | NameKind::Func | NameKind::Accum => false,
+            NameKind::Table | NameKind::Plane | NameKind::Func | NameKind::Accum => false,
+        }
+    }
+
+    fn is_table(self) -> bool
+        ensures { result ≡ is_table self }
+    {
+        match self {
+            NameKind::Table => true,
+            NameKind::Param | NameKind::Plane | NameKind::Func | NameKind::Accum => false,
+        }
+    }
+
+    fn is_stage(self) -> bool
+        ensures { result ≡ is_stage self }
+    {
+        match self {
+            NameKind::Plane | NameKind::Func | NameKind::Accum => true,
+            NameKind::Param | NameKind::Table => false,
         }
     }
 }
@@ -92,6 +112,7 @@ fn declare_item(names: &mut Vec<Symbol>, item: &Item, number: usize) -> Result<(
 {
     match item {
         Item::Param(param) => declare(names, &param.name, NameKind::Param, number),
+        Item::Table(table) => declare(names, &table.name, NameKind::Table, number),
         Item::Image(image) => declare_planes(names, &image.names, number),
         Item::Func(func) => declare(names, &func.name, NameKind::Func, number),
         Item::Accum(accum) => declare(names, &accum.name, NameKind::Accum, number),
@@ -121,13 +142,24 @@ pub(crate) fn params_of(alloc: Global, names: &[Symbol]) -> Result<Vec<Symbol>, 
         .collect(alloc)
 }
 
-/// The stages among the names.
-pub(crate) fn stages_of(alloc: Global, names: &[Symbol]) -> Result<Vec<Symbol>, AllocError>
-    ensures { IfOk result (λ v. v.items ≡ filter (λ d. not (is_param d.kind)) names.now) }
+/// The tables among the names.
+pub(crate) fn tables_of(alloc: Global, names: &[Symbol]) -> Result<Vec<Symbol>, AllocError>
+    ensures { IfOk result (λ v. v.items ≡ filter (λ d. is_table d.kind) names.now) }
 {
     names
         .iter()
-        .filter(|name| !name.kind.is_param())
+        .filter(|name| name.kind.is_table())
+        .copied()
+        .collect(alloc)
+}
+
+/// The stages among the names.
+pub(crate) fn stages_of(alloc: Global, names: &[Symbol]) -> Result<Vec<Symbol>, AllocError>
+    ensures { IfOk result (λ v. v.items ≡ filter (λ d. is_stage d.kind) names.now) }
+{
+    names
+        .iter()
+        .filter(|name| name.kind.is_stage())
         .copied()
         .collect(alloc)
 }
@@ -148,4 +180,13 @@ pub fn declared_stages(alloc: Global, items: &[Item]) -> Result<Vec<Symbol>, All
 {
     let names = declared_names(alloc, items)?;
     stages_of(alloc, &names)
+}
+
+/// The tables that the items declare, in the order of the text. A table's number is its place here, also where the program is
+/// one that `check` refuses.
+pub fn declared_tables(alloc: Global, items: &[Item]) -> Result<Vec<Symbol>, AllocError>
+    ensures { IfOk result (λ v. v.items ≡ tables_of (declarations items.now)) }
+{
+    let names = declared_names(alloc, items)?;
+    tables_of(alloc, &names)
 }

@@ -27,7 +27,7 @@ pub(crate) fn locals_of(item: &Item) -> Locals
             row: Some(accum.row.name),
             column: Some(accum.column.name),
         },
-        Item::Param(_) | Item::Image(_) | Item::Output(_) => Locals {
+        Item::Param(_) | Item::Table(_) | Item::Image(_) | Item::Output(_) => Locals {
             row: None,
             column: None,
         },

@@ -44,6 +44,7 @@ pub const MAX_SAMPLE: u32 = 65535;
 #[derive(Clone, Copy, Debug, PartialEq, Eq)]
 pub(crate) enum NameRole {
     Param,
+    Table,
     Plane,
     Func,
     Accum,
@@ -56,6 +57,8 @@ pub(crate) enum NameRole {
 pub(crate) enum Expected {
     /// A parameter.
     Param,
+    /// A table.
+    Table,
     /// What may be read: a plane or a function.
     Readable,
     /// A function.
@@ -76,6 +79,7 @@ impl Expected {
     {
         match self {
             Expected::Param => matches!(role, NameRole::Param),
+            Expected::Table => matches!(role, NameRole::Table),
             Expected::Readable => matches!(role, NameRole::Plane | NameRole::Func),
             Expected::Func => matches!(role, NameRole::Func),
             Expected::Number => matches!(role, NameRole::Row | NameRole::Column | NameRole::Param),
@@ -107,6 +111,7 @@ fn role_of(kind: NameKind) -> NameRole
 {
     match kind {
         NameKind::Param => NameRole::Param,
+        NameKind::Table => NameRole::Table,
         NameKind::Plane => NameRole::Plane,
         NameKind::Func => NameRole::Func,
         NameKind::Accum => NameRole::Accum,
@@ -287,6 +292,10 @@ fn judge_expr(names: &NameTable, locals: &Locals, expr: &Expr) -> Result<(), Vio
         Expr::Number(number) => judge_range(*number, 0, MAX_NUMBER),
         Expr::Name(name) => judge_name(names, locals, name, Expected::Number),
         Expr::Read(name, row, column) => judge_read(names, locals, name, row, column),
+        Expr::Lookup(name, index) => {
+            judge_name(names, locals, name, Expected::Table)?;
+            judge_expr(names, locals, index)
+        }
         Expr::Neg(operand) | Expr::Abs(operand) => judge_expr(names, locals, operand),
         Expr::Binary(_, left, right) => {
             judge_expr(names, locals, left)?;
@@ -407,6 +416,7 @@ pub(crate) fn judge_item(names: &NameTable, locals: &Locals, item: &Item) -> Res
 {
     match item {
         Item::Param(_) => Ok(()),
+        Item::Table(table) => judge_span(names, locals, &table.span),
         Item::Image(image) => {
             judge_affine(names, locals, &image.rows)?;
             judge_affine(names, locals, &image.columns)

@@ -4,23 +4,26 @@ use Rattle.std.specs.Prelude.{◌≡◌, ◌⊎◌, Option, Some, None, Result, 
 use Rattle.domains.specs.Span.{Ends, Holds, IsSubspan}
 use Rattle.domains.specs.Index.{IsIndex, IsImage}
 use Rattle.domains.specs.declared.area.Area.{Area}
-use Rattle.pipe_tree.specs.Tree.{Declaration}
+use Rattle.pipe_tree.specs.declared.tree.Table.{Table}
+use Rattle.pipe_tree.specs.Tree.{Declaration, param, image, table, function, accumulator, output}
 use Rattle.pipe_checks.specs.declared.symbol.Symbol.{Symbol}
 use Rattle.pipe_bounds.specs.declared.domain.IntervalFault.{IntervalFault}
 use Rattle.pipe_bounds.specs.declared.domain.IntervalFault.TheVariants.{Empty, TooWide}
 use Rattle.pipe_bounds.specs.declared.fault.Axis.{Axis}
 use Rattle.pipe_bounds.specs.declared.fault.Axis.TheVariants.{Rows, Columns}
 use Rattle.pipe_bounds.specs.declared.fault.BoundFault.{BoundFault}
-use Rattle.pipe_bounds.specs.declared.fault.BoundFault.TheVariants.{EmptyDomain, DomainTooWide, Memory}
+use Rattle.pipe_bounds.specs.declared.fault.BoundFault.TheVariants.{EmptyDomain, DomainTooWide, Memory, EmptyTable, TableTooWide}
 use Rattle.pipe_bounds.specs.declared.params.Setting.{Setting}
 use Rattle.pipe_checks.specs.declared.access.Access.{Access}
 use Rattle.pipe_checks.specs.declared.access.Access.TheVariants.{Read, Stencil}
 use Rattle.pipe_bounds.specs.declared.taken.Departure.{Departure}
 use Rattle.pipe_bounds.specs.InBounds.{ReadCase, AllStay, StageStays, IsFirstRead, IsFirstCase, item_cases, scale_of}
 use Rattle.pipe_bounds.specs.declared.domain.Place.{Place}
-use Rattle.pipe_bounds.specs.Domains.{IsDomain}
+use Rattle.pipe_bounds.specs.Settings.{affine_value}
+use Rattle.pipe_bounds.specs.Domains.{IsBins, IsDomain}
 use Rattle.pipe_bounds.specs.StageBounds.{HasBins}
 use Rattle.pipe_bounds.specs.Within.{IsFirstFaultyDomain}
+use Rattle.pipe_bounds.specs.Tables.{IsFirstFaultyTable}
 
 -- ---- what is taken
 
@@ -80,7 +83,11 @@ AreSoundItems stages ds = (k : ℕ) (d : Declaration) → slice_get ds k ≡ Som
 abbrev pub AreDeclared : List Declaration → List Symbol → Type 0
 AreDeclared ds stages = (k : ℕ) (s : Symbol) → slice_get stages k ≡ Some s → s.item < length ds
 
--- ---- where the stages of an item lie
+-- each table is declared by an item that declares a table
+abbrev pub AreTables : List Declaration → List Symbol → Type 0
+AreTables ds tables = (k : ℕ) (s : Symbol) → slice_get tables k ≡ Some s → (t : Table) × (slice_get ds s.item ≡ Some (table t))
+
+-- ---- where the stages of an item lie, and the span of a table
 
 abbrev pub IsPlace : List Setting → Declaration → Place → Type 0
 IsPlace ss d place = IsDomain ss d (Ok place.domain) × HasBins ss d place.bins
@@ -88,6 +95,15 @@ IsPlace ss d place = IsDomain ss d (Ok place.domain) × HasBins ss d place.bins
 abbrev pub IsPlaced : List Setting → Declaration → Result Place IntervalFault → Type 0
 IsPlaced ss d (Ok place) = IsPlace ss d place
 IsPlaced ss d (Err f) = IsDomain ss d (Err f)
+
+-- other items have no span
+abbrev pub IsItemSpan : List Setting → Declaration → Result Ends IntervalFault → Type 0
+IsItemSpan ss (param p) r = r ≡ Err Empty
+IsItemSpan ss (image i) r = r ≡ Err Empty
+IsItemSpan ss (table t) r = IsBins (affine_value ss t.span.first) (affine_value ss t.span.last) r
+IsItemSpan ss (function f) r = r ≡ Err Empty
+IsItemSpan ss (accumulator a) r = r ≡ Err Empty
+IsItemSpan ss (output o) r = r ≡ Err Empty
 
 -- ---- what is answered
 
@@ -114,3 +130,14 @@ pub record TellsDomain (ss : List Setting) (ds : List Declaration) (stages : Lis
   pub stage : ℕ
   pub told : f ≡ domain_fault fault stage
   pub first : IsFirstFaultyDomain ss ds stages fault stage
+
+abbrev pub table_fault : IntervalFault → ℕ → BoundFault
+table_fault Empty k = EmptyTable k
+table_fault TooWide k = TableTooWide k
+
+-- f tells the first table whose span is faulty
+pub record TellsTable (ss : List Setting) (ds : List Declaration) (tables : List Symbol) (f : BoundFault) : Type 0 where
+  pub fault : IntervalFault
+  pub number : ℕ
+  pub told : f ≡ table_fault fault number
+  pub first : IsFirstFaultyTable ss ds tables fault number

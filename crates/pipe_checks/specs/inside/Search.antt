@@ -10,7 +10,7 @@ use Rattle.pipe_checks.specs.declared.checked.Found.{Found}
 use Rattle.pipe_checks.specs.declared.fault.Violation.{Violation}
 use Rattle.pipe_checks.specs.declared.fault.Violation.TheVariants as violation
 use Rattle.pipe_checks.specs.Links.{Links}
-use Rattle.pipe_checks.specs.Names.{params_of, stages_of}
+use Rattle.pipe_checks.specs.Names.{params_of, tables_of, stages_of}
 use Rattle.pipe_checks.specs.Accesses.{graph_of}
 use Rattle.pipe_checks.specs.Graph.{links_at, Reads, Way, IsRanking, IsShortestCycle}
 use Rattle.domains.specs.Greatest.{greatest}
@@ -115,5 +115,6 @@ pub record IsFound (ds : List Declaration) (f : Found) : Type 0 where
   pub result : list_any is_result ds ≡ true
   pub stages : f.stages.items ≡ stages_of ds
   pub params : f.params.items ≡ params_of ds
+  pub tables : f.tables.items ≡ tables_of ds
   pub reads : f.graph.items ≡ graph_of ds
   pub ranks : IsRanking (graph_of ds) f.ranks.items
