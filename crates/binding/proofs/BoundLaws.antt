@@ -102,6 +102,7 @@ domain_of p (tree.image i) x s a is h = record {
   rows = sides_near _ a.rows h.0;
   cols = sides_near _ a.cols h.1;
 }
+domain_of p (tree.table t) x s a is h = absurd is
 domain_of p (tree.function f) x s a is h = record {
   domain = ap (λ (t : Stage). t.domain) is.2 ∙ area_is _ _ a (ends_are _ _ a.rows h.0) (ends_are _ _ a.cols h.1);
   rows = span_near _ _ a.rows h.0;
@@ -161,6 +162,7 @@ module _ (ds : List Declaration) (p : Program) (own : p.stages ≡ stages_of ds)
   valued : (d : Declaration) (x : Symbol) (s : Stage) → IsStageOf p d x s → IsReadableKind x.kind → IsValued s.body
   valued (tree.param y) x s is k = absurd is
   valued (tree.image i) x s is k = subst (λ (t : Stage). IsValued t.body) (sym is.1) tt
+  valued (tree.table t) x s is k = absurd is
   valued (tree.function f) x s is k = subst (λ (t : Stage). IsValued t.body) (sym is.2) tt
   valued (tree.accumulator a) x s is k = absurd (subst IsReadableKind is.0 k)
   valued (tree.output o) x s is k = absurd is
@@ -293,6 +295,7 @@ module _ (ds : List Declaration) (p : Program) (own : p.stages ≡ stages_of ds)
   body_reads : (d : Declaration) (x : Symbol) (s : Stage) → IsStageOf p d x s → IsSoundItem (declared_names ds) d → Stays d s
   body_reads (tree.param y) x s is sound = absurd is
   body_reads (tree.image i) x s is sound = subst (Stays (tree.image i)) (sym is.1) (λ stays r c inside. tt)
+  body_reads (tree.table t) x s is sound = absurd is
   body_reads (tree.function f) x s is sound = subst (Stays (tree.function f)) (sym is.2) (function_reads f sound)
   body_reads (tree.accumulator a) x s is sound = subst (Stays (tree.accumulator a)) (sym is.2) (accumulator_reads a sound)
   body_reads (tree.output o) x s is sound = absurd is

@@ -15,7 +15,8 @@ use Rattle.pipe_checks.specs.Links.{Links}
 use Rattle.pipe_checks.specs.Names.{stages_of}
 use Rattle.pipe_bounds.specs.InBounds.{IsInBounds}
 use Rattle.job.specs.Pipeline.{Pipeline}
-use Rattle.binding.specs.Binding.{Program, is_exactly, settled, settings_for, AreSmall, job_of, IsJobOf}
+use Rattle.binding.specs.Binding.{Program, is_exactly, settled, settings_for, AreSmall, AreSmallTables, job_of, IsJobOf}
+use Rattle.tables.specs.declared.table.Table.{Table}
 use Rattle.binding.specs.Fits.{PlanesFit, ExtentsFit, ShapesFit, TilesFit}
 use Rattle.job.specs.WellFormed.{IsJob}
 use Rattle.job.proofs.Fitting.{from_bounds}
@@ -57,23 +58,25 @@ lists_same (x ∷ xs) (y ∷ ys) e same =
 one_ranking : (g : List Links) (a b : List ℕ) → IsRanking g a → IsRanking g b → a ≡ b
 one_ranking g a b h k = lists_same a b (h.ranked.each ∙ sym k.ranked.each) (λ s. omega (arith, h.least b k.ranked s, k.least a h.ranked s))
 
-pub one_job : (items : List Declaration) (given : List Setting) (picture : Picture) (sides : Sides) (a b : Pipeline)
-    → IsJobOf items given picture sides a → IsJobOf items given picture sides b → a ≡ b
-one_job items given picture sides a b h k =
+pub one_job : (items : List Declaration) (given : List Setting) (tables : List Table) (picture : Picture) (sides : Sides) (a b : Pipeline)
+    → IsJobOf items given tables picture sides a → IsJobOf items given tables picture sides b → a ≡ b
+one_job items given tables picture sides a b h k =
     let says : Image → List ℕ → Pipeline =
-    λ i ranks. job_of (record { stages = stages_of items; ranks = ranks; settings = settings_for i picture given }) items picture
-    sides in
+    λ i ranks. job_of (record { stages = stages_of items; ranks = ranks; settings = settings_for i picture given; tables = tables }) items
+    picture sides in
     let images : h.image ≡ k.image = cc (h.declared, k.declared) in
     h.is ∙ ap (λ (i : Image). says i h.ranks) images ∙ ap (says k.image) (one_ranking _ h.ranks k.ranks h.ranking k.ranking) ∙ sym k.is
 
 -- ---- and it is a job
 
-pub bound_job_is : (items : List Declaration) (given : List Setting) (picture : Picture) (sides : Sides) (job : Pipeline)
-    (h : IsJobOf items given picture sides job) → KeepsLimits items → AreSmall given → IsImage picture → IsSides sides
+pub bound_job_is : (items : List Declaration) (given : List Setting) (tables : List Table) (picture : Picture) (sides : Sides)
+    (job : Pipeline) (h : IsJobOf items given tables picture sides job) → KeepsLimits items → AreSmall given → AreSmallTables tables
+    → IsImage picture → IsSides sides
     → IsInBounds (settings_for h.image picture given) items → PlanesFit h.image picture
     → ExtentsFit (settings_for h.image picture given) h.image picture → ShapesFit job → TilesFit job → IsJob job
-bound_job_is items given picture sides job h limits small image tile_sides bounds planes extents shapes tiles =
-    let p : Program = record { stages = stages_of items; ranks = h.ranks; settings = settings_for h.image picture given } in
+bound_job_is items given tables picture sides job h limits small numbers image tile_sides bounds planes extents shapes tiles =
+    let p : Program =
+    record { stages = stages_of items; ranks = h.ranks; settings = settings_for h.image picture given; tables = tables } in
     subst IsJob (sym h.is)
-    (job_is items h.named p refl (small_settled h.image picture image given small) bounds picture h.image h.declared planes extents sides
+    (job_is items h.named p refl (small_settled h.image picture image given small) bounds h.fit numbers picture h.image h.declared planes extents sides
     h.ranking (subst TilesFit h.is tiles) limits (subst ShapesFit h.is shapes) image tile_sides)

@@ -2,7 +2,7 @@
 use Rattle.std.proofs.Common.{ℕ, zero, suc, arith, ◌+◌, ◌*◌, ◌<◌, ◌≤◌, ◌≡◌, ◌⊎◌, inl, inr, ℤ, pos, ◌-ℤ◌, ◌≤ℤ◌, FitsSigned, w32}
 use Rattle.std.proofs.Common.{Bool, true, false, cond, List, [], ◌∷◌, length, Option, Some, None, Ok, map, filter, slice_get}
 use Rattle.std.proofs.Common.{subst, ap, sym, ◌∙◌, refl}
-use Rattle.std.specs.Prelude.{All, not, slice_index, unwrap_or}
+use Rattle.std.specs.Prelude.{All, slice_index, unwrap_or}
 use Rattle.std.specs.List.{flat_map}
 use Rattle.std.specs.Option.{option_map, option_map_or, ForSome}
 use Rattle.std.specs.Str.{bytes_eq}
@@ -26,17 +26,17 @@ use Rattle.pipe_tree.specs.Tree as tree
 use Rattle.pipe_tree.specs.Tree.{Node, Branch, Declaration}
 use Rattle.pipe_checks.specs.declared.symbol.Symbol.{Symbol}
 use Rattle.pipe_checks.specs.declared.symbol.NameKind.{NameKind}
-use Rattle.pipe_checks.specs.declared.symbol.NameKind.TheVariants.{Param, Plane, Func, Accum}
+use Rattle.pipe_checks.specs.declared.symbol.NameKind.TheVariants.{Param, Table, Plane, Func, Accum}
 use Rattle.pipe_bounds.specs.declared.params.Setting.{Setting}
 use Rattle.pipe_bounds.specs.Settings.{affine_value}
 use Rattle.pipe_bounds.specs.Domains.{IsSpanFrom, IsDomain}
 use Rattle.pipe_checks.specs.Graph.{IsRanking}
-use Rattle.pipe_checks.specs.Names.{names_of, item_names, names_from, is_param, declared_names, stages_of, number_of}
+use Rattle.pipe_checks.specs.Names.{names_of, item_names, names_from, is_stage, declared_names, stages_of, number_of}
 use Rattle.pipe_checks.specs.Accesses.{is_plane, graph_of}
 use Rattle.pipe_checks.specs.Checking.{IsNamed}
 use Rattle.pipe_checks.proofs.Places.{position_within}
 use Rattle.pipe_checks.proofs.Numbering.{ranking-recurs}
-use Rattle.pipe_checks.proofs.Accepted.{IsFuncKind, IsNameOf, IsSound, IsSoundBranch, AreFuncs, IsSoundItem, sound_item}
+use Rattle.pipe_checks.proofs.Accepted.{IsFuncKind, IsTableKind, IsNameOf, IsSound, IsSoundBranch, AreFuncs, IsSoundItem, sound_item}
 use Rattle.pipe_bounds.specs.InBounds.{IsInBounds}
 use Rattle.job.specs.Pipeline.{Stage, Output, Pipeline}
 use Rattle.job.specs.Reads.{other_formula, formulas_of}
@@ -44,6 +44,9 @@ use Rattle.job.specs.Boxes.{box_of, AreBoxed}
 use Rattle.job.specs.Answers.{grid_of, has_tiles, height_of, width_of}
 use Rattle.binding.specs.Binding.{Program, Variables, variables_of, stage_number, plane_number, formula_of, case_of, area_of}
 use Rattle.binding.specs.Binding.{plane_stage, names_in, item_stages, item_outputs, item_images, parameter_of, job_of, AreSmall}
+use Rattle.binding.specs.Binding.{item_tables, TablesFit, entries_named, AreSmallTables}
+use Rattle.tables.specs.Entries.{IsEntries}
+use Rattle.binding.proofs.TableLaws.{entries_named_by, entries_fit, tables_are}
 use Rattle.binding.specs.Fits.{PlanesFit, ExtentsFit, HasSides, IsShaped, ShapesFit, TilesFit}
 use Rattle.job.specs.WellFormed.{IsFormula, IsTest, IsFunction, InDomainRange}
 use Rattle.job.specs.WellFormed.{picture_area, IsBody, IsStage, IsOutputPlane, IsOutput, IsJob}
@@ -53,14 +56,14 @@ use Rattle.binding.proofs.NumberLaws.{stage_named}
 use Rattle.domains.proofs.Places.{all_at}
 use Rattle.binding.proofs.JudgedFormulas.{zero_fits, formula_is, tests_are}
 use Rattle.binding.proofs.StageLaws.{IsStageOf, IsAt, stage_at, stage_there, each_links}
-use Rattle.binding.proofs.JobsKeepLimits.{stages_counted}
+use Rattle.binding.proofs.JobsKeepLimits.{stages_counted, tables_given}
 use Rattle.binding.proofs.ReadLaws.{ranked}
 use Rattle.binding.proofs.BoundLaws.{ends_are, span_near, item_domain, domain_at, stage_reads}
 
 -- ---- the planes of a program
 
 abbrev keeps : Symbol → Bool
-keeps d = not (is_param d.kind)
+keeps d = is_stage d.kind
 
 abbrev planar : Symbol → Bool
 planar d = is_plane d.kind
@@ -75,6 +78,7 @@ planes_in_names n (Three x y z) = refl
 planes_in_item : (n : ℕ) (d : Declaration) → length (filter planar (filter keeps (item_names n d))) ≡ length (plane_names (item_images d))
 planes_in_item n (tree.param x) = refl
 planes_in_item n (tree.image i) = planes_in_names n i.names ∙ sym (ap (λ (xs : List (List ℕ)). length xs) (append-nil (names_in i.names)))
+planes_in_item n (tree.table t) = refl
 planes_in_item n (tree.function f) = refl
 planes_in_item n (tree.accumulator a) = refl
 planes_in_item n (tree.output o) = refl
@@ -132,6 +136,7 @@ tells_later p d ds o h = record { place = suc h.place; output = h.output; there 
 tells_here : (p : Program) (d : Declaration) (ds : List Declaration) → All (Tells p (d ∷ ds)) (item_outputs p d)
 tells_here p (tree.param x) ds = All-nil (Tells p (tree.param x ∷ ds))
 tells_here p (tree.image i) ds = All-nil (Tells p (tree.image i ∷ ds))
+tells_here p (tree.table t) ds = All-nil (Tells p (tree.table t ∷ ds))
 tells_here p (tree.function f) ds = All-nil (Tells p (tree.function f ∷ ds))
 tells_here p (tree.accumulator a) ds = All-nil (Tells p (tree.accumulator a ∷ ds))
 tells_here p (tree.output o) ds =
@@ -158,8 +163,9 @@ All-made_each P f step (x ∷ xs) = All-cons P (f x) (map f xs) (step x) (All-ma
 near_long : (s : Ends) → InDomainRange s → 1 ≤ len_of s
 near_long s h = let len = len_is s h.span in let ordered = h.span.ordered in omega (arith, ints)
 
-func_kept : (k : NameKind) → IsFuncKind k → not (is_param k) ≡ true
+func_kept : (k : NameKind) → IsFuncKind k → is_stage k ≡ true
 func_kept Param h = absurd h
+func_kept Table h = absurd h
 func_kept Plane h = absurd h
 func_kept Func h = refl
 func_kept Accum h = absurd h
@@ -177,7 +183,8 @@ all_funcs names (Three x y z) h =
 -- ---- the job
 
 module _ (ds : List Declaration) (named : IsNamed ds) (p : Program) (own : p.stages ≡ stages_of ds) (small : AreSmall p.settings)
-    (bounds : IsInBounds p.settings ds) where
+    (bounds : IsInBounds p.settings ds) (fit : TablesFit p.settings (flat_map item_tables ds) p.tables)
+    (numbers : AreSmallTables p.tables) where
   abbrev stages : List Stage
   stages = flat_map (item_stages p) ds
 
@@ -193,9 +200,13 @@ module _ (ds : List Declaration) (named : IsNamed ds) (p : Program) (own : p.sta
 
   -- ---- boxes and formulas
 
+  handed : (x : List ℕ) → IsNameOf IsTableKind (declared_names ds) x → IsEntries (entries_named p x)
+  handed x n = entries_fit p.tables x numbers (entries_named_by ds p.settings p.tables bounds.tables fit x n)
+
   boxed : (d : Declaration) (x : Symbol) (s : Stage) → IsStageOf p d x s → AreBoxed s.domain s.body
   boxed (tree.param y) x s is = absurd is
   boxed (tree.image i) x s is = subst (λ (t : Stage). AreBoxed t.domain t.body) (sym is.1) tt
+  boxed (tree.table t) x s is = absurd is
   boxed (tree.function f) x s is =
       let domain : Area = area_of p f.row f.column in
       subst (λ (t : Stage). AreBoxed t.domain t.body) (sym is.2)
@@ -207,20 +218,21 @@ module _ (ds : List Declaration) (named : IsNamed ds) (p : Program) (own : p.sta
       → All IsFormula (other_formula (option_map (formula_of p vars) o))
   other_is vars None sound = All-nil IsFormula
   other_is vars (Some a) sound =
-      All-cons IsFormula (formula_of p vars a) [] (formula_is p vars small (declared_names ds) a (sound a refl)) (All-nil IsFormula)
+      All-cons IsFormula (formula_of p vars a) [] (formula_is p vars small (declared_names ds) handed a (sound a refl)) (All-nil IsFormula)
 
   cases_are : (vars : Variables) (domain : Area) (bs : List Branch) → All (IsSoundBranch (declared_names ds)) bs
       → All IsFormula (map (λ q. q.formula) (map (case_of p vars domain) bs))
   cases_are vars domain [] sound = All-nil IsFormula
   cases_are vars domain (b ∷ bs) sound =
       All-cons IsFormula (formula_of p vars b.value) (map (λ q. q.formula) (map (case_of p vars domain) bs))
-      (formula_is p vars small (declared_names ds) b.value (All-head (IsSoundBranch (declared_names ds)) b bs sound).value)
+      (formula_is p vars small (declared_names ds) handed b.value (All-head (IsSoundBranch (declared_names ds)) b bs sound).value)
       (cases_are vars domain bs (All-tail (IsSoundBranch (declared_names ds)) b bs sound))
 
   formulas_are : (d : Declaration) (x : Symbol) (s : Stage) → IsStageOf p d x s → IsSoundItem (declared_names ds) d
       → All IsFormula (formulas_of s.body)
   formulas_are (tree.param y) x s is sound = absurd is
   formulas_are (tree.image i) x s is sound = subst (λ (t : Stage). All IsFormula (formulas_of t.body)) (sym is.1) (All-nil IsFormula)
+  formulas_are (tree.table t) x s is sound = absurd is
   formulas_are (tree.function f) x s is sound =
       let vars : Variables = variables_of f.row f.column in
       let domain : Area = area_of p f.row f.column in
@@ -232,8 +244,8 @@ module _ (ds : List Declaration) (named : IsNamed ds) (p : Program) (own : p.sta
       let vars : Variables = variables_of a.row a.column in
       subst (λ (t : Stage). All IsFormula (formulas_of t.body)) (sym is.2)
       (All-cons IsFormula (formula_of p vars a.value) (formula_of p vars a.bin ∷ [])
-      (formula_is p vars small (declared_names ds) a.value sound.0)
-      (All-cons IsFormula (formula_of p vars a.bin) [] (formula_is p vars small (declared_names ds) a.bin sound.1) (All-nil IsFormula)))
+      (formula_is p vars small (declared_names ds) handed a.value sound.0)
+      (All-cons IsFormula (formula_of p vars a.bin) [] (formula_is p vars small (declared_names ds) handed a.bin sound.1) (All-nil IsFormula)))
   formulas_are (tree.output o) x s is sound = absurd is
 
   -- ---- bodies
@@ -283,6 +295,7 @@ module _ (ds : List Declaration) (named : IsNamed ds) (p : Program) (own : p.sta
             subst (λ (t : Stage). IsBody picture t.domain t.body)
             (sym (is.1 ∙ ap (λ (q : Image). plane_stage p q x) (only_image ds i declared at.declared.item j there)))
             (plane_below x, plane_area x)
+        by (tree.table t) is there sound h = absurd is
         by (tree.function f) is there sound h =
             let vars : Variables = variables_of f.row f.column in
             let domain : Area = area_of p f.row f.column in
@@ -306,8 +319,8 @@ module _ (ds : List Declaration) (named : IsNamed ds) (p : Program) (own : p.sta
       if_true true n m h e = h
       if_true false n m h e = absurd (cc)
 
-      is_stage : (g : ℕ) (s : Stage) → slice_get stages g ≡ Some s → IsStage job s
-      is_stage g s there =
+      stage_is : (g : ℕ) (s : Stage) → slice_get stages g ≡ Some s → IsStage job s
+      stage_is g s there =
           let at = stage_at ds p g s there in
           let sound = sound_at g s at in
           let near = near_at g s there in
@@ -339,6 +352,7 @@ module _ (ds : List Declaration) (named : IsNamed ds) (p : Program) (own : p.sta
       function_body : (d : Declaration) (x : Symbol) (s : Stage) → IsStageOf p d x s → IsFuncKind x.kind → IsFunction s.body
       function_body (tree.param y) x s is k = absurd is
       function_body (tree.image j) x s is k = absurd (subst IsFuncKind is.0 k)
+      function_body (tree.table t) x s is k = absurd is
       function_body (tree.function f) x s is k = subst (λ (t : Stage). IsFunction t.body) (sym is.2) tt
       function_body (tree.accumulator a) x s is k = absurd (subst IsFuncKind is.0 k)
       function_body (tree.output o) x s is k = absurd is
@@ -421,10 +435,12 @@ module _ (ds : List Declaration) (named : IsNamed ds) (p : Program) (own : p.sta
 
       pub job_is : KeepsLimits ds → ShapesFit job → IsImage picture → IsSides sides → IsJob job
       job_is limits shapes image tile_sides = record {
-        stages = is_stage;
+        stages = stage_is;
         few_stages = omega (arith, stages_counted p ds, limits.few_stages);
         output = outputs_are shapes;
         params = values_fit p.settings (λ k s there. value_fits k s s.value there refl);
+        tables = tables_are ds p.settings p.tables bounds.tables fit numbers;
+        few_tables = omega (arith, tables_given p.settings ds p.tables fit, limits.few_tables);
         picture = image;
         sides = tile_sides;
       }

@@ -11,7 +11,7 @@ use Rattle.netpbm.specs.Image.{Image as Picture}
 use Rattle.pipe_tree.specs.declared.tree.Image.{Image}
 use Rattle.pipe_tree.specs.declared.tree.Names.{Names}
 use Rattle.pipe_tree.specs.declared.tree.Names.TheVariants.{One, Three}
-use Rattle.pipe_tree.specs.Sizes.{stages, params, cases, node_size, optional_size, names_size, item_size, size, KeepsLimits}
+use Rattle.pipe_tree.specs.Sizes.{stages, params, tables, cases, node_size, optional_size, names_size, item_size, size, KeepsLimits}
 use Rattle.pipe_tree.specs.Tree as tree
 use Rattle.pipe_tree.specs.Tree.{Node, Branch, Declaration}
 use Rattle.pipe_checks.specs.declared.symbol.Symbol.{Symbol}
@@ -19,8 +19,10 @@ use Rattle.pipe_bounds.specs.declared.params.Setting.{Setting}
 use Rattle.pipe_checks.specs.Names.{names_of, item_names, names_from, is_param, params_of, stages_of}
 use Rattle.job.specs.Pipeline.{Stage, Pipeline}
 use Rattle.binding.specs.Binding.{Program, variables_of, area_of, case_of, function_stage, plane_stage, names_in, item_stages}
-use Rattle.binding.specs.Binding.{settings_for, parameter_of, IsJobOf}
+use Rattle.binding.specs.Binding.{settings_for, parameter_of, item_tables, IsTableFit, TablesFit, IsJobOf}
+use Rattle.std.proofs.lemmas.Slice.Zip.{AllZip-long}
 use Rattle.job.specs.WellFormed.{case_count, IsSmall}
+use Rattle.tables.specs.declared.table.Table.{Table}
 use Rattle.domains.proofs.Places.{all_at}
 use Rattle.binding.proofs.StageLaws.{IsStageOf, stage_at}
 
@@ -30,6 +32,7 @@ no_node : (a : Node) → node_size 0 a ≡ 0
 no_node (tree.number n) = refl
 no_node (tree.variable x) = refl
 no_node (tree.read x i j) = refl
+no_node (tree.lookup x a) = omega (arith, no_node a)
 no_node (tree.neg a) = omega (arith, no_node a)
 no_node (tree.binary op a b) = omega (arith, no_node a, no_node b)
 no_node (tree.literal op a n) = omega (arith, no_node a)
@@ -71,6 +74,7 @@ planes_counted p i (Three x y z) = refl
 stages_in_item : (p : Program) (d : Declaration) → length (item_stages p d) ≡ item_size stages d
 stages_in_item p (tree.param x) = refl
 stages_in_item p (tree.image i) = planes_counted p (plane_stage p i) i.names
+stages_in_item p (tree.table t) = refl
 stages_in_item p (tree.function f) = omega (arith, cases_weigh 0 f.cases, none_weigh f.cases, no_option f.otherwise)
 stages_in_item p (tree.accumulator a) = omega (arith, no_node a.value, no_node a.bin)
 stages_in_item p (tree.output o) = refl
@@ -86,6 +90,36 @@ stages_counted p (d ∷ ds) =
       stages_counted p ds,
     )
 
+-- ---- tables
+
+tables_in_item : (d : Declaration) → length (item_tables d) ≡ item_size tables d
+tables_in_item (tree.param x) = refl
+tables_in_item (tree.image i) = no_planes i.names
+  where
+    no_planes : (ns : Names) → 0 ≡ names_size 0 ns
+    no_planes (One x) = refl
+    no_planes (Three x y z) = refl
+tables_in_item (tree.table t) = refl
+tables_in_item (tree.function f) = omega (arith, cases_weigh 0 f.cases, none_weigh f.cases, no_option f.otherwise)
+tables_in_item (tree.accumulator a) = omega (arith, no_node a.value, no_node a.bin)
+tables_in_item (tree.output o) = refl
+
+tables_counted : (ds : List Declaration) → length (flat_map item_tables ds) ≡ size tables ds
+tables_counted [] = refl
+tables_counted (d ∷ ds) =
+    omega (
+      arith,
+      length-append (item_tables d) (flat_map item_tables ds),
+      sum_by-cons (item_size tables) d ds,
+      tables_in_item d,
+      tables_counted ds,
+    )
+
+-- as many are given as are declared
+pub tables_given : (ss : List Setting) (ds : List Declaration) (given : List Table) → TablesFit ss (flat_map item_tables ds) given
+    → length given ≡ size tables ds
+tables_given ss ds given fit = AllZip-long (IsTableFit ss) (flat_map item_tables ds) given fit ∙ tables_counted ds
+
 -- ---- parameters
 
 abbrev is_a_param : Symbol → Bool
@@ -98,6 +132,7 @@ no_params n (Three x y z) = refl
 params_in_item : (n : ℕ) (d : Declaration) → length (filter is_a_param (item_names n d)) ≡ item_size params d
 params_in_item n (tree.param x) = refl
 params_in_item n (tree.image i) = no_params n i.names
+params_in_item n (tree.table t) = refl
 params_in_item n (tree.function f) = omega (arith, cases_weigh 0 f.cases, none_weigh f.cases, no_option f.otherwise)
 params_in_item n (tree.accumulator a) = omega (arith, no_node a.value, no_node a.bin)
 params_in_item n (tree.output o) = refl
@@ -122,6 +157,7 @@ FewCases s = case_count s.body ≤ 16
 few_cases : (p : Program) (d : Declaration) (x : Symbol) (s : Stage) → IsStageOf p d x s → item_size cases d ≤ 16 → FewCases s
 few_cases p (tree.param y) x s is few = absurd is
 few_cases p (tree.image i) x s is few = subst FewCases (sym is.1) (omega arith)
+few_cases p (tree.table t) x s is few = absurd is
 few_cases p (tree.function f) x s is few =
     let count : case_count (function_stage p f).body ≡ length f.cases =
     length-map f.cases (case_of p (variables_of f.row f.column) (area_of p f.row f.column)) in
@@ -141,10 +177,11 @@ few_settings items i picture given named =
     ∙ length-map (params_of items) (λ (d : Symbol). d.name)
     ∙ params_counted 0 items
 
-pub small_job : (items : List Declaration) (given : List Setting) (picture : Picture) (sides : Sides) (job : Pipeline) → KeepsLimits items
-    → IsJobOf items given picture sides job → IsSmall job
-small_job items given picture sides job limits h =
-    let p : Program = record { stages = stages_of items; ranks = h.ranks; settings = settings_for h.image picture given } in
+pub small_job : (items : List Declaration) (given : List Setting) (handed : List Table) (picture : Picture) (sides : Sides) (job : Pipeline) → KeepsLimits items
+    → IsJobOf items given handed picture sides job → IsSmall job
+small_job items given handed picture sides job limits h =
+    let p : Program =
+    record { stages = stages_of items; ranks = h.ranks; settings = settings_for h.image picture given; tables = handed } in
     subst IsSmall (sym h.is) (record {
       few_stages = omega (arith, stages_counted p items, limits.few_stages);
       few_params = omega (arith, few_settings items h.image picture given h.params, limits.few_params);

@@ -15,10 +15,11 @@ use Rattle.pipe_checks.specs.declared.symbol.Symbol.{Symbol}
 use Rattle.pipe_bounds.specs.declared.params.Setting.{Setting}
 use Rattle.pipe_bounds.specs.Settings.{place_in, value_at, value_in, param_value}
 use Rattle.pipe_checks.specs.Accesses.{width_of}
-use Rattle.pipe_checks.proofs.Accepted.{IsWithin, IsSoundKernel, IsSoundLiteral, IsSound, IsSoundTest}
+use Rattle.pipe_checks.proofs.Accepted.{IsWithin, IsTableKind, IsNameOf, IsSoundKernel, IsSoundLiteral, IsSound, IsSoundTest}
+use Rattle.tables.specs.Entries.{IsEntries}
 use Rattle.job.specs.Formula.{row, column, number, coordinate}
 use Rattle.job.specs.Values.{factors}
-use Rattle.binding.specs.Binding.{Program, Variables, name_formula, formula_of, test_of, AreSmall}
+use Rattle.binding.specs.Binding.{Program, Variables, entries_named, name_formula, formula_of, test_of, AreSmall}
 use Rattle.pipe_bounds.proofs.Sounding.{index_is}
 use Rattle.job.specs.WellFormed.{IsDivisor, IsLiteral, IsKernelSide, IsKernel, IsFormula, IsTest}
 use Rattle.job.proofs.Fitting.{from_bounds}
@@ -82,18 +83,21 @@ module _ (p : Program) (vars : Variables) where
       by false true = tt
       by false false = param_fits p.settings small x
 
-  pub formula_is : AreSmall p.settings → (names : List Symbol) (a : Node) → IsSound names a → IsFormula (formula_of p vars a)
-  formula_is small names (tree.number n) h = number_fits n h
-  formula_is small names (tree.variable x) h = name_is small x
-  formula_is small names (tree.read x i j) h = (index_is i h.1, index_is j h.2)
-  formula_is small names (tree.neg a) h = formula_is small names a h
-  formula_is small names (tree.binary op a b) h = (formula_is small names a h.0, formula_is small names b h.1)
-  formula_is small names (tree.literal op a n) h = (literal_is op n h.1, formula_is small names a h.0)
-  formula_is small names (tree.abs a) h = formula_is small names a h
-  formula_is small names (tree.clamp a b c) h = (formula_is small names a h.0, formula_is small names b h.1, formula_is small names c h.2)
-  formula_is small names (tree.select a relation b c d) h =
-      (formula_is small names a h.0, formula_is small names b h.1, formula_is small names c h.2, formula_is small names d h.3)
-  formula_is small names (tree.stencil x d k) h = (divisor_is d h.1, kernel_is k h.2)
+  module _ (small : AreSmall p.settings) (names : List Symbol)
+      (handed : (x : List ℕ) → IsNameOf IsTableKind names x → IsEntries (entries_named p x)) where
+    pub formula_is : (a : Node) → IsSound names a → IsFormula (formula_of p vars a)
+    formula_is (tree.number n) h = number_fits n h
+    formula_is (tree.variable x) h = name_is small x
+    formula_is (tree.read x i j) h = (index_is i h.1, index_is j h.2)
+    formula_is (tree.lookup x a) h = (handed x h.0, formula_is a h.1)
+    formula_is (tree.neg a) h = formula_is a h
+    formula_is (tree.binary op a b) h = (formula_is a h.0, formula_is b h.1)
+    formula_is (tree.literal op a n) h = (literal_is op n h.1, formula_is a h.0)
+    formula_is (tree.abs a) h = formula_is a h
+    formula_is (tree.clamp a b c) h = (formula_is a h.0, formula_is b h.1, formula_is c h.2)
+    formula_is (tree.select a relation b c d) h =
+        (formula_is a h.0, formula_is b h.1, formula_is c h.2, formula_is d h.3)
+    formula_is (tree.stencil x d k) h = (divisor_is d h.1, kernel_is k h.2)
 
   test_is : (t : Test) → IsSoundTest t → IsTest (test_of p vars t)
   test_is (Compare x relation bound) h = tt

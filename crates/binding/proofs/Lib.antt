@@ -1,6 +1,8 @@
 pub mod NumberLaws
 pub mod JudgedFormulas
 pub mod StageLaws
+pub mod TableLaws
+pub mod MisfitLaws
 pub mod ReadLaws
 pub mod BoundLaws
 pub mod JobLaws

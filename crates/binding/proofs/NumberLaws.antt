@@ -1,7 +1,6 @@
 -- The numbers of names, in lists where no name stands twice.
 use Rattle.std.proofs.Common.{ℕ, zero, suc, arith, ◌+◌, ◌<◌, ◌≡◌, inl, Bool, true, false, cond, List, [], ◌∷◌, length, Option}
 use Rattle.std.proofs.Common.{Some, None, is_some, position, filter, take, slice_get, get_or, subst, ap, sym, ◌∙◌, refl}
-use Rattle.std.specs.Prelude.{All, not}
 use Rattle.std.specs.List.{position_from, find, AllPairs}
 use Rattle.std.specs.Str.{bytes_eq}
 use Rattle.std.proofs.lemmas.Bool.{false≢true}
@@ -9,13 +8,9 @@ use Rattle.std.proofs.lemmas.Option.{slice_get_within, slice_get-get_or, get_or_
 use Rattle.std.proofs.lemmas.List.Kept.{AllPairs-filter}
 use Rattle.std.proofs.lemmas.Iterator.Adapters.{position_from-zero}
 use Rattle.std.proofs.lemmas.Slice.Eq.{bytes_eq-Decides}
-use Rattle.std.proofs.lemmas.List.Elements.{All-nil, All-append, All-weaker, All-from_recursion}
-use Rattle.pipe_tree.specs.declared.tree.Names.{Names}
-use Rattle.pipe_tree.specs.declared.tree.Names.TheVariants.{One, Three}
-use Rattle.pipe_tree.specs.Tree as tree
 use Rattle.pipe_tree.specs.Tree.{Declaration}
 use Rattle.pipe_checks.specs.declared.symbol.Symbol.{Symbol}
-use Rattle.pipe_checks.specs.Names.{names_of, item_names, names_from, is_param, declared_names, stages_of, number_of, place_of, declared_at}
+use Rattle.pipe_checks.specs.Names.{is_stage, declared_names, stages_of, number_of, place_of, declared_at}
 use Rattle.pipe_checks.specs.Checking.{NoneTwice}
 use Rattle.domains.proofs.Places.{all_at}
 use Rattle.pipe_checks.proofs.Declaring.{Comes, names_come}
@@ -139,7 +134,7 @@ module _ (ds : List Declaration) (once : NoneTwice (declared_names ds) ds) where
       is_false _ (not_again i j (get_or (declared_names ds) j d) (get_or (declared_names ds) i d) l first later)
 
   stages_apart : AllPairs AreApart (stages_of ds)
-  stages_apart = AllPairs-filter AreApart (λ d. not (is_param d.kind)) (declared_names ds) names_apart
+  stages_apart = AllPairs-filter AreApart (λ d. is_stage d.kind) (declared_names ds) names_apart
 
   -- the number of a stage's name is its place
   pub number_at : (g : ℕ) (x : Symbol) → slice_get (stages_of ds) g ≡ Some x → number_of (stages_of ds) x.name ≡ Some g
@@ -149,7 +144,7 @@ module _ (ds : List Declaration) (once : NoneTwice (declared_names ds) ds) where
       (subst (λ (z : Symbol). bytes_eq z.name (get_or (stages_of ds) g x).name ≡ false) (get_or_from_slice_get (stages_of ds) k y x at)
       (stages_apart k g x l (slice_get_within (stages_of ds) g x there))))
 
-declared_found : (names : List Symbol) (x : List ℕ) (d : Symbol) → declared_at names x ≡ Some d
+pub declared_found : (names : List Symbol) (x : List ℕ) (d : Symbol) → declared_at names x ≡ Some d
     → find (λ e. bytes_eq e.name x) names ≡ Some d
 declared_found names x d = by (number_of names x) refl
   where
@@ -159,10 +154,10 @@ declared_found names x d = by (number_of names x) refl
 
 -- a name that is declared as a stage is the name of this stage
 pub stage_named : (ds : List Declaration) (x : List ℕ) (d : Symbol) → declared_at (declared_names ds) x ≡ Some d
-    → not (is_param d.kind) ≡ true → (h : ℕ) × (number_of (stages_of ds) x ≡ Some h) × (slice_get (stages_of ds) h ≡ Some d)
+    → is_stage d.kind ≡ true → (h : ℕ) × (number_of (stages_of ds) x ≡ Some h) × (slice_get (stages_of ds) h ≡ Some d)
 stage_named ds x d there kept =
     let first : find (λ e. bytes_eq e.name x) (stages_of ds) ≡ Some d =
-    find-filter (λ e. bytes_eq e.name x) (λ e. not (is_param e.kind)) (declared_names ds) d
+    find-filter (λ e. bytes_eq e.name x) (λ e. is_stage e.kind) (declared_names ds) d
     (declared_found (declared_names ds) x d there) kept in
     let place = find_place (λ e. bytes_eq e.name x) (stages_of ds) d first in
     let r = found (λ e. bytes_eq e.name x) (stages_of ds) place.0 place.1 in

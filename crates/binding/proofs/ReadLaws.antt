@@ -1,7 +1,7 @@
 -- What a stage reads is what its item reads: the same stages, and in bounds.
 use Rattle.std.proofs.Common.{ℕ, ◌+◌, ◌≡◌, Bool, true, false, cond, List, [], ◌∷◌, ◌++◌, length, Option, Some, None, map}
 use Rattle.std.proofs.Common.{slice_get, subst, ap, sym, ◌∙◌, refl}
-use Rattle.std.specs.Prelude.{All, not, slice_index, unwrap_or, if◌then◌else◌}
+use Rattle.std.specs.Prelude.{All, slice_index, unwrap_or, if◌then◌else◌}
 use Rattle.std.specs.List.{flat_map, AllZip}
 use Rattle.std.specs.Option.{option_map, ForSome}
 use Rattle.std.specs.Str.{bytes_eq}
@@ -12,13 +12,13 @@ use Rattle.pipe_tree.specs.Tree as tree
 use Rattle.pipe_tree.specs.Tree.{Node, Branch, Declaration}
 use Rattle.pipe_checks.specs.declared.symbol.Symbol.{Symbol}
 use Rattle.pipe_checks.specs.declared.symbol.NameKind.{NameKind}
-use Rattle.pipe_checks.specs.declared.symbol.NameKind.TheVariants.{Param, Plane, Func, Accum}
+use Rattle.pipe_checks.specs.declared.symbol.NameKind.TheVariants.{Param, Table, Plane, Func, Accum}
 use Rattle.pipe_checks.specs.declared.access.Access.{Access}
 use Rattle.pipe_checks.specs.declared.access.Access.TheVariants as access
 use Rattle.pipe_checks.specs.Graph.{links_at}
 use Rattle.domains.specs.Greatest.{greatest}
 use Rattle.pipe_checks.specs.inside.Search.{rank_over}
-use Rattle.pipe_checks.specs.Names.{is_param, declared_names, stages_of, number_of}
+use Rattle.pipe_checks.specs.Names.{is_stage, declared_names, stages_of, number_of}
 use Rattle.pipe_checks.specs.Accesses as accesses
 use Rattle.pipe_checks.specs.Accesses.{width_of, read_at, stencil_at, accesses_of, branch_accesses, otherwise_accesses}
 use Rattle.pipe_checks.specs.Accesses.{item_accesses, is_plane, links_of, graph_of}
@@ -55,8 +55,9 @@ same_stage ds (point g i j) (access.Stencil h m n) s = absurd s
 same_stage ds (window g kernel) (access.Read h k l) s = absurd s
 same_stage ds (window g kernel) (access.Stencil h m n) s = s.0
 
-kept : (k : NameKind) → IsReadableKind k → not (is_param k) ≡ true
+kept : (k : NameKind) → IsReadableKind k → is_stage k ≡ true
 kept Param h = absurd h
+kept Table h = absurd h
 kept Plane h = refl
 kept Func h = refl
 kept Accum h = absurd h
@@ -92,6 +93,7 @@ module _ (ds : List Declaration) (p : Program) (own : p.stages ≡ stages_of ds)
       let r = named x h.0 in
       subst (λ (o : Option ℕ). AreSame (point (stage_number p x) (scale_of i) (scale_of j) ∷ []) (read_at o i j)) (sym r.1)
       ((r.2, refl, refl, r.3), tt)
+  reads_same vars (tree.lookup x a) h = reads_same vars a h.1
   reads_same vars (tree.neg a) h = reads_same vars a h
   reads_same vars (tree.binary op a b) h =
       both (reads_in (formula_of p vars a)) (reads_in (formula_of p vars b)) (accesses_of (stages_of ds) a) (accesses_of (stages_of ds) b)
@@ -140,6 +142,7 @@ module _ (ds : List Declaration) (p : Program) (own : p.stages ≡ stages_of ds)
       → AreSame (reads_of s.body) (item_accesses (stages_of ds) d)
   body_same (tree.param y) x s is h = absurd is
   body_same (tree.image i) x s is h = subst (λ (t : Stage). AreSame (reads_of t.body) []) (sym is.1) tt
+  body_same (tree.table t) x s is h = absurd is
   body_same (tree.function f) x s is h =
       let own_names : Variables = variables_of f.row f.column in
       subst (λ (t : Stage). AreSame (reads_of t.body) (item_accesses (stages_of ds) (tree.function f))) (sym is.2)
@@ -188,6 +191,7 @@ module _ (ds : List Declaration) (p : Program) (own : p.stages ≡ stages_of ds)
     rank_is (tree.image i) x s is h there =
         ap (λ b. cond b 0 (greatest (map (slice_index p.ranks) (links_of ds (stages_of ds) x).reads) + 1)) (ap is_plane is.0)
         ∙ ap (λ (t : Stage). rank_by (flat_map (item_stages p) ds) t.body) (sym is.1)
+    rank_is (tree.table t) x s is h there = absurd is
     rank_is (tree.function f) x s is h there =
         over_is x.kind (slice_get ds x.item) (tree.function f) (ap is_plane is.0) there
         ∙ ap (λ (ns : List ℕ). greatest ns + 1)

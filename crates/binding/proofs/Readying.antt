@@ -1,7 +1,7 @@
 -- The items of a checked program that is in bounds have numbers in range, and what was found of their stages stands under their names.
 use Rattle.std.proofs.Common.{ℕ, zero, suc, Bool, arith, ◌+◌, ◌≡◌, List, [], ◌∷◌, ◌++◌, length, Option, Some, filter, map}
 use Rattle.std.proofs.Common.{slice_get, subst, ap, sym, ◌∙◌, refl}
-use Rattle.std.specs.Prelude.{All, IfSome, not, slice_index_or, unwrap_or}
+use Rattle.std.specs.Prelude.{All, IfSome, slice_index_or, unwrap_or}
 use Rattle.std.specs.Option.{option_map}
 use Rattle.std.proofs.lemmas.List.{length-map}
 use Rattle.std.proofs.lemmas.Option.{none-some, same_Some, slice_get_within, slice_get-get_or, slice_get-map}
@@ -14,15 +14,19 @@ use Rattle.pipe_tree.specs.declared.tree.Names.TheVariants.{One, Three}
 use Rattle.pipe_tree.specs.Tree as tree
 use Rattle.pipe_tree.specs.Tree.{Node, Branch, Function, Accumulator, Declaration}
 use Rattle.pipe_checks.specs.declared.symbol.Symbol.{Symbol}
-use Rattle.pipe_checks.specs.Names.{names_of, item_names, names_from, is_param, declared_names, stages_of, number_of}
+use Rattle.pipe_checks.specs.Names.{names_of, item_names, names_from, is_stage, declared_names, stages_of, number_of}
 use Rattle.pipe_checks.specs.Checking.{IsNamed}
-use Rattle.pipe_checks.proofs.Accepted.{IsSound, IsSoundBranch, IsSoundItem, sound_item}
+use Rattle.pipe_checks.proofs.Accepted.{IsTableKind, IsNameOf, IsSound, IsSoundBranch, IsSoundItem, sound_item}
 use Rattle.pipe_bounds.specs.StageBounds.{StageBounds, AreBoxes, IsBoundsOf, AreBoundsOf}
 use Rattle.pipe_bounds.proofs.BoundFaultsAreDetermined.{same_list}
 use Rattle.pipe_bounds.proofs.Sounding.{index_is}
 use Rattle.pipe_bounds.proofs.Stages.{some_within}
-use Rattle.binding.specs.Binding.{Program, Variables, variables_of, stage_number, names_in}
-use Rattle.binding.specs.inside.Ranges.{IsRanged, IsRangedBranch, IsRangedItem, HasBounds, box_in, IsPlaneBounds}
+use Rattle.binding.specs.Binding.{Program, Variables, variables_of, stage_number, item_tables, TablesFit, names_in}
+use Rattle.tables.specs.declared.table.Table.{Table}
+use Rattle.pipe_bounds.specs.InBounds.{IsInBounds}
+use Rattle.std.specs.List.{flat_map}
+use Rattle.binding.proofs.TableLaws.{entries_named_by}
+use Rattle.binding.specs.inside.Ranges.{HasEntries, IsRanged, IsRangedBranch, IsRangedItem, HasBounds, box_in, IsPlaneBounds}
 use Rattle.binding.specs.inside.Ranges.{IsFunctionBounds, IsAccumulatorBounds, HavePlanes, IsBoundItem, AreReady}
 use Rattle.binding.proofs.BoundLaws.{ends_are, sides_are, area_is, span_near}
 use Rattle.binding.proofs.Boxing.{part_is}
@@ -30,40 +34,47 @@ use Rattle.binding.proofs.NumberLaws.{number_at}
 
 -- ---- numbers
 
-ranged : (names : List Symbol) (a : Node) → IsSound names a → IsRanged a
-ranged names (tree.number n) h = omega arith
-ranged names (tree.variable x) h = tt
-ranged names (tree.read x i j) h = (index_is i h.1, index_is j h.2)
-ranged names (tree.neg a) h = ranged names a h
-ranged names (tree.binary op a b) h = (ranged names a h.0, ranged names b h.1)
-ranged names (tree.literal op a n) h = ranged names a h.0
-ranged names (tree.abs a) h = ranged names a h
-ranged names (tree.clamp a b c) h = (ranged names a h.0, ranged names b h.1, ranged names c h.2)
-ranged names (tree.select a r b c d) h = (ranged names a h.0, ranged names b h.1, ranged names c h.2, ranged names d h.3)
-ranged names (tree.stencil x d k) h = tt
+module _ (ds : List Declaration) (given : List Table) (handed : (x : List ℕ) → IsNameOf IsTableKind (declared_names ds) x → HasEntries given x) where
+  abbrev names : List Symbol
+  names = declared_names ds
 
-ranged_item : (names : List Symbol) (d : Declaration) → IsSoundItem names d → IsRangedItem d
-ranged_item names (tree.param p) h = tt
-ranged_item names (tree.image i) h = tt
-ranged_item names (tree.function f) h =
-    (All-weaker (IsSoundBranch names) IsRangedBranch (λ b s. ranged names b.value s.value) f.cases h.0, (λ a is. ranged names a (h.1 a is)))
-ranged_item names (tree.accumulator a) h = (ranged names a.value h.0, ranged names a.bin h.1)
-ranged_item names (tree.output o) h = tt
+  ranged : (a : Node) → IsSound names a → IsRanged given a
+  ranged (tree.number n) h = omega arith
+  ranged (tree.variable x) h = tt
+  ranged (tree.read x i j) h = (index_is i h.1, index_is j h.2)
+  ranged (tree.lookup x a) h = (handed x h.0, ranged a h.1)
+  ranged (tree.neg a) h = ranged a h
+  ranged (tree.binary op a b) h = (ranged a h.0, ranged b h.1)
+  ranged (tree.literal op a n) h = ranged a h.0
+  ranged (tree.abs a) h = ranged a h
+  ranged (tree.clamp a b c) h = (ranged a h.0, ranged b h.1, ranged c h.2)
+  ranged (tree.select a r b c d) h = (ranged a h.0, ranged b h.1, ranged c h.2, ranged d h.3)
+  ranged (tree.stencil x d k) h = tt
 
-ranged_items : (ds : List Declaration) → IsNamed ds → All IsRangedItem ds
-ranged_items ds named = λ k d l.
-    let x = slice_index_or ds k d in
-    ranged_item (declared_names ds) x (sound_item (declared_names ds) x (named.good k x (slice_get-get_or ds k d l)))
+  ranged_item : (d : Declaration) → IsSoundItem names d → IsRangedItem given d
+  ranged_item (tree.param p) h = tt
+  ranged_item (tree.image i) h = tt
+  ranged_item (tree.table t) h = tt
+  ranged_item (tree.function f) h =
+      (All-weaker (IsSoundBranch names) (IsRangedBranch given) (λ b s. ranged b.value s.value) f.cases h.0, (λ a is. ranged a (h.1 a is)))
+  ranged_item (tree.accumulator a) h = (ranged a.value h.0, ranged a.bin h.1)
+  ranged_item (tree.output o) h = tt
+
+  ranged_items : IsNamed ds → All (IsRangedItem given) ds
+  ranged_items named = λ k d l.
+      let x = slice_index_or ds k d in
+      ranged_item x (sound_item names x (named.good k x (slice_get-get_or ds k d l)))
 
 -- ---- what was found of a stage stands under its name
 
 abbrev keeps : Symbol → Bool
-keeps d = not (is_param d.kind)
+keeps d = is_stage d.kind
 
 -- the names of the stages that an item declares
 abbrev stage_names : Declaration → List (List ℕ)
 stage_names (tree.param p) = []
 stage_names (tree.image i) = names_in i.names
+stage_names (tree.table t) = []
 stage_names (tree.function f) = f.name ∷ []
 stage_names (tree.accumulator a) = a.name ∷ []
 stage_names (tree.output o) = []
@@ -92,6 +103,7 @@ item_first : (n : ℕ) (d : Declaration) (others : List Symbol) (j : ℕ) (x : L
     → IsFirst n (item_names n d ++ others) j x
 item_first n (tree.param p) others j x e = absurd (none-some x e)
 item_first n (tree.image i) others j x e = planes_first n i.names others j x e
+item_first n (tree.table t) others j x e = absurd (none-some x e)
 item_first n (tree.function f) others zero x e = (_, refl, refl, same_Some f.name x e)
 item_first n (tree.function f) others (suc j) x e = absurd (none-some x e)
 item_first n (tree.accumulator a) others zero x e = (_, refl, refl, same_Some a.name x e)
@@ -160,7 +172,8 @@ module _ (p : Program) where
   }
 
 module _ (ds : List Declaration) (p : Program) (own : p.stages ≡ stages_of ds) (named : IsNamed ds) (found : List StageBounds)
-    (all : AreBoundsOf p.settings ds (stages_of ds) found) where
+    (all : AreBoundsOf p.settings ds (stages_of ds) found) (bounds : IsInBounds p.settings ds)
+    (fit : TablesFit p.settings (flat_map item_tables ds) p.tables) where
   place_of : (r : ℕ) (s : Symbol) (x : List ℕ) → slice_get (stages_of ds) r ≡ Some s → s.name ≡ x → stage_number p x ≡ r
   place_of r s x there name =
       ap (λ (xs : List Symbol). unwrap_or (number_of xs x) 0) own
@@ -197,6 +210,7 @@ module _ (ds : List Declaration) (p : Program) (own : p.stages ≡ stages_of ds)
   bound_item : (k : ℕ) (d : Declaration) → slice_get ds k ≡ Some d → IsBoundItem p found d
   bound_item k (tree.param x) there = tt
   bound_item k (tree.image i) there = planes_of k i i.names there refl
+  bound_item k (tree.table t) there = tt
   bound_item k (tree.function f) there = bounds_of (IsFunctionBounds p f) k (tree.function f) 0 f.name there refl (function_bounds p f)
   bound_item k (tree.accumulator a) there =
       bounds_of (IsAccumulatorBounds p a) k (tree.accumulator a) 0 a.name there refl (accumulator_bounds p a)
@@ -204,6 +218,6 @@ module _ (ds : List Declaration) (p : Program) (own : p.stages ≡ stages_of ds)
 
   pub ready : AreReady p found ds
   ready = record {
-    ranged = ranged_items ds named;
+    ranged = ranged_items ds p.tables (entries_named_by ds p.settings p.tables bounds.tables fit) named;
     bound = λ k d l. bound_item k (slice_index_or ds k d) (slice_get-get_or ds k d l);
   }

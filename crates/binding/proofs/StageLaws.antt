@@ -1,7 +1,7 @@
 -- The stages of a job, one for each that the program declares, and their ranks.
 use Rattle.std.proofs.Common.{ℕ, zero, suc, arith, ◌+◌, ◌<◌, ◌≤◌, ◌≡◌, ◌⊎◌, inl, inr, List, [], ◌∷◌, ◌++◌, length, Option, Some}
 use Rattle.std.proofs.Common.{None, filter, map, slice_get, get_or, subst, ap, sym, ◌∙◌, refl}
-use Rattle.std.specs.Prelude.{not, slice_index, unwrap_or}
+use Rattle.std.specs.Prelude.{slice_index, unwrap_or}
 use Rattle.std.specs.List.{flat_map, AllZip}
 use Rattle.std.specs.Option.{option_map, option_map_or}
 use Rattle.std.proofs.lemmas.Option.{slice_get_cases, get_or_from_slice_get, slice_get-map, same_Some, none-some}
@@ -16,7 +16,7 @@ use Rattle.pipe_tree.specs.Tree.{Declaration}
 use Rattle.pipe_checks.specs.declared.symbol.Symbol.{Symbol}
 use Rattle.pipe_checks.specs.declared.symbol.NameKind.TheVariants.{Plane, Func, Accum}
 use Rattle.pipe_checks.specs.Graph.{links_at}
-use Rattle.pipe_checks.specs.Names.{names_of, item_names, names_from, is_param, declared_names, stages_of, number_of}
+use Rattle.pipe_checks.specs.Names.{names_of, item_names, names_from, is_stage, declared_names, stages_of, number_of}
 use Rattle.pipe_checks.specs.Accesses.{links_of, graph_of}
 use Rattle.pipe_checks.specs.Checking.{NoneTwice}
 use Rattle.job.specs.Pipeline.{Stage, rank_of}
@@ -39,14 +39,14 @@ module _ {X Y : Type 0} (R : X → Y → Type 0) where
   zip_left (u ∷ xs) (v ∷ ys) zero x h there = (v, refl, subst (λ (z : X). R z v) (same_Some u x there) h.0)
   zip_left (u ∷ xs) (v ∷ ys) (suc g) x h there = zip_left xs ys g x h.1 there
 
-  zip_right : (xs : List X) (ys : List Y) (g : ℕ) (y : Y) → AllZip R xs ys → slice_get ys g ≡ Some y
+  pub zip_right : (xs : List X) (ys : List Y) (g : ℕ) (y : Y) → AllZip R xs ys → slice_get ys g ≡ Some y
       → (x : X) × (slice_get xs g ≡ Some x) × R x y
   zip_right xs [] g y h there = absurd (none-some y there)
   zip_right [] (v ∷ ys) g y h there = absurd h
   zip_right (u ∷ xs) (v ∷ ys) zero y h there = (u, refl, subst (R u) (same_Some v y there) h.0)
   zip_right (u ∷ xs) (v ∷ ys) (suc g) y h there = zip_right xs ys g y h.1 there
 
-zip_weaker : {X Y : Type 0} (R Q : X → Y → Type 0) → ((x : X) (y : Y) → R x y → Q x y) → (xs : List X) (ys : List Y) → AllZip R xs ys
+pub zip_weaker : {X Y : Type 0} (R Q : X → Y → Type 0) → ((x : X) (y : Y) → R x y → Q x y) → (xs : List X) (ys : List Y) → AllZip R xs ys
     → AllZip Q xs ys
 zip_weaker R Q f [] [] h = tt
 zip_weaker R Q f [] (y ∷ ys) h = absurd h
@@ -58,6 +58,7 @@ zip_weaker R Q f (x ∷ xs) (y ∷ ys) h = (f x y h.0, zip_weaker R Q f xs ys h.
 abbrev pub IsStageOf : Program → Declaration → Symbol → Stage → Type 0
 IsStageOf p (tree.param y) x s = ⊥
 IsStageOf p (tree.image i) x s = (x.kind ≡ Plane) × (s ≡ plane_stage p i x.name)
+IsStageOf p (tree.table t) x s = ⊥
 IsStageOf p (tree.function f) x s = (x.kind ≡ Func) × (x.name ≡ f.name) × (s ≡ function_stage p f)
 IsStageOf p (tree.accumulator a) x s = (x.kind ≡ Accum) × (x.name ≡ a.name) × (s ≡ accumulator_stage p a)
 IsStageOf p (tree.output o) x s = ⊥
@@ -80,7 +81,7 @@ module _ (p : Program) where
   made_here n d ds s x e is = record { place = 0; number = e ∙ omega arith; item = d; there = refl; is = is }
 
   made_planes : (n : ℕ) (i : Image) (ds : List Declaration) (ns : Names)
-      → AllZip (IsMade p n (tree.image i ∷ ds)) (map (plane_stage p i) (names_in ns)) (filter (λ d. not (is_param d.kind)) (names_of n ns))
+      → AllZip (IsMade p n (tree.image i ∷ ds)) (map (plane_stage p i) (names_in ns)) (filter (λ d. is_stage d.kind) (names_of n ns))
   made_planes n i ds (One x) = (made_here n (tree.image i) ds _ _ refl (refl, refl), tt)
   made_planes n i ds (Three x y z) = (
     made_here n (tree.image i) ds _ _ refl (refl, refl),
@@ -88,28 +89,30 @@ module _ (p : Program) where
   )
 
   made_item : (n : ℕ) (d : Declaration) (ds : List Declaration)
-      → AllZip (IsMade p n (d ∷ ds)) (item_stages p d) (filter (λ d. not (is_param d.kind)) (item_names n d))
+      → AllZip (IsMade p n (d ∷ ds)) (item_stages p d) (filter (λ d. is_stage d.kind) (item_names n d))
   made_item n (tree.param x) ds = tt
   made_item n (tree.image i) ds = made_planes n i ds i.names
+  made_item n (tree.table t) ds = tt
   made_item n (tree.function f) ds = (made_here n (tree.function f) ds _ _ refl (refl, refl, refl), tt)
   made_item n (tree.accumulator a) ds = (made_here n (tree.accumulator a) ds _ _ refl (refl, refl, refl), tt)
   made_item n (tree.output o) ds = tt
 
   made : (n : ℕ) (ds : List Declaration)
-      → AllZip (IsMade p n ds) (flat_map (item_stages p) ds) (filter (λ d. not (is_param d.kind)) (names_from n ds))
+      → AllZip (IsMade p n ds) (flat_map (item_stages p) ds) (filter (λ d. is_stage d.kind) (names_from n ds))
   made n [] = tt
   made n (d ∷ ds) =
       subst (AllZip (IsMade p n (d ∷ ds)) (item_stages p d ++ flat_map (item_stages p) ds))
-      (sym (filter-append (λ (d : Symbol). not (is_param d.kind)) (item_names n d) (names_from (n + 1) ds)))
+      (sym (filter-append (λ (d : Symbol). is_stage d.kind) (item_names n d) (names_from (n + 1) ds)))
       (zip_append (IsMade p n (d ∷ ds)) (item_stages p d) (flat_map (item_stages p) ds)
-      (filter (λ d. not (is_param d.kind)) (item_names n d)) (filter (λ d. not (is_param d.kind)) (names_from (n + 1) ds))
+      (filter (λ d. is_stage d.kind) (item_names n d)) (filter (λ d. is_stage d.kind) (names_from (n + 1) ds))
       (made_item n d ds)
       (zip_weaker (IsMade p (n + 1) ds) (IsMade p n (d ∷ ds)) (made_later n d ds) (flat_map (item_stages p) ds)
-      (filter (λ d. not (is_param d.kind)) (names_from (n + 1) ds)) (made (n + 1) ds)))
+      (filter (λ d. is_stage d.kind) (names_from (n + 1) ds)) (made (n + 1) ds)))
 
   rank_is_named : (d : Declaration) (x : Symbol) (s : Stage) → IsStageOf p d x s → s.rank ≡ rank_named p x.name
   rank_is_named (tree.param y) x s h = absurd h
   rank_is_named (tree.image i) x s h = ap (λ (t : Stage). t.rank) h.1
+  rank_is_named (tree.table t) x s h = absurd h
   rank_is_named (tree.function f) x s h = ap (λ (t : Stage). t.rank) h.2 ∙ ap (rank_named p) (sym h.1)
   rank_is_named (tree.accumulator a) x s h = ap (λ (t : Stage). t.rank) h.2 ∙ ap (rank_named p) (sym h.1)
   rank_is_named (tree.output o) x s h = absurd h

@@ -1,8 +1,9 @@
 -- What a program is at the values of its parameters: names become numbers of stages, extents become numbers.
-use Rattle.std.specs.Prelude.{ℕ, ◌==◌, ℤ, pos, ◌-ℤ◌, ◌≡◌, Bool, false, not, ◌&&◌, if◌then◌else◌, Option, Some, None, unwrap_or}
-use Rattle.std.specs.Prelude.{List, [], ◌∷◌, map, filter, slice_get, slice_index, FitsSigned}
+use Rattle.std.specs.Prelude.{ℕ, ◌==◌, ℤ, pos, ◌+ℤ◌, ◌-ℤ◌, ◌≡◌, Bool, false, not, ◌&&◌, if◌then◌else◌, Option, Some, None, unwrap_or}
+use Rattle.std.specs.Prelude.{List, [], ◌∷◌, map, filter, length, slice_get, slice_index, FitsSigned, All, IsTrue}
+use Rattle.pipe_tokens.specs.Naming.{is_name}
 use Rattle.std.specs.Int.{w32}
-use Rattle.std.specs.List.{flat_map}
+use Rattle.std.specs.List.{flat_map, find, AllZip}
 use Rattle.std.specs.Option.{option_map, option_map_or}
 use Rattle.std.specs.Str.{bytes_eq}
 use Rattle.domains.specs.Span.{Ends}
@@ -17,6 +18,7 @@ use Rattle.pipe_tree.specs.declared.tree.Variable.{Variable}
 use Rattle.pipe_tree.specs.declared.tree.Names.{Names}
 use Rattle.pipe_tree.specs.declared.tree.Names.TheVariants.{One, Three}
 use Rattle.pipe_tree.specs.declared.tree.Image.{Image}
+use Rattle.pipe_tree.specs.declared.tree.Table.{Table as TableText}
 use Rattle.pipe_tree.specs.Tree as tree
 use Rattle.pipe_tree.specs.Tree.{Node, Branch, Function, Accumulator, Declaration}
 use Rattle.pipe_checks.specs.declared.symbol.Symbol.{Symbol}
@@ -28,10 +30,12 @@ use Rattle.pipe_checks.specs.Checking.{IsNamed}
 use Rattle.pipe_bounds.specs.Within.{AllSet}
 use Rattle.pipe_checks.specs.Graph.{IsRanking}
 use Rattle.pipe_checks.specs.Accesses.{graph_of, is_plane}
-use Rattle.job.specs.Formula.{Axis, row, column, Formula, number, coordinate, read, neg, binary, literal, abs, clamp, select}
+use Rattle.job.specs.Formula.{Axis, row, column, Formula, number, coordinate, read, lookup, neg, binary, literal, abs, clamp, select}
 use Rattle.job.specs.Formula.{stencil, Test, compare, remainder}
 use Rattle.job.specs.Pipeline.{JobCase, plane, function, accumulator, Stage, Output, Parameter, Pipeline}
 use Rattle.job.specs.Boxes.{box_of}
+use Rattle.tables.specs.declared.table.Table.{Table}
+use Rattle.tables.specs.Entries.{Entries, span_from}
 
 -- ---- parameters that are not given
 
@@ -59,13 +63,22 @@ settings_for i picture settings = map (λ s. record { name = s.name; value = set
 abbrev pub AreSmall : List Setting → Type 0
 AreSmall settings = (k : ℕ) (s : Setting) (v : ℤ) → slice_get settings k ≡ Some s → s.value ≡ Some v → FitsSigned w32 v
 
+-- a table has a name of the language, and each of its entries is a number of 32 bits
+pub record IsSmallTable (t : Table) : Type 0 where
+  pub named : IsTrue (is_name t.name)
+  pub fit : All (FitsSigned w32) t.values
+
+abbrev pub AreSmallTables : List Table → Type 0
+AreSmallTables tables = All IsSmallTable tables
+
 -- ---- what names stand for
 
--- in a program: its stages, their ranks, and the values of its parameters
+-- in a program: its stages, their ranks, the values of its parameters, and the tables that are given
 pub record Program : Type 0 where
   pub stages : List Symbol
   pub ranks : List ℕ
   pub settings : List Setting
+  pub tables : List Table
 
 abbrev pub stage_number : Program → List ℕ → ℕ
 stage_number p x = unwrap_or (number_of p.stages x) 0
@@ -76,6 +89,18 @@ rank_named p x = slice_index p.ranks (stage_number p x)
 -- a plane's number is its place among the planes
 abbrev pub plane_number : Program → List ℕ → ℕ
 plane_number p x = unwrap_or (number_of (filter (λ d. is_plane d.kind) p.stages) x) 0
+
+-- the entries of a table, one for each number from its first index on
+abbrev pub entries_of : Option Table → Entries
+entries_of None = record { span = span_from (pos 0) 0; values = [] }
+entries_of (Some t) = record { span = span_from t.lo (length t.values); values = t.values }
+
+-- the first given table of this name
+abbrev pub table_named : List Table → List ℕ → Option Table
+table_named tables x = find (λ t. bytes_eq t.name x) tables
+
+abbrev pub entries_named : Program → List ℕ → Entries
+entries_named p x = entries_of (table_named p.tables x)
 
 -- in an item, the names of its two variables
 pub record Variables : Type 0 where
@@ -100,6 +125,7 @@ abbrev pub formula_of : Program → Variables → Node → Formula
 formula_of p own (tree.number n) = number (pos n)
 formula_of p own (tree.variable x) = name_formula p own x
 formula_of p own (tree.read x i j) = read (stage_number p x) (scale_of i) (scale_of j)
+formula_of p own (tree.lookup x a) = lookup (entries_named p x) (formula_of p own a)
 formula_of p own (tree.neg a) = neg (formula_of p own a)
 formula_of p own (tree.binary op a b) = binary op (formula_of p own a) (formula_of p own b)
 formula_of p own (tree.literal op a n) = literal op (formula_of p own a) n
@@ -164,6 +190,7 @@ names_in (Three x y z) = x ∷ y ∷ z ∷ []
 abbrev pub item_stages : Program → Declaration → List Stage
 item_stages p (tree.param x) = []
 item_stages p (tree.image i) = map (plane_stage p i) (names_in i.names)
+item_stages p (tree.table t) = []
 item_stages p (tree.function f) = function_stage p f ∷ []
 item_stages p (tree.accumulator a) = accumulator_stage p a ∷ []
 item_stages p (tree.output o) = []
@@ -171,6 +198,7 @@ item_stages p (tree.output o) = []
 abbrev pub item_outputs : Program → Declaration → List Output
 item_outputs p (tree.param x) = []
 item_outputs p (tree.image i) = []
+item_outputs p (tree.table t) = []
 item_outputs p (tree.function f) = []
 item_outputs p (tree.accumulator a) = []
 item_outputs p (tree.output o) = record { stages = map (stage_number p) (names_in o.names); max = o.max } ∷ []
@@ -186,6 +214,7 @@ job_of p items picture sides =
       stages = flat_map (item_stages p) items;
       output = slice_get (flat_map (item_outputs p) items) 0;
       params = map parameter_of p.settings;
+      tables = p.tables;
       picture = picture;
       sides = sides;
     }
@@ -194,19 +223,43 @@ job_of p items picture sides =
 abbrev pub item_images : Declaration → List Image
 item_images (tree.param x) = []
 item_images (tree.image i) = i ∷ []
+item_images (tree.table t) = []
 item_images (tree.function f) = []
 item_images (tree.accumulator a) = []
 item_images (tree.output o) = []
 
+-- the table items, in the order of the text
+abbrev pub item_tables : Declaration → List TableText
+item_tables (tree.param x) = []
+item_tables (tree.image i) = []
+item_tables (tree.table t) = t ∷ []
+item_tables (tree.function f) = []
+item_tables (tree.accumulator a) = []
+item_tables (tree.output o) = []
+
+-- the given table has the name of the declared one, and an entry for each index of its span
+pub record IsTableFit (settings : List Setting) (declared : TableText) (given : Table) : Type 0 where
+  pub name : given.name ≡ declared.name
+  pub first : affine_value settings declared.span.first ≡ given.lo
+  pub last : affine_value settings declared.span.last ≡ (given.lo +ℤ pos (length given.values)) -ℤ pos 1
+
+-- each declared table is given, in the order of the text, and no other is
+abbrev pub TablesFit : List Setting → List TableText → List Table → Type 0
+TablesFit settings declared given = AllZip (IsTableFit settings) declared given
+
 -- The job is what the items say, where each name stands for what its place wants: at the values that are given for the
--- parameters, which are all of them in the order of the text, with those from the picture. All then have values.
-pub record IsJobOf (items : List Declaration) (given : List Setting) (picture : Picture) (sides : Sides) (job : Pipeline) : Type 0 where
+-- parameters, which are all of them in the order of the text, with those from the picture, and with the tables that are
+-- given. All parameters then have values, and each declared table its entries.
+pub record IsJobOf (items : List Declaration) (given : List Setting) (tables : List Table) (picture : Picture) (sides : Sides)
+    (job : Pipeline) : Type 0 where
   pub named : IsNamed items
   pub params : map (λ s. s.name) given ≡ map (λ d. d.name) (params_of items)
   pub image : Image
   pub declared : flat_map item_images items ≡ image ∷ []
   pub set : AllSet (settings_for image picture given)
+  pub fit : TablesFit (settings_for image picture given) (flat_map item_tables items) tables
   pub ranks : List ℕ
   pub ranking : IsRanking (graph_of items) ranks
   pub is : job
-      ≡ job_of (record { stages = stages_of items; ranks = ranks; settings = settings_for image picture given }) items picture sides
+      ≡ job_of (record { stages = stages_of items; ranks = ranks; settings = settings_for image picture given; tables = tables }) items
+      picture sides

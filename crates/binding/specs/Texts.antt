@@ -80,6 +80,7 @@ copy =
       stages = plane_stage 73 0 (area (pos 1) (pos 1)) ∷ everywhere 102 1 (area (pos 1) (pos 1)) (read 0 same same) ∷ [];
       output = Some (record { stages = 1 ∷ []; max = 255 });
       params = record { name = 82 ∷ []; value = pos 2 } ∷ record { name = 67 ∷ []; value = pos 2 } ∷ [];
+      tables = [];
       picture = two_by_two;
       sides = sides 64 64;
     }

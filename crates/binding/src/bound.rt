@@ -11,7 +11,7 @@ ghost use Rattle.binding.specs.declared.fault.BindFault.TheVariants.{Bounds, Mem
 ghost use Rattle.binding.specs.Fits.{PlanesFit, ExtentsFit};
 ghost use Rattle.binding.specs.BindFaults.{IsUnnamed, IsEarlyFault, IsBound, IsBindFault, program_of};
 ghost use Rattle.std.specs.List.{flat_map};
-ghost use Rattle.binding.specs.Binding.{item_images, IsJobOf};
+ghost use Rattle.binding.specs.Binding.{item_images, item_tables, TablesFit, AreSmallTables, IsJobOf};
 ghost use Rattle.netpbm.specs.Image.{IsImage};
 ghost use Rattle.job.specs.WellFormed.{IsJob};
 ghost use Rattle.binding.specs.inside.Parts.{ArePartsOf, AreBoundParts, IsPartsFault};
@@ -21,12 +21,13 @@ ghost use Rattle.pipe_print.specs.Canonical.{canonical};
 
 use crate::fault::BindFault;
 use crate::fits::judge_picture;
+use crate::handed::{fit_tables, table_misfit};
 use crate::outputs::{only_image, parameters};
 use crate::resolve::Resolver;
 use crate::settings::settings_for;
 use crate::sizes::size_fault;
 use domains::TileSides;
-use job::{BoundPipeline, Job, Output, Parameter, Stage};
+use job::{BoundPipeline, Job, Output, Parameter, Stage, Table};
 use netpbm::Picture;
 use pipe_bounds::{BoundFault, Params, StageBounds, bounds_by_stage};
 use pipe_checks::Checked;
@@ -56,18 +57,23 @@ fn resolve(
     alloc: Global,
     checked: &Checked,
     params: &Params,
+    tables: &[Table],
     found: &[StageBounds],
 ) -> Result<Parts, AllocError>
-    requires { AreBoundsOf params.now (content (tree_in checked.now))
+    requires found { AreBoundsOf params.now (content (tree_in checked.now))
         (stages_of (content (tree_in checked.now))) found.now }
+    requires bounds { IsInBounds params.now (content (tree_in checked.now)) }
+    requires tables { TablesFit params.now (flat_map item_tables (content (tree_in checked.now)))
+        tables.now }
     ensures { IfOk result
-        (ArePartsOf (program_of checked.now params.now) (content (tree_in checked.now))) }
+        (ArePartsOf (program_of checked.now params.now tables.now) (content (tree_in checked.now))) }
 {
     let resolver = Resolver {
         alloc,
         checked,
         params,
         found,
+        tables,
     };
     let items = checked.tree().items();
     Ok(Parts {
@@ -77,27 +83,36 @@ fn resolve(
     })
 }
 
-// What is found of the stages, where the program is in bounds and the picture fits.
+// What is found of the stages, where the program is in bounds and the tables and the picture fit.
 fn judge(
     alloc: Global,
     checked: &Checked,
     params: &Params,
+    tables: &[Table],
     image: &Image,
     picture: &Picture,
 ) -> Result<Vec<StageBounds>, BindFault>
     ensures found { IfOk result (λ v. AreBoundsOf params.now (content (tree_in checked.now))
         (stages_of (content (tree_in checked.now))) v.items) }
     ensures bounds { OnOk result (IsInBounds params.now (content (tree_in checked.now))) }
+    ensures tables { OnOk result
+        (TablesFit params.now (flat_map item_tables (content (tree_in checked.now))) tables.now) }
+    ensures numbers { OnOk result (AreSmallTables tables.now) }
     ensures image { OnOk result (IsImage picture.now) }
     ensures picture { OnOk result
         (PlanesFit image.now picture.now × ExtentsFit params.now image.now picture.now) }
     ensures fault { IfErr result (λ f. (f ≡ Memory)
-        ⊎ IsEarlyFault params.now (content (tree_in checked.now)) image.now picture.now f) }
+        ⊎ IsEarlyFault params.now (content (tree_in checked.now)) tables.now image.now picture.now
+        f) }
 {
     match bounds_by_stage(alloc, checked, params) {
         Ok(found) => {
+            if let Some(table) = table_misfit(params, checked.tree().items(), tables) {
+                return Err(BindFault::TableMismatch(table));
+            }
+            fit_tables(tables);
             judge_picture(params, image, picture)?;
-            Ok(found)
+            Ok(found.stages)
         }
         Err(fault) => Err(bound_fault(fault)),
     }
@@ -107,19 +122,21 @@ fn parts_for(
     alloc: Global,
     checked: &Checked,
     params: &Params,
+    tables: &[Table],
     image: &Image,
     picture: &Picture,
 ) -> Result<Parts, BindFault>
     requires { flat_map item_images (content (tree_in checked.now)) ≡ image.now ∷ [] }
     ensures ok { IfOk result (AreBoundParts (content (tree_in checked.now))
-        (program_of checked.now params.now) picture.now) }
+        (program_of checked.now params.now tables.now) picture.now) }
     ensures fault { IfErr result (λ f. (f ≡ Memory)
-        ⊎ IsPartsFault (content (tree_in checked.now)) (program_of checked.now params.now)
+        ⊎ IsPartsFault (content (tree_in checked.now))
+        (program_of checked.now params.now tables.now)
         picture.now f) }
 {
     let settled = settings_for(alloc, image, picture, params)?;
-    let found = judge(alloc, checked, &settled, image, picture)?;
-    match resolve(alloc, checked, &settled, &found) {
+    let found = judge(alloc, checked, &settled, tables, image, picture)?;
+    match resolve(alloc, checked, &settled, tables, &found) {
         Ok(parts) => Ok(parts),
         Err(_) => Err(BindFault::Memory),
     }
@@ -129,64 +146,78 @@ fn bound_parts(
     alloc: Global,
     checked: &Checked,
     params: &Params,
+    tables: &[Table],
     picture: &Picture,
 ) -> Result<Parts, BindFault>
     ensures checked { IsCheckedOf (tree_in checked.now) checked.now }
     ensures ok { IfOk result (AreBoundParts (content (tree_in checked.now))
-        (program_of checked.now params.now) picture.now) }
+        (program_of checked.now params.now tables.now) picture.now) }
     ensures fault { IfErr result (λ f. (f ≡ Memory)
         ⊎ (IsUnnamed (content (tree_in checked.now)) f
-        ⊎ IsPartsFault (content (tree_in checked.now)) (program_of checked.now params.now)
+        ⊎ IsPartsFault (content (tree_in checked.now))
+        (program_of checked.now params.now tables.now)
         picture.now f)) }
 {
     match only_image(checked.tree().items()) {
-        Some(image) => parts_for(alloc, checked, params, image, picture),
+        Some(image) => parts_for(alloc, checked, params, tables, image, picture),
         None => Err(BindFault::Planes),
     }
 }
 
-/// The job that a program is at the values of its parameters, for a picture and the sides of tiles; a parameter without
-/// a value is a side of the picture where an extent is this parameter alone. Else the first fault, in the order of
-/// `BindFault`, and what was given. The text is hashed, and the picture is not.
+/// The job that a program is at the values of its parameters, for the tables that it declares, a picture and the sides of
+/// tiles; a parameter without a value is a side of the picture where an extent is this parameter alone. Else the first
+/// fault, in the order of `BindFault` but for `TableMismatch`, which is the second, and what was given. The text is
+/// hashed, and the tables and the picture are not.
 pub fn bind(
     alloc: Global,
     checked: Checked,
     params: &Params,
+    tables: Vec<Table>,
     picture: Picture,
     sides: TileSides,
-) -> Result<Job, (Checked, Picture, BindFault)>
+) -> Result<Job, (Checked, Vec<Table>, Picture, BindFault)>
     ensures ok { IfOk result (λ job. IsBound (content (tree_in checked))
-        (program_of checked params.now) picture sides (pipeline_in job)) }
+        (program_of checked params.now tables.items) picture sides (pipeline_in job)) }
     ensures job { IfOk result (λ job. IsJob (pipeline_in job)) }
     ensures says { IfOk result (λ job. map (λ s. s.name) params.now
         ≡ map (λ d. d.name) (params_in checked)
-        → IsJobOf (content (tree_in checked)) params.now picture sides (pipeline_in job)) }
+        → IsJobOf (content (tree_in checked)) params.now tables.items picture sides
+        (pipeline_in job)) }
     ensures text { IfOk result
         (λ job. program_text_in job ≡ canonical (content (tree_in checked))) }
     ensures program { IfOk result
         (λ job. program_id_in job ≡ sha256 (canonical (content (tree_in checked)))) }
-    ensures back { IfErr result (λ e. (e.0 ≡ checked) × (e.1 ≡ picture)) }
+    ensures back { IfErr result
+        (λ e. (e.0 ≡ checked) × (e.1 ≡ tables) × (e.2 ≡ picture)) }
     ensures fault { IfErr result (λ e. IsBindFault (content (tree_in checked))
-        (program_of checked params.now) picture sides e.2) }
+        (program_of checked params.now tables.items) picture sides e.3) }
 {
-    match bound_parts(alloc, &checked, params, &picture) {
+    match bound_parts(alloc, &checked, params, &tables, &picture) {
         Ok(parts) => {
             let _ = sides.height();
             let pipeline = BoundPipeline {
                 stages: parts.stages,
                 output: parts.output,
                 params: parts.params,
+                tables,
                 picture,
                 sides,
             };
             match size_fault(&pipeline) {
-                Some(fault) => Err((checked, pipeline.picture, fault)),
+                Some(fault) => Err((checked, pipeline.tables, pipeline.picture, fault)),
                 None => match print(alloc, checked.tree()) {
                     Ok(text) => Ok(Job::new(pipeline, text)),
-                    Err(AllocError) => Err((checked, pipeline.picture, BindFault::Memory)),
+                    Err(AllocError) => {
+                        Err((
+                            checked,
+                            pipeline.tables,
+                            pipeline.picture,
+                            BindFault::Memory,
+                        ))
+                    }
                 },
             }
         }
-        Err(fault) => Err((checked, picture, fault)),
+        Err(fault) => Err((checked, tables, picture, fault)),
     }
 }

@@ -29,6 +29,10 @@ pub enum BindFault {
     /// 6: no memory was left.
     #[error("out of memory")]
     Memory,
+    /// 7: the first table that is given otherwise than the program declares it: by another name, from another first index or with
+    /// another number of entries, or not at all; one past the last that is declared, if too many are given.
+    #[error("table {0} is not given as the program declares it")]
+    TableMismatch(usize),
 }
 
 impl Fault for BindFault {
@@ -41,6 +45,7 @@ impl Fault for BindFault {
     fn row(&self) -> FaultRow {
         fault_row!(self, BindFault {
             Bounds(_) = 1, Planes = 2, ExtentMismatch = 3, OutputShapes = 4, TooManyTiles(_) = 5, Memory = 6,
+            TableMismatch(_) = 7,
         })
     }
 }

@@ -10,7 +10,8 @@ ghost use Rattle.pipe_bounds.specs.declared.params.Setting.{Setting};
 ghost use Rattle.pipe_checks.specs.Names.{stages_of};
 ghost use Rattle.job.specs.Answers.{image};
 ghost use Rattle.job.specs.Pipeline.{Pipeline};
-ghost use Rattle.binding.specs.Binding.{Program, AreSmall, settings_for, item_stages, IsJobOf};
+ghost use Rattle.tables.specs.declared.table.Table.{Table};
+ghost use Rattle.binding.specs.Binding.{Program, AreSmall, AreSmallTables, settings_for, item_stages, IsJobOf};
 ghost use Rattle.binding.specs.Fits.{PlanesFit, ExtentsFit, ShapesFit, TilesFit};
 ghost use Rattle.pipe_bounds.specs.InBounds.{IsInBounds};
 ghost use Rattle.job.specs.WellFormed.{IsSmall, IsJob};
@@ -25,7 +26,7 @@ pub fn stages_keep_their_numbers()
 
 /// Parameters that are not given are the sides of the picture; the job answers the picture that it was given.
 pub fn copies_two_by_two()
-    ensures binds { IsJobOf copying unset two_by_two (sides_of 64 64) copy }
+    ensures binds { IsJobOf copying unset [] two_by_two (sides_of 64 64) copy }
     ensures answers { image copy ≡ Some two_by_two }
 {}
 
@@ -44,15 +45,16 @@ pub fn sides_become_parameters()
         ∷ record { name = codes "C"; value = Some (pos 2) } ∷ [] }
 {}
 
-/// A program says at most one job. This is a job, where the program keeps the limits of a text, the values that are given are
-/// numbers of 32 bits, all is in bounds and the picture, the sides of tiles, the shapes of the output and the numbers of tiles fit.
+/// A program says at most one job. This is a job, where the program keeps the limits of a text, the values and the entries that
+/// are given are numbers of 32 bits, all is in bounds and the picture, the sides of tiles, the shapes of the output and the numbers of tiles fit.
 pub fn bound_programs_are_jobs()
-    ensures one { (items : List Declaration) (given : List Setting) (image : Picture)
-        (sides : Sides) (a b : Pipeline) → IsJobOf items given image sides a
-        → IsJobOf items given image sides b → a ≡ b }
-    ensures job { (items : List Declaration) (given : List Setting) (image : Picture)
-        (sides : Sides) (job : Pipeline) (is : IsJobOf items given image sides job)
-        → KeepsLimits items → AreSmall given → IsImage image → IsSides sides
+    ensures one { (items : List Declaration) (given : List Setting) (tables : List Table)
+        (image : Picture) (sides : Sides) (a b : Pipeline) → IsJobOf items given tables image sides a
+        → IsJobOf items given tables image sides b → a ≡ b }
+    ensures job { (items : List Declaration) (given : List Setting) (tables : List Table)
+        (image : Picture) (sides : Sides) (job : Pipeline)
+        (is : IsJobOf items given tables image sides job) → KeepsLimits items → AreSmall given
+        → AreSmallTables tables → IsImage image → IsSides sides
         → IsInBounds (settings_for is.image image given) items → PlanesFit is.image image
         → ExtentsFit (settings_for is.image image given) is.image image → ShapesFit job
         → TilesFit job → IsJob job }
@@ -60,6 +62,7 @@ pub fn bound_programs_are_jobs()
 
 /// The limits of a text are limits of its job: at most 64 stages, 64 parameters and 16 cases of a function.
 pub fn jobs_keep_limits()
-    ensures { (items : List Declaration) (given : List Setting) (image : Picture) (sides : Sides)
-        (job : Pipeline) → KeepsLimits items → IsJobOf items given image sides job → IsSmall job }
+    ensures { (items : List Declaration) (given : List Setting) (tables : List Table)
+        (image : Picture) (sides : Sides) (job : Pipeline) → KeepsLimits items
+        → IsJobOf items given tables image sides job → IsSmall job }
 {}

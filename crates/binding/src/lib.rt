@@ -5,6 +5,7 @@
 mod bound;
 mod fault;
 mod fits;
+mod handed;
 pub mod laws;
 mod outputs;
 mod resolve;

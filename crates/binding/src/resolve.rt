@@ -4,12 +4,14 @@
 ghost use Rattle.std.specs.Prelude.{◌≡◌, ◌<◌, ◌^◌, pos, IfOk, filter, map};
 ghost use Rattle.pipe_tree.specs.Tree.{view};
 ghost use Rattle.pipe_checks.specs.Accesses.{is_plane};
-ghost use Rattle.binding.specs.Binding.{stage_number, rank_named, plane_number, axis_of, name_formula, formula_of, test_of};
-ghost use Rattle.binding.specs.inside.Ranges.{IsRanged};
+ghost use Rattle.binding.specs.Binding.{stage_number, rank_named, plane_number, entries_named, axis_of, name_formula};
+ghost use Rattle.binding.specs.Binding.{formula_of, test_of};
+ghost use Rattle.binding.specs.inside.Ranges.{HasEntries, IsRanged};
 ghost use Rattle.job.specs.Views.{axis_view, formula_view, test_view};
 ghost use Rattle.binding.specs.inside.Resolving.{program_in, variables_in};
 
-use job::{Axis, Factors, Formula, Kernel, Test};
+use crate::handed::table_named;
+use job::{Axis, Entries, Factors, Formula, Kernel, Table, Test};
 use pipe_bounds::{Params, StageBounds, affine_value, index_of};
 use pipe_checks::{Checked, Symbol, is_same, number_of};
 use pipe_tokens::Name;
@@ -68,13 +70,14 @@ fn kernel_of(alloc: Global, kernel: &pipe_tree::Kernel) -> Result<Kernel, AllocE
     Ok(Kernel::new(rows))
 }
 
-/// A program at the values of its parameters, and what was found of each of its stages.
+/// A program at the values of its parameters, what was found of each of its stages, and the tables that are given.
 #[derive(Drop)]
 pub(crate) struct Resolver<'a> {
     pub alloc: Global,
     pub checked: &'a Checked,
     pub params: &'a Params,
     pub found: &'a [StageBounds],
+    pub tables: &'a [Table],
 }
 
 impl Resolver<'_> {
@@ -100,6 +103,15 @@ impl Resolver<'_> {
         Ok(number_of(&planes, name).unwrap_or(0))
     }
 
+    // The entries of the table of this name.
+    fn entries(&self, name: &Name) -> Result<Entries, AllocError>
+        requires { HasEntries self.now.tables.now name.now }
+        ensures { IfOk result (λ e. e ≡ entries_named (program_in self.now) name.now) }
+    {
+        let table = table_named(self.tables, name).unwrap();
+        Ok(Entries::of(table)?.unwrap())
+    }
+
     fn name(&self, own: &Variables, name: &Name) -> Formula
         ensures { formula_view result
             ≡ name_formula (program_in self.now) (variables_in own.now) name.now }
@@ -116,7 +128,7 @@ impl Resolver<'_> {
     /// The formula of an expression.
     #[cycle(formula)]
     pub fn formula(&self, own: &Variables, expr: &Expr) -> Result<Formula, AllocError>
-        requires { IsRanged (view expr.now) }
+        requires { IsRanged self.now.tables.now (view expr.now) }
         ensures { IfOk result (λ f. formula_view f
             ≡ formula_of (program_in self.now) (variables_in own.now) (view expr.now)) }
     {
@@ -127,6 +139,10 @@ impl Resolver<'_> {
                 self.stage_number(name),
                 index_of(row),
                 index_of(column),
+            )),
+            Expr::Lookup(name, index) => Ok(Formula::Lookup(
+                self.entries(name)?,
+                self.boxed(own, index)?,
             )),
             Expr::Neg(operand) => Ok(Formula::Neg(self.boxed(own, operand)?)),
             Expr::Binary(op, left, right) => Ok(Formula::Binary(
@@ -160,7 +176,7 @@ impl Resolver<'_> {
 
     #[cycle(formula)]
     fn boxed(&self, own: &Variables, expr: &Expr) -> Result<Box<Formula>, AllocError>
-        requires { IsRanged (view expr.now) }
+        requires { IsRanged self.now.tables.now (view expr.now) }
         ensures { IfOk result (λ f. formula_view f.value
             ≡ formula_of (program_in self.now) (variables_in own.now) (view expr.now)) }
     {

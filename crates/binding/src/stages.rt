@@ -46,7 +46,7 @@ impl Resolver<'_> {
         number: usize,
         case: &Case,
     ) -> Result<JobCase, AllocError>
-        requires ranged { IsRangedBranch (branch case.now) }
+        requires ranged { IsRangedBranch self.now.tables.now (branch case.now) }
         requires boxed { slice_get bounds.now.boxes number
             ≡ Some (box_in (program_in self.now) (variables_in own.now) bounds.now.domain
             (branch case.now)) }
@@ -67,7 +67,7 @@ impl Resolver<'_> {
         bounds: &StageBounds,
         cases: &[Case],
     ) -> Result<Vec<JobCase>, AllocError>
-        requires ranged { All IsRangedBranch (branches cases.now) }
+        requires ranged { All (IsRangedBranch self.now.tables.now) (branches cases.now) }
         requires boxed { bounds.now.boxes
             ≡ map (box_in (program_in self.now) (variables_in own.now) bounds.now.domain)
             (branches cases.now) }
@@ -87,7 +87,7 @@ impl Resolver<'_> {
         own: &Variables,
         otherwise: &Option<Expr>,
     ) -> Result<Option<Formula>, AllocError>
-        requires { ForSome (option_map view otherwise.now) IsRanged }
+        requires { ForSome (option_map view otherwise.now) (IsRanged self.now.tables.now) }
         ensures { IfOk result (λ o. option_map formula_view o
             ≡ option_map (formula_of (program_in self.now) (variables_in own.now))
             (option_map view otherwise.now)) }
@@ -177,7 +177,7 @@ impl Resolver<'_> {
             Item::Image(image) => self.add_planes(stages, image)?,
             Item::Func(func) => stages.push(self.function(func)?)?,
             Item::Accum(accum) => stages.push(self.accumulator(accum)?)?,
-            Item::Param(_) | Item::Output(_) => {}
+            Item::Param(_) | Item::Table(_) | Item::Output(_) => {}
         }
         Ok(())
     }

@@ -3,11 +3,12 @@ use Rattle.std.proofs.Common.{ℕ, zero, suc, ◌+◌, ◌++◌, ◌<◌, ◌≤
 use Rattle.std.proofs.Common.{slice_get, subst, sym, ◌∙◌, ap, refl, arith}
 use Rattle.std.specs.Option.{option_map}
 use Rattle.std.proofs.lemmas.Bool.{cases_lt}
+use Rattle.std.proofs.lemmas.List.{length-map}
 use Rattle.std.proofs.lemmas.Option.{slice_get-map, slice_get_read, slice_get_within, same_Some, none-some}
 use Rattle.job.specs.declared.job.Job.{Job}
 use Rattle.job.specs.Kept.{pipeline_in, program_text_in}
 use Rattle.job.specs.WellFormed.{IsJob}
-use Rattle.catalog.specs.declared.ids.Ids.{Ids}
+use Rattle.identity.specs.declared.job_ids.Ids.{Ids}
 use Rattle.catalog.specs.Entries.{Entry, entry_of, ids_of, AreJobs, StandsAt, IsCatalog}
 use Rattle.catalog.specs.Refusals.{IsNew, IsAdmitted}
 
@@ -17,6 +18,16 @@ same_entry a b p t i = record { text = t i; pipeline = p i }
 pub entry_at : (jobs : List Job) (n i : ℕ) (job : Job) → n ≡ length jobs → i < n → job ≡ get_or jobs i job
     → slice_get (map entry_of jobs) i ≡ Some (entry_of job)
 entry_at jobs n i job e h is = slice_get-map entry_of jobs i ∙ ap (option_map entry_of) (slice_get_read jobs n i job e h is)
+
+-- the job at a place where one of these identities stands
+pub twin_at : (entries : List Entry) (jobs : List Job) (ids : Ids) (i : ℕ) (job : Job) → map entry_of jobs ≡ entries → StandsAt entries ids i
+    → job ≡ get_or jobs i job → (slice_get entries i ≡ Some (entry_of job)) × (ids_of (entry_of job) ≡ ids)
+twin_at entries jobs ids i job e at is =
+    let all : length jobs ≡ length entries = sym (length-map jobs entry_of) ∙ ap length e in
+    let within = slice_get_within entries i at.0 at.1 in
+    let there : slice_get entries i ≡ Some (entry_of job) =
+    subst (λ (es : List Entry). slice_get es i ≡ Some (entry_of job)) e (entry_at jobs (length jobs) i job refl (omega (arith, all, within)) is) in
+    (there, ap ids_of (sym (same_Some at.0 (entry_of job) (sym at.1 ∙ there))) ∙ at.2)
 
 -- each job is well formed, so each entry is
 pub all_jobs : (jobs : List Job) → AreJobs (map entry_of jobs)

@@ -6,10 +6,12 @@ use Rattle.domains.specs.Index.{Scale}
 use Rattle.domains.specs.declared.operators.BinaryOp.{BinaryOp}
 use Rattle.domains.specs.declared.operators.LiteralOp.{LiteralOp}
 use Rattle.domains.specs.declared.operators.Relation.{Relation}
+use Rattle.tables.specs.Entries.{Entries}
 use Rattle.domains.specs.contracts.operators.BinaryOp as binaries
 use Rattle.domains.specs.contracts.operators.LiteralOp as literals
 use Rattle.domains.specs.contracts.operators.Relation as relations
-use Rattle.job.specs.Formula.{row, column, Formula, number, coordinate, read, neg, binary, literal, abs, clamp, select, stencil}
+use Rattle.job.specs.Formula.{row, column, Formula, number, coordinate, read, neg, binary, literal, abs, lookup, clamp, select}
+use Rattle.job.specs.Formula.{stencil}
 
 -- ---- leaves and operations
 
@@ -21,7 +23,7 @@ Leaf = (ℤ ⊎ Bool) ⊎ ((ℕ × (Numbers × Numbers)) ⊎ (ℕ × (ℕ × Lis
 
 -- of one operand, of two, of three or of four
 abbrev Operation : Type 0
-Operation = (Bool ⊎ (LiteralOp × ℕ)) ⊎ (BinaryOp ⊎ (ℕ ⊎ Relation))
+Operation = (Bool ⊎ ((LiteralOp × ℕ) ⊎ ((ℤ × ℤ) × List ℤ))) ⊎ (BinaryOp ⊎ (ℕ ⊎ Relation))
 
 abbrev pub Step : Type 0
 Step = Leaf ⊎ Operation
@@ -36,7 +38,7 @@ leaf_code =
 
 abbrev operation_code : Coded Operation
 operation_code =
-    coded⊎ (coded⊎ coded_bool (coded× literals.the_row.coded coded_ℕ))
+    coded⊎ (coded⊎ coded_bool (coded⊎ (coded× literals.the_row.coded coded_ℕ) (coded× (coded× coded_ℤ coded_ℤ) (coded_list coded_ℤ))))
     (coded⊎ binaries.the_row.coded (coded⊎ coded_ℕ relations.the_row.coded))
 
 abbrev pub step_code : Coded Step
@@ -50,6 +52,12 @@ numbers_of x = (x.mul, (x.add, x.div))
 abbrev scale_of : Numbers → Scale
 scale_of n = record { mul = n.0; add = n.1.0; div = n.1.1 }
 
+abbrev ends_and_values : Entries → (ℤ × ℤ) × List ℤ
+ends_and_values t = ((t.span.lo, t.span.hi), t.values)
+
+abbrev entries_of : (ℤ × ℤ) × List ℤ → Entries
+entries_of n = record { span = record { lo = n.0.0; hi = n.0.1 }; values = n.1 }
+
 abbrev pub spelled : Formula → List Step
 spelled (number n) = inl (inl (inl n)) ∷ []
 spelled (coordinate row) = inl (inl (inr true)) ∷ []
@@ -58,7 +66,8 @@ spelled (read g i j) = inl (inr (inl (g, (numbers_of i, numbers_of j)))) ∷ []
 spelled (stencil g divisor kernel) = inl (inr (inr (g, (divisor, kernel)))) ∷ []
 spelled (neg a) = spelled a ++ inr (inl (inl true)) ∷ []
 spelled (abs a) = spelled a ++ inr (inl (inl false)) ∷ []
-spelled (literal op a n) = spelled a ++ inr (inl (inr (op, n))) ∷ []
+spelled (literal op a n) = spelled a ++ inr (inl (inr (inl (op, n)))) ∷ []
+spelled (lookup t a) = spelled a ++ inr (inl (inr (inr (ends_and_values t)))) ∷ []
 spelled (binary op a b) = spelled a ++ (spelled b ++ inr (inr (inl op)) ∷ [])
 spelled (clamp a b c) = spelled a ++ (spelled b ++ (spelled c ++ inr (inr (inr (inl 0))) ∷ []))
 spelled (select a relation b c d) = spelled a ++ (spelled b ++ (spelled c ++ (spelled d ++ inr (inr (inr (inr relation))) ∷ [])))
@@ -74,7 +83,8 @@ leaf (inr (inr (g, (divisor, kernel)))) = stencil g divisor kernel
 abbrev made : Operation → List Formula → List Formula
 made (inl (inl true)) (a ∷ fs) = neg a ∷ fs
 made (inl (inl false)) (a ∷ fs) = abs a ∷ fs
-made (inl (inr (op, n))) (a ∷ fs) = literal op a n ∷ fs
+made (inl (inr (inl (op, n)))) (a ∷ fs) = literal op a n ∷ fs
+made (inl (inr (inr t))) (a ∷ fs) = lookup (entries_of t) a ∷ fs
 made (inr (inl op)) (b ∷ a ∷ fs) = binary op a b ∷ fs
 made (inr (inr (inl k))) (c ∷ b ∷ a ∷ fs) = clamp a b c ∷ fs
 made (inr (inr (inr relation))) (d ∷ c ∷ b ∷ a ∷ fs) = select a relation b c d ∷ fs
@@ -112,7 +122,8 @@ all_back (read g i j) fs = refl
 all_back (stencil g divisor kernel) fs = refl
 all_back (neg a) fs = both a (inr (inl (inl true)) ∷ []) fs (all_back a fs)
 all_back (abs a) fs = both a (inr (inl (inl false)) ∷ []) fs (all_back a fs)
-all_back (literal op a n) fs = both a (inr (inl (inr (op, n))) ∷ []) fs (all_back a fs)
+all_back (literal op a n) fs = both a (inr (inl (inr (inl (op, n)))) ∷ []) fs (all_back a fs)
+all_back (lookup t a) fs = both a (inr (inl (inr (inr (ends_and_values t)))) ∷ []) fs (all_back a fs)
 all_back (binary op a b) fs =
     both a (spelled b ++ inr (inr (inl op)) ∷ []) fs (all_back a fs)
     ∙ both b (inr (inr (inl op)) ∷ []) (a ∷ fs) (all_back b (a ∷ fs))

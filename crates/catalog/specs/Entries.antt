@@ -2,13 +2,13 @@
 -- hashed are told by these.
 use Rattle.std.specs.Prelude.{ℕ, ◌≡◌, ◌≤◌, List, Some, length, slice_get}
 use Rattle.sha2.specs.Sha256.{sha256}
-use Rattle.identity.specs.declared.key.Key.{Key}
 use Rattle.job.specs.declared.job.Job.{Job}
 use Rattle.job.specs.Identity.{input_bytes, input_id}
 use Rattle.job.specs.Kept.{pipeline_in, program_text_in}
 use Rattle.job.specs.Pipeline.{Pipeline}
 use Rattle.job.specs.WellFormed.{IsJob}
-use Rattle.catalog.specs.declared.ids.Ids.{Ids}
+use Rattle.identity.specs.declared.job_ids.Ids.{Ids}
+pub use Rattle.identity.specs.Keys.{ids_in}
 
 pub record Entry : Type 0 where
   pub text : List ℕ
@@ -20,10 +20,6 @@ entry_of job = record { text = program_text_in job; pipeline = pipeline_in job }
 -- the digests of the text and of what the program is given
 abbrev pub ids_of : Entry → Ids
 ids_of entry = record { program = sha256 entry.text; input = input_id entry.pipeline }
-
--- those of the job whose tile a key names
-abbrev pub ids_in : Key → Ids
-ids_in key = record { program = key.program; input = key.input }
 
 -- the same bytes are hashed of both
 abbrev pub AreHashedAlike : Entry → Entry → Type 0

@@ -6,7 +6,8 @@ ghost use Rattle.catalog.specs.Entries.{entry_of, AreJobs, IsCatalog, StandsAt};
 ghost use Rattle.catalog.specs.Refusals.{IsAdmitted, IsRefusal};
 
 use crate::fault::AdmitFault;
-use crate::ids::Ids;
+use crate::ids::{are_of, ids_of};
+use identity::Ids;
 use job::Job;
 use std::alloc::Global;
 use std::marker::Model;
@@ -92,7 +93,7 @@ impl Catalog {
         ensures some { IfSome result (IsRefusal self.now (entry_of job.now)) }
         ensures none { IfNone result (IsAdmitted self.now (entry_of job.now)) }
     {
-        if let Some(index) = self.find(&Ids::of(job)) {
+        if let Some(index) = self.find(&ids_of(job)) {
             if self.jobs()[index].hashes_the_same(job) {
                 return Some(AdmitFault::Same(index));
             }
@@ -128,7 +129,7 @@ impl Catalog {
     {
         let jobs = self.jobs();
         for index in 0..jobs.len() {
-            if ids.are_of(&jobs[index]) {
+            if are_of(ids, &jobs[index]) {
                 return Some(index);
             }
         }

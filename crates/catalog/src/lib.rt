@@ -7,4 +7,4 @@ mod ids;
 
 pub use catalog::{Catalog, MOST_JOBS};
 pub use fault::AdmitFault;
-pub use ids::Ids;
+pub use ids::ids_of;

@@ -1,11 +1,13 @@
 -- Two valuations that have one value for all that is read give one value.
-use Rattle.std.proofs.Common.{ℕ, suc, zero, arith, ◌<◌, ◌≡◌, ℤ, pos, neg_ℤ, ◌+ℤ◌, ◌*ℤ◌, unsigned_abs, List, [], ◌∷◌, ◌++◌, length}
+use Rattle.std.proofs.Common.{ℕ, ◌≡◌, ℤ, pos, neg_ℤ, ◌*ℤ◌, unsigned_abs, List, [], ◌∷◌, ◌++◌, length}
 use Rattle.std.proofs.Common.{ap, ◌∙◌, refl}
 use Rattle.std.specs.Prelude.{All, if◌then◌else◌, slice_index_or}
 use Rattle.std.proofs.lemmas.List.Elements.{All-nil, All-cons, All-head, All-tail}
 use Rattle.domains.specs.Arithmetic.{wrapped, floor_div, clamped}
-use Rattle.job.specs.Formula.{Formula, number, coordinate, read, neg, binary, literal, abs, clamp, select, stencil}
-use Rattle.job.specs.Values.{Valuation, binary_value, literal_value, is_related, sum_below, factors, weighted_sum, formula_value}
+use Rattle.tables.specs.Entries.{entry_at}
+use Rattle.job.specs.Formula.{Formula, number, coordinate, read, neg, binary, literal, abs, lookup, clamp, select, stencil}
+use Rattle.job.specs.Values.{Valuation, binary_value, literal_value, is_related, factors, weighted_sum, formula_value}
+pub use Rattle.operations.proofs.KernelSums.{sum_below-agrees}
 use Rattle.job.specs.Reads.{Read, point, window, reads_in, EachTaken, EachRead, SameAt}
 
 -- what holds of each element of two lists holds of those of each
@@ -16,18 +18,6 @@ All-left P (x ∷ xs) ys h = All-cons P x xs (All-head P x (xs ++ ys) h) (All-le
 pub All-right : {X : Type 0} (P : X → Type 0) (xs ys : List X) → All P (xs ++ ys) → All P ys
 All-right P [] ys h = h
 All-right P (x ∷ xs) ys h = All-right P xs ys (All-tail P x (xs ++ ys) h)
-
-lt_more : (k n : ℕ) → k < n → k < suc n
-lt_more k n h = omega arith
-
-lt_last : (n : ℕ) → n < suc n
-lt_last n = omega arith
-
-pub sum_below-agrees : (n : ℕ) (f h : ℕ → ℤ) → ((k : ℕ) → k < n → f k ≡ h k) → sum_below n f ≡ sum_below n h
-sum_below-agrees zero f h same = refl
-sum_below-agrees (suc n) f h same =
-    ap (λ (z : ℤ). z +ℤ f n) (sum_below-agrees n f h (λ k l. same k (lt_more k n l)))
-    ∙ ap (λ (z : ℤ). sum_below n h +ℤ z) (same n (lt_last n))
 
 module _ (e h : Valuation) (r c : ℤ) where
   pub weighted_sum-agrees : (g : ℕ) (kernel : List (List ℤ)) → EachTaken (SameAt e h) (window g kernel) r c
@@ -49,6 +39,7 @@ module _ (e h : Valuation) (r c : ℤ) where
       (formula_value-agrees b (All-right (λ x. EachTaken (SameAt e h) x r c) (reads_in a) (reads_in b) same))
   formula_value-agrees (literal op a n) same = ap (λ (z : ℤ). literal_value op z n) (formula_value-agrees a same)
   formula_value-agrees (abs a) same = ap (λ (z : ℤ). wrapped (pos (unsigned_abs z))) (formula_value-agrees a same)
+  formula_value-agrees (lookup t a) same = ap (entry_at t) (formula_value-agrees a same)
   formula_value-agrees (clamp a low high) same =
       let P : Read → Type 0 = λ x. EachTaken (SameAt e h) x r c in
       let front : All P (reads_in a ++ reads_in low) = All-left P (reads_in a ++ reads_in low) (reads_in high) same in

@@ -13,7 +13,7 @@ use Rattle.domains.specs.declared.area.Area.{Area}
 use Rattle.job.specs.Values.{factors, kernel_row, kernel_column}
 use Rattle.job.specs.Reads.{window, EachTaken, CaseReads}
 use Rattle.job.specs.Boxes.{box_of}
-use Rattle.job.specs.WellFormed.{IsReadable, InDomainRange, IsStage, IsOutput, IsOutputPlane, IsJob, IsFormula, IsTest, IsKernel}
+use Rattle.job.specs.WellFormed.{IsReadable, InDomainRange, IsStage, IsOutput, IsOutputPlane, IsJob, IsFormula, IsTable, IsTest, IsKernel}
 use Rattle.job.specs.Worked.{ends, area, ones, middle, plane_stage, blurred, blur}
 
 -- ---- literal lists
@@ -137,6 +137,8 @@ blur_is = record {
   few_stages = omega arith;
   output = λ o is. let same : record { stages = 1 ∷ []; max = 255 } ≡ o = cc in subst (IsOutput blur) same output_is;
   params = All-nil (λ p. FitsSigned w32 p.value);
+  tables = All-nil IsTable;
+  few_tables = omega arith;
   picture = picture_is;
   sides = record { height_least = omega arith; height_most = omega arith; width_least = omega arith; width_most = omega arith };
 }

@@ -2,7 +2,7 @@
 use Rattle.std.proofs.Common.{ℕ, zero, suc, arith, ◌≡◌, ◌≤◌, ◌<◌, ◌^◌, ◌*◌, ◌+◌, ℤ, pos, negsuc, ◌≤ℤ◌, ◌<ℤ◌, FitsSigned, w32}
 use Rattle.std.proofs.Common.{List, [], ◌∷◌, ◌++◌, Bool, true, false, Option, Some, None, ◌∙◌, refl}
 use Rattle.std.specs.Prelude.{All, map, if◌then◌else◌, slice_index, slice_index_or, unsigned_abs}
-use Rattle.std.specs.Int.{int_min, int_max}
+use Rattle.std.specs.Int.{int_gap, int_min, int_max}
 use Rattle.std.specs.Option.{option_map_or, ForSome}
 use Rattle.std.proofs.lemmas.Int.{ints, clamps, SFits-int_wrap}
 use Rattle.std.proofs.lemmas.List.Elements.{All-head, All-tail}
@@ -16,7 +16,9 @@ use Rattle.domains.specs.declared.operators.LiteralOp.TheVariants.{Div, Rem, Shl
 use Rattle.std.proofs.lemmas.Nat.{pow_pos}
 use Rattle.domains.specs.Area.{HoldsPoint}
 use Rattle.domains.specs.declared.area.Area.{Area}
-use Rattle.job.specs.Formula.{Axis, row, column, Formula, number, coordinate, read, neg, binary, literal, abs, clamp, select, stencil}
+use Rattle.tables.specs.Entries.{Entries, IsEntries, entry_at}
+use Rattle.job.specs.Formula.{Axis, row, column, Formula, number, coordinate, read, neg, binary, literal, abs, lookup, clamp, select}
+use Rattle.job.specs.Formula.{stencil}
 use Rattle.job.specs.Pipeline.{JobCase, Body, plane, function, accumulator}
 use Rattle.job.specs.Values.{Valuation, binary_value, literal_value, is_related, along, weighted_sum, formula_value, all_passed}
 use Rattle.job.specs.Values.{chosen, sample_at, body_value}
@@ -114,6 +116,17 @@ one_of_fits : (b : Bool) (x y : ℤ) → FitsSigned w32 x → FitsSigned w32 y �
 one_of_fits true x y f g = f
 one_of_fits false x y f g = g
 
+-- ---- entries
+
+-- a number at a place, or 0 past the last
+one_of_list_fits : (values : List ℤ) (k : ℕ) → All (FitsSigned w32) values → FitsSigned w32 (slice_index_or values k (pos 0))
+one_of_list_fits [] k fit = from_bounds (pos 0) (omega (arith, ints)) (omega (arith, ints))
+one_of_list_fits (v ∷ values) zero fit = All-head (FitsSigned w32) v values fit
+one_of_list_fits (v ∷ values) (suc k) fit = one_of_list_fits values k (All-tail (FitsSigned w32) v values fit)
+
+entry_fits : (t : Entries) → IsEntries t → (v : ℤ) → FitsSigned w32 (entry_at t v)
+entry_fits t is v = one_of_list_fits t.values (int_gap t.span.lo (clamped v t.span.lo t.span.hi)) is.fit
+
 -- ---- formulas
 
 module _ (env : Valuation) (r c : ℤ) (row_fits : FitsSigned w32 r) (column_fits : FitsSigned w32 c) where
@@ -136,6 +149,7 @@ module _ (env : Valuation) (r c : ℤ) (row_fits : FitsSigned w32 r) (column_fit
       (formula_fits b is.1 (All-right TakenFits (reads_in a) (reads_in b) reads))
   formula_fits (literal op a n) is reads = literal_fits op (formula_value env a r c) n is.0 (formula_fits a is.1 reads)
   formula_fits (abs a) is reads = SFits-int_wrap w32 _
+  formula_fits (lookup t a) is reads = entry_fits t is.0 (formula_value env a r c)
   formula_fits (clamp a low high) is reads =
       let front : All TakenFits (reads_in a ++ reads_in low) = All-left TakenFits (reads_in a ++ reads_in low) (reads_in high) reads in
       clamped_fits (formula_value env a r c) (formula_value env low r c) (formula_value env high r c)

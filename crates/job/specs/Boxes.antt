@@ -1,5 +1,5 @@
 -- Boxes: the points of a domain at which the tests of bounds hold. Tests of remainders leave all points in a box.
-use Rattle.std.specs.Prelude.{ℤ, ◌≤ℤ◌, ◌≡◌, int_le, ◌&&◌, if◌then◌else◌, Option, Some, None, List, [], ◌∷◌, All}
+use Rattle.std.specs.Prelude.{ℤ, ◌≡◌, int_le, ◌&&◌, if◌then◌else◌, Option, Some, None, List, [], ◌∷◌, All}
 use Rattle.std.specs.Int.{int_min, int_max}
 use Rattle.domains.specs.Span.{Ends}
 use Rattle.domains.specs.declared.area.Area.{Area}
@@ -7,20 +7,7 @@ use Rattle.domains.specs.declared.operators.Relation.{Relation}
 use Rattle.domains.specs.declared.operators.Relation.TheVariants.{AtMost, AtLeast, Equals}
 use Rattle.job.specs.Formula.{Axis, row, column, Test, compare, remainder}
 use Rattle.job.specs.Pipeline.{Body, plane, function, accumulator}
-use Rattle.job.specs.Values.{along}
-
-abbrev pub Relates : Relation → ℤ → ℤ → Type 0
-Relates AtMost a b = a ≤ℤ b
-Relates AtLeast a b = b ≤ℤ a
-Relates Equals a b = a ≡ b
-
-abbrev pub BoundHolds : Test → ℤ → ℤ → Type 0
-BoundHolds (compare x relation bound) r c = Relates relation (along x r c) bound
-BoundHolds (remainder x modulus rest) r c = Unit {0}
-
-abbrev pub BoundsHold : List Test → ℤ → ℤ → Type 0
-BoundsHold [] r c = Unit {0}
-BoundsHold (t ∷ ts) r c = BoundHolds t r c × BoundsHold ts r c
+pub use Rattle.operations.specs.Bounds.{Relates, BoundHolds, BoundsHold}
 
 -- ---- the box, by its ends
 

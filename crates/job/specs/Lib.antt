@@ -15,3 +15,4 @@ pub mod Kept
 pub mod ReadViews
 pub mod Identity
 pub mod TileSides
+pub mod inside

@@ -94,6 +94,7 @@ greatest_samples =
           ∷ [];
       output = None;
       params = [];
+      tables = [];
       picture = image 2 3 8 ((5 ∷ 1 ∷ 4 ∷ 2 ∷ 8 ∷ 3 ∷ []) ∷ []);
       sides = sides 2 2;
     }

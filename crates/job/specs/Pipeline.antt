@@ -1,5 +1,5 @@
--- A job as contracts see it: the stages of a program at its parameters' values, the picture that they work on, and the
--- sides of tiles.
+-- A job as contracts see it: the stages of a program at its parameters' values, the tables and the picture that it was given, and
+-- the sides of tiles.
 use Rattle.std.specs.Prelude.{ℕ, ℤ, Option, List, slice_get}
 use Rattle.std.specs.Option.{option_map_or}
 use Rattle.domains.specs.Span.{Ends}
@@ -7,6 +7,7 @@ use Rattle.domains.specs.Sides.{Sides}
 use Rattle.domains.specs.declared.area.Area.{Area}
 use Rattle.netpbm.specs.Image.{Image}
 use Rattle.domains.specs.declared.operators.Fold.{Fold}
+use Rattle.tables.specs.declared.table.Table.{Table}
 use Rattle.job.specs.Formula.{Formula, Test}
 
 -- a formula where all tests hold. The box has the points of the domain at which the tests of bounds hold, if there are any
@@ -43,6 +44,7 @@ pub record Pipeline : Type 0 where
   pub stages : List Stage
   pub output : Option Output
   pub params : List Parameter
+  pub tables : List Table
   pub picture : Image
   pub sides : Sides
 

@@ -6,7 +6,7 @@ use Rattle.domains.specs.Index.{Scale, index_at}
 use Rattle.domains.specs.Area.{HoldsPoint}
 use Rattle.domains.specs.declared.area.Area.{Area}
 use Rattle.domains.specs.Greatest.{greatest}
-use Rattle.job.specs.Formula.{Formula, number, coordinate, read, neg, binary, literal, abs, clamp, select, stencil}
+use Rattle.job.specs.Formula.{Formula, number, coordinate, read, neg, binary, literal, abs, lookup, clamp, select, stencil}
 use Rattle.job.specs.Pipeline.{JobCase, Body, plane, function, accumulator, Stage, rank_of}
 use Rattle.job.specs.Values.{Valuation, factors, kernel_row, kernel_column}
 
@@ -28,6 +28,7 @@ reads_in (neg a) = reads_in a
 reads_in (binary op a b) = reads_in a ++ reads_in b
 reads_in (literal op a n) = reads_in a
 reads_in (abs a) = reads_in a
+reads_in (lookup t a) = reads_in a
 reads_in (clamp a low high) = reads_in a ++ reads_in low ++ reads_in high
 reads_in (select a relation b first second) = reads_in a ++ reads_in b ++ reads_in first ++ reads_in second
 reads_in (stencil g divisor kernel) = window g kernel ∷ []

@@ -9,6 +9,7 @@ with_sides sides job =
       stages = job.stages;
       output = job.output;
       params = job.params;
+      tables = job.tables;
       picture = job.picture;
       sides = sides;
     }

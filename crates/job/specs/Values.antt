@@ -1,66 +1,22 @@
 -- The value of a stage at a point.
-use Rattle.std.specs.Prelude.{ℕ, zero, suc, ◌+◌, ◌*◌, ◌/◌, ◌^◌, ℤ, pos, neg_ℤ, ◌+ℤ◌, ◌-ℤ◌, ◌*ℤ◌, int_le, unsigned_abs, Bool, true}
-use Rattle.std.specs.Prelude.{◌&&◌, if◌then◌else◌, Option, Some, None}
+use Rattle.std.specs.Prelude.{ℕ, zero, suc, ◌+◌, ◌*◌, ℤ, pos, neg_ℤ, ◌*ℤ◌, unsigned_abs}
+use Rattle.std.specs.Prelude.{if◌then◌else◌, Option, Some, None}
 use Rattle.std.specs.Prelude.{List, [], ◌∷◌, length, slice_get, slice_index, slice_index_or}
-use Rattle.std.specs.Int.{int_min, int_max}
-use Rattle.std.specs.Ordering.{int_eq}
 use Rattle.std.specs.Option.{option_map_or}
-use Rattle.domains.specs.Arithmetic.{wrapped, floor_div, floor_rem, clamped}
+use Rattle.domains.specs.Arithmetic.{wrapped, floor_div, clamped}
 use Rattle.domains.specs.Index.{index_at}
 use Rattle.netpbm.specs.Image.{Image}
-use Rattle.domains.specs.declared.operators.BinaryOp.{BinaryOp}
-use Rattle.domains.specs.declared.operators.BinaryOp.TheVariants.{Add, Sub, Mul, Min, Max}
-use Rattle.domains.specs.declared.operators.LiteralOp.{LiteralOp}
-use Rattle.domains.specs.declared.operators.LiteralOp.TheVariants.{Div, Rem, Shl, Shr}
-use Rattle.domains.specs.declared.operators.Relation.{Relation}
-use Rattle.domains.specs.declared.operators.Relation.TheVariants.{AtMost, AtLeast, Equals}
-use Rattle.job.specs.Formula.{Axis, row, column, Formula, number, coordinate, read, neg, binary, literal, abs, clamp, select}
-use Rattle.job.specs.Formula.{stencil, Test, compare, remainder}
+use Rattle.tables.specs.Entries.{entry_at}
+use Rattle.job.specs.Formula.{Formula, number, coordinate, read, neg, binary, literal, abs, lookup, clamp, select}
+use Rattle.job.specs.Formula.{stencil}
+pub use Rattle.operations.specs.Values.{binary_value, literal_value, is_related, along, sum_below, factors, under, is_passed, all_passed}
 use Rattle.job.specs.Pipeline.{JobCase, Body, plane, function, accumulator, Stage, Pipeline, rank_of}
 
 -- a number for each stage, row and column
 abbrev pub Valuation : Type 0
 Valuation = ℕ → ℤ → ℤ → ℤ
 
--- ---- numbers of 32 bits
-
-abbrev pub binary_value : BinaryOp → ℤ → ℤ → ℤ
-binary_value Add a b = wrapped (a +ℤ b)
-binary_value Sub a b = wrapped (a -ℤ b)
-binary_value Mul a b = wrapped (a *ℤ b)
-binary_value Min a b = int_min a b
-binary_value Max a b = int_max a b
-
--- a shift to the left is a product with a power of two, and one to the right a quotient
-abbrev pub literal_value : LiteralOp → ℤ → ℕ → ℤ
-literal_value Div a n = floor_div a (pos n)
-literal_value Rem a n = floor_rem a (pos n)
-literal_value Shl a n = wrapped (a *ℤ pos (2 ^ n))
-literal_value Shr a n = floor_div a (pos (2 ^ n))
-
-abbrev pub is_related : Relation → ℤ → ℤ → Bool
-is_related AtMost a b = int_le a b
-is_related AtLeast a b = int_le b a
-is_related Equals a b = int_eq a b
-
-abbrev pub along : Axis → ℤ → ℤ → ℤ
-along row r c = r
-along column r c = c
-
 -- ---- stencils
-
--- f 0 + f 1 + .. + f (n - 1), exactly
-abbrev pub sum_below : ℕ → (ℕ → ℤ) → ℤ
-sum_below zero f = pos 0
-sum_below (suc n) f = sum_below n f +ℤ f n
-
--- row a of a kernel
-abbrev pub factors : List (List ℤ) → ℕ → List ℤ
-factors kernel a = slice_index_or kernel a []
-
--- the place that a kernel about v reads with its factor number a of n: its middle factor is over v itself
-abbrev pub under : ℤ → ℕ → ℕ → ℤ
-under v n a = v +ℤ pos a -ℤ pos (n / 2)
 
 abbrev pub kernel_row : List (List ℤ) → ℤ → ℕ → ℤ
 kernel_row kernel r a = under r (length kernel) a
@@ -85,6 +41,7 @@ formula_value env (neg a) r c = wrapped (neg_ℤ (formula_value env a r c))
 formula_value env (binary op a b) r c = binary_value op (formula_value env a r c) (formula_value env b r c)
 formula_value env (literal op a n) r c = literal_value op (formula_value env a r c) n
 formula_value env (abs a) r c = wrapped (pos (unsigned_abs (formula_value env a r c)))
+formula_value env (lookup t a) r c = entry_at t (formula_value env a r c)
 formula_value env (clamp a low high) r c = clamped (formula_value env a r c) (formula_value env low r c) (formula_value env high r c)
 formula_value env (select a relation b first second) r c =
     if is_related relation (formula_value env a r c) (formula_value env b r c)
@@ -93,14 +50,6 @@ formula_value env (select a relation b first second) r c =
 formula_value env (stencil g divisor kernel) r c = floor_div (wrapped (weighted_sum kernel (env g) r c)) (pos divisor)
 
 -- ---- stages
-
-abbrev pub is_passed : Test → ℤ → ℤ → Bool
-is_passed (compare x relation bound) r c = is_related relation (along x r c) bound
-is_passed (remainder x modulus rest) r c = int_eq (floor_rem (along x r c) (pos modulus)) (pos rest)
-
-abbrev pub all_passed : List Test → ℤ → ℤ → Bool
-all_passed [] r c = true
-all_passed (t ∷ ts) r c = is_passed t r c && all_passed ts r c
 
 -- the formula of the first case whose tests hold at the point, else the other formula, if there is one
 abbrev pub chosen : List JobCase → Option Formula → ℤ → ℤ → Option Formula

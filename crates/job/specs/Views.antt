@@ -1,13 +1,10 @@
 -- What contracts see of a job in memory: without where its parts lie, and vectors as their lists.
 use Rattle.std.specs.Prelude.{map}
 use Rattle.std.specs.Option.{option_map}
-use Rattle.job.specs.declared.formula.Axis.{Axis as KeptAxis}
-use Rattle.job.specs.declared.formula.Axis.TheVariants.{Row, Column}
 use Rattle.job.specs.declared.formula.Formula.{Formula as KeptFormula}
 use Rattle.job.specs.declared.formula.Formula.TheVariants.{Number, Coordinate, Read, Neg'}
-use Rattle.job.specs.declared.formula.Formula.TheVariants.{Binary', Literal', Abs', Clamp', Select', Stencil}
-use Rattle.job.specs.declared.formula.Test.{Test as KeptTest}
-use Rattle.job.specs.declared.formula.Test.TheVariants.{Compare, Remainder}
+use Rattle.job.specs.declared.formula.Formula.TheVariants.{Binary', Literal', Abs', Lookup', Clamp', Select'}
+use Rattle.job.specs.declared.formula.Formula.TheVariants.{Stencil}
 use Rattle.job.specs.declared.stage.JobCase.{JobCase as KeptCase}
 use Rattle.job.specs.declared.stage.Body.{Body as KeptBody}
 use Rattle.job.specs.declared.stage.Body.TheVariants.{Plane, Function, Accumulator}
@@ -15,13 +12,10 @@ use Rattle.job.specs.declared.stage.Stage.{Stage as KeptStage}
 use Rattle.job.specs.declared.outputs.Output.{Output as KeptOutput}
 use Rattle.job.specs.declared.outputs.Parameter.{Parameter as KeptParameter}
 use Rattle.job.specs.declared.bound_pipeline.BoundPipeline.{BoundPipeline}
-use Rattle.job.specs.Formula.{Axis, row, column, Formula, number, coordinate, read, neg, binary, literal, abs, clamp, select}
-use Rattle.job.specs.Formula.{stencil, Test, compare, remainder}
+pub use Rattle.operations.specs.Views.{axis_view, test_view}
+use Rattle.job.specs.Formula.{Formula, number, coordinate, read, neg, binary, literal, abs, lookup, clamp, select}
+use Rattle.job.specs.Formula.{stencil}
 use Rattle.job.specs.Pipeline.{JobCase, Body, plane, function, accumulator, Stage, Output, Parameter, Pipeline}
-
-abbrev pub axis_view : KeptAxis → Axis
-axis_view Row = row
-axis_view Column = column
 
 abbrev pub formula_view : KeptFormula → Formula
 formula_view (Number n) = number n
@@ -31,13 +25,10 @@ formula_view (Neg' p a) = neg (formula_view a)
 formula_view (Binary' op p a q b) = binary op (formula_view a) (formula_view b)
 formula_view (Literal' op p a n) = literal op (formula_view a) n
 formula_view (Abs' p a) = abs (formula_view a)
+formula_view (Lookup' t p a) = lookup t (formula_view a)
 formula_view (Clamp' p a q b r c) = clamp (formula_view a) (formula_view b) (formula_view c)
 formula_view (Select' p a relation q b r c s d) = select (formula_view a) relation (formula_view b) (formula_view c) (formula_view d)
 formula_view (Stencil g divisor kernel) = stencil g divisor kernel
-
-abbrev pub test_view : KeptTest → Test
-test_view (Compare x relation bound) = compare (axis_view x) relation bound
-test_view (Remainder x modulus rest) = remainder (axis_view x) modulus rest
 
 -- ---- stages and outputs
 
@@ -65,6 +56,7 @@ pipeline_of parts =
       stages = map stage_view parts.stages.items;
       output = option_map output_view parts.output;
       params = map parameter_view parts.params.items;
+      tables = parts.tables.items;
       picture = parts.picture;
       sides = parts.sides;
     }

@@ -1,19 +1,20 @@
 -- What holds of each job of the program.
-use Rattle.std.specs.Prelude.{ℕ, ◌*◌, ◌%◌, ◌^◌, ◌<◌, ◌≤◌, ◌≡◌, ◌⊎◌, ℤ, pos, negsuc, ◌-ℤ◌, ◌≤ℤ◌, IsTrue, Some, List, length}
+use Rattle.std.specs.Prelude.{ℕ, ◌*◌, ◌%◌, ◌<◌, ◌≤◌, ◌≡◌, ◌⊎◌, ℤ, pos, ◌-ℤ◌, IsTrue, Some, List, length}
 use Rattle.std.specs.Prelude.{slice_get, slice_index, FitsSigned, All}
 use Rattle.std.specs.Int.{w32}
 use Rattle.std.specs.Option.{ForSome}
-use Rattle.domains.specs.Span.{Ends, IsSpan, len_of}
+use Rattle.domains.specs.Span.{len_of}
 use Rattle.domains.specs.Area.{HoldsPoint}
 use Rattle.domains.specs.Index.{IsIndex}
 use Rattle.domains.specs.Sides.{IsSides}
 use Rattle.domains.specs.Tiles.{tile_rows, tile_cols}
 use Rattle.domains.specs.declared.area.Area.{Area}
 use Rattle.netpbm.specs.Image.{Image, InRange, IsImage}
-use Rattle.domains.specs.declared.operators.LiteralOp.{LiteralOp}
-use Rattle.domains.specs.declared.operators.LiteralOp.TheVariants.{Div, Rem, Shl, Shr}
+use Rattle.tables.specs.Entries.{AreEntries, IsEntries, span_from}
+use Rattle.tables.specs.declared.table.Table.{Table}
 use Rattle.job.specs.Formula.{Formula, number, coordinate, read, neg, binary}
-use Rattle.job.specs.Formula.{literal, abs, clamp, select, stencil, Test, compare, remainder}
+use Rattle.job.specs.Formula.{literal, abs, lookup, clamp, select, stencil}
+pub use Rattle.operations.specs.Limits.{IsDivisor, IsLiteral, IsTest, InDomainRange}
 use Rattle.job.specs.Pipeline.{Body, plane, function, accumulator, Stage, Output, Pipeline}
 use Rattle.job.specs.Values.{Valuation, factors, body_value}
 use Rattle.job.specs.Reads.{BodyReads, formulas_of, rank_by}
@@ -21,16 +22,6 @@ use Rattle.job.specs.Boxes.{AreBoxed}
 use Rattle.job.specs.Answers.{grid_of, height_of, width_of, has_tiles}
 
 -- ---- numbers of the text
-
--- a divisor or a modulus
-abbrev pub IsDivisor : ℕ → Type 0
-IsDivisor n = (1 ≤ n) × (n < 2 ^ 31)
-
-abbrev pub IsLiteral : LiteralOp → ℕ → Type 0
-IsLiteral Div n = IsDivisor n
-IsLiteral Rem n = IsDivisor n
-IsLiteral Shl n = n ≤ 31
-IsLiteral Shr n = n ≤ 31
 
 -- so that there is a middle
 abbrev pub IsKernelSide : ℕ → Type 0
@@ -50,13 +41,10 @@ IsFormula (neg a) = IsFormula a
 IsFormula (binary op a b) = IsFormula a × IsFormula b
 IsFormula (literal op a n) = IsLiteral op n × IsFormula a
 IsFormula (abs a) = IsFormula a
+IsFormula (lookup t a) = IsEntries t × IsFormula a
 IsFormula (clamp a low high) = IsFormula a × IsFormula low × IsFormula high
 IsFormula (select a relation b first second) = IsFormula a × IsFormula b × IsFormula first × IsFormula second
 IsFormula (stencil g divisor kernel) = IsDivisor divisor × IsKernel kernel
-
-abbrev pub IsTest : Test → Type 0
-IsTest (compare x relation bound) = Unit {0}
-IsTest (remainder x modulus rest) = IsDivisor modulus × (rest < modulus)
 
 -- ---- stages
 
@@ -77,11 +65,6 @@ pub record IsReadable (stages : List Stage) (g : ℕ) (r c : ℤ) : Type 0 where
   pub there : slice_get stages g ≡ Some stage
   pub valued : IsValued stage.body
   pub within : HoldsPoint stage.domain r c
-
-pub record InDomainRange (s : Ends) : Type 0 where
-  pub span : IsSpan s
-  pub least : negsuc 16383 ≤ℤ s.lo
-  pub most : s.hi ≤ℤ pos 16384
 
 -- rows and columns from 0 on
 abbrev pub picture_area : Image → Area
@@ -121,11 +104,20 @@ pub record IsOutput (job : Pipeline) (o : Output) : Type 0 where
   pub equal_sides : All (IsOutputPlane job (height_of job (slice_index o.stages 0)) (width_of job (slice_index o.stages 0))) o.stages
   pub max : InRange 65535 o.max
 
+-- a name of 1 to 32 bytes, and an entry of 32 bits for each index from the first on
+pub record IsTable (t : Table) : Type 0 where
+  pub named : 1 ≤ length t.name
+  pub short : length t.name ≤ 32
+  pub shape : AreEntries (span_from t.lo (length t.values)) (length t.values)
+  pub fit : All (FitsSigned w32) t.values
+
 pub record IsJob (job : Pipeline) : Type 0 where
   pub stages : (g : ℕ) (s : Stage) → slice_get job.stages g ≡ Some s → IsStage job s
   pub few_stages : length job.stages ≤ 65536
   pub output : ForSome job.output (IsOutput job)
   pub params : All (λ p. FitsSigned w32 p.value) job.params
+  pub tables : All IsTable job.tables
+  pub few_tables : length job.tables ≤ 16
   pub picture : IsImage job.picture
   pub sides : IsSides job.sides
 

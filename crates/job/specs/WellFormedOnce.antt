@@ -14,7 +14,7 @@ use Rattle.domains.specs.declared.area.Area.{Area}
 use Rattle.netpbm.specs.Image.{Image, IsImage}
 use Rattle.job.specs.Boxes.{AreBoxed}
 use Rattle.job.specs.Formula.{Formula, number, coordinate, read, neg, binary}
-use Rattle.job.specs.Formula.{literal, abs, clamp, select, stencil, Test, compare, remainder}
+use Rattle.job.specs.Formula.{literal, abs, lookup, clamp, select, stencil, Test, compare, remainder}
 use Rattle.job.specs.Pipeline.{Body, plane, function, accumulator, Stage, Output, Pipeline}
 use Rattle.job.specs.Reads.{Read, point, window, EachTaken, BodyReads}
 use Rattle.job.specs.WellFormed.{IsLiteral, IsFormula, IsTest, IsValued}
@@ -62,6 +62,7 @@ IsFormula-prop (neg a) = IsFormula-prop a
 IsFormula-prop (binary op a b) = hlevel (IsFormula-prop a, IsFormula-prop b, props)
 IsFormula-prop (literal op a n) = hlevel (IsLiteral-prop, IsFormula-prop a, props)
 IsFormula-prop (abs a) = IsFormula-prop a
+IsFormula-prop (lookup t a) = hlevel (IsFormula-prop a, props)
 IsFormula-prop (clamp a low high) = hlevel (IsFormula-prop a, IsFormula-prop low, IsFormula-prop high, props)
 IsFormula-prop (select a relation b first second) =
     hlevel (IsFormula-prop a, IsFormula-prop b, IsFormula-prop first, IsFormula-prop second, props)

@@ -9,7 +9,8 @@ use Rattle.domains.specs.declared.operators.BinaryOp.TheVariants.{Add}
 use Rattle.domains.specs.declared.operators.LiteralOp.TheVariants.{Div, Rem}
 use Rattle.domains.specs.declared.operators.Relation.TheVariants.{Equals}
 use Rattle.domains.specs.declared.operators.Fold.TheVariants.{Sum, Min}
-use Rattle.job.specs.Formula.{row, column, Formula, number, read, neg, binary, literal, abs, stencil, compare}
+use Rattle.tables.specs.declared.table.Table.{Table}
+use Rattle.job.specs.Formula.{row, column, Formula, number, read, neg, binary, literal, abs, lookup, stencil, compare}
 use Rattle.job.specs.Answers.{Tile}
 use Rattle.job.specs.Pipeline.{JobCase, plane, function, accumulator, Stage, Pipeline}
 
@@ -45,10 +46,10 @@ plane_stage name n domain = record { name = name ∷ []; rank = 0; domain = doma
 abbrev pub everywhere : ℕ → ℕ → Area → Formula → Stage
 everywhere name rank domain formula = record { name = name ∷ []; rank = rank; domain = domain; body = function [] (Some formula) }
 
--- without parameters
+-- without parameters and tables
 abbrev pub job_of : List Stage → List ℕ → ℕ → Image → Sides → Pipeline
 job_of stages outputs max picture sides =
-    record { stages = stages; output = Some (record { stages = outputs; max = max }); params = []; picture = picture; sides = sides }
+    record { stages = stages; output = Some (record { stages = outputs; max = max }); params = []; tables = []; picture = picture; sides = sides }
 
 -- image I(3,3);
 -- func f(x in [0..2], y in [0..2]) { case x == 1 and y == 1 : stencil(I, 9, [[1,1,1],[1,1,1],[1,1,1]]); }
@@ -152,6 +153,7 @@ counting =
           ∷ [];
       output = None;
       params = [];
+      tables = [];
       picture = image 3 3 9 ((1 ∷ 2 ∷ 3 ∷ 4 ∷ 5 ∷ 6 ∷ 7 ∷ 8 ∷ 9 ∷ []) ∷ []);
       sides = sides 2 2;
     }
@@ -174,6 +176,29 @@ outside =
           ∷ [];
       output = None;
       params = [];
+      tables = [];
       picture = image 1 1 9 ((9 ∷ []) ∷ []);
+      sides = sides 64 64;
+    }
+
+-- image I(1,3);
+-- table t[0..3];
+-- func f(x in [0..0], y in [0..2]) { else : t[I(x, y)]; }
+-- output f max 255;
+-- or with another index, and the line `t 0..3: 10 20 30 40`
+abbrev pub curve : Table
+curve = record { name = 116 ∷ []; lo = pos 0; values = pos 10 ∷ pos 20 ∷ pos 30 ∷ pos 40 ∷ [] }
+
+abbrev pub toned : Formula → Pipeline
+toned index =
+    record {
+      stages =
+          plane_stage 73 0 (area (pos 0) (pos 2))
+          ∷ everywhere 102 1 (area (pos 0) (pos 2)) (lookup (record { span = ends (pos 0) (pos 3); values = curve.values }) index)
+          ∷ [];
+      output = Some (record { stages = 1 ∷ []; max = 255 });
+      params = [];
+      tables = curve ∷ [];
+      picture = image 1 3 9 ((0 ∷ 2 ∷ 9 ∷ []) ∷ []);
       sides = sides 64 64;
     }

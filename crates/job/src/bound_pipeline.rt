@@ -4,6 +4,7 @@ use crate::outputs::{Output, Parameter};
 use crate::stage::Stage;
 use domains::TileSides;
 use netpbm::Picture;
+use tables::Table;
 
 /// Stages over a picture. A stage's number is its place.
 #[derive(Debug, Drop)]
@@ -13,6 +14,8 @@ pub struct BoundPipeline {
     pub output: Option<Output>,
     /// With their values, in the order of the text.
     pub params: Vec<Parameter>,
+    /// With their entries, in the order of the text.
+    pub tables: Vec<Table>,
     pub picture: Picture,
     /// The sides of the tiles.
     pub sides: TileSides,

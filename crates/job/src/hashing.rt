@@ -1,19 +1,22 @@
 #![tactic(auto)]
 //! What is hashed of a job: its program's canonical text, and what the program is given.
 
-ghost use Rattle.std.specs.Prelude.{◌≡◌, ◌++◌, ℕ, List, map, IfOk, OnOk};
+ghost use Rattle.std.specs.Prelude.{◌≡◌, ◌++◌, ◌∷◌, [], ℕ, List, length, map, IfOk, OnOk};
 ghost use Rattle.std.specs.List.{flat_map};
 ghost use Rattle.std.specs.Int.{w16, to_be_bytes};
 ghost use Rattle.sha2.specs.Sha256.{sha256};
-ghost use Rattle.job.specs.Identity.{parameter_bytes, settings_bytes, input_bytes, input_id};
+ghost use Rattle.job.specs.Identity.{entry_bytes, given_bytes, parameter_bytes, settings_bytes, table_bytes, tables_bytes};
+ghost use Rattle.job.specs.Identity.{input_bytes, input_id};
 ghost use Rattle.job.specs.Views.{parameter_view, pipeline_of};
 
 use crate::bound_pipeline::BoundPipeline;
 use crate::outputs::Parameter;
 use identity::{InputId, ProgramId};
 use netpbm::{hash_raw, raw};
+use pipe_tokens::Name;
 use sha2::{Digest, Sha256};
 use std::alloc::{AllocError, Global};
+use tables::Table;
 
 /// The identity of the program of this canonical text.
 pub(crate) fn program_id(text: &[u8]) -> ProgramId
@@ -37,8 +40,23 @@ fn hash_settings<D: Digest>(hasher: &mut D, parts: &BoundPipeline)
     ensures { (m : List ℕ) → D.holds hasher.old m
         → D.holds hasher.new (m ++ settings_bytes (pipeline_of parts.now)) }
 {
+    let tables = parts.tables.as_slice();
+    if tables.is_empty() {
+        hasher.update(b"PTI1");
+        hash_given(hasher, parts);
+    } else {
+        hasher.update(b"PTI2");
+        hash_given(hasher, parts);
+        hash_tables(hasher, tables);
+    }
+}
+
+// The sides of the tiles and the parameters.
+fn hash_given<D: Digest>(hasher: &mut D, parts: &BoundPipeline)
+    ensures { (m : List ℕ) → D.holds hasher.old m
+        → D.holds hasher.new (m ++ given_bytes (pipeline_of parts.now)) }
+{
     let parameters = parts.params.as_slice();
-    hasher.update(b"PTI1");
     hasher.update(&parts.sides.height().to_be_bytes());
     hasher.update(&parts.sides.width().to_be_bytes());
     hasher.update(&count_bytes(parameters.len()));
@@ -58,10 +76,56 @@ fn hash_parameter<D: Digest>(hasher: &mut D, parameter: &Parameter)
     ensures { (m : List ℕ) → D.holds hasher.old m
         → D.holds hasher.new (m ++ parameter_bytes (parameter_view parameter.now)) }
 {
-    let name = parameter.name.as_bytes();
+    hash_name(hasher, &parameter.name);
+    hasher.update(&parameter.value.to_be_bytes());
+}
+
+// The length of a name in 8 bits, and the name.
+fn hash_name<D: Digest>(hasher: &mut D, name: &Name)
+    ensures { (m : List ℕ) → D.holds hasher.old m
+        → D.holds hasher.new (m ++ (length name.now ∷ [] ++ name.now)) }
+{
+    let name = name.as_bytes();
     hasher.update(&[name.len() as u8]);
     hasher.update(name);
-    hasher.update(&parameter.value.to_be_bytes());
+}
+
+// The number of tables, and the tables.
+fn hash_tables<D: Digest>(hasher: &mut D, tables: &[Table])
+    ensures { (m : List ℕ) → D.holds hasher.old m
+        → D.holds hasher.new (m ++ tables_bytes tables.now) }
+{
+    hasher.update(&count_bytes(tables.len()));
+    hash_each_table(hasher, tables);
+}
+
+fn hash_each_table<D: Digest>(hasher: &mut D, tables: &[Table])
+    ensures { (m : List ℕ) → D.holds hasher.old m
+        → D.holds hasher.new (m ++ flat_map table_bytes tables.now) }
+{
+    for table in tables {
+        hash_table(hasher, table);
+    }
+}
+
+fn hash_table<D: Digest>(hasher: &mut D, table: &Table)
+    ensures { (m : List ℕ) → D.holds hasher.old m
+        → D.holds hasher.new (m ++ table_bytes table.now) }
+{
+    let values = table.values.as_slice();
+    hash_name(hasher, &table.name);
+    hasher.update(&table.lo.to_be_bytes());
+    hasher.update(&count_bytes(values.len()));
+    hash_entries(hasher, values);
+}
+
+fn hash_entries<D: Digest>(hasher: &mut D, entries: &[i32])
+    ensures { (m : List ℕ) → D.holds hasher.old m
+        → D.holds hasher.new (m ++ flat_map entry_bytes entries.now) }
+{
+    for entry in entries {
+        hasher.update(&entry.to_be_bytes());
+    }
 }
 
 /// The bytes whose digest is the identity of what a program is given.
@@ -79,17 +143,62 @@ fn settings_bytes(alloc: Global, parts: &BoundPipeline) -> Result<Vec<u8>, Alloc
     ensures { IfOk result (λ bytes. bytes.items ≡ settings_bytes (pipeline_of parts.now)) }
 {
     let mut bytes = Vec::new(alloc);
-    bytes.extend_from_slice(b"PTI1")?;
-    bytes.extend_from_slice(&parts.sides.height().to_be_bytes())?;
-    bytes.extend_from_slice(&parts.sides.width().to_be_bytes())?;
-    bytes.extend_from_slice(&count_bytes(parts.params.len()))?;
-    for parameter in &parts.params {
-        push_parameter(&mut bytes, parameter)?;
+    let tables = parts.tables.as_slice();
+    if tables.is_empty() {
+        bytes.extend_from_slice(b"PTI1")?;
+        push_given(&mut bytes, parts)?;
+    } else {
+        bytes.extend_from_slice(b"PTI2")?;
+        push_given(&mut bytes, parts)?;
+        push_tables(&mut bytes, tables)?;
     }
     Ok(bytes)
 }
 
-// A number of parameters in 16 bits. A text has at most 64.
+// The sides of the tiles and the parameters.
+fn push_given(bytes: &mut Vec<u8>, parts: &BoundPipeline) -> Result<(), AllocError>
+    ensures { OnOk result (bytes.new.items ≡ bytes.old.items ++ given_bytes (pipeline_of parts.now)) }
+{
+    bytes.extend_from_slice(&parts.sides.height().to_be_bytes())?;
+    bytes.extend_from_slice(&parts.sides.width().to_be_bytes())?;
+    bytes.extend_from_slice(&count_bytes(parts.params.len()))?;
+    for parameter in &parts.params {
+        push_parameter(bytes, parameter)?;
+    }
+    Ok(())
+}
+
+// The number of tables, and the tables.
+fn push_tables(bytes: &mut Vec<u8>, tables: &[Table]) -> Result<(), AllocError>
+    ensures { OnOk result (bytes.new.items ≡ bytes.old.items ++ tables_bytes tables.now) }
+{
+    bytes.extend_from_slice(&count_bytes(tables.len()))?;
+    for table in tables {
+        push_table(bytes, table)?;
+    }
+    Ok(())
+}
+
+fn push_table(bytes: &mut Vec<u8>, table: &Table) -> Result<(), AllocError>
+    ensures { OnOk result (bytes.new.items ≡ bytes.old.items ++ table_bytes table.now) }
+{
+    let values = table.values.as_slice();
+    push_name(bytes, &table.name)?;
+    bytes.extend_from_slice(&table.lo.to_be_bytes())?;
+    bytes.extend_from_slice(&count_bytes(values.len()))?;
+    push_entries(bytes, values)
+}
+
+fn push_entries(bytes: &mut Vec<u8>, entries: &[i32]) -> Result<(), AllocError>
+    ensures { OnOk result (bytes.new.items ≡ bytes.old.items ++ flat_map entry_bytes entries.now) }
+{
+    for entry in entries {
+        bytes.extend_from_slice(&entry.to_be_bytes())?;
+    }
+    Ok(())
+}
+
+// A number of parameters, of tables or of entries in 16 bits. A text has at most 64 parameters and 16 tables, a table 4,096 entries.
 fn count_bytes(count: usize) -> [u8; 2]
     ensures { result ≡ to_be_bytes w16 count }
 {
@@ -100,8 +209,15 @@ fn push_parameter(bytes: &mut Vec<u8>, parameter: &Parameter) -> Result<(), Allo
     ensures { OnOk result
         (bytes.new.items ≡ bytes.old.items ++ parameter_bytes (parameter_view parameter.now)) }
 {
-    let name = parameter.name.as_bytes();
-    bytes.push(name.len() as u8)?;
-    bytes.extend_from_slice(name)?;
+    push_name(bytes, &parameter.name)?;
     bytes.extend_from_slice(&parameter.value.to_be_bytes())
+}
+
+// The length of a name in 8 bits, and the name.
+fn push_name(bytes: &mut Vec<u8>, name: &Name) -> Result<(), AllocError>
+    ensures { OnOk result (bytes.new.items ≡ bytes.old.items ++ (length name.now ∷ [] ++ name.now)) }
+{
+    let name = name.as_bytes();
+    bytes.push(name.len() as u8)?;
+    bytes.extend_from_slice(name)
 }

@@ -20,6 +20,7 @@ use identity::{InputId, Key, ProgramId};
 use netpbm::Picture;
 use pipe_tokens::Name;
 use std::alloc::{AllocError, Global};
+use tables::Table;
 
 /// A program at the values of its parameters, the picture that it works on, and the sides of its tiles. It is well formed, as `new`
 /// asks.
@@ -117,6 +118,20 @@ impl Job {
         &self.parts.params
     }
 
+    /// The tables that were handed in, in the order of the text.
+    pub fn tables(&self) -> &[Table]
+        ensures { result.now ≡ (pipeline_in self.now).tables }
+    {
+        &self.parts.tables
+    }
+
+    /// The table of this number, as it was handed in.
+    pub fn table(&self, index: usize) -> Option<&Table>
+        ensures { option_map (λ t. t.now) result ≡ slice_get (pipeline_in self.now).tables index }
+    {
+        self.parts.tables.as_slice().get(index)
+    }
+
     /// The picture.
     pub fn picture(&self) -> &Picture
         ensures { result.now ≡ (pipeline_in self.now).picture }
@@ -196,7 +211,7 @@ impl Job {
         self.program
     }
 
-    /// The identity of what the program is given: of the sides of the tiles, the parameters and the picture. Where it is not
+    /// The identity of what the program is given: of the sides of the tiles, the parameters, the tables and the picture. Where it is not
     /// kept, all samples of the picture are hashed at each call; no memory is taken.
     pub fn input_id(&self) -> InputId
         ensures { result ≡ input_id (pipeline_in self.now) }

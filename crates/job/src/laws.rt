@@ -90,10 +90,11 @@ pub fn boxes_are_cut_by_bounds()
         → box_of domain tests ≡ Some box → IsArea box }
 {}
 
-/// Equal bytes are of one input: the sides of the tiles, the parameters and the picture are the same. There are few parameters, as
-/// in a text.
+/// Equal bytes are of one input: the sides of the tiles, the parameters, the picture and the tables are the same. There are few
+/// parameters, as in a text.
 pub fn one_input()
     ensures { (a b : Pipeline) → IsJob a → IsJob b → IsSmall a → IsSmall b
         → input_bytes a ≡ input_bytes b
-        → (a.sides ≡ b.sides) × (a.params ≡ b.params) × (a.picture ≡ b.picture) }
+        → (a.sides ≡ b.sides) × (a.params ≡ b.params) × (a.picture ≡ b.picture)
+        × (a.tables ≡ b.tables) }
 {}

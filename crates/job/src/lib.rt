@@ -16,8 +16,10 @@ mod stage;
 pub mod worked;
 
 pub use bound_pipeline::BoundPipeline;
-pub use formula::{Axis, Factors, Formula, Kernel, Test, copied_kernel};
+pub use formula::Formula;
 pub use job::{Job, StageKind};
+pub use operations::{Axis, Factors, Kernel, Test, copied_kernel};
 pub use outputs::{Output, Parameter};
 pub use reads::Read;
 pub use stage::{Accumulator, Body, Function, JobCase, Stage};
+pub use tables::{Entries, Table};

@@ -9,9 +9,10 @@ ghost use Rattle.job.specs.Views.{formula_view, case_view, stage_view};
 ghost use Rattle.job.specs.Reads.{reads_in, reads_of, other_formula};
 ghost use Rattle.job.specs.ReadViews.{read_view};
 
-use crate::formula::{Formula, Kernel, copied_kernel};
+use crate::formula::Formula;
 use crate::stage::{Accumulator, Body, Function, JobCase, Stage};
 use domains::Index;
+use operations::{Kernel, copied_kernel};
 use std::alloc::{AllocError, Global};
 
 /// A read of a stage, which is named by its number.
@@ -34,9 +35,10 @@ fn add_reads(found: &mut Vec<Read>, formula: &Formula) -> Result<(), AllocError>
             found.push(Read::Point(*stage, *row, *column))?;
             Ok(())
         }
-        Formula::Neg(operand) | Formula::Abs(operand) | Formula::Literal(_, operand, _) => {
-            add_reads(found, operand)
-        }
+        Formula::Neg(operand)
+        | Formula::Abs(operand)
+        | Formula::Literal(_, operand, _)
+        | Formula::Lookup(_, operand) => add_reads(found, operand),
         Formula::Binary(_, left, right) => {
             add_reads(found, left)?;
             add_reads(found, right)

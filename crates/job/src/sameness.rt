@@ -4,15 +4,17 @@
 ghost use Rattle.std.specs.Prelude.{◌≡◌, ◌<◌, ◌↔◌, ◌++◌, ◌∷◌, ℕ, List, IsTrue, map, FitsSigned, All};
 ghost use Rattle.std.specs.Int.{w32};
 ghost use Rattle.std.specs.List.{flat_map};
-ghost use Rattle.netpbm.specs.Samples.{count_in, sample_in};
-ghost use Rattle.job.specs.Identity.{parameter_bytes, input_bytes};
+ghost use Rattle.plane_samples.specs.Samples.{count_in, sample_in};
+ghost use Rattle.job.specs.Identity.{parameter_bytes, table_bytes, input_bytes};
+ghost use Rattle.job.specs.inside.Marks.{EndsNames};
 ghost use Rattle.job.specs.Views.{parameter_view, pipeline_of};
-ghost use Rattle.job.specs.WellFormed.{IsJob};
+ghost use Rattle.job.specs.WellFormed.{IsJob, IsTable};
 
 use crate::bound_pipeline::BoundPipeline;
 use crate::outputs::Parameter;
 use domains::TileSides;
 use netpbm::{Picture, Samples};
+use tables::Table;
 
 /// Whether the bytes whose digests are the identities of the inputs are the same. The pictures are compared and not copied; no memory
 /// is taken.
@@ -24,7 +26,13 @@ pub(crate) fn same_input(a: &BoundPipeline, b: &BoundPipeline) -> bool
     if !same_sides(&a.sides, &b.sides) {
         return false;
     }
+    if a.tables.is_empty() != b.tables.is_empty() {
+        return false;
+    }
     if !same_parameters(&a.params, &b.params) {
+        return false;
+    }
+    if !same_tables(&a.tables, &b.tables) {
         return false;
     }
     same_picture(&a.picture, &b.picture)
@@ -41,9 +49,9 @@ fn same_parameters(a: &[Parameter], b: &[Parameter]) -> bool
     requires first { All (λ p. FitsSigned w32 p.value) (map parameter_view a.now) }
     requires second { All (λ p. FitsSigned w32 p.value) (map parameter_view b.now) }
     ensures same { IsTrue result → map parameter_view a.now ≡ map parameter_view b.now }
-    ensures told { (c d : List ℕ)
-        → flat_map parameter_bytes (map parameter_view a.now) ++ 80 ∷ c
-        ≡ flat_map parameter_bytes (map parameter_view b.now) ++ 80 ∷ d → IsTrue result }
+    ensures told { (m n : ℕ) (c d : List ℕ) → EndsNames m → EndsNames n
+        → flat_map parameter_bytes (map parameter_view a.now) ++ m ∷ c
+        ≡ flat_map parameter_bytes (map parameter_view b.now) ++ n ∷ d → IsTrue result }
 {
     match (a.split_first(), b.split_first()) {
         (None, None) => true,
@@ -51,9 +59,9 @@ fn same_parameters(a: &[Parameter], b: &[Parameter]) -> bool
             same_parameter(first, other) && same_parameters(rest, others)
         }
         (Some((first, _)), None) | (None, Some((first, _))) => {
-            // No name is so long that its length is the letter `P`, with which a picture begins.
+            // The length of a name is no byte with which tables or a picture begin: 0, or the letter `P`.
             let name = first.name.as_bytes();
-            prove!(name.len() < 80);
+            prove!(0 < name.len() && name.len() <= 32);
             false
         }
     }
@@ -65,6 +73,41 @@ fn same_parameter(a: &Parameter, b: &Parameter) -> bool
     ensures { IsTrue result ↔ parameter_view a.now ≡ parameter_view b.now }
 {
     a.name.as_bytes() == b.name.as_bytes() && a.value == b.value
+}
+
+// Whether the tables are the same. They are where their bytes are equal, whatever pictures are behind them.
+fn same_tables(a: &[Table], b: &[Table]) -> bool
+    requires first { All IsTable a.now }
+    requires second { All IsTable b.now }
+    ensures same { IsTrue result → a.now ≡ b.now }
+    ensures told { (c d : List ℕ) → flat_map table_bytes a.now ++ 80 ∷ c
+        ≡ flat_map table_bytes b.now ++ 80 ∷ d → IsTrue result }
+{
+    match (a.split_first(), b.split_first()) {
+        (None, None) => true,
+        (Some((first, rest)), Some((other, others))) => {
+            same_table(first, other) && same_tables(rest, others)
+        }
+        (Some((first, _)), None) | (None, Some((first, _))) => {
+            let name = first.name.as_bytes();
+            prove!(name.len() < 80);
+            false
+        }
+    }
+}
+
+fn same_table(a: &Table, b: &Table) -> bool
+    ensures { IsTrue result ↔ a.now ≡ b.now }
+{
+    a.name.as_bytes() == b.name.as_bytes()
+        && a.lo == b.lo
+        && same_entries(a.values.as_slice(), b.values.as_slice())
+}
+
+fn same_entries(a: &[i32], b: &[i32]) -> bool
+    ensures { IsTrue result ↔ a.now ≡ b.now }
+{
+    a == b
 }
 
 fn same_picture(a: &Picture, b: &Picture) -> bool

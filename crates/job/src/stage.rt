@@ -6,9 +6,10 @@ ghost use Rattle.job.specs.Answers.{has_tiles};
 ghost use Rattle.job.specs.Readers.{kind_of, fold_of, bins_of};
 ghost use Rattle.job.specs.Views.{stage_view};
 
-use crate::formula::{Formula, Test};
+use crate::formula::Formula;
 use crate::job::StageKind;
 use domains::{Area, Fold, Grid, Span, TileSides};
+use operations::Test;
 use pipe_tokens::Name;
 
 /// A formula where all tests hold.

@@ -2,15 +2,17 @@
 
 ghost use Rattle.std.specs.Prelude.{◌≡◌, ℤ, pos, negsuc, Some, [], ◌∷◌};
 ghost use Rattle.netpbm.specs.Image.{image as picture};
+ghost use Rattle.domains.specs.declared.operators.BinaryOp.TheVariants.{Sub};
 ghost use Rattle.domains.specs.declared.operators.LiteralOp.TheVariants.{Shl, Shr};
 ghost use Rattle.domains.specs.declared.operators.Relation.TheVariants.{AtMost, AtLeast, Equals};
-ghost use Rattle.job.specs.Formula.{number, neg, literal, clamp, select};
+ghost use Rattle.job.specs.Formula.{number, read, neg, binary, literal, clamp, select};
 ghost use Rattle.job.specs.Boxes.{box_of};
+ghost use Rattle.job.specs.Identity.{input_bytes};
 ghost use Rattle.job.specs.Values.{Valuation, formula_value, value};
 ghost use Rattle.job.specs.Totals.{totals, totals_over};
 ghost use Rattle.job.specs.Answers.{image, samples, wanted};
 ghost use Rattle.job.specs.WellFormed.{IsJob};
-ghost use Rattle.job.specs.Worked.{ends, area, tile, blur, halving, edges, turned, counting, outside};
+ghost use Rattle.job.specs.Worked.{ends, area, same, tile, blur, halving, edges, turned, counting, outside, toned};
 ghost use Rattle.job.specs.Lopsided.{leaning, odd_columns, right_half, choosing, below_zero, greatest_samples};
 
 /// A stencil in the one case whose tests hold at the middle; elsewhere no case holds, and there is no `else`.
@@ -108,4 +110,16 @@ pub fn greatest_of_columns()
     ensures whole { totals greatest_samples 1 ≡ pos 5 ∷ pos 8 ∷ pos 4 ∷ [] }
     ensures tile { totals_over greatest_samples (area (pos 1) (pos 1)) 1
         ≡ pos 5 ∷ pos 8 ∷ negsuc 9223372036854775807 ∷ [] }
+{}
+
+/// An entry of a table at an index, which is cut to the ends of the table; and what is hashed of a job with a table.
+pub fn looks_entries_up()
+    ensures entries { image (toned (read 0 same same))
+        ≡ Some (picture 1 3 255 ((10 ∷ 30 ∷ 40 ∷ []) ∷ [])) }
+    ensures below { image (toned (binary Sub (read 0 same same) (number (pos 5))))
+        ≡ Some (picture 1 3 255 ((10 ∷ 10 ∷ 40 ∷ []) ∷ [])) }
+    ensures hashed { input_bytes (toned (read 0 same same))
+        ≡ 80 ∷ 84 ∷ 73 ∷ 50 ∷ 0 ∷ 0 ∷ 0 ∷ 64 ∷ 0 ∷ 0 ∷ 0 ∷ 64 ∷ 0 ∷ 0 ∷ 0 ∷ 1 ∷ 1 ∷ 116 ∷ 0 ∷ 0 ∷ 0 ∷ 0
+        ∷ 0 ∷ 4 ∷ 0 ∷ 0 ∷ 0 ∷ 10 ∷ 0 ∷ 0 ∷ 0 ∷ 20 ∷ 0 ∷ 0 ∷ 0 ∷ 30 ∷ 0 ∷ 0 ∷ 0 ∷ 40
+        ∷ 80 ∷ 53 ∷ 10 ∷ 51 ∷ 32 ∷ 49 ∷ 10 ∷ 57 ∷ 10 ∷ 0 ∷ 2 ∷ 9 ∷ [] }
 {}

@@ -8,7 +8,7 @@ use Rattle.pipe_tree.specs.Tree.{Declaration}
 use Rattle.pipe_bounds.specs.InBounds.{IsInBounds}
 use Rattle.binding.specs.declared.bound.Parts.{Parts}
 use Rattle.binding.specs.declared.fault.BindFault.{BindFault}
-use Rattle.binding.specs.Binding.{Program, AreSmall, settings_for, item_images, item_stages, item_outputs, parameter_of}
+use Rattle.binding.specs.Binding.{Program, AreSmall, AreSmallTables, settings_for, item_images, item_tables, TablesFit, item_stages, item_outputs, parameter_of}
 use Rattle.binding.specs.Fits.{PlanesFit, ExtentsFit}
 use Rattle.binding.specs.BindFaults.{IsEarlyFault, settled_program}
 use Rattle.job.specs.Views.{stage_view, output_view, parameter_view}
@@ -25,6 +25,8 @@ pub record AreBoundParts (items : List Declaration) (p : Program) (picture : Pic
   pub declared : flat_map item_images items ≡ image ∷ []
   pub are : ArePartsOf (settled_program p image picture) items parts
   pub bounds : IsInBounds (settings_for image picture p.settings) items
+  pub tables : TablesFit (settings_for image picture p.settings) (flat_map item_tables items) p.tables
+  pub numbers : AreSmallTables p.tables
   pub planes : PlanesFit image picture
   pub real : IsImage picture
   pub small : AreSmall (settings_for image picture p.settings)
@@ -34,4 +36,4 @@ pub record AreBoundParts (items : List Declaration) (p : Program) (picture : Pic
 pub record IsPartsFault (items : List Declaration) (p : Program) (picture : Picture) (fault : BindFault) : Type 0 where
   pub image : Image
   pub declared : flat_map item_images items ≡ image ∷ []
-  pub early : IsEarlyFault (settings_for image picture p.settings) items image picture fault
+  pub early : IsEarlyFault (settings_for image picture p.settings) items p.tables image picture fault

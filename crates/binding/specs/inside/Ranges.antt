@@ -1,41 +1,51 @@
 -- What is known of the items of a program that was checked and is in bounds.
-use Rattle.std.specs.Prelude.{ℕ, ◌<◌, ◌^◌, ◌≡◌, Option, Some, List, All, map, slice_get}
+use Rattle.std.specs.Prelude.{ℕ, ◌<◌, ◌^◌, ◌≡◌, Option, Some, List, All, length, map, slice_get}
 use Rattle.std.specs.Option.{ForSome}
 use Rattle.domains.specs.Index.{IsIndex}
 use Rattle.domains.specs.declared.area.Area.{Area}
 use Rattle.pipe_tree.specs.declared.tree.Image.{Image}
 use Rattle.pipe_tree.specs.declared.tree.Names.{Names}
 use Rattle.pipe_tree.specs.declared.tree.Names.TheVariants.{One, Three}
-use Rattle.pipe_tree.specs.Tree.{Function, Accumulator, Node, number, variable, read, neg, binary, literal, abs, clamp, select}
-use Rattle.pipe_tree.specs.Tree.{stencil, Branch, Declaration, param, image, function, accumulator, output}
+use Rattle.pipe_tree.specs.Tree.{Function, Accumulator, Node, number, variable, read, lookup, neg, binary, literal, abs, clamp, select}
+use Rattle.pipe_tree.specs.Tree.{stencil, Branch, Declaration, param, image, table, function, accumulator, output}
 use Rattle.pipe_bounds.specs.StageBounds.{StageBounds}
 use Rattle.job.specs.Boxes.{box_of}
-use Rattle.binding.specs.Binding.{Program, Variables, variables_of, stage_number, test_of, ends_of, area_of, plane_area}
+use Rattle.binding.specs.Binding.{Program, Variables, variables_of, stage_number, table_named, test_of, ends_of, area_of, plane_area}
+use Rattle.tables.specs.declared.table.Table.{Table}
+use Rattle.tables.specs.Entries.{AreEntries, span_from}
 use Rattle.pipe_bounds.specs.InBounds.{scale_of}
 
--- its numbers fit 32 bits, and its indices are in range
-abbrev pub IsRanged : Node → Type 0
-IsRanged (number n) = n < 2 ^ 31
-IsRanged (variable x) = Unit {0}
-IsRanged (read x i j) = IsIndex (scale_of i) × IsIndex (scale_of j)
-IsRanged (neg a) = IsRanged a
-IsRanged (binary op a b) = IsRanged a × IsRanged b
-IsRanged (literal op a n) = IsRanged a
-IsRanged (abs a) = IsRanged a
-IsRanged (clamp a b c) = IsRanged a × IsRanged b × IsRanged c
-IsRanged (select a relation b c d) = IsRanged a × IsRanged b × IsRanged c × IsRanged d
-IsRanged (stencil x divisor kernel) = Unit {0}
+-- a table of this name is given, and has entries
+pub record HasEntries (tables : List Table) (x : List ℕ) : Type 0 where
+  pub table : Table
+  pub named : table_named tables x ≡ Some table
+  pub entries : AreEntries (span_from table.lo (length table.values)) (length table.values)
 
-abbrev pub IsRangedBranch : Branch → Type 0
-IsRangedBranch b = IsRanged b.value
+-- its numbers fit 32 bits, its indices are in range, and its tables are given
+abbrev pub IsRanged : List Table → Node → Type 0
+IsRanged ts (number n) = n < 2 ^ 31
+IsRanged ts (variable x) = Unit {0}
+IsRanged ts (read x i j) = IsIndex (scale_of i) × IsIndex (scale_of j)
+IsRanged ts (lookup x a) = HasEntries ts x × IsRanged ts a
+IsRanged ts (neg a) = IsRanged ts a
+IsRanged ts (binary op a b) = IsRanged ts a × IsRanged ts b
+IsRanged ts (literal op a n) = IsRanged ts a
+IsRanged ts (abs a) = IsRanged ts a
+IsRanged ts (clamp a b c) = IsRanged ts a × IsRanged ts b × IsRanged ts c
+IsRanged ts (select a relation b c d) = IsRanged ts a × IsRanged ts b × IsRanged ts c × IsRanged ts d
+IsRanged ts (stencil x divisor kernel) = Unit {0}
+
+abbrev pub IsRangedBranch : List Table → Branch → Type 0
+IsRangedBranch ts b = IsRanged ts b.value
 
 -- and so for all expressions of an item
-abbrev pub IsRangedItem : Declaration → Type 0
-IsRangedItem (param p) = Unit {0}
-IsRangedItem (image i) = Unit {0}
-IsRangedItem (function f) = All IsRangedBranch f.cases × ForSome f.otherwise IsRanged
-IsRangedItem (accumulator a) = IsRanged a.value × IsRanged a.bin
-IsRangedItem (output o) = Unit {0}
+abbrev pub IsRangedItem : List Table → Declaration → Type 0
+IsRangedItem ts (param p) = Unit {0}
+IsRangedItem ts (image i) = Unit {0}
+IsRangedItem ts (table t) = Unit {0}
+IsRangedItem ts (function f) = All (IsRangedBranch ts) f.cases × ForSome f.otherwise (IsRanged ts)
+IsRangedItem ts (accumulator a) = IsRanged ts a.value × IsRanged ts a.bin
+IsRangedItem ts (output o) = Unit {0}
 
 -- ---- what was found of its stages, by the names that stand for them
 
@@ -68,16 +78,17 @@ HavePlanes p found i (Three x y z) =
 abbrev pub IsBoundItem : Program → List StageBounds → Declaration → Type 0
 IsBoundItem p found (param x) = Unit {0}
 IsBoundItem p found (image i) = HavePlanes p found i i.names
+IsBoundItem p found (table t) = Unit {0}
 IsBoundItem p found (function f) = HasBounds p found f.name (IsFunctionBounds p f)
 IsBoundItem p found (accumulator a) = HasBounds p found a.name (IsAccumulatorBounds p a)
 IsBoundItem p found (output o) = Unit {0}
 
 -- its stages can be made
 pub record IsReady (p : Program) (found : List StageBounds) (item : Declaration) : Type 0 where
-  pub ranged : IsRangedItem item
+  pub ranged : IsRangedItem p.tables item
   pub bound : IsBoundItem p found item
 
 -- all this holds of each item
 pub record AreReady (p : Program) (found : List StageBounds) (items : List Declaration) : Type 0 where
-  pub ranged : All IsRangedItem items
+  pub ranged : All (IsRangedItem p.tables) items
   pub bound : All (IsBoundItem p found) items

@@ -11,7 +11,7 @@ abbrev pub variables_in : KeptVariables → Variables
 variables_in own = record { row_name = own.row; column_name = own.column }
 
 abbrev pub program_in : Resolver → Program
-program_in r = program_of r.checked.now r.params.now
+program_in r = program_of r.checked.now r.params.now r.tables.now
 
 abbrev pub output_of : Program → OutputText → Output
 output_of p o = record { stages = map (stage_number p) (names_in o.names); max = o.max }

@@ -10,8 +10,9 @@ use Rattle.binding.proofs.bound.resolve.Goals as goal
 pub stages-requires : goal.stages-requires
 stages-requires c =
     let tree = tree_in c.args.checked.now in
-    let p = program_of c.args.checked.now c.args.params.now in
+    let p = program_of c.args.checked.now c.args.params.now c.args.tables.now in
     let known = c.tree.ensures.checked in
     let same : declarations c.items-items.result.now ≡ content tree =
     ap declarations (c.items-items.ensures ∙ ap items_of c.tree.ensures.program) in
-    subst (AreReady p c.args.found.now) (sym same) (ready (content tree) p known.stages known.named c.args.found.now c.requires)
+    subst (AreReady p c.args.found.now) (sym same) (ready (content tree) p known.stages known.named c.args.found.now c.requires.found c.requires.bounds
+    c.requires.tables)

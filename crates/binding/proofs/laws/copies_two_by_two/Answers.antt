@@ -76,6 +76,7 @@ returns-clause-binds c = record {
   image = planes;
   declared = refl;
   set = all_set;
+  fit = tt;
   ranks = 0 ∷ 1 ∷ [];
   ranking = ranking-from_recurrence (graph_of copying) (0 ∷ 1 ∷ []) (record { each = refl; rank = each_rank });
   is = refl;

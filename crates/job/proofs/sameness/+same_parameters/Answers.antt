@@ -20,21 +20,21 @@ same_parameters-requires t c = (
 )
 
 pub returns-then-same_parameter-clause-told : goal.returns-then-same_parameter-clause-told
-returns-then-same_parameter-clause-told t c = λ first second h.
+returns-then-same_parameter-clause-told t c = λ m n first second ends other h.
     let e = c.in-Some-Some.ensures.cases.0 in
     let f = c.in-Some-Some.ensures'.cases.0 in
     let one = first_fits c.args.a.now c.in-Some-Some.rest.now c.in-Some-Some.first.now e c.requires.first in
     let two = first_fits c.args.b.now c.in-Some-Some.others.now c.in-Some-Some.other.now f c.requires.second in
-    c.same_parameters.ensures.told first second
+    c.same_parameters.ensures.told m n first second ends other
     (firsts c.args.a.now c.args.b.now c.in-Some-Some.rest.now c.in-Some-Some.others.now c.in-Some-Some.first.now c.in-Some-Some.other.now
-    first second e f one two h).1
+    m n first second e f one two h).1
 
 pub returns-else-same_parameter-clause-told : goal.returns-else-same_parameter-clause-told
-returns-else-same_parameter-clause-told t c = λ first second h.
+returns-else-same_parameter-clause-told t c = λ m n first second ends other h.
     let e = c.in-Some-Some.ensures.cases.0 in
     let f = c.in-Some-Some.ensures'.cases.0 in
     let one = first_fits c.args.a.now c.in-Some-Some.rest.now c.in-Some-Some.first.now e c.requires.first in
     let two = first_fits c.args.b.now c.in-Some-Some.others.now c.in-Some-Some.other.now f c.requires.second in
     c.same_parameter.ensures.1
     (firsts c.args.a.now c.args.b.now c.in-Some-Some.rest.now c.in-Some-Some.others.now c.in-Some-Some.first.now c.in-Some-Some.other.now
-    first second e f one two h).0
+    m n first second e f one two h).0

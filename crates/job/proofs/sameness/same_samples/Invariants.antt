@@ -1,5 +1,5 @@
 use Rattle.std.proofs.Common.{◌≡◌, ◌<◌, ℕ}
-use Rattle.netpbm.specs.Samples.{sample_in}
+use Rattle.plane_samples.specs.Samples.{sample_in}
 use Rattle.job.proofs.sameness.same_samples.Given as goal
 
 abbrev pub invariant-loop-k : goal.invariant-loop-k

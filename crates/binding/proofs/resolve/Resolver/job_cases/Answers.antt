@@ -13,7 +13,7 @@ job_case-requires-clause-ranged c =
     let cases = c.args.cases.now in
     let n = c.loop-number.number in
     let x = c.index-cases-number.result in
-    all_at IsRangedBranch (branches cases) n (branch x) c.requires.ranged
+    all_at (IsRangedBranch c.args.self.now.tables.now) (branches cases) n (branch x) c.requires.ranged
     (slice_get-map branch cases n ∙ ap (option_map branch) (here_is cases cases n x refl c.loop-number-test.true c.index-cases-number.is))
 
 pub job_case-requires-clause-boxed : goal.job_case-requires-clause-boxed

@@ -16,7 +16,8 @@ add_item-requires c =
     slice_get-map declaration items n
     ∙ ap (option_map declaration) (here_is items items n _ refl c.loop-item-test.true c.item-item.is) in
     record {
-      ranged = all_at IsRangedItem (declarations items) n (declaration c.item-item.result) c.requires.ranged here;
+      ranged =
+          all_at (IsRangedItem c.args.self.now.tables.now) (declarations items) n (declaration c.item-item.result) c.requires.ranged here;
       bound =
           all_at (IsBoundItem (program_in c.args.self.now) c.args.self.now.found.now) (declarations items) n
           (declaration c.item-item.result) c.requires.bound here;

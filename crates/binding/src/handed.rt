@@ -1,0 +1,84 @@
+#![tactic(auto)]
+//! Whether the tables that are given are those that a program declares.
+
+ghost use Rattle.std.specs.Prelude.{◌≡◌, ◌↔◌, ◌+ℤ◌, ◌-ℤ◌, pos, IsTrue, IfSome, IfNone, All, FitsSigned, length};
+ghost use Rattle.std.specs.Int.{w32};
+ghost use Rattle.std.specs.List.{flat_map};
+ghost use Rattle.std.specs.Option.{option_map};
+ghost use Rattle.pipe_tree.specs.Tree.{declarations};
+ghost use Rattle.binding.specs.Binding.{table_named, item_tables, IsTableFit, TablesFit, IsSmallTable, AreSmallTables};
+ghost use Rattle.binding.specs.BindFaults.{IsFirstMisfit};
+
+use job::Table;
+use pipe_bounds::{Params, affine_value};
+use pipe_checks::is_same;
+use pipe_tokens::Name;
+use pipe_tree::Item;
+
+// The last index that a table has an entry for.
+fn last_index(table: &Table) -> i128
+    ensures { result ≡ (table.now.lo +ℤ pos (length table.now.values)) -ℤ pos 1 }
+{
+    i128::from(table.lo) + table.values.as_slice().len() as i128 - 1
+}
+
+// Whether the given table has the name and the span of the declared one.
+fn table_fits(params: &Params, declared: &pipe_tree::Table, given: &Table) -> bool
+    ensures { IsTrue result ↔ IsTableFit params.now declared.now given.now }
+{
+    is_same(&given.name, &declared.name)
+        && affine_value(params, &declared.span.first) == i128::from(given.lo)
+        && affine_value(params, &declared.span.last) == last_index(given)
+}
+
+/// The first of the tables that has this name.
+pub(crate) fn table_named<'a>(tables: &'a [Table], name: &Name) -> Option<&'a Table>
+    ensures { option_map (λ table. table.now) result ≡ table_named tables.now name.now }
+{
+    tables.iter().find(|table| is_same(&table.name, name))
+}
+
+/// The number of the first table that is given otherwise than it is declared.
+pub(crate) fn table_misfit(params: &Params, items: &[Item], given: &[Table]) -> Option<usize>
+    ensures some { IfSome result (IsFirstMisfit params.now
+        (flat_map item_tables (declarations items.now)) given.now) }
+    ensures none { IfNone result
+        (TablesFit params.now (flat_map item_tables (declarations items.now)) given.now) }
+{
+    let mut number = 0;
+    for item in items {
+        if let Item::Table(declared) = item {
+            match given.get(number) {
+                Some(table) if table_fits(params, declared, table) => number += 1,
+                _ => return Some(number),
+            }
+        }
+    }
+    (number < given.len()).then_some(number)
+}
+
+// Numbers of 32 bits are within them.
+fn fit_entries(entries: &[i32])
+    ensures { All (FitsSigned w32) entries.now }
+{
+    for entry in entries {
+        let _entry = *entry;
+    }
+}
+
+// A table has a name, and entries of 32 bits.
+fn fit_table(table: &Table)
+    ensures { IsSmallTable table.now }
+{
+    let _name = table.name.as_bytes();
+    fit_entries(table.values.as_slice());
+}
+
+/// So have all tables.
+pub(crate) fn fit_tables(tables: &[Table])
+    ensures { AreSmallTables tables.now }
+{
+    for table in tables {
+        fit_table(table);
+    }
+}
