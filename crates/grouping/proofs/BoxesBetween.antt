@@ -15,12 +15,12 @@ use Rattle.job.specs.Formula.{Formula}
 use Rattle.job.specs.Pipeline.{JobCase, Body, plane, function, accumulator, Stage, Pipeline}
 use Rattle.job.specs.Reads.{Read, point, window, stage_read, reads_in}
 use Rattle.job.specs.WellFormed.{IsJob}
-use Rattle.grouping.specs.Demands.{Demand, image_under, widened, grown_by, hull_of_all, read_demand, formula_demands, demands_if}
-use Rattle.grouping.specs.Demands.{meet_of_areas, meet_of_box, case_demands, other_demands, body_demands, areas_of}
-use Rattle.grouping.specs.Targets.{Target, stage_demands, demands_by, cut_to, box, region}
+use Rattle.tile_boxes.specs.Demands.{Demand, image_under, widened, grown_by, hull_of_all, read_demand, formula_demands, demands_if}
+use Rattle.tile_boxes.specs.Demands.{meet_of_areas, meet_of_box, case_demands, other_demands, body_demands, areas_of}
+use Rattle.tile_boxes.specs.Targets.{Target, stage_demands, demands_by, cut_to, box, region}
 use Rattle.grouping.specs.Greedy.{readers}
 use Rattle.grouping.specs.inside.Between.{meets_box, meets_cases, IsWhole, IsBetween}
-use Rattle.grouping.proofs.AreasMeet.{if_some-is, if_some-there}
+use Rattle.tile_boxes.proofs.AreasMeet.{if_some-is, if_some-there}
 use Rattle.grouping.proofs.ReadersMakeBoxes.{box_of_readers}
 
 -- ---- one side of areas

@@ -7,7 +7,7 @@ use Rattle.std.proofs.lemmas.Grind.{get_or-set_at}
 use Rattle.std.proofs.lemmas.List.{get_or-set_other, get_or_past}
 use Rattle.job.specs.Pipeline.{Pipeline}
 use Rattle.grouping.specs.Cheap.{IsCheap, AddsCheap}
-use Rattle.grouping.specs.Schedules.{is_inlined}
+use Rattle.tile_boxes.specs.Schedules.{is_inlined}
 use Rattle.grouping.proofs.VisitsMakeSchedules.{of_inlined}
 
 -- nothing is added at first

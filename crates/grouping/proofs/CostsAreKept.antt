@@ -7,13 +7,13 @@ use Rattle.domains.specs.declared.grid.Grid.{Grid}
 use Rattle.job.specs.Pipeline.{Stage, Pipeline}
 use Rattle.job.specs.Answers.{grid_of, has_tiles}
 use Rattle.job.specs.Readers.{stage_grid, grid_at}
-use Rattle.grouping.specs.Schedules.{is_inlined}
-use Rattle.grouping.specs.Costs.{cost_of, stage_cost, cost}
+use Rattle.tile_boxes.specs.Schedules.{is_inlined}
+use Rattle.tile_boxes.specs.Costs.{cost_of, stage_cost, cost}
 use Rattle.grouping.specs.Greedy.{Grouping}
 use Rattle.grouping.specs.inside.Standings.{AllStand}
 use Rattle.grouping.specs.inside.Trials.{kept_cost}
 use Rattle.grouping.specs.declared.standing.Standing.{Standing}
-use Rattle.grouping.proofs.TilesAreTargets.{gridded}
+use Rattle.tile_boxes.proofs.TilesAreTargets.{gridded}
 use Rattle.grouping.proofs.InlinedStands.{points_kept}
 
 -- what is inlined has no cost

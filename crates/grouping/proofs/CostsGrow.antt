@@ -11,7 +11,7 @@ use Rattle.std.proofs.lemmas.List.{get_or-set_same, get_or-set_other}
 use Rattle.std.proofs.lemmas.List.Elements.{All-nil, All-head, All-tail, All-contains}
 use Rattle.std.proofs.lemmas.List.Folds.{list_all-map}
 use Rattle.std.proofs.lemmas.Option.{slice_get_within}
-use Rattle.grouping.proofs.BoxesLieInDomains.{there_is}
+use Rattle.tile_boxes.proofs.BoxesLieInDomains.{there_is}
 use Rattle.domains.specs.Area.{point_count}
 use Rattle.domains.specs.declared.area.Area.{Area}
 use Rattle.domains.proofs.PairLists.{Contains-cases}
@@ -22,20 +22,20 @@ use Rattle.job.specs.Readers.{stage_grid}
 use Rattle.job.specs.WellFormed.{IsJob}
 use Rattle.job.proofs.Solving.{ranked_is}
 use Rattle.job.proofs.TotalLaws.{map_same}
-use Rattle.grouping.specs.Order.{ComesBefore, greatest_rank, in_order, backward}
-use Rattle.grouping.specs.Schedules.{is_inlined, is_function}
-use Rattle.grouping.specs.Demands.{hull_of_all, areas_of}
-use Rattle.grouping.specs.Targets.{Target, IsTarget, stage_demands, demands_by, cut_to, is_boxed, box_by, box_within, box, target_over}
-use Rattle.grouping.specs.Costs.{tile_targets, scratch, most_scratch, points, stage_cost, cost_of, has_scratch, stage_fits}
-use Rattle.grouping.specs.inside.Tallies.{areas_of_tiles, inner_points}
+use Rattle.tile_boxes.specs.Order.{ComesBefore, greatest_rank, in_order, backward}
+use Rattle.tile_boxes.specs.Schedules.{is_inlined, is_function}
+use Rattle.tile_boxes.specs.Demands.{hull_of_all, areas_of}
+use Rattle.tile_boxes.specs.Targets.{Target, IsTarget, stage_demands, demands_by, cut_to, is_boxed, box_by, box_within, box, target_over}
+use Rattle.tile_boxes.specs.Costs.{tile_targets, scratch, most_scratch, points, stage_cost, cost_of, has_scratch, stage_fits}
+use Rattle.tile_boxes.specs.Tallies.{areas_of_tiles, inner_points}
 use Rattle.grouping.specs.Greedy.{cost_or_zero}
 use Rattle.grouping.specs.inside.Standings.{areas_at, scratch_by_tile, boxes_by_tile, NoneInlinedBelow}
 use Rattle.grouping.specs.inside.Trials.{points_of_box}
-use Rattle.grouping.proofs.DemandsFall.{none_of_higher}
-use Rattle.grouping.proofs.BoxesFollowTheRule.{same_areas}
-use Rattle.grouping.proofs.OrderHasEachStage.{order_pairs, order_has}
-use Rattle.grouping.proofs.CostsAddUp.{sum_cons, scratch_is, points_is, cost_is, fits_is, tiles_are_targets}
-use Rattle.grouping.proofs.Lists.{AllPairs-head, AllPairs-tail}
+use Rattle.tile_boxes.proofs.DemandsFall.{none_of_higher}
+use Rattle.tile_boxes.proofs.BoxesFollowTheRule.{same_areas}
+use Rattle.tile_boxes.proofs.OrderHasEachStage.{order_pairs, order_has}
+use Rattle.tile_boxes.proofs.CostsAddUp.{sum_cons, scratch_is, points_is, cost_is, fits_is, tiles_are_targets}
+use Rattle.tile_boxes.proofs.Lists.{AllPairs-head, AllPairs-tail}
 
 -- with_one t g is the target t where g is inlined besides
 abbrev pub with_one : Target → ℕ → Target

@@ -17,8 +17,8 @@ use Rattle.domains.proofs.Places.{slice_get-end}
 use Rattle.job.specs.Pipeline.{Pipeline}
 use Rattle.job.specs.Readers.{grid_at}
 use Rattle.job.specs.WellFormed.{IsJob}
-use Rattle.grouping.specs.Targets.{box, target_over}
-use Rattle.grouping.specs.inside.Tallies.{area_of, areas_of_tiles}
+use Rattle.tile_boxes.specs.Targets.{box, target_over}
+use Rattle.tile_boxes.specs.Tallies.{area_of, areas_of_tiles}
 use Rattle.grouping.specs.inside.Standings.{boxes_by_tile, AllStand}
 use Rattle.grouping.specs.inside.Trials.{grouping_of, kept_box, IsCandidate}
 use Rattle.grouping.specs.inside.Crossed.{crossed, boxes_in, IsCrossed}

@@ -8,7 +8,7 @@ use Rattle.std.proofs.lemmas.Nat.{div-add-mod'}
 use Rattle.std.proofs.lemmas.List.{map-append, length-append, length-map, get_or_append_left, get_or-append-add, get_or-map, get_or_past}
 use Rattle.std.proofs.lemmas.Option.{slice_get_cases, slice_get_within, get_or_from_slice_get, same_Some}
 use Rattle.domains.specs.Span.{Ends}
-use Rattle.grouping.specs.inside.Tallies.{area_of}
+use Rattle.tile_boxes.specs.Tallies.{area_of}
 use Rattle.grouping.specs.inside.Crossed.{crossed}
 
 -- row by row

@@ -10,15 +10,15 @@ use Rattle.std.proofs.lemmas.List.{length-map}
 use Rattle.std.proofs.lemmas.List.FromFn.{length-range_with_len}
 use Rattle.job.specs.Pipeline.{Pipeline, Stage, rank_of}
 use Rattle.job.specs.Answers.{has_tiles}
-use Rattle.grouping.specs.Order.{backward}
-use Rattle.grouping.specs.Schedules.{is_inlined, all_stored, IsSchedule}
-use Rattle.grouping.specs.Inlining.{costs_of, AllFitScratch}
-use Rattle.grouping.specs.Costs.{tile_targets, has_scratch, stage_fits}
+use Rattle.tile_boxes.specs.Order.{backward}
+use Rattle.tile_boxes.specs.Schedules.{is_inlined, all_stored, IsSchedule}
+use Rattle.tile_boxes.specs.Costs.{costs_of, AllFitScratch}
+use Rattle.tile_boxes.specs.Costs.{tile_targets, has_scratch, stage_fits}
 use Rattle.grouping.specs.Greedy.{Grouping, initial_grouping, readers, does_read, visited, greedy_grouping, greedy_inlining}
 use Rattle.grouping.specs.inside.Standings.{areas_at, StandsStored, Stands, AllStand, NoneInlinedBelow}
 use Rattle.grouping.specs.declared.standing.Standing.{Standing}
 use Rattle.grouping.specs.declared.standing.Standing.TheVariants.{Stored, Inlined}
-use Rattle.grouping.proofs.AskedIsSchedule.{stored_is}
+use Rattle.tile_boxes.proofs.AskedIsSchedule.{stored_is}
 use Rattle.grouping.proofs.KeptIsBox.{standing_there}
 use Rattle.grouping.proofs.VisitsMakeSchedules.{Falls, IsBehind, backward_falls, backward_there, visited_is, not_yet}
 use Rattle.grouping.proofs.VisitsMakeSchedules.{group_at_first, stored_at_first, scratch_at_first, room_at_first, cost_at}

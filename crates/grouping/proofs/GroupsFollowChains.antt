@@ -14,15 +14,15 @@ use Rattle.domains.proofs.PairLists.{Contains-filter}
 use Rattle.job.specs.Pipeline.{Pipeline, Stage, rank_of}
 use Rattle.job.specs.Reads.{stage_read, reads_of}
 use Rattle.job.specs.WellFormed.{IsJob}
-use Rattle.grouping.specs.Order.{greatest_rank, in_order, backward}
-use Rattle.grouping.specs.Schedules.{is_inlined}
+use Rattle.tile_boxes.specs.Order.{greatest_rank, in_order, backward}
+use Rattle.tile_boxes.specs.Schedules.{is_inlined}
 use Rattle.grouping.specs.Greedy.{does_read, readers, Grouping, initial_grouping}
 use Rattle.grouping.specs.Greedy.{group, common_group, with_inlined, visited, greedy_grouping, greedy_inlining}
 use Rattle.grouping.specs.inside.Standings.{NoneInlinedBelow}
 use Rattle.grouping.specs.Chains.{ChainLeads, itself, on, grouping_after}
-use Rattle.grouping.proofs.BoxesFollowTheRule.{rank_below, enough_left, all_enough}
-use Rattle.grouping.proofs.BoxesHoldWhatIsRead.{ordered, Contains-reverse}
-use Rattle.grouping.proofs.AskedIsSchedule.{stored_is}
+use Rattle.tile_boxes.proofs.BoxesFollowTheRule.{rank_below, enough_left, all_enough}
+use Rattle.tile_boxes.proofs.BoxesHoldWhatIsRead.{ordered, Contains-reverse}
+use Rattle.tile_boxes.proofs.AskedIsSchedule.{stored_is}
 use Rattle.grouping.proofs.ReadersMakeBoxes.{reader_is_behind, readers_read, group_shared}
 use Rattle.grouping.proofs.VisitsMakeSchedules.{visited_by, Falls, IsBehind, backward_falls, backward_there, group_at_first}
 use Rattle.grouping.proofs.VisitsMakeSchedules.{stored_at_first}

@@ -14,9 +14,9 @@ use Rattle.domains.proofs.Places.{slice_get-set_same, slice_get-set_other}
 use Rattle.job.specs.Pipeline.{Stage, Pipeline, rank_of}
 use Rattle.job.specs.WellFormed.{IsJob}
 use Rattle.job.proofs.TotalLaws.{map_same}
-use Rattle.grouping.specs.Schedules.{is_inlined, is_function}
-use Rattle.grouping.specs.Targets.{Target, box, region, target_over}
-use Rattle.grouping.specs.Costs.{scratch, most_scratch}
+use Rattle.tile_boxes.specs.Schedules.{is_inlined, is_function}
+use Rattle.tile_boxes.specs.Targets.{Target, box, region, target_over}
+use Rattle.tile_boxes.specs.Costs.{scratch, most_scratch}
 use Rattle.grouping.specs.Greedy.{does_read, readers, Grouping, group, common_group, with_inlined, cost_or_zero, pays, has_room}
 use Rattle.grouping.specs.inside.Standings.{areas_at, boxes_by_tile, StandsStored, StandsInlined, Stands, AllStand, NoneInlinedBelow}
 use Rattle.grouping.specs.inside.Crossed.{boxes_in}

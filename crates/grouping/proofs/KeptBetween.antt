@@ -7,8 +7,8 @@ use Rattle.domains.specs.declared.area.Area.{Area}
 use Rattle.job.specs.Pipeline.{Pipeline}
 use Rattle.job.specs.WellFormed.{IsJob}
 use Rattle.grouping.specs.Greedy.{Grouping, group}
-use Rattle.grouping.specs.Schedules.{is_inlined}
-use Rattle.grouping.specs.Targets.{Target, box, region, target_over}
+use Rattle.tile_boxes.specs.Schedules.{is_inlined}
+use Rattle.tile_boxes.specs.Targets.{Target, box, region, target_over}
 use Rattle.grouping.specs.inside.Between.{IsWhole, kept_region, IsBetween, IsSpot, HasWhole, AreWhole}
 use Rattle.grouping.specs.inside.Standings.{areas_at, AllStand}
 use Rattle.grouping.specs.inside.Trials.{grouping_of, kept_box, IsCandidate}

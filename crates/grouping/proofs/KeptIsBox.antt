@@ -10,10 +10,10 @@ use Rattle.std.proofs.lemmas.Option.{slice_get-map, get_or_from_slice_get, slice
 use Rattle.domains.specs.declared.area.Area.{Area}
 use Rattle.job.specs.Pipeline.{Pipeline}
 use Rattle.job.specs.WellFormed.{IsJob}
-use Rattle.grouping.specs.Schedules.{is_inlined}
-use Rattle.grouping.specs.Costs.{scratch}
-use Rattle.grouping.specs.Targets.{Target, IsTarget, box, region, target_over}
-use Rattle.grouping.specs.inside.Walks.{InDomainRanges}
+use Rattle.tile_boxes.specs.Schedules.{is_inlined}
+use Rattle.tile_boxes.specs.Costs.{scratch}
+use Rattle.tile_boxes.specs.Targets.{Target, IsTarget, box, region, target_over}
+use Rattle.tile_boxes.specs.Walks.{InDomainRanges}
 use Rattle.grouping.specs.Greedy.{Grouping, group, common_group}
 use Rattle.grouping.specs.inside.Standings.{areas_at, boxes_by_tile, Stands, AllStand}
 use Rattle.grouping.specs.inside.Crossed.{boxes_in}

@@ -1,19 +1,3 @@
-pub mod AreasMeet
-pub mod Lists
-pub mod DemandsFall
-pub mod RanksNeverRise
-pub mod BoxesFollowTheRule
-pub mod WalksGiveBoxes
-pub mod HullsAreLeast
-pub mod ImagesHold
-pub mod BoxesHoldWhatIsRead
-pub mod OrderHasEachStage
-pub mod TilesAreTargets
-pub mod CostsAddUp
-pub mod CostsAreSmall
-pub mod AskedIsSchedule
-pub mod AloneTakesNone
-pub mod BoxesLieInDomains
 pub mod CostsGrow
 pub mod ReadersMakeBoxes
 pub mod VisitsMakeSchedules
@@ -28,3 +12,4 @@ pub mod TrialsOfBoxes
 pub mod CrossedBoxes
 pub mod GroupsFollowChains
 pub mod CheapOnesAreAdded
+pub mod TrialsAreSmall

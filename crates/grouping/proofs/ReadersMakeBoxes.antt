@@ -14,18 +14,18 @@ use Rattle.job.specs.Reads.{Read, stage_read, reads_of}
 use Rattle.job.specs.WellFormed.{IsStage, IsJob}
 use Rattle.job.proofs.Solving.{ranked_is}
 use Rattle.job.proofs.Unrolling.{reads_fall}
-use Rattle.grouping.specs.Order.{backward}
-use Rattle.grouping.specs.Schedules.{is_inlined}
-use Rattle.grouping.specs.Demands.{Demand, grown_by, hull_of_all, areas_of}
-use Rattle.grouping.specs.Targets.{Target, IsTarget, region_by, demands_by, cut_to, box, region}
-use Rattle.grouping.specs.inside.Walks.{InDomainRanges, demanded_all, cut_hull}
+use Rattle.tile_boxes.specs.Order.{backward}
+use Rattle.tile_boxes.specs.Schedules.{is_inlined}
+use Rattle.tile_boxes.specs.Demands.{Demand, grown_by, hull_of_all, areas_of}
+use Rattle.tile_boxes.specs.Targets.{Target, IsTarget, region_by, demands_by, cut_to, box, region}
+use Rattle.tile_boxes.specs.Walks.{InDomainRanges, demanded_all, cut_hull}
 use Rattle.grouping.specs.Greedy.{does_read, readers, Grouping, group, common_group}
-use Rattle.grouping.proofs.AreasMeet.{near_subarea}
-use Rattle.grouping.proofs.BoxesLieInDomains.{box_inside}
-use Rattle.grouping.proofs.DemandsFall.{OfReads, none_of, of_stage}
-use Rattle.grouping.proofs.BoxesFollowTheRule.{areas_of-append, box_follows}
-use Rattle.grouping.proofs.AloneTakesNone.{out_of_target, uncut}
-use Rattle.grouping.proofs.WalksGiveBoxes.{hull_after}
+use Rattle.tile_boxes.proofs.AreasMeet.{near_subarea}
+use Rattle.tile_boxes.proofs.BoxesLieInDomains.{box_inside}
+use Rattle.tile_boxes.proofs.DemandsFall.{OfReads, none_of, of_stage}
+use Rattle.tile_boxes.proofs.BoxesFollowTheRule.{areas_of-append, box_follows}
+use Rattle.tile_boxes.proofs.AloneTakesNone.{out_of_target, uncut}
+use Rattle.tile_boxes.proofs.WalksGiveBoxes.{hull_after}
 
 -- ---- a stage that does not read g demands nothing of it
 

@@ -11,20 +11,21 @@ use Rattle.domains.specs.Span.{Ends}
 use Rattle.domains.specs.declared.area.Area.{Area}
 use Rattle.job.specs.Pipeline.{Pipeline}
 use Rattle.job.specs.WellFormed.{IsJob}
-use Rattle.grouping.specs.Targets.{box, target_over}
-use Rattle.grouping.specs.Costs.{scratch}
-use Rattle.grouping.specs.Schedules.{is_inlined}
+use Rattle.tile_boxes.specs.Targets.{box, target_over}
+use Rattle.tile_boxes.specs.Costs.{scratch}
+use Rattle.tile_boxes.specs.Schedules.{is_inlined}
 use Rattle.grouping.specs.Greedy.{Grouping}
 use Rattle.grouping.specs.inside.Standings.{areas_at, boxes_by_tile, AllStand}
 use Rattle.grouping.specs.inside.Trials.{points_of_box, kept_scratch, scratch_with, IsTrialOf, AreTaken, IsRowOfBoxes}
-use Rattle.grouping.specs.inside.Tallies.{area_of}
+use Rattle.tile_boxes.specs.Tallies.{area_of}
 use Rattle.grouping.specs.inside.Crossed.{crossed}
 use Rattle.grouping.specs.declared.boxes.Boxes.TheVariants.{Crossed}
 use Rattle.grouping.specs.declared.boxes.Crossing.{Crossing}
 use Rattle.grouping.specs.declared.trial.Taken.{Taken}
 use Rattle.grouping.proofs.CrossedLists.{length-by_rows, at_row}
 use Rattle.grouping.specs.declared.standing.Standing.{Standing}
-use Rattle.grouping.proofs.CostsAreSmall.{box_small, scratch_small, boxes_small}
+use Rattle.tile_boxes.proofs.CostsAreSmall.{box_small, scratch_small}
+use Rattle.grouping.proofs.TrialsAreSmall.{boxes_small}
 use Rattle.grouping.proofs.KeptIsBox.{kept_is_scratch}
 
 abbrev nowhere : Area

@@ -15,21 +15,21 @@ use Rattle.domains.specs.declared.area.Area.{Area}
 use Rattle.job.specs.Pipeline.{Stage, Pipeline, rank_of}
 use Rattle.job.specs.Answers.{is_output, grid_of, has_tiles}
 use Rattle.job.proofs.TotalLaws.{map_same}
-use Rattle.grouping.specs.Order.{ComesBefore, in_order, backward}
-use Rattle.grouping.specs.Schedules.{is_inlined, is_function, IsSchedule, all_stored}
-use Rattle.grouping.specs.Targets.{Target, target_over}
-use Rattle.grouping.specs.Costs.{tile_targets, scratch, most_scratch, stage_cost, cost, has_scratch, stage_fits}
-use Rattle.grouping.specs.Inlining.{costs_of, AllFitScratch}
-use Rattle.grouping.specs.inside.Tallies.{areas_of_tiles, over, over_domain}
+use Rattle.tile_boxes.specs.Order.{ComesBefore, in_order, backward}
+use Rattle.tile_boxes.specs.Schedules.{is_inlined, is_function, IsSchedule, all_stored}
+use Rattle.tile_boxes.specs.Targets.{Target, target_over}
+use Rattle.tile_boxes.specs.Costs.{tile_targets, scratch, most_scratch, stage_cost, cost, has_scratch, stage_fits}
+use Rattle.tile_boxes.specs.Costs.{costs_of, AllFitScratch}
+use Rattle.tile_boxes.specs.Tallies.{areas_of_tiles, over, over_domain}
 use Rattle.grouping.specs.Greedy.{Grouping, initial_grouping, group, readers}
 use Rattle.grouping.specs.Greedy.{common_group, with_inlined, pays, has_room, inlined_if, visited}
 use Rattle.grouping.specs.inside.Standings.{areas_at, scratch_by_tile}
-use Rattle.grouping.proofs.RanksNeverRise.{All-reverse}
-use Rattle.grouping.proofs.OrderHasEachStage.{order_pairs, order_has}
-use Rattle.grouping.proofs.AskedIsSchedule.{none_inlined}
-use Rattle.grouping.proofs.BoxesLieInDomains.{no_scratch}
-use Rattle.grouping.proofs.CostsAddUp.{fits_is, all_fit}
-use Rattle.grouping.proofs.Lists.{AllPairs-head, AllPairs-tail}
+use Rattle.tile_boxes.proofs.RanksNeverRise.{All-reverse}
+use Rattle.tile_boxes.proofs.OrderHasEachStage.{order_pairs, order_has}
+use Rattle.tile_boxes.proofs.AskedIsSchedule.{none_inlined}
+use Rattle.tile_boxes.proofs.BoxesLieInDomains.{no_scratch}
+use Rattle.tile_boxes.proofs.CostsAddUp.{fits_is, all_fit}
+use Rattle.tile_boxes.proofs.Lists.{AllPairs-head, AllPairs-tail}
 
 -- ---- the order falls
 

@@ -2,8 +2,8 @@
 use Rattle.std.specs.Prelude.{ℕ, ◌≡◌, Bool, true, List, take}
 use Rattle.std.specs.List.{fold}
 use Rattle.job.specs.Pipeline.{Pipeline}
-use Rattle.grouping.specs.Order.{backward}
-use Rattle.grouping.specs.Schedules.{is_inlined}
+use Rattle.tile_boxes.specs.Order.{backward}
+use Rattle.tile_boxes.specs.Schedules.{is_inlined}
 use Rattle.grouping.specs.Greedy.{does_read, Grouping, initial_grouping, visited}
 
 -- a chain of reads leads from stage t through inlined functions alone: to t itself, and from each stage r that it leads to

@@ -4,10 +4,10 @@ use Rattle.std.specs.List.{sum, list_all}
 use Rattle.std.specs.Ordering.{int_eq}
 use Rattle.std.specs.Option.{option_map_or}
 use Rattle.domains.specs.Index.{Scale}
-use Rattle.job.specs.Formula.{Formula, number, coordinate, read, neg, binary, literal, abs, clamp, select, stencil}
+use Rattle.job.specs.Formula.{Formula, number, coordinate, read, neg, binary, literal, abs, lookup, clamp, select, stencil}
 use Rattle.job.specs.Pipeline.{JobCase, Body, plane, function, accumulator, Pipeline}
 use Rattle.job.specs.Reads.{Read, point, window}
-use Rattle.grouping.specs.Schedules.{is_function, is_inlined}
+use Rattle.tile_boxes.specs.Schedules.{is_function, is_inlined}
 use Rattle.grouping.specs.Greedy.{reads_at, readers}
 
 -- the operators and reads of a formula. A stencil counts as more than a cheap function may have
@@ -19,6 +19,7 @@ steps_in (neg a) = 1 + steps_in a
 steps_in (binary op a b) = 1 + (steps_in a + steps_in b)
 steps_in (literal op a n) = 1 + steps_in a
 steps_in (abs a) = 1 + steps_in a
+steps_in (lookup t a) = 1 + steps_in a
 steps_in (clamp a low high) = 1 + (steps_in a + (steps_in low + steps_in high))
 steps_in (select a relation b first second) = 1 + (steps_in a + (steps_in b + (steps_in first + steps_in second)))
 steps_in (stencil g divisor kernel) = 9

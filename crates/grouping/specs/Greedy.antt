@@ -7,9 +7,9 @@ use Rattle.std.specs.Option.{option_map_or}
 use Rattle.job.specs.Pipeline.{Pipeline}
 use Rattle.job.specs.Reads.{Read, stage_read, reads_of}
 use Rattle.job.specs.Answers.{is_output}
-use Rattle.grouping.specs.Order.{backward}
-use Rattle.grouping.specs.Schedules.{is_function, all_stored}
-use Rattle.grouping.specs.Costs.{cost, stage_fits}
+use Rattle.tile_boxes.specs.Order.{backward}
+use Rattle.tile_boxes.specs.Schedules.{is_function, all_stored}
+use Rattle.tile_boxes.specs.Costs.{cost, stage_fits}
 
 -- ---- readers
 

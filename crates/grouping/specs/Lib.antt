@@ -1,8 +1,3 @@
-pub mod Order
-pub mod Schedules
-pub mod Demands
-pub mod Targets
-pub mod Costs
 pub mod Inlining
 pub mod Faults
 pub mod Greedy

@@ -1,6 +1,4 @@
 -- What inner contracts and proofs cite, and no public one: how the code goes about it.
-pub mod Walks
-pub mod Tallies
 pub mod Standings
 pub mod Trials
 pub mod Between

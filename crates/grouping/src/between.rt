@@ -5,17 +5,17 @@ ghost use Rattle.std.specs.Prelude.{◌≡◌, ◌∷◌, ◌++◌, true, [], If
 ghost use Rattle.std.specs.List.{list_all};
 ghost use Rattle.job.specs.Kept.{pipeline_in};
 ghost use Rattle.job.specs.Views.{body_view, case_view};
-ghost use Rattle.grouping.specs.Targets.{box, target_over};
+ghost use Rattle.tile_boxes.specs.Targets.{box, target_over};
 ghost use Rattle.grouping.specs.inside.Between.{meets_box, meets_cases, IsWhole, kept_region, IsBetween, IsSpot, HasWhole, AreWhole};
 ghost use Rattle.grouping.specs.inside.Standings.{areas_at, AllStand};
 ghost use Rattle.grouping.specs.inside.Trials.{grouping_of, IsCandidate};
 
-use crate::demands::common;
 use crate::greedy::Grouper;
 use crate::trial::Candidate;
 use domains::Area;
 use job::{Body, Job, JobCase};
 use std::alloc::{AllocError, Global};
+use tile_boxes::common;
 
 /// A tile of a stage: its number, row by row, and its area.
 #[derive(Clone, Copy)]

@@ -9,21 +9,20 @@ ghost use Rattle.job.specs.Pipeline.{function};
 ghost use Rattle.job.specs.Views.{formula_view, case_view, stage_view};
 ghost use Rattle.job.specs.ReadViews.{read_view};
 ghost use Rattle.job.specs.Reads.{reads_of};
-ghost use Rattle.grouping.specs.Order.{backward};
+ghost use Rattle.tile_boxes.specs.Order.{backward};
 ghost use Rattle.grouping.specs.Cheap.{IsCheap, AddsCheap, steps_in, steps_of_case, steps_of, steps_at, is_same, is_plain, reads_plainly};
 ghost use Rattle.job.specs.Kept.{pipeline_in};
-ghost use Rattle.grouping.specs.Schedules.{is_function, IsSchedule};
+ghost use Rattle.tile_boxes.specs.Schedules.{is_function, IsSchedule};
 ghost use Rattle.job.specs.Answers.{is_output};
-ghost use Rattle.grouping.specs.Inlining.{IsScheduleOf, AllFitScratch, InlinesMore};
+ghost use Rattle.grouping.specs.Inlining.{IsScheduleOf, InlinesMore};
+ghost use Rattle.tile_boxes.specs.Costs.{AllFitScratch};
 
-use crate::costs::reads_stored;
-use crate::inlining::{InlinedStages, is_function};
-use crate::order::in_order;
 use crate::readers::readers_of;
 use crate::schedule::Schedule;
 use domains::Index;
 use job::{Body, Formula, Function, Job, JobCase, Read, Stage};
 use std::alloc::{AllocError, Global};
+use tile_boxes::{InlinedStages, in_order, is_function, reads_stored};
 
 /// The most operators and reads that the formulas of a cheap function have together.
 const MOST_STEPS: u32 = 8;
@@ -158,9 +157,10 @@ fn after(formula: &Formula, steps: u32) -> Option<u32>
     match formula {
         Formula::Number(_) | Formula::Coordinate(_) => Some(steps),
         Formula::Read(_, _, _) => steps.checked_sub(1),
-        Formula::Neg(operand) | Formula::Abs(operand) | Formula::Literal(_, operand, _) => {
-            after(operand, steps.checked_sub(1)?)
-        }
+        Formula::Neg(operand)
+        | Formula::Abs(operand)
+        | Formula::Lookup(_, operand)
+        | Formula::Literal(_, operand, _) => after(operand, steps.checked_sub(1)?),
         Formula::Binary(_, left, right) => {
             let rest = after(left, steps.checked_sub(1)?)?;
             after(right, rest)

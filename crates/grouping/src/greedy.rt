@@ -6,23 +6,21 @@ ghost use Rattle.std.specs.Prelude.{slice_index_or, IfOk, OnOk, Some, None};
 ghost use Rattle.std.specs.Option.{option_map_or};
 ghost use Rattle.std.specs.List.{list_all};
 ghost use Rattle.job.specs.Kept.{pipeline_in};
-ghost use Rattle.grouping.specs.Order.{backward};
-ghost use Rattle.grouping.specs.Schedules.{is_inlined, all_stored, IsSchedule};
-ghost use Rattle.grouping.specs.Costs.{cost};
-ghost use Rattle.grouping.specs.Inlining.{costs_of, AllFitScratch};
+ghost use Rattle.tile_boxes.specs.Order.{backward};
+ghost use Rattle.tile_boxes.specs.Schedules.{is_inlined, all_stored, IsSchedule};
+ghost use Rattle.tile_boxes.specs.Costs.{cost};
+ghost use Rattle.tile_boxes.specs.Costs.{costs_of, AllFitScratch};
 ghost use Rattle.grouping.specs.Greedy.{initial_grouping, common_group, group, visited, inlined_if, with_inlined, greedy_inlining};
 ghost use Rattle.grouping.specs.inside.Standings.{areas_at, Stands, AllStand, NoneInlinedBelow};
 ghost use Rattle.grouping.specs.inside.Trials.{grouping_of, kept_cost, IsCandidate};
 ghost use Rattle.grouping.specs.declared.standing.Standing.TheVariants.{Stored, Inlined};
 
-use crate::costs::costs_of;
-use crate::inlining::{InlinedStages, is_function};
-use crate::order::in_order;
 use crate::readers::readers_of;
 use crate::standing::Standing;
 use crate::trial::{Candidate, Trial};
 use job::Job;
 use std::alloc::{AllocError, Global};
+use tile_boxes::{InlinedStages, costs_of, in_order, is_function};
 
 /// What is chosen so far: which functions are inlined, the group of each stage, and how each stage stands.
 #[derive(Drop)]
@@ -190,7 +188,7 @@ impl Grouper {
     }
 
     // What each stage costs.
-    #[tactic(auto, using(crate::proofs::Lists::map_range_more))]
+    #[tactic(auto, using(tile_boxes::proofs::Lists::map_range_more))]
     fn costs(&self, alloc: Global, job: &Job) -> Result<Vec<Option<u64>>, AllocError>
         requires stand { AllStand (pipeline_in job.now) (grouping_of self.now)
             self.now.standings.items }

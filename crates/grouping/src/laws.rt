@@ -10,12 +10,12 @@ ghost use Rattle.job.specs.Readers.{grid_at};
 ghost use Rattle.job.specs.Reads.{stage_read, reads_of, IsRanked};
 ghost use Rattle.job.specs.WellFormed.{IsJob};
 ghost use Rattle.grouping.specs.Chains.{ChainLeads, grouping_after};
-ghost use Rattle.grouping.specs.Costs.{scratch, points};
-ghost use Rattle.grouping.specs.Demands.{IsHullOfAll, hull_of_all};
+ghost use Rattle.tile_boxes.specs.Costs.{scratch, points};
+ghost use Rattle.tile_boxes.specs.Demands.{IsHullOfAll, hull_of_all};
 ghost use Rattle.grouping.specs.Greedy.{greedy_grouping, greedy_inlining, group};
-ghost use Rattle.grouping.specs.Order.{ComesBefore, in_order};
-ghost use Rattle.grouping.specs.Schedules.{all_stored, is_inlined};
-ghost use Rattle.grouping.specs.Targets.{Target, target_over, IsTarget, IsListed, HasWhatItReads, box_by, box, region, boxes};
+ghost use Rattle.tile_boxes.specs.Order.{ComesBefore, in_order};
+ghost use Rattle.tile_boxes.specs.Schedules.{all_stored, is_inlined};
+ghost use Rattle.tile_boxes.specs.Targets.{Target, target_over, IsTarget, IsListed, HasWhatItReads, box_by, box, region, boxes};
 
 /// The box of a stage is the hull of what the stages in the target demand of it, each over its own region, cut to its domain.
 pub fn boxes_follow_the_rule()

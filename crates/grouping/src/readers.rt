@@ -8,9 +8,9 @@ ghost use Rattle.job.specs.Views.{stage_view};
 ghost use Rattle.job.specs.Reads.{stage_read, reads_of};
 ghost use Rattle.grouping.specs.Greedy.{does_read};
 
-use crate::costs::stage_of;
 use job::{Job, Stage};
 use std::alloc::{AllocError, Global};
+use tile_boxes::stage_of;
 
 /// Those of these stages that read stage `number`.
 pub(crate) fn readers_of(

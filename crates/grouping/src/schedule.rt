@@ -3,16 +3,13 @@
 
 ghost use Rattle.std.specs.Prelude.{◌≡◌, ◌≤◌, None, IfOk, IfErr, length, slice_index_or};
 
-use crate::costs::costs_of;
 use crate::fault::ScheduleFault;
 use crate::greedy::greedy_choice;
-use crate::inlining::{InlinedStages, first_output_asked};
-use crate::order::in_order;
-use crate::target::TargetWalk;
 use domains::Area;
 use job::Job;
 use std::alloc::{AllocError, Global};
 use std::marker::Model;
+use tile_boxes::{InlinedStages, TargetWalk, costs_of, first_output_asked, in_order};
 
 /// Which functions are inlined, what the other functions and the accumulators cost, and whether each of their tiles is known to
 /// have room in scratch memory. Contracts see inlining and costs as lists.
@@ -33,12 +30,14 @@ impl Model for Schedule {
 
 impl Schedule {
     ghost use Rattle.job.specs.Kept.{pipeline_in};
-    ghost use Rattle.grouping.specs.Schedules.{is_inlined, inlining_for, all_stored, IsSchedule};
-    ghost use Rattle.grouping.specs.Targets.{IsTarget, target_over, boxes};
-    ghost use Rattle.grouping.specs.inside.Walks.{target_of};
-    ghost use Rattle.grouping.specs.Costs.{scratch};
+    ghost use Rattle.tile_boxes.specs.Schedules.{is_inlined, inlining_for, all_stored, IsSchedule};
+    ghost use Rattle.tile_boxes.specs.Targets.{IsTarget, target_over, boxes};
+    ghost use Rattle.tile_boxes.specs.Walks.{target_of};
+    ghost use Rattle.tile_boxes.specs.Costs.{scratch};
     ghost use Rattle.grouping.specs.Greedy.{greedy_inlining};
-    ghost use Rattle.grouping.specs.Inlining.{IsScheduleOf, IsScheduleFault, AllFitScratch, StoresOutputs, InlinesMore};
+    ghost use Rattle.grouping.specs.Inlining.{IsScheduleOf, IsScheduleFault, InlinesMore};
+    ghost use Rattle.tile_boxes.specs.Costs.{AllFitScratch};
+    ghost use Rattle.tile_boxes.specs.Schedules.{StoresOutputs};
     ghost use Rattle.grouping.specs.Cheap.{AddsCheap};
 
     /// The schedule that inlines nothing.

@@ -5,23 +5,22 @@ ghost use Rattle.std.specs.Prelude.{◌≡◌, ◌<◌, ◌+◌, ◌*◌, ◌^�
 ghost use Rattle.std.specs.Prelude.{IfOk, OnOk, IfSome};
 ghost use Rattle.std.specs.List.{flat_map, list_all};
 ghost use Rattle.job.specs.Kept.{pipeline_in};
-ghost use Rattle.grouping.specs.Costs.{most_scratch};
+ghost use Rattle.tile_boxes.specs.Costs.{most_scratch};
 ghost use Rattle.grouping.specs.Greedy.{group};
 ghost use Rattle.grouping.specs.inside.Between.{IsSpot, AreWhole};
 ghost use Rattle.grouping.specs.inside.Crossed.{crossed};
 ghost use Rattle.grouping.specs.inside.Standings.{areas_at, boxes_by_tile, AllStand};
-ghost use Rattle.grouping.specs.Targets.{region, box, demands_by, target_over};
+ghost use Rattle.tile_boxes.specs.Targets.{region, box, demands_by, target_over};
 ghost use Rattle.grouping.specs.inside.Trials.{grouping_of, kept_box, kept_scratch, points_of_box, IsCandidate, IsOverTile, IsTrialOf, AreTaken, IsRowOfBoxes};
-ghost use Rattle.grouping.specs.inside.Walks.{InDomainRanges, demanded_all, target_of};
+ghost use Rattle.tile_boxes.specs.Walks.{InDomainRanges, demanded_all, target_of};
 
 use crate::between::{Spot, Wholes};
 use crate::boxes::{Boxes, Crossing};
-use crate::costs::{MOST_SCRATCH, areas_of_tiles};
 use crate::greedy::{Grouper, tile_count};
-use crate::target::{TargetWalk, no_hulls};
 use domains::{Area, Span};
 use job::Job;
 use std::alloc::{AllocError, Global};
+use tile_boxes::{MOST_SCRATCH, TargetWalk, areas_of_tiles, no_hulls};
 
 /// A function that may be inlined, the stages that read it, from the last in dependence order to the first, and the stored
 /// stage in whose tiles all these are computed.

@@ -7,10 +7,10 @@ use Rattle.std.specs.Option.{option_map}
 use Rattle.std.proofs.lemmas.Bool.{eqb-true, eq-eqb}
 use Rattle.domains.specs.declared.area.Area.{Area}
 use Rattle.domains.proofs.PairLists.{Contains-cases}
-use Rattle.grouping.specs.Order.{in_order}
-use Rattle.grouping.specs.Targets.{Target, with_number, is_boxed, numbered_box, box, boxes}
-use Rattle.grouping.proofs.OrderHasEachStage.{order_has}
-use Rattle.grouping.proofs.Lists.{flat_map-same}
+use Rattle.tile_boxes.specs.Order.{in_order}
+use Rattle.tile_boxes.specs.Targets.{Target, with_number, is_boxed, numbered_box, box, boxes}
+use Rattle.tile_boxes.proofs.OrderHasEachStage.{order_has}
+use Rattle.tile_boxes.proofs.Lists.{flat_map-same}
 use Rattle.overlap_tiles.specs.inside.Made.{area_in}
 
 module _ (f : ℕ → Option Area) (g : ℕ) where

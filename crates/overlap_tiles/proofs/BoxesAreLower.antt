@@ -8,11 +8,11 @@ use Rattle.domains.specs.declared.area.Area.{Area}
 use Rattle.job.specs.Pipeline.{Stage, rank_of}
 use Rattle.job.specs.Reads.{stage_read, reads_of, IsRanked}
 use Rattle.job.proofs.Unrolling.{reads_fall}
-use Rattle.grouping.specs.Order.{greatest_rank, backward}
-use Rattle.grouping.specs.Schedules.{is_inlined}
-use Rattle.grouping.specs.Demands.{Demand, hull_of_all, areas_of}
-use Rattle.grouping.specs.Targets.{Target, region_by, stage_demands, demands_by, all_demands_by, cut_to, box_within, box}
-use Rattle.grouping.proofs.DemandsFall.{of_body}
+use Rattle.tile_boxes.specs.Order.{greatest_rank, backward}
+use Rattle.tile_boxes.specs.Schedules.{is_inlined}
+use Rattle.tile_boxes.specs.Demands.{Demand, hull_of_all, areas_of}
+use Rattle.tile_boxes.specs.Targets.{Target, region_by, stage_demands, demands_by, all_demands_by, cut_to, box_within, box}
+use Rattle.tile_boxes.proofs.DemandsFall.{of_body}
 use Rattle.overlap_tiles.proofs.Lists.{Contains-from_flat_map, All-from_contains}
 
 -- what holds of each stage of which something is demanded holds of one that has a box

@@ -5,7 +5,7 @@ use Rattle.std.proofs.lemmas.Bool.{leb-true, leb-false, ltb-true, ltb-false}
 use Rattle.std.proofs.lemmas.List.Elements.{All-nil, All-cons, All-head, All-tail, All-weaker, All-contains, Contains-append_right}
 use Rattle.std.proofs.lemmas.List.Kept.{AllPairs-cons}
 use Rattle.domains.proofs.PairLists.{Contains-here, Contains-cases}
-use Rattle.grouping.proofs.Lists.{AllPairs-head, AllPairs-tail}
+use Rattle.tile_boxes.proofs.Lists.{AllPairs-head, AllPairs-tail}
 use Rattle.overlap_tiles.specs.Ranges.{LieApart}
 use Rattle.overlap_tiles.specs.inside.Made.{first_gap, with_held, range_of}
 use Rattle.overlap_tiles.specs.declared.ranges.Held.{Held}

@@ -8,7 +8,7 @@ use Rattle.std.proofs.lemmas.Cmp.{nat_list_cmp_total}
 use Rattle.job.specs.Identity.{input_id}
 use Rattle.job.specs.Pipeline.{Pipeline}
 use Rattle.job.specs.Answers.{Tile}
-use Rattle.grouping.specs.Targets.{Target}
+use Rattle.tile_boxes.specs.Targets.{Target}
 use Rattle.overlap_tiles.specs.Needs.{key_of, needs, needed_keys, IsTileBefore, IsKeyBefore}
 use Rattle.overlap_tiles.proofs.Lists.{AllPairs-map}
 use Rattle.overlap_tiles.proofs.NeedsAreExact.{needs_rise}

@@ -12,7 +12,7 @@ use Rattle.std.proofs.lemmas.List.Sums.{sum_by-cons}
 use Rattle.std.proofs.lemmas.Option.{same_Some}
 use Rattle.domains.proofs.PairLists.{Contains-filter, Contains-from_filter}
 use Rattle.domains.specs.Area.{point_count}
-use Rattle.grouping.specs.Costs.{points_in}
+use Rattle.tile_boxes.specs.Costs.{points_in}
 use Rattle.overlap_tiles.specs.Ranges.{LieApart}
 use Rattle.overlap_tiles.specs.Views.{step_view}
 use Rattle.overlap_tiles.specs.declared.steps.Step.{Step}

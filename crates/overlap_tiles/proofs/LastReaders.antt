@@ -12,7 +12,7 @@ use Rattle.domains.specs.declared.area.Area.{Area}
 use Rattle.job.specs.Pipeline.{Stage, Pipeline}
 use Rattle.job.specs.Reads.{Read, stage_read, reads_of}
 use Rattle.grouping.specs.Greedy.{reads_at, does_read}
-use Rattle.grouping.proofs.Lists.{Contains-map}
+use Rattle.tile_boxes.proofs.Lists.{Contains-map}
 use Rattle.overlap_tiles.specs.Lives.{DoesRead, IsReadAt, LivesMeet}
 use Rattle.overlap_tiles.specs.inside.Made.{marked, marked_by, unread, last_readers}
 use Rattle.overlap_tiles.proofs.Lists.{Contains-from_map}

@@ -6,7 +6,7 @@ use Rattle.std.proofs.lemmas.List.Elements.{All-append, All-map, All-weaker, All
 use Rattle.std.proofs.lemmas.List.Elements.{Contains-append_right, Contains-append_cases}
 use Rattle.std.proofs.lemmas.List.Kept.{AllPairs-cons}
 use Rattle.domains.proofs.PairLists.{Contains-here, Contains-cases}
-use Rattle.grouping.proofs.Lists.{AllPairs-head, AllPairs-tail}
+use Rattle.tile_boxes.proofs.Lists.{AllPairs-head, AllPairs-tail}
 
 -- ---- what is in a list
 

@@ -10,9 +10,9 @@ use Rattle.domains.specs.declared.area.Area.{Area}
 use Rattle.job.specs.Pipeline.{Pipeline}
 use Rattle.job.specs.Answers.{Tile}
 use Rattle.job.specs.WellFormed.{IsJob}
-use Rattle.grouping.specs.Schedules.{is_inlined}
-use Rattle.grouping.specs.Targets.{Target, boxes, target_over}
-use Rattle.grouping.specs.Costs.{points_in, inner_steps}
+use Rattle.tile_boxes.specs.Schedules.{is_inlined}
+use Rattle.tile_boxes.specs.Targets.{Target, boxes, target_over}
+use Rattle.tile_boxes.specs.Costs.{points_in, inner_steps}
 use Rattle.overlap_tiles.specs.inside.Made.{stage_needs, last_readers, ranges_by, ranges_for, size_of}
 use Rattle.overlap_tiles.specs.declared.needs.Need.{Need}
 use Rattle.overlap_tiles.specs.Needs.{needs, key_of, key_tile}
@@ -22,8 +22,8 @@ use Rattle.overlap_tiles.specs.Views.{need_view}
 use Rattle.overlap_tiles.proofs.Lists.{All-from_contains}
 use Rattle.overlap_tiles.proofs.RangesHaveRoom.{have_room}
 use Rattle.overlap_tiles.proofs.NeedsAreExact.{needs_made, from_needs}
-use Rattle.grouping.proofs.TilesAreTargets.{gridded}
-use Rattle.grouping.proofs.Lists.{Contains-map}
+use Rattle.tile_boxes.proofs.TilesAreTargets.{gridded}
+use Rattle.tile_boxes.proofs.Lists.{Contains-map}
 
 -- one more step
 points_in-push : (inner : List (ℕ × Area)) (s : ℕ × Area) → points_in (inner ++ s ∷ []) ≡ points_in inner + point_count s.1

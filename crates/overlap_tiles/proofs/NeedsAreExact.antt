@@ -13,14 +13,14 @@ use Rattle.domains.proofs.Covers.{cover_exact, cover_in_order}
 use Rattle.job.specs.Answers.{Tile}
 use Rattle.job.specs.Readers.{stage_grid, grid_at}
 use Rattle.job.specs.WellFormed.{IsJob}
-use Rattle.grouping.specs.Schedules.{is_inlined}
-use Rattle.grouping.specs.Targets.{Target, is_boxed, box, boxes}
-use Rattle.grouping.proofs.BoxesLieInDomains.{box_inside}
-use Rattle.grouping.proofs.Lists.{flat_map-same, Contains-map, Contains-flat_map}
+use Rattle.tile_boxes.specs.Schedules.{is_inlined}
+use Rattle.tile_boxes.specs.Targets.{Target, is_boxed, box, boxes}
+use Rattle.tile_boxes.proofs.BoxesLieInDomains.{box_inside}
+use Rattle.tile_boxes.proofs.Lists.{flat_map-same, Contains-map, Contains-flat_map}
 use Rattle.overlap_tiles.specs.inside.Made.{area_in, stage_needs}
 use Rattle.overlap_tiles.specs.Needs.{is_stored, tile_of_stage, tiles_over, needs_of, needs, IsNeeded, IsTileBefore}
 use Rattle.overlap_tiles.proofs.Lists.{Contains-from_flat_map, Contains-from_map, AllPairs-flat_map, AllPairs-map}
-use Rattle.grouping.proofs.TilesAreTargets.{gridded, grid_fits}
+use Rattle.tile_boxes.proofs.TilesAreTargets.{gridded, grid_fits}
 use Rattle.overlap_tiles.proofs.BoxesAreFound.{area_in-boxes}
 
 -- ---- the list that the code makes

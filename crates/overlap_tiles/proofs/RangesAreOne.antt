@@ -5,8 +5,8 @@ use Rattle.std.specs.Prelude.{slice_get}
 use Rattle.std.specs.Option.{option_map}
 use Rattle.std.proofs.lemmas.Bool.{cases_eq}
 use Rattle.std.proofs.lemmas.Option.{same_Some, slice_get-map}
-use Rattle.grouping.specs.Targets.{Target}
-use Rattle.grouping.specs.Costs.{steps}
+use Rattle.tile_boxes.specs.Targets.{Target}
+use Rattle.tile_boxes.specs.Costs.{steps}
 use Rattle.overlap_tiles.specs.Lives.{IsReadAt}
 use Rattle.overlap_tiles.specs.Ranges.{LieApart, LieWithin, HaveRoom}
 use Rattle.overlap_tiles.proofs.StepsHaveWhatTheyRead.{lives_last}

@@ -12,9 +12,9 @@ use Rattle.domains.proofs.PairLists.{Contains-from_filter}
 use Rattle.domains.specs.Area.{point_count}
 use Rattle.domains.specs.declared.area.Area.{Area}
 use Rattle.job.specs.Pipeline.{Stage, Pipeline}
-use Rattle.grouping.specs.Schedules.{is_inlined, is_function, is_function_body}
-use Rattle.grouping.specs.Targets.{Target, boxes}
-use Rattle.grouping.specs.Costs.{points_in, inner_steps, steps, scratch}
+use Rattle.tile_boxes.specs.Schedules.{is_inlined, is_function, is_function_body}
+use Rattle.tile_boxes.specs.Targets.{Target, boxes}
+use Rattle.tile_boxes.specs.Costs.{points_in, inner_steps, steps, scratch}
 use Rattle.overlap_tiles.specs.Ranges.{LieApart, LieWithin, HaveRoom}
 use Rattle.overlap_tiles.specs.inside.Made.{last_readers, laid, laid_of, range_of, ranges_by, ranges_for, size_of, held_after}
 use Rattle.overlap_tiles.specs.declared.ranges.Held.{Held}

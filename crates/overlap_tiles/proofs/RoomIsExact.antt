@@ -10,8 +10,8 @@ use Rattle.domains.specs.declared.grid.Grid.{Grid}
 use Rattle.job.specs.Answers.{Tile}
 use Rattle.job.specs.Pipeline.{Pipeline}
 use Rattle.job.specs.Readers.{grid_at}
-use Rattle.grouping.specs.Costs.{scratch, most_scratch}
-use Rattle.grouping.specs.Targets.{target_over}
+use Rattle.tile_boxes.specs.Costs.{scratch, most_scratch}
+use Rattle.tile_boxes.specs.Targets.{target_over}
 use Rattle.overlap_tiles.specs.Plans.{IsPlanFault}
 use Rattle.overlap_tiles.specs.declared.fault.PlanFault.TheVariants.{ScratchTooBig}
 use Rattle.overlap_tiles.specs.Work.{has_tile, lacks_room_in, lacks_room}

@@ -22,17 +22,17 @@ use Rattle.job.specs.WellFormed.{IsValued, IsReadable, IsJob}
 use Rattle.job.proofs.Steps.{All-both}
 use Rattle.job.proofs.Unrolling.{reads_fall}
 use Rattle.job.proofs.Solving.{BodyReads-both, ranked_is}
-use Rattle.grouping.specs.Order.{in_order}
-use Rattle.grouping.specs.Schedules.{is_inlined, is_function, is_function_body}
-use Rattle.grouping.specs.Targets.{Target, IsTarget, with_number, is_boxed, numbered_box, box, boxes, region, IsInBox}
-use Rattle.grouping.specs.Costs.{inner_steps, steps}
-use Rattle.grouping.proofs.Lists.{Contains-flat_map, Contains-map}
-use Rattle.grouping.proofs.OrderHasEachStage.{order_has}
-use Rattle.grouping.proofs.BoxesHoldWhatIsRead.{has_what_it_reads}
-use Rattle.grouping.proofs.BoxesLieInDomains.{InDomain, region_in_domain}
+use Rattle.tile_boxes.specs.Order.{in_order}
+use Rattle.tile_boxes.specs.Schedules.{is_inlined, is_function, is_function_body}
+use Rattle.tile_boxes.specs.Targets.{Target, IsTarget, with_number, is_boxed, numbered_box, box, boxes, region, IsInBox}
+use Rattle.tile_boxes.specs.Costs.{inner_steps, steps}
+use Rattle.tile_boxes.proofs.Lists.{Contains-flat_map, Contains-map}
+use Rattle.tile_boxes.proofs.OrderHasEachStage.{order_has}
+use Rattle.tile_boxes.proofs.BoxesHoldWhatIsRead.{has_what_it_reads}
+use Rattle.tile_boxes.proofs.BoxesLieInDomains.{InDomain, region_in_domain}
 use Rattle.overlap_tiles.specs.Lives.{DoesRead, IsReadAt, LivesMeet}
 use Rattle.overlap_tiles.specs.Available.{IsComputedBefore, IsInNeededTile, IsAvailable, ReadsAvailable}
-use Rattle.grouping.proofs.TilesAreTargets.{grid_fits}
+use Rattle.tile_boxes.proofs.TilesAreTargets.{grid_fits}
 use Rattle.overlap_tiles.proofs.NeedsAreExact.{to_needs}
 use Rattle.overlap_tiles.proofs.BoxesAreLower.{box_low}
 use Rattle.overlap_tiles.proofs.StepsRise.{steps_rise, region_of_step}

@@ -10,11 +10,11 @@ use Rattle.domains.specs.declared.area.Area.{Area}
 use Rattle.domains.proofs.PairLists.{Contains-cases, Contains-from_filter}
 use Rattle.job.specs.Pipeline.{rank_of}
 use Rattle.job.specs.Reads.{IsRanked}
-use Rattle.grouping.specs.Order.{ComesBefore, in_order}
-use Rattle.grouping.specs.Schedules.{is_inlined, is_function}
-use Rattle.grouping.specs.Targets.{Target, with_number, is_boxed, numbered_box, box, boxes, region}
-use Rattle.grouping.specs.Costs.{inner_steps, steps}
-use Rattle.grouping.proofs.OrderHasEachStage.{order_pairs}
+use Rattle.tile_boxes.specs.Order.{ComesBefore, in_order}
+use Rattle.tile_boxes.specs.Schedules.{is_inlined, is_function}
+use Rattle.tile_boxes.specs.Targets.{Target, with_number, is_boxed, numbered_box, box, boxes, region}
+use Rattle.tile_boxes.specs.Costs.{inner_steps, steps}
+use Rattle.tile_boxes.proofs.OrderHasEachStage.{order_pairs}
 use Rattle.overlap_tiles.proofs.Lists.{Contains-from_flat_map, AllPairs-append, AllPairs-flat_map}
 use Rattle.overlap_tiles.proofs.BoxesAreLower.{box_low}
 

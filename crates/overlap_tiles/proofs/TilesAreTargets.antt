@@ -3,8 +3,8 @@ use Rattle.std.proofs.Common.{ℕ, sym, subst, Bool, List}
 use Rattle.domains.specs.declared.area.Area.{Area}
 use Rattle.job.specs.Pipeline.{Pipeline}
 use Rattle.job.specs.WellFormed.{IsJob}
-use Rattle.grouping.specs.Targets.{IsTarget, target_over}
-use Rattle.grouping.proofs.TilesAreTargets.{tile_is_target as target_of_tile}
+use Rattle.tile_boxes.specs.Targets.{IsTarget, target_over}
+use Rattle.tile_boxes.proofs.TilesAreTargets.{tile_is_target as target_of_tile}
 use Rattle.overlap_tiles.specs.Plans.{IsTileAt}
 
 -- a tile is a target

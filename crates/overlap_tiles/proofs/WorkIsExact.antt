@@ -11,10 +11,10 @@ use Rattle.domains.proofs.PairLists.{AllPairs-range, AllPairs-pairs, Contains-fi
 use Rattle.job.specs.Answers.{Tile, tiles, is_result, wanted}
 use Rattle.job.specs.Pipeline.{Pipeline}
 use Rattle.job.specs.Readers.{grid_at}
-use Rattle.grouping.specs.Order.{ComesBefore, in_order}
-use Rattle.grouping.proofs.Lists.{Contains-flat_map, Contains-map}
-use Rattle.grouping.proofs.OrderHasEachStage.{order_pairs, order_has}
-use Rattle.grouping.proofs.TilesAreTargets.{gridded}
+use Rattle.tile_boxes.specs.Order.{ComesBefore, in_order}
+use Rattle.tile_boxes.proofs.Lists.{Contains-flat_map, Contains-map}
+use Rattle.tile_boxes.proofs.OrderHasEachStage.{order_pairs, order_has}
+use Rattle.tile_boxes.proofs.TilesAreTargets.{gridded}
 use Rattle.overlap_tiles.specs.Needs.{key_of, tile_of_stage, IsTileBefore, IsKeyBefore}
 use Rattle.overlap_tiles.specs.Work.{is_made, work_tiles, wanted_keys, IsWork, IsWorkedBefore}
 use Rattle.overlap_tiles.proofs.KeysRise.{key_before}

@@ -13,7 +13,7 @@ use Rattle.job.specs.Answers.{tiles, grid_of, has_tiles}
 use Rattle.job.specs.Pipeline.{Stage, Pipeline}
 use Rattle.job.specs.Readers.{stage_grid, grid_at}
 use Rattle.job.specs.WellFormed.{IsJob}
-use Rattle.grouping.proofs.TilesAreTargets.{gridded}
+use Rattle.tile_boxes.proofs.TilesAreTargets.{gridded}
 use Rattle.overlap_tiles.specs.Needs.{key_of, tile_of_stage}
 use Rattle.overlap_tiles.specs.inside.Keyed.{key_at, row_keys, Names}
 

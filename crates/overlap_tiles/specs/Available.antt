@@ -7,8 +7,8 @@ use Rattle.domains.specs.declared.grid.Grid.{Grid}
 use Rattle.job.specs.Pipeline.{plane, Stage, Pipeline}
 use Rattle.job.specs.Reads.{BodyReads}
 use Rattle.job.specs.Readers.{grid_at}
-use Rattle.grouping.specs.Targets.{Target}
-use Rattle.grouping.specs.Costs.{steps}
+use Rattle.tile_boxes.specs.Targets.{Target}
+use Rattle.tile_boxes.specs.Costs.{steps}
 use Rattle.overlap_tiles.specs.Lives.{IsReadAt}
 use Rattle.overlap_tiles.specs.Needs.{needs}
 

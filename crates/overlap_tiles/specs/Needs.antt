@@ -11,8 +11,8 @@ use Rattle.job.specs.Identity.{input_id}
 use Rattle.identity.specs.Keys.{key_cmp}
 use Rattle.job.specs.Answers.{Tile}
 use Rattle.job.specs.Readers.{grid_at}
-use Rattle.grouping.specs.Schedules.{is_inlined}
-use Rattle.grouping.specs.Targets.{Target, is_boxed, box}
+use Rattle.tile_boxes.specs.Schedules.{is_inlined}
+use Rattle.tile_boxes.specs.Targets.{Target, is_boxed, box}
 
 -- whether stage g is a function other than the target that is stored
 abbrev pub is_stored : Target → ℕ → Bool

@@ -8,8 +8,8 @@ use Rattle.job.specs.Answers.{Tile}
 use Rattle.identity.specs.declared.key.Key.{Key}
 use Rattle.job.specs.Identity.{HasTileAt}
 use Rattle.job.specs.Readers.{grid_at}
-use Rattle.grouping.specs.Targets.{Target, target_over}
-use Rattle.grouping.specs.Costs.{steps, points, scratch, most_scratch}
+use Rattle.tile_boxes.specs.Targets.{Target, target_over}
+use Rattle.tile_boxes.specs.Costs.{steps, points, scratch, most_scratch}
 use Rattle.overlap_tiles.specs.declared.fault.PlanFault.{PlanFault}
 use Rattle.overlap_tiles.specs.declared.fault.PlanFault.TheVariants.{NoSuchTile, ScratchTooBig, Memory}
 use Rattle.overlap_tiles.specs.Needs.{needs, key_tile, needed_keys}

@@ -1,8 +1,8 @@
 -- Ranges: the places in scratch memory of the steps before the target, each by its start and its length.
 use Rattle.std.specs.Prelude.{ℕ, ◌+◌, ◌<◌, ◌≤◌, ◌≡◌, ◌⊎◌, Some, List, map, slice_get, All}
 use Rattle.domains.specs.Area.{point_count}
-use Rattle.grouping.specs.Targets.{Target}
-use Rattle.grouping.specs.Costs.{inner_steps, steps, scratch}
+use Rattle.tile_boxes.specs.Targets.{Target}
+use Rattle.tile_boxes.specs.Costs.{inner_steps, steps, scratch}
 use Rattle.overlap_tiles.specs.Lives.{LivesMeet}
 
 -- no place lies in both ranges

@@ -10,10 +10,10 @@ pub use Rattle.job.specs.Answers.{is_accumulator_at}
 use Rattle.job.specs.Identity.{HasTileAt}
 use Rattle.job.specs.Pipeline.{Pipeline}
 use Rattle.job.specs.Readers.{grid_at}
-use Rattle.grouping.specs.Costs.{has_scratch}
-use Rattle.grouping.specs.Order.{ComesBefore, in_order}
-use Rattle.grouping.specs.Schedules.{is_inlined, is_function}
-use Rattle.grouping.specs.Targets.{target_over}
+use Rattle.tile_boxes.specs.Costs.{has_scratch}
+use Rattle.tile_boxes.specs.Order.{ComesBefore, in_order}
+use Rattle.tile_boxes.specs.Schedules.{is_inlined, is_function}
+use Rattle.tile_boxes.specs.Targets.{target_over}
 use Rattle.overlap_tiles.specs.Needs.{key_of, key_tile}
 
 -- ---- the stages whose tiles are made

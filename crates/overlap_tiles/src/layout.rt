@@ -5,9 +5,9 @@ ghost use Rattle.std.specs.Prelude.{◌≡◌, ◌≤◌, ◌++◌, ◌∷◌, [
 ghost use Rattle.domains.specs.Area.{IsArea};
 ghost use Rattle.job.specs.Identity.{HasTileAt};
 ghost use Rattle.job.specs.Kept.{pipeline_in};
-ghost use Rattle.grouping.specs.Costs.{points_in, most_scratch};
-ghost use Rattle.grouping.specs.Schedules.{is_inlined};
-ghost use Rattle.grouping.specs.Targets.{boxes, target_over};
+ghost use Rattle.tile_boxes.specs.Costs.{points_in, most_scratch};
+ghost use Rattle.tile_boxes.specs.Schedules.{is_inlined};
+ghost use Rattle.tile_boxes.specs.Targets.{boxes, target_over};
 ghost use Rattle.overlap_tiles.specs.Plans.{IsTileAt, IsTileLayout, IsFittingLayout, IsTargetFault, IsPlanFault};
 ghost use Rattle.overlap_tiles.specs.Places.{IsPlaceOf, HasNoPlace};
 ghost use Rattle.overlap_tiles.specs.Ranges.{LieWithin};

@@ -65,7 +65,7 @@ fn add_stage(
 }
 
 /// The tiles of stored stages that meet their boxes, stage by stage.
-#[tactic(auto, using(grouping::proofs::Lists::flat_map_range_more))]
+#[tactic(auto, using(tile_boxes::proofs::Lists::flat_map_range_more))]
 pub(crate) fn needs(
     alloc: Global,
     job: &Job,

@@ -3,7 +3,7 @@
 
 ghost use Rattle.std.specs.Prelude.{◌≡◌, ◌≤◌, ◌<◌, ◌+◌, ◌^◌, map, length, All, insert, IfOk, OnOk};
 ghost use Rattle.std.specs.Prelude.{slice_index_or};
-ghost use Rattle.grouping.specs.Costs.{points_in, most_scratch};
+ghost use Rattle.tile_boxes.specs.Costs.{points_in, most_scratch};
 ghost use Rattle.overlap_tiles.specs.Ranges.{LieWithin};
 ghost use Rattle.overlap_tiles.specs.Views.{step_view};
 ghost use Rattle.overlap_tiles.specs.inside.Made.{first_gap, with_held, still_held, held_by, held_after};

@@ -3,8 +3,8 @@
 
 ghost use Rattle.std.specs.Prelude.{◌≡◌, ◌≤◌, ◌<◌, ◌^◌, ◌++◌, ◌∷◌, [], map, filter, IfOk, IfSome, IfNone};
 ghost use Rattle.domains.specs.Area.{point_count};
-ghost use Rattle.grouping.specs.Schedules.{is_inlined};
-ghost use Rattle.grouping.specs.Costs.{points_in, most_scratch};
+ghost use Rattle.tile_boxes.specs.Schedules.{is_inlined};
+ghost use Rattle.tile_boxes.specs.Costs.{points_in, most_scratch};
 ghost use Rattle.overlap_tiles.specs.Views.{step_view};
 
 use domains::Area;

@@ -6,7 +6,7 @@ ghost use Rattle.std.specs.List.{flat_map, range_with_len};
 ghost use Rattle.domains.specs.Tiles.{tiles_of};
 ghost use Rattle.job.specs.Answers.{tiles, is_result};
 ghost use Rattle.job.specs.Kept.{pipeline_in, program_id_in};
-ghost use Rattle.grouping.specs.Order.{in_order};
+ghost use Rattle.tile_boxes.specs.Order.{in_order};
 ghost use Rattle.overlap_tiles.specs.Needs.{key_of, IsKeyBefore};
 ghost use Rattle.overlap_tiles.specs.Work.{is_made, work_keys, wanted_keys};
 ghost use Rattle.overlap_tiles.specs.inside.Keyed.{key_at, row_keys, Names};
@@ -75,7 +75,7 @@ fn made_stages(alloc: Global, job: &Job, schedule: &Schedule) -> Result<Vec<usiz
 }
 
 // The stages whose tiles belong to the answer, rising.
-#[tactic(auto, using(grouping::proofs::Lists::passes_more, grouping::proofs::Lists::fails_more))]
+#[tactic(auto, using(tile_boxes::proofs::Lists::passes_more, tile_boxes::proofs::Lists::fails_more))]
 fn result_stages(alloc: Global, job: &Job) -> Result<Vec<usize>, AllocError>
     ensures { IfOk result (λ results. results.items
         ≡ filter (is_result (pipeline_in job.now))
@@ -131,7 +131,7 @@ fn add_stage(keys: &mut Vec<Key>, job: &Job, named: &Key, stage: usize) -> Resul
 }
 
 // Adds the keys of the tiles of a grid, row by row.
-#[tactic(auto, using(grouping::proofs::Lists::flat_map_range_more))]
+#[tactic(auto, using(tile_boxes::proofs::Lists::flat_map_range_more))]
 fn add_tiles(keys: &mut Vec<Key>, first: &Key, grid: &Grid) -> Result<(), AllocError>
     ensures { OnOk result (keys.new.items
         ≡ keys.old.items ++ map (key_at first.now) (tiles_of grid.now)) }
@@ -144,7 +144,7 @@ fn add_tiles(keys: &mut Vec<Key>, first: &Key, grid: &Grid) -> Result<(), AllocE
 }
 
 // Adds the keys of the first tiles of a row.
-#[tactic(auto, using(grouping::proofs::Lists::map_range_more))]
+#[tactic(auto, using(tile_boxes::proofs::Lists::map_range_more))]
 fn add_row(keys: &mut Vec<Key>, first: &Key, row: u32, cols: u32) -> Result<(), AllocError>
     ensures { OnOk result (keys.new.items ≡ keys.old.items ++ row_keys first.now cols row) }
 {

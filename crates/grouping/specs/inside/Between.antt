@@ -8,8 +8,8 @@ use Rattle.domains.specs.Tiles.{HasTile, tile_cols, tile_area}
 use Rattle.domains.specs.declared.area.Area.{Area}
 use Rattle.domains.specs.declared.grid.Grid.{Grid}
 use Rattle.job.specs.Pipeline.{JobCase, Body, plane, function, accumulator, Stage, Pipeline}
-use Rattle.grouping.specs.Demands.{meet_of_areas}
-use Rattle.grouping.specs.Targets.{box, target_over}
+use Rattle.tile_boxes.specs.Demands.{meet_of_areas}
+use Rattle.tile_boxes.specs.Targets.{box, target_over}
 use Rattle.grouping.specs.inside.Standings.{areas_at}
 use Rattle.grouping.specs.inside.Trials.{kept_box}
 use Rattle.grouping.specs.declared.standing.Standing.{Standing}

@@ -4,7 +4,7 @@ use Rattle.std.specs.Prelude.{ℕ, ◌≡◌, Option, Some, List, map, length}
 use Rattle.std.specs.List.{flat_map}
 use Rattle.domains.specs.Span.{Ends}
 use Rattle.domains.specs.declared.area.Area.{Area}
-use Rattle.grouping.specs.inside.Tallies.{area_of}
+use Rattle.tile_boxes.specs.Tallies.{area_of}
 use Rattle.grouping.specs.declared.boxes.Boxes.{Boxes}
 use Rattle.grouping.specs.declared.boxes.Boxes.TheVariants.{Each, Crossed}
 

@@ -5,10 +5,10 @@ use Rattle.std.specs.Option.{option_map_or}
 use Rattle.domains.specs.declared.area.Area.{Area}
 use Rattle.job.specs.Pipeline.{Pipeline, rank_of}
 use Rattle.job.specs.Readers.{grid_at}
-use Rattle.grouping.specs.Schedules.{is_inlined}
-use Rattle.grouping.specs.Targets.{box, target_over}
-use Rattle.grouping.specs.Costs.{scratch, stage_fits}
-use Rattle.grouping.specs.inside.Tallies.{areas_of_tiles}
+use Rattle.tile_boxes.specs.Schedules.{is_inlined}
+use Rattle.tile_boxes.specs.Targets.{box, target_over}
+use Rattle.tile_boxes.specs.Costs.{scratch, stage_fits}
+use Rattle.tile_boxes.specs.Tallies.{areas_of_tiles}
 use Rattle.grouping.specs.inside.Crossed.{boxes_in}
 use Rattle.grouping.specs.Greedy.{Grouping, group, cost_or_zero}
 use Rattle.grouping.specs.declared.standing.Standing.{Standing}

@@ -7,19 +7,19 @@ use Rattle.domains.specs.Span.{Ends}
 use Rattle.domains.specs.declared.area.Area.{Area}
 use Rattle.job.specs.Kept.{pipeline_in}
 use Rattle.job.specs.Pipeline.{Pipeline}
-use Rattle.grouping.specs.Schedules.{is_inlined, is_function}
-use Rattle.grouping.specs.Targets.{IsTarget, box, target_over}
-use Rattle.grouping.specs.Costs.{scratch}
+use Rattle.tile_boxes.specs.Schedules.{is_inlined, is_function}
+use Rattle.tile_boxes.specs.Targets.{IsTarget, box, target_over}
+use Rattle.tile_boxes.specs.Costs.{scratch}
 use Rattle.grouping.specs.Greedy.{Grouping, readers, common_group}
 use Rattle.grouping.specs.inside.Standings.{AllStand, areas_at, boxes_by_tile, NoneInlinedBelow}
 use Rattle.grouping.specs.inside.Crossed.{boxes_in}
-use Rattle.grouping.specs.inside.Tallies.{area_of}
+use Rattle.tile_boxes.specs.Tallies.{area_of}
 use Rattle.grouping.specs.declared.trial.Taken.{Taken}
-use Rattle.grouping.specs.inside.Walks.{target_of}
+use Rattle.tile_boxes.specs.Walks.{target_of}
 use Rattle.grouping.specs.declared.standing.Standing.{Standing}
 use Rattle.grouping.specs.declared.standing.Standing.TheVariants.{Stored, Inlined}
 use Rattle.grouping.specs.declared.greedy.Grouper.{Grouper}
-use Rattle.grouping.specs.declared.target.TargetWalk.{TargetWalk}
+use Rattle.tile_boxes.specs.declared.target.TargetWalk.{TargetWalk}
 use Rattle.grouping.specs.declared.trial.Candidate.{Candidate}
 use Rattle.grouping.specs.declared.trial.Trial.{Trial}
 

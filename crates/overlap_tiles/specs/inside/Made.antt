@@ -9,10 +9,10 @@ use Rattle.job.specs.Pipeline.{Pipeline}
 use Rattle.job.specs.Answers.{Tile}
 use Rattle.job.specs.Reads.{Read, stage_read}
 use Rattle.job.specs.Readers.{grid_at}
-use Rattle.grouping.specs.Costs.{inner_steps, steps}
+use Rattle.tile_boxes.specs.Costs.{inner_steps, steps}
 use Rattle.grouping.specs.Greedy.{reads_at}
-use Rattle.grouping.specs.Schedules.{is_inlined}
-use Rattle.grouping.specs.Targets.{Target}
+use Rattle.tile_boxes.specs.Schedules.{is_inlined}
+use Rattle.tile_boxes.specs.Targets.{Target}
 use Rattle.overlap_tiles.specs.Needs.{tiles_over}
 use Rattle.overlap_tiles.specs.declared.ranges.Held.{Held}
 

@@ -1,7 +1,7 @@
 use Rattle.std.proofs.Common.{Bool, List, sym, subst, ◌∙◌}
 use Rattle.job.specs.Kept.{pipeline_in}
 use Rattle.grouping.specs.Cheap.{AddsCheap}
-use Rattle.grouping.specs.Schedules.{IsSchedule}
+use Rattle.tile_boxes.specs.Schedules.{IsSchedule}
 use Rattle.grouping.proofs.CheapOnesAreAdded.{adds_one}
 use Rattle.grouping.proofs.VisitsMakeSchedules.{one_more_is}
 use Rattle.grouping.proofs.cheap.more_inlined.Goals as goal

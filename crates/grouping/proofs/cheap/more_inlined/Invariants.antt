@@ -1,6 +1,6 @@
 use Rattle.job.specs.Kept.{pipeline_in}
 use Rattle.grouping.specs.Cheap.{AddsCheap}
-use Rattle.grouping.specs.Schedules.{IsSchedule}
+use Rattle.tile_boxes.specs.Schedules.{IsSchedule}
 use Rattle.grouping.proofs.cheap.more_inlined.Given as goal
 
 abbrev pub invariant-loop-number : goal.invariant-loop-number

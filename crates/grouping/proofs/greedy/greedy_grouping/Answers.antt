@@ -4,7 +4,7 @@ use Rattle.std.proofs.lemmas.List.{drop_all}
 use Rattle.std.proofs.lemmas.List.Elements.{All-head}
 use Rattle.job.specs.Kept.{pipeline_in}
 use Rattle.job.specs.Pipeline.{Pipeline}
-use Rattle.grouping.specs.Order.{in_order}
+use Rattle.tile_boxes.specs.Order.{in_order}
 use Rattle.grouping.specs.Greedy.{Grouping, visited}
 use Rattle.grouping.specs.inside.Standings.{AllStand}
 use Rattle.grouping.specs.inside.Trials.{grouping_of}

@@ -1,6 +1,6 @@
 use Rattle.std.proofs.Common.{◌≡◌, drop}
 use Rattle.job.specs.Kept.{pipeline_in}
-use Rattle.grouping.specs.Order.{backward}
+use Rattle.tile_boxes.specs.Order.{backward}
 use Rattle.grouping.specs.inside.Trials.{grouping_of}
 use Rattle.grouping.proofs.GreedyIsTheRule.{Left}
 use Rattle.grouping.proofs.greedy.greedy_grouping.Given as goal

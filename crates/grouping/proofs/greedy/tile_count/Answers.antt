@@ -2,8 +2,8 @@ use Rattle.std.proofs.Common.{[], length, sym, ap, ◌∙◌}
 use Rattle.std.specs.Option.{option_map_or}
 use Rattle.std.proofs.lemmas.List.{length-map}
 use Rattle.domains.specs.Tiles.{tile_area, tiles_of}
-use Rattle.grouping.specs.inside.Tallies.{areas_of_tiles}
-use Rattle.grouping.proofs.CostsAddUp.{areas_are}
+use Rattle.tile_boxes.specs.Tallies.{areas_of_tiles}
+use Rattle.tile_boxes.proofs.CostsAddUp.{areas_are}
 use Rattle.grouping.proofs.greedy.tile_count.Goals as goal
 
 pub returns-in-Some : goal.returns-in-Some

@@ -1,5 +1,5 @@
 use Rattle.job.proofs.Solving.{ranked_is}
-use Rattle.grouping.proofs.BoxesFollowTheRule.{box_follows}
+use Rattle.tile_boxes.proofs.BoxesFollowTheRule.{box_follows}
 use Rattle.grouping.proofs.laws.boxes_follow_the_rule.Goals as goal
 
 pub returns : goal.returns

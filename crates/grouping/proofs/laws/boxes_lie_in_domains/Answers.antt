@@ -1,4 +1,4 @@
-use Rattle.grouping.proofs.BoxesLieInDomains.{box_inside, region_in_domain, all_listed}
+use Rattle.tile_boxes.proofs.BoxesLieInDomains.{box_inside, region_in_domain, all_listed}
 use Rattle.grouping.proofs.laws.boxes_lie_in_domains.Goals as goal
 
 pub returns-clause-boxes : goal.returns-clause-boxes

@@ -1,4 +1,4 @@
-use Rattle.grouping.proofs.OrderHasEachStage.{order_has, order_pairs, reads_come_before}
+use Rattle.tile_boxes.proofs.OrderHasEachStage.{order_has, order_pairs, reads_come_before}
 use Rattle.grouping.proofs.laws.dependence_order_has_each_stage.Goals as goal
 
 pub returns-clause-all : goal.returns-clause-all

@@ -1,4 +1,4 @@
-use Rattle.grouping.proofs.HullsAreLeast.{hull_is_least, no_hull}
+use Rattle.tile_boxes.proofs.HullsAreLeast.{hull_is_least, no_hull}
 use Rattle.grouping.proofs.laws.hulls_are_least.Goals as goal
 
 pub returns-clause-some : goal.returns-clause-some

@@ -1,4 +1,4 @@
-use Rattle.grouping.proofs.BoxesLieInDomains.{no_scratch, own_points}
+use Rattle.tile_boxes.proofs.BoxesLieInDomains.{no_scratch, own_points}
 use Rattle.grouping.proofs.laws.stored_stages_take_no_scratch.Goals as goal
 
 pub returns-clause-scratch : goal.returns-clause-scratch

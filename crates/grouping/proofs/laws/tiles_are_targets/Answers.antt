@@ -1,4 +1,4 @@
-use Rattle.grouping.proofs.TilesAreTargets.{tile_is_target}
+use Rattle.tile_boxes.proofs.TilesAreTargets.{tile_is_target}
 use Rattle.grouping.proofs.laws.tiles_are_targets.Goals as goal
 
 pub returns : goal.returns

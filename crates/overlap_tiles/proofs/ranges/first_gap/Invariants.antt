@@ -1,5 +1,5 @@
 use Rattle.std.proofs.Common.{◌≡◌, ◌≤◌, drop}
-use Rattle.grouping.specs.Costs.{most_scratch}
+use Rattle.tile_boxes.specs.Costs.{most_scratch}
 use Rattle.overlap_tiles.specs.inside.Made.{first_gap}
 use Rattle.overlap_tiles.proofs.ranges.first_gap.Given as goal
 

@@ -1,7 +1,7 @@
 use Rattle.std.proofs.Common.{◌+◌, ◌≤◌, ◌∙◌, List, sym, subst}
 use Rattle.std.specs.Prelude.{nat_le}
 use Rattle.std.proofs.lemmas.List.Elements.{All-filter}
-use Rattle.grouping.specs.Costs.{most_scratch}
+use Rattle.tile_boxes.specs.Costs.{most_scratch}
 use Rattle.overlap_tiles.proofs.Gaps.{EndBy}
 use Rattle.overlap_tiles.specs.declared.ranges.Held.{Held}
 use Rattle.overlap_tiles.proofs.ranges.lay.Goals as goal

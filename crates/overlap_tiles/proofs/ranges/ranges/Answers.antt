@@ -1,6 +1,6 @@
 use Rattle.std.proofs.Common.{ℕ, ◌≡◌, ◌+◌, ◌≤◌, ◌++◌, ◌∷◌, [], List, map, drop, arith, sym, ap, ◌∙◌, subst}
 use Rattle.std.proofs.lemmas.List.Elements.{All-weaker}
-use Rattle.grouping.specs.Costs.{points_in, most_scratch}
+use Rattle.tile_boxes.specs.Costs.{points_in, most_scratch}
 use Rattle.overlap_tiles.specs.Ranges.{LieWithin}
 use Rattle.overlap_tiles.specs.Views.{step_view}
 use Rattle.overlap_tiles.specs.declared.ranges.Held.{Held}

@@ -1,5 +1,5 @@
 use Rattle.std.proofs.Common.{ℕ, ◌≡◌, ◌+◌, ◌≤◌, ◌++◌, map, drop}
-use Rattle.grouping.specs.Costs.{points_in, most_scratch}
+use Rattle.tile_boxes.specs.Costs.{points_in, most_scratch}
 use Rattle.overlap_tiles.specs.inside.Made.{laid, laid_of, range_of, ranges_by}
 use Rattle.overlap_tiles.specs.Views.{step_view}
 use Rattle.overlap_tiles.proofs.Gaps.{EndBy}

@@ -1,6 +1,6 @@
 use Rattle.std.proofs.Common.{◌≡◌, ◌++◌, map, drop}
 use Rattle.std.specs.Prelude.{filter}
-use Rattle.grouping.specs.Schedules.{is_inlined}
+use Rattle.tile_boxes.specs.Schedules.{is_inlined}
 use Rattle.overlap_tiles.specs.Views.{step_view}
 use Rattle.overlap_tiles.proofs.steps.inner_steps.Given as goal
 

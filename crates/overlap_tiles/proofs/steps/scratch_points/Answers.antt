@@ -1,5 +1,5 @@
 use Rattle.std.proofs.Common.{arith, map}
-use Rattle.grouping.specs.Costs.{points_in}
+use Rattle.tile_boxes.specs.Costs.{points_in}
 use Rattle.overlap_tiles.specs.Views.{step_view}
 use Rattle.overlap_tiles.proofs.PointsAreFew.{next_below}
 use Rattle.overlap_tiles.proofs.steps.scratch_points.Goals as goal

@@ -1,7 +1,7 @@
 use Rattle.std.proofs.Common.{◌≡◌, ◌+◌, ◌≤◌, map, drop}
 use Rattle.std.specs.Prelude.{fold}
 use Rattle.domains.specs.Area.{point_count}
-use Rattle.grouping.specs.Costs.{points_in, most_scratch}
+use Rattle.tile_boxes.specs.Costs.{points_in, most_scratch}
 use Rattle.overlap_tiles.specs.Views.{step_view}
 use Rattle.overlap_tiles.proofs.steps.scratch_points.Given as goal
 

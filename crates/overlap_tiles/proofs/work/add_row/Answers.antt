@@ -1,6 +1,6 @@
 use Rattle.std.proofs.Common.{ap, sym, ◌∙◌, ◌++◌, append_assoc, [], ◌∷◌, List}
 use Rattle.identity.specs.declared.key.Key.{Key}
-use Rattle.grouping.proofs.Lists.{map_range_more}
+use Rattle.tile_boxes.proofs.Lists.{map_range_more}
 use Rattle.overlap_tiles.specs.inside.Keyed.{key_at, row_keys}
 use Rattle.overlap_tiles.proofs.work.add_row.Goals as goal
 

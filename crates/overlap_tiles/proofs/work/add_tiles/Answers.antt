@@ -3,7 +3,7 @@ use Rattle.std.specs.List.{flat_map, range_with_len}
 use Rattle.domains.specs.Pairs.{pairs}
 use Rattle.domains.specs.Tiles.{tile_rows}
 use Rattle.identity.specs.declared.key.Key.{Key}
-use Rattle.grouping.proofs.Lists.{flat_map_range_more}
+use Rattle.tile_boxes.proofs.Lists.{flat_map_range_more}
 use Rattle.overlap_tiles.specs.inside.Keyed.{key_at, row_keys}
 use Rattle.overlap_tiles.proofs.WorkKeys.{rows_are}
 use Rattle.overlap_tiles.proofs.work.add_tiles.Goals as goal

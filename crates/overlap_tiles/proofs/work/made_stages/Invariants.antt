@@ -1,6 +1,6 @@
 use Rattle.std.proofs.Common.{◌≡◌, ◌++◌, filter, drop}
 use Rattle.job.specs.Kept.{pipeline_in}
-use Rattle.grouping.specs.Order.{in_order}
+use Rattle.tile_boxes.specs.Order.{in_order}
 use Rattle.overlap_tiles.specs.Work.{is_made}
 use Rattle.overlap_tiles.proofs.work.made_stages.Given as goal
 

@@ -4,8 +4,8 @@ use Rattle.std.specs.List.{flat_map}
 use Rattle.domains.specs.declared.area.Area.{Area}
 use Rattle.job.specs.Kept.{pipeline_in}
 use Rattle.domains.proofs.Places.{all_at}
-use Rattle.grouping.specs.Targets.{Target, IsTarget, box, demands_by, target_over}
-use Rattle.grouping.specs.inside.Walks.{cut_hull, demanded_all}
+use Rattle.tile_boxes.specs.Targets.{Target, IsTarget, box, demands_by, target_over}
+use Rattle.tile_boxes.specs.Walks.{cut_hull, demanded_all}
 use Rattle.grouping.specs.inside.Standings.{areas_at}
 use Rattle.grouping.proofs.CostsGrow.{areas_are_targets}
 use Rattle.grouping.proofs.ReadersMakeBoxes.{cut_is_box}

@@ -1,7 +1,7 @@
 use Rattle.std.proofs.Common.{◌≡◌, map}
 use Rattle.std.specs.List.{range_with_len}
 use Rattle.job.specs.Kept.{pipeline_in}
-use Rattle.grouping.specs.Costs.{cost}
+use Rattle.tile_boxes.specs.Costs.{cost}
 use Rattle.grouping.proofs.greedy.Grouper.costs.Given as goal
 
 abbrev pub invariant-loop-number : goal.invariant-loop-number

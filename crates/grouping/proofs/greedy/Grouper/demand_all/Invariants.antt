@@ -1,7 +1,7 @@
 use Rattle.std.proofs.Common.{◌≡◌, drop}
 use Rattle.std.specs.List.{flat_map}
-use Rattle.grouping.specs.Targets.{box, demands_by}
-use Rattle.grouping.specs.inside.Walks.{target_of, demanded_all}
+use Rattle.tile_boxes.specs.Targets.{box, demands_by}
+use Rattle.tile_boxes.specs.Walks.{target_of, demanded_all}
 use Rattle.grouping.proofs.greedy.Grouper.demand_all.Given as goal
 
 abbrev pub invariant-loop-reader : goal.invariant-loop-reader

@@ -7,7 +7,7 @@ use Rattle.grouping.specs.Greedy.{Grouping, initial_grouping}
 use Rattle.grouping.specs.inside.Standings.{Stands, AllStand}
 use Rattle.grouping.specs.inside.Trials.{grouping_of}
 use Rattle.grouping.specs.declared.standing.Standing.{Standing}
-use Rattle.grouping.proofs.Lists.{range_more}
+use Rattle.tile_boxes.proofs.Lists.{range_more}
 use Rattle.grouping.proofs.GreedyIsTheRule.{EachStands, one_stands_more, all_at_first}
 use Rattle.grouping.proofs.greedy.Grouper.none.Goals as goal
 

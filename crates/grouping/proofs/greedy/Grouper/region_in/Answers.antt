@@ -1,10 +1,10 @@
 use Rattle.std.proofs.Common.{◌≡◌, nat_eq, false, ℕ, List, Bool, arith, sym, ap, ◌∙◌}
 use Rattle.std.proofs.lemmas.Bool.Decides.{nat_tests}
 use Rattle.job.specs.Kept.{pipeline_in}
-use Rattle.grouping.specs.Targets.{region, target_over}
+use Rattle.tile_boxes.specs.Targets.{region, target_over}
 use Rattle.grouping.specs.inside.Trials.{grouping_of}
-use Rattle.grouping.specs.inside.Walks.{target_of}
-use Rattle.grouping.proofs.AreasMeet.{near_subarea}
+use Rattle.tile_boxes.specs.Walks.{target_of}
+use Rattle.tile_boxes.proofs.AreasMeet.{near_subarea}
 use Rattle.grouping.proofs.KeptIsBox.{kept_is_region, kept_is_near}
 use Rattle.grouping.proofs.greedy.Grouper.region_in.Goals as goal
 use Rattle.grouping.proofs.greedy.Grouper.region_in.Goals.{After-kept_box}

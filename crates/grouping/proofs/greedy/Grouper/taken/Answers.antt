@@ -2,7 +2,7 @@ use Rattle.std.proofs.Common.{◌≤◌, length, arith, refl}
 use Rattle.std.proofs.Math.Nat.{mul-le-mul_right}
 use Rattle.std.proofs.lemmas.Option.{slice_get_read}
 use Rattle.job.specs.Kept.{pipeline_in}
-use Rattle.grouping.proofs.CostsAreSmall.{areas_at_few}
+use Rattle.grouping.proofs.TrialsAreSmall.{areas_at_few}
 use Rattle.grouping.proofs.TrialsOfBoxes.{counted, row_of_boxes}
 use Rattle.grouping.proofs.greedy.Grouper.taken.Goals as goal
 

@@ -7,12 +7,13 @@ use Rattle.std.proofs.lemmas.List.Sums.{sum-map, sum_by-append}
 use Rattle.std.proofs.lemmas.Option.{slice_get_read}
 use Rattle.domains.specs.declared.area.Area.{Area}
 use Rattle.job.specs.Kept.{pipeline_in}
-use Rattle.grouping.specs.Targets.{box, target_over}
-use Rattle.grouping.specs.Costs.{scratch}
+use Rattle.tile_boxes.specs.Targets.{box, target_over}
+use Rattle.tile_boxes.specs.Costs.{scratch}
 use Rattle.grouping.specs.Greedy.{common_group}
 use Rattle.grouping.specs.inside.Standings.{areas_at, boxes_by_tile}
 use Rattle.grouping.specs.inside.Trials.{grouping_of, points_of_box}
-use Rattle.grouping.proofs.CostsAreSmall.{box_small, scratch_small, boxes_small, next_small}
+use Rattle.tile_boxes.proofs.CostsAreSmall.{box_small, scratch_small}
+use Rattle.grouping.proofs.TrialsAreSmall.{boxes_small, next_small}
 use Rattle.grouping.proofs.KeptIsBox.{kept_is_scratch}
 use Rattle.grouping.proofs.InlinedStands.{group_is}
 use Rattle.grouping.proofs.greedy.Grouper.trial_over.Goals as goal

@@ -1,8 +1,8 @@
 use Rattle.std.proofs.Common.{◌≡◌, ◌+◌, ◌++◌, map, drop, length}
 use Rattle.std.specs.List.{sum}
 use Rattle.job.specs.Kept.{pipeline_in}
-use Rattle.grouping.specs.Targets.{box, target_over}
-use Rattle.grouping.specs.Costs.{scratch}
+use Rattle.tile_boxes.specs.Targets.{box, target_over}
+use Rattle.tile_boxes.specs.Costs.{scratch}
 use Rattle.grouping.specs.inside.Standings.{areas_at, boxes_by_tile}
 use Rattle.grouping.specs.inside.Between.{AreWhole}
 use Rattle.grouping.specs.inside.Trials.{points_of_box}

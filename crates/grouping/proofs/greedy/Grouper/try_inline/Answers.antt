@@ -12,7 +12,7 @@ use Rattle.grouping.specs.declared.standing.Standing.{Standing}
 use Rattle.grouping.specs.declared.standing.Standing.TheVariants.{Stored, Inlined}
 use Rattle.grouping.specs.declared.trial.Candidate.{Candidate}
 use Rattle.grouping.specs.declared.trial.Trial.{Trial}
-use Rattle.grouping.proofs.CostsAreSmall.{kept_small, boxes_small}
+use Rattle.grouping.proofs.TrialsAreSmall.{kept_small, boxes_small}
 use Rattle.grouping.proofs.InlinedStands.{IsStep, group_is, function_stands, group_stands, all_stand, pays_is, fits_is, points_kept}
 use Rattle.grouping.proofs.greedy.Grouper.try_inline.Goals as goal
 use Rattle.grouping.proofs.greedy.Grouper.try_inline.Goals.{else-pays-via-then-pays+else-fits, else-pays-via-else-pays}

@@ -1,7 +1,7 @@
 use Rattle.std.proofs.Common.{subst, sym}
 use Rattle.job.specs.Kept.{pipeline_in}
-use Rattle.grouping.specs.Schedules.{IsSchedule}
-use Rattle.grouping.proofs.AskedIsSchedule.{asked_is}
+use Rattle.tile_boxes.specs.Schedules.{IsSchedule}
+use Rattle.tile_boxes.proofs.AskedIsSchedule.{asked_is}
 use Rattle.grouping.proofs.schedule.Schedule.asked.Goals as goal
 
 pub with_costs-requires : goal.with_costs-requires

@@ -1,8 +1,8 @@
 use Rattle.std.proofs.Common.{subst, sym, ◌∙◌}
 use Rattle.job.specs.Kept.{pipeline_in}
-use Rattle.grouping.specs.Schedules.{IsSchedule}
-use Rattle.grouping.specs.Inlining.{AllFitScratch}
-use Rattle.grouping.proofs.AskedIsSchedule.{stored_is, stored_fits}
+use Rattle.tile_boxes.specs.Schedules.{IsSchedule}
+use Rattle.tile_boxes.specs.Costs.{AllFitScratch}
+use Rattle.tile_boxes.proofs.AskedIsSchedule.{stored_is, stored_fits}
 use Rattle.grouping.proofs.schedule.Schedule.stored.Goals as goal
 
 pub with_costs-requires : goal.with_costs-requires

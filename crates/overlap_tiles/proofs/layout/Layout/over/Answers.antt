@@ -4,8 +4,8 @@ use Rattle.std.specs.List.{flat_map, range_with_len}
 use Rattle.std.proofs.lemmas.List.{map_push}
 use Rattle.domains.specs.declared.area.Area.{Area}
 use Rattle.job.specs.Kept.{pipeline_in}
-use Rattle.grouping.specs.Schedules.{is_inlined}
-use Rattle.grouping.specs.Costs.{points_in, inner_steps, most_scratch}
+use Rattle.tile_boxes.specs.Schedules.{is_inlined}
+use Rattle.tile_boxes.specs.Costs.{points_in, inner_steps, most_scratch}
 use Rattle.overlap_tiles.specs.declared.steps.Step.{Step}
 use Rattle.overlap_tiles.specs.inside.Made.{stage_needs, last_readers, ranges_by, size_of}
 use Rattle.overlap_tiles.specs.Views.{step_view}
@@ -13,7 +13,7 @@ use Rattle.overlap_tiles.proofs.Lists.{All-from_contains}
 use Rattle.overlap_tiles.proofs.MadeIsLayout.{is_layout}
 use Rattle.overlap_tiles.proofs.RangesHaveRoom.{inner_there}
 use Rattle.overlap_tiles.proofs.layout.Layout.over.Goals as goal
-use Rattle.grouping.specs.Targets.{target_over}
+use Rattle.tile_boxes.specs.Targets.{target_over}
 
 pub returns-clause-layout : goal.returns-clause-layout
 returns-clause-layout c =

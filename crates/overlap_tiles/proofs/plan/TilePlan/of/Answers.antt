@@ -3,7 +3,7 @@ use Rattle.job.specs.Kept.{pipeline_in, program_id_in}
 use Rattle.overlap_tiles.specs.Needs.{key_tile}
 use Rattle.overlap_tiles.proofs.MadeIsLayout.{tiles_back, numbers_fit}
 use Rattle.overlap_tiles.proofs.plan.TilePlan.of.Goals as goal
-use Rattle.grouping.specs.Targets.{target_over}
+use Rattle.tile_boxes.specs.Targets.{target_over}
 
 pub keys-requires : goal.keys-requires
 keys-requires c =

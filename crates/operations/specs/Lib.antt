@@ -1,0 +1,5 @@
+pub mod Tests
+pub mod Values
+pub mod Limits
+pub mod Bounds
+pub mod Views

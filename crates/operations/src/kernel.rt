@@ -1,0 +1,20 @@
+#![tactic(auto)]
+//! Kernels of stencils.
+
+ghost use Rattle.std.specs.Prelude.{◌≡◌, IfOk};
+
+use sequences::Sequence;
+use std::alloc::AllocError;
+
+/// The factors of a stencil: its rows from the top.
+pub type Kernel = Sequence<Factors>;
+
+/// One row of a kernel: its factors from the left.
+pub type Factors = Sequence<i32>;
+
+/// The same kernel once more.
+pub fn copied_kernel(kernel: &Kernel) -> Result<Kernel, AllocError>
+    ensures { IfOk result (λ copy. copy ≡ kernel.now) }
+{
+    Ok(kernel.clone()?)
+}

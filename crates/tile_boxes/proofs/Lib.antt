@@ -1,0 +1,16 @@
+pub mod Lists
+pub mod RanksNeverRise
+pub mod OrderHasEachStage
+pub mod ImagesHold
+pub mod DemandsFall
+pub mod AreasMeet
+pub mod HullsAreLeast
+pub mod BoxesFollowTheRule
+pub mod BoxesHoldWhatIsRead
+pub mod BoxesLieInDomains
+pub mod WalksGiveBoxes
+pub mod TilesAreTargets
+pub mod AskedIsSchedule
+pub mod AloneTakesNone
+pub mod CostsAddUp
+pub mod CostsAreSmall
