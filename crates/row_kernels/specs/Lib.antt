@@ -7,4 +7,5 @@ pub mod Places
 pub mod Columns
 pub mod RowMask
 pub mod Stencil
+pub mod Lookup
 pub mod inside

@@ -2,10 +2,10 @@
 use Rattle.std.specs.Prelude.{ℤ, pos, ◌≡◌, true, false, List}
 use Rattle.std.specs.Ordering.{int_eq}
 use Rattle.domains.specs.Arithmetic.{floor_rem}
-use Rattle.job.specs.Formula.{Test}
-use Rattle.job.specs.Values.{all_passed}
-use Rattle.job.specs.Boxes.{BoundsHold}
-use Rattle.job.specs.WellFormed.{IsDivisor}
+use Rattle.operations.specs.Tests.{Test}
+use Rattle.operations.specs.Values.{all_passed}
+use Rattle.operations.specs.Bounds.{BoundsHold}
+use Rattle.operations.specs.Limits.{IsDivisor}
 use Rattle.row_kernels.specs.declared.guards.RowMask.{RowMask}
 use Rattle.row_kernels.specs.declared.guards.RowMask.TheVariants.{Nowhere, Everywhere, Leaving, Unknown}
 

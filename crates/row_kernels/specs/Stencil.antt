@@ -1,6 +1,6 @@
 -- Rows of kernels along lines of numbers.
 use Rattle.std.specs.Prelude.{ℕ, ◌+◌, ◌≡◌, ℤ, ◌*ℤ◌, List, length}
-use Rattle.job.specs.Values.{sum_below, factors}
+use Rattle.operations.specs.Values.{sum_below, factors}
 use Rattle.row_kernels.specs.Rows.{EachPlace, at}
 
 -- the factors times the numbers from place k on, added up exactly

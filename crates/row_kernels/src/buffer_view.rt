@@ -22,7 +22,7 @@ pub struct BufferView<'a> {
 }
 
 // How far a number of a span lies after the first.
-fn distance(span: &Span, v: i32) -> usize
+pub(crate) fn distance(span: &Span, v: i32) -> usize
     requires { Holds span.now v }
     ensures number { result ≡ int_gap span.now.lo v }
     ensures below { result < len_of span.now }

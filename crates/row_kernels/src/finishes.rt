@@ -3,8 +3,8 @@
 
 ghost use Rattle.std.specs.Prelude.{◌≡◌, ◌<◌, ◌^◌, ◌+ℤ◌, ℤ, pos, length, IfSome};
 ghost use Rattle.domains.specs.Arithmetic.{wrapped, clamped, floor_div};
-ghost use Rattle.job.specs.Values.{literal_value};
-ghost use Rattle.job.specs.WellFormed.{IsLiteral};
+ghost use Rattle.operations.specs.Values.{literal_value};
+ghost use Rattle.operations.specs.Limits.{IsLiteral};
 ghost use Rattle.row_kernels.specs.Finishes.{finish_value, shifted};
 ghost use Rattle.row_kernels.specs.Operands.{operand_at, Serves};
 ghost use Rattle.row_kernels.specs.Rows.{EachPlace, at};

@@ -4,10 +4,10 @@
 ghost use Rattle.std.specs.Prelude.{◌≡◌, ◌≢◌, ◌<◌, ◌==◌, ◌%◌, ◌+ℤ◌, ◌≤ℤ◌, ℤ, pos, length, map, All, if◌then◌else◌};
 ghost use Rattle.std.specs.Ordering.{int_eq};
 ghost use Rattle.domains.specs.Arithmetic.{floor_rem};
-ghost use Rattle.job.specs.Values.{along, is_related, is_passed, all_passed};
-ghost use Rattle.job.specs.Boxes.{BoundsHold};
-ghost use Rattle.job.specs.WellFormed.{IsDivisor, IsTest};
-ghost use Rattle.job.specs.Views.{axis_view, test_view};
+ghost use Rattle.operations.specs.Values.{along, is_related, is_passed, all_passed};
+ghost use Rattle.operations.specs.Bounds.{BoundsHold};
+ghost use Rattle.operations.specs.Limits.{IsDivisor, IsTest};
+ghost use Rattle.operations.specs.Views.{axis_view, test_view};
 ghost use Rattle.row_kernels.specs.Rows.{EachPlace, at};
 ghost use Rattle.row_kernels.specs.RowMask.{HoldsWhere};
 
@@ -15,7 +15,7 @@ use crate::loops::choose;
 use crate::row_span::RowSpan;
 use domains::Relation;
 use domains::arithmetic::floor_rem;
-use job::{Axis, Test};
+use operations::{Axis, Test};
 
 fn coordinate(axis: Axis, row: i32, col: i32) -> i32
     ensures { result ≡ along (axis_view axis) row col }

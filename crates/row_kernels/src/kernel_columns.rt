@@ -3,12 +3,12 @@
 
 ghost use Rattle.std.specs.Prelude.{◌≡◌, ◌<◌, ◌+ℤ◌, ℤ, [], ◌∷◌, length, IfSome, IfNone};
 ghost use Rattle.domains.specs.Arithmetic.{wrapped};
-ghost use Rattle.job.specs.Values.{factors};
+ghost use Rattle.operations.specs.Values.{factors};
 ghost use Rattle.row_kernels.specs.Rows.{EachPlace, at};
 ghost use Rattle.row_kernels.specs.Stencil.{tap_sum, HasSize};
 
 use crate::products::add_product;
-use job::{Factors, Kernel};
+use operations::{Factors, Kernel};
 use std::marker::Model;
 
 // The factor of a row that has no other.

@@ -9,6 +9,7 @@ mod finishes;
 mod gathering;
 mod guards;
 mod kernel_columns;
+mod lookup;
 mod loops;
 mod operand;
 mod operand_rows;
@@ -33,6 +34,7 @@ pub use finishes::finish_row;
 pub use gathering::gather_along;
 pub use guards::{RowMask, take_where, where_passed};
 pub use kernel_columns::{Kernel3x1, Kernel5x1};
+pub use lookup::look_up;
 pub use loops::{count_up, fill};
 pub use operand::Operand;
 pub use operators::{

@@ -3,8 +3,8 @@
 
 ghost use Rattle.std.specs.Prelude.{◌≡◌, ◌<ℤ◌, ◌*ℤ◌, length, pos, neg_ℤ, if◌then◌else◌};
 ghost use Rattle.domains.specs.Arithmetic.{wrapped, clamped, floor_div, floor_rem};
-ghost use Rattle.job.specs.Values.{binary_value, literal_value, is_related};
-ghost use Rattle.job.specs.WellFormed.{IsDivisor, IsLiteral};
+ghost use Rattle.operations.specs.Values.{binary_value, literal_value, is_related};
+ghost use Rattle.operations.specs.Limits.{IsDivisor, IsLiteral};
 ghost use Rattle.row_kernels.specs.Finishes.{finish_value};
 ghost use Rattle.row_kernels.specs.Operands.{operand_at, Serves, IsGiven};
 ghost use Rattle.row_kernels.specs.Rows.{EachPlace, at};

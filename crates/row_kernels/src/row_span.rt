@@ -4,8 +4,8 @@
 ghost use Rattle.std.specs.Prelude.{◌≡◌, ◌<◌, ◌≤◌, ◌-◌, ◌≤ℤ◌, ◌+ℤ◌, ◌-ℤ◌, pos, negsuc, Some};
 ghost use Rattle.domains.specs.Index.{index_at};
 ghost use Rattle.domains.specs.Span.{len_of};
-ghost use Rattle.job.specs.Values.{under};
-ghost use Rattle.job.specs.WellFormed.{InDomainRange};
+ghost use Rattle.operations.specs.Values.{under};
+ghost use Rattle.operations.specs.Limits.{InDomainRange};
 
 use domains::{Area, Index, Span};
 

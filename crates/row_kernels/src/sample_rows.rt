@@ -2,7 +2,7 @@
 //! Samples of planes as rows of numbers, however they lie in memory.
 
 ghost use Rattle.std.specs.Prelude.{◌≡◌, ◌≤◌, ◌<◌, ◌+◌, ◌*◌, ◌^◌, ℕ, pos, length, slice_index};
-ghost use Rattle.netpbm.specs.Samples.{count_in, sample_in};
+ghost use Rattle.plane_samples.specs.Samples.{count_in, sample_in};
 ghost use Rattle.row_kernels.specs.Columns.{column_gap};
 ghost use Rattle.row_kernels.specs.Rows.{EachPlace, at};
 
@@ -10,7 +10,7 @@ use crate::gathering::gather_along;
 use crate::row_span::RowSpan;
 use crate::values::Values;
 use domains::Index;
-use netpbm::{Samples, SpacedBytes, SpacedPairs};
+use plane_samples::{Samples, SpacedBytes, SpacedPairs};
 
 // Bytes that are any distance apart.
 impl<'a> Values for SpacedBytes<'a> {

@@ -3,7 +3,7 @@
 
 ghost use Rattle.std.specs.Prelude.{◌≡◌, ◌<◌, ◌≤◌, ◌+◌, ◌+ℤ◌, ◌*ℤ◌, ℤ, length};
 ghost use Rattle.domains.specs.Arithmetic.{wrapped};
-ghost use Rattle.job.specs.Values.{sum_below};
+ghost use Rattle.operations.specs.Values.{sum_below};
 ghost use Rattle.row_kernels.specs.Rows.{EachPlace, at};
 ghost use Rattle.row_kernels.specs.Stencil.{tap_sum};
 

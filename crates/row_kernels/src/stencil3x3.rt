@@ -3,7 +3,7 @@
 
 ghost use Rattle.std.specs.Prelude.{◌≡◌, ◌<◌, ◌≤◌, ◌+◌, ◌+ℤ◌, ◌*ℤ◌, neg_ℤ, ℤ, [], ◌∷◌, take, length, IfSome, IfNone, IsTrue};
 ghost use Rattle.domains.specs.Arithmetic.{wrapped};
-ghost use Rattle.job.specs.Values.{factors};
+ghost use Rattle.operations.specs.Values.{factors};
 ghost use Rattle.row_kernels.specs.Rows.{EachPlace, at};
 ghost use Rattle.row_kernels.specs.Stencil.{tap_sum, HasSize};
 ghost use Rattle.row_kernels.specs.inside.Triples.{three_ones, three_zeros, negated, IsDifference, HasDifferences};
@@ -11,7 +11,7 @@ ghost use Rattle.row_kernels.specs.inside.Triples.{three_ones, three_zeros, nega
 use crate::products::add_gap;
 use crate::sums_of_nine::{write_sums_of_nine, write_sums_of_three};
 use domains::arithmetic::{wrapping_add, wrapping_mul, wrapping_neg, wrapping_sub};
-use job::Kernel;
+use operations::Kernel;
 use std::marker::Model;
 
 // Whether a factor subtracts what another one adds.

@@ -4,7 +4,7 @@ use Rattle.std.proofs.Common.{length, subst, sym, ap, ◌∙◌}
 use Rattle.std.specs.Prelude.{All, slice_index_or}
 use Rattle.std.proofs.lemmas.Bool.{cases_lt}
 use Rattle.std.proofs.lemmas.List.Elements.{All-head, All-tail}
-use Rattle.job.specs.Formula.{Formula, number, coordinate, read, neg, binary, literal, abs, clamp, select, stencil}
+use Rattle.job.specs.Formula.{Formula, number, coordinate, read, neg, binary, literal, abs, lookup, clamp, select, stencil}
 use Rattle.job.specs.Values.{factors, under, kernel_row, kernel_column}
 use Rattle.job.specs.Reads.{Read, point, window, reads_in, EachTaken}
 use Rattle.job.specs.WellFormed.{IsFormula, IsKernel}
@@ -83,6 +83,7 @@ module _ (has : ℕ → ℤ → ℤ → Type 0) (r c : ℤ) (n : ℕ) where
       (reads_along a some is.0 (front (reads_in a) (reads_in b) h), reads_along b some is.1 (back (reads_in a) (reads_in b) h))
   reads_along (literal op a m) some is h = reads_along a some is.1 h
   reads_along (abs a) some is h = reads_along a some is h
+  reads_along (lookup t a) some is h = reads_along a some is.1 h
   reads_along (clamp a low high) some is h =
       let two = front (reads_in a ++ reads_in low) (reads_in high) h in (
         reads_along a some is.0 (front (reads_in a) (reads_in low) two),
@@ -111,6 +112,7 @@ room_less (binary op a b) n m room more p q h =
     let least = h.1 in (room_less a n m room more p q h.0, omega arith, room_less b n m (room - n) (more - m) p (omega arith) h.2)
 room_less (literal op a i) n m room more p q h = room_less a n m room more p q h
 room_less (abs a) n m room more p q h = room_less a n m room more p q h
+room_less (lookup t a) n m room more p q h = room_less a n m room more p q h
 room_less (clamp a low high) n m room more p q h =
     let least = h.1 in let rest : room - (n + n) ≤ more - (m + m) = omega arith in (
       room_less a n m room more p q h.0,

@@ -11,3 +11,5 @@ pub mod KnownSamples
 pub mod Learning
 pub mod RowByRow
 pub mod TrueTiles
+pub mod NearAreas
+pub mod SpansByParts

@@ -8,8 +8,8 @@ use Rattle.std.specs.Int.{int_gap}
 use Rattle.domains.specs.Span.{len_of}
 use Rattle.domains.specs.Area.{point_count}
 use Rattle.netpbm.specs.Image.{Image, IsImage}
-use Rattle.netpbm.specs.declared.samples.Samples.{Samples}
-use Rattle.netpbm.specs.Samples.{count_in, sample_in, IsSamples}
+use Rattle.plane_samples.specs.declared.samples.Samples.{Samples}
+use Rattle.plane_samples.specs.Samples.{count_in, sample_in, IsSamples}
 use Rattle.job.specs.Values.{sample_at}
 use Rattle.job.specs.WellFormed.{picture_area}
 use Rattle.row_kernels.specs.Rows.{EachPlace, at}

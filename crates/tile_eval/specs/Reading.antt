@@ -2,7 +2,7 @@
 use Rattle.std.specs.Prelude.{ℕ, suc, ◌+◌, ◌-◌, ◌<◌, ◌≤◌, ℤ, pos, ◌+ℤ◌, Option, List, length, All}
 use Rattle.std.specs.Option.{ForSome}
 use Rattle.domains.specs.Index.{index_at}
-use Rattle.job.specs.Formula.{Formula, number, coordinate, read, neg, binary, literal, abs, clamp, select, stencil}
+use Rattle.job.specs.Formula.{Formula, number, coordinate, read, neg, binary, literal, abs, lookup, clamp, select, stencil}
 use Rattle.job.specs.Pipeline.{JobCase}
 use Rattle.job.specs.Values.{factors, kernel_row, kernel_column}
 use Rattle.row_kernels.specs.Rows.{EachPlace}
@@ -22,6 +22,7 @@ ReadsWithin has (neg a) r c n = ReadsWithin has a r c n
 ReadsWithin has (binary op a b) r c n = ReadsWithin has a r c n × ReadsWithin has b r c n
 ReadsWithin has (literal op a m) r c n = ReadsWithin has a r c n
 ReadsWithin has (abs a) r c n = ReadsWithin has a r c n
+ReadsWithin has (lookup t a) r c n = ReadsWithin has a r c n
 ReadsWithin has (clamp a low high) r c n = ReadsWithin has a r c n × ReadsWithin has low r c n × ReadsWithin has high r c n
 ReadsWithin has (select a relation b first second) r c n =
     ReadsWithin has a r c n × ReadsWithin has b r c n × ReadsWithin has first r c n × ReadsWithin has second r c n
@@ -36,6 +37,7 @@ HasRoom (neg a) n room = HasRoom a n room
 HasRoom (binary op a b) n room = HasRoom a n room × (n ≤ room) × HasRoom b n (room - n)
 HasRoom (literal op a m) n room = HasRoom a n room
 HasRoom (abs a) n room = HasRoom a n room
+HasRoom (lookup t a) n room = HasRoom a n room
 HasRoom (clamp a low high) n room = HasRoom a n room × (n + n ≤ room) × HasRoom low n (room - (n + n)) × HasRoom high n (room - (n + n))
 HasRoom (select a relation b first second) n room =
     HasRoom first n room × (n + n + n ≤ room) × HasRoom a n (room - (n + n + n)) × HasRoom b n (room - (n + n + n))

@@ -2,7 +2,7 @@
 //! Planes of a picture as values.
 
 ghost use Rattle.std.specs.Prelude.{◌≡◌, ◌<◌, ℤ, pos, length, IfOk};
-ghost use Rattle.netpbm.specs.Samples.{count_in, sample_in};
+ghost use Rattle.plane_samples.specs.Samples.{count_in, sample_in};
 ghost use Rattle.row_kernels.specs.Rows.{EachPlace, at};
 ghost use Rattle.job.specs.Values.{sample_at};
 ghost use Rattle.job.specs.WellFormed.{picture_area};

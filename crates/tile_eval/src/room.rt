@@ -30,7 +30,8 @@ pub fn formula_room(formula: &Formula, n: usize) -> Option<usize>
 {
     match formula {
         Formula::Number(_) | Formula::Coordinate(_) | Formula::Read(_, _, _) => Some(0),
-        Formula::Neg(a) | Formula::Abs(a) | Formula::Literal(_, a, _) => formula_room(a, n),
+        Formula::Neg(a) | Formula::Abs(a) | Formula::Lookup(_, a) | Formula::Literal(_, a, _) =>
+            formula_room(a, n),
         Formula::Binary(_, a, b) => {
             let right = with_rows(1, n, formula_room(b, n));
             greater(formula_room(a, n), right)

@@ -20,7 +20,7 @@ use domains::arithmetic::wrapping_neg;
 use job::{Axis, Formula};
 use row_kernels::{
     Finish, Operand, RowSpan, Term, add_terms, combine, combine_literal, combine_scaled, count_up,
-    cut, fill, finish_row, keep_related, negate,
+    cut, fill, finish_row, keep_related, look_up, negate,
 };
 
 /// The number that a formula is all along a row of points, if it is one.
@@ -32,6 +32,7 @@ pub fn number_along(formula: &Formula, points: &RowSpan) -> Option<i32>
         Formula::Number(number) => Some(*number),
         Formula::Coordinate(Axis::Row) => Some(points.row),
         Formula::Neg(a) => Some(wrapping_neg(number_along(a, points)?)),
+        Formula::Lookup(table, a) => Some(table.entry(number_along(a, points)?)),
         _ => None,
     }
 }
@@ -344,6 +345,10 @@ impl<'a, S: RowSource> SourceRow<'a, S> {
                 combine_literal(*op, out, left, *number);
             }
             Formula::Abs(a) => self.finished(a, Finish::Absolute, out, temps),
+            Formula::Lookup(table, a) => {
+                let of = self.placed(a, out, temps);
+                look_up(out, of, table);
+            }
             Formula::Clamp(a, low, high) => {
                 if let Some(finish) = cut_between(low, high, &self.points) {
                     return self.finished(a, finish, out, temps);

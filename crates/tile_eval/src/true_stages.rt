@@ -70,6 +70,18 @@ impl<'a> TrueStages<'a> {
         }
     }
 
+    // The same without a copy.
+    fn into_values(self, alloc: Global, stage: usize) -> Vec<i32>
+        requires { IsServed (pipeline_in self.job.now) self.known.buffers.items stage }
+        ensures { result.items ≡ stage_values (pipeline_in self.entry.job.now) stage }
+    {
+        let mut known = self.known;
+        match known.take(stage) {
+            Some(whole) => whole.into_values(),
+            None => Vec::new(alloc),
+        }
+    }
+
     /// The values of a function on its tile in this row and column of its grid, row by row, as a copy; none where it has no such tile,
     /// or no function has this number.
     ///
@@ -142,11 +154,7 @@ pub fn true_tile(
 pub fn plain(alloc: Global, job: &Job, stage: usize) -> Result<Vec<i32>, AllocError>
     ensures { IfOk result (λ values. values.items ≡ stage_values (pipeline_in job.now) stage) }
 {
-    let mut known = TrueStages::of(alloc, job, &[stage])?.known;
-    match known.take(stage) {
-        Some(whole) => Ok(whole.into_values()),
-        None => Ok(Vec::new(alloc)),
-    }
+    Ok(TrueStages::of(alloc, job, &[stage])?.into_values(alloc, stage))
 }
 
 /// The values of several stages; what they read is computed once.

@@ -1,7 +1,7 @@
 -- Rows of three factors.
 use Rattle.std.specs.Prelude.{ℤ, pos, neg_ℤ, ◌≡◌, List, [], ◌∷◌}
 use Rattle.domains.specs.Arithmetic.{wrapped}
-use Rattle.job.specs.Values.{factors}
+use Rattle.operations.specs.Values.{factors}
 use Rattle.row_kernels.specs.Rows.{at}
 
 abbrev pub three_ones : List ℤ

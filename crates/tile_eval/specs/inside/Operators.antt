@@ -1,5 +1,5 @@
 -- Formulas that end in an operator.
-use Rattle.job.specs.Formula.{Formula, number, coordinate, read, neg, binary, literal, abs, clamp, select, stencil}
+use Rattle.job.specs.Formula.{Formula, number, coordinate, read, neg, binary, literal, abs, lookup, clamp, select, stencil}
 
 -- two formulas that an operator joins
 abbrev pub IsBinary : Formula → Type 0
@@ -10,6 +10,7 @@ IsBinary (neg a) = ⊥
 IsBinary (binary op a b) = Unit {0}
 IsBinary (literal op a n) = ⊥
 IsBinary (abs a) = ⊥
+IsBinary (lookup t a) = ⊥
 IsBinary (clamp a low high) = ⊥
 IsBinary (select a relation b first second) = ⊥
 IsBinary (stencil g divisor kernel) = ⊥
