@@ -1,17 +1,19 @@
 -- What is kept for the answer of a job is all that its outputs and its accumulators need.
 use Rattle.std.proofs.Common.{arith, ℕ, suc, ◌≡◌, inr, sym, ap, ◌∙◌, refl, subst, Bool, true, false, Option, Some, None, List}
-use Rattle.std.specs.Prelude.{if◌then◌else◌, slice_get}
+use Rattle.std.specs.Prelude.{if◌then◌else◌, slice_get, All, slice_index}
 use Rattle.std.specs.Option.{option_map_or}
 use Rattle.std.proofs.lemmas.Bool.{false≢true}
+use Rattle.std.proofs.lemmas.List.Elements.{All-contains}
 use Rattle.std.proofs.lemmas.Option.{same_Some}
 use Rattle.domains.specs.Tiles.{HasTile}
 use Rattle.domains.specs.declared.grid.Grid.{Grid}
-use Rattle.grouping.specs.Schedules.{is_inlined, is_function_body, IsSchedule}
-use Rattle.job.specs.Answers.{grid_of, has_tiles, is_accumulator, is_output}
-use Rattle.job.specs.Pipeline.{Body, plane, function, accumulator, Pipeline, Stage}
+use Rattle.tile_boxes.specs.Schedules.{is_inlined, is_function_body, IsSchedule}
+use Rattle.job.specs.Answers.{grid_of, has_tiles, is_accumulator, is_output, height_of, width_of}
+use Rattle.job.specs.Pipeline.{Body, plane, function, accumulator, Pipeline, Stage, Output}
 use Rattle.job.specs.Readers.{grid_at, stage_grid}
-use Rattle.job.specs.WellFormed.{IsJob}
-use Rattle.tile_run.specs.KnownTiles.{KnownTiles, AreTrue}
+use Rattle.job.specs.WellFormed.{IsJob, IsOutput, IsOutputPlane}
+use Rattle.overlap_tiles.proofs.Lists.{All-from_contains}
+use Rattle.tile_sources.specs.KnownTiles.{KnownTiles, AreTrue}
 use Rattle.tile_run.specs.StageRuns.{FitsAt, GivesNeedsOf, IsStageReady}
 use Rattle.tile_run.specs.Uses.{last_of, is_used, body_turn, reads_turn, HasLasts, GivesForAnswer}
 use Rattle.tile_run.specs.Work.{first_too_big, is_accumulator_at, is_stored_function}
@@ -19,9 +21,10 @@ use Rattle.tile_run.specs.declared.turn.Turn.{Turn}
 use Rattle.tile_run.specs.declared.turn.Turn.TheVariants.{Never, Rank, Answer}
 use Rattle.tile_run.proofs.FirstTooBig.{stored_fit}
 use Rattle.tile_run.proofs.NeedsAreHeld.{needs_for_answer}
-use Rattle.accumulators.specs.Pictures.{IsLentStage}
+use Rattle.pictures.specs.Pictures.{IsLentStage}
 use Rattle.accumulators.specs.inside.Planes.{IsOutputStage}
-use Rattle.accumulators.proofs.TileTotals.{whole}
+use Rattle.tile_sources.proofs.GivenLines.{whole}
+use Rattle.pictures.proofs.PictureOfAnswer.{is_among, output_stored}
 
 -- a stored function has tiles
 pub output_grid : (job : Pipeline) (inlining : List Bool) (g : ℕ) → (is : IsOutputStage job inlining g)
@@ -120,3 +123,17 @@ module _ (job : Pipeline) (inlining : List Bool) (lasts : List Turn) (given : Kn
       by (Some s) there own =
           needs_for_answer job inlining given g good lasts s has there
           (reads_of_body s (stored s there own (is_inlined inlining g) refl) (turn s.rank s.body own)) held
+
+-- the stages of the output are stored functions
+pub outputs_stored : (job : Pipeline) (inlining : List Bool) → IsJob job → IsSchedule job inlining → (o : Output) → job.output ≡ Some o
+    → All (IsOutputStage job inlining) o.stages
+outputs_stored job inlining good schedule o there =
+    let is : IsOutput job o = good.output o there in
+    All-from_contains (IsOutputStage job inlining) o.stages (λ g has.
+    let own = All-contains (IsOutputPlane job (height_of job (slice_index o.stages 0)) (width_of job (slice_index o.stages 0)))
+    o.stages g is.equal_sides has in
+    record {
+      stage = own.stage;
+      function = output_stored job inlining o g own.stage schedule there is has own.there;
+      output = is_among job o g there has;
+    })

@@ -4,8 +4,8 @@ use Rattle.std.specs.Prelude.{fold}
 use Rattle.std.proofs.lemmas.List.Sums.{fold-append}
 use Rattle.domains.specs.Pairs.{pairs}
 use Rattle.domains.specs.declared.operators.Fold.{Fold}
-use Rattle.accumulators.specs.Bins.{joined_bins}
-use Rattle.accumulators.proofs.GatherOnto.{joined_bins-assoc, still_kept}
+use Rattle.reductions.specs.Bins.{joined_bins}
+use Rattle.reductions.proofs.GatherOnto.{joined_bins-assoc, still_kept}
 
 module _ (way : Fold) (totals : ℕ × ℕ → List ℤ) where
   -- the bins once the totals over a tile came in

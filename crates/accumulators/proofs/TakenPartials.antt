@@ -8,10 +8,10 @@ use Rattle.job.specs.Pipeline.{Body, plane, function, accumulator, Pipeline, Sta
 use Rattle.job.specs.Totals.{totals, totals_over}
 use Rattle.job.specs.WellFormed.{IsJob}
 use Rattle.accumulators.specs.Answers.{body_gathered, gathered_at}
-use Rattle.accumulators.specs.Bins.{starts, joined_bins}
+use Rattle.reductions.specs.Bins.{starts, joined_bins}
 use Rattle.accumulators.specs.Gatherings.{body_gathered_from, gathered_from}
-use Rattle.accumulators.specs.Partials.{body_joined}
-use Rattle.accumulators.proofs.PartialsJoin.{partials_join}
+use Rattle.partials.specs.Partials.{body_joined}
+use Rattle.partials.proofs.PartialsJoin.{partials_join}
 
 fold_map : {X Y T : Type 0} (op : X → Y → X) (f : T → Y) (x : X) (ts : List T) → fold op x (map f ts) ≡ fold (λ y t. op y (f t)) x ts
 fold_map op f x [] = refl

@@ -1,5 +1,5 @@
 -- A tile of an accumulator, from all tiles of the stored functions.
-use Rattle.std.proofs.Common.{ℕ, ℤ, ◌≡◌, ◌≤◌, arith, sym, ap, ◌∙◌, subst, Bool, true, Option, None, List, length}
+use Rattle.std.proofs.Common.{ℕ, ℤ, ◌≡◌, ◌≤◌, arith, sym, ap, ◌∙◌, subst, Bool, true, Option, None, List}
 use Rattle.std.specs.Prelude.{IsSomeAnd}
 use Rattle.std.proofs.lemmas.Option.{same_Some}
 use Rattle.domains.specs.Span.{Ends}
@@ -11,26 +11,19 @@ use Rattle.job.specs.Answers.{grid_of, has_tiles}
 use Rattle.job.specs.Identity.{HasTileAt}
 use Rattle.job.specs.Pipeline.{Pipeline}
 use Rattle.job.specs.Totals.{totals_over}
-use Rattle.job.specs.Values.{value}
 use Rattle.job.specs.WellFormed.{IsJob}
-use Rattle.grouping.specs.Costs.{scratch, most_scratch}
-use Rattle.grouping.specs.Targets.{target_over}
+use Rattle.tile_boxes.specs.Costs.{scratch, most_scratch}
+use Rattle.tile_boxes.specs.Targets.{target_over}
 use Rattle.overlap_tiles.specs.Plans.{Layout, IsTileAt, IsTileFault, IsTileLayout}
 use Rattle.overlap_tiles.specs.declared.fault.PlanFault.TheVariants.{ScratchTooBig}
-use Rattle.tile_eval.proofs.Rasters.{raster_len}
-use Rattle.tile_run.specs.KnownTiles.{KnownTiles, AreTrue, AreWhole}
+use Rattle.tile_sources.specs.KnownTiles.{KnownTiles, AreTrue}
 use Rattle.tile_run.specs.StageRuns.{GivesNeedsOf}
 use Rattle.tile_run.specs.Work.{first_too_big, is_accumulator_at}
 use Rattle.tile_run.proofs.FirstTooBig.{none_too_big}
 use Rattle.accumulators.specs.inside.Making.{IsGathered}
-use Rattle.accumulators.specs.Partials.{AreLocalTotals}
+use Rattle.partials.specs.Partials.{AreLocalTotals}
 use Rattle.accumulators.proofs.TotalsOfAnswer.{grid_there, is_wanted}
-use Rattle.accumulators.proofs.TrueTilesGiveTotals.{layout_totals_true}
-
--- true tiles have as many numbers as points
-pub whole : (job : Pipeline) (given : KnownTiles) → AreTrue job given → AreWhole job given
-whole job given right g s there i j xs tile found =
-    ap length (right g s there i j xs tile found) ∙ raster_len (tile_area (grid_of job s) i j) (value job g)
+use Rattle.partials.proofs.TrueTilesGiveTotals.{layout_totals_true}
 
 module _ (job : Pipeline) (g : ℕ) (way : Fold) (bins : Ends) (grid : Grid) (is : IsGathered job g way bins grid) (i j : ℕ) where
   -- ---- a tile of the grid

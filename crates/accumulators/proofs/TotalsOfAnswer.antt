@@ -17,10 +17,10 @@ use Rattle.job.specs.Totals.{totals}
 use Rattle.job.specs.WellFormed.{IsJob}
 use Rattle.tile_run.specs.Work.{is_accumulator_at}
 use Rattle.accumulators.specs.Answers.{body_gathered, gathered_at}
-use Rattle.accumulators.specs.Bins.{starts}
+use Rattle.reductions.specs.Bins.{starts}
 use Rattle.accumulators.specs.inside.Making.{IsGathered, with_tile}
-use Rattle.accumulators.specs.Partials.{body_joined, joined_over}
-use Rattle.accumulators.proofs.PartialsJoin.{partials_join}
+use Rattle.partials.specs.Partials.{body_joined, joined_over}
+use Rattle.partials.proofs.PartialsJoin.{partials_join}
 
 module _ (job : Pipeline) (g : ℕ) where
   -- ---- what lacks an operation, bins or tiles gathers nothing

@@ -6,7 +6,7 @@ use Rattle.domains.specs.declared.operators.Fold.{Fold}
 use Rattle.job.specs.Pipeline.{Body, plane, function, accumulator, Pipeline}
 use Rattle.job.specs.Readers.{stage_fold, stage_bins}
 use Rattle.accumulators.specs.Answers.{Gathered}
-use Rattle.accumulators.specs.Bins.{starts, joined_bins}
+use Rattle.reductions.specs.Bins.{starts, joined_bins}
 use Rattle.accumulators.specs.declared.running.Gathering.{Gathering}
 
 -- the bins once these partials came in, in this order

@@ -6,16 +6,15 @@ ghost use Rattle.domains.specs.Span.{len_of};
 ghost use Rattle.job.specs.Kept.{pipeline_in};
 ghost use Rattle.job.specs.Pipeline.{Pipeline};
 ghost use Rattle.tile_run.specs.Work.{is_accumulator_at};
-ghost use Rattle.accumulators.specs.Bins.{starts as starts_by, joined_bins};
+ghost use Rattle.reductions.specs.Bins.{starts as starts_by, joined_bins};
 ghost use Rattle.accumulators.specs.Answers.{gathered};
 ghost use Rattle.accumulators.specs.Gatherings.{HasTaken, gathered_from};
 
 use crate::answer::Total;
-use crate::join::join_into;
 use crate::running::Gathering;
-use crate::starts::starts;
 use domains::{Fold, Span};
 use job::Job;
+use reductions::{join_into, starts};
 use std::alloc::{AllocError, Global};
 
 impl Gathering {

@@ -9,13 +9,13 @@ ghost use Rattle.job.specs.Pipeline.{Stage, Pipeline};
 ghost use Rattle.job.specs.Reads.{BodyReads};
 ghost use Rattle.job.specs.Totals.{totals, totals_over};
 ghost use Rattle.job.specs.WellFormed.{IsJob};
-ghost use Rattle.tile_run.specs.KnownTiles.{KnownTiles, AreTrue};
-ghost use Rattle.tile_run.specs.Local.{IsAtHand, IsClosed};
+ghost use Rattle.tile_sources.specs.KnownTiles.{KnownTiles, AreTrue};
+ghost use Rattle.one_tile.specs.Local.{IsAtHand, IsClosed};
 ghost use Rattle.tile_eval.specs.Cases.{InBox};
 ghost use Rattle.accumulators.specs.Answers.{gathered_at};
 ghost use Rattle.accumulators.specs.Gatherings.{gathered_from};
-ghost use Rattle.accumulators.specs.Pictures.{given_image, GivesOutputs};
-ghost use Rattle.accumulators.specs.Partials.{local_totals, joined_over};
+ghost use Rattle.pictures.specs.Pictures.{given_image, GivesOutputs};
+ghost use Rattle.partials.specs.Partials.{local_totals, joined_over};
 
 /// The totals over the tiles of an accumulator, joined in any order, are its totals.
 pub fn partials_join()

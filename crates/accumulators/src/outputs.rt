@@ -14,10 +14,9 @@ ghost use Rattle.tile_run.specs.Uses.{is_used};
 ghost use Rattle.accumulators.specs.inside.Planes.{IsKept, IsOutputStage};
 
 use crate::computed::Computed;
-use crate::picture::{KnownTiles, picture_with};
-use crate::streamed::Streamed;
 use job::Output;
 use netpbm::{Picture, Plane};
+use pictures::{KnownTiles, Streamed, picture_with};
 use std::alloc::{AllocError, Global};
 use std::thread::Threads;
 use tile_run::{StageRun, Uses};

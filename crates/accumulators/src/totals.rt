@@ -7,21 +7,20 @@ ghost use Rattle.domains.specs.Tiles.{HasTile, tile_cols, tile_rows, tiles_of};
 ghost use Rattle.job.specs.Kept.{pipeline_in};
 ghost use Rattle.overlap_tiles.specs.Plans.{IsTileLayout};
 ghost use Rattle.accumulators.specs.Answers.{all_gathered, gathered, gathered_at};
-ghost use Rattle.accumulators.specs.inside.Accumulating.{AreBins};
-ghost use Rattle.accumulators.specs.inside.GatherRooms.{IsAccumulatorOf};
+ghost use Rattle.reductions.specs.Accumulating.{AreBins};
+ghost use Rattle.reductions.specs.GatherRooms.{IsAccumulatorOf};
 ghost use Rattle.accumulators.specs.inside.Making.{AreTotalsOfRow, IsComputed, IsTally, TotalsFit, totals_of_row, with_tile};
 
 use crate::answer::Total;
 use crate::computed::Computed;
-use crate::join::join_each;
-use crate::partials::tile_onto;
-use crate::parting::is_for_one;
-use crate::starts::starts;
 use crate::totals_room::TotalsRoom;
 use domains::Grid;
 use job::{Accumulator, Body, Job};
 use overlap_tiles::{Layout, PlanFault};
+use partials::tile_onto;
+use pictures::is_for_one;
 use rayon::prelude::*;
+use reductions::{join_each, starts};
 use std::alloc::{AllocError, Global};
 use std::thread::Threads;
 use tile_run::{TileJob, least_rows};
@@ -40,7 +39,7 @@ pub(crate) struct Accumulation<'a> {
 
 impl Computed<'_> {
     /// The totals of all accumulators, in the order of the stages, where each of their tiles has room in scratch memory.
-    #[tactic(auto, using(grouping::proofs::Lists::flat_map_range_more))]
+    #[tactic(auto, using(tile_boxes::proofs::Lists::flat_map_range_more))]
     pub(crate) fn totals(
         &self,
         rt: &(impl Threads + Sync),

@@ -1,6 +1,6 @@
 //! Memory in which totals are put together.
 
-use crate::rows_room::RowsRoom;
+use reductions::RowsRoom;
 use std::alloc::Global;
 use tile_run::Scratch;
 

@@ -15,16 +15,16 @@ use Rattle.job.specs.Pipeline.{Pipeline, Stage}
 use Rattle.job.specs.Readers.{grid_at}
 use Rattle.job.specs.Values.{value}
 use Rattle.job.specs.WellFormed.{IsJob}
-use Rattle.grouping.proofs.TilesAreTargets.{gridded}
+use Rattle.tile_boxes.proofs.TilesAreTargets.{gridded}
 use Rattle.overlap_tiles.specs.Views.{need_view}
 use Rattle.overlap_tiles.specs.declared.needs.Need.{Need}
 use Rattle.tile_eval.specs.Buffer.{raster}
-use Rattle.tile_run.specs.KnownTiles.{KnownTiles, AreTrue}
-use Rattle.tile_run.specs.Runs.{AreValuesOn, NeedsGiven}
+use Rattle.tile_sources.specs.KnownTiles.{KnownTiles, AreTrue}
+use Rattle.one_tile.specs.Runs.{AreValuesOn, NeedsGiven}
 use Rattle.tile_run.specs.StageRuns.{tile_values}
 use Rattle.tile_run.specs.Stored.{numbers_in}
-use Rattle.tile_run.specs.declared.stored.TileRow.{TileRow}
-use Rattle.accumulators.proofs.LentRows.{in_row}
+use Rattle.one_tile.specs.declared.tile_rows.TileRow.{TileRow}
+use Rattle.pictures.proofs.LentRows.{in_row}
 use Rattle.bands.specs.Kept.{is_given, numbers_of, kept_tiles, HasNoTiles, GivesNothing, IsFromRow, IsFrom, IsRowOf}
 use Rattle.bands.specs.declared.kept_rows.StageRows.{StageRows}
 

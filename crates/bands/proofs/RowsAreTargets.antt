@@ -6,7 +6,7 @@ use Rattle.std.proofs.lemmas.Option.{none-some, same_Some}
 use Rattle.domains.specs.Area.{IsArea, IsCommon, IsSubarea}
 use Rattle.domains.specs.declared.area.Area.{Area}
 use Rattle.job.specs.Pipeline.{Pipeline, Stage}
-use Rattle.grouping.specs.Targets.{IsTarget, target_over}
+use Rattle.tile_boxes.specs.Targets.{IsTarget, target_over}
 
 -- what a stage's domain has in common with an area is one
 pub common_target : (job : Pipeline) (g : ℕ) (domain rows : Area) → option_map (λ (s : Stage). s.domain) (slice_get job.stages g) ≡ Some domain

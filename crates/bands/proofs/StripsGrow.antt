@@ -10,16 +10,16 @@ use Rattle.job.specs.Pipeline.{Pipeline}
 use Rattle.job.specs.Values.{Valuation, value}
 use Rattle.job.specs.WellFormed.{IsJob}
 use Rattle.job.specs.Readers.{grid_at}
-use Rattle.grouping.proofs.Lists.{flat_map_range_more}
-use Rattle.grouping.proofs.TilesAreTargets.{Gridded, gridded}
-use Rattle.tile_run.specs.KnownTiles.{given_at}
+use Rattle.tile_boxes.proofs.Lists.{flat_map_range_more}
+use Rattle.tile_boxes.proofs.TilesAreTargets.{Gridded, gridded}
+use Rattle.tile_sources.specs.KnownTiles.{given_at}
 use Rattle.tile_run.specs.StageRuns.{lent_row, row_numbers, row_values}
-use Rattle.tile_run.specs.declared.stored.TileRow.{TileRow}
-use Rattle.tile_run.proofs.LocalValuesUnroll.{grid_is}
-use Rattle.accumulators.specs.RowAreas.{row_area, IsGivenArea}
-use Rattle.accumulators.proofs.LentRows.{row_lent, row_samples}
-use Rattle.accumulators.proofs.PictureOfAnswer.{sample_at, samples_are}
-use Rattle.accumulators.proofs.RowsOfTiles.{rows_left, no_tiles_made, tiles_made, all_tiles_made}
+use Rattle.one_tile.specs.declared.tile_rows.TileRow.{TileRow}
+use Rattle.tile_sources.proofs.GivenLines.{grid_is}
+use Rattle.pictures.specs.RowAreas.{row_area, IsGivenArea}
+use Rattle.pictures.proofs.LentRows.{row_lent, row_samples}
+use Rattle.pictures.proofs.PictureOfAnswer.{sample_at, samples_are}
+use Rattle.pictures.proofs.RowsOfTiles.{rows_left, no_tiles_made, tiles_made, all_tiles_made}
 use Rattle.bands.specs.Kept.{IsRowOf}
 use Rattle.bands.specs.Strips.{first_samples, HasRows}
 

@@ -4,10 +4,10 @@ use Rattle.std.specs.Option.{is_some}
 use Rattle.domains.specs.Tiles.{tile_cols}
 use Rattle.job.specs.Answers.{Tile, grid_of}
 use Rattle.job.specs.Pipeline.{Stage, Pipeline}
-use Rattle.tile_run.specs.KnownTiles.{KnownTiles}
+use Rattle.tile_sources.specs.KnownTiles.{KnownTiles}
 use Rattle.tile_run.specs.StageRuns.{row_numbers, row_values}
 use Rattle.tile_run.specs.Stored.{numbers_in}
-use Rattle.tile_run.specs.declared.stored.TileRow.{TileRow}
+use Rattle.one_tile.specs.declared.tile_rows.TileRow.{TileRow}
 use Rattle.bands.specs.declared.kept_rows.StageRows.{StageRows}
 
 -- the numbers of the tile in row i and column j of what is kept of a stage

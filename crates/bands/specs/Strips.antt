@@ -6,7 +6,7 @@ use Rattle.domains.specs.declared.grid.Grid.{Grid}
 use Rattle.netpbm.specs.MadePlane.{MadePlane, made}
 use Rattle.job.specs.Answers.{samples_over}
 use Rattle.job.specs.Pipeline.{Pipeline}
-use Rattle.accumulators.specs.RowAreas.{row_area}
+use Rattle.pictures.specs.RowAreas.{row_area}
 
 -- the samples of the first n rows of tiles of stage g
 abbrev pub first_samples : Pipeline → ℕ → ℕ → Grid → ℕ → List ℕ

@@ -174,7 +174,7 @@ pub fn evaluate_in_bands(
 }
 
 // Whether a job has accumulators.
-#[tactic(auto, using(grouping::proofs::Lists::flat_map_range_more))]
+#[tactic(auto, using(tile_boxes::proofs::Lists::flat_map_range_more))]
 fn has_accumulators(job: &Job) -> bool
     ensures { result ≡ false → all_gathered (pipeline_in job.now) ≡ [] }
 {

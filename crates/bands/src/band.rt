@@ -3,7 +3,7 @@
 
 ghost use Rattle.std.specs.Prelude.{◌≡◌, IfOk, IfSome};
 ghost use Rattle.job.specs.Kept.{pipeline_in};
-ghost use Rattle.tile_run.specs.KnownTiles.{AreTrue};
+ghost use Rattle.tile_sources.specs.KnownTiles.{AreTrue};
 ghost use Rattle.bands.specs.Kept.{kept_tiles, IsRowOf};
 
 use crate::band_run::BandRun;

@@ -3,11 +3,11 @@
 
 ghost use Rattle.std.specs.Prelude.{◌≡◌, true, IfOk, IfSome};
 ghost use Rattle.std.specs.List.{list_all};
-ghost use Rattle.grouping.specs.Schedules.{is_function};
+ghost use Rattle.tile_boxes.specs.Schedules.{is_function};
 ghost use Rattle.job.specs.Kept.{pipeline_in};
 ghost use Rattle.overlap_tiles.specs.Views.{need_view};
-ghost use Rattle.tile_run.specs.KnownTiles.{AreTrue};
-ghost use Rattle.tile_run.specs.Runs.{AreValuesOn};
+ghost use Rattle.tile_sources.specs.KnownTiles.{AreTrue};
+ghost use Rattle.one_tile.specs.Runs.{AreValuesOn};
 ghost use Rattle.bands.specs.Kept.{is_given, kept_tiles, IsRowOf};
 
 use crate::kept_rows::KeptRows;

@@ -14,10 +14,10 @@ use crate::band::Band;
 use crate::row_range::RowRange;
 use crate::strip::Strip;
 use crate::windows::Windows;
-use accumulators::picture_with;
 use grouping::Schedule;
 use job::{Job, Output};
 use netpbm::{Picture, Plane};
+use pictures::picture_with;
 use std::alloc::{AllocError, Global};
 use tile_run::Scratch;
 

@@ -2,7 +2,7 @@
 //! Rows of tiles that follow one another.
 
 ghost use Rattle.std.specs.Prelude.{List, Bool, IfSome};
-ghost use Rattle.grouping.specs.Targets.{IsTarget, target_over};
+ghost use Rattle.tile_boxes.specs.Targets.{IsTarget, target_over};
 ghost use Rattle.job.specs.Kept.{pipeline_in};
 
 use domains::Area;

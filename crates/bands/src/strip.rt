@@ -10,10 +10,10 @@ ghost use Rattle.job.specs.Readers.{grid_at};
 ghost use Rattle.bands.specs.Kept.{IsRowOf};
 ghost use Rattle.bands.specs.Strips.{HasRows};
 
-use accumulators::{KnownTiles, OpenPlane, area_of_row};
 use domains::Grid;
 use job::Job;
 use netpbm::Plane;
+use pictures::{KnownTiles, OpenPlane, area_of_row};
 use std::alloc::{AllocError, Global};
 use tile_run::{LentRow, TileRow};
 

@@ -11,7 +11,7 @@ use Rattle.std.proofs.lemmas.List.Folds.{find-append}
 use Rattle.std.proofs.lemmas.List.Concat.{flat_map_single}
 use Rattle.domains.proofs.PairLists.{Contains-here}
 use Rattle.std.proofs.lemmas.List.Elements.{Contains-append_right}
-use Rattle.grouping.proofs.Lists.{flat_map_range_more}
+use Rattle.tile_boxes.proofs.Lists.{flat_map_range_more}
 
 -- where none passes, none is found
 pub none_of : {X : Type 0} → (p : X → Bool) (xs : List X) → ((x : X) → Contains xs x → p x ≡ false) → find p xs ≡ None

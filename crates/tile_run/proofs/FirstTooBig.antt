@@ -14,16 +14,16 @@ use Rattle.job.specs.Answers.{Tile, tiles, grid_of, has_tiles, is_accumulator}
 use Rattle.job.specs.Pipeline.{Body, plane, function, accumulator, Stage, Pipeline}
 use Rattle.job.specs.Readers.{stage_grid, grid_at}
 use Rattle.job.specs.WellFormed.{IsJob}
-use Rattle.grouping.specs.Costs.{scratch, most_scratch, tile_targets}
+use Rattle.tile_boxes.specs.Costs.{scratch, most_scratch, tile_targets}
 use Rattle.grouping.specs.Inlining.{Inlining, IsScheduleOf}
-use Rattle.grouping.specs.Order.{in_order}
-use Rattle.grouping.specs.Schedules.{is_inlined, is_function, is_function_body, IsSchedule}
-use Rattle.grouping.specs.Targets.{Target, target_over}
-use Rattle.grouping.proofs.Lists.{Contains-flat_map, Contains-map}
-use Rattle.grouping.proofs.OrderHasEachStage.{order_has}
+use Rattle.tile_boxes.specs.Order.{in_order}
+use Rattle.tile_boxes.specs.Schedules.{is_inlined, is_function, is_function_body, IsSchedule}
+use Rattle.tile_boxes.specs.Targets.{Target, target_over}
+use Rattle.tile_boxes.proofs.Lists.{Contains-flat_map, Contains-map}
+use Rattle.tile_boxes.proofs.OrderHasEachStage.{order_has}
 use Rattle.overlap_tiles.specs.Needs.{key_of, tile_of_stage}
 use Rattle.overlap_tiles.proofs.Lists.{Contains-from_map, Contains-from_flat_map}
-use Rattle.grouping.proofs.TilesAreTargets.{gridded}
+use Rattle.tile_boxes.proofs.TilesAreTargets.{gridded}
 use Rattle.tile_run.specs.declared.room.Work.{Work}
 use Rattle.tile_run.specs.declared.room.Work.TheVariants.{Functions, Accumulators}
 use Rattle.tile_run.specs.inside.Running.{StoredFit}
@@ -31,7 +31,7 @@ use Rattle.overlap_tiles.specs.Work.{is_stored_function, tiles_in_order, lacks_r
 use Rattle.overlap_tiles.proofs.RoomIsExact.{more_is, tile_lacks}
 use Rattle.tile_run.specs.Work.{wanted_by, first_too_big}
 use Rattle.tile_run.proofs.FirstFound.{none_of, find_of}
-use Rattle.tile_run.proofs.LayoutsPrepare.{none_found}
+use Rattle.one_tile.proofs.LayoutsPrepare.{none_found}
 
 -- ---- one tile
 

@@ -11,9 +11,9 @@ use Rattle.job.specs.Answers.{is_output}
 use Rattle.job.specs.Pipeline.{Body, plane, function, accumulator, Stage, Pipeline, rank_of}
 use Rattle.job.specs.Reads.{Read, stage_read, reads_of, IsRanked}
 use Rattle.job.proofs.Unrolling.{rank_is, reads_fall}
-use Rattle.grouping.specs.Order.{greatest_rank}
-use Rattle.grouping.specs.Schedules.{is_inlined}
-use Rattle.grouping.proofs.BoxesFollowTheRule.{rank_below}
+use Rattle.tile_boxes.specs.Order.{greatest_rank}
+use Rattle.tile_boxes.specs.Schedules.{is_inlined}
+use Rattle.tile_boxes.proofs.BoxesFollowTheRule.{rank_below}
 use Rattle.tile_run.specs.Uses.{IsBy, last_of, is_read, body_turn, reads_turn, HasReads, HasLasts}
 use Rattle.tile_run.specs.inside.Lasting.{later, read_in, all_read_in, with_reads, HasLastsFrom}
 use Rattle.tile_run.specs.declared.turn.Turn.{Turn}

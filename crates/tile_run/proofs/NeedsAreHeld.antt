@@ -14,13 +14,13 @@ use Rattle.job.specs.Reads.{stage_read, reads_of}
 use Rattle.job.specs.WellFormed.{IsJob}
 use Rattle.job.proofs.Solving.{ranked_is}
 use Rattle.job.proofs.Unrolling.{rank_is}
-use Rattle.grouping.specs.Schedules.{is_inlined, is_function, is_function_body}
-use Rattle.grouping.specs.Targets.{Target, is_boxed, box, target_over}
-use Rattle.grouping.proofs.TilesAreTargets.{gridded}
+use Rattle.tile_boxes.specs.Schedules.{is_inlined, is_function, is_function_body}
+use Rattle.tile_boxes.specs.Targets.{Target, is_boxed, box, target_over}
+use Rattle.tile_boxes.proofs.TilesAreTargets.{gridded}
 use Rattle.overlap_tiles.specs.Needs.{IsNeeded}
 use Rattle.overlap_tiles.proofs.BoxesAreLower.{box_has, box_low}
 use Rattle.overlap_tiles.proofs.NeedsAreExact.{from_needs}
-use Rattle.tile_run.specs.KnownTiles.{KnownTiles}
+use Rattle.tile_sources.specs.KnownTiles.{KnownTiles}
 use Rattle.tile_run.specs.StageRuns.{GivesNeedsOf}
 use Rattle.tile_run.specs.Stored.{IsStoredFunction, GivesTilesOf, GivesAllTiles}
 use Rattle.tile_run.specs.Uses.{IsBy, last_of, is_used, is_read, body_turn, reads_turn, HasLasts, GivesHeld, GivesForAnswer}

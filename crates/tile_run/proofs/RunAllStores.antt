@@ -14,17 +14,17 @@ use Rattle.domains.specs.declared.grid.Grid.{Grid}
 use Rattle.job.specs.Answers.{grid_of, is_output}
 use Rattle.job.specs.Pipeline.{Stage, Pipeline}
 use Rattle.job.proofs.Unrolling.{rank_is}
-use Rattle.grouping.specs.Order.{greatest_rank}
-use Rattle.grouping.proofs.BoxesFollowTheRule.{rank_below}
-use Rattle.tile_run.specs.KnownTiles.{KnownTiles, AreTrue, HasTrueTiles}
+use Rattle.tile_boxes.specs.Order.{greatest_rank}
+use Rattle.tile_boxes.proofs.BoxesFollowTheRule.{rank_below}
+use Rattle.tile_sources.specs.KnownTiles.{KnownTiles, AreTrue, HasTrueTiles}
 use Rattle.tile_run.specs.Stored.{numbers_in, tile_numbers, stored_tiles, IsStoredFunction, GivesTilesOf, GivesAllTiles}
 use Rattle.tile_run.specs.StageRuns.{row_numbers, tile_values, row_values}
 use Rattle.tile_run.specs.Uses.{IsBy, IsKept, is_used, is_read, last_of, IsHeld, GivesHeld, GivesForAnswer}
 use Rattle.tile_run.specs.inside.Lasting.{is_over}
 use Rattle.tile_run.specs.inside.Running.{grid_values, AreTilesOf, AreStored}
 use Rattle.tile_run.proofs.NeedsAreHeld.{by_later}
-use Rattle.tile_run.specs.declared.stored.TileRow.{TileRow}
-use Rattle.tile_run.specs.declared.stored.Tiles.{Tiles}
+use Rattle.one_tile.specs.declared.tile_rows.TileRow.{TileRow}
+use Rattle.one_tile.specs.declared.tile_rows.Tiles.{Tiles}
 use Rattle.tile_run.specs.declared.turn.Turn.{Turn}
 use Rattle.tile_run.specs.declared.turn.Turn.TheVariants.{Never, Rank, Answer}
 

@@ -9,16 +9,16 @@ use Rattle.job.specs.Answers.{grid_of}
 use Rattle.job.specs.Pipeline.{Stage, Pipeline}
 use Rattle.job.specs.Values.{value}
 use Rattle.job.specs.WellFormed.{IsJob}
-use Rattle.grouping.specs.Schedules.{is_function, is_function_body}
-use Rattle.grouping.proofs.TilesAreTargets.{gridded}
+use Rattle.tile_boxes.specs.Schedules.{is_function, is_function_body}
+use Rattle.tile_boxes.proofs.TilesAreTargets.{gridded}
 use Rattle.overlap_tiles.specs.Plans.{Layout, IsTileLayout}
 use Rattle.tile_eval.specs.Buffer.{raster}
 use Rattle.tile_eval.proofs.Rasters.{raster_len}
-use Rattle.tile_run.specs.KnownTiles.{KnownTiles, AreWhole}
-use Rattle.tile_run.specs.Runs.{AreLocalOn}
+use Rattle.tile_sources.specs.KnownTiles.{KnownTiles, AreWhole}
+use Rattle.one_tile.specs.Runs.{AreLocalOn}
 use Rattle.tile_run.specs.StageRuns.{tile_values, IsStageReady}
-use Rattle.tile_run.specs.inside.Layouts.{IsFunctionLayout}
-use Rattle.tile_run.proofs.TrueTilesGiveValues.{layout_true}
+use Rattle.one_tile.specs.Layouts.{IsFunctionLayout}
+use Rattle.one_tile.proofs.TrueTilesGiveValues.{layout_true}
 
 module _ (job : Pipeline) (inlining : List Bool) (given : KnownTiles) (g : ℕ) (grid : Grid) (good : IsJob job)
     (ready : IsStageReady job inlining given g grid) where

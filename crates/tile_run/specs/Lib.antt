@@ -1,14 +1,9 @@
 pub mod Faults
-pub mod KnownTiles
-pub mod Local
 pub mod Pieces
 pub mod PointWork
-pub mod Prepared
-pub mod Runs
 pub mod StageRuns
 pub mod Stored
 pub mod Uses
 pub mod UsesOnce
-pub mod Wide
 pub mod Work
 pub mod inside

@@ -6,13 +6,13 @@ use Rattle.domains.specs.declared.grid.Grid.{Grid}
 use Rattle.job.specs.Pipeline.{Stage, Pipeline}
 use Rattle.job.specs.Answers.{grid_of}
 use Rattle.job.specs.Values.{value}
-use Rattle.grouping.specs.Costs.{scratch, most_scratch}
+use Rattle.tile_boxes.specs.Costs.{scratch, most_scratch}
 use Rattle.overlap_tiles.specs.Plans.{Layout, IsTileLayout}
 use Rattle.tile_eval.specs.Buffer.{raster}
-use Rattle.tile_run.specs.KnownTiles.{KnownTiles, AreTrue}
-use Rattle.tile_run.specs.Runs.{NeedsGiven}
+use Rattle.tile_sources.specs.KnownTiles.{KnownTiles, AreTrue}
+use Rattle.one_tile.specs.Runs.{NeedsGiven}
 use Rattle.tile_run.specs.Stored.{numbers_in, IsStoredFunction}
-use Rattle.tile_run.specs.declared.stored.TileRow.{TileRow}
+use Rattle.one_tile.specs.declared.tile_rows.TileRow.{TileRow}
 
 -- whatever the tiles of stage g need is given
 abbrev pub GivesNeedsOf : Pipeline → List Bool → KnownTiles → ℕ → Type 0

@@ -5,11 +5,11 @@ use Rattle.domains.specs.Tiles.{HasTile, tile_area}
 use Rattle.job.specs.Pipeline.{Stage, Pipeline}
 use Rattle.job.specs.Answers.{grid_of}
 use Rattle.job.specs.Values.{value}
-use Rattle.grouping.specs.Schedules.{is_inlined, is_function_body}
+use Rattle.tile_boxes.specs.Schedules.{is_inlined, is_function_body}
 use Rattle.tile_eval.specs.Buffer.{raster}
-use Rattle.tile_run.specs.KnownTiles.{KnownTiles}
-use Rattle.tile_run.specs.declared.stored.TileRow.{TileRow}
-use Rattle.tile_run.specs.declared.stored.Tiles.{Tiles}
+use Rattle.tile_sources.specs.KnownTiles.{KnownTiles}
+use Rattle.one_tile.specs.declared.tile_rows.TileRow.{TileRow}
+use Rattle.one_tile.specs.declared.tile_rows.Tiles.{Tiles}
 
 -- ---- tiles in memory
 

@@ -4,8 +4,8 @@ use Rattle.std.specs.Prelude.{ℕ, ◌<◌, ◌≤◌, ◌≡◌, ◌⊎◌, Boo
 use Rattle.job.specs.Answers.{is_output}
 use Rattle.job.specs.Pipeline.{Body, plane, function, accumulator, Stage, Pipeline}
 use Rattle.job.specs.Reads.{stage_read, reads_of}
-use Rattle.grouping.specs.Schedules.{is_inlined}
-use Rattle.tile_run.specs.KnownTiles.{KnownTiles}
+use Rattle.tile_boxes.specs.Schedules.{is_inlined}
+use Rattle.tile_sources.specs.KnownTiles.{KnownTiles}
 use Rattle.tile_run.specs.Stored.{IsStoredFunction, GivesTilesOf}
 use Rattle.tile_run.specs.declared.turn.Turn.{Turn}
 use Rattle.tile_run.specs.declared.turn.Turn.TheVariants.{Never, Rank, Answer}

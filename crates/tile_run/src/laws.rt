@@ -2,7 +2,7 @@
 
 ghost use Rattle.std.specs.Prelude.{◌≡◌, ◌⊎◌, ℕ, ℤ, Bool, true, Option, Some, List, slice_get, Contains};
 ghost use Rattle.domains.specs.declared.area.Area.{Area};
-ghost use Rattle.grouping.specs.Targets.{Target};
+ghost use Rattle.tile_boxes.specs.Targets.{Target};
 ghost use Rattle.identity.specs.declared.key.Key.{Key};
 ghost use Rattle.job.specs.Pipeline.{Pipeline};
 ghost use Rattle.job.specs.Reads.{IsRanked};
@@ -10,9 +10,9 @@ ghost use Rattle.job.specs.Values.{stage_value, value};
 ghost use Rattle.job.specs.WellFormed.{IsJob};
 ghost use Rattle.overlap_tiles.specs.Needs.{needed_keys, IsKeyBefore};
 ghost use Rattle.tile_eval.specs.Cases.{InBox};
-ghost use Rattle.tile_run.specs.KnownTiles.{KnownTiles, AreTrue};
-ghost use Rattle.tile_run.specs.Local.{read_from, local_value, IsClosed};
-ghost use Rattle.tile_run.specs.Runs.{is_missing, first_missing};
+ghost use Rattle.tile_sources.specs.KnownTiles.{KnownTiles, AreTrue};
+ghost use Rattle.one_tile.specs.Local.{read_from, local_value, IsClosed};
+ghost use Rattle.one_tile.specs.Runs.{is_missing, first_missing};
 
 /// A local value is what its stage makes of what it reads: samples of planes, numbers that are given, and local values.
 pub fn local_values_unroll()

@@ -1,8 +1,8 @@
 #![tactic(auto)]
 //! One row of tiles.
 
-use crate::known::Known;
-use crate::stored::TileRow;
+use one_tile::TileRow;
+use tile_sources::Known;
 
 /// The tiles of one stage in one row of its grid, and no other.
 #[derive(Clone, Copy)]

@@ -11,13 +11,12 @@ ghost use Rattle.tile_run.specs.Stored.{stored_tiles};
 ghost use Rattle.tile_run.specs.inside.Running.{grid_values};
 ghost use Rattle.tile_run.specs.inside.RowWorks.{row_of};
 
-use crate::memory::Scratch;
 use crate::pieces::least_rows;
-use crate::stored::{Stored, TileRow, Tiles};
-use crate::tile_job::TileJob;
+use crate::stored::Stored;
 use domains::Grid;
 use grouping::Schedule;
 use job::Job;
+use one_tile::{Scratch, TileJob, TileRow, Tiles};
 use overlap_tiles::{Layout, PlanFault};
 use rayon::prelude::*;
 use std::alloc::{AllocError, Global};

@@ -1,19 +1,8 @@
 #![tactic(auto)]
-//! Tiles in memory.
+//! Tiles of all functions in memory.
 
-use crate::known::Known;
-
-/// The tiles in one row of a grid, each with its numbers row by row.
-#[derive(Drop)]
-pub struct TileRow {
-    pub tiles: Vec<Vec<i32>>,
-}
-
-/// The tiles of one stage.
-#[derive(Drop)]
-pub(crate) struct Tiles {
-    pub(crate) rows: Vec<TileRow>,
-}
+use one_tile::Tiles;
+use tile_sources::Known;
 
 /// The tiles of a job's functions, each function's at the place of its number; of functions that are not stored there are none.
 #[derive(Drop)]

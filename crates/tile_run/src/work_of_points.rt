@@ -53,9 +53,10 @@ fn work_in(formula: &Formula) -> u64
     match formula {
         Formula::Number(_) | Formula::Coordinate(_) => 0,
         Formula::Read(_, _, _) => 1,
-        Formula::Neg(operand) | Formula::Abs(operand) | Formula::Literal(_, operand, _) => {
-            work_in(operand).saturating_add(1)
-        }
+        Formula::Neg(operand)
+        | Formula::Abs(operand)
+        | Formula::Lookup(_, operand)
+        | Formula::Literal(_, operand, _) => work_in(operand).saturating_add(1),
         Formula::Binary(_, left, right) => {
             work_in(left)
                 .saturating_add(work_in(right))

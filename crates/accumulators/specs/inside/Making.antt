@@ -11,15 +11,15 @@ use Rattle.job.specs.Formula.{Formula}
 use Rattle.job.specs.Kept.{pipeline_in}
 use Rattle.job.specs.Pipeline.{accumulator, Stage, Pipeline}
 use Rattle.job.specs.Totals.{totals_over}
-use Rattle.tile_run.specs.KnownTiles.{AreTrue}
+use Rattle.tile_sources.specs.KnownTiles.{AreTrue}
 use Rattle.tile_run.specs.StageRuns.{GivesNeedsOf}
 use Rattle.tile_run.specs.Stored.{stored_tiles}
 use Rattle.tile_run.specs.Work.{first_too_big, is_accumulator_at}
 use Rattle.accumulators.specs.declared.computed.Computed.{Computed}
 use Rattle.accumulators.specs.declared.totals.Accumulation.{Accumulation}
-use Rattle.accumulators.specs.Bins.{joined_bins, starts}
-use Rattle.accumulators.specs.inside.Accumulating.{AreBins}
-use Rattle.accumulators.specs.inside.GatherRooms.{IsAccumulatorOf}
+use Rattle.reductions.specs.Bins.{joined_bins, starts}
+use Rattle.reductions.specs.Accumulating.{AreBins}
+use Rattle.reductions.specs.GatherRooms.{IsAccumulatorOf}
 
 -- what the accumulators of the job need of its stored functions is there, with its values
 pub record IsComputed (c : Computed) : Type 0 where

@@ -1,25 +1,13 @@
--- Planes that are made of tiles, whole or a row of tiles at a time.
+-- Planes of outputs, which are made of what is kept.
 use Rattle.std.specs.Prelude.{ℕ, ◌≡◌, Bool, true, None, List}
 use Rattle.grouping.specs.Inlining.{Inlining, IsScheduleOf}
-use Rattle.job.specs.Answers.{is_output, samples_over}
-use Rattle.job.specs.Kept.{pipeline_in}
+use Rattle.job.specs.Answers.{is_output}
 use Rattle.job.specs.Pipeline.{Stage, Pipeline}
-use Rattle.tile_run.specs.KnownTiles.{KnownTiles, AreTrue}
+use Rattle.tile_sources.specs.KnownTiles.{KnownTiles, AreTrue}
 use Rattle.tile_run.specs.Stored.{IsStoredFunction}
 use Rattle.tile_run.specs.Uses.{HasLasts, GivesForAnswer}
 use Rattle.tile_run.specs.Work.{first_too_big, is_stored_function}
 use Rattle.tile_run.specs.declared.turn.Turn.{Turn}
-use Rattle.accumulators.specs.RowAreas.{row_area}
-use Rattle.accumulators.specs.declared.streamed.Streamed.{Streamed}
-use Rattle.accumulators.specs.declared.strip.Strip.{Strip}
-
--- ---- a row of tiles at a time
-
--- the samples of row i of the tiles of an output, cut to the greatest
-pub record IsStripOf (s : Streamed) (max i : ℕ) (strip : Strip) : Type 0 where
-  pub samples : strip.samples.items ≡ samples_over (pipeline_in s.run.job.now) max s.run.stage (row_area s.run.grid i)
-
--- ---- outputs
 
 -- a stored function of the output
 pub record IsOutputStage (job : Pipeline) (inlining : List Bool) (g : ℕ) : Type 0 where

@@ -5,11 +5,11 @@ use Rattle.domains.specs.Tiles.{HasTile, tile_cols}
 use Rattle.domains.specs.declared.grid.Grid.{Grid}
 use Rattle.job.specs.Pipeline.{Stage, Pipeline}
 use Rattle.job.specs.Answers.{grid_of}
-use Rattle.tile_run.specs.KnownTiles.{AreTrue, HasTrueTiles}
+use Rattle.tile_sources.specs.KnownTiles.{AreTrue, HasTrueTiles}
 use Rattle.tile_run.specs.StageRuns.{FitsAt, row_values}
 use Rattle.tile_run.specs.Stored.{stored_tiles, tile_numbers, IsStoredFunction, GivesTilesOf}
 use Rattle.tile_run.specs.Uses.{is_used, GivesHeld}
-use Rattle.tile_run.specs.declared.stored.Tiles.{Tiles}
+use Rattle.one_tile.specs.declared.tile_rows.Tiles.{Tiles}
 use Rattle.tile_run.specs.declared.turn.Turn.{Turn}
 
 -- the values of the first n rows of tiles

@@ -2,9 +2,9 @@ use Rattle.std.proofs.Common.{◌∙◌}
 use Rattle.job.specs.Kept.{pipeline_in}
 use Rattle.tile_run.specs.Stored.{stored_tiles}
 use Rattle.tile_run.proofs.NeedsAreHeld.{needs_all}
-use Rattle.accumulators.proofs.PictureOfAnswer.{outputs_lent}
-use Rattle.accumulators.proofs.TileTotals.{whole}
-use Rattle.accumulators.proofs.TrueImage.{image_true}
+use Rattle.pictures.proofs.PictureOfAnswer.{outputs_lent}
+use Rattle.tile_sources.proofs.GivenLines.{whole}
+use Rattle.pictures.proofs.TrueImage.{image_true}
 use Rattle.accumulators.proofs.answer.answer_of.Goals as goal
 
 pub image_of-requires : goal.image_of-requires

@@ -1,4 +1,4 @@
-use Rattle.accumulators.proofs.TrueImage.{image_true}
+use Rattle.pictures.proofs.TrueImage.{image_true}
 use Rattle.accumulators.proofs.laws.true_tiles_give_the_image.Goals as goal
 
 pub returns : goal.returns

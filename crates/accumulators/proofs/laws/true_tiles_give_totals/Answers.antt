@@ -1,5 +1,5 @@
 use Rattle.tile_eval.specs.Cases.{InBox}
-use Rattle.accumulators.proofs.PartialsJoin.{true_totals}
+use Rattle.partials.proofs.PartialsJoin.{true_totals}
 use Rattle.accumulators.proofs.laws.true_tiles_give_totals.Goals as goal
 
 pub returns : goal.returns

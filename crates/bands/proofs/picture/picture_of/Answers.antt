@@ -4,7 +4,7 @@ use Rattle.job.specs.Answers.{samples}
 use Rattle.job.specs.Kept.{pipeline_in}
 use Rattle.job.specs.Values.{value}
 use Rattle.job.specs.Views.{output_view}
-use Rattle.accumulators.proofs.PictureOfAnswer.{planes_picture}
+use Rattle.pictures.proofs.PictureOfAnswer.{planes_picture}
 use Rattle.bands.proofs.picture.picture_of.Goals as goal
 
 pub picture_with-requires-clause-image : goal.picture_with-requires-clause-image

@@ -1,7 +1,7 @@
 use Rattle.overlap_tiles.specs.Needs.{needed_keys, IsKeyBefore}
 use Rattle.overlap_tiles.proofs.KeysRise.{keys_rise}
-use Rattle.tile_run.specs.Runs.{is_missing}
-use Rattle.tile_run.proofs.LayoutsPrepare.{found_least}
+use Rattle.one_tile.specs.Runs.{is_missing}
+use Rattle.one_tile.proofs.LayoutsPrepare.{found_least}
 use Rattle.tile_run.proofs.laws.first_missing_is_least.Goals as goal
 
 pub returns : goal.returns

@@ -1,5 +1,5 @@
 use Rattle.tile_eval.specs.Cases.{InBox}
-use Rattle.tile_run.proofs.LocalValuesUnroll.{local_is_value}
+use Rattle.one_tile.proofs.LocalValuesUnroll.{local_is_value}
 use Rattle.tile_run.proofs.laws.true_tiles_give_values.Goals as goal
 
 pub returns : goal.returns

@@ -1,8 +1,8 @@
 use Rattle.std.proofs.Common.{ap, ◌+◌, ◌∙◌}
 use Rattle.std.proofs.lemmas.Result.{IfOk-weaker}
 use Rattle.job.specs.Kept.{pipeline_in}
-use Rattle.grouping.specs.Order.{greatest_rank}
-use Rattle.tile_run.specs.KnownTiles.{AreTrue}
+use Rattle.tile_boxes.specs.Order.{greatest_rank}
+use Rattle.tile_sources.specs.KnownTiles.{AreTrue}
 use Rattle.tile_run.specs.Stored.{stored_tiles}
 use Rattle.tile_run.specs.Uses.{GivesForAnswer}
 use Rattle.tile_run.specs.declared.stored.Stored.{Stored}

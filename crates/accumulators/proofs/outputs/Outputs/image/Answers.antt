@@ -2,7 +2,7 @@ use Rattle.std.proofs.Common.{sym, ap, ◌∙◌}
 use Rattle.std.specs.Option.{option_map}
 use Rattle.job.specs.Kept.{pipeline_in}
 use Rattle.job.specs.Views.{output_view}
-use Rattle.accumulators.proofs.PictureOfAnswer.{outputs_stored}
+use Rattle.accumulators.proofs.OutputsAreMade.{outputs_stored}
 use Rattle.accumulators.proofs.outputs.Outputs.image.Goals as goal
 
 pub picture-requires-clause-output : goal.picture-requires-clause-output

@@ -4,9 +4,9 @@ use Rattle.job.specs.Answers.{samples}
 use Rattle.job.specs.Kept.{pipeline_in}
 use Rattle.job.specs.Values.{value}
 use Rattle.job.specs.Views.{output_view}
-use Rattle.accumulators.specs.Pictures.{picture_with}
+use Rattle.pictures.specs.Pictures.{picture_with}
 use Rattle.accumulators.specs.inside.Planes.{IsOutputStage}
-use Rattle.accumulators.proofs.PictureOfAnswer.{planes_picture}
+use Rattle.pictures.proofs.PictureOfAnswer.{planes_picture}
 use Rattle.accumulators.proofs.outputs.Outputs.picture.Goals as goal
 
 pub planes-requires-clause-outputs : goal.planes-requires-clause-outputs

@@ -5,7 +5,7 @@ use Rattle.job.specs.Kept.{pipeline_in}
 use Rattle.tile_run.specs.Stored.{stored_tiles}
 use Rattle.tile_run.specs.Uses.{is_used}
 use Rattle.accumulators.proofs.OutputsAreMade.{output_lent}
-use Rattle.accumulators.proofs.TrueImage.{same_samples}
+use Rattle.pictures.proofs.TrueImage.{same_samples}
 use Rattle.accumulators.proofs.outputs.Outputs.plane.Goals as goal
 
 pub plane-requires : goal.plane-requires

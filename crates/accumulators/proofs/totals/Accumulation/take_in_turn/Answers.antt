@@ -3,7 +3,7 @@ use Rattle.std.specs.List.{range_with_len}
 use Rattle.domains.specs.Tiles.{tile_cols, tile_rows}
 use Rattle.job.specs.Kept.{pipeline_in}
 use Rattle.accumulators.specs.inside.Making.{with_tile}
-use Rattle.accumulators.proofs.TilesJoinInTurn.{none_came, row_more, all_came}
+use Rattle.reductions.proofs.TilesJoinInTurn.{none_came, row_more, all_came}
 use Rattle.accumulators.proofs.totals.Accumulation.take_in_turn.Goals as goal
 
 pub loop-row-init : goal.loop-row-init

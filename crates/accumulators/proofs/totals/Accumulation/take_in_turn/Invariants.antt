@@ -4,7 +4,7 @@ use Rattle.std.specs.List.{range_with_len}
 use Rattle.domains.specs.Pairs.{pairs}
 use Rattle.domains.specs.Tiles.{tile_cols, tile_rows, tiles_of}
 use Rattle.job.specs.Kept.{pipeline_in}
-use Rattle.accumulators.specs.inside.Accumulating.{AreBins}
+use Rattle.reductions.specs.Accumulating.{AreBins}
 use Rattle.accumulators.specs.inside.Making.{with_tile}
 use Rattle.accumulators.proofs.totals.Accumulation.take_in_turn.Given as goal
 

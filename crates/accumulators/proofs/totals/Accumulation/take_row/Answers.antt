@@ -3,8 +3,8 @@ use Rattle.domains.specs.Tiles.{tile_area, tile_cols}
 use Rattle.job.specs.Kept.{pipeline_in}
 use Rattle.job.specs.Totals.{totals_over}
 use Rattle.accumulators.specs.inside.Making.{with_tile}
-use Rattle.accumulators.proofs.GatherOnto.{joined_are_bins}
-use Rattle.accumulators.proofs.TilesJoinInTurn.{tile_more}
+use Rattle.reductions.proofs.GatherOnto.{joined_are_bins}
+use Rattle.reductions.proofs.TilesJoinInTurn.{tile_more}
 use Rattle.accumulators.proofs.totals.Accumulation.take_row.Goals as goal
 
 pub take_tile-requires-clause-bins : goal.take_tile-requires-clause-bins

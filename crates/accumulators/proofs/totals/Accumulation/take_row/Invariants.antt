@@ -2,9 +2,9 @@ use Rattle.std.proofs.Common.{◌≡◌, ◌-◌}
 use Rattle.std.specs.Prelude.{fold}
 use Rattle.domains.specs.Tiles.{tile_cols}
 use Rattle.job.specs.Kept.{pipeline_in}
-use Rattle.accumulators.specs.inside.Accumulating.{AreBins}
+use Rattle.reductions.specs.Accumulating.{AreBins}
 use Rattle.accumulators.specs.inside.Making.{with_tile}
-use Rattle.accumulators.proofs.TilesJoinInTurn.{row_of}
+use Rattle.reductions.proofs.TilesJoinInTurn.{row_of}
 use Rattle.accumulators.proofs.totals.Accumulation.take_row.Given as goal
 
 abbrev pub invariant-loop-col : goal.invariant-loop-col

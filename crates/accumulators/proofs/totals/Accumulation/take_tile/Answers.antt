@@ -2,11 +2,12 @@ use Rattle.std.proofs.Common.{ap, ◌∙◌}
 use Rattle.domains.specs.declared.area.Area.{Area}
 use Rattle.job.specs.Kept.{pipeline_in}
 use Rattle.tile_run.specs.Stored.{stored_tiles}
-use Rattle.accumulators.specs.Bins.{joined_bins}
-use Rattle.accumulators.specs.Partials.{local_totals}
-use Rattle.accumulators.proofs.GatherOnto.{on_ok}
-use Rattle.accumulators.proofs.LastStepIsTile.{only_area}
-use Rattle.accumulators.proofs.TileTotals.{whole, totals_are}
+use Rattle.reductions.specs.Bins.{joined_bins}
+use Rattle.partials.specs.Partials.{local_totals}
+use Rattle.reductions.proofs.GatherOnto.{on_ok}
+use Rattle.partials.proofs.LastStepIsTile.{only_area}
+use Rattle.accumulators.proofs.TileTotals.{totals_are}
+use Rattle.tile_sources.proofs.GivenLines.{whole}
 use Rattle.accumulators.proofs.TotalsOfAnswer.{is_wanted}
 use Rattle.accumulators.proofs.totals.Accumulation.take_tile.Goals as goal
 

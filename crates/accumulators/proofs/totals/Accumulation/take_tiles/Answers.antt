@@ -4,8 +4,8 @@ use Rattle.std.specs.List.{range_with_len}
 use Rattle.domains.specs.Tiles.{tile_area, tile_cols, tile_rows}
 use Rattle.job.specs.Kept.{pipeline_in}
 use Rattle.job.specs.Totals.{totals_over}
-use Rattle.accumulators.specs.Bins.{joined_bins, starts}
-use Rattle.accumulators.specs.inside.Accumulating.{AreBins}
+use Rattle.reductions.specs.Bins.{joined_bins, starts}
+use Rattle.reductions.specs.Accumulating.{AreBins}
 use Rattle.accumulators.proofs.RowsJoin.{rows_join}
 use Rattle.accumulators.proofs.totals.Accumulation.take_tiles.Goals as goal
 

@@ -5,10 +5,10 @@ use Rattle.domains.specs.Span.{Ends}
 use Rattle.domains.specs.Tiles.{tiles_of}
 use Rattle.job.specs.Kept.{pipeline_in}
 use Rattle.job.specs.Totals.{totals}
-use Rattle.accumulators.specs.Bins.{starts}
+use Rattle.reductions.specs.Bins.{starts}
 use Rattle.accumulators.specs.inside.Making.{with_tile}
-use Rattle.accumulators.proofs.GatherOnto.{first_bins}
-use Rattle.accumulators.proofs.TilesJoinInTurn.{written}
+use Rattle.reductions.proofs.GatherOnto.{first_bins}
+use Rattle.reductions.proofs.TilesJoinInTurn.{written}
 use Rattle.accumulators.proofs.TotalsOfAnswer.{all_joined, gathers}
 use Rattle.accumulators.proofs.totals.Accumulation.total.Goals as goal
 

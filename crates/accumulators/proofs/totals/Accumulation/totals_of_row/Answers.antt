@@ -3,11 +3,11 @@ use Rattle.std.specs.Prelude.{fold}
 use Rattle.std.specs.List.{range_with_len}
 use Rattle.domains.specs.Tiles.{tile_cols}
 use Rattle.job.specs.Kept.{pipeline_in}
-use Rattle.accumulators.specs.Bins.{starts}
-use Rattle.accumulators.specs.inside.Accumulating.{AreBins}
+use Rattle.reductions.specs.Bins.{starts}
+use Rattle.reductions.specs.Accumulating.{AreBins}
 use Rattle.accumulators.specs.inside.Making.{with_tile}
-use Rattle.accumulators.proofs.GatherOnto.{first_bins}
-use Rattle.accumulators.proofs.TilesJoinInTurn.{written}
+use Rattle.reductions.proofs.GatherOnto.{first_bins}
+use Rattle.reductions.proofs.TilesJoinInTurn.{written}
 use Rattle.accumulators.proofs.totals.Accumulation.totals_of_row.Goals as goal
 
 pub take_row-requires-clause-bins : goal.take_row-requires-clause-bins

@@ -1,9 +1,9 @@
 use Rattle.std.proofs.Common.{ℤ, List, ◌<◌, ◌∙◌, Vec, Global}
 use Rattle.domains.specs.Tiles.{tile_rows}
 use Rattle.rayon.proofs.ToStd.{nat_range-All}
-use Rattle.accumulators.specs.inside.Accumulating.{AreBins}
+use Rattle.reductions.specs.Accumulating.{AreBins}
 use Rattle.accumulators.specs.inside.Making.{totals_of_row, AreTotalsOfRow}
-use Rattle.accumulators.proofs.MadeInOrder.{collected, collected_all}
+use Rattle.pictures.proofs.MadeInOrder.{collected, collected_all}
 use Rattle.accumulators.proofs.totals.Accumulation.totals_of_rows.Goals as goal
 
 pub collect-requires-clause-ready : goal.collect-requires-clause-ready

@@ -1,6 +1,6 @@
 use Rattle.std.proofs.Common.{IfSome, Option, subst}
 use Rattle.job.specs.Kept.{pipeline_in}
-use Rattle.tile_run.specs.declared.stored.TileRow.{TileRow}
+use Rattle.one_tile.specs.declared.tile_rows.TileRow.{TileRow}
 use Rattle.bands.specs.Kept.{kept_tiles, IsRowOf}
 use Rattle.bands.proofs.RowsAreKept.{made_row, true_after}
 use Rattle.bands.proofs.band.Band.make_row.Goals as goal

@@ -4,7 +4,7 @@ use Rattle.domains.specs.Tiles.{HasTile, tile_cols}
 use Rattle.domains.specs.declared.grid.Grid.{Grid}
 use Rattle.job.specs.Answers.{grid_of}
 use Rattle.job.specs.Kept.{pipeline_in}
-use Rattle.tile_run.specs.Runs.{AreValuesOn}
+use Rattle.one_tile.specs.Runs.{AreValuesOn}
 use Rattle.tile_run.specs.StageRuns.{tile_values, row_values}
 use Rattle.tile_run.proofs.RunAllStores.{row_more}
 use Rattle.bands.proofs.RowsAreKept.{tile_made, own_grid_is}

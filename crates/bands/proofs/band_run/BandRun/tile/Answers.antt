@@ -1,8 +1,8 @@
 use Rattle.std.proofs.Common.{◌∙◌, sym, subst}
 use Rattle.job.specs.Kept.{pipeline_in}
-use Rattle.tile_run.specs.Runs.{NeedsGiven}
-use Rattle.tile_run.proofs.TrueTilesGiveValues.{layout_true}
-use Rattle.accumulators.proofs.TileTotals.{whole}
+use Rattle.one_tile.specs.Runs.{NeedsGiven}
+use Rattle.one_tile.proofs.TrueTilesGiveValues.{layout_true}
+use Rattle.tile_sources.proofs.GivenLines.{whole}
 use Rattle.bands.specs.Kept.{kept_tiles}
 use Rattle.bands.proofs.RowsAreKept.{all_given}
 use Rattle.bands.proofs.band_run.BandRun.tile.Goals as goal

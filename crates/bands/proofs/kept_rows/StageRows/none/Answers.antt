@@ -1,7 +1,7 @@
 use Rattle.std.proofs.Common.{◌≡◌, ℕ, None, sym, subst, List}
 use Rattle.std.specs.Prelude.{slice_get}
 use Rattle.tile_run.specs.Stored.{numbers_in}
-use Rattle.tile_run.specs.declared.stored.TileRow.{TileRow}
+use Rattle.one_tile.specs.declared.tile_rows.TileRow.{TileRow}
 use Rattle.bands.proofs.RowsAreKept.{no_row_more}
 use Rattle.bands.proofs.kept_rows.StageRows.none.Goals as goal
 

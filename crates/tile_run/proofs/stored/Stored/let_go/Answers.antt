@@ -4,7 +4,7 @@ use Rattle.job.specs.Kept.{pipeline_in}
 use Rattle.job.specs.Pipeline.{Pipeline}
 use Rattle.job.specs.Views.{stage_view}
 use Rattle.tile_run.specs.declared.stored.Stored.{Stored}
-use Rattle.tile_run.specs.declared.stored.Tiles.{Tiles}
+use Rattle.one_tile.specs.declared.tile_rows.Tiles.{Tiles}
 use Rattle.tile_run.specs.declared.turn.Turn.{Turn}
 use Rattle.tile_run.specs.declared.turn.Turn.TheVariants.{Rank}
 use Rattle.tile_run.specs.inside.Lasting.{is_over}

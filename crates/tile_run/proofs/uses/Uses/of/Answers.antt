@@ -3,7 +3,7 @@ use Rattle.std.proofs.lemmas.List.{length-map, length-replicate}
 use Rattle.job.specs.Kept.{pipeline_in}
 use Rattle.job.specs.Pipeline.{Pipeline}
 use Rattle.job.specs.Views.{stage_view}
-use Rattle.grouping.specs.Order.{greatest_rank}
+use Rattle.tile_boxes.specs.Order.{greatest_rank}
 use Rattle.tile_run.specs.declared.turn.Turn.TheVariants.{Never}
 use Rattle.tile_run.specs.inside.Lasting.{HasLastsFrom}
 use Rattle.tile_run.proofs.LastsAreFound.{lasts_none, lasts_all}

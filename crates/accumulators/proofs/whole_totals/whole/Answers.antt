@@ -1,9 +1,0 @@
-use Rattle.std.proofs.Common.{arith, sym, subst}
-use Rattle.job.specs.Kept.{pipeline_in}
-use Rattle.tile_eval.specs.Buffer.{IsServed}
-use Rattle.accumulators.proofs.whole_totals.whole.Goals as goal
-
-pub totals_on-requires-clause-served : goal.totals_on-requires-clause-served
-totals_on-requires-clause-served c =
-    subst (λ j. IsServed (pipeline_in j) c.in_ok-stages.stages.known.buffers.items c.args.stage) (sym c.in_ok-stages.ensures.job)
-    (c.in_ok-stages.ensures.served 0 0 (omega arith))

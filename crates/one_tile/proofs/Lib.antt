@@ -1,0 +1,11 @@
+pub mod InputsAreRead
+pub mod LocalValuesUnroll
+pub mod ValuesAreLocal
+pub mod StepsFindInputs
+pub mod BoxesAreRead
+pub mod StepsHaveRoom
+pub mod StepsRun
+pub mod LayoutsPrepare
+pub mod RunsStep
+pub mod NeedsCloseTargets
+pub mod TrueTilesGiveValues

@@ -1,0 +1,42 @@
+use Rattle.std.proofs.Common.{rules, ◌≡◌, None, sym, subst}
+use Rattle.job.specs.Kept.{pipeline_in, program_id_in}
+use Rattle.overlap_tiles.specs.Plans.{Layout}
+use Rattle.one_tile.specs.Runs.{first_missing, NeedsGiven}
+use Rattle.one_tile.proofs.LayoutsPrepare.{keys_given}
+use Rattle.one_tile.proofs.TrueTilesGiveValues.{layout_true}
+use Rattle.one_tile.proofs.run.run_tile.Goals as goal
+
+pub run-requires-clause-layout : goal.run-requires-clause-layout
+run-requires-clause-layout g c =
+    let own = c.requires.plan in
+    record {
+      inlining = own.inlining;
+      stage = own.stage;
+      row = own.row;
+      col = own.col;
+      layout =
+          c.layout.ensures.tile (program_id_in c.args.job.now) (pipeline_in c.args.job.now) own.inlining own.stage own.row own.col own.plan;
+      function = own.function;
+    }
+
+pub run-requires-clause-needs : goal.run-requires-clause-needs
+run-requires-clause-needs g c =
+    let given = g.K.Known.given c.args.known.now in
+    let none : first_missing given c.args.plan.now.needs ≡ None = search rules in
+    subst (λ (l : Layout). NeedsGiven given l.needs) (sym c.layout.ensures.same) (keys_given given c.args.plan.now.needs none)
+
+pub returns-clause-values : goal.returns-clause-values
+returns-clause-values g c = λ inlining k i j is.
+    c.in_ok-values.ensures inlining k i j (c.layout.ensures.tile (program_id_in c.args.job.now) (pipeline_in c.args.job.now) inlining k i j
+    is)
+
+pub returns-clause-right : goal.returns-clause-right
+returns-clause-right g c = λ right inlining k i j is.
+    let job = pipeline_in c.args.job.now in
+    let given = g.K.Known.given c.args.known.now in
+    let layout = c.layout.ensures.tile (program_id_in c.args.job.now) job inlining k i j is in
+    let none : first_missing given c.args.plan.now.needs ≡ None = search rules in
+    let are_given = subst (λ (l : Layout). NeedsGiven given l.needs) (sym c.layout.ensures.same)
+    (keys_given given c.args.plan.now.needs none) in
+    layout_true job inlining given c.layout.result.now k i j layout c.args.job.now.well are_given right c.in_ok-values.values.items
+    (c.in_ok-values.ensures inlining k i j layout)

@@ -1,0 +1,54 @@
+#![tactic(auto)]
+//! What is at hand for a tile, before it is computed.
+
+ghost use Rattle.std.specs.Prelude.{◌≡◌, ℕ, IfOk};
+ghost use Rattle.job.specs.Kept.{pipeline_in};
+ghost use Rattle.overlap_tiles.specs.Plans.{IsTileLayout};
+ghost use Rattle.one_tile.specs.Prepared.{IsPreparedOn};
+ghost use Rattle.one_tile.specs.Runs.{NeedsGiven, IsSomeLayout};
+ghost use Rattle.tile_sources.specs.Wide.{AreWide};
+
+use crate::boxes::Boxes;
+use crate::memory::{Scratch, grown_out_of};
+use crate::operands::steps_room;
+use crate::tile_job::TileJob;
+use std::alloc::{AllocError, Global};
+use std::mem;
+use tile_sources::{Known, WidePlanes, plane_areas};
+
+impl<K: Known> TileJob<'_, K> {
+    /// Computes the boxes of the inlined functions that the tile's layout names, so that all that the tile reads is at hand.
+    /// Samples that are read again and again are made numbers before. All memory is grown before the first value is computed.
+    ///
+    /// # Errors
+    ///
+    /// Fails only where memory is refused.
+    pub fn prepare<'s>(
+        &self,
+        alloc: Global,
+        scratch: &'s mut Scratch,
+    ) -> Result<Boxes<'s>, AllocError>
+        requires layout { IsSomeLayout (pipeline_in self.now.job.now) self.now.layout.now }
+        requires needs { NeedsGiven (K.given self.now.known.now) self.now.layout.now.needs }
+        ensures prepared { IfOk result (λ boxes. (g i j : ℕ)
+            → IsTileLayout (pipeline_in self.now.job.now) self.now.layout.now.inlining g i j
+            self.now.layout.now
+            → IsPreparedOn (pipeline_in self.now.job.now) self.now.layout.now
+            (K.given self.now.known.now) boxes g i j) }
+        ensures wide { IfOk result
+            (λ boxes. AreWide (pipeline_in self.now.job.now).picture boxes.planes.now) }
+    {
+        let room = steps_room(self.job, self.layout.steps()).ok_or(AllocError)?;
+        let areas = plane_areas(self.job, self.layout.steps());
+        let mut operands = grown_out_of(alloc, &mut scratch.operands_of_steps, room)?;
+        scratch.boxes.grow(self.layout.scratch())?;
+        scratch.planes.grow(&areas)?;
+        scratch.planes.take(self.job.picture(), &areas);
+        // the planes are read while the memory of the boxes is written
+        let planes = mem::replace(&mut scratch.planes, WidePlanes::none(alloc));
+        self.run_steps(&planes, &mut scratch.boxes, &mut operands[..room]);
+        scratch.planes = planes;
+        scratch.operands_of_steps = operands;
+        Ok(Boxes::all(scratch.boxes.whole(), &scratch.planes))
+    }
+}

@@ -1,0 +1,193 @@
+#![tactic(auto)]
+//! What is at hand for a tile: planes, tiles that are given, and boxes of inlined functions.
+
+ghost use Rattle.std.specs.Prelude.{◌≡◌, map, slice_get};
+ghost use Rattle.std.specs.Option.{option_map};
+ghost use Rattle.job.specs.Kept.{pipeline_in};
+ghost use Rattle.overlap_tiles.specs.Views.{step_view};
+ghost use Rattle.one_tile.specs.Prepared.{IsInputAt, input_at};
+ghost use Rattle.tile_sources.specs.Wide.{AreWide};
+
+use crate::boxes::Boxes;
+use crate::tile_job::TileJob;
+use domains::{Area, Index};
+use job::{Body, Function};
+use overlap_tiles::Step;
+use tile_eval::{BufferView, RowSource, RowSpan, area_onto};
+use tile_sources::{Known, plane_gather, plane_row, plane_sample};
+
+/// What a tile reads: planes of its job, tiles that are given of functions that are stored, and boxes of functions that are inlined.
+#[derive(Drop)]
+pub struct TileInputs<'a, 'b, K: Known> {
+    pub tile: TileJob<'a, K>,
+    pub boxes: Boxes<'b>,
+    ghost wide: { AreWide (pipeline_in tile.job.now).picture boxes.planes.now },
+}
+
+// The area of the step at a place.
+fn area_at(steps: &[Step], place: usize) -> Option<Area>
+    ensures { result ≡ option_map (λ s. s.1) (slice_get (map step_view steps.now) place) }
+{
+    Some(steps.get(place)?.area)
+}
+
+// Where the range at a place starts.
+fn start_at(ranges: &[(usize, usize)], place: usize) -> Option<usize>
+    ensures { result ≡ option_map (λ r. r.0) (slice_get ranges.now place) }
+{
+    Some(ranges.get(place)?.0)
+}
+
+impl<K: Known> TileInputs<'_, '_, K> {
+    ghost use Rattle.std.specs.Prelude.{ℤ, ◌<◌, ◌+ℤ◌, pos, length, IfSome, IfNone};
+    ghost use Rattle.domains.specs.Area.{HoldsPoint, IsArea, point_count};
+    ghost use Rattle.domains.specs.Span.{len_of};
+    ghost use Rattle.job.specs.Values.{sample_at};
+    ghost use Rattle.job.specs.Views.{case_view, formula_view};
+    ghost use Rattle.job.specs.WellFormed.{picture_area};
+    ghost use Rattle.tile_eval.specs.Buffer.{place_of, raster};
+    ghost use Rattle.tile_eval.specs.Reading.{HasFunctionRoom};
+    ghost use Rattle.tile_eval.specs.Rows.{EachPlace, at};
+    ghost use Rattle.one_tile.specs.Local.{local_value};
+    ghost use Rattle.one_tile.specs.Prepared.{IsBoxed, IsPrepared};
+    ghost use Rattle.one_tile.specs.inside.Steps.{IsFunctionAt};
+
+    // The box of an inlined function, if it is lent.
+    fn boxed(&self, stage: usize) -> Option<BufferView<'_>>
+        ensures some { IfSome result (λ view. (r c : ℤ)
+            → IsBoxed (pipeline_in self.now.tile.job.now) self.now.tile.layout.now
+            (K.given self.now.tile.known.now) self.now.boxes stage r c
+            → HoldsPoint view.area r c × (at view.values.now (place_of view.area r c)
+            ≡ local_value (pipeline_in self.now.tile.job.now)
+            self.now.tile.layout.now.inlining (K.given self.now.tile.known.now) stage r c)) }
+        ensures none { IfNone result ((r c : ℤ)
+            → ¬ (IsBoxed (pipeline_in self.now.tile.job.now) self.now.tile.layout.now
+            (K.given self.now.tile.known.now) self.now.boxes stage r c)) }
+    {
+        let layout = self.tile.layout;
+        let place = layout.place(stage)?;
+        let area = area_at(layout.steps(), place)?;
+        let start = start_at(layout.ranges(), place)?;
+        let numbers = self.boxes.lent(start, area.points() as usize)?;
+        Some(BufferView::new(area, numbers))
+    }
+
+    // Writes the samples of a plane along a row, from a column on.
+    fn read_plane(&self, plane: usize, row: i32, first: i32, out: &mut [i32])
+        requires plane { plane < length (pipeline_in self.now.tile.job.now).picture.planes }
+        requires there { EachPlace (length out.old)
+            (λ k. HoldsPoint (picture_area (pipeline_in self.now.tile.job.now).picture) row
+            (first +ℤ pos k)) }
+        ensures { EachPlace (length out.old) (λ k. at out.new k
+            ≡ sample_at (pipeline_in self.now.tile.job.now).picture plane row (first +ℤ pos k)) }
+    {
+        match self.boxes.planes.row(plane, row, first, out.len()) {
+            Some(line) => out.copy_from_slice(line),
+            None => plane_row(self.tile.job.picture(), plane, row, first, out),
+        }
+    }
+
+    /// Writes the values of a function over an area of its domain, row by row, where all that it reads there is at hand. What the
+    /// room for the operands holds means nothing.
+    pub(crate) fn values(
+        &self,
+        number: usize,
+        function: &Function,
+        area: &Area,
+        out: &mut [i32],
+        temps: &mut [i32],
+    )
+        requires function { IsFunctionAt (pipeline_in self.now.tile.job.now) number
+            (map case_view function.now.cases.items)
+            (option_map formula_view function.now.otherwise) }
+        requires area { IsArea area.now }
+        requires prepared { IsPrepared (pipeline_in self.now.tile.job.now)
+            self.now.tile.layout.now (K.given self.now.tile.known.now) self.now.boxes
+            number area.now }
+        requires len { length out.old ≡ point_count area.now }
+        requires room { HasFunctionRoom (len_of area.now.cols) (length temps.old)
+            (map case_view function.now.cases.items)
+            (option_map formula_view function.now.otherwise) }
+        ensures { out.new ≡ raster area.now (local_value (pipeline_in self.now.tile.job.now)
+            self.now.tile.layout.now.inlining (K.given self.now.tile.known.now) number) }
+    {
+        area_onto(self, function, area, out, temps)
+    }
+}
+
+impl<K: Known> RowSource for TileInputs<'_, '_, K> {
+    ghost has = { λ inputs g r c. IsInputAt (pipeline_in inputs.tile.job.now) inputs.tile.layout.now
+        (K.given inputs.tile.known.now) inputs.boxes g r c };
+
+    ghost samples = { λ inputs g r c. input_at (pipeline_in inputs.tile.job.now) inputs.tile.layout.now.inlining
+        (K.given inputs.tile.known.now) g r c };
+
+    fn read_row(&self, stage: usize, row: i32, first: i32, out: &mut [i32]) {
+        let Some(found) = self.tile.job.stage(stage) else {
+            return;
+        };
+        match found.body() {
+            Body::Plane(plane) => self.read_plane(*plane, row, first, out),
+            Body::Function(_) if self.tile.layout.inlined(stage) => {
+                if let Some(view) = self.boxed(stage) {
+                    view.read_row(row, first, out);
+                }
+            }
+            Body::Function(_) => self.tile.given(stage, found).read_row(row, first, out),
+            Body::Accumulator(_) => {}
+        }
+    }
+
+    fn borrow_row(&self, stage: usize, row: i32, first: i32, count: usize) -> Option<&[i32]> {
+        let found = self.tile.job.stage(stage)?;
+        match found.body() {
+            Body::Function(_) if self.tile.layout.inlined(stage) => {
+                match self.boxed(stage) {
+                    Some(view) => Some(view.slice(row, first, count)),
+                    None => None,
+                }
+            }
+            Body::Function(_) => self.tile.given(stage, found).borrow_row(row, first, count),
+            Body::Plane(plane) => self.boxes.planes.row(*plane, row, first, count),
+            Body::Accumulator(_) => None,
+        }
+    }
+
+    fn gather(&self, stage: usize, row: i32, col: &Index, points: &RowSpan, out: &mut [i32]) {
+        let Some(found) = self.tile.job.stage(stage) else {
+            return;
+        };
+        match found.body() {
+            Body::Plane(plane) => plane_gather(
+                self.tile.job.picture(),
+                *plane,
+                row,
+                col,
+                points,
+                out,
+            ),
+            Body::Function(_) if self.tile.layout.inlined(stage) => {
+                if let Some(view) = self.boxed(stage) {
+                    view.gather(row, col, points, out);
+                }
+            }
+            Body::Function(_) => self.tile.given(stage, found).gather(row, col, points, out),
+            Body::Accumulator(_) => {}
+        }
+    }
+
+    fn sample(&self, stage: usize, row: i32, col: i32) -> i32 {
+        let Some(found) = self.tile.job.stage(stage) else {
+            return 0;
+        };
+        match found.body() {
+            Body::Plane(plane) => plane_sample(self.tile.job.picture(), *plane, row, col),
+            Body::Function(_) if self.tile.layout.inlined(stage) => match self.boxed(stage) {
+                Some(view) => view.sample(row, col),
+                None => 0,
+            },
+            Body::Function(_) => self.tile.given(stage, found).sample(row, col),
+            Body::Accumulator(_) => 0,
+        }
+    }
+}

@@ -1,0 +1,3 @@
+pub mod PartialsJoin
+pub mod TrueTilesGiveTotals
+pub mod LastStepIsTile

@@ -1,0 +1,197 @@
+#![tactic(auto)]
+//! What an accumulator gathers over a tile, from what is given.
+
+ghost use Rattle.std.specs.Prelude.{◌≡◌, ℕ, Bool, List, None, IfOk, IfErr, OnOk, OnErr};
+ghost use Rattle.job.specs.Kept.{pipeline_in, program_id_in};
+ghost use Rattle.overlap_tiles.specs.Plans.{IsTilePlan, IsTileLayout};
+ghost use Rattle.tile_sources.specs.KnownTiles.{AreTrue, AreWhole};
+ghost use Rattle.one_tile.specs.Runs.{first_missing, NeedsGiven, IsSomeLayout, IsEvalFault};
+ghost use Rattle.overlap_tiles.specs.Views.{step_view};
+ghost use Rattle.reductions.specs.Bins.{joined_bins};
+ghost use Rattle.reductions.specs.Accumulating.{AreBins};
+ghost use Rattle.reductions.specs.GatherRooms.{IsAccumulatorOf};
+ghost use Rattle.partials.specs.Partials.{TookLocalTotals};
+ghost use Rattle.partials.specs.inside.LastSteps.{IsLastStep};
+ghost use Rattle.partials.specs.Partials.{local_totals, AreLocalTotals, AreTotalsOn, IsAccumulatorPlan};
+
+use job::{Accumulator, Body, Job};
+use one_tile::{EvalFault, Scratch, TileInputs, TileJob, first_missing};
+use overlap_tiles::{Step, TilePlan};
+use reductions::{RowsRoom, starts};
+use std::alloc::{AllocError, Global};
+use tile_sources::Known;
+
+// Joins to each bin what an accumulator gathers in it over the last step's area. All memory is grown before the first value is
+// computed.
+fn gather_onto<K: Known>(
+    alloc: Global,
+    tile: &TileJob<'_, K>,
+    step: &Step,
+    accumulator: &Accumulator,
+    scratch: &mut Scratch,
+    rows: &mut RowsRoom,
+    bins: &mut [i64],
+) -> Result<(), AllocError>
+    requires layout { IsSomeLayout (pipeline_in tile.now.job.now) tile.now.layout.now }
+    requires needs { NeedsGiven (K.given tile.now.known.now) tile.now.layout.now.needs }
+    requires last { IsLastStep tile.now.layout.now.steps (step_view step.now) }
+    requires accumulator { IsAccumulatorOf (pipeline_in tile.now.job.now) step.now.stage
+        accumulator.now }
+    requires bins { AreBins accumulator.now bins.old }
+    ensures ok { OnOk result (bins.new
+        ≡ joined_bins accumulator.now.fold bins.old (local_totals (pipeline_in tile.now.job.now)
+        tile.now.layout.now.inlining (K.given tile.now.known.now) step.now.area step.now.stage)) }
+    ensures err { OnErr result (bins.new ≡ bins.old) }
+{
+    rows.reach(accumulator, &step.area)?;
+    let boxes = tile.prepare(alloc, scratch)?;
+    let tile = *tile;
+    let inputs = TileInputs { tile, boxes };
+    rows.gather_onto(&inputs, accumulator, &step.area, bins);
+    Ok(())
+}
+
+/// Joins to each bin what an accumulator gathers in it over its tile.
+///
+/// # Errors
+///
+/// Fails only where memory is refused, with the bins as they were.
+pub fn tile_onto<K: Known>(
+    alloc: Global,
+    tile: &TileJob<'_, K>,
+    accumulator: &Accumulator,
+    scratch: &mut Scratch,
+    rows: &mut RowsRoom,
+    bins: &mut [i64],
+) -> Result<(), AllocError>
+    requires layout { IsSomeLayout (pipeline_in tile.now.job.now) tile.now.layout.now }
+    requires needs { NeedsGiven (K.given tile.now.known.now) tile.now.layout.now.needs }
+    requires accumulator { (inlining : List Bool) (g i j : ℕ)
+        → IsTileLayout (pipeline_in tile.now.job.now) inlining g i j tile.now.layout.now
+        → IsAccumulatorOf (pipeline_in tile.now.job.now) g accumulator.now }
+    requires bins { AreBins accumulator.now bins.old }
+    ensures ok { OnOk result ((inlining : List Bool) (g i j : ℕ)
+        → IsTileLayout (pipeline_in tile.now.job.now) inlining g i j tile.now.layout.now
+        → TookLocalTotals (pipeline_in tile.now.job.now) inlining (K.given tile.now.known.now) g i j
+        accumulator.now.fold bins.old bins.new) }
+    ensures err { OnErr result (bins.new ≡ bins.old) }
+{
+    let Some(step) = tile.layout.steps().last() else {
+        unreachable!()
+    };
+    gather_onto(alloc, tile, step, accumulator, scratch, rows, bins)
+}
+
+// What an accumulator gathers over the last step's area.
+fn gather_tile<K: Known>(
+    alloc: Global,
+    tile: &TileJob<'_, K>,
+    step: &Step,
+    accumulator: &Accumulator,
+    scratch: &mut Scratch,
+) -> Result<Vec<i64>, AllocError>
+    requires layout { IsSomeLayout (pipeline_in tile.now.job.now) tile.now.layout.now }
+    requires needs { NeedsGiven (K.given tile.now.known.now) tile.now.layout.now.needs }
+    requires last { IsLastStep tile.now.layout.now.steps (step_view step.now) }
+    requires accumulator { IsAccumulatorOf (pipeline_in tile.now.job.now) step.now.stage
+        accumulator.now }
+    ensures { IfOk result (λ bins. bins.items
+        ≡ local_totals (pipeline_in tile.now.job.now) tile.now.layout.now.inlining
+        (K.given tile.now.known.now) step.now.area step.now.stage) }
+{
+    let mut bins = starts(alloc, accumulator.fold(), accumulator.bins())?;
+    let mut rows = RowsRoom::new(alloc);
+    gather_onto(
+        alloc,
+        tile,
+        step,
+        accumulator,
+        scratch,
+        &mut rows,
+        &mut bins,
+    )?;
+    Ok(bins)
+}
+
+// What the last step's stage gathers over its area; nothing if it is no accumulator.
+fn gather_step<K: Known>(
+    alloc: Global,
+    tile: &TileJob<'_, K>,
+    step: &Step,
+    scratch: &mut Scratch,
+) -> Result<Vec<i64>, AllocError>
+    requires layout { IsSomeLayout (pipeline_in tile.now.job.now) tile.now.layout.now }
+    requires needs { NeedsGiven (K.given tile.now.known.now) tile.now.layout.now.needs }
+    requires last { IsLastStep tile.now.layout.now.steps (step_view step.now) }
+    ensures { IfOk result (λ bins. bins.items
+        ≡ local_totals (pipeline_in tile.now.job.now) tile.now.layout.now.inlining
+        (K.given tile.now.known.now) step.now.area step.now.stage) }
+{
+    let Some(found) = tile.job.stage(step.stage) else {
+        return Ok(Vec::new(alloc));
+    };
+    match found.body() {
+        Body::Accumulator(accumulator) => gather_tile(alloc, tile, step, accumulator, scratch),
+        Body::Plane(_) | Body::Function(_) => Ok(Vec::new(alloc)),
+    }
+}
+
+/// What the tile's stage gathers in its bins, rising, if it is an accumulator.
+///
+/// # Errors
+///
+/// Fails only where memory is refused.
+pub(crate) fn tile_totals<K: Known>(
+    alloc: Global,
+    tile: &TileJob<'_, K>,
+    scratch: &mut Scratch,
+) -> Result<Vec<i64>, AllocError>
+    requires layout { IsSomeLayout (pipeline_in tile.now.job.now) tile.now.layout.now }
+    requires needs { NeedsGiven (K.given tile.now.known.now) tile.now.layout.now.needs }
+    ensures { IfOk result (λ bins. (inlining : List Bool) (g i j : ℕ)
+        → IsTileLayout (pipeline_in tile.now.job.now) inlining g i j tile.now.layout.now
+        → AreLocalTotals (pipeline_in tile.now.job.now) inlining (K.given tile.now.known.now) g i j
+        bins.items) }
+{
+    let Some(step) = tile.layout.steps().last() else {
+        return Ok(Vec::new(alloc));
+    };
+    gather_step(alloc, tile, step, scratch)
+}
+
+/// What an accumulator gathers in its bins over a tile, rising, by the tile's plan and from what is given, whatever that is. Where
+/// all that is given is true, it is what the job gathers there.
+///
+/// # Errors
+///
+/// Fails where a tile that the plan needs is not given, with the least, before memory is taken; and where memory is refused.
+pub fn partial<K: Known>(
+    alloc: Global,
+    job: &Job,
+    plan: &TilePlan<'_>,
+    scratch: &mut Scratch,
+    known: &K,
+) -> Result<Vec<i64>, EvalFault>
+    requires whole { AreWhole (pipeline_in job.now) (K.given known.now) }
+    requires plan { IsAccumulatorPlan (program_id_in job.now) (pipeline_in job.now) plan.now }
+    ensures totals { IfOk result (λ bins. (inlining : List Bool) (g i j : ℕ)
+        → IsTilePlan (program_id_in job.now) (pipeline_in job.now) inlining g i j plan.now
+        → AreLocalTotals (pipeline_in job.now) inlining (K.given known.now) g i j bins.items) }
+    ensures right { AreTrue (pipeline_in job.now) (K.given known.now)
+        → IfOk result (λ bins. (inlining : List Bool) (g i j : ℕ)
+        → IsTilePlan (program_id_in job.now) (pipeline_in job.now) inlining g i j plan.now
+        → AreTotalsOn (pipeline_in job.now) g i j bins.items) }
+    ensures given { IfOk result (λ bins. first_missing (K.given known.now) plan.now.needs ≡ None) }
+    ensures fault { IfErr result (IsEvalFault (K.given known.now) plan.now.needs) }
+{
+    if let Some(key) = first_missing(plan.needs(), known) {
+        return Err(EvalFault::Missing(key));
+    }
+    let tile = TileJob {
+        job,
+        layout: plan.layout(),
+        known,
+    };
+    let bins = tile_totals(alloc, &tile, scratch)?;
+    Ok(bins)
+}

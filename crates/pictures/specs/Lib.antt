@@ -1,0 +1,3 @@
+pub mod RowAreas
+pub mod Pictures
+pub mod inside

@@ -1,0 +1,270 @@
+#![tactic(auto)]
+//! The picture of a job, row by row from tiles.
+
+ghost use Rattle.std.specs.Prelude.{◌≡◌, ◌≤◌, ◌++◌, Some, map, length, slice_get, All, IfOk, OnOk};
+ghost use Rattle.std.specs.Option.{ForSome, option_map};
+ghost use Rattle.domains.specs.Area.{points_of};
+ghost use Rattle.domains.specs.Span.{numbers_from};
+ghost use Rattle.netpbm.specs.Image.{IsImage};
+ghost use Rattle.netpbm.specs.MadePlane.{made, made_samples};
+ghost use Rattle.job.specs.Answers.{height_of, sample_of, width_of};
+ghost use Rattle.job.specs.Kept.{pipeline_in};
+ghost use Rattle.job.specs.Views.{output_view};
+ghost use Rattle.job.specs.WellFormed.{IsOutput};
+ghost use Rattle.tile_sources.specs.KnownTiles.{given_at, IsGivenLine};
+ghost use Rattle.pictures.specs.Pictures.{given_image, picture_from, picture_with, samples_from, IsLentStage, GivesOutputs};
+ghost use Rattle.pictures.specs.RowAreas.{IsGivenArea};
+
+use crate::sheet::{OpenPlane, Sheet};
+use domains::Area;
+use domains::arithmetic::clamp;
+use job::{Job, Output};
+use netpbm::{Picture, Plane};
+use row_kernels::number_after;
+use std::alloc::{AllocError, Global};
+use tile_eval::number_at;
+use tile_run::{Known, lend_given_row};
+
+// How many values are cut before their samples are added.
+const PIECE: usize = 512;
+
+/// A job with whatever lends the tiles of its functions.
+#[derive(Drop)]
+pub struct KnownTiles<'a, K: Known> {
+    pub job: &'a Job,
+    pub known: &'a K,
+}
+
+/// The picture of a job that has an output, from the numbers that are lent of its functions, whatever these are: each is cut to 0 and
+/// the greatest sample. Where they are true, it is the job's image.
+///
+/// # Errors
+///
+/// Fails only where memory is refused.
+pub fn image_of<K: Known>(
+    alloc: Global,
+    job: &Job,
+    known: &K,
+) -> Result<Option<Picture>, AllocError>
+    requires { GivesOutputs (pipeline_in job.now) (K.given known.now) }
+    ensures answer { IfOk result
+        (λ picture. picture ≡ given_image (pipeline_in job.now) (K.given known.now)) }
+    ensures image { IfOk result (λ picture. ForSome picture IsImage) }
+{
+    KnownTiles { job, known }.image(alloc)
+}
+
+impl<K: Known> KnownTiles<'_, K> {
+    // The picture of a job that has an output.
+    fn image(&self, alloc: Global) -> Result<Option<Picture>, AllocError>
+        requires { GivesOutputs (pipeline_in self.now.job.now) (K.given self.now.known.now) }
+        ensures answer { IfOk result (λ picture. picture
+            ≡ given_image (pipeline_in self.now.job.now) (K.given self.now.known.now)) }
+        ensures image { IfOk result (λ picture. ForSome picture IsImage) }
+    {
+        match self.job.output() {
+            Some(output) => Ok(Some(self.picture(alloc, output)?)),
+            None => Ok(None),
+        }
+    }
+
+    // The output's functions as planes.
+    fn picture(&self, alloc: Global, output: &Output) -> Result<Picture, AllocError>
+        requires output { IsOutput (pipeline_in self.now.job.now) (output_view output.now) }
+        requires stored { All
+            (IsLentStage (pipeline_in self.now.job.now) (K.given self.now.known.now))
+            (output_view output.now).stages }
+        ensures answer { IfOk result (λ picture. picture
+            ≡ picture_from (pipeline_in self.now.job.now)
+            (given_at (pipeline_in self.now.job.now) (K.given self.now.known.now))
+            (output_view output.now)) }
+        ensures image { IfOk result IsImage }
+    {
+        let planes = self.planes(alloc, output.stages(), output.max() as u16)?;
+        Ok(picture_with(self.job, output, planes))
+    }
+
+    // The planes of functions.
+    fn planes(&self, alloc: Global, stages: &[usize], max: u16) -> Result<Vec<Plane>, AllocError>
+        requires stored { All
+            (IsLentStage (pipeline_in self.now.job.now) (K.given self.now.known.now)) stages.now }
+        ensures { IfOk result (λ planes. made_samples planes.items
+            ≡ map (samples_from (pipeline_in self.now.job.now)
+            (given_at (pipeline_in self.now.job.now) (K.given self.now.known.now)) max)
+            stages.now) }
+    {
+        let mut planes = Vec::with_capacity(alloc, stages.len())?;
+        for stage in stages {
+            planes.push(self.plane(alloc, *stage, max)?)?;
+        }
+        Ok(planes)
+    }
+
+    /// The values of a function, row by row, cut to 0 and the greatest sample.
+    ///
+    /// # Errors
+    ///
+    /// Fails only where memory is refused.
+    pub fn plane(&self, alloc: Global, stage: usize, max: u16) -> Result<Plane, AllocError>
+        requires stored { IsLentStage (pipeline_in self.now.job.now) (K.given self.now.known.now)
+            stage }
+        ensures { IfOk result (λ plane. plane
+            ≡ made max (samples_from (pipeline_in self.now.job.now)
+            (given_at (pipeline_in self.now.job.now) (K.given self.now.known.now)) max stage)) }
+    {
+        match self.job.domain(stage) {
+            Some(domain) => self.plane_over(alloc, stage, &domain, max),
+            None => unreachable!(),
+        }
+    }
+
+    // Those of its domain.
+    fn plane_over(
+        &self,
+        alloc: Global,
+        stage: usize,
+        domain: &Area,
+        max: u16,
+    ) -> Result<Plane, AllocError>
+        requires stored { IsLentStage (pipeline_in self.now.job.now) (K.given self.now.known.now)
+            stage }
+        requires domain { option_map (λ s. s.domain)
+            (slice_get (pipeline_in self.now.job.now).stages stage) ≡ Some domain.now }
+        ensures { IfOk result (λ plane. plane
+            ≡ made max (map (λ p. sample_of max (given_at (pipeline_in self.now.job.now)
+            (K.given self.now.known.now) stage p.0 p.1)) (points_of domain.now))) }
+    {
+        let mut sheet = OpenPlane::with_capacity(alloc, max, domain.points() as usize)?;
+        self.push_area(&mut sheet, stage, domain)?;
+        Ok(sheet.into_plane())
+    }
+
+    /// Adds the values of a function on an area to a sheet, row by row, cut to 0 and its greatest sample.
+    ///
+    /// # Errors
+    ///
+    /// Fails only where memory is refused.
+    pub fn push_area<S: Sheet>(
+        &self,
+        sheet: &mut S,
+        stage: usize,
+        area: &Area,
+    ) -> Result<(), AllocError>
+        requires { IsGivenArea (pipeline_in self.now.job.now) (K.given self.now.known.now) stage
+            area.now }
+        ensures max { S.greatest_of sheet.new ≡ S.greatest_of sheet.old }
+        ensures samples { OnOk result (S.samples sheet.new
+            ≡ S.samples sheet.old
+            ++ map (λ p. sample_of (S.greatest_of sheet.old) (given_at (pipeline_in self.now.job.now)
+            (K.given self.now.known.now) stage p.0 p.1)) (points_of area.now)) }
+    {
+        let first = area.cols.lo();
+        let count = area.cols.len() as usize;
+        for place in 0..area.rows.len() {
+            let row = number_at(&area.rows, place);
+            self.push_row(sheet, stage, row, first, count)?;
+        }
+        Ok(())
+    }
+
+    // Adds the values of a row from a column on, cut to 0 and the greatest sample: tile by tile, from the numbers of the tiles.
+    fn push_row<S: Sheet>(
+        &self,
+        sheet: &mut S,
+        stage: usize,
+        row: i32,
+        first: i32,
+        count: usize,
+    ) -> Result<(), AllocError>
+        requires { IsGivenLine (pipeline_in self.now.job.now) (K.given self.now.known.now) stage row
+            first count }
+        ensures max { S.greatest_of sheet.new ≡ S.greatest_of sheet.old }
+        ensures samples { OnOk result (S.samples sheet.new
+            ≡ S.samples sheet.old
+            ++ map (λ c. sample_of (S.greatest_of sheet.old) (given_at (pipeline_in self.now.job.now)
+            (K.given self.now.known.now) stage row c)) (numbers_from first count)) }
+    {
+        let mut done = 0;
+        while done < count {
+            let from = number_after(first, done);
+            let part = lend_given_row(self.known, self.job, stage, row, from, count - done);
+            push_cut(sheet, part)?;
+            done += part.len();
+        }
+        Ok(())
+    }
+}
+
+/// The picture of an output, whose planes these are.
+pub fn picture_with(job: &Job, output: &Output, planes: Vec<Plane>) -> Picture
+    requires output { IsOutput (pipeline_in job.now) (output_view output.now) }
+    requires image { IsImage (picture_with (pipeline_in job.now) (output_view output.now)
+        (made_samples planes.items)) }
+    ensures picture { result
+        ≡ picture_with (pipeline_in job.now) (output_view output.now) (made_samples planes.items) }
+    ensures image { IsImage result }
+{
+    let first = output.stages()[0];
+    let rows = height_of(job, first);
+    let cols = width_of(job, first);
+    match Picture::of_planes(rows, cols, output.max() as u16, planes) {
+        Ok(picture) => picture,
+        Err(_) => unreachable!(),
+    }
+}
+
+// Adds values to a sheet, cut to 0 and its greatest sample, piece by piece.
+fn push_cut<S: Sheet>(sheet: &mut S, values: &[i32]) -> Result<(), AllocError>
+    ensures max { S.greatest_of sheet.new ≡ S.greatest_of sheet.old }
+    ensures samples { OnOk result (S.samples sheet.new
+        ≡ S.samples sheet.old ++ map (sample_of (S.greatest_of sheet.old)) values.now) }
+{
+    let max = sheet.greatest();
+    let mut room = [0; PIECE];
+    let mut rest = values;
+    while !rest.is_empty() {
+        let (piece, behind) = rest.split_at(rest.len().min(PIECE));
+        let cuts = &mut room[..piece.len()];
+        cut_into(cuts, piece, max);
+        sheet.add(cuts)?;
+        rest = behind;
+    }
+    Ok(())
+}
+
+// Each value, cut to 0 and the greatest sample.
+fn cut_into(cuts: &mut [u16], values: &[i32], max: u16)
+    requires { length cuts.old ≡ length values.now }
+    ensures { cuts.new ≡ map (sample_of max) values.now }
+{
+    for k in 0..values.len() {
+        cuts[k] = cut(values[k], max);
+    }
+}
+
+// The value cut to 0 and the greatest sample.
+fn cut(value: i32, max: u16) -> u16
+    ensures { result ≡ sample_of max value }
+{
+    clamp(value, 0, i32::from(max)) as u16
+}
+
+// How many rows the domain of a stage has.
+fn height_of(job: &Job, stage: usize) -> u32
+    ensures { result ≡ height_of (pipeline_in job.now) stage }
+{
+    match job.domain(stage) {
+        Some(domain) => domain.rows.len(),
+        None => 0,
+    }
+}
+
+// How many columns the domain of a stage has.
+fn width_of(job: &Job, stage: usize) -> u32
+    ensures { result ≡ width_of (pipeline_in job.now) stage }
+{
+    match job.domain(stage) {
+        Some(domain) => domain.cols.len(),
+        None => 0,
+    }
+}

@@ -1,0 +1,193 @@
+#![tactic(auto)]
+//! Planes of outputs that nothing else reads, made as their tiles are.
+
+ghost use Rattle.std.specs.Prelude.{◌≡◌, ◌<◌, ◌++◌, map, IfOk, OnOk};
+ghost use Rattle.std.specs.List.{range_with_len};
+ghost use Rattle.domains.specs.Tiles.{tile_rows, IsGrid};
+ghost use Rattle.netpbm.specs.MadePlane.{made};
+ghost use Rattle.job.specs.Answers.{samples, samples_over};
+ghost use Rattle.job.specs.Kept.{pipeline_in};
+ghost use Rattle.tile_run.specs.StageRuns.{IsStageReady};
+ghost use Rattle.tile_run.specs.Stored.{stored_tiles};
+ghost use Rattle.pictures.specs.RowAreas.{row_area};
+ghost use Rattle.pictures.specs.inside.Strips.{IsStripOf};
+
+use crate::parting::is_for_one;
+use crate::picture::KnownTiles;
+use crate::sheet::{OpenPlane, Sheet};
+use crate::strip::{Strip, add_strips};
+use domains::{Area, Grid};
+use netpbm::Plane;
+use rayon::prelude::*;
+use std::alloc::{AllocError, Global};
+use std::thread::Threads;
+use tile_run::{LentRow, Scratch, StageRun, least_rows};
+
+/// An output of a job, of whose tiles each thread has one row in memory at a time.
+#[derive(Clone, Copy)]
+pub struct Streamed<'a> {
+    pub run: StageRun<'a>,
+}
+
+/// The points of a row of tiles.
+pub fn area_of_row(grid: &Grid, row: u32) -> Area
+    requires parted { IsGrid grid.now }
+    requires row { row < tile_rows grid.now }
+    ensures { result ≡ row_area grid.now row }
+{
+    match grid.tile(row, 0) {
+        Some(tile) => Area {
+            rows: tile.rows,
+            cols: grid.area.cols,
+        },
+        None => unreachable!(),
+    }
+}
+
+impl Streamed<'_> {
+    /// Its values, row by row, cut to 0 and the greatest sample.
+    ///
+    /// # Errors
+    ///
+    /// Fails only where memory is refused.
+    pub fn plane(
+        &self,
+        rt: &(impl Threads + Sync),
+        alloc: Global,
+        max: u16,
+    ) -> Result<Plane, AllocError>
+        requires ready { IsStageReady (pipeline_in self.now.run.job.now)
+            self.now.run.schedule.now.inlining (stored_tiles self.now.run.stored.now.stages.items)
+            self.now.run.stage self.now.run.grid }
+        ensures { IfOk result (λ plane. plane
+            ≡ made max (samples (pipeline_in self.now.run.job.now) max self.now.run.stage)) }
+    {
+        let run = &self.run;
+        let least = least_rows(run.job, run.schedule, run.stage);
+        if is_for_one(rt, run.grid.tile_rows(), least) {
+            return self.plane_in_turn(alloc, max);
+        }
+        self.plane_of_strips(rt, alloc, max, least)
+    }
+
+    // The same by this thread alone, one row of tiles after the other.
+    fn plane_in_turn(&self, alloc: Global, max: u16) -> Result<Plane, AllocError>
+        requires ready { IsStageReady (pipeline_in self.now.run.job.now)
+            self.now.run.schedule.now.inlining (stored_tiles self.now.run.stored.now.stages.items)
+            self.now.run.stage self.now.run.grid }
+        ensures { IfOk result (λ plane. plane
+            ≡ made max (samples (pipeline_in self.now.run.job.now) max self.now.run.stage)) }
+    {
+        let grid = &self.run.grid;
+        let mut scratch = Scratch::new(alloc);
+        let mut sheet = OpenPlane::with_capacity(alloc, max, grid.area.points() as usize)?;
+        for row in 0..grid.tile_rows() {
+            self.push_row(alloc, &mut sheet, &mut scratch, row)?;
+        }
+        Ok(sheet.into_plane())
+    }
+
+    // The same by several threads.
+    fn plane_of_strips(
+        &self,
+        rt: &(impl Threads + Sync),
+        alloc: Global,
+        max: u16,
+        least: usize,
+    ) -> Result<Plane, AllocError>
+        requires ready { IsStageReady (pipeline_in self.now.run.job.now)
+            self.now.run.schedule.now.inlining (stored_tiles self.now.run.stored.now.stages.items)
+            self.now.run.stage self.now.run.grid }
+        ensures { IfOk result (λ plane. plane
+            ≡ made max (samples (pipeline_in self.now.run.job.now) max self.now.run.stage)) }
+    {
+        let strips = self.strips(rt, alloc, max, least)?;
+        let mut plane = Plane::with_capacity(alloc, max, self.run.grid.area.points() as usize)?;
+        add_strips(&mut plane, &strips)?;
+        Ok(plane)
+    }
+
+    // A strip for each row of tiles. Threads have so many rows at least.
+    fn strips(
+        &self,
+        rt: &(impl Threads + Sync),
+        alloc: Global,
+        max: u16,
+        least: usize,
+    ) -> Result<Vec<Strip>, AllocError>
+        requires ready { IsStageReady (pipeline_in self.now.run.job.now)
+            self.now.run.schedule.now.inlining (stored_tiles self.now.run.stored.now.stages.items)
+            self.now.run.stage self.now.run.grid }
+        ensures { IfOk result (λ strips. map (λ strip. strip.samples.items) strips.items
+            ≡ map (λ row. samples_over (pipeline_in self.now.run.job.now) max self.now.run.stage
+            (row_area self.now.run.grid row)) (range_with_len 0 (tile_rows self.now.run.grid))) }
+    {
+        (0..self.run.grid.tile_rows())
+            .into_par_iter()
+            .with_min_len(least)
+            .map_init(
+                || Scratch::new(alloc),
+                |scratch: &mut Scratch, row: u32| -> Result<Strip, AllocError>
+                    requires { IsStageReady (pipeline_in self.now.run.job.now)
+                        self.now.run.schedule.now.inlining (stored_tiles self.now.run.stored.now.stages.items)
+                        self.now.run.stage self.now.run.grid × (row < tile_rows self.now.run.grid) }
+                    ensures { IfOk result (IsStripOf self.entry.now max row) }
+                { self.strip(alloc, scratch, row, max) },
+            )
+            .collect::<Result<Vec<_>, AllocError>>(rt, alloc)?
+    }
+
+    // The samples of one row of tiles.
+    fn strip(
+        &self,
+        alloc: Global,
+        scratch: &mut Scratch,
+        row: u32,
+        max: u16,
+    ) -> Result<Strip, AllocError>
+        requires ready { IsStageReady (pipeline_in self.now.run.job.now)
+            self.now.run.schedule.now.inlining (stored_tiles self.now.run.stored.now.stages.items)
+            self.now.run.stage self.now.run.grid }
+        requires row { row < tile_rows self.now.run.grid }
+        ensures { IfOk result (IsStripOf self.now max row) }
+    {
+        let area = area_of_row(&self.run.grid, row);
+        let mut strip = Strip::with_capacity(alloc, max, area.points() as usize)?;
+        self.push_row(alloc, &mut strip, scratch, row)?;
+        Ok(strip)
+    }
+
+    // Adds the samples of one row of tiles to a sheet.
+    fn push_row<S: Sheet>(
+        &self,
+        alloc: Global,
+        sheet: &mut S,
+        scratch: &mut Scratch,
+        row: u32,
+    ) -> Result<(), AllocError>
+        requires ready { IsStageReady (pipeline_in self.now.run.job.now)
+            self.now.run.schedule.now.inlining (stored_tiles self.now.run.stored.now.stages.items)
+            self.now.run.stage self.now.run.grid }
+        requires row { row < tile_rows self.now.run.grid }
+        ensures max { S.greatest_of sheet.new ≡ S.greatest_of sheet.old }
+        ensures samples { OnOk result (S.samples sheet.new
+            ≡ S.samples sheet.old
+            ++ samples_over (pipeline_in self.now.run.job.now) (S.greatest_of sheet.old)
+            self.now.run.stage (row_area self.now.run.grid row)) }
+    {
+        let area = area_of_row(&self.run.grid, row);
+        let tiles = self.run.row(alloc, row, scratch)?;
+        let lent = LentRow {
+            stage: self.run.stage,
+            row,
+            tiles: &tiles,
+        };
+        let known = KnownTiles {
+            job: self.run.job,
+            known: &lent,
+        };
+        known.push_area(sheet, self.run.stage, &area)?;
+        scratch.take_back(tiles);
+        Ok(())
+    }
+}

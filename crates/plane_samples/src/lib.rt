@@ -1,0 +1,6 @@
+//! The samples of a plane as they lie in memory.
+#![tactic(auto)]
+
+mod samples;
+
+pub use samples::{Samples, SpacedBytes, SpacedPairs};

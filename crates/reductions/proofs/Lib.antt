@@ -1,0 +1,7 @@
+pub mod TotalsInAnyOrder
+pub mod TakeValues
+pub mod JoinInto
+pub mod GatherOnto
+pub mod TilesJoinInTurn
+pub mod TilesPartTotals
+pub mod WholeTotals

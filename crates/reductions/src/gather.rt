@@ -1,0 +1,121 @@
+#![tactic(auto)]
+//! What an accumulator gathers over an area, from whatever gives the samples that are read.
+
+ghost use Rattle.std.specs.Prelude.{◌≡◌, ◌<◌, ◌+ℤ◌, ◌≤ℤ◌, ℤ, pos, length, IfOk};
+ghost use Rattle.domains.specs.Area.{HoldsPoint, points_of};
+ghost use Rattle.domains.specs.Span.{len_of};
+ghost use Rattle.job.specs.Pipeline.{accumulator as accumulator_by};
+ghost use Rattle.job.specs.Totals.{body_totals};
+ghost use Rattle.job.specs.Views.{formula_view};
+ghost use Rattle.job.specs.WellFormed.{InDomainRange};
+ghost use Rattle.tile_eval.specs.Rows.{EachPlace};
+ghost use Rattle.reductions.specs.Accumulating.{HasFormulas, ReadsAt, HasRoomAlong, TookPoints};
+ghost use Rattle.reductions.specs.inside.Gathering.{points_along};
+
+use crate::bin_starts::starts;
+use crate::bins::{add_number, take_values};
+use crate::row_bins::place_along;
+use crate::rows_room::RowsRoom;
+use crate::side_by_side::{take_into_one, take_side_by_side};
+use domains::{Area, Fold};
+use job::Accumulator;
+use std::alloc::{AllocError, Global};
+use tile_eval::{RowSource, RowSpan, SourceRow, line_along, number_along};
+
+// Takes a row of points into the bins.
+fn gather_row<S: RowSource>(
+    row: &SourceRow<'_, S>,
+    accumulator: &Accumulator,
+    bins: &mut [i64],
+    values: &mut [i32],
+    bins_of: &mut [i32],
+    temps: &mut [i32],
+)
+    requires some { 0 < length values.old }
+    requires one_length { length bins_of.old ≡ length values.old }
+    requires bins { length bins.old ≡ len_of accumulator.now.bins }
+    requires fits { length values.old ≡ row.now.points.len }
+    requires formulas { HasFormulas accumulator.now }
+    requires reads { EachPlace (length values.old) (λ k. ReadsAt (S.has row.now.source.now)
+        accumulator.now row.now.points.row (row.now.points.col +ℤ pos k)) }
+    requires room { HasRoomAlong accumulator.now (length values.old) (length temps.old) }
+    ensures { TookPoints (S.samples row.now.source.now) accumulator.now
+        (points_along row.now.points.row row.now.points.col (length values.old)) bins.old bins.new }
+{
+    let (source, points) = (row.source, &row.points);
+    let (value, bin) = (accumulator.value(), accumulator.bin());
+    let (op, lo) = (accumulator.fold(), accumulator.bins().lo());
+    if let Some(place) = place_along(bin, points, accumulator.bins()) {
+        let line = line_along(source, points, value, values, temps);
+        return take_side_by_side(op, bins, place, line);
+    }
+    if let Some(one) = number_along(bin, points) {
+        let line = line_along(source, points, value, values, temps);
+        return take_into_one(op, lo, bins, line, one);
+    }
+    let each = line_along(source, points, bin, bins_of, temps);
+    match (op, number_along(value, points)) {
+        (Fold::Sum, Some(number)) => add_number(lo, bins, number, each),
+        _ => {
+            let line = line_along(source, points, value, values, temps);
+            take_values(op, lo, bins, line, each);
+        }
+    }
+}
+
+/// Takes the points of an area into the bins, row by row.
+pub(crate) fn gather_rows<S: RowSource>(
+    source: &S,
+    accumulator: &Accumulator,
+    area: &Area,
+    bins: &mut [i64],
+    values: &mut [i32],
+    bins_of: &mut [i32],
+    temps: &mut [i32],
+)
+    requires rows { InDomainRange area.now.rows }
+    requires cols { InDomainRange area.now.cols }
+    requires width { length values.old ≡ len_of area.now.cols }
+    requires one_length { length bins_of.old ≡ length values.old }
+    requires bins { length bins.old ≡ len_of accumulator.now.bins }
+    requires formulas { HasFormulas accumulator.now }
+    requires reads { (r c : ℤ) → HoldsPoint area.now r c
+        → ReadsAt (S.has source.now) accumulator.now r c }
+    requires room { HasRoomAlong accumulator.now (length values.old) (length temps.old) }
+    ensures { TookPoints (S.samples source.now) accumulator.now (points_of area.now) bins.old
+        bins.new }
+{
+    for i in 0..area.rows.len() as usize {
+        let points = RowSpan::at(area, i);
+        let row = SourceRow { source, points };
+        gather_row(&row, accumulator, bins, values, bins_of, temps);
+    }
+}
+
+/// What an accumulator gathers in its bins, rising, over an area where all that it reads is there.
+///
+/// # Errors
+///
+/// Fails only where memory is refused.
+pub(crate) fn gather<S: RowSource>(
+    alloc: Global,
+    source: &S,
+    accumulator: &Accumulator,
+    area: &Area,
+) -> Result<Vec<i64>, AllocError>
+    requires rows { InDomainRange area.now.rows }
+    requires cols { InDomainRange area.now.cols }
+    requires formulas { HasFormulas accumulator.now }
+    requires reads { (r c : ℤ) → HoldsPoint area.now r c
+        → ReadsAt (S.has source.now) accumulator.now r c }
+    ensures { IfOk result (λ bins. bins.items
+        ≡ body_totals (S.samples source.now) area.now (accumulator_by accumulator.now.fold
+        accumulator.now.bins (formula_view accumulator.now.value)
+        (formula_view accumulator.now.bin))) }
+{
+    let mut bins = starts(alloc, accumulator.fold(), accumulator.bins())?;
+    let mut rows = RowsRoom::new(alloc);
+    rows.reach(accumulator, area)?;
+    rows.gather_onto(source, accumulator, area, &mut bins);
+    Ok(bins)
+}

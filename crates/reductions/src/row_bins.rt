@@ -1,0 +1,76 @@
+#![tactic(auto)]
+//! The bins of a row of points, where they are known without a row of them.
+
+ghost use Rattle.std.specs.Prelude.{◌≡◌, ◌<◌, ◌≤◌, ◌+◌, ◌+ℤ◌, ◌≤ℤ◌, ◌≢◌, ℕ, pos, negsuc, IfSome, IfNone};
+ghost use Rattle.domains.specs.Span.{len_of};
+ghost use Rattle.operations.specs.declared.point_test.Axis.TheVariants.{Column};
+ghost use Rattle.job.specs.declared.formula.Formula.TheVariants.{Coordinate};
+ghost use Rattle.job.specs.Values.{Valuation, formula_value};
+ghost use Rattle.job.specs.Views.{formula_view};
+
+use crate::bins::place_in;
+use domains::{BinaryOp, LIMIT, Span};
+use job::{Axis, Formula};
+use tile_eval::{RowSpan, number_along};
+
+// The number, if it lies where those of spans do.
+fn within_limits(number: i32) -> Option<i32>
+    ensures number { IfSome result (λ it. it ≡ number) }
+    ensures least { IfSome result (λ it. negsuc 1048575 ≤ℤ it) }
+    ensures most { IfSome result (λ it. it ≤ℤ pos 1048576) }
+    ensures none { IfNone result (negsuc 1048575 ≤ℤ number → ¬ (number ≤ℤ pos 1048576)) }
+{
+    if -LIMIT <= number && number <= LIMIT {
+        Some(number)
+    } else {
+        None
+    }
+}
+
+// The number that a formula begins with along a row of points, if it rises by one from each point to the next: the column, or what
+// a number makes of it.
+fn first_along(formula: &Formula, points: &RowSpan) -> Option<i32>
+    ensures least { IfSome result (λ first. negsuc 1048575 ≤ℤ first) }
+    ensures most { IfSome result (λ first. first ≤ℤ pos 1048576) }
+    ensures values { IfSome result (λ first. (env : Valuation) (k : ℕ) → k < points.now.len
+        → formula_value env (formula_view formula.now) points.now.row (points.now.col +ℤ pos k)
+        ≡ first +ℤ pos k) }
+    ensures column { IfSome result
+        (λ first. formula.now ≡ Coordinate Column → first ≡ points.now.col) }
+    ensures none { IfNone result (formula.now ≢ Coordinate Column) }
+{
+    match formula {
+        Formula::Coordinate(Axis::Column) => Some(points.col),
+        Formula::Binary(BinaryOp::Add, a, b) => {
+            let first = first_along(a, points)?;
+            within_limits(first.checked_add(number_along(b, points)?)?)
+        }
+        Formula::Binary(BinaryOp::Sub, a, b) => {
+            let first = first_along(a, points)?;
+            within_limits(first.checked_sub(number_along(b, points)?)?)
+        }
+        _ => None,
+    }
+}
+
+/// The place of the first of the bins that a formula tells along a row of points, if they lie side by side and each is one of these.
+/// Columns are found wherever all are bins.
+#[tactic(auto, using(std::proofs::lemmas::Int::ints))]
+pub(crate) fn place_along(formula: &Formula, points: &RowSpan, bins: &Span) -> Option<usize>
+    ensures within { IfSome result (λ place. place + points.now.len ≤ len_of bins.now) }
+    ensures values { IfSome result (λ place. (env : Valuation) (k : ℕ) → k < points.now.len
+        → formula_value env (formula_view formula.now) points.now.row (points.now.col +ℤ pos k)
+        ≡ bins.now.lo +ℤ pos place +ℤ pos k) }
+    ensures none { IfNone result (formula.now ≡ Coordinate Column → 0 < points.now.len
+        → (place : ℕ) → bins.now.lo +ℤ pos place ≡ points.now.col
+        → ¬ (place + points.now.len ≤ len_of bins.now)) }
+{
+    let first = first_along(formula, points)?;
+    let count = bins.len() as usize;
+    let place = place_in(bins.lo(), count, first)?;
+    if points.len <= count - place {
+        Some(place)
+    } else {
+        None
+    }
+}

@@ -1,0 +1,109 @@
+#![tactic(auto)]
+//! Rows that accumulators gather by, kept from one area to the next.
+
+ghost use Rattle.std.specs.Prelude.{◌≡◌, ◌≤◌, ℤ, vec_len, IfSome, OnOk};
+ghost use Rattle.domains.specs.Area.{HoldsPoint};
+ghost use Rattle.domains.specs.Span.{len_of};
+ghost use Rattle.job.specs.Pipeline.{accumulator as accumulator_by};
+ghost use Rattle.job.specs.Totals.{body_totals};
+ghost use Rattle.job.specs.Views.{formula_view};
+ghost use Rattle.job.specs.WellFormed.{InDomainRange};
+ghost use Rattle.reductions.specs.Bins.{joined_bins};
+ghost use Rattle.reductions.specs.Accumulating.{AreBins, HasFormulas, HasRoomAlong, ReadsAt};
+
+use crate::gather::gather_rows;
+use domains::Area;
+use job::Accumulator;
+use std::alloc::{AllocError, Global};
+use tile_eval::{RowSource, formula_room};
+
+// Room for the operands of both formulas at `n` points, if that many numbers can be counted.
+fn room_along(accumulator: &Accumulator, n: usize) -> Option<usize>
+    ensures { IfSome result (HasRoomAlong accumulator.now n) }
+{
+    let value = formula_room(accumulator.value(), n)?;
+    let bin = formula_room(accumulator.bin(), n)?;
+    Some(value.max(bin))
+}
+
+// Grows a row to so many numbers, where it has fewer.
+fn grow(row: &mut Vec<i32>, size: usize) -> Result<(), AllocError>
+    ensures { OnOk result (size ≤ vec_len row.new) }
+{
+    if row.len() < size {
+        row.resize(size, 0)?;
+    }
+    Ok(())
+}
+
+/// Rows in which accumulators gather: of values, of the bins of these, and of operands. What they hold means nothing between calls.
+#[derive(Drop)]
+pub struct RowsRoom {
+    pub(crate) values: Vec<i32>,
+    pub(crate) bins_of: Vec<i32>,
+    pub(crate) temps: Vec<i32>,
+}
+
+impl RowsRoom {
+    ghost use Rattle.reductions.specs.GatherRooms.{HasRowsOver};
+
+    /// No rows yet.
+    pub fn new(alloc: Global) -> RowsRoom {
+        RowsRoom {
+            values: Vec::new(alloc),
+            bins_of: Vec::new(alloc),
+            temps: Vec::new(alloc),
+        }
+    }
+
+    /// Grows to what an accumulator needs for the rows of an area, where there is less.
+    ///
+    /// # Errors
+    ///
+    /// Fails only where memory is refused.
+    pub fn reach(&mut self, accumulator: &Accumulator, area: &Area) -> Result<(), AllocError>
+        ensures { OnOk result (HasRowsOver accumulator.now area.now self.new) }
+    {
+        let n = area.cols.len() as usize;
+        let room = room_along(accumulator, n).ok_or(AllocError)?;
+        grow(&mut self.values, n)?;
+        grow(&mut self.bins_of, n)?;
+        grow(&mut self.temps, room)?;
+        Ok(())
+    }
+
+    /// Joins to each bin what the accumulator gathers in it over the area, where all that it reads is there. No memory is taken.
+    pub fn gather_onto<S: RowSource>(
+        &mut self,
+        source: &S,
+        accumulator: &Accumulator,
+        area: &Area,
+        bins: &mut [i64],
+    )
+        requires rows { InDomainRange area.now.rows }
+        requires cols { InDomainRange area.now.cols }
+        requires formulas { HasFormulas accumulator.now }
+        requires reads { (r c : ℤ) → HoldsPoint area.now r c
+            → ReadsAt (S.has source.now) accumulator.now r c }
+        requires room { HasRowsOver accumulator.now area.now self.old }
+        requires bins { AreBins accumulator.now bins.old }
+        ensures { bins.new
+            ≡ joined_bins accumulator.now.fold bins.old (body_totals (S.samples source.now) area.now
+            (accumulator_by accumulator.now.fold accumulator.now.bins
+            (formula_view accumulator.now.value) (formula_view accumulator.now.bin))) }
+    {
+        // rows that were grown for wider areas are longer than those of this one
+        let n = area.cols.len() as usize;
+        let values = &mut self.values[..n];
+        let bins_of = &mut self.bins_of[..n];
+        gather_rows(
+            source,
+            accumulator,
+            area,
+            bins,
+            values,
+            bins_of,
+            &mut self.temps,
+        );
+    }
+}

@@ -1,0 +1,116 @@
+#![tactic(auto)]
+//! What an accumulator gathers from stages that are computed whole, without tiles.
+
+ghost use Rattle.std.specs.Prelude.{◌≡◌, ℤ, List, IfSome, IfNone, IfOk};
+ghost use Rattle.domains.specs.Area.{IsArea};
+ghost use Rattle.domains.specs.declared.area.Area.{Area};
+ghost use Rattle.job.specs.Kept.{pipeline_in};
+ghost use Rattle.job.specs.Totals.{totals, totals_over};
+ghost use Rattle.tile_eval.specs.Buffer.{IsServed};
+ghost use Rattle.reductions.specs.TruePartials.{IsAccumulatorTile, IsTruePartial, IsDomainPart};
+
+use crate::gather::gather;
+use domains::{Area, Grid};
+use job::{Body, Job};
+use std::alloc::{AllocError, Global};
+use tile_eval::TrueStages;
+
+// What a stage gathers over a part of its domain; nothing if it is no accumulator.
+fn totals_on(
+    alloc: Global,
+    stages: &TrueStages<'_>,
+    stage: usize,
+    area: &Area,
+) -> Result<Vec<i64>, AllocError>
+    requires served { IsServed (pipeline_in stages.now.job.now) stages.now.known.buffers.items
+        stage }
+    requires part { IsDomainPart (pipeline_in stages.now.job.now) stage area.now }
+    ensures { IfOk result
+        (λ bins. bins.items ≡ totals_over (pipeline_in stages.now.job.now) area.now stage) }
+{
+    let Some(found) = stages.job().stage(stage) else {
+        return Ok(Vec::new(alloc));
+    };
+    match found.body() {
+        Body::Accumulator(accumulator) => gather(alloc, stages.known(), accumulator, area),
+        Body::Plane(_) | Body::Function(_) => Ok(Vec::new(alloc)),
+    }
+}
+
+/// The area of an accumulator's tile in this row and column of its grid; none where it has no such tile, or no accumulator has this
+/// number.
+pub fn accumulator_tile(job: &Job, stage: usize, row: u32, col: u32) -> Option<Area>
+    ensures some { IfSome result (IsAccumulatorTile (pipeline_in job.now) stage row col) }
+    ensures area { IfSome result IsArea }
+    ensures none { IfNone result
+        ((area : Area) → ¬ (IsAccumulatorTile (pipeline_in job.now) stage row col area)) }
+{
+    let found = job.stage(stage)?;
+    match found.body() {
+        Body::Accumulator(_) => Grid::new(*found.domain(), job.sides()).tile(row, col),
+        Body::Plane(_) | Body::Function(_) => None,
+    }
+}
+
+/// What an accumulator gathers in its bins, rising, over all that it reduces: without tiles, each stage that it reads is computed
+/// whole before. There are no bins where no stage has this number, or another than an accumulator does.
+///
+/// # Errors
+///
+/// Fails only where memory is refused.
+pub fn whole(alloc: Global, job: &Job, stage: usize) -> Result<Vec<i64>, AllocError>
+    ensures { IfOk result (λ bins. bins.items ≡ totals (pipeline_in job.now) stage) }
+{
+    let Some(domain) = job.domain(stage) else {
+        return Ok(Vec::new(alloc));
+    };
+    let stages = TrueStages::of(alloc, job, &[stage])?;
+    totals_on(alloc, &stages, stage, &domain)
+}
+
+/// What an accumulator gathers in its bins, rising, over its tile in this row and column of its grid, from stages that were computed
+/// whole; none where it has no such tile, or no accumulator has this number.
+///
+/// # Errors
+///
+/// Fails only where memory is refused.
+pub fn partial_of(
+    alloc: Global,
+    stages: &TrueStages<'_>,
+    stage: usize,
+    row: u32,
+    col: u32,
+) -> Result<Option<Vec<i64>>, AllocError>
+    requires { IsServed (pipeline_in stages.now.job.now) stages.now.known.buffers.items stage }
+    ensures some { IfOk result (λ found. IfSome found
+        (λ bins. IsTruePartial (pipeline_in stages.now.job.now) stage row col bins.items)) }
+    ensures none { IfOk result (λ found. IfNone found
+        ((bins : List ℤ) → ¬ (IsTruePartial (pipeline_in stages.now.job.now) stage row col bins))) }
+{
+    match accumulator_tile(stages.job(), stage, row, col) {
+        Some(area) => Ok(Some(totals_on(alloc, stages, stage, &area)?)),
+        None => Ok(None),
+    }
+}
+
+/// What an accumulator gathers in its bins, rising, over its tile in this row and column of its grid: each stage that it reads is
+/// computed whole before. There is nothing where it has no such tile, or no accumulator has this number.
+///
+/// # Errors
+///
+/// Fails only where memory is refused.
+pub fn true_partial(
+    alloc: Global,
+    job: &Job,
+    stage: usize,
+    row: u32,
+    col: u32,
+) -> Result<Option<Vec<i64>>, AllocError>
+    ensures some { IfOk result (λ found. IfSome found
+        (λ bins. IsTruePartial (pipeline_in job.now) stage row col bins.items)) }
+    ensures none { IfOk result (λ found. IfNone found
+        ((bins : List ℤ) → ¬ (IsTruePartial (pipeline_in job.now) stage row col bins))) }
+{
+    let stages = TrueStages::of(alloc, job, &[stage])?;
+    partial_of(alloc, &stages, stage, row, col)
+}

@@ -1,0 +1,4 @@
+pub mod PlaneSamples
+pub mod RowsCrossTiles
+pub mod GivenLines
+pub mod PlanesAreWide

@@ -1,0 +1,3 @@
+pub mod KnownTiles
+pub mod Wide
+pub mod inside

@@ -1,0 +1,182 @@
+#![tactic(auto)]
+//! Over which areas a tile reads planes again and again. No value depends on what is found here: it only tells which samples are made
+//! numbers once for the tile, and not anew at each read.
+
+use domains::{Area, Index, Span};
+use job::{Body, Formula, Function, Job, JobCase, Kernel};
+use overlap_tiles::Step;
+
+/// Of each plane the area over which its samples are made numbers for a tile, if that is worth its while.
+#[derive(Clone, Copy)]
+pub struct PlaneAreas {
+    pub first: Option<Area>,
+    pub second: Option<Area>,
+    pub third: Option<Area>,
+}
+
+// How a plane is read: how many samples in all, and over which area.
+#[derive(Clone, Copy)]
+struct PlaneReads {
+    samples: u64,
+    area: Option<Area>,
+}
+
+impl PlaneReads {
+    fn none() -> PlaneReads {
+        PlaneReads {
+            samples: 0,
+            area: None,
+        }
+    }
+
+    // So many samples more, over this area.
+    fn with(&self, samples: u64, area: Area) -> PlaneReads {
+        let area = match self.area {
+            Some(own) => own.hull(&area),
+            None => area,
+        };
+        PlaneReads {
+            samples: self.samples.saturating_add(samples),
+            area: Some(area),
+        }
+    }
+
+    // The area, if it has no more points than this, and its samples are read twice or more in the mean, as by a kernel of three rows,
+    // whose samples lie in a somewhat larger area than its points.
+    fn wide_area(&self, most: u64) -> Option<Area> {
+        let area = self.area?;
+        if area.points() <= most.min(self.samples / 2) {
+            Some(area)
+        } else {
+            None
+        }
+    }
+}
+
+// What an index takes the numbers of a span to, if the span lies near enough to 0.
+fn image_of(index: &Index, span: &Span) -> Option<Span> {
+    if -32_767 <= span.lo() && span.hi() <= 32_768 {
+        Some(index.image(span))
+    } else {
+        None
+    }
+}
+
+fn image_of_point(row: &Index, col: &Index, region: &Area) -> Option<Area> {
+    let rows = image_of(row, &region.rows)?;
+    let cols = image_of(col, &region.cols)?;
+    Some(Area { rows, cols })
+}
+
+// So many numbers more on each side.
+fn widened(span: &Span, by: usize) -> Option<Span> {
+    let by = by.min(7) as i32;
+    Span::new(span.lo() - by, span.hi() + by)
+}
+
+fn image_of_kernel(kernel: &Kernel, region: &Area) -> Option<Area> {
+    let lines = kernel.as_slice();
+    let width = lines.first()?.as_slice().len();
+    let rows = widened(&region.rows, lines.len() / 2)?;
+    let cols = widened(&region.cols, width / 2)?;
+    Some(Area { rows, cols })
+}
+
+// Reads of a stage come in, if it is a plane: of so many samples, over this area of its domain.
+fn add_reads(job: &Job, reads: &mut [PlaneReads], stage: usize, samples: u64, area: Option<Area>) {
+    let (Some(found), Some(area)) = (job.stage(stage), area) else {
+        return;
+    };
+    let (Body::Plane(plane), Some(within)) = (found.body(), area.meet(found.domain())) else {
+        return;
+    };
+    if *plane < reads.len() {
+        reads[*plane] = reads[*plane].with(samples, within);
+    }
+}
+
+// The reads of a formula over a region come in. One that takes columns that do not lie side by side stays out.
+fn add_formula(job: &Job, reads: &mut [PlaneReads], formula: &Formula, region: &Area) {
+    match formula {
+        Formula::Number(_) | Formula::Coordinate(_) => {}
+        Formula::Read(stage, row, col) => {
+            if col.mul() == 1 && col.div() == 1 {
+                let area = image_of_point(row, col, region);
+                add_reads(job, reads, *stage, region.points(), area);
+            }
+        }
+        Formula::Neg(a) | Formula::Abs(a) | Formula::Lookup(_, a) | Formula::Literal(_, a, _) => {
+            add_formula(job, reads, a, region);
+        }
+        Formula::Binary(_, a, b) => {
+            add_formula(job, reads, a, region);
+            add_formula(job, reads, b, region);
+        }
+        Formula::Clamp(a, low, high) => {
+            add_formula(job, reads, a, region);
+            add_formula(job, reads, low, region);
+            add_formula(job, reads, high, region);
+        }
+        Formula::Select(a, _, b, first, second) => {
+            add_formula(job, reads, a, region);
+            add_formula(job, reads, b, region);
+            add_formula(job, reads, first, region);
+            add_formula(job, reads, second, region);
+        }
+        Formula::Stencil(stage, _, kernel) => {
+            let samples = region
+                .points()
+                .saturating_mul(kernel.as_slice().len() as u64);
+            add_reads(job, reads, *stage, samples, image_of_kernel(kernel, region));
+        }
+    }
+}
+
+fn add_case(job: &Job, reads: &mut [PlaneReads], case: &JobCase, region: &Area) {
+    if let Some(area) = case.area() {
+        if let Some(common) = area.meet(region) {
+            add_formula(job, reads, case.formula(), &common);
+        }
+    }
+}
+
+fn add_function(job: &Job, reads: &mut [PlaneReads], function: &Function, region: &Area) {
+    for case in function.cases() {
+        add_case(job, reads, case, region);
+    }
+    if let Some(formula) = function.otherwise() {
+        add_formula(job, reads, formula, region);
+    }
+}
+
+// The reads of a step come in.
+fn add_step(job: &Job, reads: &mut [PlaneReads], step: &Step) {
+    let Some(found) = job.stage(step.stage) else {
+        return;
+    };
+    match found.body() {
+        Body::Plane(_) => {}
+        Body::Function(function) => add_function(job, reads, function, &step.area),
+        Body::Accumulator(accumulator) => {
+            add_formula(job, reads, accumulator.value(), &step.area);
+            add_formula(job, reads, accumulator.bin(), &step.area);
+        }
+    }
+}
+
+/// Of each plane the area over which these steps read its samples, if they read them again and again, row by row, and it has no more
+/// points than four times the largest step.
+pub fn plane_areas(job: &Job, steps: &[Step]) -> PlaneAreas {
+    let mut reads = [PlaneReads::none(); 3];
+    let mut largest = 0;
+    for step in steps {
+        add_step(job, &mut reads, step);
+        largest = step.area.points().max(largest);
+    }
+    let most = largest.saturating_mul(4);
+    PlaneAreas {
+        first: reads[0].wide_area(most),
+        second: reads[1].wide_area(most),
+        third: reads[2].wide_area(most),
+    }
+}

@@ -1,0 +1,79 @@
+#![tactic(auto)]
+//! Samples of planes as numbers.
+
+ghost use Rattle.std.specs.Prelude.{◌≡◌, ◌<◌, ◌+◌, ◌*◌, ◌≤ℤ◌, ◌+ℤ◌, pos, length, slice_index_or, unsigned_abs, []};
+ghost use Rattle.domains.specs.Area.{HoldsPoint};
+ghost use Rattle.domains.specs.Index.{index_at};
+ghost use Rattle.plane_samples.specs.Samples.{count_in, IsSamples};
+ghost use Rattle.job.specs.Values.{sample_at};
+ghost use Rattle.job.specs.WellFormed.{picture_area};
+ghost use Rattle.tile_eval.specs.Rows.{EachPlace, at};
+
+use domains::Index;
+use netpbm::{Picture, Samples};
+use row_kernels::{RowSpan, gather_samples, take_samples};
+
+// The place of a sample among those of a plane.
+#[tactic(auto, using(crate::proofs::PlaneSamples::sample_below))]
+fn place_in(picture: &Picture, row: i32, col: i32) -> usize
+    requires { HoldsPoint (picture_area picture.now) row col }
+    ensures place { result ≡ unsigned_abs row * picture.now.cols + unsigned_abs col }
+    ensures below { result < picture.now.rows * picture.now.cols }
+{
+    row as usize * picture.cols() as usize + col as usize
+}
+
+// The samples of a plane, row by row.
+fn plane_of(picture: &Picture, plane: usize) -> Samples<'_>
+    requires { plane < length picture.now.planes }
+    ensures samples { IsSamples result (slice_index_or picture.now.planes plane []) }
+    ensures count { count_in result ≡ picture.now.rows * picture.now.cols }
+{
+    picture.samples(plane)
+}
+
+/// The samples of a plane along a row, from a column on.
+pub fn plane_row(picture: &Picture, plane: usize, row: i32, first: i32, out: &mut [i32])
+    requires plane { plane < length picture.now.planes }
+    requires there { EachPlace (length out.old)
+        (λ k. HoldsPoint (picture_area picture.now) row (first +ℤ pos k)) }
+    ensures { EachPlace (length out.old)
+        (λ k. at out.new k ≡ sample_at picture.now plane row (first +ℤ pos k)) }
+{
+    if !out.is_empty() {
+        let place = place_in(picture, row, first);
+        take_samples(&plane_of(picture, plane), place, out);
+    }
+}
+
+/// The samples of a plane along a row, at the columns that an index takes at the columns of some points.
+pub fn plane_gather(
+    picture: &Picture,
+    plane: usize,
+    row: i32,
+    col: &Index,
+    points: &RowSpan,
+    out: &mut [i32],
+)
+    requires plane { plane < length picture.now.planes }
+    requires fits { length out.old ≡ points.now.len }
+    requires there { EachPlace (length out.old) (λ k. HoldsPoint (picture_area picture.now) row
+        (index_at col.now (points.now.col +ℤ pos k))) }
+    ensures { EachPlace (length out.old) (λ k. at out.new k
+        ≡ sample_at picture.now plane row (index_at col.now (points.now.col +ℤ pos k))) }
+{
+    if out.is_empty() {
+        return;
+    }
+    let place = place_in(picture, row, col.at(points.col));
+    gather_samples(&plane_of(picture, plane), place, col, points, out);
+}
+
+/// A sample of a plane.
+pub fn plane_sample(picture: &Picture, plane: usize, row: i32, col: i32) -> i32
+    requires plane { plane < length picture.now.planes }
+    requires there { HoldsPoint (picture_area picture.now) row col }
+    ensures { result ≡ sample_at picture.now plane row col }
+{
+    i32::from(picture.sample(plane, row as u32, col as u32))
+}

@@ -1,0 +1,75 @@
+#![tactic(auto)]
+//! Samples of the planes of a picture that were made numbers for a tile.
+
+ghost use Rattle.std.specs.Prelude.{◌≡◌, ◌+ℤ◌, pos, length, IfSome};
+ghost use Rattle.std.specs.Option.{option_map};
+ghost use Rattle.job.specs.Values.{sample_at};
+ghost use Rattle.netpbm.specs.Image.{Image};
+ghost use Rattle.tile_eval.specs.Rows.{EachPlace, at};
+ghost use Rattle.tile_sources.specs.Wide.{AreWide, wide_plane};
+
+use crate::plane_reads::PlaneAreas;
+use crate::wide_plane::WidePlane;
+use netpbm::Picture;
+use std::alloc::{AllocError, Global};
+
+/// The samples of each plane of a picture over its area as numbers.
+#[derive(Drop)]
+pub struct WidePlanes {
+    first: WidePlane,
+    second: WidePlane,
+    third: WidePlane,
+}
+
+impl WidePlanes {
+    /// No samples, and no memory yet.
+    pub fn none(alloc: Global) -> WidePlanes {
+        WidePlanes {
+            first: WidePlane::none(alloc),
+            second: WidePlane::none(alloc),
+            third: WidePlane::none(alloc),
+        }
+    }
+
+    /// Grows to what the samples over these areas take.
+    ///
+    /// # Errors
+    ///
+    /// Fails only where memory is refused.
+    pub fn grow(&mut self, areas: &PlaneAreas) -> Result<(), AllocError> {
+        self.first.grow(&areas.first)?;
+        self.second.grow(&areas.second)?;
+        self.third.grow(&areas.third)
+    }
+
+    /// Takes the samples of each plane over its area, where the picture has it and memory was grown for them.
+    pub fn take(&mut self, picture: &Picture, areas: &PlaneAreas)
+        ensures { AreWide picture.now self.new }
+    {
+        self.first.take(picture, 0, &areas.first);
+        self.second.take(picture, 1, &areas.second);
+        self.third.take(picture, 2, &areas.third);
+    }
+
+    // What there is of a plane.
+    fn plane(&self, plane: usize) -> Option<&WidePlane>
+        ensures { option_map (λ wide. wide.now) result ≡ wide_plane self.now plane }
+    {
+        match plane {
+            0 => Some(&self.first),
+            1 => Some(&self.second),
+            2 => Some(&self.third),
+            _ => None,
+        }
+    }
+
+    /// So many samples of a plane along a row, from a column on, if they were made numbers.
+    pub fn row(&self, plane: usize, row: i32, first: i32, count: usize) -> Option<&[i32]>
+        ensures count { IfSome result (λ line. length line.now ≡ count) }
+        ensures samples { (picture : Image) → AreWide picture self.now
+            → IfSome result (λ line. EachPlace count
+            (λ k. at line.now k ≡ sample_at picture plane row (first +ℤ pos k))) }
+    {
+        self.plane(plane)?.row(row, first, count)
+    }
+}
