@@ -2,8 +2,8 @@
 use Rattle.std.proofs.Common.{◌≡◌, ℕ, ◌+◌, ◌-◌, ◌<◌, ◌≤◌, List, ◌++◌, length, get_or, take, drop, sym, ap, ◌∙◌, arith, append_assoc}
 use Rattle.std.specs.List.{slice_range}
 use Rattle.std.proofs.lemmas.List.{length-take-le, length-drop, get_or-drop, get_or-take}
-use Rattle.netpbm.specs.declared.samples.Samples.{Samples}
-use Rattle.netpbm.specs.Samples.{sample_in, IsSamples}
+use Rattle.plane_samples.specs.declared.samples.Samples.{Samples}
+use Rattle.plane_samples.specs.Samples.{sample_in, IsSamples}
 use Rattle.netpbm.proofs.Rasters.{copied, take_part}
 
 pub length_range : (list : List ℕ) (start end : ℕ) → end ≤ length list → length (slice_range list start end) ≡ end - start

@@ -13,5 +13,4 @@ pub mod Spelling
 pub mod Text
 pub mod Widths
 pub mod Scanning
-pub mod Samples
 pub mod Rasters

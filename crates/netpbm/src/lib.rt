@@ -15,7 +15,6 @@ mod raw_bounds;
 mod raw_planes;
 mod raw_raster;
 mod reading;
-mod samples;
 mod text;
 mod writing;
 
@@ -23,6 +22,6 @@ pub use fault::PicFault;
 pub use laws::{one_picture, one_spelling};
 pub use made_plane::Plane;
 pub use picture::{LONGEST_SIDE, Picture};
+pub use plane_samples::{Samples, SpacedBytes, SpacedPairs};
 pub use reading::{read, read_owned};
-pub use samples::{Samples, SpacedBytes, SpacedPairs};
 pub use writing::{hash_raw, raw, write_raw};

@@ -2,10 +2,10 @@
 ghost use Rattle.std.specs.Prelude.{◌≡◌, ◌≤◌, ◌++◌, ◌↔◌, [], All, IfOk, OnOk, IsTrue, length};
 ghost use Rattle.netpbm.specs.Image.{IsPlane};
 ghost use Rattle.netpbm.specs.MadePlane.{made};
-ghost use Rattle.netpbm.specs.Samples.{IsSamples};
+ghost use Rattle.plane_samples.specs.Samples.{IsSamples};
 
 use crate::made_samples::{MadeSamples, add_samples, are_bounded, count_of, lent, no_samples};
-use crate::samples::Samples;
+use plane_samples::Samples;
 use std::alloc::{AllocError, Global};
 use std::marker::Model;
 

@@ -1,11 +1,11 @@
 //! Samples in bytes or in numbers of 16 bits.
 ghost use Rattle.std.specs.Prelude.{ℕ, ◌≡◌, ◌≤◌, ◌<◌, ◌++◌, ◌↔◌, [], All, take, length, IsTrue, IfOk, OnOk};
-ghost use Rattle.netpbm.specs.Samples.{IsSamples};
+ghost use Rattle.plane_samples.specs.Samples.{IsSamples};
 ghost use Rattle.netpbm.specs.Widths.{list_of, Holds};
 
 use crate::picture::is_bounded;
 use crate::raw_raster::narrow;
-use crate::samples::{Samples, SpacedBytes};
+use plane_samples::{Samples, SpacedBytes};
 use std::alloc::{AllocError, Global};
 
 // How many samples are narrowed at a time.

@@ -1,9 +1,9 @@
 //! Parts of the samples of a plane.
 ghost use Rattle.std.specs.Prelude.{ℕ, List, IfSome, ◌≡◌, ◌≤◌, ◌-◌, length, take, slice_range};
-ghost use Rattle.netpbm.specs.Samples.{count_in, IsSamples};
-ghost use Rattle.netpbm.specs.declared.samples.Samples.TheVariants.{Bytes};
+ghost use Rattle.plane_samples.specs.Samples.{count_in, IsSamples};
+ghost use Rattle.plane_samples.specs.declared.samples.Samples.TheVariants.{Bytes};
 
-use crate::samples::{Samples, SpacedBytes};
+use plane_samples::{Samples, SpacedBytes};
 
 /// The samples from one place up to another: as they lie where they are words, else put into `room`.
 pub fn lend_part<'a>(

@@ -7,12 +7,12 @@ ghost use Rattle.netpbm.specs.Planes.{samples_of};
 ghost use Rattle.netpbm.specs.MadePlane.{made_samples};
 ghost use Rattle.netpbm.specs.Rasters.{bytes_of, IsKept};
 ghost use Rattle.netpbm.specs.Raw.{decoded, raw_raster};
-ghost use Rattle.netpbm.specs.Samples.{IsSamples};
+ghost use Rattle.plane_samples.specs.Samples.{IsSamples};
 
 use crate::made_plane::{Plane, is_made_plane};
 use crate::parts::whole_bytes;
 use crate::raster::{KeptRaster, Raster, as_written, samples_in};
-use crate::samples::Samples;
+use plane_samples::Samples;
 use std::marker::Model;
 
 /// The longest side of a picture, in samples.

@@ -2,11 +2,11 @@
 ghost use Rattle.std.specs.Prelude.{ℕ, ◌≡◌, ◌≤◌, ◌<◌, ◌+◌, ◌*◌, ◌⊎◌, length, slice_index_or, []};
 ghost use Rattle.netpbm.specs.Colours.{interleaved, separated};
 ghost use Rattle.netpbm.specs.Raw.{width_of, decoded, pairs, raw_raster};
-ghost use Rattle.netpbm.specs.Samples.{IsSamples};
-ghost use Rattle.netpbm.specs.declared.samples.Samples.TheVariants.{Bytes, Pairs};
+ghost use Rattle.plane_samples.specs.Samples.{IsSamples};
+ghost use Rattle.plane_samples.specs.declared.samples.Samples.TheVariants.{Bytes, Pairs};
 
 use crate::made_plane::Plane;
-use crate::samples::{Samples, SpacedBytes, SpacedPairs};
+use plane_samples::{Samples, SpacedBytes, SpacedPairs};
 
 /// The samples of a picture.
 #[derive(Debug, Drop)]

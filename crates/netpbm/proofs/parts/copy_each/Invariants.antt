@@ -1,6 +1,6 @@
 -- What is copied so far.
 use Rattle.std.proofs.Common.{◌≡◌, ℕ, ◌+◌, ◌<◌, get_or}
-use Rattle.netpbm.specs.Samples.{sample_in}
+use Rattle.plane_samples.specs.Samples.{sample_in}
 use Rattle.netpbm.proofs.parts.copy_each.Given as goal
 
 abbrev pub invariant-loop-k : goal.invariant-loop-k
