@@ -2,8 +2,10 @@
 #![tactic(auto)]
 
 mod ids;
+mod job_ids;
 mod key;
 pub mod laws;
 
 pub use ids::{InputId, ProgramId};
+pub use job_ids::Ids;
 pub use key::Key;

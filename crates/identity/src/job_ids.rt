@@ -1,0 +1,27 @@
+#![tactic(auto)]
+//! The two identities of a job.
+
+ghost use Rattle.std.specs.Prelude.{◌≡◌};
+ghost use Rattle.identity.specs.Keys.{ids_in};
+
+use crate::ids::{InputId, ProgramId};
+use crate::key::Key;
+
+/// The identities of a program and of what it is given: those of a job. They are in the order of their fields.
+#[derive(Clone, Copy, Debug, PartialEq, Eq, PartialOrd, Ord, Hash)]
+pub struct Ids {
+    pub program: ProgramId,
+    pub input: InputId,
+}
+
+impl Ids {
+    /// The identities of the job whose tile the key names.
+    pub fn of_key(key: &Key) -> Ids
+        ensures { result ≡ ids_in key.now }
+    {
+        Ids {
+            program: key.program,
+            input: key.input,
+        }
+    }
+}

@@ -1,0 +1,3 @@
+pub mod IdLaws
+pub mod JoinLaws
+pub mod LeaveLaws

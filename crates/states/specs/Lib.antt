@@ -1,0 +1,3 @@
+pub mod IdSets
+pub mod States
+pub mod Updates
