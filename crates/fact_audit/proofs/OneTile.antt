@@ -6,7 +6,7 @@ use Rattle.std.proofs.lemmas.Bool.{eqb-true}
 use Rattle.std.specs.Option.{option_map_or}
 use Rattle.std.proofs.lemmas.List.{length-map}
 use Rattle.std.proofs.lemmas.Option.{same_Some, none-some}
-use Rattle.accumulators.specs.Partials.{IsAccumulatorTile, IsTruePartial}
+use Rattle.reductions.specs.TruePartials.{IsAccumulatorTile, IsTruePartial}
 use Rattle.domains.specs.Area.{point_count, points_of}
 use Rattle.domains.specs.Span.{Ends, len_of, numbers_of}
 use Rattle.domains.specs.Tiles.{tile_area}

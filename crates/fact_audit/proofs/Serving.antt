@@ -3,7 +3,7 @@ use Rattle.std.proofs.Common.{ℕ, ◌≤◌, ◌≡◌, List, Some, Result, Ok,
 use Rattle.std.proofs.lemmas.List.Elements.{All-contains}
 use Rattle.std.proofs.lemmas.Option.{slice_get_within, same_Some}
 use Rattle.catalog.specs.Entries.{Entry, IsCatalog, StandsAt, entry_of, ids_in, ids_of}
-use Rattle.catalog.specs.declared.ids.Ids.{Ids}
+use Rattle.identity.specs.declared.job_ids.Ids.{Ids}
 use Rattle.job.specs.declared.job.Job.{Job}
 use Rattle.job.specs.Kept.{pipeline_in}
 use Rattle.tile_eval.specs.Buffer.{IsServed}

@@ -1,6 +1,6 @@
 -- Which facts could be true by their kind and the count of their numbers.
 use Rattle.std.specs.Prelude.{ℕ, ◌≡◌, ℤ, List, Some, length}
-use Rattle.accumulators.specs.Partials.{IsAccumulatorTile}
+use Rattle.reductions.specs.TruePartials.{IsAccumulatorTile}
 use Rattle.domains.specs.Area.{point_count}
 use Rattle.domains.specs.Span.{Ends, len_of}
 use Rattle.domains.specs.declared.area.Area.{Area}

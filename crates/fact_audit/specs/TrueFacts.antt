@@ -1,6 +1,6 @@
 -- Which facts are true.
 use Rattle.std.specs.Prelude.{ℕ, ◌≡◌, List, Some, slice_get}
-use Rattle.accumulators.specs.Partials.{IsTruePartial}
+use Rattle.reductions.specs.TruePartials.{IsTruePartial}
 use Rattle.catalog.specs.Entries.{Entry, ids_in, ids_of}
 use Rattle.identity.specs.declared.key.Key.{Key}
 use Rattle.job.specs.Pipeline.{Pipeline}

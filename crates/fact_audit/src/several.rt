@@ -7,8 +7,8 @@ ghost use Rattle.fact_audit.specs.inside.Ready.{AreNamed, AreReady, AreStagesFor
 
 use crate::truth::verdict_by;
 use crate::verdict::Verdict;
-use catalog::{Catalog, Ids};
-use identity::Key;
+use catalog::{Catalog, ids_of};
+use identity::{Ids, Key};
 use job::Job;
 use std::alloc::{AllocError, Global};
 use tile_eval::TrueStages;
@@ -74,7 +74,7 @@ fn all_stages<'a>(
 fn stages_for<'a>(alloc: Global, job: &'a Job, facts: &[Fact]) -> Result<TrueStages<'a>, AllocError>
     ensures { IfOk result (AreStagesFor facts.now (entry_of job.now)) }
 {
-    let stages = named_stages(alloc, &Ids::of(job), facts)?;
+    let stages = named_stages(alloc, &ids_of(job), facts)?;
     TrueStages::of(alloc, job, &stages)
 }
 

@@ -5,10 +5,10 @@ ghost use Rattle.domains.specs.Span.{Ends};
 ghost use Rattle.fact_audit.specs.Shapes.{FitsJob, HasBins, IsPartialShape, IsTileShape};
 ghost use Rattle.job.specs.Kept.{pipeline_in};
 
-use accumulators::accumulator_tile;
 use domains::Span;
 use identity::Key;
 use job::Job;
+use reductions::accumulator_tile;
 use tile_eval::function_tile;
 use tile_fact::{Body, Fact};
 

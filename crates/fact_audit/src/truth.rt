@@ -9,7 +9,7 @@ ghost use Rattle.tile_eval.specs.Buffer.{IsServed};
 
 use crate::shape::shape_ok;
 use crate::verdict::Verdict;
-use accumulators::partial_of;
+use reductions::partial_of;
 use std::alloc::{AllocError, Global};
 use tile_eval::TrueStages;
 use tile_fact::{Body, Fact};

@@ -1,3 +1,4 @@
+pub mod AmongLaws
 pub mod GatheringLaws
 pub mod HexLaws
 pub mod RecordLaws

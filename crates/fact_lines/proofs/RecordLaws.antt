@@ -1,5 +1,5 @@
 -- The digits of records, one part after the other.
-use Rattle.std.proofs.Common.{◌≡◌, ◌++◌, ℕ, List, [], ◌∷◌, Option, Result, length, sym, ap, subst, ◌∙◌, append_assoc}
+use Rattle.std.proofs.Common.{◌≡◌, ◌++◌, ◌<◌, ℕ, List, [], ◌∷◌, Option, Result, length, refl, sym, ap, subst, ◌∙◌, append_assoc, arith}
 use Rattle.std.proofs.lemmas.List.{append-nil}
 use Rattle.std.specs.List.{flat_map}
 use Rattle.std.specs.Int.{w32, w64, to_be_bytes}
@@ -9,7 +9,8 @@ use Rattle.tile_fact.specs.Bodies.{kind, numbers}
 use Rattle.tile_fact.specs.declared.body.Body.{Body}
 use Rattle.tile_fact.specs.declared.body.Body.TheVariants.{Tile, Partial}
 use Rattle.tile_fact.specs.declared.fact.Fact.{Fact}
-use Rattle.tile_fact.specs.FactFile.{key_bytes, number_bytes, body_bytes, fact_record}
+use Rattle.identity.specs.declared.job_ids.Ids.{Ids}
+use Rattle.tile_fact.specs.FactFile.{key_bytes, number_bytes, body_bytes, fact_record, magic, retired_magic, head_of, ids_bytes}
 use Rattle.write_buffer.specs.Passing.{Passes, Breaks, Puts}
 use Rattle.write_buffer.proofs.HexLaws.{breaks_digits_front, lower_all, puts_digits_then}
 use Rattle.fact_lines.specs.inside.Labels.{label_bytes}
@@ -78,23 +79,53 @@ pub puts_bins : {X E : Type 0} (r : Result X E) (fact : Fact) (bins : List ℤ) 
 puts_bins r fact bins was mid waits a b c n m k is first second =
     puts_numbers r fact (number_bytes w64) bins was mid waits a b c n m k (partial_record fact bins is) first second
 
--- ---- the head of a file, of which the second part is known
+-- ---- a count, and things behind it
 
-head_of : (front have want : List ℕ) → have ≡ want → front ++ (have ++ []) ≡ front ++ want
-head_of front have want same = ap (λ l. front ++ l) (append-nil have ∙ same)
+pub counted_breaks : {X : Type 0} (spelled : X → List ℕ) (have want : List ℕ) (xs : List X) (was : List ℕ) (a b : Option (List ℕ))
+    (n m : ℕ) → have ≡ want → Breaks (encode_lower have) was a b n m → Breaks (encode_lower (want ++ flat_map spelled xs)) was a b n m
+counted_breaks spelled have want xs was a b n m same first =
+    breaks_digits_front want (flat_map spelled xs) was a b n m (subst (λ bytes. Breaks (encode_lower bytes) was a b n m) same first)
 
-pub head_breaks : (front have want : List ℕ) (facts : List Fact) (was : List ℕ) (a b : Option (List ℕ)) (n m : ℕ) → have ≡ want
-    → Breaks (encode_lower (front ++ (have ++ []))) was a b n m
-    → Breaks (encode_lower ((front ++ want) ++ flat_map fact_record facts)) was a b n m
-head_breaks front have want facts was a b n m same first =
-    breaks_digits_front (front ++ want) (flat_map fact_record facts) was a b n m
-    (subst (λ bytes. Breaks (encode_lower bytes) was a b n m) (head_of front have want same) first)
+pub counted_then : {X Y E : Type 0} (r : Result X E) (spelled : Y → List ℕ) (have want : List ℕ) (ys : List Y) (was mid waits : List ℕ)
+    (a b c : Option (List ℕ)) (n m k : ℕ) → have ≡ want → Passes (encode_lower have) was mid a b n m
+    → Puts r (flat_map (λ y. encode_lower (spelled y)) ys) mid waits b c m k
+    → Puts r (encode_lower (want ++ flat_map spelled ys)) was waits a c n k
+counted_then r spelled have want ys was mid waits a b c n m k same first second =
+    puts_digits_then r want (flat_map spelled ys) was mid waits a b c n m k
+    (subst (λ bytes. Passes (encode_lower bytes) was mid a b n m) same first)
+    (subst (λ digits. Puts r digits mid waits b c m k) (sym (lower_all spelled ys)) second)
 
-pub head_then : {X E : Type 0} (r : Result X E) (front have want : List ℕ) (facts : List Fact) (was mid waits : List ℕ)
-    (a b c : Option (List ℕ)) (n m k : ℕ) → have ≡ want → Passes (encode_lower (front ++ (have ++ []))) was mid a b n m
-    → Puts r (flat_map (λ fact. encode_lower (fact_record fact)) facts) mid waits b c m k
-    → Puts r (encode_lower ((front ++ want) ++ flat_map fact_record facts)) was waits a c n k
-head_then r front have want facts was mid waits a b c n m k same first second =
-    puts_digits_then r (front ++ want) (flat_map fact_record facts) was mid waits a b c n m k
-    (subst (λ bytes. Passes (encode_lower bytes) was mid a b n m) (head_of front have want same) first)
-    (subst (λ digits. Puts r digits mid waits b c m k) (sym (lower_all fact_record facts)) second)
+-- ---- the head of a file
+
+pub head_none : (retired : List Ids) → length retired ≡ 0 → head_of retired ≡ magic
+head_none [] none = refl
+head_none (i ∷ more) none = absurd (omega arith)
+
+-- the magic and the count
+abbrev pub head_front : List Ids → List ℕ
+head_front retired = retired_magic ++ to_be_bytes w32 (length retired)
+
+pub head_some : (retired : List Ids) → 0 < length retired → head_of retired ≡ head_front retired ++ flat_map ids_bytes retired
+head_some [] some = absurd (omega arith)
+head_some (i ∷ more) some = refl
+
+pub front_is : (retired : List Ids) (count : ℕ) (bytes : List ℕ) → bytes ≡ to_be_bytes w32 count → count ≡ length retired
+    → retired_magic ++ (bytes ++ []) ≡ head_front retired
+front_is retired count bytes same is =
+    ap (λ (l : List ℕ). retired_magic ++ l) (append-nil bytes ∙ same ∙ ap (to_be_bytes w32) is)
+
+pub head_breaks : (retired : List Ids) (count : ℕ) (bytes was : List ℕ) (a b : Option (List ℕ)) (n m : ℕ) → 0 < length retired
+    → bytes ≡ to_be_bytes w32 count → count ≡ length retired → Breaks (encode_lower (retired_magic ++ (bytes ++ []))) was a b n m
+    → Breaks (encode_lower (head_of retired)) was a b n m
+head_breaks retired count bytes was a b n m some same is first =
+    subst (λ (l : List ℕ). Breaks (encode_lower l) was a b n m) (sym (head_some retired some))
+    (counted_breaks ids_bytes _ (head_front retired) retired was a b n m (front_is retired count bytes same is) first)
+
+pub head_then : {X E : Type 0} (r : Result X E) (retired : List Ids) (count : ℕ) (bytes was mid waits : List ℕ)
+    (a b c : Option (List ℕ)) (n m k : ℕ) → 0 < length retired
+    → bytes ≡ to_be_bytes w32 count → count ≡ length retired → Passes (encode_lower (retired_magic ++ (bytes ++ []))) was mid a b n m
+    → Puts r (flat_map (λ job. encode_lower (ids_bytes job)) retired) mid waits b c m k
+    → Puts r (encode_lower (head_of retired)) was waits a c n k
+head_then r retired count bytes was mid waits a b c n m k some same is first second =
+    subst (λ (l : List ℕ). Puts r (encode_lower l) was waits a c n k) (sym (head_some retired some))
+    (counted_then r ids_bytes _ (head_front retired) retired was mid waits a b c n m k (front_is retired count bytes same is) first second)

@@ -1,9 +1,16 @@
--- The line that a list of facts is written as.
-use Rattle.std.specs.Prelude.{ℕ, List, [], ◌∷◌, ◌++◌}
+-- The line that retired jobs and facts are written as.
+use Rattle.std.specs.Prelude.{◌≡◌, ℕ, List, [], ◌∷◌, ◌++◌, length}
 use Rattle.hex.specs.Hex.{encode_lower}
+use Rattle.identity.specs.declared.job_ids.Ids.{Ids}
 use Rattle.tile_fact.specs.declared.fact.Fact.{Fact}
 use Rattle.tile_fact.specs.FactFile.{fact_file}
+use Rattle.fact_lines.specs.declared.writing.Counts.{Counts}
 
--- the file of the facts in small hexadecimal digits, and a line feed
-abbrev pub written : List Fact → List ℕ
-written facts = encode_lower (fact_file facts) ++ 10 ∷ []
+-- their file in small hexadecimal digits, and a line feed
+abbrev pub written : List Ids → List Fact → List ℕ
+written retired facts = encode_lower (fact_file retired facts) ++ 10 ∷ []
+
+-- so many there are
+pub record AreCounts (counts : Counts) (retired : List Ids) (facts : List Fact) : Type 0 where
+  pub of_retired : counts.retired ≡ length retired
+  pub of_facts : counts.facts ≡ length facts

@@ -16,7 +16,7 @@ pub enum LinesFault {
     /// never [`FactFault::Memory`].
     #[error("line {line}: {fault}")]
     BadFile { line: usize, fault: FactFault },
-    /// There is no memory for a line of digits, before which each line is empty or a fact file, or for the union.
+    /// There is no memory for a line of digits, before which each line is empty or a fact file, or for what they hold.
     #[error("out of memory")]
     Memory,
 }

@@ -1,13 +1,16 @@
-//! Texts of fact files, a line for each in hexadecimal digits: the union of what they hold, and the line of a union.
+//! Texts of fact files, a line for each in hexadecimal digits: what they hold together, and the line of a file.
 #![tactic(auto)]
 
+mod contents;
 mod distinct;
 mod fault;
+mod head;
+mod join;
 mod line;
 mod records;
-mod union;
 mod writing;
 
+pub use contents::Contents;
 pub use fault::LinesFault;
-pub use union::union_of;
-pub use writing::{count_facts, put_union, write_union};
+pub use join::join_of;
+pub use writing::{Counts, counts_of, put_line, write_line};

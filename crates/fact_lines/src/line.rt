@@ -5,32 +5,36 @@ ghost use Rattle.fact_lines.specs.Texts.{IsDigitsOf, IsFileLine};
 ghost use Rattle.fact_lines.specs.Faults.{IsLineFault};
 ghost use Rattle.fact_lines.specs.inside.Gathering.{Adds, told};
 
+use crate::contents::Contents;
 use crate::fault::LinesFault;
 use std::alloc::Global;
-use tile_fact::{Fact, FactFault, decode};
+use tile_fact::{FactFault, FactFile, decode};
 
-/// Adds the facts of a line, which is of this number: those of the file that it is, or none where it is empty.
+/// Adds what a line holds, which is of this number: the retired jobs and the facts of the file that it is, or nothing where it is
+/// empty.
 pub fn add_line(
     alloc: Global,
     number: usize,
     line: &[u8],
-    facts: &mut Vec<Fact>,
+    contents: &mut Contents,
 ) -> Result<(), LinesFault>
-    ensures added { OnOk result (Adds line.now facts.old.items facts.new.items) }
+    ensures added { OnOk result (Adds line.now contents.old.retired.items contents.old.facts.items
+        contents.new.retired.items contents.new.facts.items) }
     ensures fault { IfErr result (IsLineFault number line.now) }
 {
     if line.is_empty() {
         return Ok(());
     }
-    let mut file = read_line(alloc, number, line)?;
-    facts.append(&mut file)?;
+    let file = read_line(alloc, number, line)?;
+    contents.retired.append(&mut file.retired.into_vec())?;
+    contents.facts.append(&mut file.facts.into_vec())?;
     Ok(())
 }
 
-// The facts of the file that a line is.
-fn read_line(alloc: Global, number: usize, line: &[u8]) -> Result<Vec<Fact>, LinesFault>
+// The file that a line is.
+fn read_line(alloc: Global, number: usize, line: &[u8]) -> Result<FactFile, LinesFault>
     requires { 0 < length line.now }
-    ensures found { IfOk result (λ facts. IsFileLine line.now facts.items) }
+    ensures found { IfOk result (λ file. IsFileLine line.now file.retired file.facts) }
     ensures fault { IfErr result (IsLineFault number line.now) }
 {
     if !is_hex(line) {
@@ -41,7 +45,7 @@ fn read_line(alloc: Global, number: usize, line: &[u8]) -> Result<Vec<Fact>, Lin
         Err(_) => return Err(LinesFault::Memory),
     };
     match decode(alloc, &bytes) {
-        Ok(file) => Ok(file.facts.into_vec()),
+        Ok(file) => Ok(file),
         Err(fault) => Err(told(number, fault)),
     }
 }

@@ -1,10 +1,10 @@
-//! The digits of a fact file, one part after the other.
+//! The digits of facts, one part after the other.
 
 ghost use Rattle.hex.specs.Hex.{encode_lower};
 ghost use Rattle.std.specs.Int.{w32, w64};
 ghost use Rattle.std.specs.List.{flat_map};
 ghost use Rattle.std.specs.Prelude.{◌≡◌, ◌++◌, length};
-ghost use Rattle.tile_fact.specs.FactFile.{fact_file, fact_record, number_bytes};
+ghost use Rattle.tile_fact.specs.FactFile.{fact_record, number_bytes, records_of};
 ghost use Rattle.write_buffer.specs.Passing.{Puts};
 ghost use Rattle.fact_lines.specs.inside.Labels.{label_bytes};
 
@@ -12,19 +12,19 @@ use streams::{Sink, WriteFailed};
 use tile_fact::{Body, Fact};
 use write_buffer::WriteBuffer;
 
-/// Puts the digits of the file of the facts.
-pub fn put_file<W: Sink>(
+/// Puts the digits of the count of the facts and of their records.
+pub fn put_facts<W: Sink>(
     buffer: &mut WriteBuffer,
     writer: &mut W,
     count: u32,
     facts: &[Fact],
 ) -> Result<(), WriteFailed>
     requires { count ≡ length facts.now }
-    ensures { Puts result (encode_lower (fact_file facts.now)) buffer.old buffer.new
+    ensures { Puts result (encode_lower (records_of facts.now)) buffer.old buffer.new
         (W.contents writer.old) (W.contents writer.new)
         (W.failures writer.old) (W.failures writer.new) }
 {
-    buffer.put_hex_parts(writer, &[b"PTF1", &count.to_be_bytes()])?;
+    buffer.put_hex(writer, &count.to_be_bytes())?;
     put_records(buffer, writer, facts)
 }
 

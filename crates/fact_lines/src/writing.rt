@@ -1,50 +1,87 @@
-//! A list of facts as the line of its file.
+//! Retired jobs and facts as the line of their file.
 
 ghost use Rattle.std.specs.Io.KnownBytes.{Appends};
-ghost use Rattle.std.specs.Prelude.{◌≡◌, ◌<◌, ◌≤◌, ◌^◌, MatchOption, OnOk, OnErr, length};
+ghost use Rattle.std.specs.Prelude.{◌≡◌, ◌<◌, ◌≤◌, ◌^◌, ◌⊎◌, MatchOption, OnOk, OnErr, length};
 ghost use Rattle.streams.specs.Streams.{AppendsPart, CountsFailure};
 ghost use Rattle.write_buffer.specs.Passing.{Puts};
-ghost use Rattle.fact_lines.specs.Written.{written};
+ghost use Rattle.hex.specs.Hex.{encode_lower};
+ghost use Rattle.tile_fact.specs.FactFile.{fact_file};
+ghost use Rattle.fact_lines.specs.Written.{AreCounts, written};
 
-use crate::records::put_file;
+use crate::head::put_head;
+use crate::records::put_facts;
+use identity::Ids;
 use streams::{Sink, WriteFailed};
 use tile_fact::Fact;
 use write_buffer::WriteBuffer;
 
-/// How many facts there are, if a fact file can count them: none past 4,294,967,295.
-pub fn count_facts(facts: &[Fact]) -> Option<u32>
-    ensures { MatchOption result (2 ^ 32 ≤ length facts.now) (λ count. count ≡ length facts.now) }
-{
-    u32::try_from(facts.len()).ok()
+/// How many retired jobs and facts a fact file has.
+#[derive(Clone, Copy, Debug)]
+pub struct Counts {
+    pub retired: u32,
+    pub facts: u32,
 }
 
-/// Writes the fact file of the facts in small hexadecimal digits, and LF. No memory is taken: the digits go through a
-/// buffer of fixed size.
-pub fn write_union<W: Sink>(facts: &[Fact], count: u32, writer: &mut W) -> Result<(), WriteFailed>
-    requires { count ≡ length facts.now }
-    ensures ok { OnOk result
-        (Appends (W.contents writer.old) (W.contents writer.new) (written facts.now)) }
-    ensures part { OnErr result
-        (AppendsPart (W.contents writer.old) (W.contents writer.new) (written facts.now)) }
+/// How many there are, if a fact file can count them: none past 4,294,967,295 of either.
+pub fn counts_of(retired: &[Ids], facts: &[Fact]) -> Option<Counts>
+    ensures { MatchOption result ((2 ^ 32 ≤ length retired.now) ⊎ (2 ^ 32 ≤ length facts.now))
+        (λ counts. AreCounts counts retired.now facts.now) }
+{
+    let retired = u32::try_from(retired.len()).ok()?;
+    let facts = u32::try_from(facts.len()).ok()?;
+    Some(Counts { retired, facts })
+}
+
+/// Writes the file of the retired jobs and the facts in small hexadecimal digits, and LF. No memory is taken: the digits go
+/// through a buffer of fixed size.
+pub fn write_line<W: Sink>(
+    retired: &[Ids],
+    facts: &[Fact],
+    counts: Counts,
+    writer: &mut W,
+) -> Result<(), WriteFailed>
+    requires { AreCounts counts retired.now facts.now }
+    ensures ok { OnOk result (Appends (W.contents writer.old) (W.contents writer.new)
+        (written retired.now facts.now)) }
+    ensures part { OnErr result (AppendsPart (W.contents writer.old) (W.contents writer.new)
+        (written retired.now facts.now)) }
     ensures failed { CountsFailure result (W.failures writer.old) (W.failures writer.new) }
 {
     let mut buffer = WriteBuffer::new();
-    put_union(&mut buffer, writer, facts, count)?;
+    put_line(&mut buffer, writer, retired, facts, counts)?;
     buffer.flush(writer)
 }
 
 /// Puts the same behind what waits to be written.
-pub fn put_union<W: Sink>(
+pub fn put_line<W: Sink>(
     buffer: &mut WriteBuffer,
     writer: &mut W,
+    retired: &[Ids],
     facts: &[Fact],
-    count: u32,
+    counts: Counts,
 ) -> Result<(), WriteFailed>
-    requires { count ≡ length facts.now }
-    ensures { Puts result (written facts.now) buffer.old buffer.new
+    requires { AreCounts counts retired.now facts.now }
+    ensures { Puts result (written retired.now facts.now) buffer.old buffer.new
         (W.contents writer.old) (W.contents writer.new)
         (W.failures writer.old) (W.failures writer.new) }
 {
-    put_file(buffer, writer, count, facts)?;
+    put_file(buffer, writer, retired, facts, counts)?;
     buffer.put(writer, b"\n")
+}
+
+// Puts the digits of the file.
+fn put_file<W: Sink>(
+    buffer: &mut WriteBuffer,
+    writer: &mut W,
+    retired: &[Ids],
+    facts: &[Fact],
+    counts: Counts,
+) -> Result<(), WriteFailed>
+    requires { AreCounts counts retired.now facts.now }
+    ensures { Puts result (encode_lower (fact_file retired.now facts.now)) buffer.old buffer.new
+        (W.contents writer.old) (W.contents writer.new)
+        (W.failures writer.old) (W.failures writer.new) }
+{
+    put_head(buffer, writer, counts.retired, retired)?;
+    put_facts(buffer, writer, counts.facts, facts)
 }

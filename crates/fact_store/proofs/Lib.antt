@@ -8,3 +8,5 @@ pub mod TableLaws
 pub mod TableWalks
 pub mod GrowthLaws
 pub mod UndoLaws
+pub mod RemoveLaws
+pub mod MergeCounts

@@ -2,12 +2,13 @@
 use Rattle.std.specs.Coded.{Coded, code_by, coded×, coded⊎, coded_list, coded_ℕ, coded_ℤ}
 use base.Stored.{coded_unit}
 use Rattle.std.specs.FinMap as map
-use Rattle.std.specs.List.{find}
+use Rattle.std.specs.List.{find, list_any}
 use Rattle.std.specs.Ordering.{eq_by_cmp, is_lt}
 use Rattle.std.specs.Prelude.{◌≡◌, ℕ, ℤ, Bool, true, not, List, [], ◌∷◌, Option, filter, slice_get, refl, ◌⊎◌}
 use Rattle.std.proofs.Common.{inl, inr}
 use Rattle.identity.specs.declared.key.Key.{Key}
-use Rattle.identity.specs.Keys.{key_cmp}
+use Rattle.identity.specs.Keys.{key_cmp, ids_cmp, ids_in}
+use Rattle.identity.specs.declared.job_ids.Ids.{Ids}
 use Rattle.tile_fact.specs.declared.body.Body.{Body}
 use Rattle.tile_fact.specs.declared.body.Body.TheVariants.{Tile, Partial}
 use Rattle.tile_fact.specs.declared.fact.Fact.{Fact}
@@ -60,6 +61,16 @@ same_key a b = eq_by_cmp key_cmp a b
 -- the facts of one key, rising
 unfoldable pub facts_of : FactSet → Key → List Fact
 facts_of s key = filter (λ f. same_key key f.key) (facts_in s)
+
+-- ---- jobs
+
+-- whether a key names a tile of one of these jobs
+abbrev pub names_one : List Ids → Key → Bool
+names_one jobs key = list_any (eq_by_cmp ids_cmp (ids_in key)) jobs
+
+-- the set without the facts of these jobs
+unfoldable pub without : FactSet → List Ids → FactSet
+without s jobs = map.retain_keys s (λ f. not (names_one jobs f.key))
 
 -- ---- from fact to fact
 

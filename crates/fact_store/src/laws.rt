@@ -1,9 +1,10 @@
 //! What the definitions amount to, proved once for the crates above. A law is a function whose clauses are the law.
 
-ghost use Rattle.fact_store.specs.Facts.{FactSet, nothing, holds, facts_in, with_fact, join, IsSubset, lacked, facts_of};
+ghost use Rattle.fact_store.specs.Facts.{FactSet, nothing, holds, facts_in, with_fact, join, IsSubset, lacked, facts_of, names_one, without};
+ghost use Rattle.identity.specs.declared.job_ids.Ids.{Ids};
 ghost use Rattle.identity.specs.declared.key.Key.{Key};
 ghost use Rattle.std.specs.List.{Contains};
-ghost use Rattle.std.specs.Prelude.{◌≡◌, ◌↔◌, ◌⊎◌, true, false};
+ghost use Rattle.std.specs.Prelude.{◌≡◌, ◌↔◌, ◌⊎◌, ◌+◌, ◌++◌, true, false, List, length, filter};
 ghost use Rattle.tile_fact.specs.declared.fact.Fact.{Fact};
 ghost use Rattle.tile_fact.specs.Order.{Rises};
 
@@ -46,4 +47,14 @@ pub fn order_is_forgotten()
         with_fact (with_fact s f) g ≡ with_fact (with_fact s g) f }
     ensures twice { (s : FactSet) (f : Fact) → with_fact (with_fact s f) f ≡ with_fact s f }
     ensures through { (s t : FactSet) (f : Fact) → join s (with_fact t f) ≡ with_fact (join s t) f }
+{}
+
+/// Of what a merge adds, the facts of jobs that either side has retired are left out. Those are the other's facts of jobs that are
+/// retired here.
+pub fn merges_count_new_facts()
+    ensures { (old other : FactSet) (ours theirs : List Ids)
+        → ((f : Fact) → holds old f ≡ true → names_one ours f.key ≡ false)
+        → ((f : Fact) → holds other f ≡ true → names_one theirs f.key ≡ false)
+        → length (lacked old (without (join old other) (ours ++ theirs)))
+        + length (filter (λ f. names_one ours f.key) (facts_in other)) ≡ length (lacked old (join old other)) }
 {}

@@ -6,9 +6,6 @@ mod sorted;
 mod store;
 mod tables;
 
-pub use sorted::SortedFacts;
+pub use sorted::{SortedFacts, names_one};
 pub use store::FactStore;
 pub use tables::TableFacts;
-
-#[cfg(test)]
-mod tests;

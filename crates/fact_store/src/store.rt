@@ -1,10 +1,10 @@
 //! What keeps a finite set of facts.
 
-ghost use Rattle.fact_store.specs.Facts.{FactSet, nothing, with_fact, join, holds, lacked, facts_of, least, least_above};
+ghost use Rattle.fact_store.specs.Facts.{FactSet, nothing, with_fact, join, holds, lacked, facts_of, least, least_above, without};
 ghost use Rattle.std.specs.Option.{option_copied};
-ghost use Rattle.std.specs.Prelude.{◌≡◌, OnOk, OnErr, IfOk, IfErr, length, slice_get, not, false};
+ghost use Rattle.std.specs.Prelude.{◌≡◌, ◌<◌, ◌^◌, OnOk, OnErr, IfOk, IfErr, length, slice_get, not, false};
 
-use identity::Key;
+use identity::{Ids, Key};
 use std::alloc::{AllocError, AllocFailed, Global};
 use tile_fact::Fact;
 
@@ -37,7 +37,12 @@ pub trait FactStore: Drop + Sized {
             (content self.new ≡ join (content self.old) (content other.now)) }
         ensures new { IfOk result
             (λ count. count ≡ length (lacked (content self.old) (content self.new))) }
+        ensures few { IfOk result (λ count. count < 2 ^ 63) }
         ensures unchanged { OnErr result (content self.new ≡ content self.old) };
+
+    /// Takes out the facts of the tiles of these jobs. No memory is taken.
+    fn remove(&mut self, jobs: &[Ids])
+        ensures { content self.new ≡ without (content self.old) jobs.now };
 
     /// How many facts of a key there are.
     fn count(&self, key: &Key) -> usize

@@ -6,12 +6,12 @@ ghost use Rattle.fact_store.specs.inside.Tables.{all_facts, set_in, table_at, ta
 ghost use Rattle.std.specs.List.{list_any};
 ghost use Rattle.std.specs.Option.{is_some, option_copied};
 ghost use Rattle.std.specs.Ordering.{eq_by_cmp};
-ghost use Rattle.std.specs.Prelude.{◌≡◌, ◌≤◌, true, false, not, IfOk, IfErr, IfSome, IfNone, OnOk, OnErr, length, slice_get, insert};
+ghost use Rattle.std.specs.Prelude.{◌≡◌, ◌≤◌, ◌<◌, ◌^◌, true, false, not, IfOk, IfErr, IfSome, IfNone, OnOk, OnErr, length, slice_get, insert};
 ghost use Rattle.tile_fact.specs.Order.{fact_cmp};
 
-use crate::sorted::{at, count_through, place, push_copies};
+use crate::sorted::{at, count_through, names_one, place, push_copies};
 use crate::store::FactStore;
-use identity::Key;
+use identity::{Ids, Key};
 use std::alloc::{AllocError, AllocFailed, Global};
 use std::collections::BTreeMap;
 use std::marker::Model;
@@ -119,6 +119,10 @@ impl FactStore for TableFacts {
                 Err(fault)
             }
         }
+    }
+
+    fn remove(&mut self, jobs: &[Ids]) {
+        self.tables.retain(|key, _| !names_one(jobs, key));
     }
 
     fn count(&self, key: &Key) -> usize {
@@ -247,6 +251,7 @@ impl TableFacts {
             ≡ join (set_in self.old.tables.entries) (set_in tables.now.entries)) }
         ensures new { IfOk result (λ new. new
             ≡ length (lacked (set_in self.old.tables.entries) (set_in self.new.tables.entries))) }
+        ensures few { IfOk result (λ new. new < 2 ^ 63) }
         ensures undo { undone undo.new.items self.new.tables.entries
             ≡ undone undo.old.items self.old.tables.entries }
     {
@@ -254,6 +259,9 @@ impl TableFacts {
         for (_, table) in tables {
             let more = self.add_copies(table.as_slice(), undo)?;
             new = new.checked_add(more).ok_or(AllocError)?;
+        }
+        if new > isize::MAX as usize {
+            return Err(AllocError);
         }
         Ok(new)
     }

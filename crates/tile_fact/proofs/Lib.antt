@@ -2,13 +2,17 @@ pub mod BodyLaws
 pub mod BytesLaws
 pub mod FactLaws
 pub mod FileLaws
+pub mod HeadLaws
 pub mod KeyLaws
 pub mod LoopLaws
 pub mod MagicLaws
 pub mod NumberLaws
 pub mod OrderLaws
+pub mod PairLaws
 pub mod PartLaws
 pub mod RecordFaults
 pub mod RecordLaws
+pub mod RisingLaws
+pub mod ViewLaws
 pub mod WholeLaws
 pub mod WritingLaws

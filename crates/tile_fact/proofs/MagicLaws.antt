@@ -1,5 +1,5 @@
 -- One byte of the magic after the other.
-use Rattle.std.proofs.Common.{◌≡◌, ◌≢◌, ℕ, ◌+◌, ◌<◌, true, false, eqb, List, ◌∷◌, length, get_or, drop, Err, refl, add-one}
+use Rattle.std.proofs.Common.{◌≡◌, ◌≢◌, ℕ, ◌+◌, ◌<◌, ◌≤◌, true, false, eqb, List, ◌∷◌, length, get_or, drop, Ok, Err, refl, add-one}
 use Rattle.std.proofs.Common.{drop-cons, arith, inl, inr}
 use Rattle.std.proofs.lemmas.Bool.Decides.{eqb_tells}
 use Rattle.std.proofs.lemmas.List.{drop_all}
@@ -30,3 +30,7 @@ pub magic_ends : (wanted bytes : List ℕ) (at : ℕ) → at < length wanted →
     → magic_read at (drop at wanted) (drop at bytes) ≡ Err (Cut at)
 unfolding magic_read
 magic_ends wanted bytes at in_wanted end = rw (cons_at wanted at in_wanted, drop_all at bytes (omega arith)) refl
+
+pub magic_all : (wanted bytes : List ℕ) (at : ℕ) → length wanted ≤ at → magic_read at (drop at wanted) (drop at bytes) ≡ Ok (drop at bytes)
+unfolding magic_read
+magic_all wanted bytes at all = rw (drop_all at wanted all) refl

@@ -6,7 +6,8 @@ use Rattle.std.proofs.lemmas.List.{length-append}
 use Rattle.std.specs.Int.{w32, from_be_bytes, to_be_bytes}
 use Rattle.tile_fact.specs.declared.fact.Fact.{Fact}
 use Rattle.tile_fact.specs.declared.fault.FactFault.{FactFault}
-use Rattle.tile_fact.specs.declared.fault.FactFault.TheVariants.{BadMagic, Cut, NotRising, BadKind, TooLong, TrailingBytes, Memory}
+use Rattle.tile_fact.specs.declared.fault.FactFault.TheVariants.{BadMagic, Cut, NotRising, BadKind, TooLong, TrailingBytes, Memory, RetiredFact}
+use Rattle.tile_fact.specs.declared.fault.FactFault.TheVariants.{NothingRetired}
 use Rattle.tile_fact.specs.declared.kind.Kind.{Kind}
 use Rattle.tile_fact.specs.FactFile.{AreBytes}
 use Rattle.tile_fact.specs.Faults.{IsCutRecord}
@@ -35,6 +36,8 @@ IsRecordFault total start bytes (TooLong at) =
     × (len < 2 ^ 32) × (most kind < len) × (at ≡ start + 75)
 IsRecordFault total start bytes (TrailingBytes at) = ⊥
 IsRecordFault total start bytes Memory = ⊥
+IsRecordFault total start bytes (RetiredFact at) = ⊥
+IsRecordFault total start bytes (NothingRetired at) = ⊥
 
 kind_fault : (total start : ℕ) (bytes key rest : List ℕ) (e : FactFault) → start + length bytes ≡ total → bytes ≡ key ++ rest
     → length key ≡ 74 → kind_read total rest ≡ Err e → IsRecordFault total start bytes e

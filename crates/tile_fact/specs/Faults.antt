@@ -1,44 +1,88 @@
 -- Why bytes are no fact file: the first fault from the left, and its place.
 use Rattle.std.specs.Int.{w32, to_be_bytes}
 use Rattle.std.specs.List.{flat_map, AllByRecursion}
-use Rattle.std.specs.Prelude.{◌≡◌, ◌≢◌, ℕ, ◌+◌, ◌*◌, ◌<◌, ◌≤◌, ◌^◌, ◌⊎◌, List, [], ◌∷◌, ◌++◌, length, take, slice_index}
+use Rattle.std.specs.Prelude.{◌≡◌, ◌≢◌, ℕ, ◌+◌, ◌*◌, ◌<◌, ◌≤◌, ◌^◌, ◌⊎◌, true, List, [], ◌∷◌, ◌++◌, length, take, slice_index}
+use Rattle.identity.specs.declared.job_ids.Ids.{Ids}
 use Rattle.tile_fact.specs.declared.fact.Fact.{Fact}
 use Rattle.tile_fact.specs.declared.fault.FactFault.{FactFault}
-use Rattle.tile_fact.specs.declared.fault.FactFault.TheVariants.{BadMagic, Cut, NotRising, BadKind, TooLong, TrailingBytes, Memory}
+use Rattle.tile_fact.specs.declared.fault.FactFault.TheVariants.{BadMagic, Cut, NotRising, BadKind, TooLong, TrailingBytes, Memory, RetiredFact}
+use Rattle.tile_fact.specs.declared.fault.FactFault.TheVariants.{NothingRetired}
 use Rattle.tile_fact.specs.declared.kind.Kind.{Kind}
-use Rattle.tile_fact.specs.FactFile.{magic, fact_record, IsFact, IsFactFile}
+use Rattle.tile_fact.specs.FactFile.{magic, retired_magic, fact_record, ids_bytes, head_of, is_retired, IsFact, IsIds, AreIds, AreApart}
+use Rattle.tile_fact.specs.FactFile.{IsFactFile}
 use Rattle.tile_fact.specs.Numbers.{kind_byte, bytes_each, most}
-use Rattle.tile_fact.specs.Order.{Rises}
+use Rattle.tile_fact.specs.Order.{Rises, IdsRise}
 
 -- ---- the head
 
--- the first byte that is another than the magic's
+-- the first byte that is another than that of both magics, which have the first three in common
 pub record HasBadMagic (bytes : List ℕ) (at : ℕ) : Type 0 where
   pub in_magic : at < 4
   pub in_bytes : at < length bytes
   pub front : take at bytes ≡ take at magic
   pub differs : slice_index bytes at ≢ slice_index magic at
+  pub differs_too : slice_index bytes at ≢ slice_index retired_magic at
 
--- the bytes end before the magic or the count is whole
+-- the bytes end before a magic or the count behind it is whole
 pub record EndsInHead (bytes : List ℕ) : Type 0 where
   pub short : length bytes < 8
-  pub front : take 4 bytes ≡ take (length bytes) magic
+  pub front : (take 4 bytes ≡ take (length bytes) magic) ⊎ (take 4 bytes ≡ take (length bytes) retired_magic)
+
+-- ---- the retired jobs
+
+-- the head with its count, which is not 0, the first identities, which rise, and the rest, which begins at this place
+pub record HasIds (bytes : List ℕ) (count : ℕ) (ids : List Ids) (at : ℕ) (rest : List ℕ) : Type 0 where
+  pub some : 0 < count
+  pub count_fits : count < 2 ^ 32
+  pub each : AllByRecursion IsIds ids
+  pub rise : IdsRise ids
+  pub whole : bytes ≡ retired_magic ++ (to_be_bytes w32 count ++ (flat_map ids_bytes ids ++ rest))
+  pub place : at + length rest ≡ length bytes
+
+-- the bytes end before the two identities of a job, which have 64 bytes, or the count of facts behind them all are whole
+pub record EndsInIds (bytes : List ℕ) : Type 0 where
+  pub count : ℕ
+  pub ids : List Ids
+  pub start : ℕ
+  pub rest : List ℕ
+  pub has : HasIds bytes count ids start rest
+  pub cut : ((length ids < count) × (length rest < 64)) ⊎ ((length ids ≡ count) × (length rest < 4))
+
+-- whole identities begin here, and they are not above those before
+pub record HasLowIds (bytes : List ℕ) (at : ℕ) : Type 0 where
+  pub count : ℕ
+  pub ids : List Ids
+  pub low_ids : Ids
+  pub behind : List ℕ
+  pub has : HasIds bytes count ids at (ids_bytes low_ids ++ behind)
+  pub few : length ids < count
+  pub ids_are : IsIds low_ids
+  pub low : ¬ IdsRise (ids ++ low_ids ∷ [])
+
+-- the count of retired jobs is there, and is 0
+pub record HasNoIds (bytes : List ℕ) (at : ℕ) : Type 0 where
+  pub rest : List ℕ
+  pub whole : bytes ≡ retired_magic ++ (to_be_bytes w32 0 ++ rest)
+  pub place : at ≡ 4
 
 -- ---- the records
 
--- the head with its count, records of the first facts, which rise, and the rest, which begins at this place
-pub record HasRecords (bytes : List ℕ) (count : ℕ) (facts : List Fact) (at : ℕ) (rest : List ℕ) : Type 0 where
+-- the head with its count, records of the first facts, which rise and are of no retired job, and the rest, which begins at this place
+pub record HasRecords (bytes : List ℕ) (retired : List Ids) (count : ℕ) (facts : List Fact) (at : ℕ) (rest : List ℕ) : Type 0 where
+  pub ids : AreIds retired
   pub count_fits : count < 2 ^ 32
   pub each : AllByRecursion IsFact facts
   pub rise : Rises facts
-  pub whole : bytes ≡ magic ++ (to_be_bytes w32 count ++ (flat_map fact_record facts ++ rest))
+  pub apart : AreApart retired facts
+  pub whole : bytes ≡ head_of retired ++ (to_be_bytes w32 count ++ (flat_map fact_record facts ++ rest))
   pub place : at + length rest ≡ length bytes
 
 -- the same, where at least one more record is to come
 pub record AwaitsRecord (bytes : List ℕ) (at : ℕ) (rest : List ℕ) : Type 0 where
+  pub retired : List Ids
   pub count : ℕ
   pub facts : List Fact
-  pub has : HasRecords bytes count facts at rest
+  pub has : HasRecords bytes retired count facts at rest
   pub few : length facts < count
 
 -- the length behind the kind is cut, or it may stand and too few bytes are behind it for so many numbers
@@ -86,21 +130,36 @@ pub record HasLongRecord (bytes : List ℕ) (at : ℕ) : Type 0 where
 
 -- a whole record begins here, and its fact is not above the one before
 pub record HasLowRecord (bytes : List ℕ) (at : ℕ) : Type 0 where
+  pub retired : List Ids
   pub count : ℕ
   pub facts : List Fact
   pub fact : Fact
   pub behind : List ℕ
-  pub has : HasRecords bytes count facts at (fact_record fact ++ behind)
+  pub has : HasRecords bytes retired count facts at (fact_record fact ++ behind)
   pub few : length facts < count
   pub fact_is : IsFact fact
   pub low : ¬ Rises (facts ++ fact ∷ [])
 
+-- a whole record begins here; its fact is above the one before, and is of a retired job
+pub record HasRetiredRecord (bytes : List ℕ) (at : ℕ) : Type 0 where
+  pub retired : List Ids
+  pub count : ℕ
+  pub facts : List Fact
+  pub fact : Fact
+  pub behind : List ℕ
+  pub has : HasRecords bytes retired count facts at (fact_record fact ++ behind)
+  pub few : length facts < count
+  pub fact_is : IsFact fact
+  pub high : Rises (facts ++ fact ∷ [])
+  pub is_of : is_retired retired fact ≡ true
+
 -- all records are there, and bytes behind them
 pub record HasTrailingBytes (bytes : List ℕ) (at : ℕ) : Type 0 where
+  pub retired : List Ids
   pub count : ℕ
   pub facts : List Fact
   pub rest : List ℕ
-  pub has : HasRecords bytes count facts at rest
+  pub has : HasRecords bytes retired count facts at rest
   pub all : length facts ≡ count
   pub some : 0 < length rest
 
@@ -108,10 +167,12 @@ pub record HasTrailingBytes (bytes : List ℕ) (at : ℕ) : Type 0 where
 
 abbrev pub IsFault : List ℕ → FactFault → Type 0
 IsFault bytes (BadMagic at) = HasBadMagic bytes at
-IsFault bytes (Cut at) = (at ≡ length bytes) × (EndsInHead bytes ⊎ EndsInRecord bytes)
-IsFault bytes (NotRising at) = HasLowRecord bytes at
+IsFault bytes (Cut at) = (at ≡ length bytes) × (EndsInHead bytes ⊎ (EndsInIds bytes ⊎ EndsInRecord bytes))
+IsFault bytes (NotRising at) = HasLowIds bytes at ⊎ HasLowRecord bytes at
 IsFault bytes (BadKind at) = HasBadKind bytes at
 IsFault bytes (TooLong at) = HasLongRecord bytes at
 IsFault bytes (TrailingBytes at) = HasTrailingBytes bytes at
 -- memory is refused only for a fact file
-IsFault bytes Memory = (facts : List Fact) × IsFactFile bytes facts
+IsFault bytes Memory = (retired : List Ids) × (facts : List Fact) × IsFactFile bytes retired facts
+IsFault bytes (RetiredFact at) = HasRetiredRecord bytes at
+IsFault bytes (NothingRetired at) = HasNoIds bytes at

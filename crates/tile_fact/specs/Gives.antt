@@ -18,10 +18,10 @@ abbrev pub Checks : {X Y : Type 0} → Result X FactFault → Result Y FactFault
 Checks (Ok x) read = IsRead read
 Checks (Err e) read = read ≡ Err e
 
--- bytes that are the file of these facts are read as they alone, unless memory runs out
-abbrev pub IsReadAs : {X Y : Type 0} → (X → Y) → Result X FactFault → Y → Type 0
-IsReadAs view (Ok x) y = view x ≡ y
-IsReadAs view (Err e) y = e ≡ Memory
+-- this holds of what was read, unless memory ran out
+abbrev pub IsReadAs : {X : Type 0} → (X → Type 0) → Result X FactFault → Type 0
+IsReadAs P (Ok x) = P x
+IsReadAs P (Err e) = e ≡ Memory
 
 -- the fault is the one that reading gives, or memory ran out for the value that it gives
 abbrev pub Fails : {Y : Type 0} → FactFault → Result Y FactFault → Type 0

@@ -4,6 +4,7 @@ pub mod FaultTable
 pub mod Faults
 pub mod Gives
 pub mod Keyed
+pub mod Listing
 pub mod Numbers
 pub mod Order
 pub mod Reading

@@ -1,6 +1,7 @@
--- What a record's bytes say of the kind, the key and the numbers.
+-- What the bytes of a file say of the identities of jobs, and those of a record of the kind, the key and the numbers.
 use Rattle.std.specs.Int.{Width, w16, w32, w64, byte_len, cast_signed, from_be_bytes}
 use Rattle.std.specs.Prelude.{ℕ, zero, suc, ℤ, ◌/◌, List, [], ◌∷◌, length, take, drop}
+use Rattle.identity.specs.declared.job_ids.Ids.{Ids}
 use Rattle.identity.specs.declared.key.Key.{Key}
 use Rattle.tile_fact.specs.declared.body.Body.{Body}
 use Rattle.tile_fact.specs.declared.body.Body.TheVariants.{Tile, Partial}
@@ -25,6 +26,15 @@ bytes_each OfPartial = 8
 abbrev pub most : Kind → ℕ
 most OfTile = 1048576
 most OfPartial = 4096
+
+-- the two identities in 64 bytes
+abbrev pub pair_in : List ℕ → Ids
+pair_in bytes = record { program = take 32 bytes; input = take 32 (drop 32 bytes) }
+
+-- so many of them, one behind the other
+unfoldable pub first_pairs : ℕ → List ℕ → List Ids
+first_pairs zero bytes = []
+first_pairs (suc count) bytes = pair_in (take 64 bytes) ∷ first_pairs count (drop 64 bytes)
 
 -- the key in 74 bytes
 abbrev pub key_in : List ℕ → Key

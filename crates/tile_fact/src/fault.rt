@@ -9,14 +9,14 @@ use thiserror::Error;
 /// The first fault of the bytes from the left, with its offset from the first byte.
 #[derive(Clone, Copy, Debug, PartialEq, Eq, Error)]
 pub enum FactFault {
-    /// 1: the bytes do not begin with `PTF1`: the first byte that is another.
+    /// 1: the bytes begin with neither `PTF1` nor `PTF2`: the first byte that is another than that of both.
     #[error("bad magic at {0}")]
     BadMagic(usize),
-    /// 2: the bytes end before the magic, the count or a counted record is whole: their number.
+    /// 2: the bytes end before the magic, a count, or counted identities or a counted record are whole: their number.
     #[error("cut at {0}")]
     Cut(usize),
-    /// 3: a whole record that is not above the one before it: its first byte.
-    #[error("the records do not rise at {0}")]
+    /// 3: whole identities or a whole record that are not above those before: their first byte.
+    #[error("the order does not rise at {0}")]
     NotRising(usize),
     /// 4: a kind that is neither 0 nor 1: its byte.
     #[error("bad kind at {0}")]
@@ -30,6 +30,12 @@ pub enum FactFault {
     /// 7: the bytes are a fact file, and there is no memory for it.
     #[error("out of memory")]
     Memory,
+    /// 8: a whole record, above the one before it, of a job that the file says is retired: its first byte.
+    #[error("a fact of a retired job at {0}")]
+    RetiredFact(usize),
+    /// 9: `PTF2` with a count of retired jobs that is 0: the count.
+    #[error("no retired job at {0}")]
+    NothingRetired(usize),
 }
 
 impl Fault for FactFault {
@@ -42,7 +48,7 @@ impl Fault for FactFault {
     fn row(&self) -> FaultRow {
         fault_row!(self, FactFault {
             BadMagic(_) = 1, Cut(_) = 2, NotRising(_) = 3, BadKind(_) = 4, TooLong(_) = 5, TrailingBytes(_) = 6,
-            Memory = 7,
+            Memory = 7, RetiredFact(_) = 8, NothingRetired(_) = 9,
         })
     }
 }
@@ -56,7 +62,7 @@ impl FactFault {
         ensures { result ≡ offset_of self }
     {
         fault_place!(self, FactFault {
-            BadMagic | Cut | NotRising | BadKind | TooLong | TrailingBytes
+            BadMagic | Cut | NotRising | BadKind | TooLong | TrailingBytes | RetiredFact | NothingRetired
         } else Memory)
     }
 }

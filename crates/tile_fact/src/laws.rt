@@ -5,12 +5,13 @@ ghost use Rattle.std.specs.Int.{w32, w64};
 ghost use Rattle.std.specs.Int.RustNames.{FitsSigned};
 ghost use Rattle.std.specs.List.{All};
 ghost use Rattle.std.specs.Prelude.{◌≡◌, ◌↔◌, ◌<◌, ◌^◌, ℕ, List};
-ghost use Rattle.tile_fact.specs.FactFile.{AreBytes, AreFacts, IsDigest, IsFact, IsFactFile, IsKey, fact_file};
+ghost use Rattle.identity.specs.declared.job_ids.Ids.{Ids};
+ghost use Rattle.tile_fact.specs.FactFile.{AreBytes, AreContents, IsDigest, IsFact, IsFactFile, IsIds, IsKey, fact_file};
 ghost use Rattle.tile_fact.specs.Order.{fact_cmp};
 
 use crate::body::Body;
 use crate::fact::Fact;
-use identity::Key;
+use identity::{Ids, Key};
 use std::cmp::Ordering;
 
 /// Facts are in the order of key, kind and numbers, which is a total one, and equal facts are one.
@@ -23,19 +24,23 @@ pub fn order_of_facts(a: &Fact, b: &Fact) -> Ordering
     a.cmp(b)
 }
 
-/// No bytes are the files of two lists of facts.
+/// No bytes are the files of other retired jobs or other facts.
 pub fn one_list()
-    ensures { (bytes : List ℕ) (facts others : List Fact) → IsFactFile bytes facts
-        → IsFactFile bytes others → facts ≡ others }
+    ensures { (bytes : List ℕ) (jobs others : List Ids) (facts other_facts : List Fact)
+        → IsFactFile bytes jobs facts → IsFactFile bytes others other_facts
+        → (jobs ≡ others) × (facts ≡ other_facts) }
 {}
 
-/// Facts that rise have a file, and no other bytes are it; and no two lists of facts have one file.
+/// Retired jobs and facts of others that rise have a file, and no other bytes are it; and no other jobs or facts have that file.
 pub fn one_spelling()
-    ensures spelled { (facts : List Fact) → AreFacts facts → IsFactFile (fact_file facts) facts }
-    ensures alone { (a b : List ℕ) (facts : List Fact) → IsFactFile a facts → IsFactFile b facts
-        → a ≡ b }
-    ensures apart { (facts others : List Fact) → AreFacts facts → AreFacts others
-        → fact_file facts ≡ fact_file others → facts ≡ others }
+    ensures spelled { (jobs : List Ids) (facts : List Fact) → AreContents jobs facts
+        → IsFactFile (fact_file jobs facts) jobs facts }
+    ensures alone { (a b : List ℕ) (jobs : List Ids) (facts : List Fact) → IsFactFile a jobs facts
+        → IsFactFile b jobs facts → a ≡ b }
+    ensures apart { (jobs others : List Ids) (facts other_facts : List Fact)
+        → AreContents jobs facts → AreContents others other_facts
+        → fact_file jobs facts ≡ fact_file others other_facts
+        → (jobs ≡ others) × (facts ≡ other_facts) }
 {}
 
 /// Each fact can stand in a file: what it is made of fits its fields, and it has no more numbers than a fact may have. It is a law
@@ -48,6 +53,14 @@ pub fn fits_its_record(fact: &Fact)
         Body::Tile(samples) => fit_samples(samples.as_slice()),
         Body::Partial(bins) => fit_bins(bins.as_slice()),
     }
+}
+
+/// The identities of each job can stand in a file: they are digests. It is a law for proofs.
+pub fn fit_their_places(ids: &Ids)
+    ensures { IsIds ids.now }
+{
+    is_digest(ids.program.as_bytes());
+    is_digest(ids.input.as_bytes());
 }
 
 fn fits_key(key: &Key)

@@ -5,19 +5,22 @@ mod body;
 mod fact;
 mod fault;
 mod file;
+mod head;
 mod kind;
 pub mod laws;
 mod number_bytes;
 mod numbers;
 mod record;
+mod retired;
+mod update;
+mod version;
 mod writing;
 
 pub use body::Body;
 pub use fact::{Fact, MOST_BINS, MOST_SAMPLES};
 pub use fault::FactFault;
-pub use file::{FactFile, Facts, decode};
-pub use numbers::{Bins, Numbers, Samples};
+pub use file::{FactFile, Facts, JobIds, decode};
+pub use numbers::{Bins, Samples};
+pub use sequences::Numbers;
+pub use update::Update;
 pub use writing::encode;
-
-#[cfg(test)]
-mod tests;

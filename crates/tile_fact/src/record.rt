@@ -135,7 +135,8 @@ fn key_of(bytes: &[u8]) -> Key
     }
 }
 
-fn digest_at(bytes: &[u8], at: usize) -> [u8; 32]
+/// The digest that stands at this place.
+pub fn digest_at(bytes: &[u8], at: usize) -> [u8; 32]
     requires { at + 32 ≤ length bytes.now }
     ensures { result ≡ take 32 (drop at bytes.now) }
 {

@@ -1,30 +1,59 @@
 //! Facts as the bytes of a fact file.
 
-ghost use Rattle.std.specs.Int.{w32, w64};
-ghost use Rattle.std.specs.List.{flat_map};
-ghost use Rattle.std.specs.Prelude.{◌≡◌, ◌<◌, ◌^◌, ◌++◌, length, OnOk, IfOk};
-ghost use Rattle.tile_fact.specs.FactFile.{key_bytes, number_bytes, body_bytes, fact_record, fact_file};
-ghost use Rattle.tile_fact.specs.Order.{Rises};
+ghost use Rattle.std.specs.Int.{w32, w64, to_be_bytes};
+ghost use Rattle.std.specs.List.{flat_map, All};
+ghost use Rattle.std.specs.Prelude.{◌≡◌, ◌<◌, ◌^◌, ◌++◌, false, length, OnOk, IfOk};
+ghost use Rattle.tile_fact.specs.FactFile.{key_bytes, number_bytes, body_bytes, fact_record, ids_bytes, head_of, fact_file, is_retired};
+ghost use Rattle.tile_fact.specs.Order.{Rises, IdsRise};
 
 use crate::body::Body;
 use crate::fact::Fact;
-use crate::file::MAGIC;
-use identity::Key;
+use identity::{Ids, Key};
 use std::alloc::{AllocError, Global};
 
-/// The file of these facts, the one spelling that they have.
-pub fn encode(alloc: Global, facts: &[Fact]) -> Result<Vec<u8>, AllocError>
+/// The file of these retired jobs and these facts, the one spelling that they have: `PTF1` where no job is retired, else `PTF2`.
+pub fn encode(alloc: Global, retired: &[Ids], facts: &[Fact]) -> Result<Vec<u8>, AllocError>
+    requires ids_count { length retired.now < 2 ^ 32 }
+    requires ids_rise { IdsRise retired.now }
     requires count { length facts.now < 2 ^ 32 }
     requires rise { Rises facts.now }
-    ensures { IfOk result (λ bytes. bytes.items ≡ fact_file facts.now) }
+    requires apart { All (λ fact. is_retired retired.now fact ≡ false) facts.now }
+    ensures { IfOk result (λ bytes. bytes.items ≡ fact_file retired.now facts.now) }
 {
     let mut bytes = Vec::new(alloc);
-    bytes.extend_from_slice(&MAGIC)?;
+    put_head(&mut bytes, retired)?;
     bytes.extend_from_slice(&(facts.len() as u32).to_be_bytes())?;
     for fact in facts {
         put_fact(&mut bytes, fact)?;
     }
     Ok(bytes)
+}
+
+// The magic, and the retired jobs where there are any.
+fn put_head(bytes: &mut Vec<u8>, retired: &[Ids]) -> Result<(), AllocError>
+    requires { length retired.now < 2 ^ 32 }
+    ensures { OnOk result (bytes.new.items ≡ bytes.old.items ++ head_of retired.now) }
+{
+    if retired.is_empty() {
+        bytes.extend_from_slice(b"PTF1")
+    } else {
+        bytes.extend_from_slice(b"PTF2")?;
+        put_jobs(bytes, retired)
+    }
+}
+
+// How many jobs there are, and their identities.
+fn put_jobs(bytes: &mut Vec<u8>, jobs: &[Ids]) -> Result<(), AllocError>
+    requires { length jobs.now < 2 ^ 32 }
+    ensures { OnOk result (bytes.new.items
+        ≡ bytes.old.items ++ (to_be_bytes w32 (length jobs.now) ++ flat_map ids_bytes jobs.now)) }
+{
+    bytes.extend_from_slice(&(jobs.len() as u32).to_be_bytes())?;
+    for job in jobs {
+        bytes.extend_from_slice(job.program.as_bytes())?;
+        bytes.extend_from_slice(job.input.as_bytes())?;
+    }
+    Ok(())
 }
 
 fn put_fact(bytes: &mut Vec<u8>, fact: &Fact) -> Result<(), AllocError>

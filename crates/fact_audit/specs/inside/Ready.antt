@@ -1,7 +1,7 @@
 -- What is computed before facts are judged.
 use Rattle.std.specs.Prelude.{ℕ, ◌≡◌, List, Some, Contains, slice_get}
 use Rattle.catalog.specs.Entries.{Entry, StandsAt, entry_of, ids_in, ids_of}
-use Rattle.catalog.specs.declared.ids.Ids.{Ids}
+use Rattle.identity.specs.declared.job_ids.Ids.{Ids}
 use Rattle.job.specs.Kept.{pipeline_in}
 use Rattle.tile_eval.specs.Buffer.{IsServed}
 use Rattle.tile_eval.specs.declared.true_stages.TrueStages.{TrueStages}

@@ -1,6 +1,6 @@
 use Rattle.std.proofs.Common.{ℕ, List, subst, sym}
 use Rattle.catalog.specs.Entries.{entry_of, ids_of}
-use Rattle.catalog.specs.declared.ids.Ids.{Ids}
+use Rattle.identity.specs.declared.job_ids.Ids.{Ids}
 use Rattle.fact_audit.specs.inside.Ready.{AreNamed}
 use Rattle.fact_audit.proofs.Serving.{stages_serve}
 use Rattle.fact_audit.proofs.several.stages_for.Goals as goal
@@ -9,6 +9,6 @@ pub returns : goal.returns
 returns c =
     let facts = c.args.facts.now in
     let named = c.in_ok-stages.stages.items in
-    stages_serve facts c.args.job.now c.deref.result.now c.of-2.result c.of-2.ensures.job c.of-2.ensures.served
+    stages_serve facts c.args.job.now c.deref.result.now c.of.result c.of.ensures.job c.of.ensures.served
     (subst (λ (stages : List ℕ). AreNamed (ids_of (entry_of c.args.job.now)) facts stages) (sym c.deref.ensures.value)
-    (subst (λ (ids : Ids). AreNamed ids facts named) c.of.ensures c.in_ok-stages.ensures))
+    (subst (λ (ids : Ids). AreNamed ids facts named) c.ids_of.ensures c.in_ok-stages.ensures))

@@ -1,7 +1,7 @@
 use Rattle.std.proofs.Common.{length, subst, sym, ap, ◌∙◌, refl}
 use Rattle.std.proofs.lemmas.Option.{slice_get_read, slice_get_within}
 use Rattle.catalog.specs.Entries.{StandsAt, ids_in}
-use Rattle.catalog.specs.declared.ids.Ids.{Ids}
+use Rattle.identity.specs.declared.job_ids.Ids.{Ids}
 use Rattle.domains.proofs.Places.{ok_then}
 use Rattle.fact_audit.proofs.Serving.{stages_for, serves, by_stages}
 use Rattle.fact_audit.proofs.several.verdict_among.Goals as goal

@@ -1,6 +1,6 @@
 use Rattle.std.proofs.Common.{ℕ, ap, sym, subst, ◌∙◌, slice_get}
 use Rattle.std.specs.Prelude.{IfSome}
-use Rattle.accumulators.specs.Partials.{IsAccumulatorTile}
+use Rattle.reductions.specs.TruePartials.{IsAccumulatorTile}
 use Rattle.job.specs.Kept.{pipeline_in}
 use Rattle.job.specs.Readers.{stage_bins}
 use Rattle.fact_audit.specs.Shapes.{HasBins}

@@ -1,5 +1,5 @@
 use Rattle.std.proofs.Common.{subst, sym}
-use Rattle.catalog.specs.declared.ids.Ids.{Ids}
+use Rattle.identity.specs.declared.job_ids.Ids.{Ids}
 use Rattle.catalog.specs.Entries.{StandsAt}
 use Rattle.fact_audit.proofs.single.job_of.Goals as goal
 

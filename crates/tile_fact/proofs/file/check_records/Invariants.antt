@@ -1,8 +1,8 @@
 use Rattle.std.proofs.Common.{◌≡◌, ◌≤◌, ◌-◌, List, length, None}
 use Rattle.std.specs.Option.{option_map}
 use Rattle.tile_fact.specs.declared.fact.Fact.{Fact}
-use Rattle.tile_fact.specs.Numbers.{fact_of}
-use Rattle.tile_fact.specs.Reading.{records_read}
+use Rattle.tile_fact.specs.Numbers.{fact_of, first_pairs}
+use Rattle.tile_fact.specs.Reading.{list_read, fact_read}
 use Rattle.tile_fact.proofs.LoopLaws.{with_front}
 use Rattle.tile_fact.proofs.file.check_records.Given as goal
 
@@ -12,5 +12,6 @@ invariant-loop l =
     (length l.rest ≤ l.total)
     × ((front : List Fact)
     × (with_front front
-    (records_read (l.count - l.counter) l.total (option_map (λ r. fact_of r.label.key r.label.kind r.numbers.now) l.last) l.rest)
-    ≡ records_read l.count l.total None l.bytes))
+    (list_read (fact_read l.total (first_pairs l.retired.count l.retired.bytes.now)) (l.count - l.counter)
+    (option_map (λ r. fact_of r.label.key r.label.kind r.numbers.now) l.last) l.rest)
+    ≡ list_read (fact_read l.total (first_pairs l.retired.count l.retired.bytes.now)) l.count None l.bytes))

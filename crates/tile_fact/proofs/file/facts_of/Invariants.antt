@@ -1,6 +1,7 @@
 use Rattle.std.proofs.Common.{◌≡◌, ◌≤◌, ◌-◌, length, Option, None}
 use Rattle.tile_fact.specs.declared.fact.Fact.{Fact}
-use Rattle.tile_fact.specs.Reading.{records_read}
+use Rattle.tile_fact.specs.Numbers.{first_pairs}
+use Rattle.tile_fact.specs.Reading.{list_read, fact_read}
 use Rattle.tile_fact.proofs.LoopLaws.{with_front}
 use Rattle.tile_fact.proofs.file.facts_of.Given as goal
 
@@ -9,4 +10,6 @@ abbrev pub invariant-loop : goal.invariant-loop
 invariant-loop l =
     (length l.rest ≤ l.total)
     × ((last : Option Fact)
-    × (with_front l.facts.items (records_read (l.count - l.counter) l.total last l.rest) ≡ records_read l.count l.total None l.bytes))
+    × (with_front l.facts.items
+    (list_read (fact_read l.total (first_pairs l.retired.count l.retired.bytes.now)) (l.count - l.counter) last l.rest)
+    ≡ list_read (fact_read l.total (first_pairs l.retired.count l.retired.bytes.now)) l.count None l.bytes))

@@ -1,6 +1,6 @@
--- Reading answers one list alone.
-use Rattle.tile_fact.proofs.WholeLaws.{file_again, same_facts}
+-- Reading answers one list of jobs and one of facts.
+use Rattle.tile_fact.proofs.WholeLaws.{one_file}
 use Rattle.tile_fact.proofs.laws.one_list.Goals as goal
 
 pub returns : goal.returns
-returns c = λ bytes facts others is also. same_facts bytes facts others (file_again bytes facts is) also
+returns c = λ bytes jobs others facts other_facts is also. one_file bytes jobs others facts other_facts is also

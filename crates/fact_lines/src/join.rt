@@ -1,0 +1,72 @@
+//! What the fact files of a text hold together.
+
+ghost use Rattle.std.specs.List.Sorted.{IsStrictlySortedBy};
+ghost use Rattle.std.specs.Prelude.{◌≡◌, not, filter, IfOk, IfErr};
+ghost use Rattle.fact_lines.specs.Texts.{IsJoin, lines};
+ghost use Rattle.fact_lines.specs.Faults.{IsFault};
+ghost use Rattle.fact_lines.specs.inside.Gathering.{Gathers};
+ghost use Rattle.identity.specs.Keys.{ids_cmp};
+ghost use Rattle.tile_fact.specs.FactFile.{is_retired};
+
+use crate::contents::Contents;
+use crate::distinct::sort_once;
+use crate::fault::LinesFault;
+use crate::line::add_line;
+use identity::Ids;
+use std::alloc::Global;
+use tile_fact::Fact;
+
+/// The retired jobs of all fact files of the text and their facts of other jobs, both rising, each once, or the first fault of the
+/// text.
+///
+/// Each line, which LF or the end of the text ends, is one file in hexadecimal digits of either case, or empty and passed
+/// over. A text of no file has neither. A line's bad digits are found without any memory.
+pub fn join_of(alloc: Global, text: &[u8]) -> Result<Contents, LinesFault>
+    // The lists are what the text's files hold together.
+    ensures found { IfOk result (λ contents. IsJoin text.now contents.retired.items contents.facts.items) }
+
+    // A fault is the first one of the text, at its line; memory is refused only for a line that has no fault before it.
+    ensures fault { IfErr result (IsFault text.now) }
+{
+    let Contents {
+        mut retired,
+        mut facts,
+    } = read_files(alloc, text)?;
+    sort_once(&mut retired);
+    sort_once(&mut facts);
+    leave_out(&retired, &mut facts);
+    Ok(Contents { retired, facts })
+}
+
+// The retired jobs and the facts of all files in the order in which they stand.
+fn read_files(alloc: Global, text: &[u8]) -> Result<Contents, LinesFault>
+    ensures found { IfOk result
+        (λ contents. Gathers (lines text.now) contents.retired.items contents.facts.items) }
+    ensures fault { IfErr result (IsFault text.now) }
+{
+    let mut contents = Contents {
+        retired: Vec::new(alloc),
+        facts: Vec::new(alloc),
+    };
+    let mut number = 0;
+    for line in text.split(|byte| *byte == b'\n') {
+        number += 1;
+        add_line(alloc, number, line, &mut contents)?;
+    }
+    Ok(contents)
+}
+
+// Takes the facts of these jobs, which rise, out of the list.
+fn leave_out(jobs: &[Ids], facts: &mut Vec<Fact>)
+    ensures { IsStrictlySortedBy ids_cmp jobs.now
+        → facts.new.items ≡ filter (λ fact. not (is_retired jobs.now fact)) facts.old.items }
+{
+    facts.retain(|fact| !is_among(jobs, fact));
+}
+
+// Whether the fact is of one of these jobs, where they rise.
+fn is_among(jobs: &[Ids], fact: &Fact) -> bool
+    ensures { IsStrictlySortedBy ids_cmp jobs.now → result ≡ is_retired jobs.now fact.now }
+{
+    jobs.binary_search(&Ids::of_key(fact.key())).is_ok()
+}

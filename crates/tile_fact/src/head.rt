@@ -1,0 +1,103 @@
+//! What stands in front of the records of a fact file.
+
+ghost use Rattle.std.specs.Prelude.{◌≡◌, ◌≤◌, length, codes, IfOk};
+ghost use Rattle.tile_fact.specs.Gives.{Gives};
+ghost use Rattle.tile_fact.specs.Listing.{IsListing};
+ghost use Rattle.tile_fact.specs.Numbers.{first_pairs};
+ghost use Rattle.tile_fact.specs.Reading.{magic_read, version_read, retired_read, head_read};
+
+use crate::fault::FactFault;
+use crate::record::read_count;
+use crate::retired::{Listing, check_pairs};
+use crate::version::Version;
+
+// What the magics of both versions begin with.
+const MAGIC_FRONT: [u8; 3] = *b"PTF";
+
+/// The retired jobs, how many records there are, and the bytes behind their count.
+#[derive(Clone, Copy)]
+pub struct Head<'a> {
+    pub retired: Listing<'a>,
+    pub count: u32,
+    pub records: &'a [u8],
+}
+
+/// The head of the file that the bytes are.
+#[tactic(auto, unfolding(crate::specs::Reading::head_read))]
+pub fn read_head(bytes: &[u8]) -> Result<Head<'_>, FactFault>
+    ensures read { Gives (λ head. (first_pairs head.retired.count head.retired.bytes.now, head.count, head.records.now))
+        result (head_read bytes.now) }
+    ensures listing { IfOk result (λ head. IsListing head.retired.count head.retired.bytes.now) }
+    ensures behind { IfOk result (λ head. length head.records.now ≤ length bytes.now) }
+{
+    let front = read_magic(bytes)?;
+    let (version, rest) = read_version(front)?;
+    let (retired, rest) = read_retired(bytes.len(), version, rest)?;
+    let (count, records) = read_count(bytes.len(), rest)?;
+    Ok(Head {
+        retired,
+        count,
+        records,
+    })
+}
+
+// The bytes behind what both magics begin with.
+#[tactic(auto, unfolding(crate::specs::Reading::magic_read))]
+fn read_magic(bytes: &[u8]) -> Result<&[u8], FactFault>
+    ensures read { Gives (λ x. x.now) result (magic_read 0 (codes "PTF") bytes.now) }
+    ensures behind { IfOk result (λ x. length x.now ≤ length bytes.now) }
+{
+    for at in 0..MAGIC_FRONT.len() {
+        if at == bytes.len() {
+            return Err(FactFault::Cut(at));
+        }
+        if bytes[at] != MAGIC_FRONT[at] {
+            return Err(FactFault::BadMagic(at));
+        }
+    }
+    Ok(&bytes[MAGIC_FRONT.len()..])
+}
+
+// The version that the magic's last byte tells, and the bytes behind it.
+#[tactic(auto, unfolding(crate::specs::Reading::version_read))]
+fn read_version(bytes: &[u8]) -> Result<(Version, &[u8]), FactFault>
+    ensures read { Gives (λ x. (x.0, x.1.now)) result (version_read bytes.now) }
+    ensures behind { IfOk result (λ x. length x.1.now ≤ length bytes.now) }
+{
+    match bytes {
+        [] => Err(FactFault::Cut(3)),
+        [b'1', rest @ ..] => Ok((Version::OfFacts, rest)),
+        [b'2', rest @ ..] => Ok((Version::OfBoth, rest)),
+        [_, ..] => Err(FactFault::BadMagic(3)),
+    }
+}
+
+// The retired jobs that a file of this version has, and the bytes behind them.
+#[tactic(auto, unfolding(crate::specs::Reading::retired_read))]
+fn read_retired(
+    total: usize,
+    version: Version,
+    bytes: &[u8],
+) -> Result<(Listing<'_>, &[u8]), FactFault>
+    requires { length bytes.now ≤ total }
+    ensures read { Gives (λ x. (first_pairs x.0.count x.0.bytes.now, x.1.now)) result
+        (retired_read total version bytes.now) }
+    ensures listing { IfOk result (λ x. IsListing x.0.count x.0.bytes.now) }
+    ensures behind { IfOk result (λ x. length x.1.now ≤ total) }
+{
+    match version {
+        Version::OfFacts => Ok((Listing { count: 0, bytes }, bytes)),
+        Version::OfBoth => {
+            let (count, listed) = read_count(total, bytes)?;
+            if count == 0 {
+                return Err(FactFault::NothingRetired(4));
+            }
+            let behind = check_pairs(total, count, listed)?;
+            let retired = Listing {
+                count,
+                bytes: listed,
+            };
+            Ok((retired, behind))
+        }
+    }
+}

@@ -1,0 +1,120 @@
+//! Retired jobs, where their identities stand in the bytes of a fact file.
+
+ghost use Rattle.std.specs.List.{list_any};
+ghost use Rattle.std.specs.Ordering.{eq_by_cmp};
+ghost use Rattle.std.specs.Prelude.{◌≡◌, ◌*◌, ◌≤◌, None, length, take, drop, IfOk};
+ghost use Rattle.identity.specs.Keys.{ids_cmp};
+ghost use Rattle.tile_fact.specs.Gives.{Gives};
+ghost use Rattle.tile_fact.specs.Listing.{IsListing};
+ghost use Rattle.tile_fact.specs.Numbers.{pair_in, first_pairs};
+ghost use Rattle.tile_fact.specs.Reading.{is_above, list_read, pair_read};
+
+use crate::fault::FactFault;
+use crate::record::digest_at;
+use identity::{Ids, InputId, ProgramId};
+use std::alloc::{AllocError, Global};
+use std::cmp::Ordering;
+
+/// The identities of retired jobs, which rise, as bytes: so many, one behind the other, and perhaps others behind them.
+#[derive(Clone, Copy)]
+pub struct Listing<'a> {
+    pub count: u32,
+    pub bytes: &'a [u8],
+}
+
+impl<'a> Listing<'a> {
+    /// Whether the job is one of them. They rise, so each look halves what is left.
+    pub fn names(&self, job: &Ids) -> bool
+        requires { IsListing self.now.count self.now.bytes.now }
+        ensures { result ≡ list_any (eq_by_cmp ids_cmp job.now)
+            (first_pairs self.now.count self.now.bytes.now) }
+    {
+        let mut rest = self.bytes;
+        let mut count = self.count as usize;
+        while count > 0 {
+            let middle = count / 2;
+            let (pair, behind) = split_pair(skip(rest, middle));
+            match job.cmp(&pair) {
+                Ordering::Less => count = middle,
+                Ordering::Equal => return true,
+                Ordering::Greater => {
+                    rest = behind;
+                    count -= middle + 1;
+                }
+            }
+        }
+        false
+    }
+
+    /// The jobs, in order.
+    pub fn to_vec(&self, alloc: Global) -> Result<Vec<Ids>, AllocError>
+        requires { IsListing self.now.count self.now.bytes.now }
+        ensures { IfOk result (λ jobs. jobs.items ≡ first_pairs self.now.count self.now.bytes.now) }
+    {
+        let mut jobs = Vec::with_capacity(alloc, self.count as usize)?;
+        let mut rest = self.bytes;
+        for _ in 0..self.count {
+            let (pair, behind) = split_pair(rest);
+            jobs.push(pair)?;
+            rest = behind;
+        }
+        Ok(jobs)
+    }
+}
+
+/// Finds the first fault of so many identities, if there is one: else the bytes behind them.
+pub fn check_pairs(total: usize, count: u32, bytes: &[u8]) -> Result<&[u8], FactFault>
+    requires { length bytes.now ≤ total }
+    ensures read { Gives (λ behind. (first_pairs count bytes.now, behind.now)) result
+        (list_read (pair_read total) count None bytes.now) }
+    ensures listing { IfOk result (λ _. IsListing count bytes.now) }
+    ensures behind { IfOk result (λ behind. length behind.now ≤ total) }
+{
+    let mut last: Option<Ids> = None;
+    let mut rest = bytes;
+    for _ in 0..count {
+        if rest.len() < 64 {
+            return Err(FactFault::Cut(total));
+        }
+        let (pair, behind) = split_pair(rest);
+        if !is_above(&last, &pair) {
+            return Err(FactFault::NotRising(total - rest.len()));
+        }
+        last = Some(pair);
+        rest = behind;
+    }
+    Ok(rest)
+}
+
+// Whether identities are above the last ones before them, if there are any.
+fn is_above(last: &Option<Ids>, next: &Ids) -> bool
+    ensures { result ≡ is_above ids_cmp last.now next.now }
+{
+    match last {
+        None => true,
+        Some(last) => last.cmp(next) == Ordering::Less,
+    }
+}
+
+// The bytes behind so many identities.
+fn skip(bytes: &[u8], count: usize) -> &[u8]
+    requires { count * 64 ≤ length bytes.now }
+    ensures { result.now ≡ drop (64 * count) bytes.now }
+{
+    let (_front, behind) = bytes.split_at(64 * count);
+    behind
+}
+
+// The identities in front of the bytes, and the bytes behind them.
+fn split_pair(bytes: &[u8]) -> (Ids, &[u8])
+    requires { 64 ≤ length bytes.now }
+    ensures pair { result.0 ≡ pair_in (take 64 bytes.now) }
+    ensures behind { result.1.now ≡ drop 64 bytes.now }
+{
+    let (front, behind) = bytes.split_at(64);
+    let pair = Ids {
+        program: ProgramId::new(digest_at(front, 0)),
+        input: InputId::new(digest_at(front, 32)),
+    };
+    (pair, behind)
+}

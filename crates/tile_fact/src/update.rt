@@ -1,0 +1,13 @@
+//! What a node is told.
+
+use crate::fact::Fact;
+use identity::Ids;
+
+/// A fact, or the retirement of a job: who knows of it holds no fact of that job.
+#[derive(Clone, Debug, Drop, PartialEq, Eq)]
+pub enum Update {
+    /// The numbers of a tile.
+    Fact(Fact),
+    /// The identities of a job that is retired.
+    Retire(Ids),
+}

@@ -1,0 +1,10 @@
+//! The two forms of fact files.
+
+/// What a fact file has by its magic.
+#[derive(Clone, Copy, Debug)]
+pub enum Version {
+    /// `PTF1`: facts.
+    OfFacts,
+    /// `PTF2`: retired jobs, of which there is one at least, and facts.
+    OfBoth,
+}
