@@ -1,53 +1,24 @@
 -- What a node answers from its state.
-use Rattle.std.specs.declared.cmp.Ordering.TheVariants.{Less}
-use Rattle.std.specs.List.{Contains}
-use Rattle.std.specs.Prelude.{◌≡◌, ◌≢◌, ℕ, zero, suc, if◌then◌else◌, List, [], length}
+use Rattle.std.specs.Prelude.{if◌then◌else◌}
+use Rattle.identity.specs.Keys.{ids_in}
+use Rattle.identity.specs.declared.job_ids.Ids.{Ids}
 use Rattle.identity.specs.declared.key.Key.{Key}
-use Rattle.identity.specs.Keys.{key_cmp}
 use Rattle.tile_fact.specs.declared.fact.Fact.{Fact}
-use Rattle.node_state.specs.declared.answers.Known.{Known}
-use Rattle.node_state.specs.declared.answers.Known.TheVariants.{Nothing, One, Disputed}
-use Rattle.node_state.specs.declared.answers.LendFault.{LendFault}
-use Rattle.node_state.specs.declared.answers.LendFault.TheVariants.{NotHeld, Memory}
-use Rattle.node_state.specs.declared.answers.Taken.{Taken}
-use Rattle.node_state.specs.declared.answers.Taken.TheVariants.{New, Already}
-use Rattle.node_state.specs.States.{State, holds, facts_of}
+use Rattle.held_facts.specs.Answers as held
+use Rattle.held_facts.specs.declared.answers.Known.{Known}
+use Rattle.held_facts.specs.declared.answers.Known.TheVariants as known
+use Rattle.held_facts.specs.declared.answers.Taken.{Taken}
+use Rattle.held_facts.specs.declared.answers.Taken.TheVariants.{New, Already, Retired}
+use Rattle.node_state.specs.States.{State, retires}
 
--- whether a fact that is taken was new
+-- whether a fact that is taken was new, held already, or of a retired job
 abbrev pub taken_of : State → Fact → Taken
-taken_of s f = if holds s f then Already else New
+taken_of s f = if retires s (ids_in f.key) then Retired else held.taken_of s.facts f
 
-abbrev pub counted : ℕ → Known
-counted zero = Nothing
-counted (suc zero) = One
-counted (suc (suc more)) = Disputed
+-- whether a retirement that is taken was new
+abbrev pub retired_of : State → Ids → Taken
+retired_of s ids = if retires s ids then Already else New
 
--- none, one or several facts of the key are held
+-- none, one or several facts of the key are held, or its job is retired
 abbrev pub known_of : State → Key → Known
-known_of s key = counted (length (facts_of s key))
-
--- ---- lending
-
-abbrev pub IsNotHeld : State → Key → Type 0
-IsNotHeld s key = facts_of s key ≡ []
-
--- of each key that is asked for some fact is held
-abbrev pub AreHeld : State → List Key → Type 0
-AreHeld s keys = (key : Key) → Contains keys key → ¬ IsNotHeld s key
-
--- the least of the keys that are asked for and not held
-pub record IsLeastNotHeld (s : State) (keys : List Key) (key : Key) : Type 0 where
-  pub asked : Contains keys key
-  pub not_held : IsNotHeld s key
-  pub least : (other : Key) → Contains keys other → IsNotHeld s other → key_cmp other key ≢ Less
-
--- memory is refused only where all keys are held
-abbrev pub IsLendFault : State → List Key → LendFault → Type 0
-IsLendFault s keys (NotHeld key) = IsLeastNotHeld s keys key
-IsLendFault s keys Memory = AreHeld s keys
-
--- ---- the faults' numbers
-
-abbrev pub number_of : LendFault → ℕ
-number_of (NotHeld key) = 1
-number_of Memory = 2
+known_of s key = if retires s (ids_in key) then known.Retired else held.known_of s.facts key

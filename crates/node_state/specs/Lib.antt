@@ -1,8 +1,4 @@
 pub mod States
 pub mod Answers
-pub mod HeldFacts
-pub mod AnswerFaults
 pub mod HeldAnswers
-pub mod MakeFaults
 pub mod Making
-pub mod inside

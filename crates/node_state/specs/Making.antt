@@ -1,108 +1,24 @@
 -- What a node makes of a tile from what it holds, and why it makes nothing.
-use Rattle.std.specs.Option.{option_and_then}
-use Rattle.std.specs.Prelude.{ℕ, ◌≡◌, ◌<◌, ◌≤◌, ◌==◌, ◌&&◌, Bool, true, List, Contains, find}
-use Rattle.std.specs.List.{flat_map}
-use Rattle.accumulators.specs.Partials.{local_totals}
-use Rattle.catalog.specs.Entries.{Entry, StandsAt, ids_in}
-use Rattle.domains.specs.declared.area.Area.{Area}
-use Rattle.fact_audit.specs.TrueFacts.{HasJob, IsTrueFact}
-use Rattle.grouping.specs.Costs.{scratch, most_scratch}
-use Rattle.grouping.specs.Schedules.{is_function}
-use Rattle.grouping.specs.Targets.{Target, target_over}
+use Rattle.std.specs.Prelude.{◌≡◌, Bool, List, true, false}
+use Rattle.catalog.specs.Entries.{Entry}
+use Rattle.fact_audit.specs.TrueFacts.{HasJob}
+use Rattle.identity.specs.Keys.{ids_in}
 use Rattle.identity.specs.declared.key.Key.{Key}
 use Rattle.job.specs.Identity.{HasTileAt}
-use Rattle.job.specs.Pipeline.{Pipeline}
-use Rattle.overlap_tiles.specs.Needs.{needed_keys, IsKeyBefore}
-use Rattle.overlap_tiles.specs.Plans.{IsTileAt}
-use Rattle.tile_eval.specs.Buffer.{raster}
-use Rattle.tile_fact.specs.declared.body.Body.{Body}
-use Rattle.tile_fact.specs.declared.body.Body.TheVariants.{Tile, Partial}
 use Rattle.tile_fact.specs.declared.fact.Fact.{Fact}
-use Rattle.tile_run.specs.KnownTiles.{KnownTiles}
-use Rattle.tile_run.specs.Local.{local_value}
-use Rattle.tile_run.specs.Work.{is_accumulator_at}
-use Rattle.node_state.specs.declared.make_fault.MakeFault.{MakeFault}
-use Rattle.node_state.specs.declared.make_fault.MakeFault.TheVariants as fault
-use Rattle.node_state.specs.States.{State, facts_of, holds}
-pub use Rattle.node_state.specs.HeldFacts.{IsMisshapen, IsReady, samples_in}
-use Rattle.node_state.specs.Answers.{known_of}
-use Rattle.node_state.specs.declared.answers.Known.TheVariants.{Nothing, Disputed}
+use Rattle.held_facts.specs.Making as held
+use Rattle.held_facts.specs.declared.make_fault.MakeFault.{MakeFault}
+use Rattle.held_facts.specs.declared.make_fault.MakeFault.TheVariants as fault
+use Rattle.node_state.specs.States.{State, retires}
 
--- ---- the tile that is asked for
-
--- the key's tile is one of a function or an accumulator of the job, and P holds of it as a target
-pub record HasTarget (job : Pipeline) (inlining : List Bool) (key : Key) (P : Target → Type 0) : Type 0 where
-  pub area : Area
-  pub tile : IsTileAt job key.stage key.row key.col area
-  pub holds : P (target_over job inlining key.stage area)
-
--- a job of the catalog has the key's identities, it has the key's tile, and P holds of that
-abbrev pub HasTargetIn : List Entry → List Bool → Key → (Target → Type 0) → Type 0
-HasTargetIn catalog inlining key P = HasJob catalog key (λ job. HasTarget job inlining key P)
-
--- the keys of the tiles of stored functions that it reads, rising
-abbrev pub needs_for : Key → Target → List Key
-needs_for key t = needed_keys key.program t
-
--- ---- what is held of its needs
-
--- whether a fact is of the tile of stage g in row i and column j
-abbrev pub is_of_tile : ℕ → ℕ → ℕ → Fact → Bool
-is_of_tile g i j f = f.key.stage == g && (f.key.row == i && f.key.col == j)
-
--- the tiles that facts of one job tell, each by the first fact of it
-abbrev pub tiles_in : List Fact → KnownTiles
-tiles_in facts g i j = option_and_then (λ f. samples_in f.body) (find (is_of_tile g i j) facts)
-
--- those that the held facts of these keys tell
-abbrev pub needed_tiles : State → List Key → KnownTiles
-needed_tiles s needs = tiles_in (flat_map (facts_of s) needs)
-
--- ---- what is made
-
--- the numbers are those of the tile, where reads of stored functions take the numbers that are given, and reads of inlined
--- functions their local values: of a function its local values, row by row, of an accumulator its local totals
-abbrev pub IsLocalBody : Target → KnownTiles → Body → Type 0
-IsLocalBody t given (Tile samples) =
-    (is_function t.job t.stage ≡ true) × (samples ≡ raster t.region (local_value t.job t.inlining given t.stage))
-IsLocalBody t given (Partial bins) =
-    (is_accumulator_at t.job t.stage ≡ true) × (bins ≡ local_totals t.job t.inlining given t.region t.stage)
-
--- the body is that of the target over what is held of its needs, all of which are ready; and what is inlined has room
-pub record IsMadeOf (s : State) (needs : List Key) (t : Target) (body : Body) : Type 0 where
-  pub room : scratch t ≤ most_scratch
-  pub ready : (need : Key) → Contains needs need → IsReady s t.job need
-  pub numbers : IsLocalBody t (needed_tiles s needs) body
-
--- a fact that is made by the job that its key names
+-- the fact's job is not retired, and the fact is made of the held facts
 abbrev pub IsMade : List Entry → State → List Bool → Fact → Type 0
-IsMade catalog s inlining fact = HasTargetIn catalog inlining fact.key (λ t. IsMadeOf s (needs_for fact.key t) t fact.body)
+IsMade catalog s inlining fact = (retires s (ids_in fact.key) ≡ false) × held.IsMade catalog s.facts inlining fact
 
--- each held fact of a tile that is needed is true
-abbrev pub AreNeedsTrue : List Entry → State → List Bool → Key → Type 0
-AreNeedsTrue catalog s inlining key =
-    (f : Fact) → holds s f ≡ true → HasTargetIn catalog inlining key (λ t. Contains (needs_for key t) f.key) → IsTrueFact catalog f
-
--- ---- why nothing is made
-
--- of the needs this is the least that is not ready, for a reason; and what is inlined has room
-pub record IsFirstUnready (s : State) (needs : List Key) (t : Target) (need : Key) (Reason : Type 0) : Type 0 where
-  pub room : scratch t ≤ most_scratch
-  pub needed : Contains needs need
-  pub reason : Reason
-  pub least : (other : Key) → Contains needs other → IsKeyBefore other need → IsReady s t.job other
-
+-- a key that names no job or no tile of it has the fault of that, then one of a retired job; for all others it is that of the held facts
 abbrev pub IsMakeFault : List Entry → State → List Bool → Key → MakeFault → Type 0
--- no job has the identities
-IsMakeFault catalog s inlining key fault.Foreign = (i : ℕ) → ¬ (StandsAt catalog (ids_in key) i)
--- the job has no such function or accumulator, or that has no such tile
-IsMakeFault catalog s inlining key fault.NoSuchTile = HasJob catalog key (λ job. ¬ (HasTileAt job key.stage key.row key.col))
-IsMakeFault catalog s inlining key fault.ScratchTooBig = HasTargetIn catalog inlining key (λ t. most_scratch < scratch t)
-IsMakeFault catalog s inlining key (fault.NeedMissing need) =
-    HasTargetIn catalog inlining key (λ t. IsFirstUnready s (needs_for key t) t need (known_of s need ≡ Nothing))
-IsMakeFault catalog s inlining key (fault.NeedDisputed need) =
-    HasTargetIn catalog inlining key (λ t. IsFirstUnready s (needs_for key t) t need (known_of s need ≡ Disputed))
-IsMakeFault catalog s inlining key (fault.NeedMisshapen need) =
-    HasTargetIn catalog inlining key (λ t. IsFirstUnready s (needs_for key t) t need (IsMisshapen s t.job need))
--- memory may be refused wherever there is such a tile
-IsMakeFault catalog s inlining key fault.Memory = HasTargetIn catalog inlining key (λ t. Unit {0})
+IsMakeFault catalog s inlining key fault.Foreign = held.IsMakeFault catalog s.facts inlining key fault.Foreign
+IsMakeFault catalog s inlining key fault.NoSuchTile = held.IsMakeFault catalog s.facts inlining key fault.NoSuchTile
+IsMakeFault catalog s inlining key fault.Retired =
+    HasJob catalog key (λ job. HasTileAt job key.stage key.row key.col) × (retires s (ids_in key) ≡ true)
+IsMakeFault catalog s inlining key other = (retires s (ids_in key) ≡ false) × held.IsMakeFault catalog s.facts inlining key other

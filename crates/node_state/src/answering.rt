@@ -1,27 +1,44 @@
-//! The answer of a job from what a node holds.
+//! What a node answers for a job, and what it lacks for that.
 
+ghost use Rattle.held_facts.specs.HeldAnswers.{missing_keys};
 ghost use Rattle.job.specs.Kept.{pipeline_in, program_id_in};
 ghost use Rattle.netpbm.specs.Image.{IsImage};
 ghost use Rattle.node_state.specs.HeldAnswers.{IsAnswerFault, IsHeldAnswer};
+ghost use Rattle.overlap_tiles.specs.Needs.{IsKeyBefore};
 ghost use Rattle.std.specs.Option.{ForSome};
-ghost use Rattle.std.specs.Prelude.{IfErr, IfOk};
+ghost use Rattle.std.specs.Prelude.{◌≡◌, AllPairs, IfErr, IfOk};
 
-use crate::answer_fault::AnswerFault;
-use crate::held::Held;
 use crate::state::NodeState;
-use accumulators::{Answer, image_of};
+use accumulators::Answer;
+use catalog::ids_of;
 use fact_store::FactStore;
+use held_facts::AnswerFault;
+use identity::Key;
 use job::Job;
+use std::alloc::AllocError;
 
 impl<S: FactStore> NodeState<S> {
-    /// The answer of a job by the facts that are held of its outputs and accumulators, true or not: the picture of the numbers, each
-    /// cut to 0 and the greatest sample, and in each bin of an accumulator what its partials have there, joined. What the program is
-    /// given is hashed at most once.
+    /// The keys of the tiles of the job's outputs and accumulators of which nothing is held, rising: all, if the job is retired.
+    /// What the program is given is hashed at most once.
     ///
     /// # Errors
     ///
-    /// Fails at the least wanted key of which not exactly one fact is held, or one that does not fit the tile, before memory is taken;
-    /// and where memory is refused.
+    /// Fails only where memory is refused.
+    pub fn missing(&self, job: &Job) -> Result<Vec<Key>, AllocError>
+        ensures missing { IfOk result (λ keys. keys.items
+            ≡ missing_keys self.now.facts (program_id_in job.now) (pipeline_in job.now)) }
+        ensures rising { IfOk result (λ keys. AllPairs IsKeyBefore keys.items) }
+    {
+        self.held.missing(job)
+    }
+
+    /// The answer of a job by the facts that are held of its outputs and accumulators, true or not: the picture of the numbers, each
+    /// cut to 0 and the greatest sample, and in each bin of an accumulator what its partials have there, joined.
+    ///
+    /// # Errors
+    ///
+    /// Fails where the job is retired; at the least wanted key of which not exactly one fact is held, or one that does not fit the
+    /// tile, before memory is taken; and where memory is refused.
     pub fn answer(&self, job: &Job) -> Result<Answer, AnswerFault>
         ensures answer { IfOk result
             (IsHeldAnswer self.now (program_id_in job.now) (pipeline_in job.now)) }
@@ -29,10 +46,9 @@ impl<S: FactStore> NodeState<S> {
         ensures fault { IfErr result
             (IsAnswerFault self.now (program_id_in job.now) (pipeline_in job.now)) }
     {
-        let held = Held::of(self, job);
-        held.check()?;
-        let picture = image_of(self.alloc, job, &held)?;
-        let totals = held.totals(self.alloc)?;
-        Ok(Answer { picture, totals })
+        if self.retires(&ids_of(job)) {
+            return Err(AnswerFault::Retired);
+        }
+        self.held.answer(job)
     }
 }

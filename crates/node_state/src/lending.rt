@@ -1,82 +1,38 @@
-//! Facts that a node lends.
+//! What a node lends of its state.
 
-ghost use Rattle.node_state.specs.Answers.{AreHeld, IsLeastNotHeld, IsLendFault};
-ghost use Rattle.node_state.specs.inside.Searching.{is_first};
-ghost use Rattle.node_state.specs.States.{lent, holds, facts_in, same_key};
-ghost use Rattle.std.specs.Option.{IfSome};
-ghost use Rattle.std.specs.Prelude.{◌≡◌, ◌||◌, ◌&&◌, None, OnOk, IfOk, IfErr};
-ghost use Rattle.tile_fact.specs.declared.fact.Fact.{Fact};
+ghost use Rattle.held_facts.specs.Answers.{AreHeld, IsLendFault};
+ghost use Rattle.node_state.specs.States.{facts_in, lent};
+ghost use Rattle.std.specs.Prelude.{◌≡◌, IfOk, IfErr};
 
-use crate::answers::LendFault;
 use crate::state::NodeState;
 use fact_store::FactStore;
+use held_facts::LendFault;
 use identity::Key;
-use std::alloc::AllocError;
 use tile_fact::Fact;
 
 impl<S: FactStore> NodeState<S> {
-    /// All held facts of the keys, each once, rising; or the least key of which nothing is held. Keys may stand in any order and
-    /// more than once.
+    /// All held facts of the keys, each once, rising; or the least key of which nothing is held, as of a retired job. Keys may stand
+    /// in any order and more than once.
     pub fn lend(&self, keys: &[Key]) -> Result<Vec<Fact>, LendFault>
         ensures lent { IfOk result (λ facts. facts.items ≡ facts_in (lent self.now keys.now)) }
-        ensures held { IfOk result (λ _. AreHeld self.now keys.now) }
-        ensures fault { IfErr result (IsLendFault self.now keys.now) }
+        ensures held { IfOk result (λ _. AreHeld self.now.facts keys.now) }
+        ensures fault { IfErr result (IsLendFault self.now.facts keys.now) }
     {
-        let state = self.lend_state(keys)?;
-        Ok(state.facts()?)
+        self.held.lend(keys)
     }
 
-    /// The state that holds just what [`lend`](NodeState::lend) answers.
+    /// The state of the facts that [`lend`](NodeState::lend) answers and of all retired jobs.
     pub fn lend_state(&self, keys: &[Key]) -> Result<NodeState<S>, LendFault>
         ensures lent { IfOk result (λ state. state ≡ lent self.now keys.now) }
-        ensures held { IfOk result (λ _. AreHeld self.now keys.now) }
-        ensures fault { IfErr result (IsLendFault self.now keys.now) }
+        ensures held { IfOk result (λ _. AreHeld self.now.facts keys.now) }
+        ensures fault { IfErr result (IsLendFault self.now.facts keys.now) }
     {
-        if let Some(key) = self.least_not_held(keys) {
-            return Err(LendFault::NotHeld(key));
-        }
-        let mut state = NodeState::new(self.alloc);
-        for key in keys {
-            state.take_of_key(self, key)?;
-        }
-        Ok(state)
-    }
-
-    // The least of the keys of which nothing is held, if there is one.
-    fn least_not_held(&self, keys: &[Key]) -> Option<Key>
-        ensures found { IfSome result (IsLeastNotHeld self.now keys.now) }
-        ensures none { result ≡ None → AreHeld self.now keys.now }
-    {
-        let mut least: Option<Key> = None;
-        for key in keys {
-            if self.count(key) == 0 && is_first(key, &least) {
-                least = Some(*key);
-            }
-        }
-        least
-    }
-
-    // Adds the facts of a key that another state holds.
-    fn take_of_key(&mut self, other: &NodeState<S>, key: &Key) -> Result<(), AllocError>
-        ensures { OnOk result ((f : Fact) →
-            holds self.new f
-            ≡ (holds self.old f || (holds other.now f && same_key key.now f.key))) }
-    {
-        for n in 0..other.count(key) {
-            if let Some(fact) = other.nth(key, n) {
-                self.take(fact.clone()?)?;
-            }
-        }
-        Ok(())
-    }
-}
-
-// Whether the key is below the one found before, if there is one.
-fn is_first(key: &Key, found: &Option<Key>) -> bool
-    ensures { result ≡ is_first key.now found.now }
-{
-    match found {
-        None => true,
-        Some(found) => key.cmp(found).is_lt(),
+        let held = self.held.lend_state(keys)?;
+        let retired = self.retired.copy(self.alloc)?;
+        Ok(NodeState {
+            alloc: self.alloc,
+            held,
+            retired,
+        })
     }
 }

@@ -1,92 +1,65 @@
 //! Facts that a node makes of what it holds.
 
-ghost use Rattle.std.specs.List.{flat_map};
-ghost use Rattle.std.specs.Prelude.{◌≡◌, ◌∷◌, [], IfOk, IfErr};
-ghost use Rattle.fact_audit.specs.Shapes.{FitsJob};
 ghost use Rattle.fact_audit.specs.TrueFacts.{IsTrueFact};
+ghost use Rattle.held_facts.specs.Making.{AreNeedsTrue};
+ghost use Rattle.identity.specs.Keys.{ids_in};
+ghost use Rattle.job.specs.Identity.{HasTileAt};
 ghost use Rattle.job.specs.Kept.{pipeline_in};
-ghost use Rattle.node_state.specs.Making.{AreNeedsTrue, IsMade, IsMakeFault};
-ghost use Rattle.node_state.specs.inside.Needing.{AreReady, IsNeedFault, IsNeedsFault};
-ghost use Rattle.node_state.specs.States.{facts_of};
+ghost use Rattle.node_state.specs.Making.{IsMade, IsMakeFault};
+ghost use Rattle.node_state.specs.States.{retires};
+ghost use Rattle.std.specs.Prelude.{◌≡◌, ◌↔◌, Bool, IfErr, IfOk, IsTrue, List, true};
 
-use crate::answers::Known;
-use crate::held_tiles::HeldTiles;
-use crate::local_bodies::local_body;
-use crate::make_fault::MakeFault;
 use crate::state::NodeState;
 use catalog::Catalog;
-use fact_audit::{job_of, shape_ok};
+use fact_audit::job_of;
 use fact_store::FactStore;
 use grouping::Schedule;
-use identity::Key;
+use held_facts::MakeFault;
+use identity::{Ids, Key};
 use job::Job;
-use overlap_tiles::TilePlan;
-use std::alloc::AllocError;
 use tile_fact::Fact;
 
 impl<S: FactStore> NodeState<S> {
     /// The fact of the key, made from held facts of the tiles that its tile needs by the schedule, which is to be one of the key's job.
-    /// Where these facts are true, so is the fact. Each of them is looked up once, before anything is computed, and the state stays
-    /// as it is.
+    /// Where these facts are true, so is the fact. The state stays as it is.
     ///
     /// # Errors
     ///
-    /// The first of `Foreign`, `NoSuchTile` and `ScratchTooBig`; then the least need that is not ready, as `NeedMissing`,
-    /// `NeedDisputed` or `NeedMisshapen`. Memory may be refused wherever there is such a tile.
+    /// The first of `Foreign`, `NoSuchTile`, `Retired` and `ScratchTooBig`; then the least need that is not ready, as `NeedMissing`,
+    /// `NeedDisputed` or `NeedMisshapen`. Memory may be refused wherever there is such a tile of a job that is not retired.
     pub fn make(&self, catalog: &Catalog, schedule: &Schedule, key: &Key) -> Result<Fact, MakeFault>
         ensures key { IfOk result (λ fact. fact.key ≡ key.now) }
         ensures made { IfOk result (IsMade catalog.now self.now schedule.now.inlining) }
-        ensures right { AreNeedsTrue catalog.now self.now schedule.now.inlining key.now
+        ensures right { AreNeedsTrue catalog.now self.now.facts schedule.now.inlining key.now
             → IfOk result (IsTrueFact catalog.now) }
         ensures fault { IfErr result
             (IsMakeFault catalog.now self.now schedule.now.inlining key.now) }
     {
-        let Some(job) = job_of(catalog, key) else {
-            return Err(MakeFault::Foreign);
-        };
-        let stage = usize::from(key.stage);
-        let plan = TilePlan::of(self.alloc, job, schedule, stage, key.row, key.col)?;
-        let facts = self.needed_facts(job, plan.needs())?;
-        let body = local_body(self.alloc, job, &plan, key, &HeldTiles { facts })?;
-        match Fact::new(*key, body) {
-            Ok(fact) => Ok(fact),
-            Err(_) => unreachable!(),
+        if self.retires(&Ids::of_key(key)) {
+            return Err(self.fault_of_retired(catalog, key));
         }
+        self.held.make(catalog, schedule, key)
     }
 
-    // The held facts of the needs, in their order, if of each one is held that fits its tile.
-    fn needed_facts(&self, job: &Job, needs: &[Key]) -> Result<Vec<Fact>, MakeFault>
-        ensures facts { IfOk result
-            (λ facts. facts.items ≡ flat_map (facts_of self.now) needs.now) }
-        ensures ready { IfOk result (λ _. AreReady self.now (pipeline_in job.now) needs.now) }
-        ensures fault { IfErr result (IsNeedsFault self.now (pipeline_in job.now) needs.now) }
+    // Why a tile of a retired job is not made.
+    fn fault_of_retired(&self, catalog: &Catalog, key: &Key) -> MakeFault
+        requires { retires self.now (ids_in key.now) ≡ true }
+        ensures { (inlining : List Bool) → IsMakeFault catalog.now self.now inlining key.now result }
     {
-        let mut facts = Vec::with_capacity(self.alloc, needs.len())?;
-        for need in needs {
-            let fact = self.needed_fact(job, need)?;
-            facts.push(fact).map_err(AllocError::from)?;
+        match job_of(catalog, key) {
+            None => MakeFault::Foreign,
+            Some(job) if has_tile(job, key) => MakeFault::Retired,
+            Some(_) => MakeFault::NoSuchTile,
         }
-        Ok(facts)
     }
+}
 
-    // The one held fact of the need, if it fits its tile.
-    fn needed_fact(&self, job: &Job, need: &Key) -> Result<Fact, MakeFault>
-        ensures one { IfOk result (λ fact. facts_of self.now need.now ≡ fact ∷ []) }
-        ensures fits { IfOk result (λ fact. FitsJob fact (pipeline_in job.now)) }
-        ensures fault { IfErr result (IsNeedFault self.now (pipeline_in job.now) need.now) }
-    {
-        match self.knows(need) {
-            Known::Nothing => Err(MakeFault::NeedMissing(*need)),
-            Known::Disputed => Err(MakeFault::NeedDisputed(*need)),
-            Known::One => {
-                let Some(fact) = self.nth(need, 0) else {
-                    unreachable!();
-                };
-                if !shape_ok(job, fact) {
-                    return Err(MakeFault::NeedMisshapen(*need));
-                }
-                Ok(fact.clone()?)
-            }
-        }
+// Whether the job has the function or accumulator and the tile of it that the key names.
+fn has_tile(job: &Job, key: &Key) -> bool
+    ensures { IsTrue result ↔ HasTileAt (pipeline_in job.now) key.now.stage key.now.row key.now.col }
+{
+    match job.grid(usize::from(key.stage)) {
+        Some(grid) => grid.tile(key.row, key.col).is_some(),
+        None => false,
     }
 }

@@ -1,18 +1,7 @@
-use Rattle.std.proofs.Common.{refl, length}
-use Rattle.std.proofs.lemmas.Option.{slice_get_read}
-use Rattle.node_state.proofs.LentLaws.{lent_none, lent_more, lent_all}
+use Rattle.node_state.proofs.StateLaws.{lent_is_state}
 use Rattle.node_state.proofs.state.NodeState.lend_state.Goals as goal
 
-pub loop-key-init : goal.loop-key-init
-loop-key-init g c f = rw c.new-state.ensures (lent_none c.args.self.now f)
-
-pub loop-key-preserved : goal.loop-key-preserved
-loop-key-preserved g c =
-    let keys = c.args.keys.now in
-    lent_more c.args.self.now c.loop-key.state c.take_of_key.new.self keys c.loop-key.key-index c.key-item.result
-    (slice_get_read keys (length keys) c.loop-key.key-index c.key-item.result refl c.loop-key-test.true c.key-item.is) c.loop-key.invariant
-    c.in_ok-take_of_key.ensures
-
-pub returns-clause-lent : goal.returns-clause-lent
-returns-clause-lent g c =
-    lent_all c.args.self.now c.loop-key.state c.args.keys.now c.loop-key.key-index c.loop-key-test.false c.loop-key.invariant
+pub invariant_of-result : goal.invariant_of-result
+invariant_of-result g c =
+    lent_is_state c.self.inside.held c.in_ok-held.held c.args.keys.now c.self.inside.retired c.in_ok-retired.retired
+    c.in_ok-held.ensures.lent c.in_ok-retired.ensures c.self.invariant

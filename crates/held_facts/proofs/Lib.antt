@@ -1,0 +1,15 @@
+pub mod ListLaws
+pub mod LentLaws
+pub mod AskedLaws
+pub mod WantedTiles
+pub mod Judged
+pub mod OneHeld
+pub mod HeldPartials
+pub mod HeldPictures
+pub mod Answered
+pub mod TrueStates
+pub mod ToldTiles
+pub mod ReadyNeeds
+pub mod MadeFacts
+pub mod LocalBodies
+pub mod TilesInOrder

@@ -1,0 +1,39 @@
+//! The answer of a job from what a node holds.
+
+ghost use Rattle.job.specs.Kept.{pipeline_in, program_id_in};
+ghost use Rattle.netpbm.specs.Image.{IsImage};
+ghost use Rattle.held_facts.specs.HeldAnswers.{IsAnswerFault, IsHeldAnswer};
+ghost use Rattle.std.specs.Option.{ForSome};
+ghost use Rattle.std.specs.Prelude.{IfErr, IfOk};
+
+use crate::answer_fault::AnswerFault;
+use crate::facts::HeldFacts;
+use crate::held::Held;
+use accumulators::Answer;
+use fact_store::FactStore;
+use job::Job;
+use pictures::image_of;
+
+impl<S: FactStore> HeldFacts<S> {
+    /// The answer of a job by the facts that are held of its outputs and accumulators, true or not: the picture of the numbers, each
+    /// cut to 0 and the greatest sample, and in each bin of an accumulator what its partials have there, joined. What the program is
+    /// given is hashed at most once.
+    ///
+    /// # Errors
+    ///
+    /// Fails at the least wanted key of which not exactly one fact is held, or one that does not fit the tile, before memory is taken;
+    /// and where memory is refused.
+    pub fn answer(&self, job: &Job) -> Result<Answer, AnswerFault>
+        ensures answer { IfOk result
+            (IsHeldAnswer self.now (program_id_in job.now) (pipeline_in job.now)) }
+        ensures image { IfOk result (λ answer. ForSome answer.picture IsImage) }
+        ensures fault { IfErr result
+            (IsAnswerFault self.now (program_id_in job.now) (pipeline_in job.now)) }
+    {
+        let held = Held::of(self, job);
+        held.check()?;
+        let picture = image_of(self.alloc, job, &held)?;
+        let totals = held.totals(self.alloc)?;
+        Ok(Answer { picture, totals })
+    }
+}

@@ -1,0 +1,113 @@
+//! Totals that are put together from the partials that a node holds.
+
+ghost use Rattle.accumulators.specs.Answers.{gathered};
+ghost use Rattle.accumulators.specs.Gatherings.{gathered_from};
+ghost use Rattle.domains.specs.Span.{Ends, len_of};
+ghost use Rattle.job.specs.Kept.{pipeline_in, program_id_in};
+ghost use Rattle.job.specs.Readers.{stage_bins};
+ghost use Rattle.held_facts.specs.HeldAnswers.{held_partials, held_totals, partials_of, AllAreReady, IsReady};
+ghost use Rattle.held_facts.specs.inside.Gathering.{CameIn, row_partials};
+ghost use Rattle.held_facts.specs.inside.Judging.{RowIsReady, StageIsReady};
+ghost use Rattle.std.specs.Prelude.{◌≡◌, ◌<◌, ◌++◌, ◌∷◌, [], Some, length, map, slice_get, IfNone, IfOk, IfSome, OnOk};
+
+use crate::held::Held;
+use accumulators::{Gathering, Total};
+use fact_store::FactStore;
+use identity::Key;
+use std::alloc::{AllocError, Global};
+use tile_fact::Body;
+
+impl<S: FactStore> Held<'_, S> {
+    /// What the accumulators gather from the partials that are held, in the order of the stages.
+    ///
+    /// # Errors
+    ///
+    /// Fails only where memory is refused.
+    #[tactic(auto, using(tile_boxes::proofs::Lists::flat_map_range_more))]
+    pub(crate) fn totals(&self, alloc: Global) -> Result<Vec<Total>, AllocError>
+        requires { AllAreReady self.now.state.now (program_id_in self.now.job.now)
+            (pipeline_in self.now.job.now) }
+        ensures { IfOk result (λ totals. map gathered totals.items
+            ≡ held_totals self.now.state.now (program_id_in self.now.job.now)
+            (pipeline_in self.now.job.now)) }
+    {
+        let mut totals = Vec::new(alloc);
+        for stage in 0..self.job.stages().len() {
+            self.push_total(&mut totals, alloc, stage)?;
+        }
+        Ok(totals)
+    }
+
+    // Adds what a stage gathers, if it is an accumulator.
+    fn push_total(
+        &self,
+        totals: &mut Vec<Total>,
+        alloc: Global,
+        stage: usize,
+    ) -> Result<(), AllocError>
+        requires { AllAreReady self.now.state.now (program_id_in self.now.job.now)
+            (pipeline_in self.now.job.now) }
+        ensures { OnOk result (map gathered totals.new.items
+            ≡ map gathered totals.old.items
+            ++ gathered_from (pipeline_in self.now.job.now) stage
+            (held_partials self.now.state.now (program_id_in self.now.job.now)
+            (pipeline_in self.now.job.now) stage)) }
+    {
+        if let Some(mut gathering) = Gathering::of(alloc, self.job, stage)? {
+            self.take_stage(stage, &mut gathering);
+            totals.push(gathering.into_total())?;
+        }
+        Ok(())
+    }
+
+    // Takes in the partials of all tiles of a stage.
+    fn take_stage(&self, stage: usize, gathering: &mut Gathering)
+        requires span { stage_bins (slice_get (pipeline_in self.now.job.now).stages stage)
+            ≡ Some gathering.old.span }
+        requires ready { StageIsReady self.now.state.now (program_id_in self.now.job.now)
+            (pipeline_in self.now.job.now) stage }
+        ensures { CameIn (pipeline_in self.now.job.now) stage
+            (held_partials self.now.state.now (program_id_in self.now.job.now)
+            (pipeline_in self.now.job.now) stage) gathering.old gathering.new }
+    {
+        if let Some(grid) = self.job.grid(stage) {
+            for row in 0..grid.tile_rows() {
+                self.take_row(stage, row, grid.tile_cols(), gathering);
+            }
+        }
+    }
+
+    // Those of the first tiles of a row.
+    fn take_row(&self, stage: usize, row: u32, cols: u32, gathering: &mut Gathering)
+        requires stage { stage < 65536 }
+        requires span { stage_bins (slice_get (pipeline_in self.now.job.now).stages stage)
+            ≡ Some gathering.old.span }
+        requires ready { RowIsReady self.now.state.now (program_id_in self.now.job.now)
+            (pipeline_in self.now.job.now) stage cols row }
+        ensures { CameIn (pipeline_in self.now.job.now) stage
+            (row_partials self.now.state.now (program_id_in self.now.job.now)
+            (pipeline_in self.now.job.now) stage cols row) gathering.old gathering.new }
+    {
+        for col in 0..cols {
+            if let Some(bins) = self.bins(&self.key(stage, row, col)) {
+                gathering.take(bins);
+            }
+        }
+    }
+
+    // The bins of the partial that is held of a key, if it is one's.
+    fn bins(&self, key: &Key) -> Option<&[i64]>
+        requires { IsReady self.now.state.now (pipeline_in self.now.job.now) key.now }
+        ensures some { IfSome result
+            (λ bins. partials_of self.now.state.now key.now ≡ bins.now ∷ []) }
+        ensures none { IfNone result (partials_of self.now.state.now key.now ≡ []) }
+        ensures count { IfSome result (λ bins. (span : Ends)
+            → stage_bins (slice_get (pipeline_in self.now.job.now).stages key.now.stage) ≡ Some span
+            → length bins.now ≡ len_of span) }
+    {
+        match self.state.nth(key, 0)?.body() {
+            Body::Partial(bins) => Some(bins.as_slice()),
+            Body::Tile(_) => None,
+        }
+    }
+}

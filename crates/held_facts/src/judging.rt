@@ -1,0 +1,90 @@
+//! Whether all tiles are ready that the answer of a job takes.
+
+ghost use Rattle.job.specs.Kept.{pipeline_in, program_id_in};
+ghost use Rattle.held_facts.specs.Answers.{known_of};
+ghost use Rattle.held_facts.specs.HeldAnswers.{AllAreReady, IsAnswerFault, IsReady};
+ghost use Rattle.held_facts.specs.declared.answers.Known.TheVariants.{One};
+ghost use Rattle.held_facts.specs.inside.Judging.{IsFaultAt, RowIsReady, RowHasFault, StageIsReady, StageHasFault};
+ghost use Rattle.std.specs.Prelude.{◌≡◌, ◌<◌, OnOk, IfErr};
+
+use crate::answer_fault::AnswerFault;
+use crate::answers::Known;
+use crate::held::Held;
+use fact_audit::shape_ok;
+use fact_store::FactStore;
+use identity::Key;
+
+impl<S: FactStore> Held<'_, S> {
+    /// Whether each wanted key is ready; if not, the fault of the least that is not. No memory is taken.
+    pub(crate) fn check(&self) -> Result<(), AnswerFault>
+        ensures ready { OnOk result (AllAreReady self.now.state.now
+            (program_id_in self.now.job.now) (pipeline_in self.now.job.now)) }
+        ensures fault { IfErr result (IsAnswerFault self.now.state.now
+            (program_id_in self.now.job.now) (pipeline_in self.now.job.now)) }
+    {
+        for stage in 0..self.job.stages().len() {
+            if self.job.is_result(stage) {
+                self.check_stage(stage)?;
+            }
+        }
+        Ok(())
+    }
+
+    // The tiles of a stage, if it has any.
+    fn check_stage(&self, stage: usize) -> Result<(), AnswerFault>
+        ensures ready { OnOk result (StageIsReady self.now.state.now
+            (program_id_in self.now.job.now) (pipeline_in self.now.job.now) stage) }
+        ensures fault { IfErr result (λ fault. StageHasFault self.now.state.now
+            (program_id_in self.now.job.now) (pipeline_in self.now.job.now) fault stage) }
+    {
+        if let Some(grid) = self.job.grid(stage) {
+            for row in 0..grid.tile_rows() {
+                self.check_row(stage, row, grid.tile_cols())?;
+            }
+        }
+        Ok(())
+    }
+
+    // The first tiles of a row.
+    fn check_row(&self, stage: usize, row: u32, cols: u32) -> Result<(), AnswerFault>
+        requires { stage < 65536 }
+        ensures ready { OnOk result (RowIsReady self.now.state.now
+            (program_id_in self.now.job.now) (pipeline_in self.now.job.now) stage cols row) }
+        ensures fault { IfErr result (λ fault. RowHasFault self.now.state.now
+            (program_id_in self.now.job.now) (pipeline_in self.now.job.now) stage cols fault row) }
+    {
+        for col in 0..cols {
+            self.check_tile(&self.key(stage, row, col))?;
+        }
+        Ok(())
+    }
+
+    // One tile.
+    fn check_tile(&self, key: &Key) -> Result<(), AnswerFault>
+        ensures ready { OnOk result
+            (IsReady self.now.state.now (pipeline_in self.now.job.now) key.now) }
+        ensures fault { IfErr result
+            (IsFaultAt self.now.state.now (pipeline_in self.now.job.now) key.now) }
+    {
+        match self.state.knows(key) {
+            Known::Nothing => Err(AnswerFault::Missing(*key)),
+            Known::One => self.check_shape(key),
+            Known::Disputed => Err(AnswerFault::Disputed(*key)),
+            Known::Retired => unreachable!(),
+        }
+    }
+
+    // One tile of which one fact is held.
+    fn check_shape(&self, key: &Key) -> Result<(), AnswerFault>
+        requires { known_of self.now.state.now key.now ≡ One }
+        ensures ready { OnOk result
+            (IsReady self.now.state.now (pipeline_in self.now.job.now) key.now) }
+        ensures fault { IfErr result
+            (IsFaultAt self.now.state.now (pipeline_in self.now.job.now) key.now) }
+    {
+        match self.state.nth(key, 0) {
+            Some(fact) if shape_ok(self.job, fact) => Ok(()),
+            _ => Err(AnswerFault::Misshapen(*key)),
+        }
+    }
+}

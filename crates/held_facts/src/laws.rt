@@ -1,0 +1,32 @@
+//! What the definitions amount to, proved once for the crates above. A law is a function whose clauses are the law.
+
+ghost use Rattle.accumulators.specs.Answers.{IsAnswer};
+ghost use Rattle.accumulators.specs.declared.answer.Answer.{Answer};
+ghost use Rattle.catalog.specs.Entries.{Entry, IsCatalog, ids_of};
+ghost use Rattle.identity.specs.declared.key.Key.{Key};
+ghost use Rattle.job.specs.WellFormed.{IsJob};
+ghost use Rattle.held_facts.specs.HeldAnswers.{HoldsTrueFacts, IsAnswerFault, IsFaultOfTrueFacts, IsHeldAnswer};
+ghost use Rattle.held_facts.specs.Facts.{FactSet, holds, lent};
+ghost use Rattle.held_facts.specs.declared.answer_fault.AnswerFault.{AnswerFault};
+ghost use Rattle.std.specs.List.{Contains};
+ghost use Rattle.std.specs.Prelude.{◌≡◌, ◌↔◌, true, List};
+ghost use Rattle.tile_fact.specs.declared.fact.Fact.{Fact};
+
+/// What is lent is held and of one of the keys, and all that is so is lent.
+pub fn lent_facts_are_held()
+    ensures lent { (s : FactSet) (keys : List Key) (f : Fact) →
+        (holds (lent s keys) f ≡ true) ↔ ((holds s f ≡ true) × Contains keys f.key) }
+{}
+
+/// Where all that is held is true of the jobs of a catalog, what is answered for one of them is its image and its totals. If there is
+/// no answer, then nothing is held of the least wanted key that is not ready, or all are held and there was no memory.
+pub fn true_states_answer_the_job()
+    ensures answer { (catalog : List Entry) (entry : Entry) (s : FactSet) (answer : Answer)
+        → IsCatalog catalog → Contains catalog entry → IsJob entry.pipeline
+        → HoldsTrueFacts catalog s → IsHeldAnswer s (ids_of entry).program entry.pipeline answer
+        → IsAnswer entry.pipeline answer }
+    ensures fault { (catalog : List Entry) (entry : Entry) (s : FactSet) (fault : AnswerFault)
+        → IsCatalog catalog → Contains catalog entry → HoldsTrueFacts catalog s
+        → IsAnswerFault s (ids_of entry).program entry.pipeline fault
+        → IsFaultOfTrueFacts s (ids_of entry).program entry.pipeline fault }
+{}

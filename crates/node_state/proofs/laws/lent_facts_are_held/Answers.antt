@@ -1,5 +1,0 @@
-use Rattle.node_state.proofs.LentLaws.{in_lent}
-use Rattle.node_state.proofs.laws.lent_facts_are_held.Goals as goal
-
-pub returns : goal.returns
-returns c = record { lent = in_lent }
