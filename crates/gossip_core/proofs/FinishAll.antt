@@ -3,16 +3,19 @@ use Rattle.std.proofs.Common.{arith, ℕ, suc, ◌<◌, ◌≡◌, ◌⊎◌, in
 use Rattle.std.proofs.Common.{[], ◌∷◌, map, filter, length}
 use Rattle.std.specs.Prelude.{AllPairs, Some, slice_get}
 use Rattle.std.specs.List.{Contains}
-use Rattle.catalog.specs.Entries.{Entry, IsCatalog, ids_of}
+use Rattle.catalog.specs.Entries.{Entry, IsCatalog, ids_in, ids_of}
 use Rattle.domains.proofs.PairLists.{Contains-cases, Contains-here}
-use Rattle.grouping.proofs.Lists.{AllPairs-tail}
+use Rattle.tile_boxes.proofs.Lists.{AllPairs-tail}
 use Rattle.identity.specs.declared.key.Key.{Key}
 use Rattle.job.specs.Answers.{Tile}
 use Rattle.job.specs.Pipeline.{Pipeline}
 use Rattle.job.specs.WellFormed.{IsJob}
-use Rattle.node_state.specs.Answers.{IsNotHeld}
-use Rattle.node_state.specs.HeldAnswers.{lacks}
-use Rattle.node_state.specs.States.{IsSubset, State}
+use Rattle.held_facts.specs.Answers.{IsNotHeld}
+use Rattle.held_facts.specs.Facts as facts
+use Rattle.held_facts.specs.Facts.{FactSet}
+use Rattle.held_facts.specs.HeldAnswers.{lacks}
+use Rattle.tile_fact.specs.declared.fact.Fact.{Fact}
+use Rattle.node_state.specs.States.{retires}
 use Rattle.overlap_tiles.specs.Needs.{key_of}
 use Rattle.overlap_tiles.specs.Work.{IsWork, IsWorkedBefore, lacks_room}
 use Rattle.gossip_events.specs.declared.event.Event.{Event}
@@ -23,14 +26,14 @@ use Rattle.gossip_core.specs.Networks.{Network}
 use Rattle.gossip_core.specs.Steps.{Accepts, Work, held}
 use Rattle.gossip_core.specs.Truths.{AllTrue}
 use Rattle.gossip_core.proofs.FinishEvents.{IsMadeNext, delivery_goes, gained, made_next, make_goes, message_there, told}
-use Rattle.gossip_core.proofs.FinishFaults.{no_make_fault, why_not}
-use Rattle.gossip_core.proofs.FinishLists.{held_still, in_none, in_rest, not_lacked}
+use Rattle.gossip_core.proofs.FinishFaults.{no_make_fault, no_state_fault, why_not}
+use Rattle.gossip_core.proofs.FinishLists.{held_on, in_none, in_rest, not_lacked}
 use Rattle.gossip_core.proofs.FinishNeeds.{none_lower}
 
 module _ (u : Work) (n j : ℕ) (entry : Entry) (inlining : List Bool) (is : IsCatalog u.jobs) (good : IsJob entry.pipeline)
     (planned : IsPlanned u n j entry inlining)
     (keeps : (w new : Network) (e : Event) → AllTrue u.jobs w → Accepts u w e new → AllTrue u.jobs new)
-    (first : State)
+    (first : FactSet)
     (roomy : (t : Tile) → IsWork entry.pipeline inlining t
     → lacks first (key_of (ids_of entry).program entry.pipeline t) ≡ true → lacks_room entry.pipeline inlining t ≡ false) where
   abbrev job : Pipeline
@@ -40,13 +43,18 @@ module _ (u : Work) (n j : ℕ) (entry : Entry) (inlining : List Bool) (is : IsC
   key t = key_of (ids_of entry).program entry.pipeline t
 
   abbrev pub Has : Network → Tile → Type 0
-  Has w t = ¬ IsNotHeld (held w n) (key_of (ids_of entry).program entry.pipeline t)
+  Has w t = ¬ IsNotHeld (held w n).facts (key_of (ids_of entry).program entry.pipeline t)
 
-  -- all is true, and each work tile is held or among these, which stand in dependence order; what was held at first is held still
+  -- no fact of the job is lost from the one set to the other
+  abbrev pub IsGrown : FactSet → FactSet → Type 0
+  IsGrown s t = (f : Fact) → ids_in f.key ≡ ids_of entry → facts.holds s f ≡ true → facts.holds t f ≡ true
+
+  -- all is true, the job is not retired, and each work tile is held or among these, which stand in dependence order; what was held at first is held still
   pub record IsUnderWay (w : Network) (ts : List Tile) : Type 0 where
     pub truth : AllTrue u.jobs w
     pub here : n < length w.nodes
-    pub grown : IsSubset first (held w n)
+    pub live : retires (held w n) (ids_of entry) ≡ false
+    pub grown : IsGrown first (held w n).facts
     pub work : (t : Tile) → Contains ts t → IsWork entry.pipeline inlining t
     pub order : AllPairs (IsWorkedBefore entry.pipeline) ts
     pub held_or_left : (t : Tile) → IsWork entry.pipeline inlining t → Has w t ⊎ Contains ts t
@@ -59,15 +67,17 @@ module _ (u : Work) (n j : ℕ) (entry : Entry) (inlining : List Bool) (is : IsC
 
   -- the first tile is held, and the rest is left
   onward : (w after : Network) (t : Tile) (ts : List Tile) → IsUnderWay w (t ∷ ts) → AllTrue u.jobs after
-      → length after.nodes ≡ length w.nodes → IsSubset (held w n) (held after n) → Has after t → IsUnderWay after ts
-  onward w after t ts under truth nodes more has = record {
+      → length after.nodes ≡ length w.nodes → retires (held after n) (ids_of entry) ≡ false
+      → IsGrown (held w n).facts (held after n).facts → Has after t → IsUnderWay after ts
+  onward w after t ts under truth nodes live more has = record {
     truth = truth;
     here = (let low = under.here in omega arith);
-    grown = λ f h. more f (under.grown f h);
+    live = live;
+    grown = λ f of h. more f of (under.grown f of h);
     work = λ m later. under.work m (in_rest t ts m later);
     order = AllPairs-tail (IsWorkedBefore job) t ts under.order;
     held_or_left = λ m work. elim (under.held_or_left m work) [
-      | inl some ↦ inl (held_still (held w n) (held after n) (key m) more some)
+      | inl some ↦ inl (held_on (held w n).facts (held after n).facts (key m) (λ f own. more f (ap ids_in own)) some)
       | inr left ↦ elim (Contains-cases t ts m left) [ inl same ↦ inl (subst (Has after) same has) | inr later ↦ inr later ]
     ];
   }
@@ -78,12 +88,13 @@ module _ (u : Work) (n j : ℕ) (entry : Entry) (inlining : List Bool) (is : IsC
   can_make w t ts under lacked =
       let work = under.work t (Contains-here t ts) in
       make_goes u n (key t) w under.here
-      (λ fault other cannot. no_make_fault u n j entry inlining is planned (held w n) t good (under.truth.holds n) work
+      (λ fault other cannot. no_state_fault u n j entry inlining is planned (held w n) t under.live
+      (no_make_fault u n j entry inlining is planned (held w n).facts t good (under.truth.holds n) work
       (roomy t work lacked)
       (λ m lower low. elim (under.held_or_left m lower) [
         | inl some ↦ some
         | inr left ↦ absurd (none_lower job t ts m under.order left low)
-      ])
+      ]))
       fault other (why_not u n j entry inlining is planned w t fault cannot))
 
   -- a lacked tile is made and delivered
@@ -117,13 +128,13 @@ module _ (u : Work) (n j : ℕ) (entry : Entry) (inlining : List Bool) (is : IsC
           let gain = gained u n (key t) w next after under.here ok (subst (λ k. Accepts u next (Deliver n k) after) count goes) in
           further after (ap suc count ∙ sym gain.messages)
           (onward w after t ts under
-          (keeps next after (Deliver n sent) (keeps w next (Make n (key t)) under.truth ok) goes) gain.nodes gain.grown gain.has)
+          (keeps next after (Deliver n sent) (keeps w next (Make n (key t)) under.truth ok) goes) gain.nodes gain.live gain.grown gain.has)
 
   -- one that was held at first is passed over
   one_held : (w : Network) (t : Tile) (ts : List Tile) → IsUnderWay w (t ∷ ts) → lacks first (key t) ≡ false → IsUnderWay w ts
   one_held w t ts under some =
-      onward w w t ts under under.truth refl (λ f h. h)
-      (held_still first (held w n) (key t) under.grown (not_lacked first (key t) some))
+      onward w w t ts under under.truth refl under.live (λ f of h. h)
+      (held_on first (held w n).facts (key t) (λ f own. under.grown f (ap ids_in own)) (not_lacked first (key t) some))
 
   pub finishes : (ts : List Tile) (w : Network) (sent : ℕ) → sent ≡ length w.messages → IsUnderWay w ts
       → Finishes w (makings n sent (filter (lacks first) (map key ts)))

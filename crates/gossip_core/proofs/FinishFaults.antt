@@ -7,20 +7,23 @@ use Rattle.std.proofs.lemmas.Option.{same_Some}
 use Rattle.catalog.specs.Entries.{Entry, IsCatalog, StandsAt, ids_in, ids_of}
 use Rattle.domains.specs.declared.area.Area.{Area}
 use Rattle.fact_audit.specs.TrueFacts.{HasJob}
-use Rattle.grouping.specs.Costs.{most_scratch, scratch}
-use Rattle.grouping.specs.Targets.{target_over}
+use Rattle.tile_boxes.specs.Costs.{most_scratch, scratch}
+use Rattle.tile_boxes.specs.Targets.{target_over}
 use Rattle.identity.specs.declared.key.Key.{Key}
 use Rattle.job.specs.Answers.{Tile}
 use Rattle.job.specs.Identity.{HasTileAt}
 use Rattle.job.specs.Pipeline.{Pipeline, rank_of}
 use Rattle.job.specs.WellFormed.{IsJob}
-use Rattle.node_state.specs.Answers.{IsNotHeld, known_of}
-use Rattle.node_state.specs.HeldAnswers.{HoldsTrueFacts, IsMisshapen}
-use Rattle.node_state.specs.Making.{HasTarget, HasTargetIn, IsFirstUnready, IsMakeFault, needs_for}
-use Rattle.node_state.specs.States.{State}
-use Rattle.node_state.specs.declared.answers.Known.TheVariants as known
-use Rattle.node_state.specs.declared.make_fault.MakeFault.{MakeFault}
-use Rattle.node_state.specs.declared.make_fault.MakeFault.TheVariants as makes
+use Rattle.held_facts.specs.Answers.{IsNotHeld, known_of}
+use Rattle.held_facts.specs.Facts.{FactSet}
+use Rattle.held_facts.specs.HeldFacts.{HoldsTrueFacts, IsMisshapen}
+use Rattle.held_facts.specs.Making as held_making
+use Rattle.held_facts.specs.Making.{HasTarget, HasTargetIn, IsFirstUnready, needs_for}
+use Rattle.held_facts.specs.declared.answers.Known.TheVariants as known
+use Rattle.held_facts.specs.declared.make_fault.MakeFault.{MakeFault}
+use Rattle.held_facts.specs.declared.make_fault.MakeFault.TheVariants as makes
+use Rattle.node_state.specs.Making.{IsMakeFault}
+use Rattle.node_state.specs.States.{State, retires}
 use Rattle.overlap_tiles.proofs.Lists.{Contains-from_map}
 use Rattle.overlap_tiles.proofs.NeedsAreExact.{from_needs}
 use Rattle.overlap_tiles.proofs.RoomIsExact.{room_is}
@@ -59,7 +62,7 @@ module _ (u : Work) (n j : ℕ) (entry : Entry) (inlining : List Bool) (is : IsC
 
   -- ---- no fault
 
-  module _ (s : State) (t : Tile) (good : IsJob entry.pipeline) (right : HoldsTrueFacts u.jobs s) (work : IsWork entry.pipeline inlining t)
+  module _ (s : FactSet) (t : Tile) (good : IsJob entry.pipeline) (right : HoldsTrueFacts u.jobs s) (work : IsWork entry.pipeline inlining t)
       (roomy : lacks_room entry.pipeline inlining t ≡ false)
       (lower : (m : Tile) → IsWork entry.pipeline inlining m → rank_of entry.pipeline.stages m.stage < rank_of entry.pipeline.stages t.stage
       → ¬ IsNotHeld s (key_of (ids_of entry).program entry.pipeline m)) where
@@ -83,7 +86,7 @@ module _ (u : Work) (n j : ℕ) (entry : Entry) (inlining : List Bool) (is : IsC
         let at = of_job t (λ x. HasTarget x inlining (key t) (λ y. IsFirstUnready s (needs_for (key t) y) y need Reason)) has in
         none (held_need at.area need at.holds.needed) at.holds.reason
 
-    pub no_make_fault : (fault : MakeFault) → fault ≢ makes.Memory → IsMakeFault u.jobs s inlining (key t) fault → ⊥
+    pub no_make_fault : (fault : MakeFault) → fault ≢ makes.Memory → held_making.IsMakeFault u.jobs s inlining (key t) fault → ⊥
     no_make_fault makes.Foreign other none = none j (stands t)
     no_make_fault makes.NoSuchTile other has = of_job t (λ x. ¬ (HasTileAt x t.stage t.row t.col)) has work.tile
     no_make_fault makes.ScratchTooBig other has =
@@ -100,6 +103,20 @@ module _ (u : Work) (n j : ℕ) (entry : Entry) (inlining : List Bool) (is : IsC
         none_misshapen u.jobs entry s is (found_in u.jobs j entry planned.there) right need
         (held_need at.area need at.holds.needed).0 at.holds.reason
     no_make_fault makes.Memory other has = other refl
+    no_make_fault makes.Retired other has = has
+
+  -- nor one of a state, in which the job is not retired
+  module _ (s : State) (t : Tile) (live : retires s (ids_of entry) ≡ false)
+      (none : (fault : MakeFault) → fault ≢ makes.Memory → held_making.IsMakeFault u.jobs s.facts inlining (key t) fault → ⊥) where
+    pub no_state_fault : (fault : MakeFault) → fault ≢ makes.Memory → IsMakeFault u.jobs s inlining (key t) fault → ⊥
+    no_state_fault makes.Foreign other has = none makes.Foreign other has
+    no_state_fault makes.NoSuchTile other has = none makes.NoSuchTile other has
+    no_state_fault makes.ScratchTooBig other has = none makes.ScratchTooBig other has.1
+    no_state_fault (makes.NeedMissing need) other has = none (makes.NeedMissing need) other has.1
+    no_state_fault (makes.NeedDisputed need) other has = none (makes.NeedDisputed need) other has.1
+    no_state_fault (makes.NeedMisshapen need) other has = none (makes.NeedMisshapen need) other has.1
+    no_state_fault makes.Memory other has = other refl
+    no_state_fault makes.Retired other has = true≢false (sym has.1 ∙ live)
 
   -- whatever schedule is named
   by_plan : (w : Network) (t : Tile) (fault : MakeFault)
@@ -117,3 +134,4 @@ module _ (u : Work) (n j : ℕ) (entry : Entry) (inlining : List Bool) (is : IsC
   why_not w t (makes.NeedDisputed need) cannot = by_plan w t (makes.NeedDisputed need) cannot
   why_not w t (makes.NeedMisshapen need) cannot = by_plan w t (makes.NeedMisshapen need) cannot
   why_not w t makes.Memory cannot = by_plan w t makes.Memory cannot
+  why_not w t makes.Retired cannot = by_plan w t makes.Retired cannot

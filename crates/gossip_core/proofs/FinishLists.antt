@@ -9,9 +9,9 @@ use Rattle.std.proofs.lemmas.Option.{slice_get_within, get_or_from_slice_get}
 use Rattle.domains.proofs.PairLists.{Contains-cases, Contains-here}
 use Rattle.fact_store.proofs.KeyLaws.{in_facts_of}
 use Rattle.identity.specs.declared.key.Key.{Key}
-use Rattle.node_state.specs.Answers.{IsNotHeld}
-use Rattle.node_state.specs.HeldAnswers.{lacks}
-use Rattle.node_state.specs.States.{IsSubset, State, facts_of, holds}
+use Rattle.held_facts.specs.Answers.{IsNotHeld}
+use Rattle.held_facts.specs.HeldAnswers.{lacks}
+use Rattle.held_facts.specs.Facts.{FactSet, IsSubset, facts_of, holds}
 use Rattle.tile_fact.specs.declared.fact.Fact.{Fact}
 
 -- ---- lists
@@ -42,14 +42,19 @@ pub first_held : (fs : List Fact) → (fs ≡ [] → ⊥) → (f : Fact) × Cont
 first_held [] some = absurd (some refl)
 first_held (f ∷ fs) some = (f, Contains-here f fs)
 
-pub is_held : (s : State) (key : Key) (f : Fact) → holds s f ≡ true → f.key ≡ key → ¬ IsNotHeld s key
+pub is_held : (s : FactSet) (key : Key) (f : Fact) → holds s f ≡ true → f.key ≡ key → ¬ IsNotHeld s key
 is_held s key f has own none = in_none f (subst (λ fs. Contains fs f) none ((in_facts_of s key f).1 (has, own)))
 
-pub held_still : (s t : State) (key : Key) → IsSubset s t → ¬ IsNotHeld s key → ¬ IsNotHeld t key
-held_still s t key grown some =
+-- where no fact of the key is lost
+pub held_on : (s t : FactSet) (key : Key) → ((f : Fact) → f.key ≡ key → holds s f ≡ true → holds t f ≡ true) → ¬ IsNotHeld s key
+    → ¬ IsNotHeld t key
+held_on s t key grown some =
     let first = first_held (facts_of s key) some in
     let of = (in_facts_of s key first.0).0 first.1 in
-    is_held t key first.0 (grown first.0 of.0) of.1
+    is_held t key first.0 (grown first.0 of.1 of.0) of.1
 
-pub not_lacked : (s : State) (key : Key) → lacks s key ≡ false → ¬ IsNotHeld s key
+pub held_still : (s t : FactSet) (key : Key) → IsSubset s t → ¬ IsNotHeld s key → ¬ IsNotHeld t key
+held_still s t key grown = held_on s t key (λ f own. grown f)
+
+pub not_lacked : (s : FactSet) (key : Key) → lacks s key ≡ false → ¬ IsNotHeld s key
 not_lacked s key e none = true≢false (sym (ap (λ (fs : List Fact). length fs == 0) none) ∙ e)

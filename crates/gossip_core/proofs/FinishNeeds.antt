@@ -13,19 +13,19 @@ use Rattle.domains.specs.declared.grid.Grid.{Grid}
 use Rattle.fact_audit.proofs.Judging.{true_fits}
 use Rattle.fact_audit.specs.TrueFacts.{BodyIsTrue}
 use Rattle.fact_store.proofs.KeyLaws.{in_facts_of}
-use Rattle.grouping.proofs.Lists.{AllPairs-head}
-use Rattle.grouping.specs.Schedules.{is_function, is_inlined}
-use Rattle.grouping.specs.Targets.{is_boxed, target_over}
+use Rattle.tile_boxes.proofs.Lists.{AllPairs-head}
+use Rattle.tile_boxes.specs.Schedules.{is_function, is_inlined}
+use Rattle.tile_boxes.specs.Targets.{is_boxed, target_over}
 use Rattle.identity.specs.declared.key.Key.{Key}
 use Rattle.job.proofs.Solving.{ranked_is}
 use Rattle.job.specs.Answers.{Tile}
 use Rattle.job.specs.Pipeline.{Pipeline, rank_of}
 use Rattle.job.specs.WellFormed.{IsJob}
-use Rattle.node_state.proofs.TrueStates.{no_dispute, true_body}
-use Rattle.node_state.specs.Answers.{IsNotHeld, known_of, counted}
-use Rattle.node_state.specs.HeldAnswers.{HoldsTrueFacts, IsMisshapen}
-use Rattle.node_state.specs.States.{State, facts_of}
-use Rattle.node_state.specs.declared.answers.Known.TheVariants as known
+use Rattle.held_facts.proofs.TrueStates.{no_dispute, true_body}
+use Rattle.held_facts.specs.Answers.{IsNotHeld, known_of, counted}
+use Rattle.held_facts.specs.HeldAnswers.{HoldsTrueFacts, IsMisshapen}
+use Rattle.held_facts.specs.Facts.{FactSet, facts_of}
+use Rattle.held_facts.specs.declared.answers.Known.TheVariants as known
 use Rattle.overlap_tiles.proofs.BoxesAreLower.{box_low}
 use Rattle.overlap_tiles.specs.Needs.{IsNeeded}
 use Rattle.overlap_tiles.specs.Work.{IsWork, IsWorkedBefore, is_accumulator_at, is_stored_function}
@@ -77,10 +77,10 @@ no_count [] e some = some refl
 no_count (x ∷ []) e some = cc
 no_count (x ∷ y ∷ more) e some = cc
 
-pub none_missing : (s : State) (need : Key) → ¬ IsNotHeld s need → known_of s need ≡ known.Nothing → ⊥
+pub none_missing : (s : FactSet) (need : Key) → ¬ IsNotHeld s need → known_of s need ≡ known.Nothing → ⊥
 none_missing s need some none = no_count (facts_of s need) none some
 
-module _ (catalog : List Entry) (entry : Entry) (s : State) (is : IsCatalog catalog) (here : Contains catalog entry)
+module _ (catalog : List Entry) (entry : Entry) (s : FactSet) (is : IsCatalog catalog) (here : Contains catalog entry)
     (right : HoldsTrueFacts catalog s) (need : Key) where
   pub none_disputed : known_of s need ≡ known.Disputed → ⊥
   none_disputed = no_dispute catalog entry s is here right need

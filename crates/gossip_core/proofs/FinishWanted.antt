@@ -8,12 +8,12 @@ use Rattle.std.proofs.lemmas.List.Elements.{All-contains}
 use Rattle.std.proofs.lemmas.List.Folds.{Any-from_list_any}
 use Rattle.domains.specs.Tiles.{HasTile}
 use Rattle.domains.specs.declared.grid.Grid.{Grid}
-use Rattle.grouping.specs.Inlining.{StoresOutputs}
-use Rattle.grouping.specs.Schedules.{is_function, is_function_body, is_inlined}
+use Rattle.tile_boxes.specs.Schedules.{StoresOutputs}
+use Rattle.tile_boxes.specs.Schedules.{is_function, is_function_body, is_inlined}
 use Rattle.job.specs.Answers.{Tile, height_of, is_output, width_of}
 use Rattle.job.specs.Pipeline.{Body, plane, function, accumulator, Output, Pipeline, Stage}
 use Rattle.job.specs.WellFormed.{IsFunction, IsJob, IsOutputPlane}
-use Rattle.node_state.proofs.WantedTiles.{IsWantedTile}
+use Rattle.held_facts.proofs.WantedTiles.{IsWantedTile}
 use Rattle.overlap_tiles.specs.Work.{IsWork, is_accumulator_at, is_made}
 
 among : (xs : List ℕ) (g : ℕ) → list_any (λ h. h == g) xs ≡ true → Contains xs g

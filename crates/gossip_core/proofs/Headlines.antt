@@ -1,9 +1,9 @@
 -- The headline, put together from its parts.
-use Rattle.std.proofs.Common.{ℕ, ap, sym, ◌∙◌, subst, List, Some}
+use Rattle.std.proofs.Common.{ℕ, ap, sym, ◌∙◌, subst, List, [], Some}
 use Rattle.std.proofs.lemmas.Option.{slice_get-get_or}
 use Rattle.catalog.specs.Entries.{AreJobs, IsCatalog}
-use Rattle.fact_store.proofs.SetLaws.{join_least, subset_left, subset_right}
-use Rattle.node_state.specs.States.{State, facts_in, join}
+use Rattle.states.proofs.JoinLaws.{join_first, join_least, join_second}
+use Rattle.node_state.specs.States.{State, facts_in, join, retired_in}
 use Rattle.tile_fact.specs.FactFile.{fact_file}
 use Rattle.gossip_events.specs.declared.event.Event.{Event}
 use Rattle.gossip_events.specs.declared.event.Event.TheVariants.{Merge}
@@ -12,12 +12,12 @@ use Rattle.gossip_core.specs.Histories.{Leads}
 use Rattle.gossip_core.specs.Networks.{Network}
 use Rattle.gossip_core.specs.Steps.{Accepts, Work, held}
 use Rattle.gossip_core.proofs.AllHeld.{answers_exactly}
-use Rattle.gossip_core.proofs.Following.{leads_follows, merged_held, others_held, same_takings}
+use Rattle.gossip_core.proofs.Following.{held_live, leads_follows, merged_held, others_held, same_takings}
 use Rattle.gossip_core.proofs.TruthLaws.{worlds_true}
 
--- the union is the least
+-- the join is the least
 least_join : (s t : State) → IsLeastOfBoth s t (join s t)
-least_join s t = record { first = subset_left s t; second = subset_right s t; least = join_least s t }
+least_join s t = record { first = join_first s t; second = join_second s t; least = join_least s t }
 
 least_merge : (u : Work) (w new : Network) (a b : ℕ) → Accepts u w (Merge a b) new → IsLeastOfBoth (held w a) (held w b) (held new a)
 least_merge u w new a b ok =
@@ -30,11 +30,12 @@ headline_of u size h accepted w catalog good leads =
     let truth = worlds_true u size h accepted w catalog good leads in
     record {
       truth = truth;
+      live = λ n. held_live accepted w n follows;
       took = follows.holds;
       keeps = follows.keeps;
       equal = λ n m same.
           let states = same_takings accepted w n m follows same in
-          (states, ap (λ (s : State). fact_file (facts_in s)) states);
+          (states, ap (λ (s : State). fact_file (retired_in s) (facts_in s)) states);
       merging = λ a b new ok. (least_merge u w new a b ok, λ n other. others_held u w new a b n ok (λ same. other (sym same)));
       answers = λ n entry has.
           answers_exactly u.jobs entry (held w n) catalog has (truth.holds n)

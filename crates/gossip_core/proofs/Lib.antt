@@ -12,3 +12,4 @@ pub mod FinishWanted
 pub mod FinishStart
 pub mod AllHeld
 pub mod Headlines
+pub mod PartLaws

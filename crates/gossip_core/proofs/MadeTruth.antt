@@ -1,16 +1,16 @@
 -- What is made of a tile is true, where all is true that is held of the tiles that it needs.
 use Rattle.std.proofs.Common.{◌≡◌, Bool, List, refl, sym, ap, ◌∙◌}
 use Rattle.std.specs.List.{flat_map}
-use Rattle.accumulators.proofs.LastStepIsTile.{only_area}
-use Rattle.accumulators.proofs.TrueTilesGiveTotals.{layout_totals_true}
-use Rattle.accumulators.specs.Partials.{local_totals}
+use Rattle.partials.proofs.LastStepIsTile.{only_area}
+use Rattle.partials.proofs.TrueTilesGiveTotals.{layout_totals_true}
+use Rattle.partials.specs.Partials.{local_totals}
 use Rattle.catalog.specs.Entries.{AreJobs, Entry, IsCatalog}
-use Rattle.catalog.specs.declared.ids.Ids.{Ids}
+use Rattle.identity.specs.declared.job_ids.Ids.{Ids}
 use Rattle.domains.specs.declared.area.Area.{Area}
 use Rattle.fact_audit.specs.TrueFacts.{BodyIsTrue, IsTrueFact}
 use Rattle.fact_audit.specs.Verdicts.{HasEntry}
-use Rattle.grouping.specs.Costs.{points, steps}
-use Rattle.grouping.specs.Targets.{Target, target_over}
+use Rattle.tile_boxes.specs.Costs.{points, steps}
+use Rattle.tile_boxes.specs.Targets.{Target, target_over}
 use Rattle.identity.specs.declared.key.Key.{Key}
 use Rattle.job.specs.Pipeline.{Pipeline}
 use Rattle.job.specs.WellFormed.{IsJob}
@@ -24,19 +24,19 @@ use Rattle.tile_eval.specs.Buffer.{raster}
 use Rattle.tile_fact.specs.declared.body.Body.{Body}
 use Rattle.tile_fact.specs.declared.body.Body.TheVariants.{Tile, Partial}
 use Rattle.tile_fact.specs.declared.fact.Fact.{Fact}
-use Rattle.tile_run.proofs.LayoutsPrepare.{keys_given}
-use Rattle.tile_run.proofs.TrueTilesGiveValues.{layout_true}
-use Rattle.tile_run.specs.KnownTiles.{AreTrue, KnownTiles}
-use Rattle.tile_run.specs.Local.{local_value}
-use Rattle.tile_run.specs.Runs.{NeedsGiven}
-use Rattle.node_state.specs.Making.{AreNeedsTrue, IsLocalBody, IsMade, needed_tiles, needs_for}
-use Rattle.node_state.specs.States.{State, facts_of}
-use Rattle.node_state.proofs.LocalBodies.{true_partial, true_tile}
-use Rattle.node_state.proofs.MadeFacts.{needed_true, true_fact}
-use Rattle.node_state.proofs.ReadyNeeds.{all_told, needed_function}
-use Rattle.node_state.proofs.ToldTiles.{told_true}
+use Rattle.one_tile.proofs.LayoutsPrepare.{keys_given}
+use Rattle.one_tile.proofs.TrueTilesGiveValues.{layout_true}
+use Rattle.tile_sources.specs.KnownTiles.{AreTrue, KnownTiles}
+use Rattle.one_tile.specs.Local.{local_value}
+use Rattle.one_tile.specs.Runs.{NeedsGiven}
+use Rattle.held_facts.specs.Making.{AreNeedsTrue, IsLocalBody, IsMade, needed_tiles, needs_for}
+use Rattle.held_facts.specs.Facts.{FactSet, facts_of}
+use Rattle.held_facts.proofs.LocalBodies.{true_partial, true_tile}
+use Rattle.held_facts.proofs.MadeFacts.{needed_true, true_fact}
+use Rattle.held_facts.proofs.ReadyNeeds.{all_told, needed_function}
+use Rattle.held_facts.proofs.ToldTiles.{told_true}
 
-module _ (jobs : List Entry) (s : State) (inlining : List Bool) (fact : Fact) (catalog : IsCatalog jobs) (well : AreJobs jobs)
+module _ (jobs : List Entry) (s : FactSet) (inlining : List Bool) (fact : Fact) (catalog : IsCatalog jobs) (well : AreJobs jobs)
     (right : AreNeedsTrue jobs s inlining fact.key) (is : IsMade jobs s inlining fact) where
   abbrev key : Key
   key = fact.key

@@ -6,7 +6,7 @@ use Rattle.std.specs.Prelude.{◌≡◌, ℕ, zero, suc, ◌+◌, ◌<◌, ◌==
 use Rattle.std.specs.Prelude.{Some, length, refl, replicate, slice_get, slice_set}
 use Rattle.node_state.specs.States.{State, nothing}
 use Rattle.gossip_core.specs.Networks.{Network, NodeStates, Sent}
-use Rattle.gossip_core.specs.Steps.{facts_at, held, kept, no_states, states_at, with_held, with_kept}
+use Rattle.gossip_core.specs.Steps.{held, kept, no_states, state_at, states_at, with_held, with_kept}
 
 -- ---- nodes
 
@@ -65,15 +65,15 @@ length-slice_set_nodes (x ∷ xs) (suc a) q = ap suc (length-slice_set_nodes xs 
 
 -- ---- messages
 
-pub facts_before : (messages : List Sent) (m : Sent) (k : ℕ) → k < length messages → facts_at (messages ++ m ∷ []) k ≡ facts_at messages k
-facts_before [] m k within = absurd (omega (arith, within))
-facts_before (x ∷ xs) m zero within = refl
-facts_before (x ∷ xs) m (suc k) within = facts_before xs m k (omega (arith, within))
+pub state_before : (messages : List Sent) (m : Sent) (k : ℕ) → k < length messages → state_at (messages ++ m ∷ []) k ≡ state_at messages k
+state_before [] m k within = absurd (omega (arith, within))
+state_before (x ∷ xs) m zero within = refl
+state_before (x ∷ xs) m (suc k) within = state_before xs m k (omega (arith, within))
 
-pub facts_found : (messages : List Sent) (m : Sent) (k : ℕ) → slice_get messages k ≡ Some m → (facts_at messages k ≡ m.facts)
-facts_found [] m k there = cc
-facts_found (x ∷ xs) m zero there = let same : x ≡ m = cc in ap (λ (y : Sent). y.facts) same
-facts_found (x ∷ xs) m (suc k) there = facts_found xs m k there
+pub state_found : (messages : List Sent) (m : Sent) (k : ℕ) → slice_get messages k ≡ Some m → (state_at messages k ≡ m.state)
+state_found [] m k there = cc
+state_found (x ∷ xs) m zero there = let same : x ≡ m = cc in ap (λ (y : Sent). y.state) same
+state_found (x ∷ xs) m (suc k) there = state_found xs m k there
 
 pub found_within : (messages : List Sent) (m : Sent) (k : ℕ) → slice_get messages k ≡ Some m → k < length messages
 found_within [] m k there = cc

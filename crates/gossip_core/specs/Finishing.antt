@@ -3,9 +3,9 @@ use Rattle.std.specs.Prelude.{◌≡◌, ℕ, suc, Bool, Some, None, List, [], �
 use Rattle.std.specs.List.{Contains}
 use Rattle.catalog.specs.Entries.{Entry, ids_of}
 use Rattle.identity.specs.declared.key.Key.{Key}
-use Rattle.node_state.specs.Answers.{AreHeld}
-use Rattle.node_state.specs.HeldAnswers.{lacks}
-use Rattle.node_state.specs.States.{State}
+use Rattle.held_facts.specs.Answers.{AreHeld}
+use Rattle.held_facts.specs.HeldAnswers.{lacks}
+use Rattle.held_facts.specs.Facts.{FactSet}
 use Rattle.overlap_tiles.specs.Work.{first_without_room, wanted_keys, work_keys}
 use Rattle.gossip_events.specs.declared.event.Event.{Event}
 use Rattle.gossip_events.specs.declared.event.Event.TheVariants.{Make, Deliver}
@@ -23,7 +23,7 @@ pub record IsPlanned (u : Work) (n j : ℕ) (entry : Entry) (inlining : List Boo
   pub of_job : slice_get schedules j ≡ Some inlining
 
 -- the keys of the stored functions' and the accumulators' tiles of which nothing is held, in the order in which they can be made
-abbrev pub lacked_work : State → Entry → List Bool → List Key
+abbrev pub lacked_work : FactSet → Entry → List Bool → List Key
 lacked_work s entry inlining = filter (lacks s) (work_keys (ids_of entry).program entry.pipeline inlining)
 
 -- a making of each key by node n and its delivery, where so many messages were sent before
@@ -45,4 +45,4 @@ NoneRefused u w (e ∷ events) = ¬ (IsRefused u w e) × ((next : Network) → A
 
 -- where all of them are accepted, node n holds a fact of each of the keys
 abbrev pub GivesAll : Work → Network → ℕ → List Event → List Key → Type 0
-GivesAll u w n events keys = (new : Network) → AllAccepted u w events new → AreHeld (held new n) keys
+GivesAll u w n events keys = (new : Network) → AllAccepted u w events new → AreHeld (held new n).facts keys

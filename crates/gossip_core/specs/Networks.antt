@@ -7,10 +7,10 @@ pub record NodeStates : Type 0 where
   pub held : State
   pub kept : State
 
--- the node that it is for, and the facts
+-- the node that it is for, and what it tells
 pub record Sent : Type 0 where
   pub to : ℕ
-  pub facts : State
+  pub state : State
 
 pub record Network : Type 0 where
   pub nodes : List NodeStates
@@ -21,7 +21,7 @@ coded_states =
     code_by (State × State) (coded× coded_state coded_state) (λ p. (p.held, p.kept)) (λ p. record { held = p.0; kept = p.1 }) (λ _. refl)
 
 abbrev pub coded_sent : Coded Sent
-coded_sent = code_by (ℕ × State) (coded× coded_ℕ coded_state) (λ p. (p.to, p.facts)) (λ p. record { to = p.0; facts = p.1 }) (λ _. refl)
+coded_sent = code_by (ℕ × State) (coded× coded_ℕ coded_state) (λ p. (p.to, p.state)) (λ p. record { to = p.0; state = p.1 }) (λ _. refl)
 
 abbrev pub coded_network : Coded Network
 coded_network =

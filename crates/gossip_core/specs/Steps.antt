@@ -6,13 +6,13 @@ use Rattle.std.specs.Option.{option_map_or}
 use Rattle.catalog.specs.Entries.{Entry, StandsAt, ids_in}
 use Rattle.identity.specs.declared.key.Key.{Key}
 use Rattle.tile_fact.specs.declared.fact.Fact.{Fact}
-use Rattle.node_state.specs.Answers.{AreHeld, IsLeastNotHeld}
+use Rattle.held_facts.specs.Answers.{AreHeld, IsLeastNotHeld}
+use Rattle.held_facts.specs.declared.make_fault.MakeFault.{MakeFault}
+use Rattle.held_facts.specs.declared.make_fault.MakeFault.TheVariants as makes
 use Rattle.node_state.specs.Making.{IsMade, IsMakeFault}
-use Rattle.node_state.specs.States.{State, nothing, join, lacked, lent, with_fact}
-use Rattle.node_state.specs.declared.make_fault.MakeFault.{MakeFault}
-use Rattle.node_state.specs.declared.make_fault.MakeFault.TheVariants as makes
+use Rattle.node_state.specs.States.{State, nothing, join, count_lacked, lent, of_fact, of_retirement}
 use Rattle.gossip_events.specs.declared.event.Event.{Event}
-use Rattle.gossip_events.specs.declared.event.Event.TheVariants.{Make, Send, Deliver, Merge, Keep, Restart}
+use Rattle.gossip_events.specs.declared.event.Event.TheVariants.{Make, Retire, Send, Deliver, Merge, Keep, Restart}
 use Rattle.gossip_core.specs.Networks.{Network, NodeStates, Sent}
 use Rattle.gossip_core.specs.declared.done.Done.{Done}
 use Rattle.gossip_core.specs.declared.done.Done.TheVariants as does
@@ -53,9 +53,9 @@ held w n = (states_at w.nodes n).held
 abbrev pub kept : Network → ℕ → State
 kept w n = (states_at w.nodes n).kept
 
--- the facts of message k
-abbrev pub facts_at : List Sent → ℕ → State
-facts_at messages k = option_map_or (λ m. m.facts) (slice_get messages k) nothing
+-- what message k tells
+abbrev pub state_at : List Sent → ℕ → State
+state_at messages k = option_map_or (λ m. m.state) (slice_get messages k) nothing
 
 abbrev pub with_held : Network → ℕ → State → Network
 with_held w n s = record w { nodes = slice_set w.nodes n (record { held = s; kept = kept w n }) }
@@ -64,13 +64,14 @@ abbrev pub with_kept : Network → ℕ → State → Network
 with_kept w n s = record w { nodes = slice_set w.nodes n (record { held = held w n; kept = s }) }
 
 abbrev pub with_message : Network → ℕ → State → Network
-with_message w to s = record w { messages = w.messages ++ (record { to = to; facts = s }) ∷ [] }
+with_message w to s = record w { messages = w.messages ++ (record { to = to; state = s }) ∷ [] }
 
 -- ---- what an event does
 
 -- the nodes that it names
 abbrev pub nodes_of : Event → List ℕ
 nodes_of (Make n key) = n ∷ []
+nodes_of (Retire n ids) = n ∷ []
 nodes_of (Send n m keys) = n ∷ m ∷ []
 nodes_of (Deliver n k) = n ∷ []
 nodes_of (Merge a b) = a ∷ b ∷ []
@@ -89,11 +90,13 @@ pub record Makes (u : Work) (w : Network) (n : ℕ) (key : Key) (fact : Fact) : 
 
 abbrev pub Does : Work → Network → Event → Network → Type 0
 -- the fact is sent to the node itself
-Does u w (Make n key) new = (fact : Fact) × Makes u w n key fact × (new ≡ with_message w n (with_fact nothing fact))
--- all held facts of the keys are sent
-Does u w (Send n m keys) new = AreHeld (held w n) keys × (new ≡ with_message w m (lent (held w n) keys))
--- the facts of a message to the node are joined to what it holds
-Does u w (Deliver n k) new = (m : Sent) × (slice_get w.messages k ≡ Some m) × (m.to ≡ n) × (new ≡ with_held w n (join (held w n) m.facts))
+Does u w (Make n key) new = (fact : Fact) × Makes u w n key fact × (new ≡ with_message w n (of_fact fact))
+-- and so is a retirement, of any job
+Does u w (Retire n ids) new = new ≡ with_message w n (of_retirement ids)
+-- all held facts of the keys are sent, and all retirements
+Does u w (Send n m keys) new = AreHeld (held w n).facts keys × (new ≡ with_message w m (lent (held w n) keys))
+-- what a message to the node tells is joined to what it holds
+Does u w (Deliver n k) new = (m : Sent) × (slice_get w.messages k ≡ Some m) × (m.to ≡ n) × (new ≡ with_held w n (join (held w n) m.state))
 Does u w (Merge a b) new = new ≡ with_held w a (join (held w a) (held w b))
 Does u w (Keep n) new = new ≡ with_kept w n (held w n)
 Does u w (Restart n) new = new ≡ with_held w n (kept w n)
@@ -105,12 +108,13 @@ Accepts u w e new = HasNodes w e × Does u w e new
 -- ---- what it answers
 
 abbrev pub IsNew : State → State → Done → Type 0
-IsNew before after (does.New count) = count ≡ length (lacked before after)
+IsNew before after (does.New count) = count ≡ count_lacked before after
 IsNew before after _ = ⊥
 
--- the number of the message that was sent, or how many facts are new
+-- the number of the message that was sent, or how many facts and retirements are new
 abbrev pub IsDone : Network → Event → Network → Done → Type 0
 IsDone w (Make n key) new d = d ≡ does.Message (length w.messages)
+IsDone w (Retire n ids) new d = d ≡ does.Message (length w.messages)
 IsDone w (Send n m keys) new d = d ≡ does.Message (length w.messages)
 IsDone w (Deliver n k) new d = IsNew (held w n) (held new n) d
 IsDone w (Merge a b) new d = IsNew (held w a) (held new a) d
@@ -140,7 +144,7 @@ MakesNothing u w _ fault = ⊥
 
 -- the least key that is asked for and not held
 abbrev pub AsksInVain : Network → Event → Key → Type 0
-AsksInVain w (Send n m keys) key = IsLeastNotHeld (held w n) keys key
+AsksInVain w (Send n m keys) key = IsLeastNotHeld (held w n).facts keys key
 AsksInVain w _ key = ⊥
 
 -- The first fault of an event. Memory is refused only where the nodes are there, and the message, which is for the node.

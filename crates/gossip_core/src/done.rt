@@ -5,7 +5,7 @@
 pub enum Done {
     /// A message of this number was sent.
     Message(u64),
-    /// So many facts are held now that were not held before.
+    /// So many facts are held now, and jobs are known to be retired, that were not before.
     New(usize),
     /// What is held is kept.
     Kept,

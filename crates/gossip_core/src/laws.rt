@@ -1,6 +1,6 @@
 //! What the definitions amount to, proved once for the crates above. A law is a function whose clauses are the law.
 
-ghost use Rattle.std.specs.Prelude.{◌≡◌, ℕ, ◌<◌, ◌↔◌, Bool, None, List, ◌∷◌, length};
+ghost use Rattle.std.specs.Prelude.{◌≡◌, ℕ, ◌<◌, ◌↔◌, Bool, None, List, ◌∷◌, false, length};
 ghost use Rattle.catalog.specs.Entries.{AreJobs, Entry, IsCatalog, ids_of};
 ghost use Rattle.fact_audit.specs.TrueFacts.{IsTrueFact};
 ghost use Rattle.gossip_core.specs.Finishing.{GivesAll, IsPlanned, NoneRefused, lacked_work, makings};
@@ -8,18 +8,20 @@ ghost use Rattle.gossip_core.specs.Headline.{Headline};
 ghost use Rattle.gossip_core.specs.Histories.{Leads, start};
 ghost use Rattle.gossip_core.specs.Networks.{Network};
 ghost use Rattle.gossip_core.specs.Steps.{Accepts, Work, held, kept};
-ghost use Rattle.gossip_core.specs.Taking.{IsTaken, IsTakenAtKeep, Took};
+ghost use Rattle.gossip_core.specs.Taking.{HasTaken, IsJoinOf, IsPart, IsTaken, IsTakenAtKeep};
 ghost use Rattle.gossip_core.specs.Truths.{AllTrue};
 ghost use Rattle.gossip_events.specs.declared.event.Event.{Event};
 ghost use Rattle.gossip_events.specs.declared.event.Event.TheVariants.{Merge};
-ghost use Rattle.grouping.specs.Inlining.{StoresOutputs};
-ghost use Rattle.node_state.specs.Making.{AreNeedsTrue, IsMade};
-ghost use Rattle.node_state.specs.States.{IsSubset, State};
+ghost use Rattle.tile_boxes.specs.Schedules.{StoresOutputs};
+ghost use Rattle.held_facts.specs.Facts.{FactSet};
+ghost use Rattle.held_facts.specs.Making.{AreNeedsTrue, IsMade};
+ghost use Rattle.node_state.specs.States.{IsBelow, State, retires};
 ghost use Rattle.overlap_tiles.specs.Work.{first_without_room, wanted_keys, work_keys};
 ghost use Rattle.tile_fact.specs.declared.fact.Fact.{Fact};
+ghost use Rattle.tile_fact.specs.declared.update.Update.{Update};
 
-/// Whatever list of events leads to a world, refused ones among them, each node holds just the facts that it took, and keeps just those
-/// that it had taken at its last keep.
+/// Whatever list of events leads to a world, refused ones among them, each node holds just what it took, and keeps just what it had
+/// taken at its last keep: what the updates leave that came to it, of which retirements take the facts of their jobs away.
 pub fn nodes_hold_what_they_took()
     ensures held { (u : Work) (size : ℕ) (h accepted : List Event) (w : Network)
         → Leads u size h accepted w → (n : ℕ) → IsTaken w.messages accepted n (held w n) }
@@ -27,30 +29,38 @@ pub fn nodes_hold_what_they_took()
         → Leads u size h accepted w → (n : ℕ) → IsTakenAtKeep w.messages accepted n (kept w n) }
 {}
 
+/// What a node holds is the join of all that came together in it: of the messages that were delivered to it after its last restart, of what
+/// nodes had taken that were merged in after that, and of what it had taken itself at its last keep before that.
+pub fn what_is_taken_is_the_join_of_its_parts()
+    ensures { (u : Work) (size : ℕ) (h accepted : List Event) (w : Network)
+        → Leads u size h accepted w
+        → (n : ℕ) → IsJoinOf (IsPart w.messages accepted n) (held w n) }
+{}
+
 /// So nodes that took the same hold the same.
 pub fn equal_takings_are_equal_states()
     ensures { (u : Work) (size : ℕ) (h accepted : List Event) (w : Network) (n m : ℕ)
         → Leads u size h accepted w
-        → ((fact : Fact) → Took w.messages fact accepted n ↔ Took w.messages fact accepted m)
+        → ((update : Update) → HasTaken w.messages accepted n update ↔ HasTaken w.messages accepted m update)
         → held w n ≡ held w m }
 {}
 
-/// After a merge a node holds the least state that contains what both held before, and the other node holds what it held, unless it is
+/// After a merge a node holds the least state that has what both held before, and the other node holds what it held, unless it is
 /// the same one.
 pub fn merges_are_least()
     ensures first { (u : Work) (w new : Network) (a b : ℕ) → Accepts u w (Merge a b) new
-        → IsSubset (held w a) (held new a) }
+        → IsBelow (held w a) (held new a) }
     ensures second { (u : Work) (w new : Network) (a b : ℕ) → Accepts u w (Merge a b) new
-        → IsSubset (held w b) (held new a) }
+        → IsBelow (held w b) (held new a) }
     ensures least { (u : Work) (w new : Network) (a b : ℕ) → Accepts u w (Merge a b) new
-        → (s : State) → IsSubset (held w a) s → IsSubset (held w b) s → IsSubset (held new a) s }
+        → (s : State) → IsBelow (held w a) s → IsBelow (held w b) s → IsBelow (held new a) s }
     ensures other { (u : Work) (w new : Network) (a b n : ℕ) → Accepts u w (Merge a b) new
         → ¬ (a ≡ n) → held new n ≡ held w n }
 {}
 
 /// What is made of a tile is true, where all is true that is held of the tiles that it needs.
 pub fn made_facts_are_true()
-    ensures { (jobs : List Entry) (s : State) (inlining : List Bool) (fact : Fact)
+    ensures { (jobs : List Entry) (s : FactSet) (inlining : List Bool) (fact : Fact)
         → IsCatalog jobs → AreJobs jobs → AreNeedsTrue jobs s inlining fact.key
         → IsMade jobs s inlining fact → IsTrueFact jobs fact }
 {}
@@ -68,26 +78,29 @@ pub fn worlds_hold_true_facts()
 {}
 
 /// In a world of true facts, the events that make each tile of a job's stored functions and accumulators of which a node holds nothing,
-/// and deliver it, are none of them refused, where each of these tiles has room. Then the node holds all of these tiles, and where its
+/// and deliver it, are none of them refused, where the node has not retired the job and each of these tiles has room. Then the node holds all of these tiles, and where its
 /// schedule stores the outputs, all tiles that the job's answer is put together from.
 pub fn finishing_events_give_all()
     ensures accepted { (u : Work) (w : Network) (n j : ℕ) (entry : Entry) (inlining : List Bool)
         → IsCatalog u.jobs → AreJobs u.jobs → AllTrue u.jobs w
         → n < length w.nodes → IsPlanned u n j entry inlining
-        → first_without_room entry.pipeline inlining (lacked_work (held w n) entry inlining) ≡ None
-        → NoneRefused u w (makings n (length w.messages) (lacked_work (held w n) entry inlining)) }
+        → retires (held w n) (ids_of entry) ≡ false
+        → first_without_room entry.pipeline inlining (lacked_work (held w n).facts entry inlining) ≡ None
+        → NoneRefused u w (makings n (length w.messages) (lacked_work (held w n).facts entry inlining)) }
     ensures work { (u : Work) (w : Network) (n j : ℕ) (entry : Entry) (inlining : List Bool)
         → IsCatalog u.jobs → AreJobs u.jobs → AllTrue u.jobs w
         → n < length w.nodes → IsPlanned u n j entry inlining
-        → first_without_room entry.pipeline inlining (lacked_work (held w n) entry inlining) ≡ None
-        → GivesAll u w n (makings n (length w.messages) (lacked_work (held w n) entry inlining))
+        → retires (held w n) (ids_of entry) ≡ false
+        → first_without_room entry.pipeline inlining (lacked_work (held w n).facts entry inlining) ≡ None
+        → GivesAll u w n (makings n (length w.messages) (lacked_work (held w n).facts entry inlining))
         (work_keys (ids_of entry).program entry.pipeline inlining) }
     ensures wanted { (u : Work) (w : Network) (n j : ℕ) (entry : Entry) (inlining : List Bool)
         → IsCatalog u.jobs → AreJobs u.jobs → AllTrue u.jobs w
         → n < length w.nodes → IsPlanned u n j entry inlining
-        → first_without_room entry.pipeline inlining (lacked_work (held w n) entry inlining) ≡ None
+        → retires (held w n) (ids_of entry) ≡ false
+        → first_without_room entry.pipeline inlining (lacked_work (held w n).facts entry inlining) ≡ None
         → StoresOutputs entry.pipeline inlining
-        → GivesAll u w n (makings n (length w.messages) (lacked_work (held w n) entry inlining))
+        → GivesAll u w n (makings n (length w.messages) (lacked_work (held w n).facts entry inlining))
         (wanted_keys (ids_of entry).program entry.pipeline) }
 {}
 

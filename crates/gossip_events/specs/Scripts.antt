@@ -4,11 +4,12 @@ use Rattle.std.specs.List.{slice_split}
 use Rattle.std.specs.Prelude.{◌≡◌, ℕ, ◌<◌, ◌^◌, ◌==◌, ◌≤◌, Bool, true, not, Some, List, [], ◌∷◌, codes, filter, length, slice_get}
 use Rattle.std.specs.Str.Parse.{IsNumeral, digits_value}
 use Rattle.catalog.specs.Entries.{Entry, ids_of}
+use Rattle.identity.specs.declared.job_ids.Ids.{Ids}
 use Rattle.identity.specs.declared.key.Key.{Key}
 use Rattle.gossip_events.specs.declared.event.Event.{Event}
 use Rattle.gossip_events.specs.declared.event.Event.TheVariants as events
 use Rattle.gossip_events.specs.declared.order.Order.{Order}
-use Rattle.gossip_events.specs.declared.order.Order.TheVariants.{Make, Send, Plain}
+use Rattle.gossip_events.specs.declared.order.Order.TheVariants.{Make, Retire, Send, Plain}
 use Rattle.gossip_events.specs.declared.places.Place.{Place}
 use Rattle.gossip_events.specs.declared.verb.Verb.{Verb}
 use Rattle.gossip_events.specs.declared.verb.Verb.TheVariants as verbs
@@ -67,6 +68,7 @@ SpellPlaces (word ∷ words) [] = ⊥
 
 abbrev pub verb_word : Verb → List ℕ
 verb_word verbs.Make = codes "make"
+verb_word verbs.Retire = codes "retire"
 verb_word verbs.Send = codes "send"
 verb_word verbs.Deliver = codes "deliver"
 verb_word verbs.Merge = codes "merge"
@@ -87,7 +89,7 @@ abbrev pub AreSent : List (List ℕ) → ℕ → ℕ → List Place → Type 0
 AreSent (first ∷ second ∷ rest) node to places = SpellsNode first node × SpellsNode second to × SpellPlaces rest places
 AreSent _ node to places = ⊥
 
--- the words that follow a verb that names no tile: `deliver N K`, `merge A B`, `keep N`, `restart N`
+-- the words that follow a verb that names neither a job nor a tile: `deliver N K`, `merge A B`, `keep N`, `restart N`
 abbrev pub FollowPlain : Verb → List (List ℕ) → Event → Type 0
 FollowPlain verbs.Deliver rest (events.Deliver node message) = AreTwo rest (λ w. SpellsNode w node) (λ w. SpellsNumber w message)
 FollowPlain verbs.Merge rest (events.Merge node other) = AreTwo rest (λ w. SpellsNode w node) (λ w. SpellsNode w other)
@@ -95,9 +97,10 @@ FollowPlain verbs.Keep rest (events.Keep node) = IsLoneNode rest node
 FollowPlain verbs.Restart rest (events.Restart node) = IsLoneNode rest node
 FollowPlain _ rest _ = ⊥
 
--- the words that follow a verb: `make N KEY`, `send N M KEY..`, or those of an event that names no tile
+-- the words that follow a verb: `make N KEY`, `retire N JOB`, `send N M KEY..`, or those of an event that names neither a job nor a tile
 abbrev pub FollowVerb : Verb → List (List ℕ) → Order → Type 0
 FollowVerb verbs.Make rest (Make node place) = AreTwo rest (λ w. SpellsNode w node) (λ w. SpellsPlace w place)
+FollowVerb verbs.Retire rest (Retire node job) = AreTwo rest (λ w. SpellsNode w node) (λ w. SpellsNumber w job)
 FollowVerb verbs.Send rest (Send node to places) = AreSent rest node to places
 FollowVerb verb rest (Plain event) = FollowPlain verb rest event
 FollowVerb _ rest _ = ⊥
@@ -108,6 +111,10 @@ SpellsOrder [] order = ⊥
 SpellsOrder (first ∷ rest) order = (verb : Verb) × (first ≡ verb_word verb) × FollowVerb verb rest order
 
 -- ---- events
+
+-- the identities of the catalog's job of this number
+abbrev pub AreIdsAt : List Entry → ℕ → Ids → Type 0
+AreIdsAt jobs number ids = (job : Entry) × (slice_get jobs number ≡ Some job) × (ids ≡ ids_of job)
 
 -- the key of a tile of the catalog's job of this number
 pub record IsKeyOf (jobs : List Entry) (place : Place) (key : Key) : Type 0 where
@@ -125,9 +132,10 @@ AreKeysOf jobs (place ∷ places) (key ∷ keys) = IsKeyOf jobs place key × Are
 AreKeysOf jobs [] (key ∷ keys) = ⊥
 AreKeysOf jobs (place ∷ places) [] = ⊥
 
--- the event that is asked for, with the keys of its tiles
+-- the event that is asked for, with the keys of its tiles or the identities of its job
 abbrev pub IsAsked : List Entry → Order → Event → Type 0
 IsAsked jobs (Make node place) event = (key : Key) × IsKeyOf jobs place key × (event ≡ events.Make node key)
+IsAsked jobs (Retire node job) event = (ids : Ids) × AreIdsAt jobs job ids × (event ≡ events.Retire node ids)
 IsAsked jobs (Send node to places) event = (keys : List Key) × AreKeysOf jobs places keys × (event ≡ events.Send node to keys)
 IsAsked jobs (Plain told) event = event ≡ told
 

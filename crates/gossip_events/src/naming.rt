@@ -1,15 +1,16 @@
 //! The events that are asked for, with the keys of their tiles.
 
 ghost use Rattle.std.specs.Prelude.{IfNone, IfOk, IfSome, List};
-ghost use Rattle.gossip_events.specs.Scripts.{AreKeysOf, IsAsked, IsKeyOf};
+ghost use Rattle.gossip_events.specs.Scripts.{AreIdsAt, AreKeysOf, IsAsked, IsKeyOf};
 ghost use Rattle.gossip_events.specs.declared.event.Event.{Event as EventType};
+ghost use Rattle.identity.specs.declared.job_ids.Ids.{Ids as IdsType};
 ghost use Rattle.identity.specs.declared.key.Key.{Key as KeyType};
 
 use crate::event::{Event, Keys};
 use crate::order::Order;
 use crate::places::Place;
-use catalog::{Catalog, Ids};
-use identity::Key;
+use catalog::{Catalog, ids_of};
+use identity::{Ids, Key};
 use std::alloc::{AllocError, Global};
 
 /// The event that is asked for, if its jobs are there.
@@ -25,6 +26,10 @@ pub fn event_of(alloc: Global, jobs: &Catalog, order: Order) -> Result<Option<Ev
     match order {
         Order::Make { node, place } => match key_of(jobs, &place) {
             Some(key) => Ok(Some(Event::Make { node, key })),
+            None => Ok(None),
+        },
+        Order::Retire { node, job } => match ids_at(jobs, job) {
+            Some(ids) => Ok(Some(Event::Retire { node, ids })),
             None => Ok(None),
         },
         Order::Send { node, to, places } => match keys_of(alloc, jobs, places.as_slice())? {
@@ -56,8 +61,7 @@ fn key_of(jobs: &Catalog, place: &Place) -> Option<Key>
     ensures some { IfSome result (IsKeyOf jobs.now place.now) }
     ensures none { IfNone result ((key : KeyType) → ¬ IsKeyOf jobs.now place.now key) }
 {
-    let job = jobs.job(place.job as usize)?;
-    let ids = Ids::of(job);
+    let ids = ids_at(jobs, place.job)?;
     Some(Key {
         program: ids.program,
         input: ids.input,
@@ -65,4 +69,13 @@ fn key_of(jobs: &Catalog, place: &Place) -> Option<Key>
         row: place.row,
         col: place.col,
     })
+}
+
+// The identities of the catalog's job of this number.
+fn ids_at(jobs: &Catalog, job: u32) -> Option<Ids>
+    ensures some { IfSome result (AreIdsAt jobs.now job) }
+    ensures none { IfNone result ((ids : IdsType) → ¬ AreIdsAt jobs.now job ids) }
+{
+    let job = jobs.job(job as usize)?;
+    Some(ids_of(job))
 }

@@ -6,10 +6,11 @@ use crate::event::Event;
 use crate::places::{Place, Places};
 use std::alloc::AllocError;
 
-/// What a line asks for: an event whose tiles are named by the numbers of their jobs, or one that names no tile.
+/// What a line asks for: an event whose job or tiles are named by the numbers of jobs, or one that names neither.
 #[derive(Debug, Drop)]
 pub enum Order {
     Make { node: u8, place: Place },
+    Retire { node: u8, job: u32 },
     Send { node: u8, to: u8, places: Places },
     Plain(Event),
 }

@@ -37,6 +37,7 @@ fn order_by(alloc: Global, verb: Verb, words: &[&[u8]]) -> Result<Order, OrderFa
 {
     match verb {
         Verb::Make => make(alloc, words),
+        Verb::Retire => retire(words),
         Verb::Send => send(alloc, words),
         Verb::Deliver | Verb::Merge | Verb::Keep | Verb::Restart => match plain(verb, words) {
             Some(event) => Ok(Order::Plain(event)),
@@ -63,6 +64,18 @@ fn make(alloc: Global, words: &[&[u8]]) -> Result<Order, OrderFault>
     })
 }
 
+// `N JOB`
+fn retire(words: &[&[u8]]) -> Result<Order, OrderFault>
+    ensures some { IfOk result (FollowVerb verbs.Retire (map (λ w. w.now) words.now)) }
+    ensures none { IfErr result (λ fault. fault ≡ NoOrder
+        → (order : OrderType) → ¬ FollowVerb verbs.Retire (map (λ w. w.now) words.now) order) }
+{
+    let Some((node, job)) = two_numbers(words) else {
+        return Err(OrderFault::NoOrder);
+    };
+    Ok(Order::Retire { node, job })
+}
+
 // `N M KEY..`
 fn send(alloc: Global, words: &[&[u8]]) -> Result<Order, OrderFault>
     ensures some { IfOk result (FollowVerb verbs.Send (map (λ w. w.now) words.now)) }
@@ -82,14 +95,14 @@ fn send(alloc: Global, words: &[&[u8]]) -> Result<Order, OrderFault>
     })
 }
 
-// The event that the words after a verb that names no tile tell: `deliver N K`, `merge A B`, `keep N` or `restart N`.
+// The event that the words after a verb that names neither a job nor a tile tell: `deliver N K`, `merge A B`, `keep N` or `restart N`.
 fn plain(verb: Verb, words: &[&[u8]]) -> Option<Event>
     ensures some { IfSome result (FollowPlain verb (map (λ w. w.now) words.now)) }
     ensures none { IfNone result ((event : EventType)
         → ¬ FollowPlain verb (map (λ w. w.now) words.now) event) }
 {
     match verb {
-        Verb::Make | Verb::Send => None,
+        Verb::Make | Verb::Retire | Verb::Send => None,
         Verb::Deliver => {
             let (node, message) = two_numbers(words)?;
             Some(Event::Deliver {

@@ -8,6 +8,7 @@ ghost use Rattle.gossip_events.specs.declared.verb.Verb.{Verb as VerbType};
 #[derive(Clone, Copy, Debug, PartialEq, Eq)]
 pub enum Verb {
     Make,
+    Retire,
     Send,
     Deliver,
     Merge,
@@ -22,6 +23,7 @@ pub fn verb_of(word: &[u8]) -> Option<Verb>
 {
     match word {
         b"make" => Some(Verb::Make),
+        b"retire" => Some(Verb::Retire),
         b"send" => Some(Verb::Send),
         b"deliver" => Some(Verb::Deliver),
         b"merge" => Some(Verb::Merge),

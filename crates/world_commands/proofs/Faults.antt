@@ -19,6 +19,7 @@ use Rattle.world_commands.specs.WorldFaults.{IsWorldFault}
 pub world_fault_around : (input : List ℕ) (given : List Given) (sides : Sides) (f : StreamFault) → IsFaultAround input given sides f
     → IsWorldFault input given sides f
 world_fault_around input given sides (faults.Program x) is = is
+world_fault_around input given sides (faults.Tables x) is = is
 world_fault_around input given sides (faults.Picture x) is = is
 world_fault_around input given sides (faults.Check x) is = is
 world_fault_around input given sides (faults.Param x) is = is

@@ -6,13 +6,14 @@ use Rattle.gossip_core.specs.Networks.{Network}
 use Rattle.gossip_core.specs.Steps.{Does, Work, no_states}
 use Rattle.gossip_core.proofs.StateLaws.{length-slice_set_nodes}
 use Rattle.gossip_events.specs.declared.event.Event.{Event}
-use Rattle.gossip_events.specs.declared.event.Event.TheVariants.{Make, Send, Deliver, Merge, Keep, Restart}
+use Rattle.gossip_events.specs.declared.event.Event.TheVariants.{Make, Retire, Send, Deliver, Merge, Keep, Restart}
 
 abbrev count : Network → ℕ
 count w = length w.nodes
 
 does_keep : (u : Work) (w new : Network) (e : Event) → Does u w e new → count new ≡ count w
 does_keep u w new (Make n key) (fact, makes, is) = ap count is
+does_keep u w new (Retire n ids) is = ap count is
 does_keep u w new (Send n m keys) (held, is) = ap count is
 does_keep u w new (Deliver n k) (m, there, to, is) = ap count is ∙ length-slice_set_nodes w.nodes n _
 does_keep u w new (Merge a b) is = ap count is ∙ length-slice_set_nodes w.nodes a _

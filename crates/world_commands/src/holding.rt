@@ -5,13 +5,17 @@ ghost use Rattle.std.specs.Prelude.{◌≡◌, IfOk, length};
 ghost use Rattle.world_commands.specs.WorldLines.{node_lines};
 ghost use Rattle.world_commands.specs.inside.Outcomes.{held_line};
 
-use crate::held_facts::HeldFacts;
+use crate::contents::NodeContents;
 use command_line::NodeCount;
 use std::alloc::{AllocError, Global};
 use worlds::World;
 
 /// What each of so many nodes holds.
-pub fn held_by(alloc: Global, nodes: NodeCount, world: &World) -> Result<Vec<HeldFacts>, AllocError>
+pub fn held_by(
+    alloc: Global,
+    nodes: NodeCount,
+    world: &World,
+) -> Result<Vec<NodeContents>, AllocError>
     requires { length world.now.network.nodes ≡ nodes }
     ensures { IfOk result
         (λ held. flat_map held_line held.items ≡ node_lines nodes world.now.network) }
@@ -19,7 +23,7 @@ pub fn held_by(alloc: Global, nodes: NodeCount, world: &World) -> Result<Vec<Hel
     let mut held = Vec::new(alloc);
     for node in 0..nodes.get() {
         match world.node(node) {
-            Some(state) => held.push(HeldFacts::of(node, state)?)?,
+            Some(state) => held.push(NodeContents::of(alloc, node, state)?)?,
             None => unreachable!(),
         }
     }

@@ -2,7 +2,7 @@
 #![tactic(auto)]
 
 mod begun;
-mod held_facts;
+mod contents;
 mod holding;
 mod outcome;
 mod outcome_lines;

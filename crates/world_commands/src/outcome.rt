@@ -7,7 +7,7 @@ ghost use Rattle.world_commands.specs.WorldSayings.{IsOutcome, IsSaidOfWorld};
 ghost use Rattle.world_commands.specs.inside.Outcomes.{outcome_lines};
 
 use crate::begun::begin;
-use crate::held_facts::HeldFacts;
+use crate::contents::NodeContents;
 use crate::holding::held_by;
 use crate::world_input::world_of;
 use command_line::{NodeCount, Options};
@@ -21,7 +21,7 @@ use worlds::World;
 pub struct Outcome {
     pub done: usize,
     pub refused: usize,
-    pub nodes: Vec<HeldFacts>,
+    pub nodes: Vec<NodeContents>,
 }
 
 /// What becomes of so many nodes by the script of an input. The input is let go.

@@ -6,9 +6,9 @@ ghost use Rattle.world_commands.specs.WorldLines.{count_line, node_head};
 ghost use Rattle.world_commands.specs.inside.Outcomes.{held_line, outcome_lines};
 ghost use Rattle.write_buffer.specs.Passing.{Puts};
 
-use crate::held_facts::HeldFacts;
+use crate::contents::NodeContents;
 use crate::outcome::Outcome;
-use fact_lines::put_union;
+use fact_lines::put_line;
 use itoa::Buffer;
 use streams::{Sink, WriteFailed};
 use write_buffer::WriteBuffer;
@@ -46,7 +46,7 @@ fn put_counts<W: Sink>(
 fn put_nodes<W: Sink>(
     buffer: &mut WriteBuffer,
     writer: &mut W,
-    nodes: &[HeldFacts],
+    nodes: &[NodeContents],
 ) -> Result<(), WriteFailed>
     ensures { Puts result (flat_map held_line nodes.now) buffer.old buffer.new
         (W.contents writer.old) (W.contents writer.new)
@@ -61,14 +61,14 @@ fn put_nodes<W: Sink>(
 fn put_node<W: Sink>(
     buffer: &mut WriteBuffer,
     writer: &mut W,
-    node: &HeldFacts,
+    node: &NodeContents,
 ) -> Result<(), WriteFailed>
     ensures { Puts result (held_line node.now) buffer.old buffer.new
         (W.contents writer.old) (W.contents writer.new)
         (W.failures writer.old) (W.failures writer.new) }
 {
     put_head(buffer, writer, node.node)?;
-    put_union(buffer, writer, &node.facts, node.count)
+    put_line(buffer, writer, &node.retired, &node.facts, node.counts)
 }
 
 fn put_head<W: Sink>(buffer: &mut WriteBuffer, writer: &mut W, node: u8) -> Result<(), WriteFailed>

@@ -11,7 +11,8 @@ use inputs::{StreamFault, read_input};
 use streams::{Sink, Source};
 
 /// Reads a program, a script and a picture, goes through the events of the script from so many nodes that hold nothing, and writes how
-/// many events there were and how many of these were refused, and for each node the file of the facts that it then holds.
+/// many events there were and how many of these were refused, and for each node the file of the retired jobs and the facts that it
+/// then holds.
 ///
 /// The input is the program's text, a line `%%`, the script, a line `%%` and the picture. `parameters` gives values of the program's
 /// parameters. Each node has the schedule that the options ask for. All that takes memory is done before the first byte is written, and

@@ -1,31 +1,45 @@
 -- What events need of the nodes and the jobs, over plain variables.
 use Rattle.std.proofs.Common.{arith, ℕ, ◌==◌, cond, get_or, ◌≡◌, ◌≢◌, ◌<◌, ◌≤◌, Bool, List, [], ◌∷◌, Option, Some, None, Result}
 use Rattle.std.proofs.Common.{Ok, Err, IfOk, IfErr, IfSome, IfNone, option_map, length, refl, sym, ap, ◌∙◌, subst, zero, suc}
-use Rattle.std.specs.List.{All}
+use Rattle.std.specs.List.{All, Contains}
 use Rattle.std.proofs.lemmas.Bool.{eq-eqb}
 use Rattle.std.specs.Prelude.{slice_get, slice_set, unwrap_or}
 use Rattle.std.proofs.lemmas.Option.{none-some, same_Some, slice_get_within, slice_get-get_or}
 use Rattle.catalog.specs.Entries.{StandsAt, ids_in}
-use Rattle.catalog.specs.declared.ids.Ids.{Ids}
+use Rattle.identity.specs.declared.job_ids.Ids.{Ids}
 use Rattle.identity.specs.declared.key.Key.{Key}
-use Rattle.node_state.specs.declared.make_fault.MakeFault.{MakeFault}
-use Rattle.node_state.specs.declared.make_fault.MakeFault.TheVariants as makes
+use Rattle.held_facts.specs.declared.make_fault.MakeFault.{MakeFault}
+use Rattle.held_facts.specs.declared.make_fault.MakeFault.TheVariants as makes
 use Rattle.node_state.specs.Making.{IsMade, IsMakeFault}
-use Rattle.node_state.specs.States.{State, join, lacked, nothing, with_fact}
+use Rattle.node_state.specs.States.{State, count_lacked, join, of_fact, of_retirement}
 use Rattle.tile_fact.specs.declared.fact.Fact.{Fact}
 use Rattle.gossip_core.specs.Networks.{Network, NodeStates, Sent}
 use Rattle.gossip_core.specs.Steps.{Accepts, CannotMake, HasNodes, IsDone, IsScheduleFor, IsStepFault, Makes, Refuses, Work, held}
-use Rattle.gossip_core.specs.Steps.{no_states, states_at, with_message}
+use Rattle.gossip_core.specs.Steps.{no_states, nodes_of, states_at, with_message}
 use Rattle.gossip_core.specs.declared.done.Done.TheVariants as does
 use Rattle.gossip_core.specs.declared.fault.StepFault.TheVariants as faults
 use Rattle.gossip_core.proofs.StateLaws.{states_set}
-use Rattle.gossip_events.specs.declared.event.Event.TheVariants.{Make, Deliver}
+use Rattle.gossip_events.specs.declared.event.Event.{Event}
+use Rattle.gossip_events.specs.declared.event.Event.TheVariants.{Make, Retire, Deliver, Merge}
 use Rattle.worlds.specs.Worlds.{HasSchedules}
 use Rattle.worlds.specs.inside.Making.{CannotBeMade, IsMadeBy, refusal_of}
 
 pub one_within : (n size : ℕ) → n < size → All (λ k. k < size) (n ∷ [])
 one_within n size within zero d inside = within
 one_within n size within (suc k) d inside = absurd (omega (arith, inside))
+
+two_within : (m n size : ℕ) → m < size → n < size → All (λ k. k < size) (m ∷ n ∷ [])
+two_within m n size one other zero d inside = one
+two_within m n size one other (suc zero) d inside = other
+two_within m n size one other (suc (suc k)) d inside = absurd (omega (arith, inside))
+
+-- an event of a node that is not there
+pub not_there : (u : Work) (v w : Network) (e : Event) (n : ℕ) → v ≡ w → Contains (nodes_of e) n → length v.nodes ≤ n
+    → Refuses u w e w faults.NoSuchNode
+not_there u v w e n view named past = record {
+  first = (named.0, n, named.1, named.2, subst (λ (x : Network). length x.nodes ≤ n) view past);
+  unchanged = refl;
+}
 
 -- ---- schedules
 
@@ -69,6 +83,7 @@ cannot_make u w n key (makes.NeedMissing need) h = h
 cannot_make u w n key (makes.NeedDisputed need) h = h
 cannot_make u w n key (makes.NeedMisshapen need) h = h
 cannot_make u w n key makes.Memory h = h
+cannot_make u w n key makes.Retired h = h
 
 cannot_be_made : (u : Work) (n : ℕ) (s : State) (key : Key) (inlining : List Bool) (fault : MakeFault) → IsScheduleFor u n key inlining
     → IsMakeFault u.jobs s inlining key fault → CannotBeMade u n s key fault
@@ -79,6 +94,7 @@ cannot_be_made u n s key inlining (makes.NeedMissing need) schedule h = (inlinin
 cannot_be_made u n s key inlining (makes.NeedDisputed need) schedule h = (inlining, schedule, h)
 cannot_be_made u n s key inlining (makes.NeedMisshapen need) schedule h = (inlining, schedule, h)
 cannot_be_made u n s key inlining makes.Memory schedule h = (inlining, schedule, h)
+cannot_be_made u n s key inlining makes.Retired schedule h = (inlining, schedule, h)
 
 makes_by : (u : Work) (w : Network) (n : ℕ) (key : Key) (fact : Fact) → IsMadeBy u n (held w n) key fact → Makes u w n key fact
 makes_by u w n key fact is = record { of_key = is.of_key; inlining = is.inlining; schedule = is.schedule; made = is.made }
@@ -122,6 +138,7 @@ unmade u v n key here (makes.NeedMissing need) why = (here, (why, λ e. cc))
 unmade u v n key here (makes.NeedDisputed need) why = (here, (why, λ e. cc))
 unmade u v n key here (makes.NeedMisshapen need) why = (here, (why, λ e. cc))
 unmade u v n key here makes.Memory why = (here, tt, λ wrong. wrong)
+unmade u v n key here makes.Retired why = (here, (why, λ e. cc))
 
 module _ (u : Work) (v w : Network) (view : v ≡ w) (n : ℕ) (within : n < length v.nodes) where
   here : All (λ i. i < length v.nodes) (n ∷ [])
@@ -141,11 +158,16 @@ module _ (u : Work) (v w : Network) (view : v ≡ w) (n : ℕ) (within : n < len
           unchanged = refl;
         })
 
-    pub made : (fact : Fact) (new : Network) → IsMadeBy u n b.held key fact → new ≡ with_message w n (with_fact nothing fact)
+    pub made : (fact : Fact) (new : Network) → IsMadeBy u n b.held key fact → new ≡ with_message w n (of_fact fact)
         → Accepts u w (Make n key) new
     made fact new is after =
-        subst (λ x. new ≡ with_message x n (with_fact nothing fact) → Accepts u x (Make n key) new) view
+        subst (λ x. new ≡ with_message x n (of_fact fact) → Accepts u x (Make n key) new) view
         (λ same. (here, (fact, makes_by u v n key fact (subst (λ s. IsMadeBy u n s key fact) held_is is), same))) after
+
+  -- ---- retirements
+
+  pub retired : (ids : Ids) (new : Network) → new ≡ with_message w n (of_retirement ids) → Accepts u w (Retire n ids) new
+  retired ids new after = subst (λ x. new ≡ with_message x n (of_retirement ids) → Accepts u x (Retire n ids) new) view (λ same. (here, same)) after
 
   -- ---- deliveries
 
@@ -168,7 +190,7 @@ module _ (u : Work) (v w : Network) (view : v ≡ w) (n : ℕ) (within : n < len
       at : b ≡ states_at v.nodes n
       at = node ∙ sym (states_there v.nodes n q within q_is)
 
-      pub delivered : s ≡ join b.held a.facts → Accepts u w (Deliver n k) after
+      pub delivered : s ≡ join b.held a.state → Accepts u w (Deliver n k) after
       delivered is =
           subst (λ x. Accepts u x (Deliver n k) after) view (
             here,
@@ -178,17 +200,17 @@ module _ (u : Work) (v w : Network) (view : v ≡ w) (n : ℕ) (within : n < len
               to,
               λ i. record v {
                 nodes = slice_set v.nodes n (record {
-                  held = (is ∙ ap (λ (x : NodeStates). join x.held a.facts) at) i;
+                  held = (is ∙ ap (λ (x : NodeStates). join x.held a.state) at) i;
                   kept = (at i).kept;
                 });
               },
             ),
           )
 
-      pub new_ones : (count : ℕ) → count ≡ length (lacked b.held s) → IsDone w (Deliver n k) after (does.New count)
+      pub new_ones : (count : ℕ) → count ≡ count_lacked b.held s → IsDone w (Deliver n k) after (does.New count)
       new_ones count is =
           subst (λ x. IsDone x (Deliver n k) after (does.New count)) view
-          (is ∙ ap (λ (x : NodeStates). length (lacked x.held s)) at ∙ ap (λ t. length (lacked (held v n) t)) (sym held_set_is))
+          (is ∙ ap (λ (x : NodeStates). count_lacked x.held s) at ∙ ap (λ t. count_lacked (held v n) t) (sym held_set_is))
         where
           held_set_is : held after n ≡ s
           held_set_is =
@@ -204,3 +226,52 @@ module _ (u : Work) (v w : Network) (view : v ≡ w) (n : ℕ) (within : n < len
                 (λ i. record v { nodes = slice_set v.nodes n (record { held = is i; kept = b.kept }) })
                 ∙ ap (λ xs. record v { nodes = xs }) (set_same v.nodes n b within b_is);
           })
+
+  -- ---- merges
+
+  module _ (other : ℕ) (there : other < length v.nodes) (o r : NodeStates) (o_is : o ≡ r) (r_is : r ≡ get_or v.nodes other r)
+      (b q : NodeStates) (node : b ≡ q) (q_is : q ≡ get_or v.nodes n q) (s : State) where
+    abbrev merging : Network
+    merging = record v { nodes = slice_set v.nodes n (record { held = s; kept = b.kept }) }
+
+    both : HasNodes v (Merge n other)
+    both = two_within n other (length v.nodes) within there
+
+    its : b ≡ states_at v.nodes n
+    its = node ∙ sym (states_there v.nodes n q within q_is)
+
+    others : o.held ≡ held v other
+    others = ap (λ (x : NodeStates). x.held) (o_is ∙ sym (states_there v.nodes other r there r_is))
+
+    pub merged : s ≡ join b.held o.held → Accepts u w (Merge n other) merging
+    merged is =
+        subst (λ x. Accepts u x (Merge n other) merging) view (
+          both,
+          λ i. record v {
+            nodes = slice_set v.nodes n (record {
+              held = (is ∙ (λ j. join (its j).held (others j))) i;
+              kept = (its i).kept;
+            });
+          },
+        )
+
+    pub merged_new : (count : ℕ) → count ≡ count_lacked b.held s → IsDone w (Merge n other) merging (does.New count)
+    merged_new count is =
+        subst (λ x. IsDone x (Merge n other) merging (does.New count)) view
+        (is ∙ ap (λ (x : NodeStates). count_lacked x.held s) its ∙ ap (λ t. count_lacked (held v n) t) (sym held_set_is))
+      where
+        held_set_is : held merging n ≡ s
+        held_set_is =
+            ap (λ (x : NodeStates). x.held) (states_set v.nodes n (record { held = s; kept = b.kept }) n within)
+            ∙ ap (λ t. (cond t (record { held = s; kept = b.kept }) (states_at v.nodes n)).held) (eq-eqb n n refl)
+
+    pub not_merged : s ≡ b.held → Refuses u w (Merge n other) merging faults.Memory
+    not_merged is =
+        subst (λ x. Refuses u x (Merge n other) merging faults.Memory) view
+        (record {
+          first = (both, tt, λ wrong. wrong);
+          unchanged =
+              (λ i. record v { nodes = slice_set v.nodes n (record { held = is i; kept = b.kept }) })
+              ∙ ap (λ xs. record v { nodes = xs })
+              (set_same v.nodes n b within (subst (λ x. x ≡ get_or v.nodes n x) (sym node) q_is));
+        })

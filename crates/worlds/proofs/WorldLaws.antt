@@ -13,8 +13,9 @@ use Rattle.gossip_core.specs.Truths.{AllTrue}
 use Rattle.gossip_core.specs.declared.done.Done.{Done}
 use Rattle.gossip_core.specs.declared.fault.StepFault.{StepFault}
 use Rattle.gossip_events.specs.declared.event.Event.{Event}
-use Rattle.gossip_events.specs.declared.event.Event.TheVariants.{Make, Send, Deliver, Merge, Keep, Restart}
-use Rattle.node_state.specs.HeldAnswers.{HoldsTrueFacts}
+use Rattle.gossip_events.specs.declared.event.Event.TheVariants.{Make, Retire, Send, Deliver, Merge, Keep, Restart}
+use Rattle.held_facts.specs.HeldFacts.{HoldsTrueFacts}
+use Rattle.node_state.specs.States.{State}
 use Rattle.worlds.specs.Worlds.{IsPlannedWork, IsWorld, WorldView}
 
 -- ---- the world at first and after an event
@@ -28,6 +29,7 @@ world_start u good = record {
 
 same_count : (u : Work) (w new : Network) (e : Event) → Accepts u w e new → length w.nodes ≡ length new.nodes
 same_count u w new (Make n key) ok = ap (λ (v : Network). length v.nodes) (sym ok.1.2)
+same_count u w new (Retire n ids) ok = ap (λ (v : Network). length v.nodes) (sym ok.1)
 same_count u w new (Send n m keys) ok = ap (λ (v : Network). length v.nodes) (sym ok.1.1)
 same_count u w new (Deliver n k) ok = sym (ap (λ (v : Network). length v.nodes) ok.1.3 ∙ length-slice_set_nodes w.nodes n _)
 same_count u w new (Merge a b) ok = sym (ap (λ (v : Network). length v.nodes) ok.1 ∙ length-slice_set_nodes w.nodes a _)
@@ -52,13 +54,13 @@ module _ (v w : WorldView) (view : v ≡ w) (n : ℕ) (b q : NodeStates) (node :
   kept_is : kept v.network n ≡ b.kept
   kept_is = ap (λ o. (unwrap_or o no_states).kept) there ∙ ap (λ (x : NodeStates). x.kept) (sym node)
 
-  pub held_true : AllTrue v.work.jobs v.network → HoldsTrueFacts w.work.jobs b.held
-  held_true truth = subst (λ (x : WorldView). HoldsTrueFacts x.work.jobs b.held) view
-      (subst (HoldsTrueFacts v.work.jobs) held_is (truth.holds n))
+  pub held_true : AllTrue v.work.jobs v.network → HoldsTrueFacts w.work.jobs b.held.facts
+  held_true truth = subst (λ (x : WorldView). HoldsTrueFacts x.work.jobs b.held.facts) view
+      (subst (λ (s : State). HoldsTrueFacts v.work.jobs s.facts) held_is (truth.holds n))
 
-  pub kept_true : AllTrue v.work.jobs v.network → HoldsTrueFacts w.work.jobs b.kept
-  kept_true truth = subst (λ (x : WorldView). HoldsTrueFacts x.work.jobs b.kept) view
-      (subst (HoldsTrueFacts v.work.jobs) kept_is (truth.keeps n))
+  pub kept_true : AllTrue v.work.jobs v.network → HoldsTrueFacts w.work.jobs b.kept.facts
+  kept_true truth = subst (λ (x : WorldView). HoldsTrueFacts x.work.jobs b.kept.facts) view
+      (subst (λ (s : State). HoldsTrueFacts v.work.jobs s.facts) kept_is (truth.keeps n))
 
   pub held_taken : (size : ℕ) (h accepted : List Event) → Leads w.work size h accepted w.network
       → IsTaken w.network.messages accepted n b.held

@@ -18,9 +18,11 @@ finish_number finish.NoSuchNode = 1
 finish_number finish.NoSuchJob = 2
 finish_number (finish.ScratchTooBig key) = 3
 finish_number finish.Memory = 4
+finish_number finish.Retired = 5
 
 abbrev pub finish_name : FinishFault → List ℕ
 finish_name finish.NoSuchNode = codes "NoSuchNode"
 finish_name finish.NoSuchJob = codes "NoSuchJob"
 finish_name (finish.ScratchTooBig key) = codes "ScratchTooBig"
 finish_name finish.Memory = codes "Memory"
+finish_name finish.Retired = codes "Retired"

@@ -30,9 +30,12 @@ pub enum FinishFault {
     /// 3: the first of the tiles to be made that takes too much scratch memory.
     #[error("a tile takes too much scratch memory")]
     ScratchTooBig(Key),
-    /// 4: no memory was left.
+    /// 4: no memory was left. For a job that is not retired.
     #[error("out of memory")]
     Memory,
+    /// 5: the node has retired the job. Before `ScratchTooBig`.
+    #[error("the job is retired")]
+    Retired,
 }
 
 impl Fault for WorldFault {
@@ -56,7 +59,7 @@ impl Fault for FinishFault {
 
     fn row(&self) -> FaultRow {
         fault_row!(self, FinishFault {
-            NoSuchNode = 1, NoSuchJob = 2, ScratchTooBig(_) = 3, Memory = 4,
+            NoSuchNode = 1, NoSuchJob = 2, ScratchTooBig(_) = 3, Memory = 4, Retired = 5,
         })
     }
 }

@@ -1,37 +1,37 @@
 //! The events that let a node hold all tiles of a job.
 
-ghost use Rattle.catalog.specs.Entries.{entry_of};
+ghost use Rattle.catalog.specs.Entries.{entry_of, ids_of};
 ghost use Rattle.gossip_core.specs.Finishing.{IsPlanned, lacked_work, makings};
 ghost use Rattle.gossip_core.specs.Steps.{held};
 ghost use Rattle.job.specs.Kept.{pipeline_in};
+ghost use Rattle.node_state.specs.States.{retires};
 ghost use Rattle.overlap_tiles.specs.Work.{first_without_room};
-ghost use Rattle.std.specs.Prelude.{◌≡◌, IfErr, IfOk, None};
+ghost use Rattle.std.specs.Prelude.{◌≡◌, IfErr, IfOk, None, false};
 ghost use Rattle.worlds.specs.Finishes.{Finishes, IsFinishFault};
 ghost use Rattle.worlds.specs.declared.fault.FinishFault.TheVariants as faults;
 ghost use Rattle.worlds.specs.inside.Making.{IsRoomFault};
 
 use crate::fault::FinishFault;
 use crate::world::World;
+use catalog::ids_of;
 use fact_store::FactStore;
 use gossip_events::Event;
 use grouping::Schedule;
+use held_facts::HeldFacts;
 use identity::Key;
 use job::Job;
-use node_state::NodeState;
 use overlap_tiles::{first_without_room, work_keys};
 use std::alloc::{AllocError, Global};
 
 impl<S: FactStore> World<S> {
     /// Events after which node n holds all tiles of the stored functions and accumulators of a job: for each of these tiles of which it
-    /// holds
-    /// nothing a making, and the delivery of what was made, in the order in which they can be made. If they come next, none of them
-    /// is refused, unless memory is; whatever was lost or restarted before.
+    /// holds nothing a making, and the delivery of what was made, in the order in which they can be made. If they come next, none of
+    /// them is refused, unless memory is; whatever was lost or restarted before.
     ///
     /// # Errors
     ///
-    /// The first of `NoSuchNode`, `NoSuchJob` and `ScratchTooBig`, which is told of the tiles of which nothing is held. Memory may be
-    /// refused
-    /// wherever there are the node and the job.
+    /// The first of `NoSuchNode`, `NoSuchJob`, `Retired` and `ScratchTooBig`, which is told of the tiles of which nothing is held. Memory
+    /// may be refused wherever there are the node and the job, which it has not retired.
     pub fn finish(&self, n: u8, job: usize) -> Result<Vec<Event>, FinishFault>
         ensures finishes { IfOk result (λ events. Finishes self.now n job events.items) }
         ensures fault { IfErr result (IsFinishFault self.now n job) }
@@ -41,11 +41,13 @@ impl<S: FactStore> World<S> {
         Ok(making_events(self.alloc, n, self.network.sent(), &keys)?)
     }
 
-    // The job, and what node n holds and how it makes its tiles.
+    // The job, which node n has not retired, and what the node holds and how it makes its tiles.
     fn planned(&self, n: u8, job: usize) -> Result<Planned<'_, S>, FinishFault>
         ensures planned { IfOk result (λ p. IsPlanned self.now.work n job
             (entry_of p.job.now) p.schedule.now.inlining) }
-        ensures held { IfOk result (λ p. p.held.now ≡ held self.now.network n) }
+        ensures held { IfOk result (λ p. p.held.now ≡ (held self.now.network n).facts) }
+        ensures live { IfOk result (λ p. retires (held self.now.network n)
+            (ids_of (entry_of p.job.now)) ≡ false) }
         ensures there { IfOk result (λ _. IsFinishFault self.now n job faults.Memory) }
         ensures fault { IfErr result (IsFinishFault self.now n job) }
     {
@@ -58,8 +60,11 @@ impl<S: FactStore> World<S> {
         let Some(schedule) = self.jobs.schedules[usize::from(n)].schedule(job) else {
             unreachable!();
         };
+        if node.held.retires(&ids_of(planned)) {
+            return Err(FinishFault::Retired);
+        }
         Ok(Planned {
-            held: &node.held,
+            held: node.held.held(),
             job: planned,
             schedule,
         })
@@ -69,7 +74,7 @@ impl<S: FactStore> World<S> {
 // What a node holds, a job, and the node's schedule for it.
 #[derive(Clone, Copy)]
 struct Planned<'a, S: FactStore> {
-    held: &'a NodeState<S>,
+    held: &'a HeldFacts<S>,
     job: &'a Job,
     schedule: &'a Schedule,
 }
@@ -96,7 +101,7 @@ fn makable_keys<S: FactStore>(
 // The keys of the work tiles of which nothing is held.
 fn lacked_keys<S: FactStore>(
     alloc: Global,
-    held: &NodeState<S>,
+    held: &HeldFacts<S>,
     job: &Job,
     schedule: &Schedule,
 ) -> Result<Vec<Key>, AllocError>

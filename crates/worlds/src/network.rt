@@ -4,7 +4,7 @@ ghost use Rattle.gossip_core.specs.Histories.{start};
 ghost use Rattle.gossip_core.specs.Steps.{Accepts, IsDone, Refuses, Work, with_message};
 ghost use Rattle.gossip_core.specs.declared.done.Done.TheVariants as does;
 ghost use Rattle.gossip_core.specs.declared.fault.StepFault.TheVariants as faults;
-ghost use Rattle.gossip_events.specs.declared.event.Event.TheVariants.{Make, Send, Deliver, Merge, Keep, Restart};
+ghost use Rattle.gossip_events.specs.declared.event.Event.TheVariants.{Make, Retire, Send, Deliver, Merge, Keep, Restart};
 ghost use Rattle.std.specs.Option.{option_map};
 ghost use Rattle.worlds.specs.inside.Making.{refusal_of};
 ghost use Rattle.std.specs.Prelude.{◌≡◌, IfErr, IfOk, OnErr, OnOk, length, slice_get};
@@ -14,7 +14,7 @@ use crate::planned::PlannedJobs;
 use fact_store::FactStore;
 use gossip_core::{Done, StepFault};
 use gossip_events::Event;
-use identity::Key;
+use identity::{Ids, Key};
 use node_state::{LendFault, MakeFault, NodeState};
 use std::alloc::{AllocError, Global};
 use std::marker::Model;
@@ -86,6 +86,7 @@ impl<S: FactStore> Network<S> {
     {
         match event {
             Event::Make { node, key } => self.make(jobs, usize::from(*node), key),
+            Event::Retire { node, ids } => self.retire(usize::from(*node), ids),
             Event::Send { node, to, keys } => {
                 self.send(usize::from(*node), usize::from(*to), keys.as_slice())
             }
@@ -112,9 +113,23 @@ impl<S: FactStore> Network<S> {
             Ok(fact) => fact,
             Err(fault) => return Err(refusal_of(fault)),
         };
-        let mut facts = NodeState::new(self.alloc);
-        facts.take(fact)?;
-        self.post(n, facts)
+        let mut state = NodeState::new(self.alloc);
+        state.take(fact)?;
+        self.post(n, state)
+    }
+
+    fn retire(&mut self, n: usize, ids: &Ids) -> Result<Done, StepFault>
+        ensures done { (u : Work) → OnOk result (Accepts u self.old (Retire n ids.now) self.new) }
+        ensures answer { IfOk result (IsDone self.old (Retire n ids.now) self.new) }
+        ensures refused { (u : Work)
+            → IfErr result (Refuses u self.old (Retire n ids.now) self.new) }
+    {
+        if n >= self.nodes.len() {
+            return Err(StepFault::NoSuchNode);
+        }
+        let mut state = NodeState::new(self.alloc);
+        state.retire(ids)?;
+        self.post(n, state)
     }
 
     fn send(&mut self, n: usize, to: usize, keys: &[Key]) -> Result<Done, StepFault>
@@ -127,23 +142,23 @@ impl<S: FactStore> Network<S> {
             return Err(StepFault::NoSuchNode);
         }
         let node = &self.nodes[n];
-        let facts = match node.held.lend_state(keys) {
-            Ok(facts) => facts,
+        let state = match node.held.lend_state(keys) {
+            Ok(state) => state,
             Err(LendFault::NotHeld(key)) => return Err(StepFault::NotHeld(key)),
             Err(LendFault::Memory) => return Err(StepFault::Memory),
         };
-        self.post(to, facts)
+        self.post(to, state)
     }
 
     // Appends a message.
-    fn post(&mut self, to: usize, facts: NodeState<S>) -> Result<Done, StepFault>
-        ensures sent { OnOk result (self.new ≡ with_message self.old to facts) }
+    fn post(&mut self, to: usize, state: NodeState<S>) -> Result<Done, StepFault>
+        ensures sent { OnOk result (self.new ≡ with_message self.old to state) }
         ensures answer { IfOk result (λ d. d ≡ does.Message (length self.old.messages)) }
         ensures memory { IfErr result (λ fault. fault ≡ faults.Memory) }
         ensures unchanged { OnErr result (self.new ≡ self.old) }
     {
         let number = self.messages.len() as u64;
-        self.messages.push(Message { to, facts })?;
+        self.messages.push(Message { to, state })?;
         Ok(Done::Message(number))
     }
 
@@ -164,7 +179,7 @@ impl<S: FactStore> Network<S> {
             return Err(StepFault::WrongAddress);
         }
         let node = &mut self.nodes[n];
-        let count = node.held.merge(&message.facts)?;
+        let count = node.held.merge(&message.state)?;
         Ok(Done::New(count))
     }
 

@@ -21,11 +21,11 @@ impl<S: FactStore> Model for Node<S> {
     ghost view = { λ n. record { held = n.held; kept = n.kept } };
 }
 
-/// Facts on their way to a node.
+/// What is on its way to a node: facts, and the jobs that the sender knew to be retired.
 #[derive(Drop)]
 pub struct Message<S: FactStore> {
     pub to: usize,
-    pub facts: NodeState<S>,
+    pub state: NodeState<S>,
 }
 
 impl<S: FactStore> Model for Message<S> {
@@ -35,5 +35,5 @@ impl<S: FactStore> Model for Message<S> {
 
     ghost coded = { coded_sent };
 
-    ghost view = { λ m. record { to = m.to; facts = m.facts } };
+    ghost view = { λ m. record { to = m.to; state = m.state } };
 }

@@ -7,10 +7,10 @@ ghost use Rattle.worlds.specs.Worlds.{HasSchedules, IsPlannedWork};
 ghost use Rattle.worlds.specs.inside.Making.{CannotBeMade, IsMadeBy};
 
 use crate::schedules::NodeSchedules;
-use catalog::{Catalog, Ids};
+use catalog::Catalog;
 use fact_store::FactStore;
 use grouping::Schedule;
-use identity::Key;
+use identity::{Ids, Key};
 use node_state::{MakeFault, NodeState};
 use std::marker::Model;
 use tile_fact::Fact;

@@ -8,7 +8,7 @@ ghost use Rattle.gossip_core.specs.Truths.{AllTrue};
 ghost use Rattle.gossip_events.specs.ScriptFaults.{IsScriptFault};
 ghost use Rattle.gossip_events.specs.Scripts.{AreEvents, lines};
 ghost use Rattle.gossip_events.specs.declared.event.Event.{Event as EventType};
-ghost use Rattle.node_state.specs.HeldAnswers.{HoldsTrueFacts};
+ghost use Rattle.held_facts.specs.HeldFacts.{HoldsTrueFacts};
 ghost use Rattle.std.specs.Option.{IfSome, option_map};
 ghost use Rattle.std.specs.Prelude.{◌≡◌, ◌≤◌, ◌↔◌, ℕ, List, [], ◌∷◌, IfErr, IfOk, IsTrue, OnOk, false, length, true, slice_get, take};
 ghost use Rattle.worlds.specs.Worlds.{IsCounted, IsRefusedWorld, RunsOn, StopsAt};
@@ -29,7 +29,7 @@ use std::marker::Model;
 /// The most nodes of a world.
 const MOST_NODES: usize = 16;
 
-/// Nodes that make tiles of jobs, each by its own schedules, and send, merge, keep and restart. All facts that they hold and keep, and all
+/// Nodes that make tiles of jobs, each by its own schedules, and retire jobs, send, merge, keep and restart. All facts that they hold and keep, and all
 /// that were sent, are true. Only events change it.
 #[derive(Drop)]
 pub struct World<S: FactStore = TableFacts> {
@@ -154,7 +154,7 @@ impl<S: FactStore> World<S> {
     pub fn node(&self, n: u8) -> Option<&NodeState<S>>
         ensures held { option_map (λ s. s.now) result
             ≡ option_map (λ q. q.held) (slice_get self.now.network.nodes n) }
-        ensures truth { IfSome result (λ s. HoldsTrueFacts self.now.work.jobs s.now) }
+        ensures truth { IfSome result (λ s. HoldsTrueFacts self.now.work.jobs s.now.facts) }
         ensures took { (size : ℕ) (h accepted : List EventType)
             → Leads self.now.work size h accepted self.now.network
             → IfSome result (λ s. IsTaken self.now.network.messages accepted n s.now) }
@@ -169,7 +169,7 @@ impl<S: FactStore> World<S> {
     pub fn kept(&self, n: u8) -> Option<&NodeState<S>>
         ensures kept { option_map (λ s. s.now) result
             ≡ option_map (λ q. q.kept) (slice_get self.now.network.nodes n) }
-        ensures truth { IfSome result (λ s. HoldsTrueFacts self.now.work.jobs s.now) }
+        ensures truth { IfSome result (λ s. HoldsTrueFacts self.now.work.jobs s.now.facts) }
         ensures took { (size : ℕ) (h accepted : List EventType)
             → Leads self.now.work size h accepted self.now.network
             → IfSome result (λ s. IsTakenAtKeep self.now.network.messages accepted n s.now) }

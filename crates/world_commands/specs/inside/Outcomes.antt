@@ -1,13 +1,13 @@
 -- What is to be written of a world.
 use Rattle.std.specs.Prelude.{ℕ, List, ◌++◌}
 use Rattle.std.specs.List.{flat_map}
-use Rattle.world_commands.specs.WorldLines.{count_line, node_line}
-use Rattle.world_commands.specs.declared.held_facts.HeldFacts.{HeldFacts}
+use Rattle.world_commands.specs.WorldLines.{contents_line, count_line}
+use Rattle.world_commands.specs.declared.contents.NodeContents.{NodeContents}
 use Rattle.world_commands.specs.declared.outcome.Outcome.{Outcome}
 
 -- the line of what a node holds
-abbrev pub held_line : HeldFacts → List ℕ
-held_line held = node_line held.node held.facts.items
+abbrev pub held_line : NodeContents → List ℕ
+held_line held = contents_line held.node held.retired.items held.facts.items
 
 abbrev pub outcome_lines : Outcome → List ℕ
 outcome_lines outcome = count_line outcome.done outcome.refused ++ flat_map held_line outcome.nodes.items

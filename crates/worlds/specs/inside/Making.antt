@@ -3,10 +3,11 @@ use Rattle.std.specs.Prelude.{◌≡◌, ℕ, Bool, Some, List}
 use Rattle.catalog.specs.Entries.{Entry, StandsAt, ids_in}
 use Rattle.identity.specs.declared.key.Key.{Key}
 use Rattle.tile_fact.specs.declared.fact.Fact.{Fact}
+use Rattle.held_facts.specs.Facts.{FactSet}
+use Rattle.held_facts.specs.declared.make_fault.MakeFault.{MakeFault}
+use Rattle.held_facts.specs.declared.make_fault.MakeFault.TheVariants as makes
 use Rattle.node_state.specs.Making.{IsMade, IsMakeFault}
 use Rattle.node_state.specs.States.{State}
-use Rattle.node_state.specs.declared.make_fault.MakeFault.{MakeFault}
-use Rattle.node_state.specs.declared.make_fault.MakeFault.TheVariants as makes
 use Rattle.overlap_tiles.specs.Work.{first_without_room}
 use Rattle.gossip_core.specs.Finishing.{lacked_work}
 use Rattle.gossip_core.specs.Steps.{IsScheduleFor, Work}
@@ -33,7 +34,7 @@ refusal_of makes.Memory = faults.Memory
 refusal_of fault = faults.Make fault
 
 -- the first of the tiles that are lacked that has no room
-abbrev pub IsRoomFault : State → Entry → List Bool → FinishFault → Type 0
+abbrev pub IsRoomFault : FactSet → Entry → List Bool → FinishFault → Type 0
 IsRoomFault s entry inlining (finish.ScratchTooBig key) = first_without_room entry.pipeline inlining (lacked_work s entry inlining)
     ≡ Some key
 IsRoomFault s entry inlining finish.Memory = Unit {0}

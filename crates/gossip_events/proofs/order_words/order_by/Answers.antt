@@ -9,5 +9,5 @@ returns-in-None c =
       some = tt;
       none = λ same order.
           no_order c.args.verb _ (λ e. grind (arith, common_steps, c.in-Deliver.is)) (λ e. grind (arith, common_steps, c.in-Deliver.is))
-          c.in-None.ensures.none order;
+          (λ e. grind (arith, common_steps, c.in-Deliver.is)) c.in-None.ensures.none order;
     }

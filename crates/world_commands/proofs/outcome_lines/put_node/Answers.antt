@@ -7,10 +7,10 @@ pub returns-in_err-put_head : goal.returns-in_err-put_head
 returns-in_err-put_head g c =
     let node = c.args.node.now in
     puts_err c.from_residual.result _ _ _ _ _ _ _ c.from_residual.ensures.0
-    (breaks_front (node_head node.node) (written node.facts.items) _ _ _ _ _ c.in_err-put_head.ensures)
+    (breaks_front (node_head node.node) (written node.retired.items node.facts.items) _ _ _ _ _ c.in_err-put_head.ensures)
 
 pub returns : goal.returns
 returns g c =
     let node = c.args.node.now in
-    puts_then c.put_union.result (node_head node.node) (written node.facts.items) _ _ _ _ _ _ _ _ _ c.in_ok-put_head.ensures
-    (rw c.deref.ensures.value at c.put_union.ensures)
+    puts_then c.put_line.result (node_head node.node) (written node.retired.items node.facts.items) _ _ _ _ _ _ _ _ _ c.in_ok-put_head.ensures
+    (rw (c.deref.ensures.value, c.deref-2.ensures.value) at c.put_line.ensures)

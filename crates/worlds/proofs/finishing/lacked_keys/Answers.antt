@@ -1,6 +1,6 @@
 use Rattle.std.proofs.Common.{rules, ap, ◌∙◌, filter}
 use Rattle.std.proofs.lemmas.Fn.{filter_same}
-use Rattle.node_state.specs.HeldAnswers.{lacks}
+use Rattle.held_facts.specs.HeldAnswers.{lacks}
 use Rattle.worlds.proofs.finishing.lacked_keys.Goals as goal
 
 pub returns : goal.returns

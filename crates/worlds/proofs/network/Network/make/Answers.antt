@@ -1,9 +1,10 @@
-use Rattle.std.proofs.Common.{◌≡◌, ◌<◌, ℕ, OnOk, sym, ap, ◌∙◌, subst}
+use Rattle.std.proofs.Common.{arith, ◌≡◌, ◌<◌, ◌≤◌, ℕ, OnOk, refl, sym, ap, ◌∙◌, subst}
 use Rattle.std.proofs.lemmas.Result.{IfOk-weaker}
 use Rattle.gossip_core.specs.Steps.{Refuses, with_message}
 use Rattle.gossip_events.specs.declared.event.Event.TheVariants.{Make}
 use Rattle.node_state.specs.States.{with_fact}
-use Rattle.worlds.proofs.StepLaws.{made, not_made}
+use Rattle.worlds.proofs.OneUpdate.{fact_alone}
+use Rattle.worlds.proofs.StepLaws.{made, not_made, not_there}
 use Rattle.worlds.proofs.network.Network.make.Goals as goal
 
 pub returns-in-Err-clause-refused : goal.returns-in-Err-clause-refused
@@ -19,5 +20,10 @@ returns-clause-done g c =
     (subst (λ x. c.args.n < x) (c.len.ensures ∙ c.self.inside.nodes.ok.0) c.if-n-len.false) c.args.key.now _ _ c.node.view_is
     c.index-node.ensures c.in-Ok.fact c.post.new.self c.in-Ok.ensures.made
     (sent ∙ ap (with_message c.args.self.now c.args.n)
-    (c.in_ok-take.ensures.added ∙ ap (λ s. with_fact s c.in-Ok.fact) c.new-facts.ensures)))
+    (c.in_ok-take.ensures.added ∙ ap (λ s. with_fact s c.in-Ok.fact) c.new-state.ensures ∙ fact_alone c.in-Ok.fact)))
     c.post.ensures.sent
+
+pub returns-then-n-len-clause-refused : goal.returns-then-n-len-clause-refused
+returns-then-n-len-clause-refused g c =
+    not_there c.args.jobs.now _ _ (Make c.args.n c.args.key.now) c.args.n c.self.view_is (0, omega arith, refl)
+    (subst (λ x. x ≤ c.args.n) (c.len.ensures ∙ c.self.inside.nodes.ok.0) c.if-n-len.true)

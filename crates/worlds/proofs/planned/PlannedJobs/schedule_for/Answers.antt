@@ -1,6 +1,6 @@
 use Rattle.std.proofs.Common.{◌≡◌, ℕ, IfNone, List, sym, subst}
 use Rattle.catalog.specs.Entries.{StandsAt, ids_in}
-use Rattle.catalog.specs.declared.ids.Ids.{Ids}
+use Rattle.identity.specs.declared.job_ids.Ids.{Ids}
 use Rattle.gossip_core.specs.Steps.{Work}
 use Rattle.worlds.proofs.StepLaws.{none_lacking, scheduled}
 use Rattle.worlds.proofs.planned.PlannedJobs.schedule_for.Goals as goal

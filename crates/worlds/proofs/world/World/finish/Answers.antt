@@ -10,7 +10,7 @@ returns-clause-finishes g c =
     let w = c.args.self.now in
     let p = c.in_ok-planned.planned in
     finishes w c.args.n c.args.job (entry_of p.job.now) p.schedule.now.inlining p.held.now c.in_ok-planned.ensures.planned
-    c.in_ok-planned.ensures.held (subst (λ (v : WorldView). IsWorld v.work v.network) c.self.view_is c.self.invariant)
+    c.in_ok-planned.ensures.held c.in_ok-planned.ensures.live (subst (λ (v : WorldView). IsWorld v.work v.network) c.self.view_is c.self.invariant)
     c.in_ok-planned.ensures.there.0 c.in_ok-keys.keys.items c.in_ok-keys.ensures.keys c.in_ok-keys.ensures.room
     c.in_ok-making_events.field-0.items
     (c.in_ok-making_events.ensures

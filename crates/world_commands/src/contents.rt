@@ -1,0 +1,42 @@
+//! What nodes know, ready to be written.
+
+ghost use Rattle.fact_lines.specs.Written.{AreCounts};
+ghost use Rattle.node_state.specs.States.{facts_in, retired_in};
+ghost use Rattle.std.specs.Prelude.{◌≡◌, IfOk};
+
+use fact_lines::{Counts, counts_of};
+use identity::Ids;
+use node_state::NodeState;
+use std::alloc::{AllocError, Global};
+use tile_fact::Fact;
+
+/// The jobs that a node knows to be retired and the facts that it holds, both rising, and how many there are of each.
+#[derive(Drop)]
+pub struct NodeContents {
+    pub node: u8,
+    pub retired: Vec<Ids>,
+    pub facts: Vec<Fact>,
+    pub counts: Counts,
+    ghost counted: { AreCounts counts retired.items facts.items },
+}
+
+impl NodeContents {
+    /// What the state of a node has. More jobs or facts than a file can count are answered as if memory ran out.
+    pub fn of(alloc: Global, node: u8, state: &NodeState) -> Result<NodeContents, AllocError>
+        ensures node { IfOk result (λ contents. contents.node ≡ node) }
+        ensures retired { IfOk result (λ contents. contents.retired.items ≡ retired_in state.now) }
+        ensures facts { IfOk result (λ contents. contents.facts.items ≡ facts_in state.now) }
+    {
+        let retired = state.retired().to_vec(alloc)?;
+        let facts = state.held().facts()?;
+        match counts_of(&retired, &facts) {
+            Some(counts) => Ok(NodeContents {
+                node,
+                retired,
+                facts,
+                counts,
+            }),
+            None => Err(AllocError),
+        }
+    }
+}
