@@ -1,14 +1,17 @@
 -- A history with one event more.
 use Rattle.std.proofs.Common.{ap, sym, ◌∙◌, subst, refl}
-use Rattle.std.specs.Prelude.{◌≡◌, ◌↔◌, List, [], ◌∷◌, ◌++◌}
+use Rattle.std.specs.Prelude.{◌≡◌, List, [], ◌∷◌, ◌++◌}
 use Rattle.catalog.specs.Entries.{Entry, IsCatalog}
 use Rattle.identity.specs.declared.key.Key.{Key}
-use Rattle.node_state.specs.Answers.{AreHeld}
-use Rattle.node_state.specs.HeldFacts.{HoldsTrueFacts}
-use Rattle.node_state.specs.States.{State, nothing, join}
+use Rattle.held_facts.specs.Answers.{AreHeld}
+use Rattle.held_facts.specs.HeldFacts.{HoldsTrueFacts}
+use Rattle.identity.specs.declared.job_ids.Ids.{Ids}
+use Rattle.node_state.specs.States.{State, nothing, join, retired_in}
+use Rattle.tile_fact.specs.declared.update.Update.{Update}
+use Rattle.updates.specs.TrueUpdates.{AreTrue}
 use Rattle.books.specs.Books.{IsBook}
-use Rattle.books.specs.Histories.{IsLegal, IsLegalFrom, MayFollow, Node, after, new_node, replay, replay_from}
-use Rattle.books.specs.Updates.{AreTrue, Update, state_of}
+use Rattle.books.specs.Histories.{IsLegalFrom, MayFollow, Node, after, new_node, replay_from}
+use Rattle.books.specs.Updates.{state_of}
 use Rattle.books.specs.declared.event.Event.{Event}
 use Rattle.books.specs.declared.event.Event.TheVariants.{Lent, Took, Kept, Restarted}
 use Rattle.books.proofs.UpdateLaws.{true_join, true_nothing, true_state_of}
@@ -43,7 +46,7 @@ module _ (catalog : List Entry) where
 
   -- the book after an event that may follow, and leaves true facts
   book_more : (held kept : State) (h : List Event) (e : Event) → IsBook catalog held kept h → MayFollow (node held kept) e
-      → HoldsTrueFacts catalog (after (node held kept) e).held → HoldsTrueFacts catalog (after (node held kept) e).kept
+      → HoldsTrueFacts catalog (after (node held kept) e).held.facts → HoldsTrueFacts catalog (after (node held kept) e).kept.facts
       → IsBook catalog (after (node held kept) e).held (after (node held kept) e).kept (h ++ e ∷ [])
   book_more held kept h e b may true_held true_kept =
       record {
@@ -54,9 +57,10 @@ module _ (catalog : List Entry) where
         true_kept = true_kept;
       }
 
-  pub book_lent : (held kept : State) (h : List Event) (keys : List Key) → IsBook catalog held kept h → AreHeld held keys
-      → IsBook catalog held kept (h ++ Lent keys ∷ [])
-  book_lent held kept h keys b are = book_more held kept h (Lent keys) b are b.true_held b.true_kept
+  pub book_lent : (held kept : State) (h : List Event) (keys : List Key) (retired : List Ids) → IsBook catalog held kept h
+      → AreHeld held.facts keys → retired ≡ retired_in held → IsBook catalog held kept (h ++ Lent keys retired ∷ [])
+  book_lent held kept h keys retired b are told =
+      book_more held kept h (Lent keys retired) b (are, told) b.true_held b.true_kept
 
   pub book_took : (held kept : State) (h : List Event) (us : List Update) → IsBook catalog held kept h → AreTrue catalog us
       → IsBook catalog (join held (state_of us)) kept (h ++ Took us ∷ [])

@@ -1,16 +1,18 @@
 -- What is lent of a state of true facts.
 use Rattle.std.proofs.Common.{ap, arith, refl, subst, sym, ◌∙◌}
 use Rattle.std.specs.List.{Contains}
-use Rattle.std.specs.Prelude.{◌≡◌, ◌↔◌, true, List, [], ◌∷◌}
+use Rattle.std.specs.Prelude.{◌≡◌, true, List, [], ◌∷◌}
 use Rattle.catalog.specs.Entries.{Entry, IsCatalog}
 use Rattle.fact_audit.proofs.Judging.{one_true}
 use Rattle.fact_store.proofs.KeyLaws.{in_facts, in_facts_of}
 use Rattle.fact_store.proofs.SetLaws.{facts_rise}
 use Rattle.identity.specs.declared.key.Key.{Key}
-use Rattle.node_state.proofs.LentLaws.{in_lent}
-use Rattle.node_state.specs.Answers.{AreHeld}
-use Rattle.node_state.specs.HeldFacts.{HoldsTrueFacts}
-use Rattle.node_state.specs.States.{State, facts_in, facts_of, holds, lent}
+use Rattle.fact_store.specs.Facts.{FactSet}
+use Rattle.held_facts.proofs.LentLaws.{in_lent}
+use Rattle.held_facts.specs.Answers.{AreHeld}
+use Rattle.held_facts.specs.Facts.{facts_in, facts_of, holds, lent}
+use Rattle.held_facts.specs.HeldFacts.{HoldsTrueFacts}
+use Rattle.node_state.specs.States.{State}
 use Rattle.tile_fact.specs.declared.fact.Fact.{Fact}
 use Rattle.books.specs.Histories.{Node, replay}
 use Rattle.books.specs.Loans.{AreTrueFactsOf}
@@ -20,7 +22,7 @@ first_of : (fs : List Fact) → ¬ (fs ≡ []) → (f : Fact) × Contains fs f
 first_of [] some = absurd (some refl)
 first_of (f ∷ fs) some = (f, (0, omega arith, refl))
 
-module _ (catalog : List Entry) (s : State) (keys : List Key) where
+module _ (catalog : List Entry) (s : FactSet) (keys : List Key) where
   in_loan : (f : Fact) → Contains (facts_in (lent s keys)) f → (holds s f ≡ true) × Contains keys f.key
   in_loan f among = (in_lent s keys f).0 ((in_facts (lent s keys) f).0 among)
 
@@ -44,5 +46,5 @@ module _ (catalog : List Entry) (s : State) (keys : List Key) where
 -- what is lent of what a history leaves
 pub lent_by_history : (held kept : State) (h : List Event) (keys : List Key) (facts : List Fact)
     → replay h ≡ record { held = held; kept = kept }
-    → facts ≡ facts_in (lent held keys) → facts ≡ facts_in (lent (replay h).held keys)
-lent_by_history held kept h keys facts stands is = is ∙ ap (λ (n : Node). facts_in (lent n.held keys)) (sym stands)
+    → facts ≡ facts_in (lent held.facts keys) → facts ≡ facts_in (lent (replay h).held.facts keys)
+lent_by_history held kept h keys facts stands is = is ∙ ap (λ (n : Node). facts_in (lent n.held.facts keys)) (sym stands)

@@ -1,7 +1,7 @@
 -- What a book keeps, and what recording is.
 use Rattle.std.specs.Prelude.{◌≡◌, List, [], ◌∷◌, ◌++◌, length}
 use Rattle.catalog.specs.Entries.{Entry, IsCatalog}
-use Rattle.node_state.specs.HeldFacts.{HoldsTrueFacts}
+use Rattle.held_facts.specs.HeldFacts.{HoldsTrueFacts}
 use Rattle.node_state.specs.States.{State}
 use Rattle.books.specs.Histories.{IsLegal, replay}
 use Rattle.books.specs.declared.event.Event.{Event}
@@ -12,8 +12,8 @@ pub record IsBook (catalog : List Entry) (held kept : State) (history : List Eve
   pub jobs : IsCatalog catalog
   pub stands : replay history ≡ record { held = held; kept = kept }
   pub legal : IsLegal history
-  pub true_held : HoldsTrueFacts catalog held
-  pub true_kept : HoldsTrueFacts catalog kept
+  pub true_held : HoldsTrueFacts catalog held.facts
+  pub true_kept : HoldsTrueFacts catalog kept.facts
 
 -- the event is appended to the history, and the receipt tells it at its number
 pub record IsRecorded (old new : List Event) (event : Event) (receipt : Receipt) : Type 0 where

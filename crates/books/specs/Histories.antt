@@ -1,7 +1,7 @@
 -- What the history of one node leaves, and which histories are legal. A history has its oldest event first.
-use Rattle.std.specs.Prelude.{List, [], ◌∷◌}
-use Rattle.node_state.specs.Answers.{AreHeld}
-use Rattle.node_state.specs.States.{State, nothing, join}
+use Rattle.std.specs.Prelude.{◌≡◌, List, [], ◌∷◌}
+use Rattle.held_facts.specs.Answers.{AreHeld}
+use Rattle.node_state.specs.States.{State, nothing, join, retired_in}
 use Rattle.books.specs.Updates.{state_of}
 use Rattle.books.specs.declared.event.Event.{Event}
 use Rattle.books.specs.declared.event.Event.TheVariants.{Lent, Took, Kept, Restarted}
@@ -16,7 +16,7 @@ new_node = record { held = nothing; kept = nothing }
 
 -- the node after an event
 abbrev pub after : Node → Event → Node
-after n (Lent keys) = n
+after n (Lent keys retired) = n
 after n (Took updates) = record { held = join n.held (state_of updates); kept = n.kept }
 after n Kept = record { held = n.held; kept = n.held }
 after n Restarted = record { held = n.kept; kept = n.kept }
@@ -29,9 +29,9 @@ replay_from n (e ∷ history) = replay_from (after n e) history
 abbrev pub replay : List Event → Node
 replay history = replay_from new_node history
 
--- keys are lent where a fact of each is held
+-- keys are lent where a fact of each is held, and with them all retired jobs are told
 abbrev pub MayFollow : Node → Event → Type 0
-MayFollow n (Lent keys) = AreHeld n.held keys
+MayFollow n (Lent keys retired) = AreHeld n.held.facts keys × (retired ≡ retired_in n.held)
 MayFollow n (Took updates) = Unit {0}
 MayFollow n Kept = Unit {0}
 MayFollow n Restarted = Unit {0}

@@ -1,6 +1,6 @@
 -- What is lent of a node whose facts are true.
 use Rattle.std.specs.List.{Contains}
-use Rattle.std.specs.Prelude.{◌≡◌, List, All}
+use Rattle.std.specs.Prelude.{◌≡◌, List}
 use Rattle.catalog.specs.Entries.{Entry}
 use Rattle.fact_audit.specs.TrueFacts.{IsTrueFact}
 use Rattle.identity.specs.declared.key.Key.{Key}

@@ -3,14 +3,15 @@
 ghost use Rattle.books.specs.Books.{IsRecorded};
 ghost use Rattle.books.specs.Histories.{IsLegal, replay};
 ghost use Rattle.books.specs.Loans.{AreTrueFactsOf};
-ghost use Rattle.books.specs.Updates.{AreTrue, state_of};
+ghost use Rattle.books.specs.Updates.{state_of, with_update};
 ghost use Rattle.books.specs.declared.event.Event.TheVariants.{Kept, Lent, Restarted, Took};
-ghost use Rattle.node_state.specs.Answers.{IsLendFault};
-ghost use Rattle.node_state.specs.HeldFacts.{HoldsTrueFacts};
-ghost use Rattle.node_state.specs.States.{facts_in, lent};
+ghost use Rattle.held_facts.specs.Answers.{IsLendFault};
+ghost use Rattle.held_facts.specs.HeldFacts.{HoldsTrueFacts};
+ghost use Rattle.node_state.specs.States.{facts_in, lent, retired_in};
 ghost use Rattle.std.specs.Prelude.{◌≡◌, ◌++◌, ◌∷◌, [], IfErr, IfOk, OnErr, OnOk, length};
+ghost use Rattle.updates.specs.TrueUpdates.{AreTrue};
 
-use crate::event::{Event, Updates, keys_of, updates_of};
+use crate::event::{Event, Updates, lending_of, updates_of};
 use crate::receipt::{Loan, Receipt};
 use catalog::Catalog;
 use fact_store::{FactStore, TableFacts};
@@ -19,7 +20,7 @@ use named_catalogs::NamedCatalog;
 use node_state::{LendFault, NodeState};
 use std::alloc::{AllocError, AllocFailed, Global};
 use std::marker::{Model, PhantomData};
-use tile_fact::Fact;
+use tile_fact::Update;
 
 /// What one node holds and what it keeps, over any store, with the history of all that happened to it. Contracts see the history: what
 /// is held and kept is what it leaves, it is legal, and each fact that is held or kept is true of the catalog that the type names.
@@ -64,7 +65,7 @@ impl<C: NamedCatalog, S: FactStore> NodeBook<C, S> {
     /// What is held.
     pub fn held(&self) -> &NodeState<S>
         ensures stands { result.now ≡ (replay self.now).held }
-        ensures truth { HoldsTrueFacts C.catalog result.now }
+        ensures truth { HoldsTrueFacts C.catalog result.now.facts }
     {
         &self.held
     }
@@ -72,7 +73,7 @@ impl<C: NamedCatalog, S: FactStore> NodeBook<C, S> {
     /// What is kept for a restart.
     pub fn kept(&self) -> &NodeState<S>
         ensures stands { result.now ≡ (replay self.now).kept }
-        ensures truth { HoldsTrueFacts C.catalog result.now }
+        ensures truth { HoldsTrueFacts C.catalog result.now.facts }
     {
         &self.kept
     }
@@ -85,7 +86,8 @@ impl<C: NamedCatalog, S: FactStore> NodeBook<C, S> {
         &self.history
     }
 
-    /// Lends the facts of the keys, which may stand in any order and more than once, and records it.
+    /// Lends the facts of the keys, which may stand in any order and more than once, gives the identities of all retired jobs with
+    /// them, and records it.
     ///
     /// # Errors
     ///
@@ -95,26 +97,29 @@ impl<C: NamedCatalog, S: FactStore> NodeBook<C, S> {
             (λ loan. loan.facts.items ≡ facts_in (lent (replay self.old).held keys.now)) }
         ensures truth { IfOk result
             (λ loan. AreTrueFactsOf C.catalog keys.now loan.facts.items) }
+        ensures retired { IfOk result
+            (λ loan. loan.retired.items ≡ retired_in (replay self.old).held) }
         ensures recorded { IfOk result
-            (λ loan. IsRecorded self.old self.new (Lent keys.now) loan.receipt) }
-        ensures fault { IfErr result (IsLendFault (replay self.old).held keys.now) }
+            (λ loan. IsRecorded self.old self.new (Lent keys.now loan.retired.items) loan.receipt) }
+        ensures fault { IfErr result (IsLendFault (replay self.old).held.facts keys.now) }
         ensures unchanged { OnErr result (self.new ≡ self.old) }
     {
         let facts = self.held.lend(keys)?;
-        let lent = keys_of(self.alloc, keys)?;
-        let told = keys_of(self.alloc, keys)?;
+        let retired = self.held.retired().to_vec(self.alloc)?;
+        let lent = lending_of(self.alloc, keys, &retired)?;
+        let event = lending_of(self.alloc, keys, &retired)?;
         self.history.reserve(1)?;
         let number = self.history.len() as u64;
-        self.history.push_reserved(Event::Lent(lent));
-        let receipt = Receipt {
-            number,
-            event: Event::Lent(told),
-        };
-        Ok(Loan { facts, receipt })
+        self.history.push_reserved(lent);
+        Ok(Loan {
+            facts,
+            retired,
+            receipt: Receipt { number, event },
+        })
     }
 
     /// Takes updates into what is held, and records it. Where memory is refused they come back, and all is as before.
-    pub fn take(&mut self, updates: Vec<Fact>) -> Result<Receipt, AllocFailed<Vec<Fact>>>
+    pub fn take(&mut self, updates: Vec<Update>) -> Result<Receipt, AllocFailed<Vec<Update>>>
         requires { AreTrue C.catalog updates.items }
         ensures recorded { IfOk result (IsRecorded self.old self.new (Took updates.items)) }
         ensures handed_back { IfErr result (λ back. back.value ≡ updates) }
@@ -130,7 +135,7 @@ impl<C: NamedCatalog, S: FactStore> NodeBook<C, S> {
     }
 
     // Takes copies of updates, and gives the number of the event.
-    fn take_copies(&mut self, updates: &[Fact]) -> Result<u64, AllocError>
+    fn take_copies(&mut self, updates: &[Update]) -> Result<u64, AllocError>
         requires { AreTrue C.catalog updates.now }
         ensures recorded { OnOk result (self.new ≡ self.old ++ Took updates.now ∷ []) }
         ensures number { IfOk result (λ number. number ≡ length self.old) }
@@ -180,7 +185,7 @@ impl<C: NamedCatalog, S: FactStore> NodeBook<C, S> {
     /// What is held in the end, and all events.
     pub fn into_parts(self) -> (NodeState<S>, Vec<Event>)
         ensures stands { result.0 ≡ (replay self).held }
-        ensures truth { HoldsTrueFacts C.catalog result.0 }
+        ensures truth { HoldsTrueFacts C.catalog result.0.facts }
         ensures events { result.1.items ≡ self }
         ensures legal { IsLegal self }
     {
@@ -190,12 +195,27 @@ impl<C: NamedCatalog, S: FactStore> NodeBook<C, S> {
 }
 
 // What these updates alone make.
-fn state_of<S: FactStore>(alloc: Global, updates: &[Fact]) -> Result<NodeState<S>, AllocError>
+fn state_of<S: FactStore>(alloc: Global, updates: &[Update]) -> Result<NodeState<S>, AllocError>
     ensures { IfOk result (λ state. state ≡ state_of updates.now) }
 {
     let mut state = NodeState::new(alloc);
     for update in updates {
-        state.take(update.clone()?)?;
+        take_update(&mut state, update)?;
     }
     Ok(state)
+}
+
+// Takes an update into a state.
+fn take_update<S: FactStore>(state: &mut NodeState<S>, update: &Update) -> Result<(), AllocError>
+    ensures { OnOk result (state.new ≡ with_update state.old update.now) }
+{
+    match update {
+        Update::Fact(fact) => {
+            state.take(fact.clone()?)?;
+        }
+        Update::Retire(ids) => {
+            state.retire(ids)?;
+        }
+    }
+    Ok(())
 }

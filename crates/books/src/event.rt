@@ -1,41 +1,45 @@
 //! What happens to a node.
 
+ghost use Rattle.books.specs.declared.event.Event.TheVariants.{Lent};
 ghost use Rattle.std.specs.Prelude.{◌≡◌, IfOk};
 
-use identity::Key;
+use identity::{Ids, Key};
 use sequences::Sequence;
 use std::alloc::{AllocError, Global};
-use tile_fact::Fact;
+use tile_fact::Update;
+use updates::copies_of;
 
 /// Keys, in the order in which they were asked for.
 pub type Keys = Sequence<Key>;
 
-/// Updates, in the order in which they came. An update is a fact.
-pub type Updates = Sequence<Fact>;
+/// The identities of retired jobs, rising.
+pub type Retired = Sequence<Ids>;
 
-/// A copy of keys.
-pub(crate) fn keys_of(alloc: Global, keys: &[Key]) -> Result<Keys, AllocError>
-    ensures { IfOk result (λ copy. copy ≡ keys.now) }
+/// Updates, in the order in which they came.
+pub type Updates = Sequence<Update>;
+
+/// The event that facts of these keys are lent, with these identities of retired jobs.
+pub(crate) fn lending_of(alloc: Global, keys: &[Key], retired: &[Ids]) -> Result<Event, AllocError>
+    ensures { IfOk result (λ event. event ≡ Lent keys.now retired.now) }
 {
-    Ok(Keys::new(keys.to_vec(alloc)?))
+    let keys = Keys::new(keys.to_vec(alloc)?);
+    let retired = Retired::new(retired.to_vec(alloc)?);
+    Ok(Event::Lent(keys, retired))
 }
 
 /// A copy of updates, which shares their numbers.
-pub(crate) fn updates_of(alloc: Global, facts: &[Fact]) -> Result<Updates, AllocError>
-    ensures { IfOk result (λ copy. copy ≡ facts.now) }
+pub(crate) fn updates_of(alloc: Global, updates: &[Update]) -> Result<Updates, AllocError>
+    ensures { IfOk result (λ copy. copy ≡ updates.now) }
 {
-    let mut copies = Vec::with_capacity(alloc, facts.len())?;
-    for fact in facts {
-        copies.push(fact.clone()?)?;
-    }
-    Ok(Updates::new(copies))
+    Ok(Updates::new(copies_of(alloc, updates)?))
 }
 
 /// What happened to a node, as its history tells it.
 #[derive(Debug, Drop)]
 pub enum Event {
-    /// The facts of these keys were lent. What is held and kept stays as it is.
-    Lent(Keys),
+    /// The facts of these keys were lent, and with them the identities of all jobs that were retired there. What is held and kept
+    /// stays as it is.
+    Lent(Keys, Retired),
     /// These updates were taken into what is held.
     Took(Updates),
     /// What was held is kept.

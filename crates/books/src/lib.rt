@@ -7,5 +7,5 @@ pub mod laws;
 mod receipt;
 
 pub use book::NodeBook;
-pub use event::{Event, Keys, Updates};
+pub use event::{Event, Keys, Retired, Updates};
 pub use receipt::{Loan, Receipt};

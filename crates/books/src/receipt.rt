@@ -1,6 +1,7 @@
 //! What a call that is recorded answers.
 
 use crate::event::Event;
+use identity::Ids;
 use tile_fact::Fact;
 
 /// An event, and its number in the history, from 0 on.
@@ -15,5 +16,7 @@ pub struct Receipt {
 pub struct Loan {
     /// The facts, rising.
     pub facts: Vec<Fact>,
+    /// The identities of all jobs that are retired there, rising.
+    pub retired: Vec<Ids>,
     pub receipt: Receipt,
 }

@@ -8,10 +8,10 @@ use Rattle.books.specs.declared.receipt.Receipt.{Receipt}
 use Rattle.receipts.proofs.LongAccounts.{as_long}
 use Rattle.receipts.specs.Accounts.{AccountFor}
 use Rattle.identity.specs.declared.key.Key.{Key}
-use Rattle.node_state.specs.Answers.{IsLendFault}
-use Rattle.node_state.specs.States.{State}
-use Rattle.node_state.specs.declared.answers.LendFault.{LendFault}
-use Rattle.node_state.specs.declared.answers.LendFault.TheVariants.{NotHeld, Memory}
+use Rattle.fact_store.specs.Facts.{FactSet}
+use Rattle.held_facts.specs.Answers.{IsLendFault}
+use Rattle.held_facts.specs.declared.answers.LendFault.{LendFault}
+use Rattle.held_facts.specs.declared.answers.LendFault.TheVariants.{NotHeld, Memory}
 use Rattle.live_nodes.specs.Ends.{End, HaveAllReceipts, IsAsked, calls_of, receipts_of}
 
 calls_are_receipts : (ends : List End) → HaveAllReceipts ends → sum_by length (receipts_of ends) ≡ calls_of ends
@@ -32,7 +32,7 @@ pub all_counted : (history : List Event) (ends : List End) → HaveAllReceipts e
 all_counted history ends have account = as_long history (receipts_of ends) account ∙ calls_are_receipts ends have
 
 -- a fault of a book names a key that was asked for
-pub asked_of : (s : State) (keys : List Key) (fault : LendFault) → IsLendFault s keys fault → IsAsked keys fault
+pub asked_of : (s : FactSet) (keys : List Key) (fault : LendFault) → IsLendFault s keys fault → IsAsked keys fault
 asked_of s keys (NotHeld key) is = is.asked
 asked_of s keys Memory is = tt
 

@@ -2,8 +2,8 @@
 use Rattle.std.specs.Global.{Vec}
 use Rattle.std.specs.List.{Contains}
 use Rattle.std.specs.Prelude.{◌≡◌, ℕ, List, All, length, map, sum_by}
-use Rattle.node_state.specs.declared.answers.LendFault.{LendFault}
-use Rattle.node_state.specs.declared.answers.LendFault.TheVariants.{NotHeld, Memory}
+use Rattle.held_facts.specs.declared.answers.LendFault.{LendFault}
+use Rattle.held_facts.specs.declared.answers.LendFault.TheVariants.{NotHeld, Memory}
 use Rattle.identity.specs.declared.key.Key.{Key}
 use Rattle.books.specs.Histories.{IsLegal}
 use Rattle.books.specs.declared.event.Event.{Event}

@@ -1,8 +1,8 @@
 //! The end of a node.
 
 ghost use Rattle.books.specs.Histories.{IsLegal, replay};
+ghost use Rattle.held_facts.specs.HeldFacts.{HoldsTrueFacts};
 ghost use Rattle.live_nodes.specs.Ends.{receipts_of};
-ghost use Rattle.node_state.specs.HeldFacts.{HoldsTrueFacts};
 ghost use Rattle.receipts.specs.Accounts.{AccountFor, IsCloseFault};
 ghost use Rattle.std.specs.Prelude.{◌≡◌, IfErr, IfOk};
 
@@ -65,7 +65,7 @@ pub fn close_book<C: NamedCatalog, S: FactStore>(
 ) -> Result<Closed<S>, (NodeBook<C, S>, Vec<(Seat, Vec<Receipt>)>, CloseFault)>
     ensures history { IfOk result (λ closed. closed ≡ book) }
     ensures legal { IsLegal book }
-    ensures truth { HoldsTrueFacts C.catalog (replay book).held }
+    ensures truth { HoldsTrueFacts C.catalog (replay book).held.facts }
     ensures receipts { IfOk result (λ closed. AccountFor closed (receipts_of ends.items)) }
     ensures handed_back { IfErr result (λ back. (back.0 ≡ book) × (back.1 ≡ ends)) }
     ensures fault { IfErr result (λ back. IsCloseFault book (receipts_of ends.items) back.2) }

@@ -2,12 +2,12 @@
 
 ghost use Rattle.books.specs.Histories.{IsLegal, replay};
 ghost use Rattle.books.specs.Loans.{AreTrueFactsOf};
-ghost use Rattle.books.specs.Updates.{AreTrue};
 ghost use Rattle.books.specs.declared.event.Event.TheVariants.{Kept, Lent, Restarted, Took};
+ghost use Rattle.held_facts.specs.HeldFacts.{HoldsTrueFacts};
 ghost use Rattle.live_nodes.specs.Ends.{HaveAllReceipts, IsAsked, IsSomeCloseFault, calls_of, receipts_of};
-ghost use Rattle.node_state.specs.HeldFacts.{HoldsTrueFacts};
 ghost use Rattle.receipts.specs.Accounts.{AccountFor};
 ghost use Rattle.std.specs.Prelude.{◌≡◌, ◌+◌, All, IfErr, IfOk, OnErr, OnOk, length};
+ghost use Rattle.updates.specs.TrueUpdates.{AreTrue};
 
 use crate::closed::{Closed, close_book};
 use crate::seat::Seat;
@@ -19,7 +19,7 @@ use node_state::{LendFault, NodeState};
 use receipts::CloseFault;
 use std::alloc::{AllocError, AllocFailed, Global};
 use std::sync::{Mutex, Wait};
-use tile_fact::Fact;
+use tile_fact::Update;
 
 /// A node that threads share: a book under a lock. Each thread calls it with a seat of its own, and is answered a receipt for each call
 /// that is recorded. A call tells nothing of what other threads do; that calls of all threads are one history, `close` finds by the
@@ -51,12 +51,12 @@ impl<C: NamedCatalog> LiveNode<C> {
 
     /// A copy of what is held. It is not recorded.
     pub fn state<R: Wait>(&self, rt: &R) -> Result<NodeState, AllocError>
-        ensures { IfOk result (HoldsTrueFacts C.catalog) }
+        ensures { IfOk result (λ state. HoldsTrueFacts C.catalog state.facts) }
     {
         self.book.lock(rt).held().copy()
     }
 
-    /// Lends the facts of the keys, as `NodeBook::lend` does: the one true fact of each, rising.
+    /// Lends the facts of the keys, as `NodeBook::lend` does: the one true fact of each, rising, and the identities of retired jobs.
     ///
     /// # Errors
     ///
@@ -64,7 +64,8 @@ impl<C: NamedCatalog> LiveNode<C> {
     pub fn lend<R: Wait>(&self, rt: &R, seat: &mut Seat, keys: &[Key]) -> Result<Loan, LendFault>
         ensures truth { IfOk result
             (λ loan. AreTrueFactsOf C.catalog keys.now loan.facts.items) }
-        ensures told { IfOk result (λ loan. loan.receipt.event ≡ Lent keys.now) }
+        ensures told { IfOk result
+            (λ loan. loan.receipt.event ≡ Lent keys.now loan.retired.items) }
         ensures counted { OnOk result (seat.new ≡ seat.old + 1) }
         ensures asked { IfErr result (IsAsked keys.now) }
         ensures unchanged { OnErr result (seat.new ≡ seat.old) }
@@ -80,8 +81,8 @@ impl<C: NamedCatalog> LiveNode<C> {
         &self,
         rt: &R,
         seat: &mut Seat,
-        updates: Vec<Fact>,
-    ) -> Result<Receipt, AllocFailed<Vec<Fact>>>
+        updates: Vec<Update>,
+    ) -> Result<Receipt, AllocFailed<Vec<Update>>>
         requires { AreTrue C.catalog updates.items }
         ensures told { IfOk result (λ receipt. receipt.event ≡ Took updates.items) }
         ensures counted { OnOk result (seat.new ≡ seat.old + 1) }
@@ -133,7 +134,8 @@ impl<C: NamedCatalog> LiveNode<C> {
     ) -> Result<Closed, (LiveNode<C>, Vec<(Seat, Vec<Receipt>)>, CloseFault)>
         requires { HaveAllReceipts ends.items }
         ensures legal { IfOk result IsLegal }
-        ensures truth { IfOk result (λ closed. HoldsTrueFacts C.catalog (replay closed).held) }
+        ensures truth { IfOk result
+            (λ closed. HoldsTrueFacts C.catalog (replay closed).held.facts) }
         ensures receipts { IfOk result (λ closed. AccountFor closed (receipts_of ends.items)) }
         ensures counted { IfOk result (λ closed. length closed ≡ calls_of ends.items) }
         ensures handed_back { IfErr result (λ back. back.1 ≡ ends) }

@@ -3,20 +3,19 @@ use Rattle.std.proofs.Common.{ap, sym, ◌∙◌, subst, arith, refl, append_ass
 use Rattle.std.proofs.lemmas.List.{length-replicate}
 use Rattle.std.proofs.lemmas.List.Elements.{All-cons, All-nil}
 use Rattle.std.specs.List.{All}
-use Rattle.std.specs.Prelude.{◌≡◌, ℕ, zero, suc, ◌<◌, List, [], ◌∷◌, ◌++◌, Some, length, replicate, slice_get, slice_set, true}
-use Rattle.tile_fact.specs.declared.fact.Fact.{Fact}
-use Rattle.node_state.specs.States.{holds, join, nothing}
+use Rattle.std.specs.Prelude.{◌≡◌, ℕ, zero, suc, ◌<◌, List, [], ◌∷◌, ◌++◌, Some, length, replicate, slice_get, slice_set}
+use Rattle.node_state.specs.States.{State, join}
+use Rattle.states.proofs.LeaveLaws.{left_same}
 use Rattle.books.specs.Histories.{Node, after, replay, replay_from}
 use Rattle.books.specs.Updates.{state_of}
 use Rattle.books.specs.declared.event.Event.{Event}
 use Rattle.books.specs.declared.event.Event.TheVariants.{Lent, Took, Kept, Restarted}
-use Rattle.fact_store.proofs.SetLaws.{holds-nothing}
-use Rattle.gossip_core.proofs.Following.{Follows, follows_start, follows_step}
+use Rattle.gossip_core.proofs.Following.{Follows, follows_start, follows_step, taken_grown}
 use Rattle.gossip_core.proofs.StateLaws.{states_start}
 use Rattle.gossip_core.specs.Networks.{Network, NodeStates, Sent}
-use Rattle.gossip_core.specs.Steps.{Work, held, no_states, states_at, with_held}
-use Rattle.gossip_core.proofs.TakingLaws.{kept_ungrown, ungrown}
-use Rattle.gossip_core.specs.Taking.{IsTaken, IsTakenAtKeep, Took as TookFact, TookAtKeep}
+use Rattle.gossip_core.specs.Steps.{Work, held, kept, no_states, states_at, with_held}
+use Rattle.gossip_core.proofs.TakingLaws.{kept_grown, kept_ungrown}
+use Rattle.gossip_core.specs.Taking.{CameAtKeep, IsTaken, IsTakenAtKeep}
 use Rattle.gossip_events.specs.declared.event.Event.{Event as Step}
 use Rattle.gossip_events.specs.declared.event.Event.TheVariants.{Deliver, Keep, Restart}
 use Rattle.node_histories.specs.Playing.{Plays, Runs, newest_first, node_in, with_node}
@@ -78,12 +77,12 @@ module _ (u : Work) (n : ℕ) where
   pub runs : (w : Network) (h : List Event) (events : List Step) → n < length w.nodes → Plays w.messages n h events
       → Runs u w events (with_node w n (replay_from (node_in w n) h))
   runs w [] events within plays = subst (λ (es : List Step). Runs u w es (with_node w n (node_in w n))) (sym plays) (own_node w n within)
-  runs w (Lent keys ∷ h) events within plays = runs w h events within plays
+  runs w (Lent keys retired ∷ h) events within plays = runs w h events within plays
   runs w (Took us ∷ h) events within (k, rest, same, brings, plays) =
       let node = after (node_in w n) (Took us) in
       subst (λ (es : List Step). Runs u w es (with_node w n (replay_from node h))) (sym same) (
         with_node w n node,
-        (has_node w within, (record { to = n; facts = state_of us }, brings, refl, refl)),
+        (has_node w within, (record { to = n; state = state_of us }, brings, refl, refl)),
         subst (Runs u (with_node w n node) rest) (settled w node h within)
             (runs (with_node w n node) h rest (kept_length w n node within) plays),
       )
@@ -112,12 +111,12 @@ module _ (u : Work) (n : ℕ) where
       → new ≡ with_node w n (replay_from (node_in w n) h)
   only w new [] events within plays run =
       let there : new ≡ w = subst (λ (es : List Step). Runs u w es new) plays run in there ∙ sym (own_node w n within)
-  only w new (Lent keys ∷ h) events within plays run = only w new h events within plays run
+  only w new (Lent keys retired ∷ h) events within plays run = only w new h events within plays run
   only w new (Took us ∷ h) events within (k, rest, same, brings, plays) run =
       let node = after (node_in w n) (Took us) in
       let one = subst (λ (es : List Step). Runs u w es new) same run in
       let is = same_message w.messages k _ _ one.1.1.1 brings in
-      let next : one.0 ≡ with_node w n node = one.1.1.3 ∙ ap (λ (m : Sent). with_held w n (join (held w n) m.facts)) is in
+      let next : one.0 ≡ with_node w n node = one.1.1.3 ∙ ap (λ (m : Sent). with_held w n (join (held w n) m.state)) is in
       only (with_node w n node) new h rest (kept_length w n node within) plays (subst (λ (x : Network). Runs u x rest new) next one.2)
       ∙ settled w node h within
   only w new (Kept ∷ h) events within (rest, same, plays) run =
@@ -139,9 +138,9 @@ sent_there (x ∷ ms) more m = sent_there ms more m
 
 each_from : (n : ℕ) (ms : List Sent) (h : List Event) → (more : List Sent) × (events : List Step) × Plays (ms ++ more) n h events
 each_from n ms [] = ([], [], refl)
-each_from n ms (Lent keys ∷ h) = each_from n ms h
+each_from n ms (Lent keys retired ∷ h) = each_from n ms h
 each_from n ms (Took us ∷ h) =
-    let m : Sent = record { to = n; facts = state_of us } in
+    let m : Sent = record { to = n; state = state_of us } in
     let rest = each_from n (ms ++ m ∷ []) h in
     let plays = subst (λ (all : List Sent). Plays all n h rest.1) (append_assoc ms (m ∷ []) rest.0) rest.2 in
     (m ∷ rest.0, Deliver n (length ms) ∷ rest.1, (length ms, rest.1, refl, sent_there ms rest.0 m, plays))
@@ -160,34 +159,30 @@ no_work = record { jobs = []; schedules = [] }
 abbrev beside : List Sent → ℕ → Network
 beside ms size = record { nodes = replicate size no_states; messages = ms }
 
-holds_none : (f : Fact) → holds nothing f ≡ true → ⊥
-holds_none f has = let none = holds-nothing f in cc
+-- more messages give nothing where no event was
+module _ (n : ℕ) (s : State) where
+  taken_beside : (ms more : List Sent) → IsTaken ms [] n s → IsTaken (ms ++ more) [] n s
+  taken_beside ms [] is = subst (λ (all : List Sent). IsTaken all [] n s) (sym (append-nil ms)) is
+  taken_beside ms (m ∷ more) is =
+      subst (λ (all : List Sent). IsTaken all [] n s) (append_assoc ms (m ∷ []) more)
+      (taken_beside (ms ++ m ∷ []) more (taken_grown ms m [] n s tt is))
 
-module _ (f : Fact) (n : ℕ) where
-  -- more messages give nothing where no event was
-  none_took : (ms more : List Sent) → (TookFact ms f [] n → ⊥) → TookFact (ms ++ more) f [] n → ⊥
-  none_took ms [] none took = none (subst (λ (all : List Sent). TookFact all f [] n) (append-nil ms) took)
-  none_took ms (m ∷ more) none took =
-      none_took (ms ++ m ∷ []) more (λ t. none (ungrown ms m f [] n tt t))
-      (subst (λ (all : List Sent). TookFact all f [] n) (sym (append_assoc ms (m ∷ []) more)) took)
+  kept_more : (ms : List Sent) (m : Sent) → IsTakenAtKeep ms [] n s → IsTakenAtKeep (ms ++ m ∷ []) [] n s
+  kept_more ms m is =
+      left_same (λ u. CameAtKeep ms u [] n) (λ u. CameAtKeep (ms ++ m ∷ []) u [] n) s is
+      (λ u. (kept_grown ms m u [] n tt, kept_ungrown ms m u [] n tt))
 
-  none_kept : (ms more : List Sent) → (TookAtKeep ms f [] n → ⊥) → TookAtKeep (ms ++ more) f [] n → ⊥
-  none_kept ms [] none took = none (subst (λ (all : List Sent). TookAtKeep all f [] n) (append-nil ms) took)
-  none_kept ms (m ∷ more) none took =
-      none_kept (ms ++ m ∷ []) more (λ t. none (kept_ungrown ms m f [] n tt t))
-      (subst (λ (all : List Sent). TookAtKeep all f [] n) (sym (append_assoc ms (m ∷ []) more)) took)
+  kept_beside : (ms more : List Sent) → IsTakenAtKeep ms [] n s → IsTakenAtKeep (ms ++ more) [] n s
+  kept_beside ms [] is = subst (λ (all : List Sent). IsTakenAtKeep all [] n s) (sym (append-nil ms)) is
+  kept_beside ms (m ∷ more) is =
+      subst (λ (all : List Sent). IsTakenAtKeep all [] n s) (append_assoc ms (m ∷ []) more)
+      (kept_beside (ms ++ m ∷ []) more (kept_more ms m is))
 
 follows_none : (ms : List Sent) (size : ℕ) → Follows [] (beside ms size)
 follows_none ms size =
     record {
-      holds = λ n f. (
-        (λ has. absurd (holds_none f (ap (λ (q : NodeStates). holds q.held f) (sym (states_start size n)) ∙ has))),
-        λ took. absurd (none_took f n [] ms (λ t. holds_none f (((follows_start 0).holds n f).1 t)) took),
-      );
-      keeps = λ n f. (
-        (λ has. absurd (holds_none f (ap (λ (q : NodeStates). holds q.kept f) (sym (states_start size n)) ∙ has))),
-        λ took. absurd (none_kept f n [] ms (λ t. holds_none f (((follows_start 0).keeps n f).1 t)) took),
-      );
+      holds = λ n. taken_beside n (held (beside ms size) n) [] ms ((follows_start size).holds n);
+      keeps = λ n. kept_beside n (kept (beside ms size) n) [] ms ((follows_start size).keeps n);
       sent = tt;
     }
 

@@ -1,13 +1,14 @@
 -- A history of a node beside events of a world: which of them do to one node of the world what the history did to the node.
 use Rattle.std.specs.Prelude.{◌≡◌, ℕ, List, [], ◌∷◌, Some, slice_get, slice_set}
 use Rattle.books.specs.Histories.{Node}
-use Rattle.books.specs.Updates.{Update, state_of}
+use Rattle.books.specs.Updates.{state_of}
 use Rattle.books.specs.declared.event.Event.{Event}
 use Rattle.books.specs.declared.event.Event.TheVariants.{Lent, Took, Kept, Restarted}
 use Rattle.gossip_core.specs.Networks.{Network, Sent}
 use Rattle.gossip_core.specs.Steps.{Accepts, Work, held, kept}
 use Rattle.gossip_events.specs.declared.event.Event.{Event as Step}
 use Rattle.gossip_events.specs.declared.event.Event.TheVariants.{Deliver, Keep, Restart}
+use Rattle.tile_fact.specs.declared.update.Update.{Update}
 
 -- what node n of a world holds and keeps
 abbrev pub node_in : Network → ℕ → Node
@@ -29,12 +30,12 @@ newest_first (e ∷ events) before = newest_first events (e ∷ before)
 
 -- message k is for node n, and says these updates
 abbrev pub Brings : List Sent → ℕ → ℕ → List Update → Type 0
-Brings messages n k updates = slice_get messages k ≡ Some (record { to = n; facts = state_of updates })
+Brings messages n k updates = slice_get messages k ≡ Some (record { to = n; state = state_of updates })
 
 -- what was taken came by a message, whoever sent it; what was lent is no event, but what another one reads
 abbrev pub Plays : List Sent → ℕ → List Event → List Step → Type 0
 Plays messages n [] events = events ≡ []
-Plays messages n (Lent keys ∷ history) events = Plays messages n history events
+Plays messages n (Lent keys retired ∷ history) events = Plays messages n history events
 Plays messages n (Took updates ∷ history) events =
     (k : ℕ) × (rest : List Step) × (events ≡ Deliver n k ∷ rest) × Brings messages n k updates × Plays messages n history rest
 Plays messages n (Kept ∷ history) events = (rest : List Step) × (events ≡ Keep n ∷ rest) × Plays messages n history rest

@@ -1,5 +1,5 @@
 -- A mailbox has true parcels alone, whatever is put in and taken out.
-use Rattle.std.proofs.Common.{◌≡◌, ℕ, List, [], ◌∷◌, ◌++◌, refl, All}
+use Rattle.std.proofs.Common.{ℕ, List, [], ◌∷◌, ◌++◌, refl}
 use Rattle.std.proofs.lemmas.List.Elements.{All-head, All-push, All-tail}
 use Rattle.catalog.specs.Entries.{Entry}
 use Rattle.crossbeam_queue.specs.Fifo.{Pops, Pushes}

@@ -1,4 +1,4 @@
-//! Mailboxes for facts, which threads share. Only parcels of true facts are put into one, so each that is taken out has true facts.
+//! Mailboxes for updates, which threads share. Only parcels of true updates are put into one, so each that is taken out has true updates.
 #![tactic(auto)]
 
 mod line;

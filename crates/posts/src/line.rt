@@ -26,7 +26,7 @@ impl<'a, C: NamedCatalog> Line<'a, C> {
         }
     }
 
-    /// Puts a parcel of true facts in, as `Post::put` does.
+    /// Puts a parcel of true updates in, as `Post::put` does.
     pub fn put<R: Wait>(&mut self, rt: &R, parcel: Parcel) -> Result<(), Parcel>
         requires is_true { IsTrueParcel C.catalog parcel }
         ensures handed_back { IfErr result (λ back. back ≡ parcel) }
@@ -34,7 +34,7 @@ impl<'a, C: NamedCatalog> Line<'a, C> {
         self.post.put(rt, &mut self.pass, parcel)
     }
 
-    /// Takes a parcel out, as `Post::take` does. Its facts are true.
+    /// Takes a parcel out, as `Post::take` does. Its updates are true.
     pub fn take<R: Wait>(&mut self, rt: &R) -> Option<Parcel>
         ensures is_true { IfSome result (IsTrueParcel C.catalog) }
     {

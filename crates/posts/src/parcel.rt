@@ -1,13 +1,13 @@
 //! What goes through a mailbox.
 
 use std::collections::LinkedList;
-use tile_fact::Fact;
+use tile_fact::Update;
 
-/// Facts on their way, and the node that they come from.
+/// Updates on their way, and the node that they come from.
 #[derive(Debug, Drop)]
 pub struct Parcel {
     pub from: u8,
-    pub facts: Vec<Fact>,
+    pub updates: Vec<Update>,
 }
 
 /// What was put and taken by one pass, in order. Contracts alone speak of it: no value of it is made.

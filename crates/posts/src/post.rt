@@ -15,7 +15,7 @@ use std::sync::Wait;
 
 type Queue<C> = RuledArrayQueue<Parcel, Moves, TrueParcels<C>>;
 
-/// A mailbox that threads share, which has room for so many parcels. All facts in it are true in the catalog that its type names.
+/// A mailbox that threads share, which has room for so many parcels. All updates in it are true in the catalog that its type names.
 #[derive(Drop)]
 pub struct Post<C: NamedCatalog> {
     pub queue: Queue<C>,
@@ -79,7 +79,7 @@ impl<C: NamedCatalog> Post<C> {
         }
     }
 
-    /// Puts a parcel of true facts in. It is handed back where the mailbox was full at some moment of the call. No memory is taken.
+    /// Puts a parcel of true updates in. It is handed back where the mailbox was full at some moment of the call. No memory is taken.
     pub fn put<R: Wait>(&self, rt: &R, pass: &mut Pass<C>, parcel: Parcel) -> Result<(), Parcel>
         requires pass { IsPassOf self.now.queue pass.old.seat }
         requires is_true { IsTrueParcel C.catalog parcel }
@@ -93,7 +93,7 @@ impl<C: NamedCatalog> Post<C> {
             .push_as::<TrueParcels<C>, R>(rt, &mut pass.seat, parcel)
     }
 
-    /// Takes a parcel out, whose facts are true. There is none where the mailbox was empty at some moment of the call. No memory is
+    /// Takes a parcel out, whose updates are true. There is none where the mailbox was empty at some moment of the call. No memory is
     /// taken.
     pub fn take<R: Wait>(&self, rt: &R, pass: &mut Pass<C>) -> Option<Parcel>
         requires pass { IsPassOf self.now.queue pass.old.seat }

@@ -3,9 +3,9 @@
 ghost use Rattle.std.specs.Prelude.{◌≡◌, ◌↔◌, IsTrue};
 
 use books::Event;
-use identity::Key;
 use identity::laws::order_of_keys;
-use tile_fact::Fact;
+use identity::{Ids, Key};
+use tile_fact::Update;
 use tile_fact::laws::order_of_facts;
 
 /// Things of which it can be told whether two are one.
@@ -20,9 +20,19 @@ impl Same for Key {
     }
 }
 
-impl Same for Fact {
-    fn is_one(&self, other: &Fact) -> bool {
-        order_of_facts(self, other).is_eq()
+impl Same for Ids {
+    fn is_one(&self, other: &Ids) -> bool {
+        self == other
+    }
+}
+
+impl Same for Update {
+    fn is_one(&self, other: &Update) -> bool {
+        match (self, other) {
+            (Update::Fact(this), Update::Fact(that)) => order_of_facts(this, that).is_eq(),
+            (Update::Retire(these), Update::Retire(those)) => these.is_one(those),
+            _ => false,
+        }
     }
 }
 
@@ -30,7 +40,10 @@ pub(crate) fn is_same(a: &Event, b: &Event) -> bool
     ensures { IsTrue result ↔ (a.now ≡ b.now) }
 {
     match (a, b) {
-        (Event::Lent(these), Event::Lent(those)) => { same_all(these.as_slice(), those.as_slice()) }
+        (Event::Lent(these, ours), Event::Lent(those, theirs)) => {
+            same_all(these.as_slice(), those.as_slice())
+                && same_all(ours.as_slice(), theirs.as_slice())
+        }
         (Event::Took(these), Event::Took(those)) => { same_all(these.as_slice(), those.as_slice()) }
         (Event::Kept, Event::Kept) => true,
         (Event::Restarted, Event::Restarted) => true,
