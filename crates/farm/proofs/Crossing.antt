@@ -16,7 +16,9 @@ use Rattle.domains.specs.contracts.index.Index as Index
 use Rattle.domains.specs.contracts.operators.BinaryOp as BinaryOp
 use Rattle.domains.specs.contracts.operators.LiteralOp as LiteralOp
 use Rattle.domains.specs.contracts.operators.Relation as Relation
-use Rattle.job.specs.contracts.formula.Axis as Axis
+use Rattle.operations.specs.contracts.point_test.Axis as Axis
+use Rattle.tables.specs.contracts.entries.Entries as Entries
+use Rattle.tables.specs.contracts.table.Table as Table
 use Rattle.catalog.specs.contracts.catalog.Catalog as Catalog
 use Rattle.farm.proofs.hand.Hand.TheSendSync as Hand
 use Rattle.leases.proofs.live.LiveDesk.TheSendSync as Desk
@@ -53,6 +55,12 @@ index_sync = search (sendable, owners.crosses) depth 40
 kernel_sync : IsSync (Sequence.the_row (Sequence.the_row denote.Builtin.i32))
 kernel_sync = search (sendable, owners.crosses) depth 40
 
+entries_sync : IsSync Entries.the_row
+entries_sync = search (sendable, owners.crosses) depth 40
+
+table_sync : IsSync Table.the_row
+table_sync = search (sendable, owners.crosses) depth 40
+
 i32_sync : IsSync i32-field.row
 i32_sync = search (sendable) depth 20
 
@@ -83,7 +91,7 @@ boxed R y = as_row_sync (row_field (Box.the_row R Global.the_row ghosts)) (owner
 layer_sync : (h : Knot.the_members → RattleType) → ((j : Knot.the_members) → IsSync (h j)) → IsSync (layer_row Knot.ring Knot.member-Formula h)
 layer_sync h all =
     let b = h Knot.member-Formula in let x = boxed b (all Knot.member-Formula) in
-    record { shared = (variants_sync (Knot.type-Formula b b b b b b b b b b b b) ((held i32-field i32_sync, tt), ((declared Axis.the_field axis_sync, tt), ((held usize-field usize_sync, (declared Index.the_field index_sync, (declared Index.the_field index_sync, tt))), ((x, tt), ((declared BinaryOp.the_field binary_sync, (x, (x, tt))), ((declared LiteralOp.the_field literal_sync, (x, (held u32-field u32_sync, tt))), ((x, tt), ((x, (x, (x, tt))), ((x, (declared Relation.the_field relation_sync, (x, (x, (x, tt))))), ((held usize-field usize_sync, (held u32-field u32_sync, (held (Sequence.the_field (Sequence.the_row denote.Builtin.i32)) kernel_sync, tt))), tt))))))))))).shared }
+    record { shared = (variants_sync (Knot.type-Formula b b b b b b b b b b b b b) ((held i32-field i32_sync, tt), ((declared Axis.the_field axis_sync, tt), ((held usize-field usize_sync, (declared Index.the_field index_sync, (declared Index.the_field index_sync, tt))), ((x, tt), ((declared BinaryOp.the_field binary_sync, (x, (x, tt))), ((declared LiteralOp.the_field literal_sync, (x, (held u32-field u32_sync, tt))), ((x, tt), ((declared Entries.the_field entries_sync, (x, tt)), ((x, (x, (x, tt))), ((x, (declared Relation.the_field relation_sync, (x, (x, (x, tt))))), ((held usize-field usize_sync, (held u32-field u32_sync, (held (Sequence.the_field (Sequence.the_row denote.Builtin.i32)) kernel_sync, tt))), tt)))))))))))).shared }
 
 step : (i : Knot.the_members) → Syncs Knot.ring i
 step Block.member-Formula = record { sync = layer_sync }
@@ -94,7 +102,7 @@ hole_sync = fix_sync Knot.ring step Knot.member-Formula
 pub formula_sync : IsSync Formula.the_row
 formula_sync =
     let x = owners.Box-sync Knot.hole-Formula hole_sync in
-    variants_sync Formula.enum ((as_row_sync i32-field i32_sync, tt), ((axis_sync, tt), ((as_row_sync usize-field usize_sync, (index_sync, (index_sync, tt))), ((x, tt), ((binary_sync, (x, (x, tt))), ((literal_sync, (x, (as_row_sync u32-field u32_sync, tt))), ((x, tt), ((x, (x, (x, tt))), ((x, (relation_sync, (x, (x, (x, tt))))), ((as_row_sync usize-field usize_sync, (as_row_sync u32-field u32_sync, (kernel_sync, tt))), tt))))))))))
+    variants_sync Formula.enum ((as_row_sync i32-field i32_sync, tt), ((axis_sync, tt), ((as_row_sync usize-field usize_sync, (index_sync, (index_sync, tt))), ((x, tt), ((binary_sync, (x, (x, tt))), ((literal_sync, (x, (as_row_sync u32-field u32_sync, tt))), ((x, tt), ((entries_sync, (x, tt)), ((x, (x, (x, tt))), ((x, (relation_sync, (x, (x, (x, tt))))), ((as_row_sync usize-field usize_sync, (as_row_sync u32-field u32_sync, (kernel_sync, tt))), tt)))))))))))
 
 pub case_sync : IsSync JobCase.the_row
 case_sync = declared_sync JobCase.the_type (search (sendable, owners.crosses) depth 40, (search (sendable, owners.crosses) depth 40, (formula_sync, tt)))
@@ -115,7 +123,7 @@ pub picture_sync : IsSync Picture.the_row
 picture_sync = search (sendable, owners.crosses) depth 40
 
 pub pipeline_sync : IsSync BoundPipeline.the_row
-pipeline_sync = search (stage_sync, picture_sync, sendable, owners.crosses) depth 40
+pipeline_sync = search (stage_sync, table_sync, picture_sync, sendable, owners.crosses) depth 40
 
 pub job_sync : IsSync Job.the_row
 job_sync = declared_sync Job.the_type (pipeline_sync, (search (sendable, owners.crosses) depth 40, (search (sendable, owners.crosses) depth 40, (search (sendable, owners.crosses) depth 40, tt))))

@@ -2,15 +2,17 @@
 
 ghost use Rattle.std.specs.Prelude.{◌≡◌, All, IfOk, length};
 ghost use Rattle.farm.specs.Reports.{IsSoundEnd, all_held};
+ghost use Rattle.held_facts.specs.Facts.{lent};
 ghost use Rattle.live_nodes.specs.Ends.{HaveAllReceipts};
 
 use crate::fault::FarmFault;
 use crate::hand::End;
 use crate::node::{Node, WORKERS};
 use books::Receipt;
+use held_facts::{HeldFacts, LendFault};
+use identity::Key;
 use live_nodes::{CloseFault, Closed, LiveNode, Seat};
 use named_catalogs::NamedCatalog;
-use node_state::NodeState;
 use std::alloc::{AllocError, Global};
 use std::vec;
 
@@ -66,13 +68,27 @@ fn close_one<C: NamedCatalog>(
     }
 }
 
-/// All that any of the nodes holds in the end.
-pub fn gather(alloc: Global, closed: &[Closed]) -> Result<NodeState, AllocError>
-    ensures { IfOk result (λ state. state ≡ all_held closed.now) }
+/// The facts of the keys that any of the nodes holds in the end. What is retired at a node keeps no fact of another one out.
+pub fn gather(alloc: Global, keys: &[Key], closed: &[Closed]) -> Result<HeldFacts, AllocError>
+    ensures { IfOk result (λ held. held ≡ lent (all_held closed.now) keys.now) }
 {
-    let mut all = NodeState::new(alloc);
+    let mut all = HeldFacts::new(alloc);
     for one in closed {
-        all.merge(one.state())?;
+        let lent = lent_of(alloc, keys, one.state().held())?;
+        all.merge(&lent)?;
     }
     Ok(all)
+}
+
+// The held facts of the keys. Of some of them nothing may be held.
+fn lent_of(alloc: Global, keys: &[Key], held: &HeldFacts) -> Result<HeldFacts, AllocError>
+    ensures { IfOk result (λ found. found ≡ lent held.now keys.now) }
+{
+    let mut there = keys.to_vec(alloc)?;
+    there.retain(|key| held.count(key) != 0);
+    match held.lend_state(&there) {
+        Ok(lent) => Ok(lent),
+        Err(LendFault::Memory) => Err(AllocError),
+        Err(LendFault::NotHeld(_)) => unreachable!(),
+    }
 }

@@ -68,8 +68,8 @@ impl Farm {
             keys: &keys,
         };
         let closed = work_all::<Brand, G, R>(rt, alloc, catalog, &plan, setup, gate)?;
-        let state = gather(alloc, &closed)?;
-        let done = finish(alloc, catalog, job, schedule, state)?;
+        let held = gather(alloc, &keys, &closed)?;
+        let done = finish(alloc, catalog, job, schedule, held)?;
         Ok(FarmReport {
             answer: done.answer,
             closed,

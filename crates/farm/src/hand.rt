@@ -1,8 +1,8 @@
 //! A worker's place at its node.
 
 ghost use Rattle.std.specs.Prelude.{◌≡◌, All, IfOk, length};
-ghost use Rattle.books.specs.Updates.{AreTrue};
 ghost use Rattle.fact_audit.specs.TrueFacts.{IsTrueFact};
+ghost use Rattle.updates.specs.TrueUpdates.{AreTrue};
 
 use books::Receipt;
 use identity::Key;
@@ -11,7 +11,7 @@ use named_catalogs::NamedCatalog;
 use node_state::LendFault;
 use std::alloc::{AllocError, Global};
 use std::sync::Wait;
-use tile_fact::Fact;
+use tile_fact::{Fact, Update};
 
 /// A worker's seat with a receipt for each call that was recorded, and whether it met an end of memory.
 #[derive(Drop)]
@@ -62,7 +62,7 @@ impl<'a, C: NamedCatalog> Hand<'a, C> {
         Ok(loan.facts)
     }
 
-    pub fn take<R: Wait>(&mut self, rt: &R, updates: Vec<Fact>) -> Result<(), AllocError>
+    pub fn take<R: Wait>(&mut self, rt: &R, updates: Vec<Update>) -> Result<(), AllocError>
         requires { AreTrue C.catalog updates.items }
     {
         let End { seat, receipts, .. } = &mut self.end;

@@ -6,7 +6,7 @@ ghost use Rattle.fact_audit.specs.TrueFacts.{IsTrueFact};
 use crate::hand::{End, Hand, Step};
 use crate::threads::Task;
 use farm_setup::FarmSetup;
-use farm_work::{Every, Gate, Work, copies_of, copy_of};
+use farm_work::{Every, Gate, Work};
 use identity::Key;
 use leases::{Claim, LiveDesk};
 use named_catalogs::NamedCatalog;
@@ -16,6 +16,7 @@ use posts::{Line, Parcel};
 use std::alloc::{AllocError, Global};
 use std::sync::Wait;
 use tile_fact::Fact;
+use updates::{copies_of, fact_alone};
 
 /// For how many turns a worker leases a key.
 const LEASE: u64 = 16;
@@ -94,10 +95,10 @@ impl<'a, C: NamedCatalog> Worker<'a, C> {
                 return Ok(());
             };
             if self.repeated.is_next() {
-                let again = copies_of(alloc, &parcel.facts)?;
+                let again = copies_of(alloc, &parcel.updates)?;
                 self.hand.take(rt, again)?;
             }
-            self.hand.take(rt, parcel.facts)?;
+            self.hand.take(rt, parcel.updates)?;
         }
         Ok(())
     }
@@ -115,11 +116,14 @@ impl<'a, C: NamedCatalog> Worker<'a, C> {
         }
         let state = self.hand.node.state(rt)?;
         if self.setup.faults.restart == 0 {
-            let held = open.iter().take_while(|key| state.count(key) > 0).count();
+            let held = open
+                .iter()
+                .take_while(|key| state.held().count(key) > 0)
+                .count();
             self.settled = self.settled.saturating_add(held);
         }
         for key in open {
-            if let Some(plan) = self.work.open_plan(alloc, &state, key)? {
+            if let Some(plan) = self.work.open_plan(alloc, state.held(), key)? {
                 if self.claim(rt, turn, key)? {
                     return Ok(Some((*key, plan)));
                 }
@@ -160,7 +164,7 @@ impl<'a, C: NamedCatalog> Worker<'a, C> {
             return Ok(());
         };
         gate.made(self.number, turn, &fact);
-        self.hand.take(rt, copy_of(alloc, &fact)?)?;
+        self.hand.take(rt, fact_alone(alloc, &fact)?)?;
         self.send(rt, alloc, &fact)
     }
 
@@ -173,7 +177,7 @@ impl<'a, C: NamedCatalog> Worker<'a, C> {
             if node != home && !self.lost.is_next() {
                 let parcel = Parcel {
                     from: self.home,
-                    facts: copy_of(alloc, fact)?,
+                    updates: fact_alone(alloc, fact)?,
                 };
                 let _ = line.put(rt, parcel);
             }

@@ -23,18 +23,20 @@ use Rattle.gossip_core.proofs.FinishNeeds.{none_lower}
 use Rattle.gossip_core.proofs.FinishWanted.{wanted_is_work}
 use Rattle.gossip_core.specs.Finishing.{IsPlanned, lacked_work}
 use Rattle.gossip_core.specs.Steps.{Work}
-use Rattle.grouping.proofs.Lists.{AllPairs-tail}
-use Rattle.grouping.specs.Inlining.{AllFitScratch, Inlining, IsScheduleOf}
+use Rattle.tile_boxes.proofs.Lists.{AllPairs-tail}
+use Rattle.grouping.specs.Inlining.{Inlining, IsScheduleOf}
+use Rattle.tile_boxes.specs.Costs.{AllFitScratch}
 use Rattle.identity.specs.declared.key.Key.{Key}
 use Rattle.job.specs.Answers.{Tile}
 use Rattle.job.specs.WellFormed.{IsJob}
-use Rattle.node_state.proofs.TrueStates.{true_fault}
-use Rattle.node_state.proofs.WantedTiles.{wanted_key}
-use Rattle.node_state.specs.Answers.{IsNotHeld}
-use Rattle.node_state.specs.HeldAnswers.{HoldsTrueFacts, IsAnswerFault, IsFaultOfTrueFacts, lacks}
-use Rattle.node_state.specs.declared.answer_fault.AnswerFault.{AnswerFault}
-use Rattle.node_state.specs.declared.answer_fault.AnswerFault.TheVariants as answers
-use Rattle.node_state.specs.States.{State, with_fact}
+use Rattle.fact_store.specs.Facts.{FactSet, with_fact}
+use Rattle.held_facts.proofs.TrueStates.{true_fault}
+use Rattle.held_facts.proofs.WantedTiles.{wanted_key}
+use Rattle.held_facts.specs.Answers.{IsNotHeld}
+use Rattle.held_facts.specs.HeldAnswers.{IsAnswerFault, IsFaultOfTrueFacts, lacks}
+use Rattle.held_facts.specs.HeldFacts.{HoldsTrueFacts}
+use Rattle.held_facts.specs.declared.answer_fault.AnswerFault.{AnswerFault}
+use Rattle.held_facts.specs.declared.answer_fault.AnswerFault.TheVariants as answers
 use Rattle.overlap_tiles.proofs.WorkIsExact.{work_has, work_rises}
 use Rattle.overlap_tiles.specs.Work.{IsWork, IsWorkedBefore, work_tiles}
 use Rattle.tile_fact.specs.declared.fact.Fact.{Fact}
@@ -74,7 +76,7 @@ module _ (catalog : List Entry) (entry : Entry) (inlining : List Bool) where
     of_job = in_replicate inlining j;
   }
 
-  module _ (s : State) (t : Tile) (ts : List Tile) (left : LeavesTiles catalog entry inlining s (t ∷ ts)) where
+  module _ (s : FactSet) (t : Tile) (ts : List Tile) (left : LeavesTiles catalog entry inlining s (t ∷ ts)) where
     pub first_can : CanMake catalog s inlining (key_in entry t)
     first_can = record {
       truth = left.truth;
@@ -125,14 +127,14 @@ module _ (catalog : List Entry) (entry : Entry) (inlining : List Bool) where
   headed key keys [] are = absurd (cc)
   headed key keys (t ∷ ts) are = (t, ts, refl, cc, cc)
 
-  pub can_make : (s : State) (key : Key) (keys : List Key) → IsLeft catalog entry inlining s (key ∷ keys)
+  pub can_make : (s : FactSet) (key : Key) (keys : List Key) → IsLeft catalog entry inlining s (key ∷ keys)
       → CanMake catalog s inlining key
   can_make s key keys left =
       let head = headed key keys left.0 left.1 in
       subst (CanMake catalog s inlining) (sym head.3)
       (first_can s head.0 head.1 (subst (LeavesTiles catalog entry inlining s) head.2 left.2))
 
-  pub less_left : (s : State) (key : Key) (keys : List Key) (fact : Fact) → IsLeft catalog entry inlining s (key ∷ keys)
+  pub less_left : (s : FactSet) (key : Key) (keys : List Key) (fact : Fact) → IsLeft catalog entry inlining s (key ∷ keys)
       → fact.key ≡ key → IsTrueFact catalog fact → IsLeft catalog entry inlining (with_fact s fact) keys
   less_left s key keys fact left own right =
       let head = headed key keys left.0 left.1 in (
@@ -143,7 +145,7 @@ module _ (catalog : List Entry) (entry : Entry) (inlining : List Bool) where
 
 -- ---- at first, and in the end
 
-pub left_at_first : (catalog : List Entry) (entry : Entry) (s : Inlining) (state : State) (j : ℕ) → IsCatalog catalog
+pub left_at_first : (catalog : List Entry) (entry : Entry) (s : Inlining) (state : FactSet) (j : ℕ) → IsCatalog catalog
     → IsJob entry.pipeline → slice_get catalog j ≡ Some entry → IsScheduleOf entry.pipeline s → AllFitScratch entry.pipeline s.inlining
     → HoldsTrueFacts catalog state
     → IsLeft catalog entry s.inlining state (lacked_work state entry s.inlining)
@@ -177,7 +179,7 @@ left_at_first catalog entry s state j apart good there schedule fit truth = (
         inr (Contains-filter missing (work_tiles entry.pipeline s.inlining) t ((work_has entry.pipeline s.inlining t).1 is_work) is)
     by t is_work false is = inl (not_lacked state (key_in entry t) is)
 
-pub holds_in_the_end : (catalog : List Entry) (entry : Entry) (s : Inlining) (state : State) → IsScheduleOf entry.pipeline s
+pub holds_in_the_end : (catalog : List Entry) (entry : Entry) (s : Inlining) (state : FactSet) → IsScheduleOf entry.pipeline s
     → IsLeft catalog entry s.inlining state [] → HoldsAnswerOf catalog state entry
 holds_in_the_end catalog entry s state schedule left = record {
   apart = left.2.apart;
@@ -209,7 +211,7 @@ pub planned_schedule : (catalog : List Entry) (j : ℕ) (s : Inlining) (entry : 
 planned_schedule catalog j s entry planned there =
     subst (λ (e : Entry). IsScheduleOf e.pipeline s) (is_entry catalog j s entry planned there) planned.schedule
 
-pub planned_left : (catalog : List Entry) (j : ℕ) (s : Inlining) (entry : Entry) (state : State) → IsPlannedJob catalog j s
+pub planned_left : (catalog : List Entry) (j : ℕ) (s : Inlining) (entry : Entry) (state : FactSet) → IsPlannedJob catalog j s
     → slice_get catalog j ≡ Some entry → IsCatalog catalog → AreJobs catalog → HoldsTrueFacts catalog state
     → IsLeft catalog entry s.inlining state (lacked_work state entry s.inlining)
 planned_left catalog j s entry state planned there apart jobs truth =
@@ -221,14 +223,14 @@ pub answers_it : (catalog : List Entry) (j : ℕ) (entry : Entry) (answer : Answ
 answers_it catalog j entry answer there is other at =
     subst (λ (e : Entry). IsAnswer e.pipeline answer) (same_Some entry other (sym there ∙ at)) is
 
-pub lacked_is : (catalog : List Entry) (j : ℕ) (entry : Entry) (inlining : List Bool) (s : State) → slice_get catalog j ≡ Some entry
+pub lacked_is : (catalog : List Entry) (j : ℕ) (entry : Entry) (inlining : List Bool) (s : FactSet) → slice_get catalog j ≡ Some entry
     → lacked_of catalog j inlining s ≡ lacked_work s entry inlining
 lacked_is catalog j entry inlining s there =
     ap (λ (o : Option Entry). option_map_or (λ e. lacked_work s e inlining) o []) there
 
 -- ---- where all is held, only memory keeps the answer back
 
-pub only_memory : (catalog : List Entry) (s : State) (entry : Entry) → HoldsAnswerOf catalog s entry → (fault : AnswerFault)
+pub only_memory : (catalog : List Entry) (s : FactSet) (entry : Entry) → HoldsAnswerOf catalog s entry → (fault : AnswerFault)
     → fault ≢ answers.Memory → IsAnswerFault s (ids_of entry).program entry.pipeline fault → ⊥
 only_memory catalog s entry all fault other told =
     by fault other (true_fault catalog entry s all.apart all.here all.truth fault told)
@@ -238,8 +240,14 @@ only_memory catalog s entry all fault other told =
     by (answers.Disputed key) apart is = is
     by (answers.Misshapen key) apart is = is
     by answers.Memory apart is = apart refl
+    by answers.Retired apart is = is
 
-module _ (catalog : List Entry) (s : State) (entry : Entry) (all : HoldsAnswerOf catalog s entry) (fault : AnswerFault) (key : Key) where
+pub no_retired : (catalog : List Entry) (s : FactSet) (entry : Entry) → HoldsAnswerOf catalog s entry → (fault : AnswerFault)
+    → fault ≡ answers.Retired → IsAnswerFault s (ids_of entry).program entry.pipeline fault → ⊥
+no_retired catalog s entry all fault is =
+    only_memory catalog s entry all fault (λ e. let same : answers.Retired ≡ answers.Memory = sym is ∙ e in cc)
+
+module _ (catalog : List Entry) (s : FactSet) (entry : Entry) (all : HoldsAnswerOf catalog s entry) (fault : AnswerFault) (key : Key) where
   pub no_missing : fault ≡ answers.Missing key → IsAnswerFault s (ids_of entry).program entry.pipeline fault → ⊥
   no_missing is = only_memory catalog s entry all fault (λ e. let same : answers.Missing key ≡ answers.Memory = sym is ∙ e in cc)
 

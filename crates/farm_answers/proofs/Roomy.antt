@@ -4,8 +4,9 @@ use Rattle.std.specs.Prelude.{IsSomeAnd}
 use Rattle.domains.specs.Tiles.{HasTile}
 use Rattle.domains.specs.declared.grid.Grid.{Grid}
 use Rattle.gossip_core.proofs.FinishLists.{none_passes}
-use Rattle.grouping.proofs.TilesAreTargets.{gridded}
-use Rattle.grouping.specs.Inlining.{AllFitScratch, Inlining, IsScheduleOf}
+use Rattle.tile_boxes.proofs.TilesAreTargets.{gridded}
+use Rattle.grouping.specs.Inlining.{Inlining, IsScheduleOf}
+use Rattle.tile_boxes.specs.Costs.{AllFitScratch}
 use Rattle.job.specs.Answers.{Tile}
 use Rattle.job.specs.Pipeline.{Pipeline}
 use Rattle.job.specs.Readers.{grid_at}

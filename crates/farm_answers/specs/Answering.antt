@@ -5,9 +5,10 @@ use Rattle.accumulators.specs.Answers.{IsAnswer}
 use Rattle.accumulators.specs.declared.answer.Answer.{Answer}
 use Rattle.catalog.specs.Entries.{Entry}
 use Rattle.gossip_core.specs.Finishing.{lacked_work}
-use Rattle.grouping.specs.Inlining.{AllFitScratch, Inlining, IsScheduleOf}
+use Rattle.grouping.specs.Inlining.{Inlining, IsScheduleOf}
+use Rattle.tile_boxes.specs.Costs.{AllFitScratch}
 use Rattle.identity.specs.declared.key.Key.{Key}
-use Rattle.node_state.specs.States.{State}
+use Rattle.fact_store.specs.Facts.{FactSet}
 
 -- the catalog has a job of this number, and the schedule is one of it by which each tile has room in scratch memory
 pub record IsPlanned (catalog : List Entry) (job : ℕ) (s : Inlining) : Type 0 where
@@ -21,5 +22,5 @@ abbrev pub Answers : List Entry → ℕ → Answer → Type 0
 Answers catalog job answer = (entry : Entry) → slice_get catalog job ≡ Some entry → IsAnswer entry.pipeline answer
 
 -- the keys of its stored functions' and its accumulators' tiles of which nothing is held
-abbrev pub lacked_of : List Entry → ℕ → List Bool → State → List Key
+abbrev pub lacked_of : List Entry → ℕ → List Bool → FactSet → List Key
 lacked_of catalog job inlining s = option_map_or (λ entry. lacked_work s entry inlining) (slice_get catalog job) []

@@ -13,9 +13,9 @@ ghost use Rattle.netpbm.specs.Image.{IsImage};
 use accumulators::Answer;
 use catalog::Catalog;
 use grouping::Schedule;
+use held_facts::{AnswerFault, HeldFacts, MakeFault};
 use identity::Key;
 use job::Job;
-use node_state::{AnswerFault, MakeFault, NodeState};
 use overlap_tiles::work_keys;
 use std::alloc::{AllocError, Global};
 use tile_fact::Fact;
@@ -30,55 +30,56 @@ pub struct Plan<'a> {
 
 impl Plan<'_> {
     /// The keys of the work tiles of which nothing is held.
-    pub fn lacked(&self, alloc: Global, state: &NodeState) -> Result<Vec<Key>, AllocError>
+    pub fn lacked(&self, alloc: Global, held: &HeldFacts) -> Result<Vec<Key>, AllocError>
         ensures { IfOk result (λ keys. keys.items
-            ≡ lacked_work state.now (entry_of self.now.job.now) self.now.schedule.now.inlining) }
+            ≡ lacked_work held.now (entry_of self.now.job.now) self.now.schedule.now.inlining) }
     {
         let mut keys = work_keys(alloc, self.job, self.schedule)?;
-        keys.retain(|key| state.count(key) == 0);
+        keys.retain(|key| held.count(key) == 0);
         Ok(keys)
     }
 
     /// Makes the tiles of these keys one after another, which are all that is missing of the job's work, and adds their facts.
-    pub fn make_all(&self, state: NodeState, keys: &[Key]) -> Result<NodeState, AllocError>
+    pub fn make_all(&self, held: HeldFacts, keys: &[Key]) -> Result<HeldFacts, AllocError>
         requires { IsLeft self.now.catalog.now (entry_of self.now.job.now)
-            self.now.schedule.now.inlining state keys.now }
+            self.now.schedule.now.inlining held keys.now }
         ensures { IfOk result (λ full. IsLeft self.now.catalog.now (entry_of self.now.job.now)
             self.now.schedule.now.inlining full []) }
     {
-        let mut state = state;
+        let mut held = held;
         for key in keys {
-            let fact = self.make(&state, key)?;
-            state.take(fact)?;
+            let fact = self.make(&held, key)?;
+            held.take(fact)?;
         }
-        Ok(state)
+        Ok(held)
     }
 
     /// The fact of a key that nothing but memory keeps from being made.
-    fn make(&self, state: &NodeState, key: &Key) -> Result<Fact, AllocError>
-        requires { CanMake self.now.catalog.now state.now self.now.schedule.now.inlining key.now }
+    fn make(&self, held: &HeldFacts, key: &Key) -> Result<Fact, AllocError>
+        requires { CanMake self.now.catalog.now held.now self.now.schedule.now.inlining key.now }
         ensures key { IfOk result (λ fact. fact.key ≡ key.now) }
         ensures is_true { IfOk result (IsTrueFact self.now.catalog.now) }
     {
-        match state.make(self.catalog, self.schedule, key) {
+        match held.make(self.catalog, self.schedule, key) {
             Ok(fact) => Ok(fact),
             Err(MakeFault::Memory) => Err(AllocError),
             Err(_) => unreachable!(),
         }
     }
 
-    /// The answer of the job from a state that holds true facts alone, and all that the answer is put together from.
-    pub fn answer(&self, state: &NodeState) -> Result<Answer, AllocError>
-        requires { HoldsAnswerOf self.now.catalog.now state.now (entry_of self.now.job.now) }
+    /// The answer of the job where all that is held is true, and all that the answer is put together from is held.
+    pub fn answer(&self, held: &HeldFacts) -> Result<Answer, AllocError>
+        requires { HoldsAnswerOf self.now.catalog.now held.now (entry_of self.now.job.now) }
         ensures answer { IfOk result (IsAnswer (pipeline_in self.now.job.now)) }
         ensures image { IfOk result (λ answer. ForSome answer.picture IsImage) }
     {
-        match state.answer(self.job) {
+        match held.answer(self.job) {
             Ok(answer) => Ok(answer),
             Err(AnswerFault::Memory) => Err(AllocError),
             Err(AnswerFault::Missing(_)) => unreachable!(),
             Err(AnswerFault::Disputed(_)) => unreachable!(),
             Err(AnswerFault::Misshapen(_)) => unreachable!(),
+            Err(AnswerFault::Retired) => unreachable!(),
         }
     }
 }

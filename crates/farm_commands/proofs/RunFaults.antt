@@ -25,6 +25,7 @@ of_farm (farms.Close n) = tt
 pub fault_of_input : (input : List ℕ) (given : List Given) (sides : Sides) (f : StreamFault) → IsFaultOf input given sides f
     → IsRunFault input given sides f
 fault_of_input input given sides (faults.Program x) is = is
+fault_of_input input given sides (faults.Tables x) is = is
 fault_of_input input given sides (faults.Picture x) is = is
 fault_of_input input given sides (faults.Check x) is = is
 fault_of_input input given sides (faults.Param x) is = is
@@ -45,6 +46,7 @@ fault_of_farm input given sides job (faults.Farm x) read is =
     record { tree = read.tree; job = pipeline_in job; of_input = read.of_input }
 fault_of_farm input given sides job faults.Memory read is = tt
 fault_of_farm input given sides job (faults.Program x) read is = absurd is
+fault_of_farm input given sides job (faults.Tables x) read is = absurd is
 fault_of_farm input given sides job (faults.Picture x) read is = absurd is
 fault_of_farm input given sides job (faults.Check x) read is = absurd is
 fault_of_farm input given sides job (faults.Param x) read is = absurd is

@@ -1,12 +1,10 @@
 //! What the workers of a farm go by: what they make and from what, and what they pass.
 #![tactic(auto)]
 
-mod copies;
 mod every;
 mod gate;
 mod work;
 
-pub use copies::{copies_of, copy_of};
 pub use every::Every;
 pub use gate::{Gate, Open};
 pub use work::Work;

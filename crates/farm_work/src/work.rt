@@ -2,15 +2,15 @@
 
 ghost use Rattle.std.specs.Prelude.{◌≡◌, All, IfOk, IfSome, List};
 ghost use Rattle.catalog.specs.Entries.{Entry};
-ghost use Rattle.node_state.specs.HeldAnswers.{HoldsTrueFacts};
+ghost use Rattle.held_facts.specs.HeldFacts.{HoldsTrueFacts};
 ghost use Rattle.fact_audit.specs.TrueFacts.{IsTrueFact};
 
 use catalog::Catalog;
 use grouping::Schedule;
+use held_facts::{HeldFacts, MakeFault};
 use identity::Key;
 use job::Job;
 use named_catalogs::NamedCatalog;
-use node_state::{MakeFault, NodeState};
 use overlap_tiles::{PlanFault, TilePlan};
 use std::alloc::{AllocError, Global};
 use std::marker::PhantomData;
@@ -51,16 +51,16 @@ impl<'a, C: NamedCatalog> Work<'a, C> {
     pub fn open_plan(
         &self,
         alloc: Global,
-        state: &NodeState,
+        held: &HeldFacts,
         key: &Key,
     ) -> Result<Option<TilePlan<'a>>, AllocError> {
-        if state.count(key) > 0 {
+        if held.count(key) > 0 {
             return Ok(None);
         }
         let Some(plan) = self.plan(alloc, key)? else {
             return Ok(None);
         };
-        if plan.needs().iter().any(|need| state.count(need) == 0) {
+        if plan.needs().iter().any(|need| held.count(need) == 0) {
             return Ok(None);
         }
         Ok(Some(plan))
@@ -82,8 +82,8 @@ impl<'a, C: NamedCatalog> Work<'a, C> {
         ensures is_true { IfOk result (λ made. IfSome made (IsTrueFact C.catalog)) }
         ensures key { IfOk result (λ made. IfSome made (λ fact. fact.key ≡ key.now)) }
     {
-        let state = state_of(alloc, facts)?;
-        match state.make(self.catalog, self.schedule, key) {
+        let held = held_of(alloc, facts)?;
+        match held.make(self.catalog, self.schedule, key) {
             Ok(fact) => Ok(Some(fact)),
             Err(MakeFault::Memory) => Err(AllocError),
             Err(_) => Ok(None),
@@ -91,14 +91,14 @@ impl<'a, C: NamedCatalog> Work<'a, C> {
     }
 }
 
-// The state that holds these facts, all of which are true where they are.
-fn state_of(alloc: Global, facts: &[Fact]) -> Result<NodeState, AllocError>
+// These facts as what is held, all of which is true where they are.
+fn held_of(alloc: Global, facts: &[Fact]) -> Result<HeldFacts, AllocError>
     ensures { (catalog : List Entry) → All (IsTrueFact catalog) facts.now
         → IfOk result (HoldsTrueFacts catalog) }
 {
-    let mut state = NodeState::new(alloc);
+    let mut held = HeldFacts::new(alloc);
     for fact in facts {
-        state.take(fact.clone()?)?;
+        held.take(fact.clone()?)?;
     }
-    Ok(state)
+    Ok(held)
 }

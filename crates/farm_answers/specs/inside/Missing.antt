@@ -4,12 +4,12 @@ use Rattle.catalog.specs.Entries.{Entry, IsCatalog, ids_of}
 use Rattle.identity.specs.declared.key.Key.{Key}
 use Rattle.job.specs.Answers.{Tile}
 use Rattle.job.specs.WellFormed.{IsJob}
-use Rattle.node_state.specs.Answers.{AreHeld, IsNotHeld}
-use Rattle.node_state.specs.HeldAnswers.{HoldsTrueFacts}
-use Rattle.node_state.specs.Making.{IsMakeFault}
-use Rattle.node_state.specs.States.{State}
-use Rattle.node_state.specs.declared.make_fault.MakeFault.{MakeFault}
-use Rattle.node_state.specs.declared.make_fault.MakeFault.TheVariants as makes
+use Rattle.fact_store.specs.Facts.{FactSet}
+use Rattle.held_facts.specs.Answers.{AreHeld, IsNotHeld}
+use Rattle.held_facts.specs.HeldFacts.{HoldsTrueFacts}
+use Rattle.held_facts.specs.Making.{IsMakeFault}
+use Rattle.held_facts.specs.declared.make_fault.MakeFault.{MakeFault}
+use Rattle.held_facts.specs.declared.make_fault.MakeFault.TheVariants as makes
 use Rattle.overlap_tiles.specs.Needs.{key_of}
 use Rattle.overlap_tiles.specs.Work.{IsWork, IsWorkedBefore, lacks_room, wanted_keys}
 
@@ -18,13 +18,13 @@ abbrev pub key_in : Entry → Tile → Key
 key_in entry t = key_of (ids_of entry).program entry.pipeline t
 
 -- all that is held is true, and nothing but memory keeps the fact of the key from being made
-pub record CanMake (catalog : List Entry) (s : State) (inlining : List Bool) (key : Key) : Type 0 where
+pub record CanMake (catalog : List Entry) (s : FactSet) (inlining : List Bool) (key : Key) : Type 0 where
   pub truth : HoldsTrueFacts catalog s
   pub none : (fault : MakeFault) → fault ≢ makes.Memory → ¬ (IsMakeFault catalog s inlining key fault)
 
 -- The job is one of the catalog, each tile of its work has room, and all that is held is true. These are tiles of its work, in dependence
 -- order, all those of which nothing is held among them
-pub record LeavesTiles (catalog : List Entry) (entry : Entry) (inlining : List Bool) (s : State) (tiles : List Tile) : Type 0 where
+pub record LeavesTiles (catalog : List Entry) (entry : Entry) (inlining : List Bool) (s : FactSet) (tiles : List Tile) : Type 0 where
   pub apart : IsCatalog catalog
   pub good : IsJob entry.pipeline
   pub index : ℕ
@@ -36,12 +36,12 @@ pub record LeavesTiles (catalog : List Entry) (entry : Entry) (inlining : List B
   pub held_or_left : (t : Tile) → IsWork entry.pipeline inlining t → (¬ IsNotHeld s (key_in entry t)) ⊎ Contains tiles t
 
 -- and these are the keys of such tiles
-abbrev pub IsLeft : List Entry → Entry → List Bool → State → List Key → Type 0
+abbrev pub IsLeft : List Entry → Entry → List Bool → FactSet → List Key → Type 0
 IsLeft catalog entry inlining s keys =
     (tiles : List Tile) × (keys ≡ map (key_in entry) tiles) × LeavesTiles catalog entry inlining s tiles
 
 -- all that is held is true, and all tiles from which the answer is put together are held
-pub record HoldsAnswerOf (catalog : List Entry) (s : State) (entry : Entry) : Type 0 where
+pub record HoldsAnswerOf (catalog : List Entry) (s : FactSet) (entry : Entry) : Type 0 where
   pub apart : IsCatalog catalog
   pub good : IsJob entry.pipeline
   pub here : Contains catalog entry

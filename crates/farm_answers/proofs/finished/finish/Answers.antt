@@ -11,9 +11,9 @@ make_all-requires c =
     let entry = entry_of c.in-Some.asked.now in
     let there : slice_get c.args.catalog.now c.args.job ≡ Some entry =
     sym c.job.ensures.job ∙ ap (option_map (λ job. entry_of job.now)) c.in-Some.is in
-    subst (IsLeft c.args.catalog.now entry c.args.schedule.now.inlining c.args.state)
+    subst (IsLeft c.args.catalog.now entry c.args.schedule.now.inlining c.args.held)
     (sym (c.deref.ensures.value ∙ c.in_ok-keys.ensures))
-    (planned_left c.args.catalog.now c.args.job c.args.schedule.now entry c.args.state c.requires.planned there c.job.ensures.catalog
+    (planned_left c.args.catalog.now c.args.job c.args.schedule.now entry c.args.held c.requires.planned there c.job.ensures.catalog
     c.job.ensures.jobs c.requires.is_true)
 
 pub answer-requires : goal.answer-requires

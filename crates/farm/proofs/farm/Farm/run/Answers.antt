@@ -1,12 +1,38 @@
-use Rattle.std.proofs.Common.{◌≡◌, All, sym, subst}
-use Rattle.node_state.specs.HeldFacts.{HoldsTrueFacts}
-use Rattle.farm.specs.Reports.{IsSoundEnd}
-use Rattle.farm.proofs.Ends.{true_together}
+use Rattle.std.proofs.Common.{◌≡◌, ◌∙◌, Some, All, ap, sym, subst, length}
+use Rattle.std.specs.Option.{option_map}
+use Rattle.std.specs.Prelude.{List, slice_get}
+use Rattle.books.specs.declared.event.Event.{Event}
+use Rattle.catalog.specs.Entries.{entry_of, ids_of}
+use Rattle.fact_store.specs.Facts.{FactSet}
+use Rattle.farm_answers.specs.Answering.{lacked_of}
+use Rattle.held_facts.specs.Facts.{lent}
+use Rattle.held_facts.specs.HeldFacts.{HoldsTrueFacts}
+use Rattle.identity.specs.declared.key.Key.{Key}
+use Rattle.overlap_tiles.specs.Work.{work_keys}
+use Rattle.farm.specs.Reports.{IsSoundEnd, all_held}
+use Rattle.farm.proofs.Ends.{true_gathered}
+use Rattle.farm.proofs.Gathering.{lacked_of_lent}
 use Rattle.farm.proofs.farm.Farm.run.Goals as goal
 
 pub finish-requires-clause-is_true : goal.finish-requires-clause-is_true
 finish-requires-clause-is_true g c =
-    let same : c.deref-2.result.now ≡ c.in_ok-closed.closed.items = c.deref-2.ensures.value in
-    subst (HoldsTrueFacts c.args.catalog.now) (sym c.in_ok-state.ensures)
-    (true_together c.args.catalog.now c.deref-2.result.now
+    let same : c.deref-3.result.now ≡ c.in_ok-closed.closed.items = c.deref-3.ensures.value in
+    subst (HoldsTrueFacts c.args.catalog.now) (sym c.in_ok-held.ensures)
+    (true_gathered c.args.catalog.now c.deref-3.result.now c.deref-2.result.now
     (subst (All (IsSoundEnd c.args.catalog.now)) (sym same) c.in_ok-closed.ensures.sound))
+
+pub returns-clause-by_caller : goal.returns-clause-by_caller
+returns-clause-by_caller g c =
+    let jobs = c.args.catalog.now in
+    let inlining = c.args.schedule.now.inlining in
+    let entry = entry_of c.in-Some.asked.now in
+    let there : slice_get jobs c.args.job ≡ Some entry =
+    sym c.job.ensures.job ∙ ap (option_map (λ job. entry_of job.now)) c.in-Some.is in
+    let keys : c.deref-2.result.now ≡ work_keys (ids_of entry).program entry.pipeline inlining =
+    c.deref-2.ensures.value ∙ c.in_ok-keys.ensures in
+    let ends = c.deref-3.result.now in
+    c.in_ok-done.ensures.made
+    ∙ ap (λ (s : FactSet). length (lacked_of jobs c.args.job inlining s))
+    (c.in_ok-held.ensures ∙ ap (λ (ks : List Key). lent (all_held ends) ks) keys)
+    ∙ ap length (lacked_of_lent jobs c.args.job entry inlining (all_held ends) there)
+    ∙ ap (λ (hs : List (List Event)). length (lacked_of jobs c.args.job inlining (all_held hs))) c.deref-3.ensures.value
