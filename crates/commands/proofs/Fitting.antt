@@ -2,7 +2,8 @@
 use Rattle.std.proofs.Common.{◌≡◌, ℕ, List, true, Option, None, refl, sym, ap, ◌∙◌}
 use Rattle.std.specs.Option.{option_map, option_or}
 use Rattle.std.proofs.lemmas.Option.{none-some}
-use Rattle.grouping.specs.Inlining.{Inlining, AllFitScratch, IsScheduleOf}
+use Rattle.grouping.specs.Inlining.{Inlining, IsScheduleOf}
+use Rattle.tile_boxes.specs.Costs.{AllFitScratch}
 use Rattle.job.specs.Answers.{Tile}
 use Rattle.job.specs.Pipeline.{Pipeline}
 use Rattle.overlap_tiles.specs.Needs.{key_of}

@@ -27,6 +27,7 @@ none_false_writes Says Refuses known (Err faults.TooLong) old new wrote = wrote
 none_false_writes Says Refuses known (Err faults.Memory) old new wrote = wrote
 none_false_writes Says Refuses known (Err faults.NoSeparator) old new wrote = wrote
 none_false_writes Says Refuses known (Err (faults.Program x)) old new wrote = wrote
+none_false_writes Says Refuses known (Err (faults.Tables x)) old new wrote = wrote
 none_false_writes Says Refuses known (Err (faults.Picture x)) old new wrote = wrote
 none_false_writes Says Refuses known (Err (faults.Check x)) old new wrote = wrote
 none_false_writes Says Refuses known (Err (faults.Param x)) old new wrote = wrote
@@ -43,6 +44,7 @@ none_false_reads (Err f) old new counts =
       | faults.TooLong ↦ λ c. c
       | faults.NoSeparator ↦ λ c. c
       | faults.Program x ↦ λ c. c
+      | faults.Tables x ↦ λ c. c
       | faults.Picture x ↦ λ c. c
       | faults.Check x ↦ λ c. c
       | faults.Param x ↦ λ c. c
@@ -62,6 +64,7 @@ none_false_wrote (Err f) old new counts =
       | faults.TooLong ↦ λ c. c
       | faults.NoSeparator ↦ λ c. c
       | faults.Program x ↦ λ c. c
+      | faults.Tables x ↦ λ c. c
       | faults.Picture x ↦ λ c. c
       | faults.Check x ↦ λ c. c
       | faults.Param x ↦ λ c. c

@@ -6,9 +6,9 @@ use Rattle.std.specs.Option.{option_map_or}
 use Rattle.pipe_tree.specs.Tree.{Declaration}
 use Rattle.job.specs.Answers.{has_tiles}
 use Rattle.job.specs.Pipeline.{Stage, Pipeline}
-use Rattle.grouping.specs.Costs.{cost}
-use Rattle.grouping.specs.Inlining.{AllFitScratch}
-use Rattle.grouping.specs.Schedules.{IsSchedule}
+use Rattle.tile_boxes.specs.Costs.{cost}
+use Rattle.tile_boxes.specs.Costs.{AllFitScratch}
+use Rattle.tile_boxes.specs.Schedules.{IsSchedule}
 use Rattle.one_job.specs.Asked.{inlining_asked}
 
 -- ---- lines of stages

@@ -9,7 +9,7 @@ use Rattle.inputs.specs.Giving.{Given}
 use Rattle.inputs.specs.Outcomes.{Refusing, Saying, refusing_audit, refusing_job, refusing_merge, saying_of_audit, saying_of_job}
 use Rattle.fact_commands.specs.Auditing.{SaysVerdicts}
 use Rattle.commands.specs.Listing.{SaysCheck}
-use Rattle.fact_commands.specs.Merging.{saying_union}
+use Rattle.fact_commands.specs.Merging.{saying_join}
 use Rattle.commands.specs.Planning.{SaysPlan}
 use Rattle.results.specs.Results.{SaysResult}
 use Rattle.fact_commands.specs.declared.found.Found.{Found}
@@ -43,7 +43,7 @@ refusing_of_task (World nodes) options given = refusing_world given options.side
 -- ---- requests
 
 abbrev pub saying_by : Request → Saying Found
-saying_by Merge = finding_none saying_union
+saying_by Merge = finding_none saying_join
 saying_by (Job request) = saying_of_task request.task request.options request.parameters.items
 
 abbrev pub refusing_by : Request → Refusing

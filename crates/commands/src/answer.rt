@@ -2,7 +2,8 @@
 
 ghost use Rattle.std.specs.Prelude.{◌≡◌, IfErr, IfOk};
 ghost use Rattle.accumulators.specs.Answers.{IsAnswer};
-ghost use Rattle.grouping.specs.Inlining.{AllFitScratch, IsScheduleOf};
+ghost use Rattle.grouping.specs.Inlining.{IsScheduleOf};
+ghost use Rattle.tile_boxes.specs.Costs.{AllFitScratch};
 ghost use Rattle.job.specs.Kept.{pipeline_in};
 ghost use Rattle.tile_run.specs.declared.fault.RunFault.TheVariants.{Memory};
 ghost use Rattle.results.specs.Replies.{reply_bytes};

@@ -2,7 +2,7 @@
 
 ghost use Rattle.std.specs.Prelude.{◌≡◌, ◌++◌, ◌<◌, IfOk, OnOk, length};
 ghost use Rattle.job.specs.Kept.{pipeline_in};
-ghost use Rattle.grouping.specs.Costs.{cost};
+ghost use Rattle.tile_boxes.specs.Costs.{cost};
 ghost use Rattle.grouping.specs.Inlining.{IsScheduleOf};
 ghost use Rattle.commands.specs.Planning.{plan_bytes, plan_line, plan_line_at};
 

@@ -4,6 +4,7 @@ use Rattle.catalog.specs.Entries.{Entry, entry_of}
 use Rattle.domains.specs.Sides.{Sides}
 use Rattle.fact_audit.specs.Verdicts.{AreVerdicts}
 use Rattle.fact_audit.specs.declared.verdict.Verdict.{Verdict}
+use Rattle.identity.specs.declared.job_ids.Ids.{Ids}
 use Rattle.inputs.specs.Giving.{Given}
 use Rattle.inputs.specs.Input.{IsReadAudit}
 use Rattle.inputs.specs.Outcomes.{IsSaidOfAudit}
@@ -13,19 +14,21 @@ use Rattle.job.specs.declared.job.Job.{Job}
 use Rattle.tile_fact.specs.declared.fact.Fact.{Fact}
 use Rattle.one_job.specs.Alone.{catalog_of}
 use Rattle.fact_commands.specs.Auditing.{SaysVerdicts}
-use Rattle.fact_commands.specs.Verdicts.{IsFound, verdict_lines}
+use Rattle.fact_commands.specs.Verdicts.{IsFound, audit_lines}
 use Rattle.fact_commands.specs.declared.found.Found.{Found}
 
-pub judged_said : (input : List ℕ) (given : List Given) (sides : Sides) (job : Job) (facts : List Fact) (catalog : List Entry)
-    (verdicts : List Verdict) (found : Found) → IsReadAudit input given sides job facts → IsJob (pipeline_in job)
+pub judged_said : (input : List ℕ) (given : List Given) (sides : Sides) (job : Job) (retired : List Ids) (facts : List Fact)
+    (catalog : List Entry)
+    (verdicts : List Verdict) (found : Found) → IsReadAudit input given sides job retired facts → IsJob (pipeline_in job)
     → catalog ≡ entry_of job ∷ [] → AreVerdicts catalog facts verdicts → IsFound found verdicts
-    → IsSaidOfAudit SaysVerdicts given sides found input (verdict_lines facts verdicts)
-judged_said input given sides job facts catalog verdicts found read is same judged finds =
+    → IsSaidOfAudit SaysVerdicts given sides found input (audit_lines facts verdicts retired)
+judged_said input given sides job retired facts catalog verdicts found read is same judged finds =
     let one : entry_of job ∷ [] ≡ catalog_of read.tree (pipeline_in job) =
     ap (λ t. record { text = t; pipeline = pipeline_in job } ∷ []) read.text in
     record {
       tree = read.tree;
       job = pipeline_in job;
+      retired = retired;
       facts = facts;
       is_job = is;
       of_input = read.of_input;

@@ -1,17 +1,21 @@
--- What `audit` says: of each fact of the fact files that it is given, whether it is true of the job beside them.
+-- What `audit` says: of each fact of the fact files that it is given, whether it is true of the job beside them, and which jobs they
+-- retire.
 use Rattle.std.specs.Prelude.{◌≡◌, ℕ, List}
 use Rattle.fact_audit.specs.Verdicts.{AreVerdicts}
 use Rattle.fact_audit.specs.declared.verdict.Verdict.{Verdict}
 use Rattle.job.specs.Pipeline.{Pipeline}
 use Rattle.one_job.specs.Alone.{catalog_of}
 use Rattle.pipe_tree.specs.Tree.{Declaration}
+use Rattle.identity.specs.declared.job_ids.Ids.{Ids}
 use Rattle.tile_fact.specs.declared.fact.Fact.{Fact}
-use Rattle.fact_commands.specs.Verdicts.{IsFound, verdict_lines}
+use Rattle.fact_commands.specs.Verdicts.{IsFound, audit_lines}
 use Rattle.fact_commands.specs.declared.found.Found.{Found}
 
--- the lines of the verdicts on the facts by the job of this program, of which one is that a fact is false, or none is
-pub record SaysVerdicts (tree : List Declaration) (job : Pipeline) (facts : List Fact) (found : Found) (bytes : List ℕ) : Type 0 where
+-- the lines of the verdicts on the facts by the job of this program, of which one is that a fact is false, or none is; and those of
+-- the retired jobs
+pub record SaysVerdicts (tree : List Declaration) (job : Pipeline) (retired : List Ids) (facts : List Fact) (found : Found)
+    (bytes : List ℕ) : Type 0 where
   pub verdicts : List Verdict
   pub judged : AreVerdicts (catalog_of tree job) facts verdicts
   pub finds : IsFound found verdicts
-  pub says : bytes ≡ verdict_lines facts verdicts
+  pub says : bytes ≡ audit_lines facts verdicts retired

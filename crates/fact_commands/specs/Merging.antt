@@ -1,15 +1,17 @@
--- What `merge` says: the file of all facts of the fact files that it is given.
+-- What `merge` says: the file of what the fact files that it is given hold together.
 use Rattle.std.specs.Prelude.{◌≡◌, ℕ, List}
-use Rattle.fact_lines.specs.Texts.{IsUnion}
+use Rattle.fact_lines.specs.Texts.{IsJoin}
 use Rattle.fact_lines.specs.Written.{written}
+use Rattle.identity.specs.declared.job_ids.Ids.{Ids}
 use Rattle.inputs.specs.Outcomes.{Saying}
 use Rattle.tile_fact.specs.declared.fact.Fact.{Fact}
 
--- the line of the union
-pub record IsUnionLine (input bytes : List ℕ) : Type 0 where
+-- the line of what they hold together
+pub record IsJoinLine (input bytes : List ℕ) : Type 0 where
+  pub retired : List Ids
   pub facts : List Fact
-  pub union : IsUnion input facts
-  pub says : bytes ≡ written facts
+  pub join : IsJoin input retired facts
+  pub says : bytes ≡ written retired facts
 
-abbrev pub saying_union : Saying (Unit {0})
-saying_union answer input bytes = IsUnionLine input bytes
+abbrev pub saying_join : Saying (Unit {0})
+saying_join answer input bytes = IsJoinLine input bytes

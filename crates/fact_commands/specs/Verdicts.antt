@@ -1,9 +1,11 @@
--- What `audit` tells in bytes: of each fact what is said of it, and whether one of them is false.
+-- What `audit` tells in bytes: of each fact what is said of it, which jobs are retired, and whether a fact is false.
 use Rattle.std.specs.Prelude.{ℕ, List, [], ◌∷◌, ◌++◌, Contains, codes}
 use Rattle.std.specs.Fmt.{decimal}
 use Rattle.std.specs.List.{flat_map, zip}
 use Rattle.fact_audit.specs.declared.verdict.Verdict.{Verdict}
 use Rattle.fact_audit.specs.declared.verdict.Verdict.TheVariants.{Foreign, Misshapen, True, False}
+use Rattle.hex.specs.Hex.{encode_lower}
+use Rattle.identity.specs.declared.job_ids.Ids.{Ids}
 use Rattle.identity.specs.declared.key.Key.{Key}
 use Rattle.tile_fact.specs.declared.fact.Fact.{Fact}
 use Rattle.fact_commands.specs.declared.found.Found.{Found}
@@ -28,6 +30,16 @@ verdict_line judged = verdict_word judged.1 ++ place_text judged.0.key
 -- a line for each fact, in their order
 abbrev pub verdict_lines : List Fact → List Verdict → List ℕ
 verdict_lines facts verdicts = flat_map verdict_line (zip facts verdicts)
+
+-- ---- lines of retired jobs
+
+-- `Retired`, the two identities in small hexadecimal digits, and LF
+abbrev pub retired_line : Ids → List ℕ
+retired_line ids = codes "Retired " ++ encode_lower ids.program ++ 32 ∷ encode_lower ids.input ++ 10 ∷ []
+
+-- the lines of the facts, and then a line for each retired job, in their orders
+abbrev pub audit_lines : List Fact → List Verdict → List Ids → List ℕ
+audit_lines facts verdicts retired = verdict_lines facts verdicts ++ flat_map retired_line retired
 
 -- ---- what they found
 

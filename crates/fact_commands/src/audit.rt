@@ -1,28 +1,31 @@
-//! What is said of the facts of an input.
+//! What is said of the facts of an input, and which jobs are retired.
 
 ghost use Rattle.std.specs.Prelude.{◌≡◌, IfOk, IfErr, length};
 ghost use Rattle.inputs.specs.Faults.{IsAuditFault};
 ghost use Rattle.inputs.specs.Outcomes.{IsSaidOfAudit};
 ghost use Rattle.fact_commands.specs.Auditing.{SaysVerdicts};
-ghost use Rattle.fact_commands.specs.Verdicts.{verdict_lines};
+ghost use Rattle.fact_commands.specs.Verdicts.{audit_lines};
 
 use crate::found::{Found, found_in};
 use command_line::Options;
 use fact_audit::{Verdict, audit_all};
+use fact_lines::Contents;
+use identity::Ids;
 use inputs::{StreamFault, audit_of};
 use one_job::catalog_of;
 use std::alloc::Global;
 use tile_fact::Fact;
 
-/// Facts, what is said of each, in their order, and whether one of them is false.
+/// Facts, what is said of each, in their order, whether one of them is false, and the retired jobs.
 #[derive(Debug, Drop)]
 pub struct Judged {
     pub facts: Vec<Fact>,
     pub verdicts: Vec<Verdict>,
     pub found: Found,
+    pub retired: Vec<Ids>,
 }
 
-/// Judges the facts of an input by its job. The input and the job are let go.
+/// Judges the facts of an input by its job, but for those of jobs that it retires. The input and the job are let go.
 pub fn judge(
     alloc: Global,
     options: &Options,
@@ -30,12 +33,14 @@ pub fn judge(
     input: Vec<u8>,
 ) -> Result<Judged, StreamFault>
     ensures said { IfOk result (λ judged. IsSaidOfAudit SaysVerdicts given.now options.now.sides
-        judged.found input.items (verdict_lines judged.facts.items judged.verdicts.items)) }
+        judged.found input.items
+        (audit_lines judged.facts.items judged.verdicts.items judged.retired.items)) }
     ensures count { IfOk result
         (λ judged. length judged.verdicts.items ≡ length judged.facts.items) }
     ensures fault { IfErr result (IsAuditFault input.items given.now options.now.sides) }
 {
-    let (job, facts) = audit_of(alloc, options.sides, given, input)?;
+    let (job, contents) = audit_of(alloc, options.sides, given, input)?;
+    let Contents { retired, facts } = contents;
     let catalog = catalog_of(alloc, job)?;
     let verdicts = audit_all(alloc, &catalog, &facts)?;
     let found = found_in(&verdicts);
@@ -43,5 +48,6 @@ pub fn judge(
         facts,
         verdicts,
         found,
+        retired,
     })
 }

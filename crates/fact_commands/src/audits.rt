@@ -4,14 +4,15 @@ ghost use Rattle.inputs.specs.Outcomes.{CountsRead, CountsWritten, Writes, refus
 ghost use Rattle.fact_commands.specs.Auditing.{SaysVerdicts};
 
 use crate::audit::judge;
+use crate::audit_lines::write_audit;
 use crate::found::Found;
-use crate::verdict_lines::write_verdicts;
 use command_line::Options;
 use inputs::{StreamFault, read_input};
 use streams::{Sink, Source};
 
 /// Reads a program, fact files and a picture, and writes a line for each fact of the files, rising: what is said of it, its stage,
-/// its row and its column. The answer tells whether one of them is false.
+/// its row and its column. Facts of jobs that a file retires are left out, and each retired job has a line behind the facts. The answer
+/// tells whether a fact is false.
 ///
 /// The input is the program's text, a line `%%`, the files, a line for each, a line `%%` and the picture. `parameters` gives values
 /// of the program's parameters. All is judged before the first byte is written, and the lines go out through a buffer of fixed size.
@@ -33,6 +34,6 @@ pub fn audit_stream<H: AllocGlobal, R: Source, W: Sink>(
 {
     let input = read_input(rt.alloc(), reader)?;
     let judged = judge(rt.alloc(), options, parameters, input)?;
-    write_verdicts(&judged.facts, &judged.verdicts, writer)?;
+    write_audit(&judged.facts, &judged.verdicts, &judged.retired, writer)?;
     Ok(judged.found)
 }

@@ -2,11 +2,11 @@
 #![tactic(auto)]
 
 mod audit;
+mod audit_lines;
 mod audits;
 mod found;
-mod unions;
-mod verdict_lines;
+mod merges;
 
 pub use audits::audit_stream;
 pub use found::Found;
-pub use unions::merge_stream;
+pub use merges::merge_stream;

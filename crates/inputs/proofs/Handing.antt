@@ -80,6 +80,7 @@ told_refusal start ss given n pair fault faults.Read there before why told = tol
 told_refusal start ss given n pair fault faults.TooLong there before why told = told
 told_refusal start ss given n pair fault faults.NoSeparator there before why told = told
 told_refusal start ss given n pair fault (faults.Program x) there before why told = told
+told_refusal start ss given n pair fault (faults.Tables x) there before why told = told
 told_refusal start ss given n pair fault (faults.Picture x) there before why told = told
 told_refusal start ss given n pair fault (faults.Check x) there before why told = told
 told_refusal start ss given n pair fault (faults.Bind x) there before why told = told

@@ -25,6 +25,7 @@ reader_fault Says Refuses known faults.TooLong old is = (refl, is)
 reader_fault Says Refuses known faults.Memory old is = (refl, tt)
 reader_fault Says Refuses known faults.NoSeparator old is = absurd is
 reader_fault Says Refuses known (faults.Program x) old is = absurd is
+reader_fault Says Refuses known (faults.Tables x) old is = absurd is
 reader_fault Says Refuses known (faults.Picture x) old is = absurd is
 reader_fault Says Refuses known (faults.Check x) old is = absurd is
 reader_fault Says Refuses known (faults.Param x) old is = absurd is
@@ -50,6 +51,8 @@ input_fault Says Refuses known input faults.NoSeparator old long write all withi
     (refl, of_input known input (λ i. Refuses i faults.NoSeparator) all within is)
 input_fault Says Refuses known input (faults.Program x) old long write all within is =
     (refl, of_input known input (λ i. Refuses i (faults.Program x)) all within is)
+input_fault Says Refuses known input (faults.Tables x) old long write all within is =
+    (refl, of_input known input (λ i. Refuses i (faults.Tables x)) all within is)
 input_fault Says Refuses known input (faults.Picture x) old long write all within is =
     (refl, of_input known input (λ i. Refuses i (faults.Picture x)) all within is)
 input_fault Says Refuses known input (faults.Check x) old long write all within is =

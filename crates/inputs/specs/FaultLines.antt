@@ -24,8 +24,8 @@ use Rattle.gossip_events.specs.FaultTable as events
 use Rattle.gossip_events.specs.declared.fault.ScriptFault.{ScriptFault}
 use Rattle.gossip_events.specs.declared.fault.ScriptFault.TheVariants as scripts
 use Rattle.inputs.specs.declared.faults.StreamFault.{StreamFault}
-use Rattle.inputs.specs.declared.faults.StreamFault.TheVariants.{Read, TooLong, NoSeparator, Program, Picture, Check, Param, Bind}
-use Rattle.inputs.specs.declared.faults.StreamFault.TheVariants.{Facts, Script, Farm, Memory, Write}
+use Rattle.inputs.specs.declared.faults.StreamFault.TheVariants.{Read, TooLong, NoSeparator, Program, Tables, Picture, Check, Param}
+use Rattle.inputs.specs.declared.faults.StreamFault.TheVariants.{Bind, Facts, Script, Farm, Memory, Write}
 use Rattle.inputs.specs.declared.lines.BindLine.{BindLine}
 use Rattle.inputs.specs.declared.lines.CheckLine.{CheckLine}
 use Rattle.inputs.specs.declared.lines.CheckLine.TheVariants as lines
@@ -49,6 +49,12 @@ offset_text offset = codes " at " ++ decimal (unwrap_or offset 0)
 
 abbrev pub head_at : List ℕ → ℕ → List ℕ → Option ℕ → List ℕ
 head_at kind number name offset = head kind number name ++ offset_text offset
+
+-- ---- faults of tables
+
+-- `tables: line L`, where lines of the last section are counted from 1
+abbrev pub tables_text : ℕ → List ℕ
+tables_text line = codes "tables: line " ++ decimal line
 
 -- ---- faults of names, numbers and cycles
 
@@ -166,6 +172,7 @@ text_of Read = codes "input failed"
 text_of TooLong = codes "input: too long"
 text_of NoSeparator = codes "input: no separator"
 text_of (Program fault) = head_at (codes "program") (texts.number_of fault) (texts.name_of fault) (texts.offset_of fault)
+text_of (Tables line) = tables_text line
 text_of (Picture fault) = head_at (codes "picture") (pictures.number_of fault) (pictures.name_of fault) (pictures.offset_of fault)
 text_of (Check line) = check_text line
 text_of (Param line) = param_text line

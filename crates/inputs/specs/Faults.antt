@@ -1,16 +1,17 @@
 -- Which fault of an input is told: each only where none of those before it is.
-use Rattle.std.specs.Prelude.{◌≡◌, ◌≢◌, ℕ, Option, None, List, slice_get, filter_map}
+use Rattle.std.specs.Prelude.{◌≡◌, ◌≢◌, ℕ, Option, None, List, length, slice_get, filter_map}
 use Rattle.std.specs.Option.{option_map}
 use Rattle.domains.specs.Sides.{Sides}
 use Rattle.netpbm.specs.Image.{Image}
 use Rattle.netpbm.specs.Faults.{IsFault as IsPictureFault}
+use Rattle.netpbm.specs.declared.fault.PicFault.{PicFault}
 use Rattle.netpbm.specs.declared.fault.PicFault.TheVariants as pictures
 use Rattle.pipe_tree.specs.Faults.{IsFault as IsTextFault, IsText}
 use Rattle.pipe_tree.specs.Tree.{Declaration}
 use Rattle.pipe_tree.specs.declared.fault.ParseFault.TheVariants as texts
 use Rattle.pipe_checks.specs.Checking.{IsFault as IsProgramFault}
 use Rattle.pipe_checks.specs.Graph.{IsRanking}
-use Rattle.pipe_checks.specs.Names.{params_of, stages_of}
+use Rattle.pipe_checks.specs.Names.{params_of, tables_of, stages_of}
 use Rattle.pipe_checks.specs.Accesses.{graph_of}
 use Rattle.pipe_checks.specs.declared.symbol.Symbol.{Symbol}
 use Rattle.pipe_bounds.specs.declared.fault.BoundFault.{BoundFault}
@@ -24,16 +25,19 @@ use Rattle.fact_lines.specs.Faults.{IsFault as IsLinesFault}
 use Rattle.fact_lines.specs.declared.fault.LinesFault.{LinesFault}
 use Rattle.fact_lines.specs.declared.fault.LinesFault.TheVariants as lines
 use Rattle.job.specs.Pipeline.{Pipeline}
+use Rattle.tables.specs.declared.table.Table.{Table}
 use Rattle.inputs.specs.Giving.{Given, AreGiven, IsFirstRefused, unset_of}
 use Rattle.inputs.specs.Input.{IsInput, IsInputAround, IsInputInThree, MeansSomething, program_at}
 use Rattle.inputs.specs.Sections.{HasNoSeparator, IsParted, IsPartedInThree, LacksSeparator}
+use Rattle.inputs.specs.Tables.{AreTableLines, IsFirstLacking}
 use Rattle.inputs.specs.declared.faults.StreamFault.{StreamFault}
-use Rattle.inputs.specs.declared.faults.StreamFault.TheVariants.{NoSeparator, Program, Picture, Check, Param, Bind, Facts, Memory}
+use Rattle.inputs.specs.declared.faults.StreamFault.TheVariants.{NoSeparator, Program, Tables, Picture, Check, Param, Bind, Facts}
+use Rattle.inputs.specs.declared.faults.StreamFault.TheVariants.{Memory}
 use Rattle.inputs.specs.declared.lines.BindLine.{BindLine}
 use Rattle.inputs.specs.declared.lines.CheckLine.{CheckLine}
 use Rattle.inputs.specs.declared.lines.CheckLine.TheVariants as check_lines
 
--- the name of the stage, or of the parameter, of this number
+-- the name of the stage, the parameter or the table of this number
 abbrev pub name_at : List Symbol → ℕ → Option (List ℕ)
 name_at declared n = option_map (λ (d : Symbol). d.name) (slice_get declared n)
 
@@ -51,53 +55,66 @@ IsCheckLine tree (check_lines.Fault (checks.Cycle cycle)) = ⊥
 IsCheckLine tree (check_lines.Fault checks.Memory) = ⊥
 IsCheckLine tree (check_lines.Fault fault) = IsProgramFault tree fault
 
--- ---- faults of a program and a picture
+-- ---- faults of a program, tables and a picture
 
--- the name of the parameter or the stage that a fault blames, if it blames one
-abbrev pub blamed_in_bounds : List Symbol → List Symbol → BoundFault → Option (List ℕ)
-blamed_in_bounds params stages (bounds.ParamUnset n) = name_at params n
-blamed_in_bounds params stages (bounds.EmptyDomain n) = name_at stages n
-blamed_in_bounds params stages (bounds.DomainTooWide n) = name_at stages n
-blamed_in_bounds params stages (bounds.OutOfBounds n case read axis least greatest) = name_at stages n
-blamed_in_bounds params stages bounds.Memory = None
+-- the name of the parameter, the table or the stage that a fault blames, if it blames one
+abbrev pub blamed_in_bounds : List Symbol → List Symbol → List Symbol → BoundFault → Option (List ℕ)
+blamed_in_bounds params tables stages (bounds.ParamUnset n) = name_at params n
+blamed_in_bounds params tables stages (bounds.EmptyTable n) = name_at tables n
+blamed_in_bounds params tables stages (bounds.TableTooWide n) = name_at tables n
+blamed_in_bounds params tables stages (bounds.EmptyDomain n) = name_at stages n
+blamed_in_bounds params tables stages (bounds.DomainTooWide n) = name_at stages n
+blamed_in_bounds params tables stages (bounds.OutOfBounds n case read axis least greatest) = name_at stages n
+blamed_in_bounds params tables stages bounds.Memory = None
 
-abbrev pub blamed : List Symbol → List Symbol → BindFault → Option (List ℕ)
-blamed params stages (binding.Bounds fault) = blamed_in_bounds params stages fault
-blamed params stages binding.Planes = None
-blamed params stages binding.ExtentMismatch = None
-blamed params stages binding.OutputShapes = None
-blamed params stages (binding.TooManyTiles n) = name_at stages n
-blamed params stages binding.Memory = None
+abbrev pub blamed : List Symbol → List Symbol → List Symbol → BindFault → Option (List ℕ)
+blamed params tables stages (binding.Bounds fault) = blamed_in_bounds params tables stages fault
+blamed params tables stages (binding.TableMismatch n) = name_at tables n
+blamed params tables stages binding.Planes = None
+blamed params tables stages binding.ExtentMismatch = None
+blamed params tables stages binding.OutputShapes = None
+blamed params tables stages (binding.TooManyTiles n) = name_at stages n
+blamed params tables stages binding.Memory = None
 
--- the first fault of a program at the values that are given, of a picture and the sides of tiles, told by the name that it
--- blames
-pub record IsBindLine (tree : List Declaration) (given : List Given) (source : Image) (sides : Sides) (line : BindLine) : Type 0 where
+-- the first fault of a program at the values that are given, of its tables, a picture and the sides of tiles, told by the name that
+-- it blames
+pub record IsBindLine (tree : List Declaration) (tables : List Table) (given : List Given) (source : Image) (sides : Sides)
+    (line : BindLine) : Type 0 where
   pub chosen : List Setting
   pub are_given : AreGiven (unset_of tree) given chosen
   pub ranks : List ℕ
   pub ranking : IsRanking (graph_of tree) ranks
-  pub fault : IsBindFault tree (program_at tree ranks chosen) source sides line.fault
+  pub fault : IsBindFault tree (program_at tree ranks chosen tables) source sides line.fault
   pub no_memory : line.fault ≢ binding.Memory
-  pub blames : line.blamed ≡ blamed (params_of tree) (stages_of tree) line.fault
+  pub blames : line.blamed ≡ blamed (params_of tree) (tables_of tree) (stages_of tree) line.fault
 
 -- ---- the steps
 
--- the first fault of a program's text and of the spelling of a picture; memory may run out for any
-abbrev pub IsSpellingFault : List ℕ → List ℕ → StreamFault → Type 0
-IsSpellingFault text spelling (Program fault) = IsTextFault text fault × (fault ≢ texts.Memory)
-IsSpellingFault text spelling (Picture fault) =
-    (tree : List Declaration) × IsText text tree × IsPictureFault spelling fault × (fault ≢ pictures.Memory)
-IsSpellingFault text spelling Memory = Unit {0}
-IsSpellingFault text spelling _ = ⊥
+-- behind a line for each table that the program declares stands a picture with this fault
+pub record IsFaultBehind (last : List ℕ) (tree : List Declaration) (fault : PicFault) : Type 0 where
+  pub tables : List Table
+  pub each : length tables ≡ length (tables_of tree)
+  pub spelling : List ℕ
+  pub lines : AreTableLines last tables spelling
+  pub bad : IsPictureFault spelling fault
 
--- the first fault of a program and a picture, of the parameters that are given and of the sides of tiles; memory may run out for
--- any
-abbrev pub IsJobFault : List Declaration → Image → List Given → Sides → StreamFault → Type 0
-IsJobFault tree source given sides (Check line) = IsCheckLine tree line
-IsJobFault tree source given sides (Param line) = MeansSomething tree × IsFirstRefused (unset_of tree) given line
-IsJobFault tree source given sides (Bind line) = MeansSomething tree × IsBindLine tree given source sides line
-IsJobFault tree source given sides Memory = Unit {0}
-IsJobFault tree source given sides _ = ⊥
+-- the first fault of a program's text, of the lines of its tables and of the spelling of a picture; memory may run out for any
+abbrev pub IsSpellingFault : List ℕ → List ℕ → StreamFault → Type 0
+IsSpellingFault text last (Program fault) = IsTextFault text fault × (fault ≢ texts.Memory)
+IsSpellingFault text last (Tables line) = (tree : List Declaration) × IsText text tree × IsFirstLacking last (length (tables_of tree)) line
+IsSpellingFault text last (Picture fault) =
+    (tree : List Declaration) × IsText text tree × IsFaultBehind last tree fault × (fault ≢ pictures.Memory)
+IsSpellingFault text last Memory = Unit {0}
+IsSpellingFault text last _ = ⊥
+
+-- the first fault of a program, its tables and a picture, of the parameters that are given and of the sides of tiles; memory may run
+-- out for any
+abbrev pub IsJobFault : List Declaration → List Table → Image → List Given → Sides → StreamFault → Type 0
+IsJobFault tree tables source given sides (Check line) = IsCheckLine tree line
+IsJobFault tree tables source given sides (Param line) = MeansSomething tree × IsFirstRefused (unset_of tree) given line
+IsJobFault tree tables source given sides (Bind line) = MeansSomething tree × IsBindLine tree tables given source sides line
+IsJobFault tree tables source given sides Memory = Unit {0}
+IsJobFault tree tables source given sides _ = ⊥
 
 -- the first bad line
 abbrev pub IsFactsFault : List ℕ → LinesFault → Type 0
@@ -109,35 +126,41 @@ IsFactsFault text fault = IsLinesFault text fault × (fault ≢ lines.Memory)
 abbrev pub IsFaultOf : List ℕ → List Given → Sides → StreamFault → Type 0
 IsFaultOf input given sides NoSeparator = HasNoSeparator input
 IsFaultOf input given sides (Program fault) =
-    (text spelling : List ℕ) × IsParted input text spelling × IsSpellingFault text spelling (Program fault)
+    (text last : List ℕ) × IsParted input text last × IsSpellingFault text last (Program fault)
+IsFaultOf input given sides (Tables line) = (text last : List ℕ) × IsParted input text last × IsSpellingFault text last (Tables line)
 IsFaultOf input given sides (Picture fault) =
-    (text spelling : List ℕ) × IsParted input text spelling × IsSpellingFault text spelling (Picture fault)
+    (text last : List ℕ) × IsParted input text last × IsSpellingFault text last (Picture fault)
 IsFaultOf input given sides (Check line) =
-    (tree : List Declaration) × (source : Image) × IsInput input tree source × IsJobFault tree source given sides (Check line)
+    (tree : List Declaration) × (tables : List Table) × (source : Image) × IsInput input tree tables source
+    × IsJobFault tree tables source given sides (Check line)
 IsFaultOf input given sides (Param line) =
-    (tree : List Declaration) × (source : Image) × IsInput input tree source × IsJobFault tree source given sides (Param line)
+    (tree : List Declaration) × (tables : List Table) × (source : Image) × IsInput input tree tables source
+    × IsJobFault tree tables source given sides (Param line)
 IsFaultOf input given sides (Bind line) =
-    (tree : List Declaration) × (source : Image) × IsInput input tree source × IsJobFault tree source given sides (Bind line)
+    (tree : List Declaration) × (tables : List Table) × (source : Image) × IsInput input tree tables source
+    × IsJobFault tree tables source given sides (Bind line)
 IsFaultOf input given sides Memory = Unit {0}
 IsFaultOf input given sides _ = ⊥
 
--- The first fault of the program, the picture and the job of an input of three sections, of which the middle one is not looked at;
+-- The first fault of the program, its tables, the picture and the job of an input of three sections, of which the middle one is not looked at;
 -- memory may run out for any.
 abbrev pub IsFaultAround : List ℕ → List Given → Sides → StreamFault → Type 0
 IsFaultAround input given sides NoSeparator = LacksSeparator input
 IsFaultAround input given sides (Program fault) =
-    (text middle spelling : List ℕ) × IsPartedInThree input text middle spelling × IsSpellingFault text spelling (Program fault)
+    (text middle last : List ℕ) × IsPartedInThree input text middle last × IsSpellingFault text last (Program fault)
+IsFaultAround input given sides (Tables line) =
+    (text middle last : List ℕ) × IsPartedInThree input text middle last × IsSpellingFault text last (Tables line)
 IsFaultAround input given sides (Picture fault) =
-    (text middle spelling : List ℕ) × IsPartedInThree input text middle spelling × IsSpellingFault text spelling (Picture fault)
+    (text middle last : List ℕ) × IsPartedInThree input text middle last × IsSpellingFault text last (Picture fault)
 IsFaultAround input given sides (Check line) =
-    (tree : List Declaration) × (middle : List ℕ) × (source : Image) × IsInputInThree input tree middle source
-    × IsJobFault tree source given sides (Check line)
+    (tree : List Declaration) × (middle : List ℕ) × (tables : List Table) × (source : Image)
+    × IsInputInThree input tree middle tables source × IsJobFault tree tables source given sides (Check line)
 IsFaultAround input given sides (Param line) =
-    (tree : List Declaration) × (middle : List ℕ) × (source : Image) × IsInputInThree input tree middle source
-    × IsJobFault tree source given sides (Param line)
+    (tree : List Declaration) × (middle : List ℕ) × (tables : List Table) × (source : Image)
+    × IsInputInThree input tree middle tables source × IsJobFault tree tables source given sides (Param line)
 IsFaultAround input given sides (Bind line) =
-    (tree : List Declaration) × (middle : List ℕ) × (source : Image) × IsInputInThree input tree middle source
-    × IsJobFault tree source given sides (Bind line)
+    (tree : List Declaration) × (middle : List ℕ) × (tables : List Table) × (source : Image)
+    × IsInputInThree input tree middle tables source × IsJobFault tree tables source given sides (Bind line)
 IsFaultAround input given sides Memory = Unit {0}
 IsFaultAround input given sides _ = ⊥
 

@@ -1,5 +1,5 @@
 -- From the bytes of an input to its job, and to the facts that are to be judged by it.
-use Rattle.std.specs.Prelude.{◌≡◌, ℕ, true, List}
+use Rattle.std.specs.Prelude.{◌≡◌, ℕ, true, List, length}
 use Rattle.std.specs.List.{list_any}
 use Rattle.domains.specs.Sides.{Sides}
 use Rattle.netpbm.specs.Grammar.{IsPicture}
@@ -10,38 +10,45 @@ use Rattle.pipe_tree.specs.Tree.{Declaration}
 use Rattle.pipe_bounds.specs.declared.params.Setting.{Setting}
 use Rattle.pipe_checks.specs.Checking.{IsNamed, is_result}
 use Rattle.pipe_checks.specs.Graph.{IsRanking}
-use Rattle.pipe_checks.specs.Names.{stages_of}
+use Rattle.pipe_checks.specs.Names.{tables_of, stages_of}
 use Rattle.pipe_checks.specs.Accesses.{graph_of}
 use Rattle.binding.specs.BindFaults.{IsBound}
 use Rattle.binding.specs.Binding.{Program, IsJobOf}
 use Rattle.job.specs.Kept.{pipeline_in, program_text_in}
 use Rattle.job.specs.Pipeline.{Pipeline}
 use Rattle.job.specs.declared.job.Job.{Job}
-use Rattle.fact_lines.specs.Texts.{IsUnion}
+use Rattle.identity.specs.declared.job_ids.Ids.{Ids}
+use Rattle.fact_lines.specs.Texts.{IsJoin}
+use Rattle.tables.specs.declared.table.Table.{Table}
 use Rattle.tile_fact.specs.declared.fact.Fact.{Fact}
 use Rattle.inputs.specs.Giving.{Given, AreGiven, unset_of}
 use Rattle.inputs.specs.Sections.{IsParted, IsPartedInThree}
+use Rattle.inputs.specs.Tables.{AreTableLines}
 
 -- ---- what is read
 
--- a program's text and the spelling of a picture
-pub record IsSpelled (text spelling : List ℕ) (tree : List Declaration) (source : Image) : Type 0 where
+-- a program's text; and a last section that is a line for each table that the program declares, and the spelling of a picture
+pub record IsSpelled (text last : List ℕ) (tree : List Declaration) (tables : List Table) (source : Image) : Type 0 where
   pub program : IsText text tree
+  pub each : length tables ≡ length (tables_of tree)
+  pub spelling : List ℕ
+  pub lines : AreTableLines last tables spelling
   pub picture : IsPicture spelling source
 
--- a program, a separator line and a picture
-pub record IsInput (input : List ℕ) (tree : List Declaration) (source : Image) : Type 0 where
+-- a program, a separator line, the lines of tables and a picture
+pub record IsInput (input : List ℕ) (tree : List Declaration) (tables : List Table) (source : Image) : Type 0 where
   pub text : List ℕ
-  pub spelling : List ℕ
-  pub parted : IsParted input text spelling
-  pub spelled : IsSpelled text spelling tree source
+  pub last : List ℕ
+  pub parted : IsParted input text last
+  pub spelled : IsSpelled text last tree tables source
 
--- a program, a separator line, a middle section, a separator line and a picture
-pub record IsInputInThree (input : List ℕ) (tree : List Declaration) (middle : List ℕ) (source : Image) : Type 0 where
-  pub text : List ℕ
-  pub spelling : List ℕ
-  pub parted : IsPartedInThree input text middle spelling
-  pub spelled : IsSpelled text spelling tree source
+-- a program, a separator line, a middle section, a separator line, the lines of tables and a picture
+pub record IsInputInThree (input : List ℕ) (tree : List Declaration) (middle : List ℕ) (tables : List Table) (source : Image) : Type 0
+  where
+    pub text : List ℕ
+    pub last : List ℕ
+    pub parted : IsPartedInThree input text middle last
+    pub spelled : IsSpelled text last tree tables source
 
 -- ---- the program
 
@@ -54,27 +61,29 @@ pub record MeansSomething (tree : List Declaration) : Type 0 where
 
 -- ---- the job
 
--- a program with the ranks of its stages and the values that its parameters are given
-abbrev pub program_at : List Declaration → List ℕ → List Setting → Program
-program_at tree ranks chosen = record { stages = stages_of tree; ranks = ranks; settings = chosen }
+-- a program with the ranks of its stages, the values that its parameters are given, and its tables
+abbrev pub program_at : List Declaration → List ℕ → List Setting → List Table → Program
+program_at tree ranks chosen tables = record { stages = stages_of tree; ranks = ranks; settings = chosen; tables = tables }
 
 -- The program of this tree means something. All values that are given have a parameter of their own. The job is what the program
--- says at these values, with the others taken from the picture's sides, and nothing is amiss: all is in bounds, and the picture, the
--- sides of the output's functions and the numbers of tiles fit.
-pub record IsJobAt (tree : List Declaration) (source : Image) (given : List Given) (sides : Sides) (job : Pipeline) : Type 0 where
+-- says at these values and with these tables, with the other values taken from the picture's sides, and nothing is amiss: all is in
+-- bounds, and the tables, the picture, the sides of the output's functions and the numbers of tiles fit.
+pub record IsJobAt (tree : List Declaration) (tables : List Table) (source : Image) (given : List Given) (sides : Sides)
+    (job : Pipeline) : Type 0 where
   pub means : MeansSomething tree
   pub chosen : List Setting
   pub are_given : AreGiven (unset_of tree) given chosen
   pub ranks : List ℕ
   pub ranking : IsRanking (graph_of tree) ranks
-  pub bound : IsBound tree (program_at tree ranks chosen) source sides job
-  pub says : IsJobOf tree chosen source sides job
+  pub bound : IsBound tree (program_at tree ranks chosen tables) source sides job
+  pub says : IsJobOf tree chosen tables source sides job
 
--- the input is a program of this tree, a separator line and a picture, and the job is theirs
+-- the input is a program of this tree, a separator line, the lines of tables and a picture, and the job is theirs
 pub record IsInputJob (input : List ℕ) (given : List Given) (sides : Sides) (tree : List Declaration) (job : Pipeline) : Type 0 where
+  pub tables : List Table
   pub source : Image
-  pub read : IsInput input tree source
-  pub made : IsJobAt tree source given sides job
+  pub read : IsInput input tree tables source
+  pub made : IsJobAt tree tables source given sides job
 
 -- the job of an input, which keeps the canonical text of its program
 pub record IsReadJob (input : List ℕ) (given : List Given) (sides : Sides) (job : Job) : Type 0 where
@@ -84,12 +93,14 @@ pub record IsReadJob (input : List ℕ) (given : List Given) (sides : Sides) (jo
 
 -- ---- the job, and what stands between the program and the picture
 
--- the input is a program of this tree, a middle section and a picture, and the job is the program's and the picture's
+-- the input is a program of this tree, a middle section, the lines of tables and a picture, and the job is that of the program, the
+-- tables and the picture
 pub record IsInputAround (input : List ℕ) (given : List Given) (sides : Sides) (tree : List Declaration) (job : Pipeline)
     (middle : List ℕ) : Type 0 where
+  pub tables : List Table
   pub source : Image
-  pub read : IsInputInThree input tree middle source
-  pub made : IsJobAt tree source given sides job
+  pub read : IsInputInThree input tree middle tables source
+  pub made : IsJobAt tree tables source given sides job
 
 -- the job and the middle section of an input; the job keeps the canonical text of its program
 pub record IsReadAround (input : List ℕ) (given : List Given) (sides : Sides) (job : Job) (middle : List ℕ) : Type 0 where
@@ -99,15 +110,16 @@ pub record IsReadAround (input : List ℕ) (given : List Given) (sides : Sides) 
 
 -- ---- the job and the facts that are to be judged by it
 
--- the middle section is fact files, and the facts are those of all files, rising, each once
+-- the middle section is fact files: the jobs are those that they retire, and the facts are all others' of all files
 pub record IsInputAudit (input : List ℕ) (given : List Given) (sides : Sides) (tree : List Declaration) (job : Pipeline)
-    (facts : List Fact) : Type 0 where
+    (retired : List Ids) (facts : List Fact) : Type 0 where
   pub lines : List ℕ
   pub around : IsInputAround input given sides tree job lines
-  pub union : IsUnion lines facts
+  pub join : IsJoin lines retired facts
 
--- the job and the facts of an input; the job keeps the canonical text of its program
-pub record IsReadAudit (input : List ℕ) (given : List Given) (sides : Sides) (job : Job) (facts : List Fact) : Type 0 where
+-- the job, the retired jobs and the facts of an input; the job keeps the canonical text of its program
+pub record IsReadAudit (input : List ℕ) (given : List Given) (sides : Sides) (job : Job) (retired : List Ids) (facts : List Fact)
+    : Type 0 where
   pub tree : List Declaration
-  pub of_input : IsInputAudit input given sides tree (pipeline_in job) facts
+  pub of_input : IsInputAudit input given sides tree (pipeline_in job) retired facts
   pub text : program_text_in job ≡ canonical tree

@@ -4,6 +4,7 @@ pub mod Giving
 pub mod Input
 pub mod Outcomes
 pub mod Sections
+pub mod Tables
 pub mod Taking
 pub mod Told
 pub mod inside

@@ -6,13 +6,14 @@ use Rattle.streams.specs.Streams.{AppendsPart, one_more}
 use Rattle.pipe_tree.specs.Tree.{Declaration}
 use Rattle.job.specs.Pipeline.{Pipeline}
 use Rattle.job.specs.WellFormed.{IsJob}
+use Rattle.identity.specs.declared.job_ids.Ids.{Ids}
 use Rattle.tile_fact.specs.declared.fact.Fact.{Fact}
 use Rattle.inputs.specs.Faults.{IsAuditFault, IsFaultOf, IsMergeFault}
 use Rattle.inputs.specs.Giving.{Given}
 use Rattle.inputs.specs.Input.{IsInputAudit, IsInputJob}
 use Rattle.inputs.specs.declared.faults.StreamFault.{StreamFault}
-use Rattle.inputs.specs.declared.faults.StreamFault.TheVariants.{Read, TooLong, NoSeparator, Program, Picture, Check, Param, Bind}
-use Rattle.inputs.specs.declared.faults.StreamFault.TheVariants.{Facts, Script, Farm, Memory, Write}
+use Rattle.inputs.specs.declared.faults.StreamFault.TheVariants.{Read, TooLong, NoSeparator, Program, Tables, Picture, Check, Param}
+use Rattle.inputs.specs.declared.faults.StreamFault.TheVariants.{Bind, Facts, Script, Farm, Memory, Write}
 
 -- ---- what is read
 
@@ -106,19 +107,21 @@ refusing_job given sides input fault = IsFaultOf input given sides fault
 
 -- ---- a command on a program, fact files and a picture
 
--- which bytes a command says of the tree of a program, of its job and of facts where it answers this
+-- which bytes a command says of the tree of a program, of its job, and of retired jobs and facts, where it answers this
 abbrev pub AuditSaying : Type 0 → Type 1
-AuditSaying Answer = List Declaration → Pipeline → List Fact → Answer → List ℕ → Type 0
+AuditSaying Answer = List Declaration → Pipeline → List Ids → List Fact → Answer → List ℕ → Type 0
 
--- the bytes are what a command says of the program, of the job and of the facts of an input where it answers this
+-- the bytes are what a command says of the program, of the job, and of the retired jobs and the facts of an input, where it answers
+-- this
 pub record IsSaidOfAudit {Answer : Type 0} (Says : AuditSaying Answer) (given : List Given) (sides : Sides) (answer : Answer)
     (input bytes : List ℕ) : Type 0 where
   pub tree : List Declaration
   pub job : Pipeline
+  pub retired : List Ids
   pub facts : List Fact
   pub is_job : IsJob job
-  pub of_input : IsInputAudit input given sides tree job facts
-  pub says : Says tree job facts answer bytes
+  pub of_input : IsInputAudit input given sides tree job retired facts
+  pub says : Says tree job retired facts answer bytes
 
 abbrev pub saying_of_audit : {Answer : Type 0} → AuditSaying Answer → List Given → Sides → Saying Answer
 saying_of_audit Says given sides answer input bytes = IsSaidOfAudit Says given sides answer input bytes
@@ -138,6 +141,7 @@ abbrev pub status_of : StreamFault → ℕ
 status_of (Param _) = 1
 status_of TooLong = 2
 status_of NoSeparator = 2
+status_of (Tables _) = 2
 status_of (Picture _) = 2
 status_of (Facts _) = 2
 status_of (Script _) = 2

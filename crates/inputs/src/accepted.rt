@@ -62,7 +62,7 @@ fn names_of(alloc: Global, stages: &[Symbol], numbers: &[usize]) -> Result<Stage
     Ok(StageNames { names })
 }
 
-/// The name of the stage, or of the parameter, of this number.
+/// The name of the stage, the parameter or the table of this number.
 pub fn name_at(declared: &[Symbol], number: usize) -> Option<Name>
     ensures { result ≡ name_at declared.now number }
 {

@@ -1,7 +1,7 @@
-//! How programs that do not fit their pictures are told.
+//! How programs that do not fit their tables and their pictures are told.
 
 ghost use Rattle.std.specs.Prelude.{◌≡◌};
-ghost use Rattle.pipe_checks.specs.Checking.{params_in, stages_in};
+ghost use Rattle.pipe_checks.specs.Checking.{params_in, tables_in, stages_in};
 ghost use Rattle.inputs.specs.Faults.{blamed};
 ghost use Rattle.inputs.specs.inside.Steps.{TellsBind};
 
@@ -13,9 +13,10 @@ use pipe_bounds::BoundFault;
 use pipe_checks::Checked;
 use pipe_tokens::Name;
 
-/// How a program that does not fit its picture is told.
+/// How a program that does not fit its tables or its picture is told.
 pub fn told(checked: &Checked, fault: BindFault) -> StreamFault
-    ensures { TellsBind (params_in checked.now) (stages_in checked.now) fault result }
+    ensures { TellsBind (params_in checked.now) (tables_in checked.now) (stages_in checked.now)
+        fault result }
 {
     match fault {
         BindFault::Memory => StreamFault::Memory,
@@ -26,12 +27,15 @@ pub fn told(checked: &Checked, fault: BindFault) -> StreamFault
     }
 }
 
-/// The name of the parameter or the stage that a fault blames.
+/// The name of the parameter, the table or the stage that a fault blames.
 fn blamed(checked: &Checked, fault: BindFault) -> Option<Name>
-    ensures { result ≡ blamed (params_in checked.now) (stages_in checked.now) fault }
+    ensures { result ≡ blamed (params_in checked.now) (tables_in checked.now)
+        (stages_in checked.now) fault }
 {
     match fault {
         BindFault::Bounds(BoundFault::ParamUnset(param)) => name_at(checked.params(), param),
+        BindFault::Bounds(BoundFault::EmptyTable(table) | BoundFault::TableTooWide(table))
+        | BindFault::TableMismatch(table) => name_at(checked.tables(), table),
         BindFault::Bounds(
             BoundFault::EmptyDomain(stage)
             | BoundFault::DomainTooWide(stage)

@@ -24,7 +24,10 @@ pub enum StreamFault {
     /// The first section is no program.
     #[error("the first section is no program: {0}")]
     Program(ParseFault),
-    /// The last section is no picture.
+    /// A line at the head of the last section is not there, or is no table's. Lines are counted from 1.
+    #[error("line {0} of the last section is no table")]
+    Tables(usize),
+    /// The last section is no picture behind its tables.
     #[error("the last section is no picture: {0}")]
     Picture(PicFault),
     /// The program means nothing.
@@ -65,6 +68,7 @@ impl StreamFault {
             StreamFault::Param(_) => 1,
             StreamFault::TooLong
             | StreamFault::NoSeparator
+            | StreamFault::Tables(_)
             | StreamFault::Picture(_)
             | StreamFault::Facts(_)
             | StreamFault::Script(_) => 2,

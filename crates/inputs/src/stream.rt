@@ -6,28 +6,29 @@ ghost use Rattle.pipe_print.specs.Canonical.{canonical};
 ghost use Rattle.pipe_tree.specs.Content.{content};
 ghost use Rattle.job.specs.Kept.{pipeline_in, program_text_in};
 ghost use Rattle.job.specs.WellFormed.{IsJob, IsSmall};
-ghost use Rattle.fact_lines.specs.Texts.{IsUnion};
+ghost use Rattle.fact_lines.specs.Texts.{IsJoin};
 ghost use Rattle.inputs.specs.Faults.{IsAuditFault, IsFaultAround, IsFaultOf, IsJobFault, IsMergeFault, IsSpellingFault};
 ghost use Rattle.inputs.specs.Giving.{Given};
 ghost use Rattle.inputs.specs.Input.{IsInput, IsJobAt, IsReadAround, IsReadAudit, IsReadJob, IsSpelled};
 ghost use Rattle.inputs.specs.Outcomes.{CountsRead, CountsWritten, IsOfReader, most_input};
-ghost use Rattle.inputs.specs.inside.Steps.{IsProgramBefore};
+ghost use Rattle.inputs.specs.inside.Steps.{IsHeadBefore, IsProgramBefore};
 
 use crate::accepted::accept;
 use crate::bound::told;
 use crate::faults::StreamFault;
 use crate::sections::{SEPARATOR, first_separator, split_sections};
 use crate::settings::choose;
+use crate::table_lines::read_tables;
 use binding::bind;
 use domains::TileSides;
-use fact_lines::union_of;
+use fact_lines::{Contents, join_of};
 use job::Job;
 use netpbm::Picture;
 use pipe_lang::parse;
 use pipe_tree::Tree;
 use std::alloc::Global;
 use streams::{Source, SourceFault, read_whole};
-use tile_fact::Fact;
+use tables::Table;
 
 /// The most bytes of an input.
 const MAX_INPUT: usize = 536_870_912;
@@ -49,7 +50,7 @@ pub fn read_input<R: Source>(alloc: Global, reader: &mut R) -> Result<Vec<u8>, S
     }
 }
 
-/// The job of the program and the picture that the input spells. The job of a raw picture keeps the input's bytes; where the picture
+/// The job of the program, its tables and the picture that the input spells. The job of a raw picture keeps the input's bytes; where the picture
 /// is spelled in digits they are let go once it is read.
 pub fn job_of(
     alloc: Global,
@@ -62,11 +63,11 @@ pub fn job_of(
     ensures small { IfOk result (λ job. IsSmall (pipeline_in job)) }
     ensures fault { IfErr result (IsFaultOf input.items given.now sides) }
 {
-    let (tree, picture) = read_all(alloc, input)?;
-    job_at(alloc, sides, given, tree, picture)
+    let (tree, tables, picture) = read_all(alloc, input)?;
+    job_at(alloc, sides, given, tree, tables, picture)
 }
 
-/// The job of the program and the picture that an input of three sections spells, and the section between them, of which nothing is
+/// The job of the program, its tables and the picture that an input of three sections spells, and the section between them, of which nothing is
 /// judged.
 pub fn job_and_middle<'a>(
     alloc: Global,
@@ -80,53 +81,67 @@ pub fn job_and_middle<'a>(
     ensures small { IfOk result (λ read. IsSmall (pipeline_in read.0)) }
     ensures fault { IfErr result (IsFaultAround input.now given.now sides) }
 {
-    let Some((text, middle, spelling)) = split_sections(input) else {
+    let Some((text, middle, last)) = split_sections(input) else {
         return Err(StreamFault::NoSeparator);
     };
-    let (tree, picture) = read_spelled(alloc, text, spelling)?;
-    let job = job_at(alloc, sides, given, tree, picture)?;
+    let (tree, tables, picture) = read_spelled(alloc, text, last)?;
+    let job = job_at(alloc, sides, given, tree, tables, picture)?;
     Ok((job, middle))
 }
 
-/// The job of the program and the picture that the input spells, and the facts of the fact files between them, rising, each
-/// once. A bad line is told only where the program and the picture have a job.
+/// The job of the program, its tables and the picture that the input spells, and what the fact files between them hold together. A
+/// bad line is told only where the program and the picture have a job.
 pub fn audit_of(
     alloc: Global,
     sides: TileSides,
     given: &[(String, i32)],
     input: Vec<u8>,
-) -> Result<(Job, Vec<Fact>), StreamFault>
-    ensures of_input { IfOk result
-        (λ read. IsReadAudit input.items given.now sides read.0 read.1.items) }
+) -> Result<(Job, Contents), StreamFault>
+    ensures of_input { IfOk result (λ read. IsReadAudit input.items given.now sides read.0
+        read.1.retired.items read.1.facts.items) }
     ensures job { IfOk result (λ read. IsJob (pipeline_in read.0)) }
     ensures small { IfOk result (λ read. IsSmall (pipeline_in read.0)) }
     ensures fault { IfErr result (IsAuditFault input.items given.now sides) }
 {
     let (job, middle) = job_and_middle(alloc, sides, given, input.as_slice())?;
-    let facts = union_of(alloc, middle)?;
-    Ok((job, facts))
+    let contents = join_of(alloc, middle)?;
+    Ok((job, contents))
 }
 
-/// The facts of the fact files that the input is, rising, each once.
-pub fn facts_of(alloc: Global, input: Vec<u8>) -> Result<Vec<Fact>, StreamFault>
-    ensures union { IfOk result (λ facts. IsUnion input.items facts.items) }
+/// What the fact files that the input is hold together.
+pub fn contents_of(alloc: Global, input: Vec<u8>) -> Result<Contents, StreamFault>
+    ensures join { IfOk result
+        (λ contents. IsJoin input.items contents.retired.items contents.facts.items) }
     ensures fault { IfErr result (IsMergeFault input.items) }
 {
-    Ok(union_of(alloc, input.as_slice())?)
+    Ok(join_of(alloc, input.as_slice())?)
 }
 
-/// The program and the picture that the input spells. A raw picture keeps the input's bytes, so that no sample is copied.
-fn read_all(alloc: Global, input: Vec<u8>) -> Result<(Tree, Picture), StreamFault>
-    ensures ok { IfOk result (λ read. IsInput input.items (content read.0) read.1) }
+/// The program, its tables and the picture that the input spells. A raw picture keeps the input's bytes, so that no sample is
+/// copied.
+fn read_all(alloc: Global, input: Vec<u8>) -> Result<(Tree, Vec<Table>, Picture), StreamFault>
+    ensures ok { IfOk result (λ read. IsInput input.items (content read.0) read.1.items read.2) }
     ensures fault { (given : List Given) (sides : Sides)
         → IfErr result (IsFaultOf input.items given sides) }
 {
-    let (tree, start) = program_of(alloc, input.as_slice())?;
+    let (tree, tables, start) = head_of(alloc, input.as_slice())?;
     let picture = netpbm::read_owned(alloc, input, start)?;
-    Ok((tree, picture))
+    Ok((tree, tables, picture))
 }
 
-/// The program that the first section is, and where the spelling of the picture starts.
+/// The program that the first section is, its tables, and where the spelling of the picture starts.
+fn head_of(alloc: Global, input: &[u8]) -> Result<(Tree, Vec<Table>, usize), StreamFault>
+    ensures ok { IfOk result
+        (λ read. IsHeadBefore input.now (content read.0) read.1.items read.2) }
+    ensures fault { (given : List Given) (sides : Sides)
+        → IfErr result (IsFaultOf input.now given sides) }
+{
+    let (tree, start) = program_of(alloc, input)?;
+    let (tables, length) = read_tables(alloc, tree.items(), &input[start..])?;
+    Ok((tree, tables, start + length))
+}
+
+/// The program that the first section is, and where the last section starts.
 fn program_of(alloc: Global, input: &[u8]) -> Result<(Tree, usize), StreamFault>
     ensures ok { IfOk result (λ read. IsProgramBefore input.now (content read.0) read.1) }
     ensures fault { (given : List Given) (sides : Sides)
@@ -139,34 +154,42 @@ fn program_of(alloc: Global, input: &[u8]) -> Result<(Tree, usize), StreamFault>
     Ok((tree, at + SEPARATOR.len()))
 }
 
-/// The program of a text and the picture that is spelled.
-fn read_spelled(alloc: Global, text: &[u8], spelling: &[u8]) -> Result<(Tree, Picture), StreamFault>
-    ensures ok { IfOk result (λ read. IsSpelled text.now spelling.now (content read.0) read.1) }
-    ensures fault { IfErr result (IsSpellingFault text.now spelling.now) }
+/// The program of a text, and the tables and the picture that the last section spells.
+fn read_spelled(
+    alloc: Global,
+    text: &[u8],
+    last: &[u8],
+) -> Result<(Tree, Vec<Table>, Picture), StreamFault>
+    ensures ok { IfOk result
+        (λ read. IsSpelled text.now last.now (content read.0) read.1.items read.2) }
+    ensures fault { IfErr result (IsSpellingFault text.now last.now) }
 {
     let tree = parse(alloc, text)?;
-    let picture = netpbm::read(alloc, spelling)?;
-    Ok((tree, picture))
+    let (tables, start) = read_tables(alloc, tree.items(), last)?;
+    let picture = netpbm::read(alloc, &last[start..])?;
+    Ok((tree, tables, picture))
 }
 
-/// The job of a program and a picture at the values that are given.
+/// The job of a program, its tables and a picture at the values that are given.
 fn job_at(
     alloc: Global,
     sides: TileSides,
     given: &[(String, i32)],
     tree: Tree,
+    tables: Vec<Table>,
     picture: Picture,
 ) -> Result<Job, StreamFault>
     ensures made { IfOk result
-        (λ job. IsJobAt (content tree) picture given.now sides (pipeline_in job)) }
+        (λ job. IsJobAt (content tree) tables.items picture given.now sides (pipeline_in job)) }
     ensures text { IfOk result (λ job. program_text_in job ≡ canonical (content tree)) }
     ensures job { IfOk result (λ job. IsJob (pipeline_in job)) }
-    ensures fault { IfErr result (IsJobFault (content tree) picture given.now sides) }
+    ensures fault { IfErr result
+        (IsJobFault (content tree) tables.items picture given.now sides) }
 {
     let checked = accept(alloc, tree)?;
     let params = choose(alloc, &checked, given)?;
-    match bind(alloc, checked, &params, picture, sides) {
+    match bind(alloc, checked, &params, tables, picture, sides) {
         Ok(job) => Ok(job),
-        Err((program, _, fault)) => Err(told(&program, fault)),
+        Err((program, _, _, fault)) => Err(told(&program, fault)),
     }
 }

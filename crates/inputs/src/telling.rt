@@ -10,7 +10,7 @@ use crate::facts_lines::write_facts;
 use crate::faults::StreamFault;
 use crate::lines::{FarmLine, ParamLine};
 use crate::script_lines::write_script;
-use crate::texts::{write_head, write_offset, write_text, write_texts};
+use crate::texts::{write_count, write_head, write_offset, write_text, write_texts};
 use fault_rows::Fault;
 use pipe_bounds::ParamFault;
 use streams::{Sink, WriteFailed};
@@ -53,6 +53,7 @@ fn write_fault<W: Sink>(fault: &StreamFault, writer: &mut W) -> Result<(), Write
                 fault.offset(),
             )
         }
+        StreamFault::Tables(line) => write_count(writer, b"tables: line ", *line),
         StreamFault::Picture(fault) => {
             write_place(
                 writer,

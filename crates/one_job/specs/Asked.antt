@@ -2,7 +2,7 @@
 use Rattle.std.specs.Prelude.{ℕ, ◌==◌, Bool, not, ◌||◌, if◌then◌else◌, List}
 use Rattle.job.specs.Pipeline.{Pipeline}
 use Rattle.grouping.specs.Greedy.{greedy_inlining}
-use Rattle.grouping.specs.Schedules.{all_stored}
+use Rattle.tile_boxes.specs.Schedules.{all_stored}
 
 -- none where all are to be stored, else those that the greedy rule inlines
 abbrev pub inlining_asked : Bool → ℕ → Pipeline → List Bool

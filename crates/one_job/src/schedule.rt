@@ -1,7 +1,8 @@
 //! The schedule that the options ask for.
 
 ghost use Rattle.std.specs.Prelude.{◌≡◌, true, false, IfOk};
-ghost use Rattle.grouping.specs.Inlining.{AllFitScratch, InlinesMore, IsScheduleOf};
+ghost use Rattle.grouping.specs.Inlining.{InlinesMore, IsScheduleOf};
+ghost use Rattle.tile_boxes.specs.Costs.{AllFitScratch};
 ghost use Rattle.job.specs.Kept.{pipeline_in};
 ghost use Rattle.one_job.specs.Asked.{inlining_asked, is_unusual};
 

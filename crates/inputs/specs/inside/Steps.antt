@@ -1,5 +1,5 @@
 -- What the steps from an input to its job give, and what they are refused with.
-use Rattle.std.specs.Prelude.{◌≡◌, ◌≢◌, ℕ, ◌≤◌, List, length, drop, string_bytes}
+use Rattle.std.specs.Prelude.{◌≡◌, ◌≢◌, ◌⊎◌, ℕ, ◌≤◌, List, length, drop, string_bytes}
 use Rattle.pipe_tree.specs.Faults.{IsText}
 use Rattle.pipe_tree.specs.Tree.{Declaration}
 use Rattle.pipe_checks.specs.declared.symbol.Symbol.{Symbol}
@@ -12,6 +12,10 @@ use Rattle.inputs.specs.declared.faults.StreamFault.TheVariants as faults
 use Rattle.inputs.specs.Faults.{IsCheckLine, blamed}
 use Rattle.inputs.specs.Giving.{Given, IsFirstRefused}
 use Rattle.inputs.specs.Sections.{IsParted}
+use Rattle.inputs.specs.Tables.{AreTableLines, BeginsWithLine, IsFirstLacking, LacksTable}
+use Rattle.pipe_checks.specs.Names.{tables_of}
+use Rattle.tables.specs.Lines.{IsTableLine}
+use Rattle.tables.specs.declared.table.Table.{Table}
 
 -- ---- what is read
 
@@ -22,7 +26,40 @@ pub record IsProgramBefore (input : List ℕ) (tree : List Declaration) (start :
   pub program : IsText text tree
   pub within : start ≤ length input
 
+-- the section begins with a line of this table, and what stands behind it starts at this place
+pub record BeginsWithTable (section : List ℕ) (t : Table) (start : ℕ) : Type 0 where
+  pub line : List ℕ
+  pub begins : BeginsWithLine section line (drop start section)
+  pub is : IsTableLine line t
+  pub within : start ≤ length section
+
+-- so many lines of tables stand at the head of the section, and what stands behind them starts at this place
+pub record AreTablesBefore (section : List ℕ) (count : ℕ) (tables : List Table) (start : ℕ) : Type 0 where
+  pub each : length tables ≡ count
+  pub lines : AreTableLines section tables (drop start section)
+  pub within : start ≤ length section
+
+-- The first section is a program of this tree, and the last one begins with a line for each of its tables. What stands behind them
+-- starts at this place of the input.
+pub record IsHeadBefore (input : List ℕ) (tree : List Declaration) (tables : List Table) (start : ℕ) : Type 0 where
+  pub text : List ℕ
+  pub last : List ℕ
+  pub parted : IsParted input text last
+  pub program : IsText text tree
+  pub each : length tables ≡ length (tables_of tree)
+  pub lines : AreTableLines last tables (drop start input)
+  pub within : start ≤ length input
+
 -- ---- what is refused: each may refuse memory
+
+-- the first line is not there, or is no table's
+abbrev pub IsLineRefusal : List ℕ → ℕ → StreamFault → Type 0
+IsLineRefusal section line fault = (fault ≡ faults.Memory) ⊎ ((fault ≡ faults.Tables line) × LacksTable section)
+
+-- the first of so many lines that is not there, or is no table's
+abbrev pub IsTablesRefusal : List ℕ → ℕ → StreamFault → Type 0
+IsTablesRefusal section count fault =
+    (fault ≡ faults.Memory) ⊎ ((line : ℕ) × (fault ≡ faults.Tables line) × IsFirstLacking section count line)
 
 -- a refused program
 abbrev pub IsRefusal : List Declaration → StreamFault → Type 0
@@ -42,9 +79,9 @@ IsParamRefusal ss given (faults.Param line) = IsFirstRefused ss given line
 IsParamRefusal ss given faults.Memory = Unit {0}
 IsParamRefusal ss given _ = ⊥
 
--- how a fault of binding is told by the names of these parameters and stages
-abbrev pub TellsBind : List Symbol → List Symbol → BindFault → StreamFault → Type 0
-TellsBind params stages fault (faults.Bind line) =
-    (line.fault ≡ fault) × (fault ≢ binding.Memory) × (line.blamed ≡ blamed params stages fault)
-TellsBind params stages fault faults.Memory = Unit {0}
-TellsBind params stages fault _ = ⊥
+-- how a fault of binding is told by the names of these parameters, tables and stages
+abbrev pub TellsBind : List Symbol → List Symbol → List Symbol → BindFault → StreamFault → Type 0
+TellsBind params tables stages fault (faults.Bind line) =
+    (line.fault ≡ fault) × (fault ≢ binding.Memory) × (line.blamed ≡ blamed params tables stages fault)
+TellsBind params tables stages fault faults.Memory = Unit {0}
+TellsBind params tables stages fault _ = ⊥

@@ -2,7 +2,7 @@ use Rattle.std.proofs.Common.{length, slice_index_or, arith, ap, ◌∙◌}
 use Rattle.std.specs.Prelude.{None}
 use Rattle.std.proofs.lemmas.List.FromFn.{get_or-map-range_with_len}
 use Rattle.job.specs.Kept.{pipeline_in}
-use Rattle.grouping.specs.Costs.{cost}
+use Rattle.tile_boxes.specs.Costs.{cost}
 use Rattle.commands.proofs.plan_lines.cost_of.Goals as goal
 
 pub returns : goal.returns

@@ -15,7 +15,13 @@ returns-clause-of_input c =
     both_then c.job_at.result
     (λ job made text. record {
       tree = content c.in_ok-tree.tree;
-      of_input = record { source = c.in_ok-tree.picture; read = c.in_ok-tree.ensures.ok; made = made };
+      of_input =
+          record {
+            tables = c.in_ok-tree.tables.items;
+            source = c.in_ok-tree.picture;
+            read = c.in_ok-tree.ensures.ok;
+            made = made;
+          };
       text = text;
     })
     c.job_at.ensures.made
@@ -25,13 +31,14 @@ pub returns-clause-small : goal.returns-clause-small
 returns-clause-small c =
     let read = c.in_ok-tree.ensures.ok in
     IfOk-weaker c.job_at.result _ _
-    (λ job made. job_small read.text read.spelling c.args.given.now c.args.sides (content c.in_ok-tree.tree) c.in_ok-tree.picture
-    (pipeline_in job) read.spelled made)
+    (λ job made. job_small read.text read.last c.args.given.now c.args.sides (content c.in_ok-tree.tree) c.in_ok-tree.tables.items
+    c.in_ok-tree.picture (pipeline_in job) read.spelled made)
     c.job_at.ensures.made
 
 pub returns-clause-fault : goal.returns-clause-fault
 returns-clause-fault c =
     IfErr-weaker c.job_at.result _ _
-    (λ f is. job_fault c.args.input.items c.args.given.now c.args.sides (content c.in_ok-tree.tree) c.in_ok-tree.picture f
+    (λ f is. job_fault c.args.input.items c.args.given.now c.args.sides (content c.in_ok-tree.tree) c.in_ok-tree.tables.items
+    c.in_ok-tree.picture f
     c.in_ok-tree.ensures.ok is)
     c.job_at.ensures.fault

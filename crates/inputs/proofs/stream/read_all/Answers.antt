@@ -1,8 +1,8 @@
 use Rattle.std.proofs.Common.{List, ℕ, ◌≤◌, drop, length, subst}
 use Rattle.std.proofs.lemmas.Result.{err_from_is_err_and}
 use Rattle.pipe_tree.specs.Content.{content}
-use Rattle.inputs.specs.Faults.{IsFaultOf}
-use Rattle.inputs.specs.inside.Steps.{IsProgramBefore}
+use Rattle.inputs.specs.Faults.{IsFaultBehind, IsFaultOf}
+use Rattle.inputs.specs.inside.Steps.{IsHeadBefore}
 use Rattle.inputs.proofs.Known.{picture_fault, spelling_fault}
 use Rattle.inputs.proofs.stream.read_all.Goals as goal
 
@@ -19,19 +19,32 @@ read_owned-requires c =
 pub returns-in_err-picture-clause-fault : goal.returns-in_err-picture-clause-fault
 returns-in_err-picture-clause-fault c = λ given sides.
     let p = err_from_is_err_and c.from_residual-in_err-picture.result c.from_residual-in_err-picture.ensures.1 in
-    let before = subst (λ (input : List ℕ). IsProgramBefore input (content c.in_ok-tree.tree) c.in_ok-tree.start) c.as_slice.ensures.value
-    c.in_ok-tree.ensures.ok in
-    let spelling = drop c.in_ok-tree.start c.args.input.items in
-    rw (p.1, p.2) (spelling_fault c.args.input.items before.text spelling given sides _ before.parted
-    (picture_fault before.text spelling (content c.in_ok-tree.tree) c.in_err-picture.field-0.0 before.program c.in_err-picture.ensures.fault))
+    let before = subst (λ (input : List ℕ). IsHeadBefore input (content c.in_ok-tree.tree) c.in_ok-tree.tables.items c.in_ok-tree.start)
+    c.as_slice.ensures.value c.in_ok-tree.ensures.ok in
+    let bad : IsFaultBehind before.last (content c.in_ok-tree.tree) c.in_err-picture.field-0.0 = record {
+      tables = c.in_ok-tree.tables.items;
+      each = before.each;
+      spelling = drop c.in_ok-tree.start c.args.input.items;
+      lines = before.lines;
+      bad = c.in_err-picture.ensures.fault;
+    } in
+    rw (p.1, p.2) (spelling_fault c.args.input.items before.text before.last given sides _ before.parted
+    (picture_fault before.text before.last (content c.in_ok-tree.tree) c.in_err-picture.field-0.0 before.program bad))
 
 pub returns-clause-ok : goal.returns-clause-ok
 returns-clause-ok c =
-    let before = subst (λ (input : List ℕ). IsProgramBefore input (content c.in_ok-tree.tree) c.in_ok-tree.start) c.as_slice.ensures.value
-    c.in_ok-tree.ensures.ok in
+    let before = subst (λ (input : List ℕ). IsHeadBefore input (content c.in_ok-tree.tree) c.in_ok-tree.tables.items c.in_ok-tree.start)
+    c.as_slice.ensures.value c.in_ok-tree.ensures.ok in
     record {
       text = before.text;
-      spelling = drop c.in_ok-tree.start c.args.input.items;
+      last = before.last;
       parted = before.parted;
-      spelled = record { program = before.program; picture = c.in_ok-picture.ensures.found };
+      spelled =
+          record {
+            program = before.program;
+            each = before.each;
+            spelling = drop c.in_ok-tree.start c.args.input.items;
+            lines = before.lines;
+            picture = c.in_ok-picture.ensures.found;
+          };
     }

@@ -1,7 +1,7 @@
 use Rattle.std.proofs.lemmas.Slice.Zip.{zip_end, zip_turn}
 use Rattle.write_buffer.proofs.PassingLaws.{passes_none, puts_err}
 use Rattle.fact_commands.proofs.ZippedLaws.{all_pairs, breaks_pair, passes_pair}
-use Rattle.fact_commands.proofs.verdict_lines.put_verdicts.Goals as goal
+use Rattle.fact_commands.proofs.audit_lines.put_verdicts.Goals as goal
 
 pub loop-fact-init : goal.loop-fact-init
 loop-fact-init g c = passes_none _ _ _

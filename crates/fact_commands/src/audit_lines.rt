@@ -1,35 +1,90 @@
-//! What is said of facts, as lines.
+//! What is said of facts, and which jobs are retired, as lines.
 
 ghost use Rattle.std.specs.Io.KnownBytes.{Appends};
 ghost use Rattle.std.specs.List.{flat_map, zip};
 ghost use Rattle.std.specs.Prelude.{◌≡◌, OnOk, OnErr, length};
 ghost use Rattle.streams.specs.Streams.{AppendsPart, CountsFailure};
-ghost use Rattle.fact_commands.specs.Verdicts.{verdict_line, verdict_lines, verdict_word};
+ghost use Rattle.fact_commands.specs.Verdicts.{audit_lines, retired_line, verdict_line, verdict_lines, verdict_word};
+ghost use Rattle.hex.specs.Hex.{encode_lower};
 ghost use Rattle.write_buffer.specs.Passing.{Puts};
 
 use fact_audit::Verdict;
+use identity::Ids;
 use itoa::Buffer;
 use streams::{Sink, WriteFailed};
 use tile_fact::Fact;
 use write_buffer::WriteBuffer;
 
-/// Writes a line for each fact: what is said of it, its stage, its row and its column. No memory is taken: the lines go through
-/// a buffer of fixed size.
-pub fn write_verdicts<W: Sink>(
+/// Writes a line for each fact: what is said of it, its stage, its row and its column; and behind them a line for each retired job. No
+/// memory is taken: the lines go through a buffer of fixed size.
+pub fn write_audit<W: Sink>(
     facts: &[Fact],
     verdicts: &[Verdict],
+    retired: &[Ids],
     writer: &mut W,
 ) -> Result<(), WriteFailed>
     requires { length verdicts.now ≡ length facts.now }
     ensures ok { OnOk result (Appends (W.contents writer.old) (W.contents writer.new)
-        (verdict_lines facts.now verdicts.now)) }
+        (audit_lines facts.now verdicts.now retired.now)) }
     ensures part { OnErr result (AppendsPart (W.contents writer.old) (W.contents writer.new)
-        (verdict_lines facts.now verdicts.now)) }
+        (audit_lines facts.now verdicts.now retired.now)) }
     ensures failed { CountsFailure result (W.failures writer.old) (W.failures writer.new) }
 {
     let mut buffer = WriteBuffer::new();
-    put_verdicts(&mut buffer, writer, facts, verdicts)?;
+    put_audit(&mut buffer, writer, facts, verdicts, retired)?;
     buffer.flush(writer)
+}
+
+fn put_audit<W: Sink>(
+    buffer: &mut WriteBuffer,
+    writer: &mut W,
+    facts: &[Fact],
+    verdicts: &[Verdict],
+    retired: &[Ids],
+) -> Result<(), WriteFailed>
+    requires { length verdicts.now ≡ length facts.now }
+    ensures { Puts result (audit_lines facts.now verdicts.now retired.now) buffer.old buffer.new
+        (W.contents writer.old) (W.contents writer.new)
+        (W.failures writer.old) (W.failures writer.new) }
+{
+    put_verdicts(buffer, writer, facts, verdicts)?;
+    put_jobs(buffer, writer, retired)
+}
+
+fn put_jobs<W: Sink>(
+    buffer: &mut WriteBuffer,
+    writer: &mut W,
+    retired: &[Ids],
+) -> Result<(), WriteFailed>
+    ensures { Puts result (flat_map retired_line retired.now) buffer.old buffer.new
+        (W.contents writer.old) (W.contents writer.new)
+        (W.failures writer.old) (W.failures writer.new) }
+{
+    for job in retired {
+        put_job(buffer, writer, job)?;
+    }
+    Ok(())
+}
+
+fn put_job<W: Sink>(buffer: &mut WriteBuffer, writer: &mut W, job: &Ids) -> Result<(), WriteFailed>
+    ensures { Puts result (retired_line job.now) buffer.old buffer.new
+        (W.contents writer.old) (W.contents writer.new)
+        (W.failures writer.old) (W.failures writer.new) }
+{
+    let program = digits_of(job.program.as_bytes());
+    let input = digits_of(job.input.as_bytes());
+    buffer.put_parts(writer, &[b"Retired ", &program, b" ", &input, b"\n"])
+}
+
+// Two small hexadecimal digits for each byte.
+fn digits_of(bytes: &[u8; 32]) -> [u8; 64]
+    ensures { result ≡ encode_lower bytes.now }
+{
+    let mut digits = [0; 64];
+    match hex::encode_to_slice(bytes.as_slice(), &mut digits) {
+        Ok(()) => digits,
+        Err(_) => unreachable!(),
+    }
 }
 
 fn put_verdicts<W: Sink>(

@@ -2,7 +2,7 @@ use Rattle.std.proofs.Common.{length, take}
 use Rattle.std.specs.List.{flat_map, zip}
 use Rattle.fact_commands.specs.Verdicts.{verdict_line}
 use Rattle.write_buffer.specs.Passing.{Passes}
-use Rattle.fact_commands.proofs.verdict_lines.put_verdicts.Given as goal
+use Rattle.fact_commands.proofs.audit_lines.put_verdicts.Given as goal
 
 abbrev pub invariant-loop-fact : goal.invariant-loop-fact
 invariant-loop-fact g l =

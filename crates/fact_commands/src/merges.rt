@@ -1,0 +1,51 @@
+//! Fact files as they are merged: from a reader to a writer.
+
+ghost use Rattle.std.specs.Prelude.{◌≡◌, IfOk, IfErr, length};
+ghost use Rattle.fact_lines.specs.Texts.{IsJoin};
+ghost use Rattle.fact_lines.specs.Written.{AreCounts};
+ghost use Rattle.inputs.specs.Faults.{IsMergeFault};
+ghost use Rattle.inputs.specs.Outcomes.{CountsRead, CountsWritten, Writes, refusing_merge};
+ghost use Rattle.fact_commands.specs.Merging.{saying_join};
+
+use fact_lines::{Contents, Counts, counts_of, write_line};
+use inputs::{StreamFault, contents_of, read_input};
+use std::alloc::Global;
+use streams::{Sink, Source};
+
+/// Reads fact files, a line for each, and writes the file of what they hold together: the retired jobs, and the facts of other jobs,
+/// each once, rising, in small hexadecimal digits and LF. Nothing is judged, and no program is needed. The digits go out through a
+/// buffer of fixed size.
+///
+/// Where the files have more than 4,294,967,295 facts or retired jobs, which no file counts, memory is refused.
+pub fn merge_stream<H: AllocGlobal, R: Source, W: Sink>(
+    rt: &H,
+    reader: &mut R,
+    writer: &mut W,
+) -> Result<(), StreamFault>
+    // At `Ok` the writer took the whole line, and where it failed a part of it. Any other fault has written nothing, and is the
+    // first bad line.
+    ensures written { Writes saying_join refusing_merge (R.remaining reader.old)
+        result (W.contents writer.old) (W.contents writer.new) }
+    // A fault of the reader or the writer is answered where it failed, and nowhere else.
+    ensures read { CountsRead result (R.failures reader.old) (R.failures reader.new) }
+    ensures write { CountsWritten result (W.failures writer.old) (W.failures writer.new) }
+{
+    let input = read_input(rt.alloc(), reader)?;
+    let (contents, counts) = counted_join(rt.alloc(), input)?;
+    Ok(write_line(&contents.retired, &contents.facts, counts, writer)?)
+}
+
+/// What the files hold together, and how much of it there is. The input is let go.
+fn counted_join(alloc: Global, input: Vec<u8>) -> Result<(Contents, Counts), StreamFault>
+    ensures join { IfOk result
+        (λ counted. IsJoin input.items counted.0.retired.items counted.0.facts.items) }
+    ensures counts { IfOk result
+        (λ counted. AreCounts counted.1 counted.0.retired.items counted.0.facts.items) }
+    ensures fault { IfErr result (IsMergeFault input.items) }
+{
+    let contents = contents_of(alloc, input)?;
+    match counts_of(&contents.retired, &contents.facts) {
+        Some(counts) => Ok((contents, counts)),
+        None => Err(StreamFault::Memory),
+    }
+}
