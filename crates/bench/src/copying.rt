@@ -1,12 +1,11 @@
 //! Reads a raw picture and writes it back, so many times; prints the milliseconds of each round.
-#![tactic(auto)]
 
-use anyhow::{Context, Result};
+use anyhow::{Result, bail};
 use netpbm::{read, write_raw};
 use std::fs::File;
-use std::rt::{Clock, Env, Files};
+use std::io;
+use std::rt::{Clock, Files};
 use std::time::Instant;
-use std::{env, io};
 use streams::{Metered, read_whole};
 
 fn round(rt: &(impl AllocGlobal + Clock + Files + Print + Eprint), path: &str) -> Result<()> {
@@ -23,13 +22,16 @@ fn round(rt: &(impl AllocGlobal + Clock + Files + Print + Eprint), path: &str) -
     Ok(())
 }
 
-fn main(rt: HostRuntime) -> Result<()> {
-    let mut args = env::args(&rt)?;
-    let _ = args.next();
-    let path = args.next().context("a path")?;
-    let rounds: u32 = args.next().context("rounds")?.as_str().parse::<u32>()?;
-    for _ in 0..rounds {
-        round(&rt, path.as_str())?;
+/// Copies the picture of a file so many times.
+pub fn measure(
+    rt: &(impl AllocGlobal + Clock + Files + Print + Eprint),
+    words: &[String],
+) -> Result<()> {
+    let [path, rounds] = words else {
+        bail!("copy PICTURE ROUNDS");
+    };
+    for _ in 0..rounds.as_str().parse::<u32>()? {
+        round(rt, path.as_str())?;
     }
     Ok(())
 }

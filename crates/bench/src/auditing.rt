@@ -1,19 +1,15 @@
 //! Makes a true fact of each tile of each function of a job, and has all of them judged at once, so many times; prints how many are
 //! called true, and the milliseconds of each round.
-#![tactic(auto)]
 
-mod facts;
-
-use crate::facts::all_facts;
-use anyhow::{Context, Result};
+use crate::true_facts::all_facts;
+use anyhow::{Context, Result, bail};
 use catalog::Catalog;
 use domains::TileSides;
 use fact_audit::{Verdict, audit_all};
 use inputs::{job_of, read_input};
 use job::Job;
-use std::env;
 use std::fs::File;
-use std::rt::{Clock, Env, Files};
+use std::rt::{Clock, Files};
 use std::time::Instant;
 use streams::Metered;
 use tile_fact::Fact;
@@ -45,20 +41,22 @@ fn round(
     Ok(())
 }
 
-fn main(rt: HostRuntime) -> Result<()> {
-    let mut args = env::args(&rt)?;
-    let _ = args.next();
-    let path = args.next().context("a path")?;
-    let side = args.next().context("a side")?.as_str().parse::<u32>()?;
-    let rounds = args.next().context("rounds")?.as_str().parse::<u32>()?;
-    let job = read_job(&rt, path.as_str(), side)?;
+/// Judges the facts of a program and a picture, in tiles of this side, so many times.
+pub fn measure(
+    rt: &(impl AllocGlobal + Clock + Files + Print + Eprint),
+    words: &[String],
+) -> Result<()> {
+    let [path, side, rounds] = words else {
+        bail!("audit INPUT SIDE ROUNDS");
+    };
+    let job = read_job(rt, path.as_str(), side.as_str().parse::<u32>()?)?;
     let facts = all_facts(rt.alloc(), &job)?;
     let mut jobs = Catalog::new(rt.alloc());
     if jobs.admit(job).is_err() {
-        anyhow::bail!("the job is not admitted");
+        bail!("the job is not admitted");
     }
-    for _ in 0..rounds {
-        round(&rt, &jobs, &facts)?;
+    for _ in 0..rounds.as_str().parse::<u32>()? {
+        round(rt, &jobs, &facts)?;
     }
     Ok(())
 }

@@ -1,5 +1,4 @@
 //! True facts of all tiles of the functions of a job.
-#![tactic(auto)]
 
 ghost use Rattle.job.specs.Kept.{pipeline_in};
 ghost use Rattle.tile_eval.specs.Buffer.{IsServed};

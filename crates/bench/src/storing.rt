@@ -1,18 +1,13 @@
 //! Takes so many facts into a state over a store, merges them into another state in sixteen parts, writes their file and makes so many
 //! copies; prints how many facts are held and how long their file is, and how many milliseconds each took.
-#![tactic(auto)]
-
-mod facts;
-mod order;
 
 use crate::facts::facts;
 use crate::order::Order;
-use anyhow::{Context, Result};
+use anyhow::{Context, Result, bail};
 use fact_store::{FactStore, SortedFacts, TableFacts};
 use node_state::NodeState;
 use std::alloc::Global;
-use std::env;
-use std::rt::{Clock, Env};
+use std::rt::Clock;
 use std::time::Instant;
 use tile_fact::Fact;
 
@@ -24,7 +19,7 @@ fn taken<S: FactStore>(alloc: Global, facts: &[Fact]) -> Result<NodeState<S>> {
     let mut state = NodeState::new(alloc);
     for fact in facts {
         if state.take(fact.clone()?).is_err() {
-            anyhow::bail!("no memory for a fact");
+            bail!("no memory for a fact");
         }
     }
     Ok(state)
@@ -61,7 +56,7 @@ fn copies<S: FactStore>(
     Ok(copies)
 }
 
-fn measure<S: FactStore>(
+fn measure_store<S: FactStore>(
     rt: &(impl AllocGlobal + Clock + Print + Eprint),
     facts: &[Fact],
     count: u32,
@@ -87,18 +82,17 @@ fn measure<S: FactStore>(
     Ok(())
 }
 
-fn main(rt: HostRuntime) -> Result<()> {
-    let mut args = env::args(&rt)?;
-    let _ = args.next();
-    let store = args.next().context("sorted or tables")?;
-    let order = args.next().context("rising, falling or mixed")?;
+/// Times a store, with so many facts in an order, and makes so many copies.
+pub fn measure(rt: &(impl AllocGlobal + Clock + Print + Eprint), words: &[String]) -> Result<()> {
+    let [store, order, count, copies] = words else {
+        bail!("store STORE ORDER COUNT COPIES");
+    };
     let order = Order::of(order.as_str()).context("rising, falling or mixed")?;
-    let count = args.next().context("a count")?.as_str().parse::<u32>()?;
-    let copies = args.next().context("copies")?.as_str().parse::<u32>()?;
-    let facts = facts(rt.alloc(), order, count)?;
+    let facts = facts(rt.alloc(), order, count.as_str().parse::<u32>()?)?;
+    let copies = copies.as_str().parse::<u32>()?;
     match store.as_str() {
-        "sorted" => measure::<SortedFacts>(&rt, &facts, copies),
-        "tables" => measure::<TableFacts>(&rt, &facts, copies),
-        _ => anyhow::bail!("sorted or tables"),
+        "sorted" => measure_store::<SortedFacts>(rt, &facts, copies),
+        "tables" => measure_store::<TableFacts>(rt, &facts, copies),
+        _ => bail!("sorted or tables"),
     }
 }

@@ -1,15 +1,13 @@
 //! Computes all tiles of the stored functions of a job, by the schedule and in the tiles that `eval` takes, and keeps them; prints how
 //! many points that takes, and for how long it runs.
-#![tactic(auto)]
 
-use anyhow::{Context, Result};
+use anyhow::{Context, Result, bail};
 use domains::TileSides;
 use grouping::{Schedule, with_cheap_inlined};
 use inputs::{job_of, read_input};
 use job::{Job, StageKind};
-use std::env;
 use std::fs::File;
-use std::rt::{Clock, Env, Files};
+use std::rt::{Clock, Files};
 use std::thread::Threads;
 use std::time::Instant;
 use streams::Metered;
@@ -60,14 +58,18 @@ fn run(rt: &(impl AllocGlobal + Clock + Print + Eprint + Threads + Sync), job: &
     Ok(())
 }
 
-fn main(rt: HostRuntime) -> Result<()> {
-    let mut args = env::args(&rt)?;
-    let _ = args.next();
-    let path = args.next().context("a path")?;
+/// Computes the tiles of a program and a picture, with these parameters.
+pub fn measure(
+    rt: &(impl AllocGlobal + Clock + Files + Print + Eprint + Threads + Sync),
+    words: &[String],
+) -> Result<()> {
+    let Some((path, given)) = words.split_first() else {
+        bail!("run INPUT NAME=VALUE..");
+    };
     let mut parameters = Vec::new(rt.alloc());
-    for word in args {
-        parameters.push(parameter(&rt, word.as_str())?)?;
+    for word in given {
+        parameters.push(parameter(rt, word.as_str())?)?;
     }
-    let job = read_job(&rt, path.as_str(), &parameters)?;
-    run(&rt, &job)
+    let job = read_job(rt, path.as_str(), &parameters)?;
+    run(rt, &job)
 }
