@@ -1,6 +1,0 @@
-mod given;
-mod histories;
-mod meeting;
-mod runs;
-mod shares;
-mod watch;

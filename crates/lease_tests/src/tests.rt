@@ -1,5 +1,0 @@
-mod calls;
-mod cases;
-mod desks;
-mod histories;
-mod threads;

@@ -1,8 +1,0 @@
-//! Where points are computed.
-
-mod areas;
-mod cheap;
-mod greedy;
-mod plans;
-mod schedules;
-mod work;

@@ -1,5 +1,0 @@
-//! What events do.
-
-mod histories;
-mod no_memory;
-mod scripts;
