@@ -11,13 +11,14 @@ TEXT = "1 NotAscii|2 BadToken|3 Unexpected|4 NumberTooBig|5 TooDeep|6 TooLong|7 
 PICTURE = (
     "1 OtherFormat|2 HeaderCut|3 BadNumber|4 BadSize|5 BadMax|6 CommentBehindDigit|7 RasterCut|8 SampleTooBig|9 TrailingBytes"
 )
-FACTS = "1 BadMagic|2 Cut|3 NotRising|4 BadKind|5 TooLong|6 TrailingBytes"
+FACTS = "1 BadMagic|2 Cut|3 NotRising|4 BadKind|5 TooLong|6 TrailingBytes|8 RetiredFact|9 NothingRetired"
 # the status of an audit that found a False, with all verdicts
 FOUND_FALSE = 6
 # the lines of refusals, by exit status
 REFUSALS = {
     1: ["usage: tilefarm COMMAND .*", rf"parameter: (?:1 NoSuchParam|2 SetTwice) .*"],
     2: ["input: no separator", "input: too long", rf"picture: (?:{PICTURE}) at \d+",
+        r"tables: line \d+",
         rf"facts: line \d+ (?:bad hex|(?:{FACTS}) at \d+)", r"script: (?:(?:1 BadLine|2 NoSuchJob) at \d+|3 TooManyEvents)"],
     3: [
         rf"program: (?:{TEXT}) at \d+",
@@ -26,8 +27,9 @@ REFUSALS = {
         rf"check: 7 Cycle(?: {NAME})+",
         rf"bounds: (?:1 ParamUnset|2 EmptyDomain|3 DomainTooWide) {NAME}",
         rf"bounds: 4 OutOfBounds {READ}",
+        rf"bounds: (?:6 EmptyTable|7 TableTooWide) {NAME}",
         "bind: (?:2 Planes|3 ExtentMismatch|4 OutputShapes)",
-        rf"bind: 5 TooManyTiles {NAME}",
+        rf"bind: (?:5 TooManyTiles|7 TableMismatch) {NAME}",
     ],
 }
 SPAN = r"-?\d+\.\.-?\d+"

@@ -1,9 +1,10 @@
-"""What `merge` and `audit` must answer to random facts, which are true, false, of no shape or of another job, in random files."""
+"""What `merge` and `audit` must answer to random facts, which are true, false, of no shape or of another job, in random files, some of which
+retire jobs."""
 import re
 from random import Random
 
 from .answers import Answer, Program, demand
-from .facts import Fact, merged, split, text_of, union
+from .facts import Content, Fact, Ids, content_of, merged, split, text_of
 from .values import Meaning, Point, wrapped
 
 SEPARATOR = b"%%\n"
@@ -25,17 +26,18 @@ class Judge:
         return tile and Fact(*self.identities, stage, row, col, int(found.kind == "accum"), found.numbers(tile))
 
     def verdict(self, fact: Fact) -> str:
-        if fact[:2] != self.identities:
+        if fact.ids() != self.identities:
             return "Foreign"
         true = self.truth(*fact[2:5])
         if not true or fact.kind != true.kind or len(fact.numbers) != len(true.numbers):
             return "Misshapen"
         return "True" if fact == true else "False"
 
-    def answer(self, facts: list[Fact]) -> Answer:
-        """What `audit` must answer to these facts, which rise."""
-        verdicts = [self.verdict(it) for it in facts]
-        lines = [f"{verdict} {it.stage} {it.row} {it.col}\n" for verdict, it in zip(verdicts, facts)]
+    def answer(self, content: Content) -> Answer:
+        """What `audit` must answer to this."""
+        verdicts = [self.verdict(it) for it in content.facts]
+        lines = [f"{verdict} {it.stage} {it.row} {it.col}\n" for verdict, it in zip(verdicts, content.facts)]
+        lines += [f"Retired {program.hex()} {given.hex()}\n" for program, given in content.retired]
         return Answer(6 if "False" in verdicts else 0, "".join(lines).encode())
 
     def some_facts(self, random: Random) -> list[Fact]:
@@ -47,6 +49,11 @@ class Judge:
             true = self.truth(stage, *random.choice(self.meaning.stages[stage].domain.tiles(self.sides)))
             found += [true] * (random.random() < 0.8) + [changed(true, random) for _ in range(random.choice([0, 0, 1, 2]))]
         return sorted(set(found))
+
+    def some_jobs(self, facts: list[Fact], random: Random) -> set[Ids]:
+        """Jobs to retire, most often none: this one, those of facts, and others."""
+        known = [self.identities, *(it.ids() for it in facts), some_ids([random.randbytes(32)], random)]
+        return set(random.choices(known, k=random.choice([0, 0, 0, 1, 2])))
 
 
 def changed(fact: Fact, random: Random) -> Fact:
@@ -76,31 +83,32 @@ def audited(program: Program, text: bytes, picture: bytes, words: tuple[str, ...
     words = ("--rows", str(sides[0]), "--cols", str(sides[1]), *words)
     judge = Judge(meaning, sides, program.call(text + SEPARATOR + picture, "check", *words))
     facts = judge.some_facts(random)
-    files = text_of(split(facts, random), random)
+    files = text_of(split(facts, random, judge.some_jobs(facts, random)), random)
     files += b"" if files.endswith(b"\n") else b"\n"
     merging(program, files)
-    wanted, more = judge.answer(facts), random.choice([(), ("--stored",), ("--percent", "300")])
+    wanted, more = judge.answer(content_of(files)), random.choice([(), ("--stored",), ("--percent", "300")])
     answer = program.call(text + SEPARATOR + files + SEPARATOR + picture, "audit", *words, *more)
     demand(answer == wanted, f"audit: {answer.shown()} in place of {wanted.shown()}")
     bad = damaged(files, random)
     if b"%%" not in bad:
         status, line = merged(bad)
-        wanted = Answer(status, line) if status else judge.answer(union(bad))
+        wanted = Answer(status, line) if status else judge.answer(content_of(bad))
         answer = program.call(text + SEPARATOR + bad + b"\n" + SEPARATOR + picture, "audit", *words)
         demand(answer == wanted, f"audit of damaged files: {answer.shown()} in place of {wanted.shown()}")
 
 
 def merging(program: Program, text: bytes) -> None:
-    """Files are merged into the union of what they hold, or refused by the first fault."""
+    """Files are merged into one that holds what they hold together, or refused by the first fault."""
     answer, wanted = program.call(text, "merge"), Answer(*merged(text))
     demand(answer == wanted, f"merge: {answer.shown()} in place of {wanted.shown()}")
 
 
 def merged_at_random(program: Program, random: Random) -> None:
-    """Facts of no job in random files, and what damage makes of these."""
+    """Facts of no job in random files, some of which retire their jobs, and what damage makes of these."""
     ids = [bytes(32), bytes(31) + b"\1", random.randbytes(32)]
     facts = [some_fact(ids, random) for _ in range(random.randint(0, 6))]
-    text = text_of(split(sorted(set(facts)), random), random)
+    retired = {some_ids(ids, random) for _ in range(random.choice([0, 0, 1, 1, 2, 3, 9]))}
+    text = text_of(split(sorted(set(facts)), random, retired), random)
     merging(program, text)
     merging(program, damaged(text, random))
 
@@ -110,7 +118,11 @@ def some_fact(ids: list[bytes], random: Random) -> Fact:
     most = 2 ** (63 if kind else 31)
     numbers = tuple(random.choice([0, 1, -1, most - 1, -most, random.randrange(-most, most)]) for _ in range(random.choice([0, 1, 2, 3])))
     place = [random.choice([0, 0, 1, LAST]) for _ in range(2)]
-    return Fact(random.choice(ids), random.choice(ids), random.choice([0, 1, 65535]), *place, kind, numbers)
+    return Fact(*some_ids(ids, random), random.choice([0, 1, 65535]), *place, kind, numbers)
+
+
+def some_ids(ids: list[bytes], random: Random) -> Ids:
+    return random.choice(ids), random.choice(ids)
 
 
 def damaged(text: bytes, random: Random) -> bytes:

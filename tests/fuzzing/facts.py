@@ -1,13 +1,16 @@
-"""Facts, fact files and texts of fact files, written from docs/FORMATS.md alone: what they hold, or the first fault."""
+"""Facts, retired jobs, fact files and texts of fact files, written from docs/FORMATS.md alone: what they hold, or the first fault."""
 import re
 import struct
 from random import Random
-from typing import NamedTuple
+from typing import Iterable, NamedTuple
 
-MAGIC = b"PTF1"
+# how a file begins in which no job is retired, and one in which some are
+MAGIC, MAGIC_OF_RETIRED = b"PTF1", b"PTF2"
 HEAD = struct.Struct(">32s32sHIIBI")
 # by kind, of tiles and of partials: how many numbers a fact may have, and how one is written
 MOST, FORMS = (1_048_576, 4_096), ("i", "q")
+# the identities of a job: of its program, and of its input
+Ids = tuple[bytes, bytes]
 
 
 class Fact(NamedTuple):
@@ -20,6 +23,9 @@ class Fact(NamedTuple):
     col: int
     kind: int
     numbers: tuple[int, ...]
+
+    def ids(self) -> Ids:
+        return self.program, self.input
 
     def record(self) -> bytes:
         head = HEAD.pack(*self[:6], len(self.numbers))
@@ -40,9 +46,31 @@ class LineFault(Exception):
         return f"facts: line {self}\n".encode()
 
 
-def file_of(facts: list[Fact]) -> bytes:
-    """The fact file of facts in order."""
-    return MAGIC + struct.pack(">I", len(facts)) + b"".join(it.record() for it in facts)
+class Content(NamedTuple):
+    """What a fact file holds: the jobs that are retired, and facts of other jobs. Both rise."""
+
+    retired: list[Ids]
+    facts: list[Fact]
+
+    def file(self) -> bytes:
+        """The fact file of this."""
+        head = MAGIC_OF_RETIRED + count(self.retired) + b"".join(map(b"".join, self.retired)) if self.retired else MAGIC
+        return head + count(self.facts) + b"".join(it.record() for it in self.facts)
+
+
+def count(many: list) -> bytes:
+    return struct.pack(">I", len(many))
+
+
+def file_of(facts: list[Fact], retired: Iterable[Ids] = ()) -> bytes:
+    """The fact file of facts in order, where these jobs are retired."""
+    return Content(sorted(retired), facts).file()
+
+
+def joined(contents: list[Content]) -> Content:
+    """All retired jobs, and all facts of other jobs, each once, in order."""
+    retired = {ids for it in contents for ids in it.retired}
+    return Content(sorted(retired), sorted({fact for it in contents for fact in it.facts if fact.ids() not in retired}))
 
 
 class Reader:
@@ -51,25 +79,45 @@ class Reader:
     def __init__(self, data: bytes):
         self.data, self.at = data, 0
 
-    def take(self, count: int) -> bytes:
-        if self.at + count > len(self.data):
+    def take(self, size: int) -> bytes:
+        if self.at + size > len(self.data):
             raise FileFault(2, "Cut", len(self.data))
-        self.at += count
-        return self.data[self.at - count : self.at]
+        self.at += size
+        return self.data[self.at - size : self.at]
 
-    def facts(self) -> list[Fact]:
-        for at, byte in enumerate(self.data[: len(MAGIC)]):
-            if byte != MAGIC[at]:
-                raise FileFault(1, "BadMagic", at)
-        self.take(len(MAGIC))
-        found: list[Fact] = []
-        for _ in range(int.from_bytes(self.take(4), "big")):
+    def number(self) -> int:
+        return int.from_bytes(self.take(4), "big")
+
+    def content(self) -> Content:
+        retired = self.retired() if self.magic() == MAGIC_OF_RETIRED else []
+        facts: list[Fact] = []
+        for _ in range(self.number()):
             begun, fact = self.at, self.fact()
-            if found and fact <= found[-1]:
+            if facts and fact <= facts[-1]:
                 raise FileFault(3, "NotRising", begun)
-            found.append(fact)
+            if fact.ids() in retired:
+                raise FileFault(8, "RetiredFact", begun)
+            facts.append(fact)
         if self.at < len(self.data):
             raise FileFault(6, "TrailingBytes", self.at)
+        return Content(retired, facts)
+
+    def magic(self) -> bytes:
+        for at in range(len(MAGIC)):
+            if at < len(self.data) and not any(it.startswith(self.data[: at + 1]) for it in (MAGIC, MAGIC_OF_RETIRED)):
+                raise FileFault(1, "BadMagic", at)
+        return self.take(len(MAGIC))
+
+    def retired(self) -> list[Ids]:
+        found: list[Ids] = []
+        begun, many = self.at, self.number()
+        if not many:
+            raise FileFault(9, "NothingRetired", begun)
+        for _ in range(many):
+            begun, ids = self.at, self.take(64)
+            if found and (ids[:32], ids[32:]) <= found[-1]:
+                raise FileFault(3, "NotRising", begun)
+            found.append((ids[:32], ids[32:]))
         return found
 
     def fact(self) -> Fact:
@@ -83,32 +131,32 @@ class Reader:
         return Fact(*head[:6], struct.unpack(f">{head[-1]}{FORMS[kind]}", self.take(head[-1] * (8 if kind else 4))))
 
 
-def union(text: bytes) -> list[Fact]:
-    """The facts of all files of a text, each once, in order."""
-    found: set[Fact] = set()
+def content_of(text: bytes) -> Content:
+    """What all files of a text hold together."""
+    found: list[Content] = []
     for number, line in enumerate(text.split(b"\n"), 1):
         if len(line) % 2 or not re.fullmatch(rb"[0-9A-Fa-f]*", line):
             raise LineFault(f"{number} bad hex")
         try:
-            found.update(Reader(bytes.fromhex(line.decode())).facts() if line else [])
+            found += [Reader(bytes.fromhex(line.decode())).content()] if line else []
         except FileFault as fault:
             raise LineFault(f"{number} {fault}") from None
-    return sorted(found)
+    return joined(found)
 
 
 def merged(text: bytes) -> tuple[int, bytes]:
     """The status of `merge` on a text, and what it writes."""
     try:
-        return 0, file_of(union(text)).hex().encode() + b"\n"
+        return 0, content_of(text).file().hex().encode() + b"\n"
     except LineFault as fault:
         return 2, fault.line()
 
 
-def text_of(files: list[list[Fact]], random: Random) -> bytes:
-    """A text of these files, each of which rises, in random letters and with empty lines."""
+def text_of(files: list[Content], random: Random) -> bytes:
+    """A text of these files in random letters and with empty lines."""
     lines = []
-    for facts in files:
-        digits = file_of(facts).hex()
+    for content in files:
+        digits = content.file().hex()
         lines += [""] * random.choice([0, 0, 0, 1, 2]) + [random.choice([str, str.upper, mixed])(digits)]
     return "\n".join(lines).encode() + random.choice([b"", b"\n", b"\n", b"\n\n"])
 
@@ -118,10 +166,15 @@ def mixed(digits: str) -> str:
     return "".join(it.upper() if at % 2 else it for at, it in enumerate(digits))
 
 
-def split(facts: list[Fact], random: Random) -> list[list[Fact]]:
-    """The facts in files: in each a random part of them, in some of these all that the others have, and each fact in one at least."""
+def split(facts: list[Fact], random: Random, retired: Iterable[Ids] = ()) -> list[Content]:
+    """The facts in files: in each a random part of them, in some of these all that the others have, and each fact in one at least. Each job
+    that is retired is so in one at least too, which has no fact of it: so some facts may be in none."""
     files = [[it for it in facts if random.random() < 0.5] for _ in range(random.randint(0, 3))]
     last = [it for it in facts if random.random() < 0.3 or not any(it in file for file in files)]
     files.append(last)
     random.shuffle(files)
-    return [sorted(set(it)) for it in files]
+    jobs: list[set[Ids]] = [set() for _ in files]
+    for ids in retired:
+        for at in random.choices(range(len(files)), k=2):
+            jobs[at].add(ids)
+    return [joined([Content(sorted(ids), it)]) for ids, it in zip(jobs, files)]

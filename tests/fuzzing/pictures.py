@@ -1,5 +1,5 @@
-"""Random pictures in the four spellings of Netpbm."""
-from dataclasses import dataclass
+"""Random pictures in the four spellings of Netpbm, with the tables that are handed in before them."""
+from dataclasses import dataclass, replace
 from random import Random
 
 
@@ -10,6 +10,14 @@ class Picture:
     planes: int
     greatest: int
     samples: list[int]
+    tables: tuple = ()
+
+    def with_tables(self, tables: tuple) -> "Picture":
+        return replace(self, tables=tables)
+
+    def lines(self) -> bytes:
+        """The lines of the tables, which stand before the picture."""
+        return b"".join(it.line() for it in self.tables)
 
     def raw(self) -> bytes:
         width = 1 if self.greatest < 256 else 2

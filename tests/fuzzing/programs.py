@@ -3,6 +3,7 @@ from dataclasses import dataclass, field
 from random import Random
 
 from .pictures import Picture
+from .tables import Table, declared, random_table
 
 SHIFT = 4096
 OPERATORS = ["sum", "min", "max"]
@@ -25,10 +26,11 @@ class Stage:
 
 @dataclass
 class Program:
-    """What a program was made of: its tokens, and the values that its parameters need."""
+    """What a program was made of: its tokens, the values that its parameters need, and its tables in the order of the text."""
 
     tokens: list[str] = field(default_factory=list)
     values: list[str] = field(default_factory=list)
+    tables: tuple[Table, ...] = ()
 
 
 class Writer:
@@ -39,6 +41,8 @@ class Writer:
         self.sides = {"R": picture.rows, "C": picture.cols}
         self.given = {f"p{it}": random.randint(-9, 9) for it in range(random.randint(0, 2))}
         self.readable: list[Stage] = []
+        count = random.choice([0, 0, 0, 1, 2, 2, 16]) if random.random() < 0.9 else 0
+        self.tables = tuple(random_table(f"t{it}", random) for it in range(count))
         self.is_careful = random.random() < 0.9
 
     # ---- numbers
@@ -116,7 +120,9 @@ class Writer:
         inner = lambda: self.expression(spans, depth - 1)
         if depth == 0 or self.random.random() < 0.15:
             return self.leaf(spans)
-        choice = self.random.randrange(9)
+        choice = self.random.randrange(11 if self.tables else 9)
+        if choice >= 9:
+            return [self.random.choice(self.tables).name, "[", *inner(), "]"]
         if choice <= 1:
             return ["(", *inner(), self.random.choice("+-"), *inner(), ")"]
         if choice == 2:
@@ -186,9 +192,12 @@ class Writer:
         outputs = list(dict.fromkeys(outputs)) if len({*outputs}) == 3 else outputs[-1:]
         items.append(["output", *parted([[it.name] for it in outputs]), "max", str(self.random.choice([1, 255, 65535])), ";"])
         items += [["param", it, ";"] for it in sorted({**self.sides, **self.given})]
+        items += [["table", it.name, *self.span(Span(it.lo, it.lo + len(it.values) - 1)), ";"] for it in self.tables]
         self.random.shuffle(items)
         values = [f"{name}={value}" for name, value in {**self.sides, **self.given}.items()]
-        return Program([token for item in items for token in item], values)
+        tokens = [token for item in items for token in item]
+        by_name = {it.name: it for it in self.tables}
+        return Program(tokens, values, tuple(by_name[it] for it in declared(tokens)))
 
 
 def parted(parts: list[list[str]], mark: str = ",") -> list[str]:

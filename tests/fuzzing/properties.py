@@ -41,8 +41,9 @@ def judged(program: Program, random: Random) -> str:
     """Makes a case and demands all that must hold of it. Says how it ended."""
     taken = picture(random)
     written = Writer(random, taken).program()
+    taken = taken.with_tables(written.tables)
     words = tuple(written.values if random.random() < 0.9 else [it for it in written.values if it[0] == "p"])
-    case = Case(spelled(written.tokens), taken.spelled(random), words)
+    case = Case(spelled(written.tokens), taken.lines() + taken.spelled(random), words)
     answer = of_one_case(program, case, taken, random)
     another_spelling(program, case, written.tokens, taken, random)
     for _ in range(3):
@@ -69,7 +70,7 @@ def of_one_case(program: Program, case: Case, taken: Picture, random: Random) ->
             again = program.call(case.stdin, "eval", *options, *case.words)
             demand(again == evaluated, f"eval {' '.join(options)} gives another result: {again.shown()}")
         if taken.planes == 1 or taken.planes == 3:
-            other = Case(case.text, taken.raw(), case.words)
+            other = Case(case.text, taken.lines() + taken.raw(), case.words)
             demand(program.call(other.stdin, "eval", *case.words) == evaluated, "another spelling of the picture gives another result")
     return evaluated
 

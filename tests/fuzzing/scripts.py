@@ -13,7 +13,8 @@ WRONG = ["", "-1", "+1", "1.", "x", "0x1", "1 ", " 1", "\t", "1\r", "\xb2", str(
 BAD_LINES = ["make", "make 0", "send 0", "send", "deliver 0", "merge 0", "keep", "restart", "make 0 0:1:0", "make 0 0:1:0:0:0", "keep 0 0",
              " # no comment", " ", "Make 0 0:1:0:0", "forget 0", "send 0 1 :::", "make 0 0:1:0:0 0:1:0:1", "%% ", "\0", "keep\t0",
              "make 0 1:0:0:0", "make 0 01:1:0:0", "send 0 1 0:1:0:0 7:1:0:0", "send 0 1 9:1:0:0", "send 0 1 1:1:0:0 x",
-             f"make 0 0:{MOST_STAGE + 1}:0:0", f"send 0 1 0:1:{MOST_NUMBER + 1}:0", f"deliver 0 {MOST_NUMBER + 1}"]
+             "retire", "retire 0", "retire 0 0 0", "retire 0 0:1:0:0", "retire 0 1", "retire 256 1", f"retire 0 {MOST_NUMBER}",
+             f"retire 0 {MOST_NUMBER + 1}", f"make 0 0:{MOST_STAGE + 1}:0:0", f"send 0 1 0:1:{MOST_NUMBER + 1}:0", f"deliver 0 {MOST_NUMBER + 1}"]
 
 
 class Writer:
@@ -21,6 +22,8 @@ class Writer:
 
     def __init__(self, job: Job, nodes: int, random: Random):
         self.world, self.random, self.nodes = World(job, nodes), random, nodes
+        # (a node that has retired the job makes nothing, so that few scripts retire it often)
+        self.retiring = random.choice([0, 0, 0.01, 0.05])
         domains = [(it, stage.domain) for it, stage in enumerate(job.meaning.stages) if stage.kind != "plane"]
         self.tiles: list[Tile] = [(it, *at) for it, domain in domains for at in domain.tiles(job.schedule.sides)]
 
@@ -50,10 +53,13 @@ class Writer:
         return tile
 
     def held(self, node: int) -> set[Tile]:
-        return self.world.held[node] if node < self.nodes else set()
+        return set(self.world.held[node].tiles) if node < self.nodes else set()
+
+    def verb(self) -> str:
+        return "retire" if self.random.random() < self.retiring else self.random.choice(VERBS)
 
     def event(self) -> Event:
-        verb = self.random.choice(VERBS)
+        verb = self.verb()
         numbers, tiles = getattr(self, verb)() if hasattr(self, verb) else ((self.node(),), ())
         return Event(verb, numbers, tiles)
 
@@ -78,6 +84,9 @@ class Writer:
 
     def merge(self) -> tuple[tuple[int, ...], tuple[Tile, ...]]:
         return (self.node(), self.node()), ()
+
+    def retire(self) -> tuple[tuple[int, ...], tuple[Tile, ...]]:
+        return (self.node(), 0), ()
 
     def events(self, count: int) -> list[Event]:
         found = []
@@ -124,7 +133,7 @@ def text_of(lines: list[str]) -> bytes:
 
 def another_script(random: Random) -> bytes:
     """A script of any job, or what is none."""
-    return text_of(random.choice([[], ["keep 0"], ["make 0 0:1:0:0", "deliver 0 0"], ["keep"], ["%%%", "make 0 1:1:0:0"]]))
+    return text_of(random.choice([[], ["keep 0"], ["make 0 0:1:0:0", "deliver 0 0"], ["retire 0 0"], ["keep"], ["%%%", "make 0 1:1:0:0"]]))
 
 
 def worlded(program: Program, text: bytes, picture: bytes, words: tuple[str, ...], meaning: Meaning, random: Random) -> None:

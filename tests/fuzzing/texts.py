@@ -87,6 +87,9 @@ class Spelling:
     def image(self) -> list[str]:
         return [*self.until("("), *self.affine(), self.take(), *self.affine(), self.take(), self.take()]
 
+    def table(self) -> list[str]:
+        return [self.take(), *self.span(), self.take()]
+
     def func(self) -> list[str]:
         found = [self.take(), *self.variables(), self.take()]
         while word := self.marked("case", "else"):
@@ -154,6 +157,8 @@ class Spelling:
             return found
         if word == "stencil":
             return TIGHT, [word, *self.kernel()]
+        if bracket := self.marked("["):
+            return TIGHT, [word, *bracket, *self.expression()[1], self.take()]
         if not (opening := self.marked("(")):
             return TIGHT, [word]
         if word not in ("min", "max", "abs", "clamp", "select"):
@@ -207,5 +212,14 @@ def identities(tokens: list[str], known: dict[str, int], picture: Picture, sides
     """Those of the program, and of all that it is given."""
     names = parameters(tokens)
     values = b"".join(bytes([len(it)]) + it.encode() + struct.pack(">i", known[it]) for it in names)
-    given = b"PTI1" + struct.pack(">IIH", *sides, len(names)) + values + picture.raw()
-    return hashlib.sha256(canonical(tokens)).digest(), hashlib.sha256(given).digest()
+    front = struct.pack(">IIH", *sides, len(names)) + values
+    given = b"PTI2" + front + tables_bytes(picture) if picture.tables else b"PTI1" + front
+    return hashlib.sha256(canonical(tokens)).digest(), hashlib.sha256(given + picture.raw()).digest()
+
+
+def tables_bytes(picture: Picture) -> bytes:
+    """How many tables there are, and each with its name, its first index and its entries."""
+    found = struct.pack(">H", len(picture.tables))
+    for it in picture.tables:
+        found += bytes([len(it.name)]) + it.name.encode() + struct.pack(f">iH{len(it.values)}i", it.lo, len(it.values), *it.values)
+    return found

@@ -114,6 +114,7 @@ class Meaning:
     def __init__(self, tokens: list[str], known: dict[str, int], picture: Picture):
         self.tokens, self.at, self.known, self.picture = [*tokens, ""], 0, known, picture
         self.names: dict[str, Stage] = {}
+        self.tables = {it.name: it for it in picture.tables}
         self.outputs: list[str] = []
         # what stands where the reader is: the variables, and the cases so far
         self.variables: list[str] = []
@@ -161,6 +162,11 @@ class Meaning:
     def sample(self, plane: int) -> Formula:
         width, planes, samples = self.picture.cols, self.picture.planes, self.picture.samples
         return lambda point: samples[(point[0] * width + point[1]) * planes + plane]
+
+    def table(self) -> None:
+        self.take()
+        self.span()
+        self.take(";")
 
     def func(self) -> None:
         name, domain, self.cases = self.take(), self.domain(), []
@@ -269,7 +275,15 @@ class Meaning:
             return self.stencil()
         if word in self.known:
             return lambda point, value=wrapped(self.known[word]): value
+        if self.peek() == "[":
+            return self.entry(word)
         return self.call(word) if word in CALLS else self.read(word)
+
+    def entry(self, name: str) -> Formula:
+        self.take("[")
+        value, table = self.expression(), self.tables[name]
+        self.take("]")
+        return lambda point: table.entry(value(point))
 
     def call(self, word: str) -> Formula:
         self.take("(")

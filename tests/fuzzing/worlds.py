@@ -1,4 +1,5 @@
-"""Worlds: nodes that make facts, send them to each other, lose them and start again. A reader of scripts, and what `world` must print.
+"""Worlds: nodes that make facts, send them to each other, lose them and start again, and retire the job. A reader of scripts, and what
+`world` must print.
 
 It goes by docs/FORMATS.md and docs/WORLDS.md, and by no code of the program. A node makes a fact of facts that it holds, so each fact of a world is the true one
 of its tile. What a node holds is told here by the tiles alone, and the facts are those of the evaluator.
@@ -7,11 +8,12 @@ import re
 from typing import NamedTuple
 
 from .facts import Fact, file_of
-from .netpbm import Fault, Reader
+from .netpbm import Fault
 from .pictures import Picture
 from .schedules import Schedule
+from .tables import BadLine, handed_in
 from .texts import identities, settings, tokens_of
-from .values import Meaning, Point
+from .values import Area, Meaning, Point
 
 SEPARATOR = b"%%\n"
 MOST_EVENTS, MOST_NODE, MOST_STAGE, MOST_NUMBER = 65_536, 255, 65_535, 2**32 - 1
@@ -75,7 +77,8 @@ def key(word: str) -> tuple[int, Tile]:
 
 
 # what stands behind a word; behind those of `send` there are keys, as many as one likes
-FORMS = {"make": (node,), "send": (node, node), "deliver": (node, message), "merge": (node, node), "keep": (node,), "restart": (node,)}
+FORMS = {"make": (node,), "send": (node, node), "deliver": (node, message), "merge": (node, node), "keep": (node,), "restart": (node,),
+         "retire": (node, message)}
 KEYS = {"make": range(1, 2), "send": range(MOST_NUMBER)}
 
 
@@ -87,7 +90,7 @@ def event(line: str, jobs: int) -> Event:
         raise BadLine
     numbers = tuple(read(word) for read, word in zip(form, words))
     keys = [key(word) for word in words[len(form) :]]
-    if any(job >= jobs for job, _ in keys):
+    if any(job >= jobs for job in [*(job for job, _ in keys), *(numbers[1:] if verb == "retire" else [])]):
         raise NoSuchJob
     return Event(verb, numbers, tuple(tile for _, tile in keys))
 
@@ -132,16 +135,32 @@ class Job:
             self.facts[tile] = Fact(*self.ids, *tile, int(stage.kind == "accum"), numbers)
         return self.facts[tile]
 
-    def needs(self, tile: Tile) -> set[Tile]:
-        """The tiles of stored functions that a tile is made from."""
+    def area(self, tile: Tile) -> Area:
+        """Where a tile lies."""
         stage = self.meaning.stages[tile[0]] if tile[0] < len(self.names) else None
         area = stage.domain.tile(*tile[1:], self.schedule.sides) if stage and stage.kind != "plane" else None
         if not area:
             raise Refused("NoSuchTile")
+        return area
+
+    def needs(self, tile: Tile) -> set[Tile]:
+        """The tiles of stored functions that a tile is made from."""
+        area = self.area(tile)
         needs = self.schedule.needs(self.names[tile[0]], area)
         if needs is None:
             raise Refused("ScratchTooBig")
         return {(self.numbers[name], *at) for name, at in needs}
+
+
+class State(NamedTuple):
+    """What a node holds, or a message says: facts of tiles, or that the job is retired. A retired job has no facts."""
+
+    tiles: frozenset[Tile] = frozenset()
+    is_retired: bool = False
+
+    def joined(self, other: "State") -> "State":
+        is_retired = self.is_retired or other.is_retired
+        return State(frozenset() if is_retired else self.tiles | other.tiles, is_retired)
 
 
 class World:
@@ -149,43 +168,49 @@ class World:
 
     def __init__(self, job: Job, nodes: int):
         self.job = job
-        self.held: list[set[Tile]] = [set() for _ in range(nodes)]
-        self.kept: list[set[Tile]] = [set() for _ in range(nodes)]
-        self.messages: list[tuple[int, frozenset[Tile]]] = []
+        self.held = [State()] * nodes
+        self.kept = [State()] * nodes
+        self.messages: list[tuple[int, State]] = []
 
     def step(self, it: Event) -> None:
         """What an event does, unless it is refused."""
-        nodes = it.numbers[:1] if it.verb == "deliver" else it.numbers
+        nodes = it.numbers[:1] if it.verb in ("deliver", "retire") else it.numbers
         if any(node >= len(self.held) for node in nodes):
             raise Refused("NoSuchNode")
         getattr(self, it.verb)(*it.numbers, *([it.tiles] if it.verb in KEYS else []))
 
     def make(self, node: int, tiles: tuple[Tile, ...]) -> None:
-        if not self.job.needs(tiles[0]) <= self.held[node]:
+        self.job.area(tiles[0])
+        if self.held[node].is_retired:
+            raise Refused("Retired")
+        if not self.job.needs(tiles[0]) <= self.held[node].tiles:
             raise Refused("NeedMissing")
-        self.messages.append((node, frozenset(tiles)))
+        self.messages.append((node, State(frozenset(tiles))))
+
+    def retire(self, node: int, _: int) -> None:
+        self.messages.append((node, State(is_retired=True)))
 
     def send(self, node: int, to: int, tiles: tuple[Tile, ...]) -> None:
-        if not self.held[node].issuperset(tiles):
+        if not self.held[node].tiles.issuperset(tiles):
             raise Refused("NotHeld")
-        self.messages.append((to, frozenset(tiles)))
+        self.messages.append((to, State(frozenset(tiles), self.held[node].is_retired)))
 
     def deliver(self, node: int, message: int) -> None:
         if message >= len(self.messages):
             raise Refused("NoSuchMessage")
-        to, tiles = self.messages[message]
+        to, state = self.messages[message]
         if to != node:
             raise Refused("WrongAddress")
-        self.held[node] |= tiles
+        self.held[node] = self.held[node].joined(state)
 
     def merge(self, node: int, other: int) -> None:
-        self.held[node] |= self.held[other]
+        self.held[node] = self.held[node].joined(self.held[other])
 
     def keep(self, node: int) -> None:
-        self.kept[node] = set(self.held[node])
+        self.kept[node] = self.held[node]
 
     def restart(self, node: int) -> None:
-        self.held[node] = set(self.kept[node])
+        self.held[node] = self.kept[node]
 
     def run(self, events: list[Event]) -> list[str]:
         """Goes through all events. Why some were refused, one reason for each."""
@@ -199,7 +224,8 @@ class World:
 
     def file(self, node: int) -> bytes:
         """The fact file of what a node holds."""
-        return file_of(sorted(map(self.job.fact, self.held[node])))
+        held = self.held[node]
+        return file_of(sorted(map(self.job.fact, held.tiles)), [self.job.ids] if held.is_retired else [])
 
     def told(self, done: int, refused: int) -> bytes:
         lines = [f"done {done} refused {refused}", *(f"node {it} {self.file(it).hex()}" for it in range(len(self.held)))]
@@ -254,9 +280,12 @@ def sections(data: bytes, count: int) -> list[bytes]:
     return [*found, rest]
 
 
-def picture_of(data: bytes) -> Picture:
+def picture_of(section: bytes, tokens: list[str]) -> Picture:
+    """The picture of the last section, with the tables before it."""
     try:
-        return Reader(data).picture()
+        return handed_in(section, tokens)
+    except BadLine as bad:
+        raise Refusal(2, f"tables: line {bad.line}") from None
     except Fault as fault:
         raise Refusal(2, f"picture: {fault.number} {fault.name} at {fault.at}") from None
 
@@ -265,10 +294,11 @@ def world(data: bytes, words: list[str]) -> tuple[int, bytes]:
     """The exit status of `world` on an input, and what it writes. The words are good ones, and so is the program over the picture."""
     try:
         text, told, given = sections(data, 3)
-        picture = picture_of(given)
+        tokens = tokens_of(text)
+        picture = picture_of(given, tokens)
     except Refusal as refusal:
         return refusal.answer()
-    asked, tokens = words_of(words), tokens_of(text)
+    asked = words_of(words)
     known = settings(tokens, asked.given, picture)
     meaning = Meaning(tokens, known, picture)
     schedule = Schedule(meaning, asked.sides, asked.percent, asked.is_stored)
