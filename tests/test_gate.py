@@ -12,39 +12,36 @@ TESTS = os.path.dirname(os.path.realpath(__file__))
 sys.path.insert(0, TESTS)
 
 import counted_tests
+import gate_table
 
 PROVES = """#!/bin/sh
+echo "rt ci: $*"
 [ -e crates/small/out ] && echo "rt: older work" && exit 1
 mkdir -p crates/small/out
 sleep 1.2
 echo "rt: small proved"
-sleep 1
 mkdir -p crates/tilefarm/out
 echo program > crates/tilefarm/out/tilefarm
 echo "3 passed, 0 failed"
 """
 REFUSES = "#!/bin/sh\necho 'the reason'\necho 'rt: small NOT PROVED'\necho '1 passed, 1 failed'\nexit 1\n"
-# (judges as many edits as it is given crates, and tells when it began)
-JUDGES = """shift
-[ -e crates/tilefarm/out/tilefarm ] && when=late || when=early
-for name; do echo "edits: $name: 1 of 1 refused, 2 checks, 61.0 s of processor, 30.4 s by the clock"; done
-echo "$when: $*"
-echo "$# passed, 0 failed"
+SLEEPS = "#!/bin/sh\necho begun\nsleep 60\necho '9 passed, 0 failed'\n"
+JUDGES = """echo "words: $*"
+echo "edits: small: 1 of 1 refused, 2 checks, 61.0 s of processor, 30.4 s by the clock, 1 kept"
+echo "3 passed, 0 failed"
 """
-# (the same, where no early check comes to its end)
-JUDGES_LATE = JUDGES.replace('echo "$#', '[ $when = early ] && echo "0 passed, 1 failed" && exit 1\necho "$#')
+JUDGES_SOME = JUDGES.replace('echo "3 passed', 'echo "edits: small/other: SKIPPED"\necho "2 passed').replace("0 failed", "0 failed, 1 skipped")
 STUBS = {
+    **{it.command[0]: "echo '1 passed, 0 failed'" for it in (gate_table.FORMAT, *gate_table.CHECKS)},
     "tests/run_edits": JUDGES,
     "tests/test_run_edits.py": "echo '5 passed, 0 failed'",
-    "tests/test_gate.py": "echo '1 passed, 0 failed'",
     "tests/run_cases": "cat \"$1\"\necho '6 passed, 1 failed'\nexit 1",
     "examples/expected": "exit 0",
-    **{it: "echo '1 passed, 0 failed'" for it in ("tests/test_format", "tests/test_pages", "tools/make_usage", "tests/test_tf",
-                                                  "tests/test_errors", "tests/test_guide", "tests/refusals",
-                                                  "tests/refused_calls/sweep", "tests/damage", "tests/edges", "tests/stops",
-                                                  "tests/threads", "tests/fuzz", "docs/gallery/make")},
     "examples/show": "echo 'a difference'\nexit 3",
 }
+# Of the stubs, 5, 6 and 1 passed in three steps, two steps have a failure, and each of the others has one that passed.
+PASSED = 5 + 6 + len(gate_table.CHECKS) - 3 + 1
+WORDS = ("-c", "user.name=n", "-c", "user.email=e", "commit", "-qam", "other stubs")
 
 
 def write(path: str, text: str) -> None:
@@ -61,58 +58,97 @@ class Gate(unittest.TestCase):
         self.top, self.tools = f"{made.name}/top", f"{made.name}/tools"
         for name, text in STUBS.items():
             write(f"{self.top}/{name}", f"#!/bin/sh\n{text}\n")
-        for name in ("gate", "gate_steps.py"):
+        for name in ("gate", "gate_steps.py", "gate_run.py", "gate_table.py"):
             shutil.copy2(f"{TESTS}/{name}", f"{self.top}/tests/{name}")
         for name in ("small", "tilefarm"):
             write(f"{self.top}/crates/{name}/src/lib.rt", "")
-        for name in ("small", "other", "tilefarm"):
-            write(f"{self.top}/tests/edits/{name}/wrong.edit", "")
         write(f"{self.top}/.gitignore", "out/\n")
         self.git("init", "-q")
         self.git("add", "-A")
-        self.git("-c", "user.name=n", "-c", "user.email=e", "commit", "-qm", "all")
+        self.git(*WORDS)
 
     def git(self, *words: str) -> None:
         subprocess.run(["git", *words], cwd=self.top, check=True)
 
-    def gate(self, rt: str) -> tuple[int, list[str]]:
+    def gate(self, rt: str, *words: str) -> tuple[int, list[str]]:
         write(f"{self.tools}/rt", rt)
         how = {"env": {**os.environ, "PATH": f"{self.tools}:{os.environ['PATH']}"}, "capture_output": True, "text": True}
-        ran = subprocess.run([f"{self.top}/tests/gate"], **how)
+        ran = subprocess.run([f"{self.top}/tests/gate", *words], **how)
         return ran.returncode, ran.stdout.splitlines()
+
+    def replace(self, stub: str, text: str) -> None:
+        write(f"{self.top}/{stub}", f"#!/bin/sh\n{text}\n")
+        self.git(*WORDS)
 
     def test_each_step_counts_and_none_hides_another(self):
         write(f"{self.top}/crates/small/out/older", "")
         write(f"{self.top}/crates/small/src/lib.rt", "changed")
         status, lines = self.gate(PROVES)
         self.assertEqual(status, 1)
-        # proofs 3, edits 3, tests 5 and 1, cases 6 and one that fails, the results 1, the page fails, and thirteen steps of one
-        self.assertEqual(lines[-1], "33 passed, 2 failed")
+        # 3 of the proofs, 3 wrong bodies
+        self.assertEqual(lines[-1], f"{PASSED + 6} passed, 2 failed")
         self.assertIn("gate: HEAD is judged, and not these changes, which are not committed:", lines)
         self.assertIn(" M crates/small/src/lib.rt", lines)
         self.assertIn("small 0:01 1 of 1 2 1:01 0:30", [" ".join(it.split()) for it in lines])
         with open(f"{self.top}/crates/tilefarm/out/tilefarm", encoding="utf-8") as program:
             self.assertEqual(program.read(), "program\n")
 
-    def test_each_wrong_body_is_judged_once_and_early_where_its_crate_is_proved(self):
+    def test_lines_of_a_step_stand_together(self):
         _, lines = self.gate(PROVES)
-        self.assertEqual([it for it in lines if it.startswith(("early: ", "late: "))], ["early: small", "late: other tilefarm"])
+        head = lines.index("== gate: page of the examples: examples/show --check crates/tilefarm/out/tilefarm")
+        self.assertEqual(lines[head + 1], "a difference")
+        self.assertTrue(lines[head + 2].startswith("gate: page of the examples: 0 passed, 1 failed"))
 
-    def test_what_failed_early_is_judged_once_more(self):
-        write(f"{self.top}/tests/run_edits", f"#!/bin/sh\n{JUDGES_LATE}\n")
-        self.git("-c", "user.name=n", "-c", "user.email=e", "commit", "-qam", "early checks fail")
+    def test_the_last_lines_are_told_of_what_failed_without_a_word(self):
         _, lines = self.gate(PROVES)
-        self.assertEqual([it for it in lines if it.startswith(("early: ", "late: "))], ["early: small", "late: other small tilefarm"])
-        self.assertEqual(lines[-1], "33 passed, 2 failed")
+        head = lines.index("== gate: page of the examples: what failed")
+        self.assertEqual(lines[head + 1], "a difference")
+
+    def test_wrong_bodies_come_last_in_an_order_of_the_commit(self):
+        _, lines = self.gate(PROVES)
+        head = subprocess.run(["git", "rev-parse", "HEAD"], cwd=self.top, capture_output=True, text=True).stdout.strip()
+        self.assertIn(f"words: --as-built --order {head}", lines)
+        begun = [it for it in lines if it.startswith("== gate: ") and "/" in it]
+        self.assertTrue(begun[-1].startswith("== gate: wrong bodies: "))
+
+    def test_all_is_done_anew_where_that_is_asked_for(self):
+        _, lines = self.gate(PROVES, "--anew")
+        self.assertIn("rt ci: ci --anew", lines)
+        self.assertEqual([it for it in lines if it.startswith("words: ") and it.endswith(" --anew")], [it for it in lines if it.startswith("words: ")])
 
     def test_without_the_proofs_nothing_stands_on_them(self):
         status, lines = self.gate(REFUSES)
         self.assertEqual(status, 1)
-        self.assertEqual(lines[-1], "10 passed, 1 failed")
+        without = [it for it in gate_table.CHECKS if it.needs == gate_table.TEXT]
+        # 5 of the runner's tests, 1 of each other step, of the format and of the proofs
+        self.assertEqual(lines[-1], f"{5 + len(without) - 1 + 2} passed, 1 failed")
         told = lines.index("== gate: proofs: what failed")
         self.assertEqual(lines[told + 1 : told + 3], ["the reason", "rt: small NOT PROVED"])
-        self.assertIn("gate: not tried, since a proof failed: wrong bodies, conformance cases, examples, tf, errors, guide, gallery", lines)
+        self.assertTrue(any(it.startswith("gate: not tried, since a proof failed: conformance cases, ") for it in lines))
         self.assertFalse(os.path.exists(f"{self.top}/crates/tilefarm/out"))
+
+    def test_wrong_bodies_that_the_clock_leaves_are_counted_and_fail_nothing(self):
+        self.replace("tests/run_edits", JUDGES_SOME)
+        self.replace("tests/run_cases", "echo '7 passed, 0 failed'")
+        self.replace("examples/show", "exit 0")
+        status, lines = self.gate(PROVES, "--minutes", "10")
+        self.assertEqual((status, lines[-1]), (0, f"{PASSED + 7} passed, 0 failed, 1 skipped"))
+        self.assertIn("edits: small/other: SKIPPED", lines)
+        self.assertTrue(any(it.startswith("words: ") and " --until " in it for it in lines))
+
+    def test_proofs_that_the_clock_ends_have_failed(self):
+        status, lines = self.gate(SLEEPS, "--minutes", "0.05")
+        self.assertEqual(status, 1)
+        self.assertIn("proofs: ended by the gate's clock: FAILED", lines)
+        self.assertIn("pages: not run, since the gate's clock has ended: FAILED", lines)
+        self.assertNotIn("9 passed, 0 failed", lines)
+
+    def test_a_test_that_the_clock_leaves_no_time_for_has_failed(self):
+        self.replace("tests/edges", "sleep 60")
+        status, lines = self.gate(PROVES, "--minutes", "0.25")
+        self.assertEqual(status, 1)
+        self.assertIn("limits, each at its value and one past: ended by the gate's clock: FAILED", lines)
+        self.assertIn("random jobs: not run, since the gate's clock has ended: FAILED", lines)
 
     def test_a_missing_tool_is_named_at_once(self):
         for missing in ("rt", "git", "python3"):

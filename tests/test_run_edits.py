@@ -6,6 +6,7 @@ import io
 import os
 import sys
 import tempfile
+import time
 import types
 import unittest
 
@@ -14,11 +15,15 @@ TESTS = os.path.dirname(os.path.realpath(__file__))
 sys.path.insert(0, TESTS)
 
 import counted_tests
-from edits_runner.crate_run import next_round
+from edits_runner.checking import Clock, Watched
+from edits_runner.copies import Source, copies_of, copy_proofs, refused_copies
+from edits_runner.crate_run import CrateRun, next_round
 from edits_runner.edit import Edit
 from edits_runner.functions import functions_of
-from edits_runner.verdicts import BAD_EDIT, NOT_CLEAR, NOT_REFUSED, REFUSED
-from edits_runner.verdicts import Said, judged_by_functions, judged_whole, suspects
+from edits_runner.kept_verdicts import KeptVerdicts
+from edits_runner.toolchain import rtlib
+from edits_runner.verdicts import BAD_EDIT, NOT_CLEAR, NOT_REFUSED, REFUSED, Outcome
+from edits_runner.verdicts import Said, judged_by_functions, judged_whole, not_read
 
 SOURCE = """\
 //! Numbers that are a little greater.
@@ -96,6 +101,9 @@ class Crate(unittest.TestCase):
         made = tempfile.TemporaryDirectory(prefix="test-edits-")
         self.addCleanup(made.cleanup)
         self.top = made.name
+        # (verdicts that a test keeps are its own)
+        os.environ["XDG_CACHE_HOME"] = f"{self.top}/cache"
+        self.verdicts = f"{self.top}/cache/tilefarm/verdicts"
         write(f"{self.top}/crates.txt", "small:\n")
         write(f"{self.top}/crates/small/src/lib.rt", SOURCE)
 
@@ -135,8 +143,210 @@ class Judged(Crate):
         self.assertEqual(lines[-1], "1 edits apply, 1 do not")
         self.assertIn("edits: small/text_is_not_there.edit: BAD EDIT: an 'old:' text is in src/lib.rt 0 times, and not once", lines)
 
+    def test_what_the_clock_leaves_is_skipped_and_fails_nothing(self):
+        for name in ("next_adds_three", "third_adds_four"):
+            self.edit(name, *EDITS[name][:2])
+        for words in (["--until", "0"], ["--until", str(time.time() - 1), "--order", "any"]):
+            status, lines = self.told(*words)
+            self.assertEqual(status, 0)
+            self.assertEqual(lines[-1], "0 passed, 0 failed, 2 skipped")
+            self.assertIn("edits: small/third_adds_four.edit: SKIPPED", lines)
+
+    def test_a_check_that_runs_when_the_clock_ends_is_ended(self):
+        self.edit("third_adds_four", *EDITS["third_adds_four"][:2])
+        status, lines = self.told("--until", str(time.time() + 0.3))
+        self.assertEqual((status, lines[-1]), (0, "0 passed, 0 failed, 1 skipped"))
+
     def test_unknown_names_are_told(self):
         self.assertEqual(self.told("nowhere")[0], 1)
+
+
+BOXES = """\
+//! Boxes that count.
+#![tactic(auto)]
+
+mod inner;
+
+ghost use Rattle.std.specs.Prelude.{◌≡◌, ◌+◌, ◌<◌};
+
+use crate::inner::more;
+
+/// Twice one more.
+pub fn twice(a: u32) -> u32
+    requires { a < 1000 }
+    ensures { result ≡ a + 2 }
+{
+    more(more(a))
+}
+"""
+COUNTER = """\
+//! A counter of things.
+
+ghost use Rattle.std.specs.Prelude.{◌≡◌, ◌+◌, ◌<◌};
+
+/// It counts.
+#[derive(Drop)]
+pub struct Counter<T: Drop> {
+    thing: T,
+    count: u32,
+}
+
+impl<T: Drop> Counter<T> {
+    /// How many there are.
+    pub fn count(&self) -> u32
+        ensures { result ≡ self.now.count }
+    {
+        self.count
+    }
+
+    /// Counts another one.
+    #[inline]
+    pub(crate) fn add(&mut self)
+        requires { self.old.count < 1000 }
+        ensures { self.new.count ≡ self.old.count + 1 }
+    {
+        self.count = self.count + 1;
+    }
+}
+
+/// One more.
+pub fn more(a: u32) -> u32
+    requires { a < 2000 }
+    ensures { result ≡ a + 1 }
+{
+    a + 1
+}
+"""
+# A proof that names the call of another function.
+CITES = """\
+use Rattle.std.proofs.Common.{arith}
+use Rattle.boxes.proofs.twice.Goals as goal
+
+pub returns : goal.returns
+returns c = let first = c.more.ensures in omega arith
+"""
+# The edits of each function but the first are judged by copies of it.
+OF_BOXES = {
+    "add_adds_two": ("inner", "self.count = self.count + 1;", "self.count = self.count + 2;", REFUSED),
+    "add_does_nothing": ("inner", "self.count = self.count + 1;", "self.count = self.count;", REFUSED),
+    "more_adds_nothing": ("inner", "    a + 1", "    a", REFUSED),
+    "more_adds_two": ("inner", "    a + 1", "    a + 2", REFUSED),
+    "more_cannot_be_read": ("inner", "    a + 1", "    a + + 1", BAD_EDIT),
+    "twice_adds_three": ("lib", "more(more(a))", "more(more(a)) + 1", REFUSED),
+    "twice_adds_four": ("lib", "more(more(a))", "more(more(a)) + 2", REFUSED),
+    "twice_is_the_same": ("lib", "more(more(a))", "more(more(a)) + 0", NOT_REFUSED),
+    "twice_without_the_call": ("lib", "more(more(a))", "a + 2", NOT_CLEAR),
+}
+
+
+class Copied(unittest.TestCase):
+    """Edits of one function in one check, on a crate with a type that takes parameters, and with a proof."""
+
+    def setUp(self):
+        made = tempfile.TemporaryDirectory(prefix="test-edits-")
+        self.addCleanup(made.cleanup)
+        self.top, self.folder = made.name, f"{made.name}/crates/boxes"
+        os.environ["XDG_CACHE_HOME"] = f"{self.top}/cache"
+        write(f"{self.top}/crates.txt", "boxes:\n")
+        for path, text in {"src/lib.rt": BOXES, "src/inner.rt": COUNTER, "proofs/twice/Answers.antt": CITES}.items():
+            write(f"{self.folder}/{path}", text)
+        for name, (file, old, new, _) in OF_BOXES.items():
+            write(f"{self.top}/tests/edits/boxes/{name}.edit", f"file: src/{file}.rt\nold: {old}\nnew: {new}\n")
+
+    def placed(self, *names: str) -> list[Edit]:
+        edits = [Edit("boxes", self.folder, f"{self.top}/tests/edits/boxes/{it}.edit") for it in names]
+        for edit in edits:
+            edit.place(functions_of(self.folder))
+        return edits
+
+    def test_each_edit_is_judged_as_in_its_place(self):
+        out = io.StringIO()
+        with contextlib.redirect_stdout(out):
+            command().main([], self.top)
+        lines = out.getvalue().splitlines()
+        self.assertEqual(lines[-1], "6 passed, 3 failed")
+        for name, (_, _, _, word) in OF_BOXES.items():
+            with self.subTest(name):
+                told = [it for it in lines if it.startswith(f"edits: boxes/{name}.edit: {word}")]
+                self.assertTrue(told, lines)
+                self.assertNotRegex("".join(told), r"_m\d")
+
+    def test_a_copy_has_its_name_and_its_edit_alone(self):
+        edits = self.placed("add_adds_two", "more_adds_two")
+        method, free = copies_of(edits, "_m", self.folder)
+        raw = COUNTER.encode()
+        self.assertEqual((method.path(), free.path()), ("Counter::add_m0", "inner::more_m1"))
+        self.assertTrue(method.text(raw).startswith("    #[inline]\n    pub(crate) fn add_m0(&mut self)\n        requires"))
+        self.assertTrue(method.text(raw).endswith("self.count = self.count + 2;\n    }"))
+        source = Source(COUNTER, raw, [method, free])
+        self.assertEqual(source.text.count("fn add"), 2)
+        for copy, at in source.placed.items():
+            lines = source.text.split("\n")[at.lines.start - 1 : at.lines.stop - 1]
+            self.assertEqual("\n".join(lines), copy.text(raw))
+            for line, row in zip(lines, source.rows[at.lines.start : at.lines.stop]):
+                was = COUNTER.split("\n")[row - 1]
+                self.assertTrue(line in (was, was.replace("+ 1", "+ 2")) or "_m" in line, (line, was))
+
+    def test_a_function_with_proof_files_is_copied_as_it_stands_too(self):
+        copies = copies_of(self.placed("twice_adds_four", "more_adds_two"), "_m", self.folder)
+        self.assertEqual([(it.name, bool(it.edit)) for it in copies], [("twice_m0", False), ("twice_m1", True), ("more_m2", True)])
+        copy_proofs(self.folder, "proofs/twice", "twice_m1")
+        with open(f"{self.folder}/proofs/twice_m1/Answers.antt", encoding="utf-8") as text:
+            self.assertEqual(text.read(), CITES.replace("proofs.twice.", "proofs.twice_m1."))
+
+    def test_a_refusal_counts_only_where_the_copy_as_it_stands_is_whole(self):
+        edits = self.placed("twice_adds_four")
+        placed = Source(BOXES, BOXES.encode(), copies_of(edits, "_m", self.folder)).placed
+        own = "./proofs/twice_m1/Answers.antt:5:1: error: `returns`: no proof"
+        calls = "no proof: it calls `boxes::inner::more`, which is not proved"
+        for verdict, found in {"proved": edits, calls: edits, "not proved": []}.items():
+            told = f"{own}\nfn boxes::twice_m0: {verdict}\nfn boxes::twice_m1: not proved\nonly=2 proved=0"
+            self.assertEqual([*refused_copies(placed, Said(told, 1))], found)
+
+
+class Kept(Crate):
+    def setUp(self):
+        super().setUp()
+        write(f"{self.top}/crates.txt", "small:\nabove: small\n")
+        write(f"{self.top}/crates/above/src/lib.rt", SOURCE)
+        write(f"{self.top}/crates/small/out/rlib/small.rlib/format", "")
+        self.third = self.edit("third_adds_four", *EDITS["third_adds_four"][:2])
+
+    def kept(self, is_used: bool = True) -> KeptVerdicts:
+        above = next(it for it in rtlib.crates_below(self.top) if it.name == "above")
+        return KeptVerdicts(above, self.verdicts, is_used)
+
+    def test_what_was_refused_is_known_until_a_text_changes(self):
+        other = self.edit("harmless", "    a + 3", "    3 + a")
+        self.kept().keep({self.third: Outcome(REFUSED, "its reason"), other: Outcome(NOT_REFUSED, "it is proved")})
+        self.assertEqual(self.kept().of(self.third), Outcome(REFUSED, "its reason", True))
+        self.assertIsNone(self.kept().of(other))
+        self.assertIsNone(self.kept(False).of(self.third))
+        for path in ("small/src/lib.rt", "above/src/lib.rt"):
+            write(f"{self.top}/crates/{path}", SOURCE + "\n")
+            self.assertIsNone(self.kept().of(self.third))
+            write(f"{self.top}/crates/{path}", SOURCE)
+            self.assertIsNotNone(self.kept().of(self.third))
+        self.assertIsNone(self.kept().of(self.edit("third_adds_four", "    a + 3", "    a + 5")))
+
+    def test_a_file_that_cannot_be_read_counts_for_nothing(self):
+        self.kept().keep({self.third: Outcome(REFUSED, "its reason")})
+        for text in ("", "[]", '{"a": 1}'):
+            write(self.kept().path(), text)
+            self.assertIsNone(self.kept().of(self.third))
+
+    def test_nothing_is_kept_over_libraries_of_older_texts(self):
+        write(f"{self.top}/crates/small/src/lib.rt", SOURCE + "\n")
+        self.kept().keep({self.third: Outcome(REFUSED, "its reason")})
+        self.assertIsNone(self.kept().of(self.third))
+
+    def test_a_run_takes_what_an_earlier_one_kept(self):
+        write(f"{self.top}/crates.txt", "small:\n")
+        first, again, anew = self.told(), self.told(), self.told("--anew", "--until", "0")
+        self.assertIn("edits: 1 judged anew, 0 kept from earlier runs", first[1])
+        self.assertIn("edits: 0 judged anew, 1 kept from earlier runs", again[1])
+        self.assertRegex("\n".join(again[1]), r"small: 1 of 1 refused, 0 checks, 0.0 s of processor, 0.0 s by the clock, 1 kept")
+        self.assertEqual((again[1][-1], anew[1][-1]), ("1 passed, 0 failed", "0 passed, 0 failed, 1 skipped"))
 
 
 class Placed(Crate):
@@ -188,6 +398,52 @@ class Placed(Crate):
         self.assertFalse(found["inner::free"].names("small::inner::freed"))
 
 
+class Ordered(Crate):
+    def run_of(self, *edits: Edit) -> CrateRun:
+        crate = rtlib.crates_below(self.top)[0]
+        run = CrateRun(crate, [*edits], None, Clock(), lambda *_: None, KeptVerdicts(crate, self.verdicts, False))
+        run.place()
+        return run
+
+    def test_the_first_pass_has_one_edit_of_each_public_function(self):
+        names = ("third_adds_four", "third_the_other_way", "constant_is_five", "next_adds_three")
+        edits = [self.edit(name, *EDITS[name][:2]) for name in names]
+        run = self.run_of(*edits)
+        self.assertEqual(run.first_of_each_function(), [edits[0], edits[3]])
+        self.assertEqual(run.first_pass(), edits)
+        more = [self.edit(f"adds_{it}", "    a + 3", f"    a + {it}") for it in range(4, 10)]
+        self.assertEqual(self.run_of(*edits, *more).first_pass(), [edits[0], edits[3]])
+
+    def test_private_functions_come_later(self):
+        write(f"{self.top}/crates/small/src/lib.rt", SOURCE.replace("pub fn third", "fn third").replace("pub fn next", "pub const fn next"))
+        edits = [self.edit(name, *EDITS[name][:2]) for name in ("third_adds_four", "next_adds_three")]
+        self.assertEqual(self.run_of(*edits).first_of_each_function(), [edits[1]])
+
+    def test_the_text_alone_draws_the_order(self):
+        names = ["a/b.edit", "a/c.edit", "b/a.edit"]
+        drawn = [sorted(names, key=lambda it: command().drawn(text, it)) for text in ("one", "one", "another", "a third")]
+        self.assertEqual(drawn[0], drawn[1])
+        self.assertTrue(any(it != drawn[0] for it in drawn[2:]))
+
+    def test_words_that_lack_are_told(self):
+        for words in (["--until"], ["--until", "soon"], ["--order"], ["--nothing"]):
+            self.assertIsNone(command().asked(words))
+
+
+class Watching(unittest.TestCase):
+    def test_each_function_is_told_as_soon_as_its_line_is_whole(self):
+        with tempfile.TemporaryFile() as out:
+            watched = Watched(os.getpid(), out.fileno())
+            parts = {b"so far\nchecked small::next, 1 of 3\nchecked sm": ["small::next"], b"all::second, 2 of 3\n": ["small::second"]}
+            for text, names in parts.items():
+                out.write(text)
+                out.flush()
+                before = {*watched.took}
+                watched.look()
+                self.assertEqual([*watched.took.keys() - before], names)
+        self.assertTrue(all(it >= 0 for it in watched.took.values()))
+
+
 class Read(Crate):
     """What counts of what a check says."""
 
@@ -199,7 +455,7 @@ class Read(Crate):
         return Said("\n".join([*lines, f"fn small::second: {verdict}", "only=1 proved=0"]), 1)
 
     def word(self, said: Said) -> str:
-        outcome = judged_by_functions(self.second, said)
+        outcome = judged_by_functions(self.second.functions, said)
         return outcome.word if outcome else NOT_CLEAR
 
     def test_errors_of_its_own_count(self):
@@ -228,7 +484,7 @@ class Read(Crate):
         unread = "src/lib.rt:21:10: error[unexpected-token]: expected expression"
         misnamed = "rattle: error: several functions are named `second`: help: write one of `small::a::second`"
         for line in (unread, misnamed):
-            self.assertEqual(suspects([self.second, third], Said(line, 2)), [self.second])
+            self.assertEqual(not_read(self.second.functions + third.functions, {"src/lib.rt"}, Said(line, 2)), self.second.functions)
 
     def test_what_the_prover_cannot_tell_is_not_clear(self):
         self.assertEqual(self.word(self.said("could not tell")), NOT_CLEAR)

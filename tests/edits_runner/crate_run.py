@@ -1,18 +1,24 @@
 """Judges the edits of one crate, in rounds over one copy of it."""
 import os
+import re
 import shutil
 import signal
-import subprocess
 import tempfile
 import time
 from typing import Callable, NamedTuple, Optional
 
+from .checking import Clock, run
+from .copies import Copy, Source, can_be_copied, copies_of, copy_proofs, proofs_of, refused_copies, stem_for
 from .edit import Edit
-from .functions import functions_of
+from .functions import Function, functions_of
+from .kept_verdicts import KeptVerdicts
 from .toolchain import rtlib
-from .verdicts import BAD_EDIT, NOT_CLEAR, REFUSED, Outcome, Said, judged_by_functions, judged_whole, suspects
+from .verdicts import BAD_EDIT, NOT_CLEAR, REFUSED, SKIPPED
+from .verdicts import Outcome, Said, judged_by_functions, judged_whole, not_read
 
 SHOWN = 240
+# How many edits are too few for a further check.
+FEW = 5
 
 
 class Room:
@@ -22,8 +28,8 @@ class Room:
     over the older work anew, which is linked and stays as it was.
     """
 
-    def __init__(self, crate, older: Optional[str]):
-        self.crate, self.older = crate, older
+    def __init__(self, crate, older: Optional[str], clock: Clock):
+        self.crate, self.older, self.clock = crate, older, clock
         self.made = tempfile.TemporaryDirectory(prefix="edits-")
         self.folder, self.kept = f"{self.made.name}/crate", f"{self.made.name}/kept"
         for part in rtlib.PARTS:
@@ -31,6 +37,8 @@ class Room:
                 shutil.copytree(f"{crate.folder}/{part}", f"{self.folder}/{part}")
         os.mkdir(self.kept)
         self.changed: set[str] = set()
+        self.sources: dict[str, Source] = {}
+        self.proofs: list[str] = []
 
     def take_older(self) -> None:
         if self.older and os.path.isdir(self.older):
@@ -41,8 +49,13 @@ class Room:
                 shutil.rmtree(self.kept, ignore_errors=True)
                 shutil.copytree(self.older, self.kept)
 
-    def write(self, edits: list[Edit]) -> list[Edit]:
-        """Puts these edits alone into the copy, and returns those that fit: a new text may hold another's old one."""
+    def write(self, edits: list[Edit], copies: tuple[Copy, ...] = ()) -> list[Edit]:
+        """Puts these edits alone into the copy, and copies of functions beside them.
+
+        Returns the edits that fit: a new text may hold another's old one.
+        """
+        while self.proofs:
+            shutil.rmtree(f"{self.folder}/{self.proofs.pop()}")
         texts: dict[str, str] = {}
         fitting = []
         for edit in edits:
@@ -50,11 +63,34 @@ class Room:
             if with_it is not None:
                 texts = with_it
                 fitting.append(edit)
-        for file in self.changed | {*texts}:
+        self.sources = {}
+        for file in self.changed | {*texts} | {it.of.file for it in copies}:
+            raw = self.text_of(file)
+            self.sources[file] = Source(texts.get(file, raw), raw.encode(), [it for it in copies if it.of.file == file])
             with open(f"{self.folder}/{file}", "w", encoding="utf-8") as out:
-                out.write(texts[file] if file in texts else self.text_of(file))
-        self.changed |= {*texts}
+                out.write(self.sources[file].text)
+        self.changed = {*self.sources}
+        for copy in copies:
+            self.proofs += [copy_proofs(self.folder, it, copy.name) for it in proofs_of(self.crate.folder, copy.of)]
         return fitting
+
+    def placed(self) -> dict[Copy, Function]:
+        """The copies that stand here, and where."""
+        return {copy: at for source in self.sources.values() for copy, at in source.placed.items()}
+
+    def here(self, functions: list[Function]) -> list[Function]:
+        """The functions, where they stand here."""
+        moved = lambda it: self.sources[it.file].moved if it.file in self.sources else range(it.lines.stop)
+        return [it._replace(lines=range(moved(it)[it.lines.start], moved(it)[it.lines.stop - 1] + 1)) for it in functions]
+
+    def of_crate(self, outcome: Outcome) -> Outcome:
+        """An outcome that tells the lines of the crate's own sources in place of those here."""
+
+        def row(found: re.Match) -> str:
+            rows = self.sources[found[1]].rows if found[1] in self.sources else []
+            return f"{found[1]}:{rows[int(found[2])] if int(found[2]) < len(rows) else found[2]}:"
+
+        return outcome._replace(why=re.sub(r"(src/\S+?):(\d+):", row, outcome.why))
 
     def with_edit(self, texts: dict[str, str], edit: Edit) -> Optional[dict[str, str]]:
         texts = dict(texts)
@@ -74,25 +110,14 @@ class Room:
         self.take_older()
         words = [rtlib.RATTLE, "check", *self.crate.words(["--jobs", str(jobs)], keeps=False), "--incremental", self.kept]
         words += [word for path in only for word in ("--only", path)]
-        said = run(words, self.folder)
-        if said.status == -signal.SIGKILL:
+        said = run(words, self.folder, self.clock)
+        if said.status == -signal.SIGKILL and not self.clock.is_over():
             words[words.index("--jobs") + 1] = "1"
-            said = run(words, self.folder)
+            said = run(words, self.folder, self.clock)
         return said
 
     def close(self) -> None:
         self.made.cleanup()
-
-
-def run(words: list[str], folder: str) -> Said:
-    began = time.monotonic()
-    how = {"stdin": subprocess.DEVNULL, "stdout": subprocess.PIPE, "stderr": subprocess.STDOUT, "errors": "replace"}
-    ran = subprocess.Popen([*rtlib.guarded(), *words], cwd=folder, **how)
-    text = ran.stdout.read()
-    ran.stdout.close()
-    _, status, used = os.wait4(ran.pid, 0)
-    ran.returncode = os.waitstatus_to_exitcode(status)
-    return Said(text, ran.returncode, used.ru_utime + used.ru_stime, time.monotonic() - began)
 
 
 def next_round(edits: list[Edit]) -> list[Edit]:
@@ -113,65 +138,162 @@ class Result(NamedTuple):
     processor: float
     clock: float
 
-    def refused(self) -> int:
-        return sum(it.word == REFUSED for it in self.outcomes.values())
+    def count(self, word: str) -> int:
+        return sum(it.word == word for it in self.outcomes.values())
+
+    def kept(self) -> int:
+        return sum(it.is_kept for it in self.outcomes.values())
 
     def line(self) -> str:
         took = f"{self.processor:.1f} s of processor, {self.clock:.1f} s by the clock"
-        return f"{self.crate}: {self.refused()} of {len(self.outcomes)} refused, {self.checks} checks, {took}"
+        more = "".join(f", {count} {word}" for count, word in ((self.kept(), "kept"), (self.count(SKIPPED), "skipped")) if count)
+        return f"{self.crate}: {self.count(REFUSED)} of {len(self.outcomes)} refused, {self.checks} checks, {took}{more}"
 
 
 class CrateRun:
-    def __init__(self, crate, edits: list[Edit], older: Optional[str], tell: Callable[[str], None]):
-        self.crate, self.edits, self.older, self.tell = crate, edits, older, tell
+    """Judges a crate's edits, in one pass or in several, of which the last one ends with `close`."""
+
+    def __init__(self, crate, edits: list[Edit], older: Optional[str], clock: Clock, tell: Callable[..., None], verdicts: KeptVerdicts):
+        """`older` is a folder of kept work, if the checks are to begin with that."""
+        self.crate, self.edits, self.older, self.clock, self.tell = crate, edits, older, clock, tell
+        self.verdicts = verdicts
         self.outcomes: dict[Edit, Outcome] = {}
-        self.checks, self.processor = 0, 0.0
-        functions = functions_of(crate.folder) if any(not it.fault for it in edits) else []
-        for edit in edits:
+        self.told: set[Edit] = set()
+        self.checks, self.processor, self.took = 0, 0.0, 0.0
+        # The seconds of processor that the proofs of each edit's functions took.
+        self.cost: dict[Edit, float] = {}
+        self.room: Optional[Room] = None
+        self.stem = ""
+        self.waiting: list[Edit] = []
+        self.whole: list[Edit] = []
+
+    def place(self) -> None:
+        """Finds where the edits stand. One that cannot be applied is judged by that."""
+        functions = functions_of(self.crate.folder) if any(not it.fault for it in self.edits) else []
+        for edit in self.edits:
             if not edit.fault:
                 edit.place(functions)
+            kept = self.verdicts.of(edit)
             if edit.fault:
                 self.outcomes[edit] = Outcome(BAD_EDIT, edit.fault)
-        left = [it for it in edits if it not in self.outcomes]
+            elif kept:
+                self.outcomes[edit] = kept
+
+    def left(self) -> list[Edit]:
+        """The edits that are not judged yet."""
+        return [it for it in self.edits if it not in self.outcomes]
+
+    def first_of_each_function(self) -> list[Edit]:
+        """For each public function the first edit that is judged by it."""
+        firsts: dict[str, Edit] = {}
+        for edit in self.edits:
+            for function in edit.functions:
+                if function.is_public and not edit.fault:
+                    firsts.setdefault(function.path, edit)
+        return [*dict.fromkeys(firsts.values())]
+
+    def first_pass(self) -> list[Edit]:
+        """One edit of each public function, and the rest where that is few: a further check takes as long as several edits."""
+        first, left = self.first_of_each_function(), self.left()
+        return left if len(left) <= len(first) + FEW else first
+
+    def judge(self, jobs: int, chosen: list[Edit]) -> None:
+        """Judges those of these edits that are not judged yet, until the clock ends, and tells what was found."""
+        began = time.monotonic()
+        left = [it for it in self.left() if it in chosen]
         # (the most in the first round, whose work the others start over)
         self.waiting = sorted((it for it in left if it.functions), key=lambda it: not it.shares)
         self.whole = [it for it in left if not it.functions]
+        if left and not self.clock.is_over():
+            self.room = self.room or Room(self.crate, self.older, self.clock)
+            self.stem = self.stem or stem_for(self.crate.folder)
+        while self.waiting and not self.clock.is_over():
+            self.round(jobs)
+        while self.whole and not self.clock.is_over():
+            self.alone(self.whole.pop(0), jobs)
+        self.tell_new()
+        self.took += time.monotonic() - began
 
-    def judge(self, jobs: int) -> Result:
-        began = time.monotonic()
-        self.room = Room(self.crate, self.older)
-        try:
-            while self.waiting:
-                self.round(jobs)
-            while self.whole:
-                self.alone(self.whole.pop(0), jobs)
-        finally:
+    def tell_new(self) -> None:
+        """Tells what was found of edits of which nothing was told before."""
+        found = [it for it in self.edits if it in self.outcomes and it not in self.told]
+        self.verdicts.keep({it: self.outcomes[it] for it in found})
+        self.told.update(found)
+        self.tell(*(line_of(it, self.outcomes[it]) for it in found))
+
+    def close(self) -> Result:
+        """Ends the run: what is not judged by now is skipped."""
+        if self.room:
             self.room.close()
+        for edit in self.edits:
+            self.outcomes.setdefault(edit, Outcome(SKIPPED, ""))
+        self.tell_new()
         ordered = {it: self.outcomes[it] for it in self.edits}
-        return Result(self.crate.name, ordered, self.checks, self.processor, time.monotonic() - began)
+        result = Result(self.crate.name, ordered, self.checks, self.processor, self.took)
+        slow = sorted(self.cost, key=lambda it: -self.cost[it])[:3]
+        if slow:
+            self.tell(f"{self.crate.name}: slowest: {', '.join(f'{it.label} {self.cost[it]:.1f} s' for it in slow)}")
+        self.tell(result.line())
+        return result
 
     def round(self, jobs: int) -> None:
-        """Judges as many edits as one copy can hold, by one check of their functions."""
-        batch = self.room.write(next_round(self.waiting))
-        self.waiting = [it for it in self.waiting if it not in batch]
-        said = self.checked(sorted({f.path for it in batch for f in it.functions}), jobs)
+        """Judges as many edits as one copy can hold, by one check: one of each function in its place, and others of it beside it."""
+        batch = next_round(self.waiting)
+        beside = [it for it in self.waiting if it not in batch and batch[0].shares and self.can_stand_beside(it)]
+        batch = self.room.write(batch, (*copies_of(beside, self.stem, self.crate.folder),))
+        self.waiting = [it for it in self.waiting if it not in batch and it not in beside]
+        placed = self.room.placed()
+        said = self.checked(sorted({f.path for it in batch for f in it.functions} | {it.path() for it in placed}), jobs)
+        if said.was_ended:
+            return
+        self.note_cost(batch, placed, said)
         before = len(self.outcomes)
-        if not said.reached_prover or suspects(batch, said):
-            self.part(batch, suspects(batch, said))
+        files, here = {*self.room.sources}, {it: self.room.here(it.functions) for it in batch}
+        bad = {*not_read([f for it in here.values() for f in it] + [*placed.values()], files, said)}
+        if said.reached_prover and not bad:
+            self.take(here, placed, said)
         else:
-            for edit in batch:
-                outcome = judged_by_functions(edit, said)
-                if outcome:
-                    self.outcomes[edit] = outcome
-                else:
-                    self.put_off(edit, len(batch))
-        self.report(f"{len(batch)} edits in one copy, {len(self.outcomes) - before} judged", said)
+            self.part([it for it in batch if bad.intersection(here[it])], [it for it, at in placed.items() if at in bad], batch, beside)
+        self.report(f"{len(batch)} edits in one copy, {len(beside)} beside them, {len(self.outcomes) - before} judged", said)
 
-    def part(self, batch: list[Edit], bad: list[Edit]) -> None:
-        """After a round with a text that cannot be read: its edits alone, the others once more. Where none is found, each alone."""
-        bad = bad or batch
+    def note_cost(self, batch: list[Edit], placed: dict[Copy, Function], said: Said) -> None:
+        of_edits = [(it, f) for it in batch for f in it.functions] + [(it.edit, at) for it, at in placed.items() if it.edit]
+        for edit, function in of_edits:
+            self.cost[edit] = self.cost.get(edit, 0.0) + sum(took for name, took in said.took.items() if function.names(name))
+
+    def can_stand_beside(self, edit: Edit) -> bool:
+        """Whether the edit may be judged by a copy of its function: as long as no copy of it was tried, and left it open."""
+        return bool(edit.changes) and not edit.was_copied and can_be_copied(self.crate.folder, edit.changes)
+
+    def take(self, here: dict[Edit, list[Function]], placed: dict[Copy, Function], said: Said) -> None:
+        """Takes what a check says of edits in their place, and the refusals of copies. The other copies' edits wait for their place."""
+        for edit, functions in here.items():
+            outcome = judged_by_functions(functions, said)
+            if outcome:
+                self.outcomes[edit] = self.room.of_crate(outcome)
+            else:
+                self.put_off(edit, len(here))
+        refused = refused_copies(placed, said)
+        for edit in (it.edit for it in placed if it.edit):
+            if edit in refused:
+                self.outcomes[edit] = self.room.of_crate(refused[edit])
+            else:
+                edit.was_copied = True
+                self.waiting.append(edit)
+
+    def part(self, bad: list[Edit], lost: list[Copy], batch: list[Edit], beside: list[Edit]) -> None:
+        """After a round with a text that cannot be read: its edits alone, the others once more.
+
+        A copy that cannot be read waits for its place, as all of them do where nothing is found; and where there is none, each edit is
+        tried alone.
+        """
+        left = {it.of for it in lost if not it.edit}
+        for edit in beside:
+            is_lost = edit.changes in left or any(it.edit is edit for it in lost)
+            edit.was_copied = edit.was_copied or is_lost or not (bad or lost)
+        bad = bad if bad or lost or beside else batch
         self.whole += bad
-        self.waiting = [it for it in batch if it not in bad] + self.waiting
+        self.waiting = [it for it in [*batch, *beside] if it not in bad] + self.waiting
 
     def put_off(self, edit: Edit, together: int) -> None:
         """Tries an edit once more in a later round, as where only a function that it calls was refused; and then alone."""
@@ -187,11 +309,14 @@ class CrateRun:
             self.outcomes[edit] = Outcome(BAD_EDIT, "its pairs cannot be applied one after the other")
             return
         said = self.checked([], jobs)
+        if said.was_ended:
+            return
         self.outcomes[edit] = judged_whole(edit, said)
         self.report(f"{edit.label} alone, by a whole check", said)
 
     def checked(self, only: list[str], jobs: int) -> Said:
         said = self.room.check(only, jobs)
+        said.was_ended = said.status == -signal.SIGKILL and self.clock.is_over()
         self.checks += 1
         self.processor += said.processor
         return said
@@ -202,12 +327,10 @@ class CrateRun:
         self.tell(f"{self.crate.name}: check {self.checks}: {what}, {left} left ({took})")
 
 
-def lines_of(result: Result) -> list[str]:
-    """A line for each edit, and one for the crate."""
-    told = {REFUSED: "refused, as it must be"}
-    outcomes = [(it.label, told.get(outcome.word, outcome.word), outcome.why[:SHOWN]) for it, outcome in result.outcomes.items()]
-    return [*map(": ".join, outcomes), result.line()]
+def line_of(edit: Edit, outcome: Outcome) -> str:
+    told = f"refused, as it must be{' (kept)' if outcome.is_kept else ''}" if outcome.word == REFUSED else outcome.word
+    return ": ".join([edit.label, told, *([outcome.why[:SHOWN]] if outcome.why else [])])
 
 
 def fails(result: Result) -> list[str]:
-    return [it.label for it, outcome in result.outcomes.items() if outcome.word != REFUSED]
+    return [it.label for it, outcome in result.outcomes.items() if outcome.word not in (REFUSED, SKIPPED)]

@@ -1,4 +1,5 @@
 """A wrong body: the texts that it changes, and the functions whose proofs must fail for it."""
+import hashlib
 import itertools
 import os
 import re
@@ -22,6 +23,7 @@ class Edit:
         self.folder = folder
         with open(path, encoding="utf-8", errors="replace") as file:
             text = file.read()
+        self.text = text
         only = re.search(r"(?m)^only: *(\S+) *$", text)
         self.only = only[1] if only else ""
         self.pairs = pairs_of(text)
@@ -30,7 +32,14 @@ class Edit:
             self.fault = "its name is of letters, digits, _, - and ., and ends in .edit"
         self.functions: list[Function] = []
         self.shares = False
+        # The one function whose body is all that it changes, where it is judged by that.
+        self.changes: Optional[Function] = None
+        # Whether a check of it in its place, or of a copy of its function, left it open.
         self.was_unclear = False
+        self.was_copied = False
+
+    def sum(self) -> str:
+        return hashlib.sha256(self.text.encode()).hexdigest()
 
     def place(self, functions: list[Function]) -> None:
         """Finds the functions in whose bodies the changed texts stand, or the one that `only:` names."""
@@ -43,11 +52,13 @@ class Edit:
             self.functions = [it._replace(path=self.only) for it in named[:1]]
             if not named:
                 self.fault = f"no function with a body has the name {self.only}, which its 'only:' line gives"
+            self.changes = around[0] if {*around} == {*named[:1]} else None
             return
         inside = [it for it in around if it]
         is_use = lambda pair: pair[1].lstrip().startswith(("use ", "pub use ", "pub(crate) use "))
         if all(it or is_use(pair) for it, pair in zip(around, self.pairs)):
             self.functions = [*dict.fromkeys(inside)]
+        self.changes = around[0] if len({*around}) == 1 else None
 
     def bodies(self, functions: list[Function]) -> list[Optional[Function]]:
         """For each pair the function in whose body its old text stands, if there is one.

@@ -16,6 +16,10 @@ class Function(NamedTuple):
     end: int
     lines: range  # from the line of its head to that of its end
     cycle: str  # the cycle of calls that it is in, or nothing
+    is_public: bool  # whether it is `pub`, or a trait's
+    item: int = 0  # the byte of its first attribute, or of its head's first word, and that of its name
+    named: int = 0
+    stands_apart: bool = True  # whether another may stand behind its last line: it is no trait's, and not in a function's body
 
     def names(self, printed: str) -> bool:
         """Whether a name that a check printed is the function's, or that of a closure in it."""
@@ -39,6 +43,9 @@ class Head(NamedTuple):
     start: int
     nesting: int  # how many round and square brackets are open around it
     cycle: str
+    is_public: bool = False  # of an impl: whether it is of a trait
+    item: int = 0
+    named: int = 0
     body: int = 0
 
 
@@ -61,10 +68,15 @@ def functions_in(folder: str, file: str) -> list[Function]:
     found = []
     for head, end, outer in blocks(code_of(f"{folder}/{file}")):
         if head.kind == "fn":
-            types = [it.name for it in outer if it.kind in ("impl", "trait")]
+            types = [it for it in outer if it.kind in ("impl", "trait")]
             modules = [it.name for it in outer if it.kind == "mod"]
-            path = "::".join([*(types[-1:] or [*module, *modules]), head.name])
-            found.append(Function(path, file, head.start, head.body, end, range(line(head.start), line(end) + 1), head.cycle))
+            path = "::".join([*([it.name for it in types[-1:]] or [*module, *modules]), head.name])
+            lines = range(line(head.start), line(end) + 1)
+            of_trait = any(it.is_public for it in types[-1:])
+            ends_line = not raw[end:].partition(b"\n")[0].strip()
+            apart = not of_trait and ends_line and all(it.kind != "fn" for it in outer)
+            is_public = head.is_public or of_trait
+            found.append(Function(path, file, head.start, head.body, end, lines, head.cycle, is_public, head.item, head.named, apart))
     return found
 
 
@@ -105,13 +117,39 @@ def blocks(tokens: list[Token]):
 def head_at(tokens: list[Token], at: int, nesting: int, cycle: str) -> Optional[Head]:
     kind, after = tokens[at].text, tokens[at + 1].text if at + 1 < len(tokens) else ""
     if kind == "impl":
-        return Head(kind, name_of_impl(tokens[at + 1 :]), tokens[at].start, nesting, cycle)
+        name, of = names_of_impl(tokens[at + 1 :])
+        return Head(kind, name + of, tokens[at].start, nesting, cycle, bool(of))
     # (a type `fn(u8)` has no name)
-    return Head(kind, after, tokens[at].start, nesting, cycle) if re.match(r"\w", after) else None
+    if not re.match(r"\w", after):
+        return None
+    item, is_public = item_at(tokens, at)
+    return Head(kind, after, tokens[at].start, nesting, cycle, kind == "trait" or is_public, item, tokens[at + 1].start)
 
 
-def name_of_impl(tokens: list[Token]) -> str:
-    """`Name` of `impl<..> Name<..>`, and `NameDisplay` of `impl fmt::Display for Name`, as a check prints them."""
+def item_at(tokens: list[Token], at: int) -> tuple[int, bool]:
+    """Where the item begins that has the word at this place in its head: with its attributes; and whether it is `pub`."""
+    while at and tokens[at - 1].text in ("const", "unsafe", "final", "ghost"):
+        at -= 1
+    is_public = at > 0 and tokens[at - 1].text == "pub"
+    scoped = opening(tokens, at - 1) if at and tokens[at - 1].text == ")" else 0
+    at = scoped - 1 if scoped and tokens[scoped - 1].text == "pub" else at - is_public
+    while at and tokens[at - 1].text == "]" and tokens[opening(tokens, at - 1) - 1].text == "#":
+        at = opening(tokens, at - 1) - 1
+    return tokens[at].start, is_public
+
+
+def opening(tokens: list[Token], at: int) -> int:
+    """The place of the bracket that the one at this place closes."""
+    depth = 0
+    for place in range(at, -1, -1):
+        depth += (tokens[place].text in (")", "]")) - (tokens[place].text in ("(", "["))
+        if not depth:
+            return place
+    return 0
+
+
+def names_of_impl(tokens: list[Token]) -> tuple[str, str]:
+    """`Name` of `impl<..> Name<..>`, and `Name` and `Display` of `impl fmt::Display for Name`: a check prints `NameDisplay`."""
     depth, name, of, before = 0, "", "", ""
     for token in tokens:
         if token.text in ("{", "where"):
@@ -122,4 +160,4 @@ def name_of_impl(tokens: list[Token]) -> str:
         elif depth == 0 and re.fullmatch(r"\w+", token.text) and token.text not in ("mut", "dyn", "const", "unsafe"):
             name = token.text
         before = token.text
-    return name + of
+    return name, of

@@ -11,13 +11,15 @@ from .edit import Edit
 from .functions import Function
 from .toolchain import rt, rtlib
 
-REFUSED, NOT_REFUSED, NOT_CLEAR, BAD_EDIT = "refused", "NOT REFUSED", "NOT CLEAR", "BAD EDIT"
+REFUSED, NOT_REFUSED, NOT_CLEAR, BAD_EDIT, SKIPPED = "refused", "NOT REFUSED", "NOT CLEAR", "BAD EDIT", "SKIPPED"
 # A line that tells of a place: an error, or a note that something is not proved there.
 PLACED = re.compile(r"(note: )?(?:\./)?((?:src|specs|proofs)/\S+?):(\d+):\d+: (.*)")
 TOLD = re.compile(r"error\b|it is not proved")
 # What follows from another error, and what a proof file says where it names what the edit took away.
 FOLLOWS = re.compile(r"that depends? on `")
 NAMES = re.compile(r"has no field|is not in scope|has no `|was not admitted")
+# What is said of a function that lacks nothing of its own.
+CALLS = re.compile(r"no proof: it (calls|passes) `")
 # What is said where no function, or more than one, has the name that was asked for.
 MISNAMED = re.compile(r"(?:functions are named|has no function) `([^`]+)`")
 
@@ -25,6 +27,7 @@ MISNAMED = re.compile(r"(?:functions are named|has no function) `([^`]+)`")
 class Outcome(NamedTuple):
     word: str
     why: str
+    is_kept: bool = False  # whether an earlier run judged it
 
 
 class Trouble(NamedTuple):
@@ -50,10 +53,12 @@ class Trouble(NamedTuple):
 
 
 class Said:
-    """What a check said, its status, and what it took."""
+    """What a check said, its status, and what it took, in all and, in seconds of processor, for each function."""
 
-    def __init__(self, text: str, status: int, processor: float = 0.0, clock: float = 0.0):
-        self.text, self.status, self.processor, self.clock = text, status, processor, clock
+    def __init__(self, text: str, status: int, processor: float = 0.0, clock: float = 0.0, took: Optional[dict[str, float]] = None):
+        self.text, self.status, self.processor, self.clock, self.took = text, status, processor, clock, took or {}
+        # Whether it was ended with the clock, so that it says nothing.
+        self.was_ended = False
         self.lines = text.rstrip("\n").split("\n")
         self.last = self.lines[-1]
         self.reached_prover = self.last.startswith(("only=", "logic=")) and not rtlib.STALE.search(text)
@@ -70,19 +75,18 @@ def files_of(edits: list[Edit]) -> set[str]:
     return {file for edit in edits for file, _, _ in edit.pairs}
 
 
-def suspects(edits: list[Edit], said: Said) -> list[Edit]:
-    """The edits in whose lines a text could not be read, or whose functions' names do not tell one function."""
+def not_read(functions: list[Function], files: set[str], said: Said) -> list[Function]:
+    """The functions in whose lines a text could not be read, or whose names do not tell one function."""
     misnamed = {*MISNAMED.findall(said.text)} if not said.reached_prover else set()
-    lines = "\n".join(said.unread(files_of(edits))) if said.reached_prover else said.text
+    lines = "\n".join(said.unread(files)) if said.reached_prover else said.text
     troubles = Said(lines, 1).troubles
-    is_bad = lambda f: f.path in misnamed or any(it.is_of(f, []) for it in troubles)
-    return [it for it in edits if any(map(is_bad, it.functions))]
+    return [it for it in functions if it.path in misnamed or any(trouble.is_of(it, []) for trouble in troubles)]
 
 
-def judged_by_functions(edit: Edit, said: Said) -> Optional[Outcome]:
-    """What a check of the edit's functions says of it, beside others or alone, where that is clear."""
+def judged_by_functions(functions: list[Function], said: Said) -> Optional[Outcome]:
+    """What a check says of an edit that is in the bodies of these functions, beside others or alone, where that is clear."""
     proved = []
-    for function in edit.functions:
+    for function in functions:
         own = {name: verdict for name, verdict in said.verdicts.items() if function.names(name)}
         refused = {name: verdict for name, verdict in own.items() if verdict.startswith(("not proved", "no proof"))}
         proved.append(bool(own) and all(it == "proved" for it in own.values()))
@@ -94,9 +98,17 @@ def judged_by_functions(edit: Edit, said: Said) -> Optional[Outcome]:
         for name, verdict in refused.items():
             if "did not prove `" in verdict:
                 return Outcome(REFUSED, f"{name}: {verdict}")
-    if edit.functions and all(proved):
-        return Outcome(NOT_REFUSED, f"{', '.join(it.path for it in edit.functions)}: proved with this edit")
+    if functions and all(proved):
+        return Outcome(NOT_REFUSED, f"{', '.join(it.path for it in functions)}: proved with this edit")
     return None
+
+
+def is_whole(function: Function, said: Said) -> bool:
+    """Whether the function is proved, as far as it is its own matter: it is told of, and lacks at most the proof of one that it calls."""
+    own = {name: verdict for name, verdict in said.verdicts.items() if function.names(name)}
+    if any(it.is_of(function, [*own]) for it in said.troubles):
+        return False
+    return bool(own) and all(it == "proved" or CALLS.match(it) for it in own.values())
 
 
 def judged_whole(edit: Edit, said: Said) -> Outcome:
@@ -111,7 +123,7 @@ def judged_whole(edit: Edit, said: Said) -> Outcome:
     if said.status != 1 or not said.last.startswith("logic=not-proved"):
         first = next((it.text for it in said.troubles), said.last)
         return Outcome(BAD_EDIT if said.troubles else NOT_CLEAR, f"it did not reach the prover: {first}")
-    clear = judged_by_functions(edit, said)
+    clear = judged_by_functions(edit.functions, said)
     counting = [it.text for it in said.troubles if it.counts()]
     if clear and clear.word == REFUSED:
         return clear

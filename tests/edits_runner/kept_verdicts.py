@@ -1,0 +1,98 @@
+"""Refusals that earlier runs on this machine judged, by the sum of all that each was judged from.
+
+A sum covers the edit's text, the crate's sources, definitions and proofs, its line of crates.txt, the same of all libraries below it, the
+toolchain and this runner, so that a refusal never goes stale. Nothing else is kept: what was not refused is judged anew by each run.
+"""
+import contextlib
+import hashlib
+import json
+import os
+import tempfile
+from typing import Optional
+
+from .edit import Edit
+from .toolchain import rt
+from .verdicts import REFUSED, Outcome
+
+# How many files of a crate stay: each is of other texts, the newest of the last run that wrote one.
+MOST = 16
+
+
+def folder_of_verdicts() -> str:
+    """Where verdicts are kept: outside of each checkout."""
+    above = os.environ.get("XDG_CACHE_HOME") or os.path.expanduser("~/.cache")
+    return f"{above}/tilefarm/verdicts"
+
+
+def sum_of_runner() -> str:
+    """A sum of what decides how an edit is judged."""
+    here = os.path.dirname(os.path.realpath(__file__))
+    files = [f"{os.path.dirname(here)}/run_edits", *sorted(f"{here}/{it}" for it in os.listdir(here) if it.endswith(".py"))]
+    found = hashlib.sha256()
+    for path in files:
+        with open(path, "rb") as file:
+            found.update(hashlib.sha256(file.read()).digest())
+    return found.hexdigest()
+
+
+def sum_of_crate(crate, seen: dict[str, str]) -> str:
+    """A sum of all but the edit that a verdict stands on: the toolchain's own sum of the crate and of those below it, and the runner's.
+
+    The toolchain's sums of crates that were asked for before are in `seen`.
+    """
+    return hashlib.sha256(f"{rt.stamp_of(crate, seen)} {sum_of_runner()}".encode()).hexdigest()
+
+
+def is_fresh(crate) -> bool:
+    """Whether the libraries below stand as they were built from the texts that stand there now."""
+    return all(it.is_built() or is_newer(it) for it in crate.below())
+
+
+def is_newer(crate) -> bool:
+    """Whether the library is newer than each of its texts, as where `rt ci` built it in a new clone, without a stamp."""
+    texts = [f"{at}/{name}" for part in rt.rtlib.PARTS for at, _, names in os.walk(f"{crate.folder}/{part}") for name in names]
+    with contextlib.suppress(OSError):
+        return os.stat(f"{crate.rlib}/format").st_mtime_ns > max(os.stat(it).st_mtime_ns for it in texts)
+    return False
+
+
+class KeptVerdicts:
+    """Those of one crate, as its texts stand. They are kept in any case, and used where that is asked for."""
+
+    def __init__(self, crate, folder: str, is_used: bool, seen: Optional[dict[str, str]] = None):
+        self.crate, self.folder, self.sum = crate, folder, sum_of_crate(crate, {} if seen is None else seen)
+        self.known = self.read() if is_used else {}
+
+    def path(self) -> str:
+        return f"{self.folder}/{self.crate.name}-{self.sum}.json"
+
+    def read(self) -> dict[str, str]:
+        """What each refused edit was refused for, by the sum of its text; nothing where that cannot be read."""
+        try:
+            with open(self.path(), encoding="utf-8") as file:
+                found = json.load(file) if os.fstat(file.fileno()).st_uid == os.geteuid() else {}
+        except (OSError, ValueError):
+            return {}
+        is_told = isinstance(found, dict) and all(isinstance(it, str) for pair in found.items() for it in pair)
+        return found if is_told else {}
+
+    def of(self, edit: Edit) -> Optional[Outcome]:
+        why = self.known.get(edit.sum())
+        return None if why is None else Outcome(REFUSED, why, True)
+
+    def keep(self, outcomes: dict[Edit, Outcome]) -> None:
+        """Keeps what is refused, where no text changed since the run began; a verdict that cannot be kept is judged again."""
+        found = {it.sum(): outcome.why for it, outcome in outcomes.items() if outcome.word == REFUSED and not outcome.is_kept}
+        if not found or not is_fresh(self.crate) or self.sum != sum_of_crate(self.crate, {}):
+            return
+        with contextlib.suppress(OSError):
+            os.makedirs(self.folder, 0o700, exist_ok=True)
+            with tempfile.NamedTemporaryFile("w", dir=self.folder, prefix=".new-", delete=False, encoding="utf-8") as made:
+                json.dump({**self.read(), **found}, made)
+            os.replace(made.name, self.path())
+            self.drop_oldest()
+
+    def drop_oldest(self) -> None:
+        names = [f"{self.folder}/{it}" for it in os.listdir(self.folder) if it.rpartition("-")[0] == self.crate.name]
+        for path in sorted(names, key=os.path.getmtime)[:-MOST]:
+            os.remove(path)
