@@ -3,7 +3,7 @@ import struct
 from typing import NamedTuple
 
 from fuzzing.facts import file_of
-from fuzzing.netpbm import Reader
+from fuzzing.tables import handed_in
 from fuzzing.texts import identities, settings, tokens_of
 from fuzzing.values import Meaning
 from fuzzing.worlds import words_of
@@ -21,7 +21,7 @@ class Check(NamedTuple):
 
 
 class Job(NamedTuple):
-    """A program, a picture, and words for the command line."""
+    """A program, a picture with the lines of tables before it, and words for the command line."""
 
     text: str
     picture: bytes
@@ -42,7 +42,8 @@ class Told:
     """What an accepted job means."""
 
     def __init__(self, job: Job):
-        self.tokens, self.picture, asked = tokens_of(job.text.encode()), Reader(job.picture).picture(), words_of(list(job.words))
+        self.tokens, asked = tokens_of(job.text.encode()), words_of(list(job.words))
+        self.picture = handed_in(job.picture, self.tokens)
         self.sides, self.known = asked.sides, settings(self.tokens, asked.given, self.picture)
         self.meaning = Meaning(self.tokens, self.known, self.picture)
 

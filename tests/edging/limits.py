@@ -53,6 +53,9 @@ def levels() -> Iterator[Limit]:
     for opening, closing in kinds.items():
         at, past = (at_point(opening * it + "1" + closing * it) for it in (64, 65))
         yield in_text(f"64 levels of {opening}", at, past, "5 TooDeep", f"{opening}1")
+    at, past = ("table t[0..1];" + at_point("t[" * it + "1" + "]" * it) for it in (64, 65))
+    refusal = line(f"program: 5 TooDeep at {past.rindex('[1')}")
+    yield Limit("64 levels of [", *(Job(it, b"t 0..1: 7 1\n" + ONE) for it in (at, past)), refusal)
     at, past = (at_point("-(" * 32 + it + "1" + ")" * 32) for it in ("", "-"))
     yield in_text("64 levels of two kinds", at, past, "5 TooDeep", "-1")
 
@@ -152,6 +155,36 @@ def domains() -> Iterator[Limit]:
             yield Limit(f"a picture of {extents}, N={at}", *jobs, line(f"bounds: {name} I"))
 
 
+def looked_up(table: str, line: str, index: str = "I(x,y)") -> Job:
+    """A program with one table, and the line that is handed in for it."""
+    text = f"image I(1,1);table {table};func f(x in[0..0],y in[0..0]){{else:t[{index}];}}output f max 255;"
+    return Job(text, line.encode() + b"\n" + ONE)
+
+
+def tables() -> Iterator[Limit]:
+    """How many tables there are, where their ends lie, how many entries they have, and of how many bits these are."""
+    for low, high, past, name in ((0, 4095, (0, 4096), "7 TableTooWide"), (16384, 16384, (16384, 16385), "7 TableTooWide"),
+                                  (-16384, -16384, (-16385, -16384), "7 TableTooWide"), (1, 1, (1, 0), "6 EmptyTable")):
+        entries = " ".join(str(it % 251) for it in range(low, high + 1))
+        at = looked_up(f"t[{low}..{high}]", f"t {low}..{high}: {entries}", "I(x,y)*600")
+        yield Limit(f"a table of {low}..{high}", at, looked_up(f"t[{past[0]}..{past[1]}]", f"t {low}..{high}: {entries}"), line(f"bounds: {name} t"))
+    bad = line("tables: line 1", 2)
+    for at, past in ((2**63 - 1, 2**63), (-(2**63), -(2**63) - 1)):
+        yield Limit(f"an entry {at}", *(looked_up("t[0..0]", f"t 0..0: {it}", "0") for it in (at, past)), bad)
+    ends = (("t[16384..16384]", "t 16384..16384: 5", "t 16385..16385: 5"), ("t[-16384..-16384]", "t -16384..-16384: 5", "t -16385..-16385: 5"))
+    for table, at, past in ends:
+        yield Limit(f"a line {at}", looked_up(table, at), looked_up(table, past), bad)
+    wide = looked_up("t[0..4095]", "t 0..4096: " + " ".join("1" * 4097))
+    yield Limit("a line of 4,096 entries", looked_up("t[0..4095]", "t 0..4095: " + " ".join("1" * 4096)), wide, bad)
+    texts = ["".join(f"table t{it}[0..0];" for it in range(count)) + at_point("t15[0]") for count in (16, 17)]
+    given = b"".join(b"t%d 0..0: %d\n" % (it, it) for it in range(17))
+    jobs = [Job(text, given[: given.index(b"t16")] + ONE) for text in texts]
+    yield Limit("16 tables", *jobs, line(f"program: 7 TooMany at {texts[1].index('t16')}"))
+    names = ["n" * it for it in (32, 33)]
+    jobs = [Job(at_point(f"{names[0]}[0]") + f"table {names[0]}[0..0];", f"{it} 0..0: 7\n".encode() + ONE) for it in names]
+    yield Limit("32 bytes of a table's name", *jobs, bad)
+
+
 def reads() -> Iterator[Limit]:
     """Reads at the first and the last row and column of what they read."""
     picture = b"P2\n4 4\n255\n" + b" ".join(b"%d" % it for it in range(16)) + b"\n"
@@ -181,5 +214,5 @@ def bindings() -> Iterator[Limit]:
 
 
 def checks() -> list[Check]:
-    every = (pictures, levels, counts, kernels, literals, domains, reads, bindings)
+    every = (pictures, levels, counts, kernels, literals, domains, tables, reads, bindings)
     return [check for limits in every for limit in limits() for check in limit.checks()]

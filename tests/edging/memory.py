@@ -35,9 +35,9 @@ def commands() -> list[Command]:
     random = Random(1)
     picture, large = (b"P5 %d %d 255\n" % (side, side) + random.randbytes(side**2) for side in (SIDE, LARGE))
     script = "".join(f"make 0 0:1:{row}:{col}\n" for row in range(12) for col in range(12))
-    script += "".join(f"deliver 0 {it}\n" for it in range(144)) + "keep 0\nmerge 1 0\nrestart 1\n"
+    script += "".join(f"deliver 0 {it}\n" for it in range(144)) + "keep 0\nmerge 1 0\nrestart 1\nretire 1 0\ndeliver 1 144\n"
     facts = [Fact(random.randbytes(32), random.randbytes(32), 1, 0, 0, 0, tuple(range(256))) for _ in range(200)]
-    text = b"\n".join(file_of([it]).hex().encode() for it in facts)
+    text = b"\n".join(it.hex().encode() for it in [*(file_of([it]) for it in facts), file_of([], (it.ids() for it in facts[::2]))])
     sides, job = ("--rows", "16", "--cols", "16"), b"\n%%\n".join([TEXT, large])
     return [
         *(Command((it, *sides), job) for it in ("eval", "check", "plan")),

@@ -61,13 +61,15 @@ def scripts() -> list[Check]:
         (b"keep 0\n" * (most + 1), line("script: 3 TooManyEvents", 2)),
         (b"keep 0\n" * most + b"#\nno event\n", line("script: 3 TooManyEvents", 2)),
         (b"no event\n" + b"keep 0\n" * (most + 1), line("script: 1 BadLine at 1", 2)),
+        (b"retire 0 0\n" * most, worlds(2, most)),
     ]
     bad, refused, no_job = line("script: 1 BadLine at 1", 2), worlds(2, 1, 1), line("script: 2 NoSuchJob at 1", 2)
-    greatest = {255: (b"keep %d", b"restart %d", b"merge 0 %d", b"merge %d 0", b"deliver %d 0"), 65535: (b"make 0 0:%d:0:0",),
+    greatest = {255: (b"keep %d", b"restart %d", b"merge 0 %d", b"merge %d 0", b"deliver %d 0", b"retire %d 0"), 65535: (b"make 0 0:%d:0:0",),
                 2**32 - 1: (b"make 0 0:1:%d:0", b"make 0 0:1:0:%d", b"deliver 0 %d")}
     for at, forms in greatest.items():
         told += [(form % it, answer) for form in forms for it, answer in ((at, refused), (at + 1, bad))]
-    told += [(b"make 0 %d:1:0:0" % it, answer) for it, answer in ((1, no_job), (2**32 - 1, no_job), (2**32, bad))]
+    for form in (b"make 0 %d:1:0:0", b"retire 0 %d", b"retire 255 %d"):
+        told += [(form % it, answer) for it, answer in ((1, no_job), (2**32 - 1, no_job), (2**32, bad))]
     return [Check(f"a script of {len(text)} bytes, {text[:20]!r}", ("world",), job.joined(text), answer) for text, answer in told]
 
 
@@ -75,7 +77,7 @@ def scripts() -> list[Check]:
 
 
 def facts() -> list[Check]:
-    """Facts with as many numbers as there may be, and one more; and kinds."""
+    """Facts with as many numbers as there may be, and one more; kinds; and retired jobs."""
     found, foreign = [], Fact(b"p" * 32, b"i" * 32, 65535, 2**32 - 1, 2**32 - 1, 0, ())
     for kind, most in ((0, 1_048_576), (1, 4_096)):
         at = file_of([foreign._replace(kind=kind, numbers=(-1,) * most)])
@@ -85,7 +87,31 @@ def facts() -> list[Check]:
     one = file_of([foreign])
     past = one[:82] + b"\2" + one[83:]
     found += [("kind 2", past, line("facts: line 1 4 BadKind at 82", 2)), ("no facts", file_of([]), (0, EMPTY.encode() + b"\n"))]
+    found += retired(foreign)
     return [Check(f"merge of a file, {name}", ("merge",), data.hex().encode(), answer) for name, data, answer in found]
+
+
+def retired(fact: Fact) -> list[tuple[str, bytes, tuple[int, bytes]]]:
+    """Files that retire jobs: one, none, the same one twice, and that of a fact which the file has; and such files that are cut."""
+    def fault(name: str, at: int) -> tuple[int, bytes]:
+        return line(f"facts: line 1 {name} at {at}", 2)
+
+    before, own, behind = (fact.program, b"h" * 32), fact.ids(), (fact.program, b"j" * 32)
+    one, whole = file_of([], [own]), file_of([fact], [before, behind])
+    found = [("one retired job", one, (0, one.hex().encode() + b"\n")), ("jobs beside that of a fact", whole, (0, whole.hex().encode() + b"\n"))]
+    found += [(f"{end} bytes of one that retires a job", one[:end], fault("2 Cut", end)) for end in (3, 4, 7, 8, 71, 72, 75)]
+    return found + [
+        ("no retired job", b"PTF2" + bytes(8), fault("9 NothingRetired", 4)),
+        ("no retired job, cut in their count", b"PTF2" + bytes(3), fault("2 Cut", 7)),
+        ("another version", b"PTF3" + bytes(4), fault("1 BadMagic", 3)),
+        ("a job twice", one[:7] + b"\2" + one[8:72] + one[8:], fault("3 NotRising", 72)),
+        ("jobs that fall", file_of([], [before, own])[:8] + b"".join(own + before) + bytes(4), fault("3 NotRising", 72)),
+        ("the job of a fact", file_of([fact], [own]), fault("8 RetiredFact", 76)),
+        ("the job of a fact that falls", file_of([fact._replace(input=b"j" * 32), fact], [own]), fault("3 NotRising", 155)),
+        ("the job of a fact, and a byte behind", file_of([fact], [own]) + b"\0", fault("8 RetiredFact", 76)),
+        ("the job of a fact that is cut", file_of([fact], [own])[:-1], fault("2 Cut", 154)),
+        ("a byte behind", one + b"\0", fault("6 TrailingBytes", 76)),
+    ]
 
 
 def verdicts() -> list[Check]:
@@ -106,6 +132,21 @@ def verdicts() -> list[Check]:
                 found.append(Check(f"audit of {name}", ("audit",), job.joined(text), told))
                 found.append(Check(f"merge of {name}", ("merge",), text, (0, whole + b"\n")))
                 assert merged(text) == (0, whole + b"\n")
+            found += retirements(job, names, rising)
+    return found
+
+
+def retirements(job: Job, names: dict[Fact, str], rising: list[Fact]) -> list[Check]:
+    """Facts of two jobs, one of which is retired, in a file behind theirs and in one before: its facts are not judged."""
+    found, whole = [], file_of(rising).hex().encode()
+    for ids in sorted({it.ids() for it in rising}):
+        left = [it for it in rising if it.ids() != ids]
+        told = "".join(f"{names[it]} {it.stage} {it.row} {it.col}\n" for it in left) + f"Retired {ids[0].hex()} {ids[1].hex()}\n"
+        answer = 6 if "False" in map(names.get, left) else 0, told.encode()
+        last = file_of([], [ids]).hex().encode()
+        for text in (whole + b"\n" + last, last + b"\n" + whole):
+            found.append(Check(f"audit where {' '.join(map(names.get, left))} are left", ("audit",), job.joined(text), answer))
+            found.append(Check("merge of facts and a retired job", ("merge",), text, (0, file_of(left, [ids]).hex().encode() + b"\n")))
     return found
 
 

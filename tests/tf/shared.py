@@ -1,0 +1,59 @@
+"""What the tests of tf share: the program, files, and a run of tf."""
+import os
+import shutil
+import subprocess
+import sys
+import tempfile
+import unittest
+
+TOP = os.path.dirname(os.path.dirname(os.path.dirname(os.path.realpath(__file__))))
+sys.path.insert(0, f"{TOP}/tools")
+PROGRAM = os.path.abspath(sys.argv[1] if len(sys.argv) > 1 else f"{TOP}/crates/tilefarm/out/tilefarm")
+GREY = "P2\n4 4\n255\n" + "".join(f"{4 * row + 1} {4 * row + 2} {4 * row + 3} {4 * row + 4}\n" for row in range(4))
+COPY = "param R; param C;\nimage I(R, C);\nfunc f(x in [0 .. R-1], y in [0 .. C-1]) { else : I(x, y); }\noutput f max 255;\n"
+wants_vips = unittest.skipUnless(shutil.which("vips") and shutil.which("vipsheader"), "vips lacks: install libvips-tools (libvips 8.12 or later)")
+
+
+def write(path: str, data: bytes) -> None:
+    with open(path, "wb") as file:
+        file.write(data)
+
+
+def content(path: str) -> bytes:
+    with open(path, "rb") as file:
+        return file.read()
+
+
+def tf(words: list[str], room: str, stdin: bytes = b"", **more: str) -> tuple[int, bytes, str]:
+    """Runs tf in a folder: its status, and what it wrote and told."""
+    env = {**os.environ, "TILEFARM": PROGRAM, **more}
+    ran = subprocess.run([f"{TOP}/tools/tf", *words], cwd=room, env=env, input=stdin, capture_output=True)
+    return ran.returncode, ran.stdout, ran.stderr.decode()
+
+
+class InRoom(unittest.TestCase):
+    """Tests with a folder that has a program, which copies, and a picture of four by four samples."""
+
+    def setUp(self):
+        made = tempfile.TemporaryDirectory(prefix="test-tf-")
+        self.addCleanup(made.cleanup)
+        self.room = made.name
+        self.write("p.pipe", COPY.encode())
+        self.write("p.pgm", GREY.encode())
+
+    def write(self, name: str, data: bytes) -> None:
+        write(f"{self.room}/{name}", data)
+
+    def content(self, name: str) -> bytes:
+        return content(f"{self.room}/{name}")
+
+    def tf(self, line: str, stdin: bytes = b"", **more: str) -> tuple[int, bytes, str]:
+        return tf(line.split(), self.room, stdin, **more)
+
+    def refused(self, line: str, status: int, said: str) -> None:
+        """Refused with this status and these words, and nothing is changed or left behind."""
+        names = sorted(os.listdir(self.room))
+        ended, written, told = self.tf(line)
+        self.assertEqual((ended, written), (status, b""), told)
+        self.assertIn(said, told)
+        self.assertEqual(sorted(os.listdir(self.room)), names)
