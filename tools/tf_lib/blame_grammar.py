@@ -2,6 +2,7 @@
 import re
 
 from .blame import Blame, Situation, listed
+from .blame_guess import Around, guess
 from .parser import Parser
 from .tokens import Token, Unreadable, tokens
 
@@ -14,8 +15,17 @@ BEGINS = {
 WORD = re.compile(rb"[A-Za-z0-9_]+")
 
 
+MARKED = {
+    b"\xef\xbb\xbf": "The file begins with a byte-order mark: save it as UTF-8 without one, or as ASCII.",
+    b"\xff\xfe": "The file is UTF-16: save it as ASCII, as by iconv -f UTF-16 -t ASCII.",
+    b"\xfe\xff": "The file is UTF-16: save it as ASCII, as by iconv -f UTF-16 -t ASCII.",
+}
+
+
 def not_ascii(found: re.Match[str], at: Situation) -> Blame:
-    return Blame([at.text().place(int(found["at"]))], "A program is ASCII, in its comments too: write this character otherwise.")
+    offset = int(found["at"])
+    cure = next((says for mark, says in MARKED.items() if not offset and at.text().data.startswith(mark)), None)
+    return Blame([at.text().place(offset)], cure or "A program is ASCII, in its comments too: write this character otherwise.")
 
 
 def bad_token(found: re.Match[str], at: Situation) -> Blame:
@@ -40,7 +50,9 @@ def unexpected(found: re.Match[str], at: Situation) -> Blame:
     place = text.place(offset, len(here.text))
     if here.kind == "end":
         return Blame([place], ends_early(before))
-    return Blame([place], not_here(here, before, wanted_at(given, offset)))
+    wanted = wanted_at(given, offset)
+    meant = guess(Around(text.data, here, before, [it for it in given if it.offset > offset], wanted))
+    return Blame([text.place(meant.start, meant.length)], meant.cure) if meant else Blame([place], not_here(here, before, wanted))
 
 
 def tokens_before(data: bytes, offset: int) -> list[Token]:
@@ -56,6 +68,8 @@ def ends_early(before: list[Token]) -> str:
     is_whole = not before or (before[-1].text in (";", "}") and open_marks(before) == 0)
     if is_whole and not any(it.text == "image" for it in before):
         return "The program has no image item, which every program has: write, for example, image I(R, C);"
+    if open_marks(before) == 0 and before[-1].text not in (";", "}"):
+        return f"The last item has no ; at its end: write one behind {before[-1].text}."
     return "The text ends inside an item: close its ( [ {, and end it with a ; (a func ends with its })."
 
 
@@ -121,6 +135,8 @@ def too_many(found: re.Match[str], at: Situation) -> Blame:
         what = "A function has at most 16 cases: read a second function in its else, with the other cases."
     elif before and before[-1].text == "param":
         what = "A program has at most 64 parameters: write numbers in place of some."
+    elif before and before[-1].text == "table":
+        what = "A program has at most 16 tables: join some, with an offset in the index."
     elif before and (before[-1].text in ("func", "accum", "image") or declares_plane(before)):
         what = "A program has at most 64 stages, planes among them: join some, or part the program."
     else:

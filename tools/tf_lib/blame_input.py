@@ -2,9 +2,12 @@
 import re
 
 from .blame import Blame, Situation
+from .joining import is_picture
+from .near import meant
 from .netpbm import header_of
+from .tables import FORM, fault_of
 from .text import Place
-from .usage import COMMANDS, OPTIONS
+from .usage import COMMANDS, OPTIONS, OWN_OPTIONS
 
 RANGES = {"--rows": (1, 1024), "--cols": (1, 1024), "--percent": (0, 10000), "--nodes": (1, 16), "--turns": (0, 65536),
           "--capacity": (1, 1024)}
@@ -13,7 +16,8 @@ PICTURE_CURES = {
     "OtherFormat": "This is no picture that tf knows: PGM and PPM begin with P2, P3, P5 or P6, and PNG, JPEG and TIFF are converted.",
     "HeaderCut": "The file ends inside its header: kind, width, height, greatest sample, and one white byte.",
     "BadNumber": "Here a number in decimal digits, white space or (in the header) a comment may stand, and nothing else.",
-    "BadSize": "Width and height are 1 to 4096: make the picture smaller, for example by magick IN -resize 4096x4096 OUT.",
+    "BadSize": "Width and height are 1 to 4096 in one run; tf eval PROGRAM PICTURE takes larger pictures, in parts. Else make the picture smaller, for example by "
+               "magick IN -resize 4096x4096 OUT.",
     "BadMax": "The greatest sample is 1 to 65535.",
     "CommentBehindDigit": "No comment stands directly behind the greatest sample: put it before that number.",
     "RasterCut": "The file ends before its last sample: it was cut off, or its width or height is wrong.",
@@ -55,7 +59,8 @@ def option_fault(command: str, name: str, value: str | None, rest: list[str], se
     if other:
         return f"{name} is an option of {' and '.join(other)} alone."
     if name not in known:
-        return f"There is no option {name}: there are {', '.join(known)}."
+        there = f"there are {', '.join(known)}, and those that tf --help lists"
+        return f"There is no option {name}: {there}.{meant(name, [*known, *(it.name for it in OWN_OPTIONS)])}"
     if name in seen:
         return f"{name} is given twice: take one out."
     seen.add(name)
@@ -80,6 +85,8 @@ def no_separator(found: re.Match[str], at: Situation) -> Blame:
         cure = f"The input has no two lines that are exactly %%: name picture and facts, as tf audit {name} photo.png some.facts."
     if at.words[:1] == ["world"]:
         cure = f"The input has no two lines that are exactly %%: name picture and script, as tf world {name} photo.png some.script."
+    if is_picture(at.text().data):
+        cure = f"This is a picture: name the program before it, as tf {command} program.pipe {name}."
     return Blame([at.text().place(len(at.text().data))], cure)
 
 
@@ -117,6 +124,18 @@ def picture(found: re.Match[str], at: Situation) -> Blame:
     if not section.is_own:
         return Blame([section.text.name], f"{cure} (This picture was converted; the offset counts in the PGM or PPM that was made.)")
     return Blame([sample_place(section.text.place(int(found["at"])))], cure)
+
+
+def bad_table(found: re.Match[str], at: Situation) -> Blame:
+    """The line of a table, at the first byte that leaves its form."""
+    number, lines, declared = int(found["line"]), at.input.tables, at.program.tables()
+    if number > len(lines):
+        name = declared[number - 1].names[0].text if number <= len(declared) else "that the program declares"
+        cure = f"The line of the table {name} is not there: each table that is declared has a line, ended by a line end, before the picture."
+        return Blame([], cure)
+    line = lines[number - 1]
+    fault = fault_of(line.data)
+    return Blame([line.place(fault.at if fault else 0)], f"{fault.why[0].upper()}{fault.why[1:]}." if fault else f"{FORM[0].upper()}{FORM[1:]}.")
 
 
 def sample_place(place: Place) -> Place | str:

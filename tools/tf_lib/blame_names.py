@@ -1,8 +1,9 @@
 """Faults of a program's names, numbers and cycles: `check: ..`."""
-import difflib
 import re
 
 from .blame import Blame, Situation, listed
+from .blame_guess import WORDS
+from .near import near
 from .program import Item, Kernel, Number, Read, Use
 from .text import Place
 from .tokens import Token
@@ -10,9 +11,10 @@ from .tokens import Token
 WANTED = {
     "param": "a parameter", "row": "the first variable of this item", "column": "the second variable of this item",
     "variable": "a variable of this item", "value": "a variable or a parameter", "function": "a function",
-    "stage": "a plane or a function",
+    "stage": "a plane or a function", "table": "a table",
 }
-ARE = {"param": "a parameter", "image": "a plane", "func": "a function", "accum": "an accumulator", "row": "the first variable",
+ARE = {"param": "a parameter", "image": "a plane", "func": "a function", "accum": "an accumulator", "table": "a table",
+       "row": "the first variable",
        "column": "the second variable"}
 
 
@@ -62,9 +64,9 @@ def unknown(found: re.Match[str], at: Situation) -> Blame:
     use = misused(item, at) if item else None
     if item is None or not isinstance(use, Use):
         return Blame(whole(item, at), "A name of this item is declared nowhere: declare it, or mend its spelling.")
-    known = [*at.program.kinds(), *(it.text for it in item.variables)]
-    close = difflib.get_close_matches(use.token.text, known, 1, 0.6) or [it for it in known if it.lower() == use.token.text.lower()]
-    hint = f", or write {close[0]}" if close else ", or mend its spelling"
+    known = [*at.program.kinds(), *(it.text for it in item.variables), *(WORDS if use.wants == "stage" else ())]
+    close = near(use.token.text, known) or next((it for it in known if it.lower() == use.token.text.lower()), None)
+    hint = f", or write {close}" if close else ", or mend its spelling"
     return Blame([place_of(use.token, at)], f"{use.token.text} is declared nowhere: declare it{hint}.")
 
 
@@ -101,8 +103,14 @@ def kind(found: re.Match[str], at: Situation) -> Blame:
     cure = f"{name} is {is_one}, and {WANTED[use.wants]} is wanted here"
     ways = {"value": f": to read it write {name}(x, y).", "row": ": the first index takes the first variable.",
             "column": ": the second index takes the second variable.", "param": ": an interval has numbers and parameters alone."}
-    is_stage = standing(name, item, at) in ("image", "func")
-    return Blame([place_of(use.token, at)], cure + (ways.get(use.wants, ".") if use.wants != "value" or is_stage else "."))
+    stands_for = standing(name, item, at)
+    if stands_for == "table":
+        ways = {"value": f": to read it write {name}[x].", "stage": f": to read it write {name}[x]."}
+    elif use.wants == "value" and stands_for not in ("image", "func"):
+        ways = {}
+    elif use.wants == "table" and stands_for in ("image", "func"):
+        ways = {"table": f": to read {name} write {name}(x, y)."}
+    return Blame([place_of(use.token, at)], cure + ways.get(use.wants, "."))
 
 
 def bad_kernel(found: re.Match[str], at: Situation) -> Blame:

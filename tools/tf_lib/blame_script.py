@@ -4,15 +4,17 @@ import re
 from .blame import Blame, Situation
 from .text import Place
 
-NODE, MESSAGE, KEY = "a node", "a message", "a tile"
+NODE, MESSAGE, KEY, JOB = "a node", "a message", "a tile", "a job"
 # what stands behind the word of an event; behind the nodes of `send` there are tiles, as many as one likes
-FORMS = {"make": (NODE, KEY), "send": (NODE, NODE), "deliver": (NODE, MESSAGE), "merge": (NODE, NODE), "keep": (NODE,), "restart": (NODE,)}
+FORMS = {"make": (NODE, KEY), "send": (NODE, NODE), "deliver": (NODE, MESSAGE), "merge": (NODE, NODE), "keep": (NODE,), "restart": (NODE,),
+         "retire": (NODE, JOB)}
 SHOWN = {"make": "make 0 0:1:0:0", "send": "send 0 1 0:1:0:0", "deliver": "deliver 0 0", "merge": "merge 0 1", "keep": "keep 0",
-         "restart": "restart 0"}
+         "restart": "restart 0", "retire": "retire 0 0"}
 MOST_NODE, MOST_STAGE, MOST_NUMBER, MOST_EVENTS = 255, 65_535, 2**32 - 1, 65_536
 CURES = {
     NODE: "A node is a number from 0 to 255, in digits alone.",
     MESSAGE: "A message is a number from 0 to 4294967295, in digits alone: the first that a script sends is 0.",
+    JOB: "A job is a number, in digits alone: there is one, the program over the picture, and its number is 0.",
     KEY: "A tile is JOB:STAGE:ROW:COL, four numbers: the job is 0, tf check tells the numbers of stages, and no stage is above 65535.",
 }
 BLANKS = "Words are parted by one blank each, and no blank, no TAB and no CR stands at the ends of a line."
@@ -44,8 +46,8 @@ def wrong_part(line: bytes) -> tuple[int, int, str]:
 
 
 def is_right(kind: str, word: bytes) -> bool:
-    """Whether a word is a node, a message or a tile."""
-    most = {NODE: (MOST_NODE,), MESSAGE: (MOST_NUMBER,), KEY: (MOST_NUMBER, MOST_STAGE, MOST_NUMBER, MOST_NUMBER)}[kind]
+    """Whether a word is a node, a message, a job or a tile."""
+    most = {NODE: (MOST_NODE,), MESSAGE: (MOST_NUMBER,), JOB: (MOST_NUMBER,), KEY: (MOST_NUMBER, MOST_STAGE, MOST_NUMBER, MOST_NUMBER)}[kind]
     parts = word.split(b":") if kind == KEY else [word]
     return len(parts) == len(most) and all(is_number(*it) for it in zip(parts, most))
 
@@ -57,8 +59,8 @@ def is_number(word: bytes, most: int) -> bool:
 
 def no_such_job(found: re.Match[str], at: Situation) -> Blame:
     place, line = line_of(at, int(found["line"]))
-    job = re.search(rb" 0*([1-9][0-9]*):", line)
-    start, length = (job.start() + 1, job.end() - job.start() - 2) if job else (0, 1)
+    job = re.search(rb"(?<= )[0-9]+$" if line.startswith(b"retire ") else rb"(?<= )0*[1-9][0-9]*(?=:)", line)
+    start, length = (job.start(), job.end() - job.start()) if job else (0, 1)
     return Blame([place.text.place(place.offset + start, length)], "There is one job, the program over the picture, and its number is 0.")
 
 

@@ -7,7 +7,7 @@ from .program import Affine, Item, Read
 from .text import Place
 
 WIDE = 16384
-MOST_BINS = MOST_SIDE = 4096
+MOST_BINS = MOST_SIDE = MOST_ENTRIES = 4096
 
 
 class Ends(NamedTuple):
@@ -60,7 +60,7 @@ def ends_of(item: Item, at: Situation) -> list[Ends]:
     if item.kind == "image":
         sides = [(value(it, at), it, word) for it, word in zip(item.extents, ("rows", "columns"))]
         return [Ends(0, high - 1, word, *at_span(it)) for high, it, word in sides if high is not None]
-    names = ("bins", "rows", "columns")[3 - len(item.intervals) :]
+    names = ("entries",) if item.kind == "table" else ("bins", "rows", "columns")[3 - len(item.intervals) :]
     found = [(value(it.low, at), value(it.high, at), it, word) for it, word in zip(item.intervals, names)]
     return [Ends(low, high, word, *at_span(it)) for low, high, it, word in found if low is not None and high is not None]
 
@@ -94,6 +94,37 @@ def domain_too_wide(found: re.Match[str], at: Situation) -> Blame:
         limit = "a picture has at most 4096"
     cure = f"The {ends.counts} of {found['name']} are {ends.low} to {ends.high}{at_values(at)}: {limit}."
     return Blame([at.text().place(ends.start, ends.length)], cure)
+
+
+def empty_table(found: re.Match[str], at: Situation) -> Blame:
+    item, ends = blamed(found["name"], at, lambda it, _: it.high < it.low)
+    if item is None or ends is None:
+        return Blame(declared(found["name"], at), f"The table {found['name']} has no entries: its first index is above its last.")
+    cure = f"The table {found['name']} has indices [{ends.low} .. {ends.high}]{at_values(at)}, which is none: exchange the ends."
+    return Blame([at.text().place(ends.start, ends.length)], cure)
+
+
+def table_too_wide(found: re.Match[str], at: Situation) -> Blame:
+    limit = "ends lie within 16,384 of 0, and there are at most 4,096 entries"
+    is_wrong = lambda it, _: max(abs(it.low), abs(it.high)) > WIDE or it.high - it.low >= MOST_ENTRIES
+    item, ends = blamed(found["name"], at, is_wrong)
+    if item is None or ends is None:
+        return Blame(declared(found["name"], at), f"The table {found['name']} is too wide: {limit}.")
+    cure = f"The entries of {found['name']} are {ends.low} to {ends.high}{at_values(at)}: {limit}."
+    return Blame([at.text().place(ends.start, ends.length)], cure)
+
+
+def table_mismatch(found: re.Match[str], at: Situation) -> Blame:
+    """The declaration, and the line that was handed in for it."""
+    name = found["name"]
+    number = next((k for k, it in enumerate(at.program.tables()) if it.names[0].text == name), None)
+    item, ends = blamed(name, at, lambda it, _: True)
+    lines = at.input.tables
+    places = [at.text().place(ends.start, ends.length)] if ends else declared(name, at)
+    if number is not None and number < len(lines):
+        places.append(lines[number].place(0))
+    has = f" has the indices {ends.low} to {ends.high}{at_values(at)}" if ends else " is declared otherwise"
+    return Blame(places, f"The table {name}{has}: hand in a line of that name with those ends, in the order of the declarations.")
 
 
 def blamed(name: str, at: Situation, is_wrong) -> tuple[Item | None, Ends | None]:

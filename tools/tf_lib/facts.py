@@ -1,11 +1,15 @@
-"""Facts, and the lines of their files. `tilefarm` judges what a line is; what is read here it has taken."""
+"""Facts and retired jobs, and the lines of their files. `tilefarm` judges what a line is; what is read here it has taken."""
 import struct
 from typing import Iterator, NamedTuple
 
 from .text import Text
 
-HEAD = struct.Struct(">32s32sHIIBI")
+HEAD, IDS = struct.Struct(">32s32sHIIBI"), struct.Struct(">32s32s")
+# how a file begins that retires jobs, of which the count and the identities stand before the facts
+RETIRES = b"PTF2"
 SHOWN = 12
+# the identities of a job: of its program, and of all that it is given
+Ids = tuple[bytes, bytes]
 
 
 class Fact(NamedTuple):
@@ -18,6 +22,9 @@ class Fact(NamedTuple):
     col: int
     kind: int
     numbers: tuple[int, ...]
+
+    def ids(self) -> Ids:
+        return self.program, self.input
 
     def record(self) -> bytes:
         """The bytes of a fact file that are this fact."""
@@ -35,9 +42,25 @@ def line_of(facts: list[Fact]) -> bytes:
     return data.hex().encode() + b"\n"
 
 
+def count_at(data: bytes, at: int) -> int:
+    return int.from_bytes(data[at : at + 4], "big")
+
+
+def retired_end(data: bytes) -> int:
+    """Where the retired jobs of a file end, and the count of its facts begins."""
+    return 8 + IDS.size * count_at(data, 4) if data.startswith(RETIRES) else 4
+
+
+def retired_in(line: bytes) -> list[Ids]:
+    """The jobs that a line retires."""
+    data = bytes.fromhex(line.decode())
+    return [IDS.unpack_from(data, at) for at in range(8, retired_end(data), IDS.size)]
+
+
 def facts_of(line: bytes) -> Iterator[Fact]:
     """The facts of a line."""
-    data, at = bytes.fromhex(line.decode()), 8
+    data = bytes.fromhex(line.decode())
+    at = retired_end(data) + 4
     while at < len(data):
         *label, kind, count = HEAD.unpack_from(data, at)
         numbers = struct.unpack_from(form(kind, count), data, at + HEAD.size)
@@ -45,17 +68,48 @@ def facts_of(line: bytes) -> Iterator[Fact]:
         at += HEAD.size + count * (8 if kind else 4)
 
 
-def all_of(texts: list[Text]) -> Iterator[tuple[str, int, Fact]]:
-    """The facts of fact files, each with its file and its line."""
+def part_at(data: bytes, at: int) -> str:
+    """Which of its retired jobs or facts a file has at a byte, in words, where all is well before it; or nothing."""
+    begun = retired_end(data) + 4
+    if 8 <= at < begun - 4:
+        return f"retired job {(at - 8) // IDS.size + 1} of {count_at(data, 4)}"
+    count = count_at(data, begun - 4)
+    for number in range(1, count + 1 if at >= begun else 0):
+        is_whole = begun + HEAD.size <= min(at, len(data))
+        *_, kind, numbers = HEAD.unpack_from(data, begun) if is_whole else (0, 0)
+        begun += HEAD.size + numbers * (8 if kind else 4)
+        if not is_whole or at < begun or begun > len(data):
+            return f"fact {number} of {count}"
+    return ""
+
+
+def lines_of(texts: list[Text]) -> Iterator[tuple[str, bytes]]:
+    """The lines of fact files, each behind its file and its number."""
     for text in texts:
         for number, line in enumerate(text.data.split(b"\n"), 1):
-            for fact in facts_of(line):
-                yield text.name, number, fact
+            yield f"{text.name}:{number}", line
 
 
-def told(found: tuple[str, int, Fact]) -> str:
-    """The line that tells a fact: where it stands, the beginnings of the two identities, and what it says of which tile."""
-    name, line, it = found
+def retiring(texts: list[Text], ids: Ids) -> str | None:
+    """Where fact files retire a job, by the first line that does, if any does."""
+    return next((place for place, line in lines_of(texts) if ids in retired_in(line)), None)
+
+
+def listing(texts: list[Text]) -> str:
+    """The lines that tell what fact files hold: of each line the jobs that it retires, and then its facts."""
+    found = []
+    for place, line in lines_of(texts):
+        found += [f"{place}: {named(it)} retired\n" for it in retired_in(line)]
+        found += [f"{place}: {named(it.ids())} {told(it)}\n" for it in facts_of(line)]
+    return "".join(found)
+
+
+def named(ids: Ids) -> str:
+    """The beginnings of the two identities."""
+    return " ".join(it.hex()[:8] for it in ids)
+
+
+def told(it: Fact) -> str:
+    """What a fact says of which tile."""
     numbers = " ".join(map(str, it.numbers[:SHOWN])) + (f" .. ({len(it.numbers)} numbers)" if len(it.numbers) > SHOWN else "")
-    kind = "partial" if it.kind else "tile"
-    return f"{name}:{line}: {it.program.hex()[:8]} {it.input.hex()[:8]} {kind} {it.stage} {it.row} {it.col}: {numbers}\n"
+    return f"{'partial' if it.kind else 'tile'} {it.stage} {it.row} {it.col}: {numbers}"

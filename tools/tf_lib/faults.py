@@ -21,6 +21,7 @@ TABLE: dict[str, Callable[[re.Match[str], Situation], Blame]] = {
     r"memory": of_input.memory,
     r"farm: 1 SpawnFailed": of_input.farm_spawn_failed,
     r"farm: 3 Close": of_input.farm_close,
+    r"tables: line (?P<line>\d+)": of_input.bad_table,
     r"picture: \d+ (?P<fault>\w+)" + OFFSET: of_input.picture,
     r"facts: line (?P<line>\d+) bad hex": of_facts.bad_hex,
     r"facts: line (?P<line>\d+) \d+ (?P<fault>\w+)" + OFFSET: of_facts.bad_file,
@@ -47,10 +48,13 @@ TABLE: dict[str, Callable[[re.Match[str], Situation], Blame]] = {
     r"bounds: 2 EmptyDomain" + NAME: of_values.empty_domain,
     r"bounds: 3 DomainTooWide" + NAME: of_values.domain_too_wide,
     r"bounds: 4 OutOfBounds" + READ: of_values.out_of_bounds,
+    r"bounds: 6 EmptyTable" + NAME: of_values.empty_table,
+    r"bounds: 7 TableTooWide" + NAME: of_values.table_too_wide,
     r"bind: 2 Planes": of_values.planes,
     r"bind: 3 ExtentMismatch": of_values.extent_mismatch,
     r"bind: 4 OutputShapes": of_values.output_shapes,
     r"bind: 5 TooManyTiles" + NAME: of_values.too_many_tiles,
+    r"bind: 7 TableMismatch" + NAME: of_values.table_mismatch,
 }
 
 

@@ -1,14 +1,46 @@
 """From the user's files to the input of `tilefarm`: the program, a line `%%`, and the picture; or what else a command takes."""
 import sys
-import tempfile
 from dataclasses import dataclass, field
+from shutil import which
+from tempfile import TemporaryDirectory
+from typing import Iterable, NamedTuple, NoReturn
 
-from . import converters, png
-from .netpbm import Header, header_of, picture_of
+from .netpbm import MOST_SIDE, Header, Picture, bits, header_of, picture_of
+from .parser import known_program
+from .program import Item
+from .settings import given_values
+from .tables import Line, lines_of, ordered
 from .text import Refused, Text, content
 from .usage import FACTS, Command
 
 SEPARATOR = b"%%\n"
+PNG = b"\x89PNG\r\n\x1a\n"
+# a PNG of fewer bytes is read here sooner than vips starts
+SMALL = 1 << 16
+
+
+class Wanted(NamedTuple):
+    """What is asked of a picture: how many planes it is to have, if that is said; which page; and how many planes the program names."""
+
+    is_grey: bool = False
+    is_colours: bool = False
+    page: int | None = None
+    declared: int = 0
+
+    def planes(self, picture: Picture) -> Picture:
+        """The picture with the planes that are asked for. What loses nothing is done unasked where the program wants it: one plane of three
+        equal ones, and three equal planes of one."""
+        if self.is_grey or (self.declared == 1 and picture.is_grey_valued()):
+            return picture.grey()
+        return picture.colours() if self.is_colours or self.declared == 3 else picture
+
+    def refuse_whole(self, path: str) -> None:
+        if self.is_grey or self.is_colours or self.page is not None:
+            raise Refused(f"{path}: the picture of a whole input is taken as it stands; give program and picture as two files", 1)
+
+    def refuse_page(self, path: str) -> None:
+        if self.page not in (None, 1):
+            raise Refused(f"{path}: it has no page {self.page}, but 1", 1)
 
 
 @dataclass
@@ -27,10 +59,15 @@ class Section:
 
 @dataclass
 class Input:
-    """The sections of an input by name, and its bytes."""
+    """The sections of an input by name, the lines of tables before its picture, and its bytes."""
 
     sections: dict[str, Section]
     data: bytes
+    tables: list[Line] = field(default_factory=list)
+
+    def last(self) -> bytes:
+        """The last section: the lines of tables, and the picture."""
+        return table_bytes(self.tables) + self.sections["picture"].data
 
     def section(self, name: str) -> Section | None:
         return self.sections.get(name)
@@ -41,25 +78,97 @@ class Input:
         return header_of(picture.data) if picture else None
 
 
-def joined(command: Command, files: list[str], grey: bool, said: list[str]) -> Input:
-    """The input of a command, from its files. What is to be said to the user is added to `said`."""
+def joined(command: Command, files: list[str], wanted: Wanted, said: list[str], tables: list[str], words: Iterable[str] = ()) -> Input:
+    """The input of a command, from its files and those of tables. What is to be said to the user is added to `said`. A plan needs no
+    picture, only its sides, which the values among the words may give."""
+    if command.name == "plan" and len(files) == 1 and files[0] != "-" and known_program(content(files[0])):
+        return planned(files[0], given_values(words), tables)
     if len(files) == 1 and len(command.files) > 1:
+        wanted.refuse_whole(files[0])
+        if tables:
+            refuse_tables()
         return whole_input(command, files[0])
     takes_more = FACTS in command.files and len(files) > len(command.files)
     if len(files) != len(command.files) and not takes_more:
-        wanted = " ".join(f"{it.upper()}{'...' if it == FACTS else ''}" for it in command.files)
-        raise Refused(f"tf {command.name} takes {wanted}, and got {len(files)} files", 1)
-    is_parted = len(command.sections) > 1
-    given = {kind: section(kind, path, grey, is_parted, said) for kind, path in zip(command.files, files)}
+        words = " ".join(f"{it.upper()}{'...' if it == FACTS else ''}" for it in command.files)
+        raise Refused(f"tf {command.name} takes {words}, and got {len(files)} files", 1)
+    refuse_exchanged(command, files)
+    is_parted, given = len(command.sections) > 1, {}
+    for kind, path in zip(command.files, files):
+        given[kind] = picture_section(path, wanted, said) if kind == "picture" else section(kind, path, is_parted)
+        if kind == "program":
+            wanted = wanted._replace(declared=planes_of(given[kind].data))
     for path in files[len(command.files) :]:
-        append(given[FACTS], section(FACTS, path, grey, is_parted, said))
+        append(given[FACTS], section(FACTS, path, is_parted))
     sections = {kind: given[kind] for kind in command.sections}
-    return Input(sections, SEPARATOR.join(it.data for it in sections.values()))
+    lines = handed_in(given.get("program"), tables)
+    parts = [table_bytes(lines) * (kind == "picture") + it.data for kind, it in sections.items()]
+    return Input(sections, SEPARATOR.join(parts), lines)
 
 
-def section(kind: str, path: str, grey: bool, is_parted: bool, said: list[str]) -> Section:
-    if kind == "picture":
-        return picture_section(path, grey, said)
+def handed_in(program: Section | None, tables: list[str]) -> list[Line]:
+    """The lines of the tables' files, in the order in which the program declares them; as they come, where it is no program."""
+    if program is None:
+        return []
+    given = read_lines(tables)
+    known = known_program(program.data)
+    return ordered(known, given) if known else given
+
+
+def read_lines(tables: list[str]) -> list[Line]:
+    """The lines of the tables' files, as they come."""
+    return [line for path in tables for line in lines_of(path, read_file(path))]
+
+
+def refuse_tables() -> NoReturn:
+    """Refuses tables beside a whole input."""
+    raise Refused("--table goes with a program and a picture in files of their own: a whole input has its tables before the picture", 1)
+
+
+def table_bytes(lines: list[Line]) -> bytes:
+    return b"".join(it.data + b"\n" for it in lines)
+
+
+def planned(path: str, values: dict[str, int], tables: list[str]) -> Input:
+    """A program with an empty picture of the sides that it asks for."""
+    program = section("program", path, True)
+    found = known_program(program.data)
+    item = next((it for it in found.items if it.kind == "image"), None) if found else None
+    sides = [it.value(values) if item and all(name in values for _, name in it.terms if name) else 0 for it in item.extents] if item else [1, 1]
+    if 0 in sides:
+        raise Refused(f"without a picture plan wants the values of its sides: tf plan {path} {wants(item)}", 1)
+    if not all(0 < it <= MOST_SIDE for it in sides):
+        raise Refused(f"a picture of {sides[0]} by {sides[1]} points is none: a side has 1 to {MOST_SIDE}", 1)
+    parts = 3 if item and len(item.names) == 3 else 1
+    raster = bytes(sides[0] * sides[1] * parts)
+    picture = Picture(sides[1], sides[0], parts, 1, raster).raw()
+    sections = {"program": program, "picture": Section(Text("no picture", picture), picture, is_own=False)}
+    lines = handed_in(program, tables)
+    return Input(sections, SEPARATOR.join((program.data, table_bytes(lines) + picture)), lines)
+
+
+def wants(item: Item) -> str:
+    """The words that give a picture's sides."""
+    return " ".join(dict.fromkeys(f"{name}=100" for it in item.extents for _, name in it.terms if name))
+
+
+def refuse_exchanged(command: Command, files: list[str]) -> None:
+    """Refuses a picture in the place of the program."""
+    if command.files[:1] == ("program",) and files[0] != "-" and is_picture(content(files[0])):
+        raise Refused(f"{files[0]} is a picture, and the program is wanted here: exchange the two, as tf {command.name} {files[1]} {files[0]}", 1)
+
+
+def is_picture(data: bytes) -> bool:
+    return is_foreign(data) or header_of(data) is not None
+
+
+def planes_of(text: bytes) -> int:
+    """How many planes a program's picture has, or none where that is not to be known."""
+    found = known_program(text)
+    return next((len(it.names) for it in found.items if it.kind == "image"), 0) if found else 0
+
+
+def section(kind: str, path: str, is_parted: bool) -> Section:
     data = ended(read_file(path))
     if is_parted:
         refuse_separator(path, data, "the program's text" if kind == "program" else "this text")
@@ -90,34 +199,51 @@ def refuse_separator(path: str, data: bytes, what: str) -> None:
                       "Take the line out, or give this file alone if the picture stands behind it.")
 
 
-def picture_section(path: str, grey: bool, said: list[str]) -> Section:
-    """A picture as PGM or PPM: as it is where it is one, else converted."""
+def picture_section(path: str, wanted: Wanted, said: list[str]) -> Section:
+    """A picture as PGM or PPM: as it is where it is one and nothing else is asked for, else converted."""
     data = read_file(path)
-    if data.startswith(png.SIGNATURE):
-        picture, words = png.read(data, path)
-    elif data[:1] == b"P" and data[1:2] in (b"2", b"3", b"5", b"6"):
-        return own_picture(path, data, grey)
-    elif is_foreign(data):
-        with tempfile.TemporaryDirectory(prefix="tf-") as room:
-            picture, words = converters.read(path, room)
-    else:
-        return Section(Text(path, data), data)
+    if not is_foreign(data):
+        return own_picture(path, data, wanted)
+    picture, words = converted(path, data, wanted.page)
     said += words
-    return Section(Text(path, data), (picture.grey() if grey else picture).raw(), is_own=False)
+    return Section(Text(path, data), wanted.planes(picture).raw(), is_own=False)
 
 
-def own_picture(path: str, data: bytes, grey: bool) -> Section:
-    """A PGM or PPM picture as it stands, and one in colours made grey where that is asked."""
-    found = picture_of(data) if grey else None
-    if found is None or found[0].parts == 1:
+def own_picture(path: str, data: bytes, wanted: Wanted) -> Section:
+    """A PGM or PPM picture as it stands, or with other planes where that is asked."""
+    wanted.refuse_page(path)
+    found = picture_of(data) if wanted.is_grey or wanted.is_colours else None
+    made = wanted.planes(found[0]) if found else None
+    if not made or made is found[0]:
         return Section(Text(path, data), data)
-    return Section(Text(path, data), found[0].grey().raw(), is_own=False)
+    return Section(Text(path, data), made.raw(), is_own=False)
+
+
+def converted(path: str, data: bytes, page: int | None) -> tuple[Picture, list[str]]:
+    """A picture of another format, and what is said of it. Small ones of PNG, and all where vips is not there, are read here."""
+    if data[:2] in (b"P1", b"P4"):
+        return bits(data, path), []
+    if data[:2] in (b"PF", b"Pf"):
+        raise Refused(f"{path}: its samples are floating point (PFM); tf takes whole numbers of 8 or 16 bits: scale them first")
+    is_png = data.startswith(PNG)
+    if is_png and page not in (None, 1):
+        raise Refused(f"{path}: it has no page {page}, but 1", 1)
+    if is_png and (len(data) < SMALL or not which("vips")):
+        from . import png
+
+        return png.read(data, path)
+    from . import converters
+
+    with TemporaryDirectory(prefix="tf-") as room:
+        return converters.read(data, path, room, page)
 
 
 def is_foreign(data: bytes) -> bool:
-    """Whether the bytes look like a picture of another format: JPEG, TIFF, GIF, BMP, WebP or other Netpbm."""
-    starts = (b"\xff\xd8\xff", b"II*\0", b"MM\0*", b"GIF8", b"BM", b"RIFF", b"P1", b"P4", b"P7", b"PF", b"Pf")
-    return data.startswith(starts)
+    """Whether the bytes look like a picture of another format: PNG, JPEG, TIFF, GIF, BMP, WebP, HEIF, JPEG 2000, JPEG XL, OpenEXR, Radiance
+    or other Netpbm."""
+    starts = (PNG, b"\xff\xd8\xff", b"II*\0", b"MM\0*", b"II+\0", b"MM\0+", b"GIF8", b"BM", b"RIFF", b"P1", b"P4", b"P7", b"PF", b"Pf",
+              b"\0\0\0\x0cjP", b"\xff\x4f\xff\x51", b"\xff\x0a", b"\0\0\0\x0cJXL", b"v/1\x01", b"#?")
+    return data.startswith(starts) or data[4:8] == b"ftyp"
 
 
 def whole_input(command: Command, path: str) -> Input:
@@ -130,4 +256,19 @@ def whole_input(command: Command, path: str) -> Input:
         if found < 0:
             break
         at = end + len(SEPARATOR)
-    return Input(sections, data)
+    return Input(sections, data, tables_before(sections))
+
+
+def tables_before(sections: dict[str, Section]) -> list[Line]:
+    """The lines of tables at the head of the last section, as many as the program declares. The picture begins behind them."""
+    program = known_program(sections["program"].data) if "picture" in sections else None
+    found = []
+    for item in program.tables() if program else []:
+        picture = sections["picture"]
+        line, end, rest = picture.data.partition(b"\n")
+        if not end:
+            break
+        text = picture.text
+        found.append(Line(item.names[0].text, line, Text(text.name, line, text.first, text.whole)))
+        sections["picture"] = Section(Text(text.name, rest, text.first + len(line) + 1, text.whole), rest)
+    return found

@@ -9,6 +9,7 @@ from typing import Iterator, NamedTuple
 from .facts import Fact
 from .joining import SEPARATOR, Input
 from .program import Program
+from .rewriting import affine, fresh, interval, is_result, names_of, without
 from .running import run
 from .text import Refused
 
@@ -23,17 +24,13 @@ class Span(NamedTuple):
     most: int
 
     def __str__(self) -> str:
-        return f"[{affine(self.least)} .. {affine(self.most)}]"
+        return interval(self.least, self.most)
 
     def count(self) -> int:
         return self.most - self.least + 1
 
     def parts(self, side: int) -> list["Span"]:
         return [Span(at, min(at + side - 1, self.most)) for at in range(self.least, self.most + 1, side)]
-
-
-def affine(value: int) -> str:
-    return f"-{-value}" if value < 0 else str(value)
 
 
 class Stage(NamedTuple):
@@ -65,18 +62,21 @@ class Maker:
         self.values = [it for it in words if "=" in it and not it.startswith("--")]
         self.sides = side_of("--rows", words), side_of("--cols", words)
         self.text = given.sections["program"].data
-        self.plain = self.without("output", "accum")
-        self.taken = {*program.kinds(), *(it.text for item in program.items for it in item.variables)}
+        self.plain, self.taken = without(self.text, program, is_result), names_of(program)
 
     def facts(self, check: str, name: str | None, part: tuple[int, int]) -> list[Fact]:
         """True facts of the tiles that are asked for: of a stage, or of all that the result is made of; each N-th from the K-th on."""
+        tiles = self.tiles_of(check, name)[part[0] - 1 :: part[1]]
+        program, given = (bytes.fromhex(it.split()[1]) for it in check.splitlines()[:2])
+        return [Fact(program, given, *tile.label(), int(tile.stage.kind == "accum"), numbers) for tile, numbers in self.numbers(tiles)]
+
+    def tiles_of(self, check: str, name: str | None = None) -> list[Tile]:
+        """The tiles of a stage, or of all that the result is made of, in their order."""
         stages = {it.name: it for it in stages_of(check)}
         if name is not None and name not in stages:
             raise Refused(f"there is no function and no accumulator {name}: there are {', '.join(stages)}", 1)
         wanted = [stages[it] for it in ([name] if name else self.wanted())]
-        tiles = sorted((tile for stage in wanted for tile in self.tiles(stage)), key=Tile.label)[part[0] - 1 :: part[1]]
-        program, given = (bytes.fromhex(it.split()[1]) for it in check.splitlines()[:2])
-        return [Fact(program, given, *tile.label(), int(tile.stage.kind == "accum"), numbers) for tile, numbers in self.numbers(tiles)]
+        return sorted((tile for stage in wanted for tile in self.tiles(stage)), key=Tile.label)
 
     def wanted(self) -> list[str]:
         """The stages that the result is made of: functions of the output, and accumulators."""
@@ -118,17 +118,7 @@ class Maker:
 
     def fresh(self, name: str) -> str:
         """A name that the program does not have."""
-        while name in self.taken:
-            name += "_"
-        return name
-
-    def without(self, *kinds: str) -> bytes:
-        """The program's text without the items of these kinds, which nothing reads."""
-        text, at = b"", 0
-        for item in self.program.items:
-            text += self.text[at : item.span.start] + (b"" if item.kind in kinds else self.text[item.span.start : item.span.end])
-            at = item.span.end
-        return text + self.text[at:]
+        return fresh(name, self.taken)
 
     def ran(self, probes: list[str]) -> Iterator[tuple[int, ...]]:
         """What the accumulators gather, so many of them a run as go into a program."""
@@ -137,7 +127,7 @@ class Maker:
         while rest:
             if not count:
                 raise Refused("the program is at the limits of programs, and no accumulator more fits: tf can make no facts of it", 3)
-            ended = run([*EVAL, *self.values], self.plain + self.named(rest[:count]) + SEPARATOR + self.given.sections["picture"].data)
+            ended = run([*EVAL, *self.values], self.plain + self.named(rest[:count]) + SEPARATOR + self.given.last())
             if ended.status:
                 count = count // 2 if b"TooMany" in ended.written or b"TooLong" in ended.written else self.refuse(ended.written)
                 continue

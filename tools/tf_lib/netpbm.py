@@ -5,9 +5,16 @@ from dataclasses import dataclass
 from typing import NamedTuple
 import sys
 
+from . import lanes
+from .text import Refused
+
 GAP = rb"(?:[ \t\r\n]|#[^\r\n]*[\r\n])+"
 HEADER = re.compile(rb"P([2356])" + GAP + rb"([0-9]+)" + GAP + rb"([0-9]+)" + GAP + rb"([0-9]+)[ \t\r\n]")
 MOST_SIDE = 4096
+# as many bytes as hold a header with its comments
+HEAD = 1 << 16
+# the eight points of each byte of a bitmap
+OF_BYTE = [bytes(0 if byte >> at & 1 else 255 for at in range(7, -1, -1)) for byte in range(256)]
 
 
 class Header(NamedTuple):
@@ -75,10 +82,23 @@ class Picture:
         """One plane of three: 299 parts of red, 587 of green and 114 of blue in a thousand, rounded."""
         if self.parts == 1:
             return self
-        every = self.samples()
-        points = zip(every[0::3], every[1::3], every[2::3])
-        return Picture(self.cols, self.rows, 1, self.most,
-                       bytes_of([(299 * r + 587 * g + 114 * b + 500) // 1000 for r, g, b in points], self.most))
+        return Picture(self.cols, self.rows, 1, self.most, lanes.grey(self.raster, 1 if self.most < 256 else 2))
+
+
+    def colours(self) -> "Picture":
+        """Three planes of one, each the same."""
+        if self.parts == 3:
+            return self
+        found, width = bytearray(3 * len(self.raster)), 1 if self.most < 256 else 2
+        for at in range(3 * width):
+            found[at :: 3 * width] = self.raster[at % width :: width]
+        return Picture(self.cols, self.rows, 3, self.most, bytes(found))
+
+    def is_grey_valued(self) -> bool:
+        """Whether it has three planes that are the same."""
+        width = 1 if self.most < 256 else 2
+        planes = ([self.raster[part * width + at :: 3 * width] for at in range(width)] for part in range(3))
+        return self.parts == 3 and next(planes) == next(planes) == next(planes)
 
 
 def bytes_of(samples: list[int], most: int) -> bytes:
@@ -89,6 +109,25 @@ def bytes_of(samples: list[int], most: int) -> bytes:
     if sys.byteorder == "little":
         found.byteswap()
     return found.tobytes()
+
+
+def bits(data: bytes, name: str) -> Picture:
+    """The picture of a bitmap (PBM), plain or raw: 1 is black and 0 is white there, which is 0 and 255 here."""
+    head = re.match(rb"P([14])" + GAP + rb"([0-9]+)" + GAP + rb"([0-9]+)[ \t\r\n]", data)
+    cols, rows = (int(head[2]), int(head[3])) if head else (0, 0)
+    if not head or not (0 < cols <= MOST_SIDE and 0 < rows <= MOST_SIDE):
+        raise Refused(f"{name}: a bitmap (PBM) whose sides are not two numbers from 1 to {MOST_SIDE}")
+    if head[1] == b"1":
+        samples = re.sub(rb"#[^\r\n]*|[ \t\r\n]", b"", data[head.end() :])
+        if samples.strip(b"01") or len(samples) != cols * rows:
+            raise Refused(f"{name}: a plain bitmap of {cols} by {rows} points has as many digits 0 and 1, and no more")
+        return Picture(cols, rows, 1, 255, samples.translate(bytes(255 * (it != ord("1")) for it in range(256))))
+    stride = (cols + 7) // 8
+    packed = data[head.end() :]
+    if len(packed) != stride * rows:
+        raise Refused(f"{name}: a raw bitmap of {cols} by {rows} points has {stride * rows} bytes behind its head, and this one {len(packed)}")
+    whole = b"".join(OF_BYTE[it] for it in packed)
+    return Picture(cols, rows, 1, 255, b"".join(whole[at : at + cols] for at in range(0, len(whole), 8 * stride)))
 
 
 def picture_of(data: bytes) -> tuple[Picture, bytes] | None:

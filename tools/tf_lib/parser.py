@@ -81,7 +81,7 @@ class Parser:
         return Program(items)
 
     def any_item(self) -> Item:
-        word = self.take("param", "image", "func", "accum", "output")
+        word = self.take("param", "image", "table", "func", "accum", "output")
         self.item = Item(word.text, Span(word.offset, word.end))
         getattr(self, f"{word.text}_item")()
         self.item.span = self.span_from(word.offset)
@@ -98,6 +98,11 @@ class Parser:
         self.take(",")
         self.item.extents.append(self.affine())
         self.take(")")
+        self.take(";")
+
+    def table_item(self) -> None:
+        self.item.names = [self.name()]
+        self.item.intervals.append(self.interval())
         self.take(";")
 
     def func_item(self) -> None:
@@ -258,9 +263,21 @@ class Parser:
         self.take(")")
 
     def named(self, name: Token) -> None:
-        if not self.takes("("):
+        if self.takes("["):
+            self.entry(name)
+        elif self.takes("("):
+            self.read(name)
+        else:
             self.item.uses.append(Use("value", name))
-            return
+
+    def entry(self, name: Token) -> None:
+        """The entry of a table, behind the bracket."""
+        self.item.uses.append(Use("table", name))
+        self.expression()
+        self.take("]")
+
+    def read(self, name: Token) -> None:
+        """A read of a stage, behind the parenthesis."""
         self.item.uses.append(Use("stage", name))
         first = self.index("row")
         self.take(",")

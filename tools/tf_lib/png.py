@@ -1,16 +1,21 @@
 """PNG pictures, read and written with zlib alone (the format is ISO/IEC 15948)."""
+import os
 import struct
 import zlib
-from itertools import accumulate
-from typing import Iterator, NamedTuple
+from typing import BinaryIO, Iterable, Iterator, NamedTuple
 
-from .netpbm import MOST_SIDE, Picture, bytes_of
-from .text import Refused
+from . import lanes, unfiltering
+from .netpbm import MOST_SIDE, Picture
+from .text import Refused, TooLarge
 
 SIGNATURE = b"\x89PNG\r\n\x1a\n"
 GREY, COLOURS, PALETTE, GREY_ALPHA, COLOURS_ALPHA = 0, 2, 3, 4, 6
 CHANNELS = {GREY: 1, COLOURS: 3, PALETTE: 1, GREY_ALPHA: 2, COLOURS_ALPHA: 4}
 DEPTHS = {GREY: (1, 2, 4, 8, 16), COLOURS: (8, 16), PALETTE: (1, 2, 4, 8), GREY_ALPHA: (8, 16), COLOURS_ALPHA: (8, 16)}
+# a picture of more bytes is written soon rather than short
+LARGE = 1 << 20
+# the last part of a stream of zlib, which holds nothing
+END = b"\x03\x00"
 # the seven passes of an interlaced picture: first row and column, and the steps
 PASSES = ((0, 0, 8, 8), (0, 4, 8, 8), (4, 0, 8, 4), (0, 2, 4, 4), (2, 0, 4, 2), (0, 1, 2, 2), (1, 0, 2, 1))
 
@@ -44,11 +49,9 @@ def read(data: bytes, name: str) -> tuple[Picture, list[str]]:
         raise Refused(f"{name}: no PNG picture")
     parts = list(chunks(data, name))
     head = head_of(parts, name)
-    samples = bytearray(head.rows * head.cols * head.channels * (2 if head.depth == 16 else 1))
-    rows = unpacked(parts, head, name)
-    for part in head.passes():
-        place(samples, head, part, rows)
-    return finished(bytes(samples), head, dict(parts), name)
+    passes = unpacked(parts, head, name)
+    samples = placed(passes, head) if head.interlaced or head.depth < 8 else next(passes)
+    return finished(samples, head, dict(parts), name)
 
 
 def chunks(data: bytes, name: str) -> Iterator[tuple[bytes, bytes]]:
@@ -74,12 +77,12 @@ def head_of(parts: list[tuple[bytes, bytes]], name: str) -> Head:
     if head.depth not in DEPTHS.get(head.kind, ()) or head.packing or head.filters or head.interlaced > 1:
         raise Refused(f"{name}: a PNG of kind {head.kind} with {head.depth} bits, which does not exist")
     if not (0 < head.cols <= MOST_SIDE and 0 < head.rows <= MOST_SIDE):
-        raise Refused(f"{name}: {head.cols} by {head.rows} points; a side has 1 to {MOST_SIDE}: make it smaller first")
+        raise TooLarge(f"{name}: {head.cols} by {head.rows} points; a side has 1 to {MOST_SIDE}: make it smaller first")
     return head
 
 
 def unpacked(parts: list[tuple[bytes, bytes]], head: Head, name: str) -> Iterator[bytes]:
-    """The rows of all passes, with their filters undone."""
+    """The rows of each pass, with their filters undone."""
     sizes = [(len(range(r, head.rows, dr)), head.stride(len(range(c, head.cols, dc)))) for r, c, dr, dc in head.passes()]
     length = sum(rows * (stride + 1) for rows, stride in sizes)
     try:
@@ -90,59 +93,43 @@ def unpacked(parts: list[tuple[bytes, bytes]], head: Head, name: str) -> Iterato
         raise Refused(f"{name}: the PNG has fewer rows than it says")
     at, step = 0, max(1, head.channels * head.depth // 8)
     for rows, stride in sizes:
-        prior = bytes(stride)
-        for _ in range(rows):
-            prior = unfiltered(data[at], data[at + 1 : at + 1 + stride], prior, step, name)
-            at += stride + 1
-            yield prior
+        end = at + rows * (stride + 1)
+        refuse_filters(data[at : end : stride + 1], name)
+        yield pass_of(data[at:end], stride, step)
+        at = end
 
 
-def unfiltered(kind: int, row: bytes, prior: bytes, step: int, name: str) -> bytes:
-    """A row with its filter undone; the byte of the point before stands `step` bytes to the left."""
-    if kind == 0:
-        return row
-    if kind == 1:
-        found = bytearray(row)
-        for at in range(step):
-            found[at::step] = bytes(accumulate(row[at::step], lambda left, it: (left + it) & 255))
-        return bytes(found)
-    if kind == 2:
-        return bytes([(it + above) & 255 for it, above in zip(row, prior)])
-    if kind in (3, 4):
-        return averaged(row, prior, step) if kind == 3 else predicted(row, prior, step)
-    raise Refused(f"{name}: the PNG has a row of filter {kind}, which does not exist")
+def refuse_filters(kinds: bytes, name: str) -> None:
+    """Refuses rows of filters that do not exist."""
+    if max(kinds) > unfiltering.PAETH:
+        raise Refused(f"{name}: the PNG has a row of filter {max(kinds)}, which does not exist")
 
 
-def averaged(row: bytes, prior: bytes, step: int) -> bytes:
-    found = bytearray(step) + bytearray(row)
-    for at, (it, above) in enumerate(zip(row, prior)):
-        found[at + step] = (it + ((found[at] + above) >> 1)) & 255
-    return bytes(found[step:])
+def pass_of(data: bytes, stride: int, step: int) -> bytes:
+    """The rows of a pass, with their filters undone."""
+    found, prior, size = [], bytes(stride), unfiltering.BLOCK * (stride + 1)
+    for at in range(0, len(data), size):
+        found.append(unfiltering.undone(data[at : at + size], stride, step, prior))
+        prior = found[-1][-stride:]
+    return b"".join(found)
 
 
-def predicted(row: bytes, prior: bytes, step: int) -> bytes:
-    """Paeth's filter: the nearest of left, above and corner to left + above - corner."""
-    found = bytearray(step) + bytearray(row)
-    corners = bytes(step) + prior
-    for at, (it, above, corner) in enumerate(zip(row, prior, corners)):
-        left = found[at]
-        to_left, to_above = abs(above - corner), abs(left - corner)
-        to_corner = abs(left + above - 2 * corner)
-        if to_left <= to_above and to_left <= to_corner:
-            best = left
-        else:
-            best = above if to_above <= to_corner else corner
-        found[at + step] = (it + best) & 255
-    return bytes(found[step:])
+def placed(passes: Iterator[bytes], head: Head) -> bytes:
+    """The samples of all passes where they belong."""
+    samples = bytearray(head.rows * head.cols * head.channels * (2 if head.depth == 16 else 1))
+    for part, rows in zip(head.passes(), passes):
+        place(samples, head, part, rows)
+    return bytes(samples)
 
 
-def place(samples: bytearray, head: Head, part: tuple[int, int, int, int], rows: Iterator[bytes]) -> None:
+def place(samples: bytearray, head: Head, part: tuple[int, int, int, int], rows: bytes) -> None:
     """Puts the rows of a pass where they belong."""
     first_row, first_col, row_step, col_step = part
     width = head.channels * (2 if head.depth == 16 else 1)
     cols = len(range(first_col, head.cols, col_step))
-    for at in range(first_row, head.rows, row_step):
-        row = whole_bytes(next(rows), head, cols)
+    stride = head.stride(cols)
+    for number, at in enumerate(range(first_row, head.rows, row_step)):
+        row = whole_bytes(rows[number * stride : (number + 1) * stride], head, cols)
         start, end = at * head.cols * width, (at + 1) * head.cols * width
         for byte in range(width):
             samples[start + first_col * width + byte : end : col_step * width] = row[byte::width]
@@ -192,13 +179,54 @@ def of_palette(samples: bytes, head: Head, palette: bytes, name: str) -> Picture
 
 def write(picture: Picture) -> tuple[bytes, list[str]]:
     """The picture as PNG, of 8 bits where its greatest sample is below 256 and of 16 otherwise, and what is said of it."""
-    most = 255 if picture.most < 256 else 65535
-    said = [] if most == picture.most else [f"samples from 0 to {picture.most} are scaled to 0 to {most}, which PNG has"]
+    most, said = depth_of(picture.most)
     raster, stride = picture.scaled(most).raster, picture.cols * picture.parts * (1 if most == 255 else 2)
+    body = smallest(raster, stride) if len(raster) < LARGE else soon(raster, stride)
+    return SIGNATURE + b"".join(map(chunk, (b"IHDR", b"IDAT", b"IEND"), (header(picture), body, b""))), said
+
+
+def depth_of(most: int) -> tuple[int, list[str]]:
+    """The greatest sample of a PNG for a picture's, and what is said where that is another."""
+    found = 255 if most < 256 else 65535
+    return found, [] if found == most else [f"samples from 0 to {most} are scaled to 0 to {found}, which PNG has"]
+
+
+def header(picture: Picture) -> bytes:
     kind = GREY if picture.parts == 1 else COLOURS
-    head = struct.pack(">IIBBBBB", picture.cols, picture.rows, 8 if most == 255 else 16, kind, 0, 0, 0)
-    body = min((zlib.compress(rows, 9) for rows in (plain_rows(raster, stride), upper_rows(raster, stride))), key=len)
-    return SIGNATURE + b"".join(map(chunk, (b"IHDR", b"IDAT", b"IEND"), (head, body, b""))), said
+    return struct.pack(">IIBBBBB", picture.cols, picture.rows, 8 if picture.most < 256 else 16, kind, 0, 0, 0)
+
+
+def write_bands(first: Picture, bands: Iterable[bytes], file: BinaryIO) -> None:
+    """Writes a picture that comes in bands of whole rows, of which one at a time is held. `first` has its sides, and no samples."""
+    stride, packer = first.cols * first.parts * (1 if first.most < 256 else 2), zlib.compressobj(1)
+    file.write(SIGNATURE + chunk(b"IHDR", header(first)))
+    for band in bands:
+        if data := packer.compress(plain_rows(band, stride)):
+            file.write(chunk(b"IDAT", data))
+    file.write(chunk(b"IDAT", packer.flush()) + chunk(b"IEND", b""))
+
+
+def smallest(raster: bytes, stride: int) -> bytes:
+    """The rows as short as they get."""
+    return min((zlib.compress(rows, 9) for rows in (plain_rows(raster, stride), upper_rows(raster, stride))), key=len)
+
+
+def soon(raster: bytes, stride: int) -> bytes:
+    """The rows of a large picture, with what makes a strip of its middle shorter. Strips are compressed side by side, each for itself."""
+    from concurrent.futures import ThreadPoolExecutor
+
+    middle = len(raster) // stride // 2 * stride
+    strip = raster[middle : middle + 32 * stride]
+    rows = min((plain_rows, upper_rows), key=lambda it: len(zlib.compress(it(strip, stride), 1)))(raster, stride)
+    with ThreadPoolExecutor(os.cpu_count()) as pool:
+        parts = pool.map(deflated, (rows[at : at + LARGE] for at in range(0, len(rows), LARGE)))
+        return b"".join((b"\x78\x01", *parts, END, struct.pack(">I", zlib.adler32(rows))))
+
+
+def deflated(strip: bytes) -> bytes:
+    """A part of a stream of zlib that takes nothing from what stands before it, and ends with a whole byte."""
+    made = zlib.compressobj(1, zlib.DEFLATED, -zlib.MAX_WBITS)
+    return made.compress(strip) + made.flush(zlib.Z_FULL_FLUSH)
 
 
 def plain_rows(raster: bytes, stride: int) -> bytes:
@@ -207,8 +235,9 @@ def plain_rows(raster: bytes, stride: int) -> bytes:
 
 def upper_rows(raster: bytes, stride: int) -> bytes:
     """Each row as its difference from the row above."""
-    differences = bytes_of([(it - above) & 255 for it, above in zip(raster, bytes(stride) + raster)], 255)
-    return b"".join(b"\2" + differences[at : at + stride] for at in range(0, len(raster), stride))
+    rows = [raster[at : at + stride] for at in range(0, len(raster), stride)]
+    numbers = [0, *(int.from_bytes(it, "little") for it in rows)]
+    return b"".join(b"\2" + lanes.less(it, above, stride).to_bytes(stride, "little") for above, it in zip(numbers, numbers[1:]))
 
 
 def chunk(name: bytes, data: bytes) -> bytes:

@@ -17,7 +17,7 @@ class Span(NamedTuple):
 
 
 class Use(NamedTuple):
-    """A name in its place, and what the place wants: param, row, column, variable, value, stage or function."""
+    """A name in its place, and what the place wants: param, row, column, variable, value, stage, function or table."""
 
     wants: str
     token: Token
@@ -106,6 +106,10 @@ class Program:
     def stages(self) -> list[tuple[str, Item]]:
         """Planes, functions and accumulators by name, in the order of their numbers."""
         return [(it.text, item) for item in self.items if item.kind in ("image", "func", "accum") for it in item.names]
+
+    def tables(self) -> list[Item]:
+        """The tables, in the order of their numbers."""
+        return [item for item in self.items if item.kind == "table"]
 
     def output(self) -> Item | None:
         return next((item for item in self.items if item.kind == "output"), None)

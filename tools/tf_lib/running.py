@@ -1,4 +1,5 @@
 """Running `tilefarm`: where it is, how long it takes, and how much memory it holds."""
+import functools
 import os
 import shutil
 import subprocess
@@ -7,10 +8,14 @@ import tempfile
 import time
 from typing import NamedTuple
 
+from .output import tell
+from .progress import doing
 from .text import Refused
 
 TOP = os.path.dirname(os.path.dirname(os.path.dirname(os.path.realpath(__file__))))
 BUILT = f"{TOP}/crates/tilefarm/out/tilefarm"
+# what `make quick` leaves: the same text, of which nothing is proved
+QUICK = f"{TOP}/out/quick/tilefarm"
 # A small process of its own runs the program: what a process has held before it begins another counts as the other's.
 MEASURE = """import os, resource, subprocess, sys
 ran = subprocess.run(sys.argv[2:]).returncode
@@ -34,23 +39,35 @@ class Ended(NamedTuple):
     is_floor: bool = False
 
 
+@functools.cache
 def program() -> str:
-    """The program: the one that TILEFARM names, else the built one, else one on the path."""
+    """The program: the one that TILEFARM names, else the built one, else one on the path, else what `make quick` made, with a word."""
     named = os.environ.get("TILEFARM")
-    for it in [named] if named else [BUILT, shutil.which("tilefarm")]:
-        if it and os.access(it, os.X_OK) and os.path.isfile(it):
-            return it
-    if named:
+    found = next(filter(is_program, [named] if named else [BUILT, shutil.which("tilefarm"), QUICK]), None)
+    if found == QUICK and not named:
+        tell(f"{os.path.relpath(QUICK)} answers, which is not proved: it stops at an index out of bounds, an overflow or a failed unwrap, "
+             "where a proof shows that there is none (`make build` makes the proved program)")
+    if named and not found:
         raise Refused(f"TILEFARM names {named}, which is no program")
-    raise Refused("there is no program tilefarm yet: `make build` builds it, and TILEFARM can name another one")
+    return found or none_is_there()
 
 
-def run(words: list[str], data: bytes, memory: bool = False) -> Ended:
-    """Runs the program with these words on these bytes."""
+def none_is_there() -> str:
+    raise Refused("there is no program tilefarm yet: `make quick` makes one without proofs in some three minutes, `make build` the "
+                  "proved one, and TILEFARM can name another")
+
+
+def is_program(path: str | None) -> bool:
+    return bool(path) and os.path.isfile(path) and os.access(path, os.X_OK)
+
+
+def run(words: list[str], data: bytes, memory: bool = False, length: int = 0) -> Ended:
+    """Runs the program with these words on these bytes. `length` is how many bytes it is to write, where that is known."""
     with tempfile.TemporaryFile() as stdin, tempfile.TemporaryFile() as stdout:
         stdin.write(data)
         stdin.seek(0)
-        return measured([program(), *words], stdin, stdout) if memory else plain([program(), *words], stdin, stdout)
+        with doing(f"tilefarm {words[0]}", lambda: os.fstat(stdout.fileno()).st_size / length if length else None):
+            return measured([program(), *words], stdin, stdout) if memory else plain([program(), *words], stdin, stdout)
 
 
 def plain(words: list[str], stdin, stdout) -> Ended:

@@ -1,4 +1,6 @@
 """The values of parameters: those that are given, and those that the picture gives."""
+from typing import Iterable
+
 from .netpbm import Header
 from .program import Program
 
@@ -16,7 +18,7 @@ def settings(program: Program, given: dict[str, int], head: Header | None) -> di
     return found
 
 
-def given_values(words: list[str]) -> dict[str, int]:
+def given_values(words: Iterable[str]) -> dict[str, int]:
     """The values among the words; the first of a name counts."""
     found: dict[str, int] = {}
     for word in words:

@@ -2,6 +2,7 @@
 import re
 from dataclasses import dataclass, field
 
+from .demands import Area, Ends
 from .program import Program
 
 STAGE = re.compile(r"stage (\d+) (plane|func|accum) (\S+) (-?\d+)\.\.(-?\d+) (-?\d+)\.\.(-?\d+) tiles (\d+)")
@@ -30,6 +31,17 @@ class Stage:
             return f"inlined, {points}"
         tiles = "1 tile" if self.tiles == 1 else f"{self.tiles} tiles"
         return f"{points}, {tiles}, cost {self.cost}"
+
+
+def kinds_of(check: str) -> dict[str, str]:
+    """The kind of each stage, as `check` tells it."""
+    return {it[3]: it[2] for it in filter(None, map(STAGE.fullmatch, check.splitlines()))}
+
+
+def domains_of(check: str) -> dict[str, Area]:
+    """The domain of each stage, as `check` tells it."""
+    found = filter(None, map(STAGE.fullmatch, check.splitlines()))
+    return {it[3]: Area(Ends(int(it[4]), int(it[5])), Ends(int(it[6]), int(it[7]))) for it in found}
 
 
 def stages_of(program: Program, check: str, plan: str) -> dict[str, Stage]:

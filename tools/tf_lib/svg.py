@@ -1,7 +1,11 @@
 """Small SVG pictures, written as text."""
-from xml.sax.saxutils import escape
 
 FONT = "font-family='DejaVu Sans, Verdana, sans-serif'"
+
+
+def escape(words: str) -> str:
+    """Words as they stand in XML. (The module that has this loads the half of the library.)"""
+    return words.replace("&", "&amp;").replace("<", "&lt;").replace(">", "&gt;")
 
 
 class Drawing:

@@ -1,6 +1,5 @@
 """Files as a person sees them: lines and columns, and the line with a mark below it."""
 from dataclasses import dataclass
-from pathlib import Path
 
 WIDEST = 100
 
@@ -13,10 +12,23 @@ class Refused(Exception):
         self.status = status
 
 
+class TooLarge(Refused):
+    """A picture has sides that no run takes: `eval` goes by parts then."""
+
+
+class Failed(Exception):
+    """A run ended with a fault that has been shown."""
+
+    def __init__(self, status: int):
+        super().__init__()
+        self.status = status
+
+
 def content(path: str) -> bytes:
     """The bytes of a file."""
     try:
-        return Path(path).read_bytes()
+        with open(path, "rb") as file:
+            return file.read()
     except OSError as error:
         raise Refused(f"{path}: {error.strerror}") from error
 

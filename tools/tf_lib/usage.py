@@ -49,11 +49,13 @@ COMMANDS = {
         Command("plan", ONE, ONE, "for each function and accumulator `inlined NAME`, or `stored NAME cost C` with the number of points "
                 "that its tiles compute"),
         Command("run", ONE, ONE, "what `eval` writes, by a farm of nodes"),
-        Command("merge", (FACTS,), (FACTS,), "the union of fact files, as a line of hexadecimal digits"),
-        Command("audit", (*ONE, FACTS), ("program", FACTS, "picture"), "for each fact of the union of fact files, rising, a line "
-                "`VERDICT STAGE ROW COL`, with `True`, `False`, `Misshapen` or `Foreign`"),
+        Command("merge", (FACTS,), (FACTS,), "what fact files hold together, as a line of hexadecimal digits: all jobs that one of them "
+                "retires, and all facts of other jobs"),
+        Command("audit", (*ONE, FACTS), ("program", FACTS, "picture"), "for each fact that `merge` would write, rising, a line "
+                "`VERDICT STAGE ROW COL`, with `True`, `False`, `Misshapen` or `Foreign`; then for each retired job `Retired PROGRAM INPUT`, its "
+                "identities"),
         Command("world", (*ONE, SCRIPT), ("program", SCRIPT, "picture"), "`done D refused R`, the numbers of a script's events and of "
-                "those that were refused; then for each node a line `node N HEX`, the facts that it holds"),
+                "those that were refused; then for each node a line `node N HEX`, the fact file of what it holds"),
     )
 }
 OPTIONS = (
@@ -74,7 +76,7 @@ OPTIONS = (
 STATUSES = (
     Status(0, "done", "what the command writes"),
     Status(1, "the command line is refused", "`usage: ..`, or `parameter: N NAME P`"),
-    Status(2, "the input cannot be read", "`input: no separator`, `input: too long`, `picture: N NAME at OFFSET`"),
+    Status(2, "the input cannot be read", "`input: no separator`, `input: too long`, `tables: line L`, `picture: N NAME at OFFSET`"),
     Status(3, "the program is refused", "`program: N NAME at OFFSET`, `check: ..`, `bounds: ..`, `bind: ..`"),
     Status(4, "input, output or farm failed", "`input failed`; `farm: N NAME`; nothing where the output failed"),
     Status(5, "memory ran out", "`memory`"),
@@ -88,31 +90,65 @@ FACT_STATUSES = (
 DRAWING = {
     "graph": "draws the stages: what is inlined in the frame of the stage that computes it, and tiles and cost of what is stored "
              "(SVG, or DOT where the file ends in .dot)",
-    "hist": "draws an accumulator's line as bars (SVG)",
+    "hist": "draws an accumulator's line as bars (SVG), or writes it as a table where the file ends in .csv",
     "tune": "times sides of tiles and percentages, and says which are best here",
+    "answer": "puts the result together out of the facts of its tiles, as eval writes it, from those that an audit calls true; or tells the "
+              "first tile that is missing, disputed or misshapen: tf answer PROGRAM PICTURE FACTS... -o RESULT",
+    "table": "makes the line of a table: gamma NAME LO..HI G, points NAME X,Y X,Y ..., csv NAME FILE, or sums NAME FILE [ACCUMULATOR], "
+             "the running sums of a totals line",
+    "join": "puts the results of parts together that the commands of --engine list made: tf join FOLDER -o RESULT",
     "facts": "makes the fact file of a job's tiles: those of the output and of all accumulators; with --list tells what fact files hold",
+    "play": "opens a page on this machine that shows a program at work on a picture while it is written: tf play [PROGRAM] [PICTURE]",
+    "report": "writes that page as one file (HTML) that needs no server: tf report PROGRAM PICTURE -o report.html",
 }
 OWN_OPTIONS = (
-    Option("-o", "FILE", "where the picture goes (.png, .pgm, .ppm; .jpg and .tif through another tool), or the drawing or the joined "
-           "input, or the lines that a command writes; it takes its name only when all went well"),
+    Option("-o", "FILE", "where the picture goes (.png, .pgm, .ppm; .jpg, .tif, .gif and .webp through vips), or the drawing or the joined "
+           "input, or the lines that a command writes; a file takes its name only when all went well, and a link is followed; a device, a "
+           "pipe or a socket is written to; - is standard output"),
     Option("--print", "", "prints the samples of the result as rows of numbers, and writes no picture"),
+    Option("--table", "FILE", "a file with the lines of tables that the program declares, NAME LO..HI: V V V; any number of times, in "
+           "any order"),
+    Option("--to", "M", "of table: the greatest entry, to which gamma and sums are scaled"),
     Option("--grey", "", "makes one grey plane of a picture in colours, before the program sees it"),
+    Option("--colours", "", "makes three equal planes of a grey picture; where the program names three, that is done unasked"),
+    Option("--page", "K", "of a picture with several pages or frames, which one; the first is 1"),
+    Option("--quiet", "", "shows no progress; without it what takes over a second says on a terminal what it is at"),
     Option("--time", "", "tells how long the program ran"),
     Option("--memory", "", "tells how much memory the program held at most"),
+    Option("--stage", "NAME", "of eval: the picture of a stage in the place of the result, cut to the samples that the output has"),
+    Option("--scale", "", "of --stage: with its least value black and its greatest white"),
+    Option("--stages", "DIR", "of eval: writes a picture of each stage into a folder, scaled, and a page of them, index.html"),
+    Option("--tile", "STAGE:ROW:COL", "of plan: boxes, steps, scratch memory and needed tiles of one tile, as text, or drawn into a .svg file"),
+    Option("--inline", "A,B", "of plan: what a schedule costs that inlines just these functions"),
     Option("--join", "", "only joins program, picture and fact files or a script, and runs nothing: tf --join PROGRAM PICTURE [FACTS]... "
            "-o INPUT"),
     Option("--of", "NAME", "of hist: the accumulator to draw, the first unless given; of facts: the stage whose tiles are told"),
+    Option("--log", "", "of hist: the height of a bar is the logarithm of its number"),
+    Option("--parts", "SIDE", "of eval: cuts the picture into parts of at most SIDE by SIDE points, 1 to 4096, runs the program on each and "
+           "joins the results; unasked, with parts of 2048, where a side of the picture or of the result is over 4096"),
+    Option("--jobs", "N", "of eval and run with several pictures, tf eval PROGRAM PICTURE... -o 'out/{name}.png', and of eval by parts: how "
+           "many at a time; 1 unless given"),
     Option("--part", "K/N", "of facts: of all tiles in their order each N-th from the K-th on, as 1/2 and 2/2"),
-    Option("--list", "", "of facts: tells what is in fact files, a line for each fact: tf facts --list FACTS..."),
+    Option("--list", "", "of facts: tells what is in fact files, a line for each retired job and each fact: tf facts --list FACTS..."),
+    Option("--engine", "NAME", "of eval: dask lets the workers of a Dask scheduler run the parts; list writes parts, and commands that make "
+           "them, into the folder that -o names, for GNU parallel, Slurm and the like"),
+    Option("--scheduler", "ADDRESS", "of --engine dask: the scheduler, as tcp://HOST:8786"),
+    Option("--facts", "", "of --engine dask: a task makes facts of some tiles, which are merged, audited and put together"),
+    Option("--audit", "SHARE", "of --engine dask: how many facts of a hundred are audited here, 10 unless given; without --facts, how many parts "
+           "of a hundred are run here too and compared, none unless given"),
+    Option("--no-browser", "", "of play: only tells the address of the page"),
+    Option("--trust", "", "of answer: takes all facts for true, without an audit"),
     Option("--rounds", "N", "of tune: how often each setting is timed; 3 unless given"),
+    Option("--version", "", "prints the commit, and which program answers"),
     Option("--help", "", "prints this"),
 )
 LIMITS = (
     ("text; name", "65,536 bytes; 32 bytes"),
     ("stages, planes among them; parameters", "64 each"),
-    ("sides of the picture and of the result; greatest sample", "1 to 4096; 1 to 65535"),
+    ("sides of the picture and of the result, in one run; greatest sample", "1 to 4096; 1 to 65535"),
     ("cases of a function; expression nodes of a program", "16; 4,096"),
     ("sides of a kernel", "odd, 1 to 15"),
+    ("tables; entries of one", "16; 4,096"),
     ("ends of an interval; bins", "within 16,384 of 0; 4,096"),
     ("tiles of a stage", "65,536"),
     ("nodes of a world; events of a script", "1 to 16; 65,536"),
@@ -131,9 +167,11 @@ def help_text() -> str:
              "       tf run PROGRAM [PICTURE] [-o FILE] [--nodes N] [--turns T] [--lose K] [OPTIONS] [NAME=VALUE]...",
              "       tf audit PROGRAM PICTURE FACTS... [-o FILE] [OPTIONS] [NAME=VALUE]...",
              "       tf world PROGRAM PICTURE SCRIPT [-o FILE] [--nodes N] [OPTIONS] [NAME=VALUE]...",
-             "       tf merge FACTS... [-o FILE]", "",
+             "       tf merge FACTS... [-o FILE]",
+             "       tf play [PROGRAM] [PICTURE] [--no-browser] [OPTIONS] [NAME=VALUE]...",
+             "       tf report PROGRAM PICTURE -o FILE.html [OPTIONS] [NAME=VALUE]...", "",
              "Runs tilefarm on a program and a picture, shows faults in your own files, and draws what it is told.",
-             "PICTURE is PNG, PGM or PPM; other formats are read through ImageMagick, libvips or netpbm. Without it",
+             "PICTURE is PNG, PGM, PPM or PBM; other formats are read through vips (Debian's libvips-tools). Without it",
              "PROGRAM is a whole input, with the line %% and the picture behind it.", "", "Commands of tilefarm:"]
     lines += [row(it.name, it.writes.replace("`", "")) for it in COMMANDS.values()]
     lines += ["", "Commands of tf:", *(row(name, says) for name, says in DRAWING.items())]
@@ -141,7 +179,8 @@ def help_text() -> str:
     lines += ["", "Options of tf:", *(row(f"{it.name} {it.value}", it.says) for it in OWN_OPTIONS)]
     when = {it.number: it.when.replace("`", "") for it in (*FACT_STATUSES, *STATUSES)}
     lines += ["", "Exit status:", *(row(str(it), when[it]) for it in sorted(when)), "",
-              "The program is $TILEFARM, or crates/tilefarm/out/tilefarm of this repository, or tilefarm on the path."]
+              "The program is $TILEFARM, or crates/tilefarm/out/tilefarm of this repository, or tilefarm on the path, or",
+              "what `make quick` made, which is not proved: that is told."]
     return "\n".join(lines) + "\n"
 
 

@@ -1,0 +1,89 @@
+"""The picture of a page: as it was given, as one grey plane, and as a reduced copy."""
+from dataclasses import dataclass, field
+
+from . import png
+from .joining import SEPARATOR, Section
+from .netpbm import Header, header_of, picture_of
+from .play_runs import Turn
+from .play_values import colours_program, factor_for, grey_program, smaller_program
+from .program import Program
+from .text import Text
+
+
+@dataclass
+class Shown:
+    """A form of the picture that a job runs over: its bytes, by how much its sides are divided, and which planes were made of it, if any:
+    `grey` or `colours`."""
+
+    section: Section
+    factor: int = 1
+    made: str = ""
+
+    def head(self) -> Header | None:
+        return header_of(self.section.data)
+
+
+@dataclass
+class PlayPicture:
+    """A picture with the forms that were made of it. Each has a key, by which the page asks for it."""
+
+    number: int
+    given: Section
+    said: list[str] = field(default_factory=list)
+    forms: dict[str, Shown] = field(default_factory=dict)
+
+    def form(self, program: Program | None, is_whole: bool, turn: Turn) -> tuple[str, Shown]:
+        """The form for a program: with as many planes as it names, and reduced where it is large."""
+        head = header_of(self.given.data)
+        if head is None:
+            return self.kept(Shown(self.given))
+        shown = self.planes(head, planes_of(program), turn)
+        factor = 1 if is_whole else factor_for(head)
+        return self.kept(shown if factor == 1 else self.smaller(shown, factor, turn))
+
+    def key(self, shown: Shown) -> str:
+        return f"{self.number}-{shown.made or 'own'}-{shown.factor}"
+
+    def kept(self, shown: Shown) -> tuple[str, Shown]:
+        return self.key(shown), self.forms.setdefault(self.key(shown), shown)
+
+    def planes(self, head: Header, count: int, turn: Turn) -> Shown:
+        """The whole picture with so many planes, as --grey and --colours make them."""
+        program, made = {(3, 1): (grey_program, "grey"), (1, 3): (colours_program, "colours")}.get((head.parts, count), (None, ""))
+        wanted = Shown(self.given, 1, made)
+        return self.forms.get(self.key(wanted)) or (self.ran(wanted, program(head), turn) if program else wanted)
+
+    def smaller(self, shown: Shown, factor: int, turn: Turn) -> Shown:
+        wanted = Shown(shown.section, factor, shown.made)
+        head = shown.head()
+        known = self.forms.get(self.key(wanted))
+        return known or (self.ran(wanted, smaller_program(head, factor), turn) if head else shown)
+
+    def ran(self, wanted: Shown, program: bytes, turn: Turn) -> Shown:
+        """A form that the program itself makes. A picture that it refuses stays as it is: the user's own program tells the fault."""
+        ended = turn.run(["eval"], program + SEPARATOR + wanted.section.data)
+        if ended.status:
+            return Shown(self.given)
+        text = Text(self.given.text.name, ended.written)
+        form = Shown(Section(text, ended.written, is_own=False), wanted.factor, wanted.made)
+        self.forms[self.key(form)] = form
+        return form
+
+
+def planes_of(program: Program | None) -> int:
+    """How many planes a program names."""
+    return sum(len(it.names) for it in program.items if it.kind == "image") if program else 0
+
+
+def opened(number: int, name: str, data: bytes) -> PlayPicture:
+    """A picture that a page sends: PNG, or what the program judges."""
+    if not data.startswith(png.SIGNATURE):
+        return PlayPicture(number, Section(Text(name, data), data))
+    picture, said = png.read(data, name)
+    return PlayPicture(number, Section(Text(name, data), picture.raw(), is_own=False), said)
+
+
+def raw_of(shown: Shown) -> bytes:
+    """The form as a raw picture, which the page draws; nothing where it is none."""
+    found = picture_of(shown.section.data)
+    return found[0].raw() if found else b""
