@@ -1,7 +1,11 @@
-.PHONY: build cases check demo edits fuzz test tools
+.PHONY: build cases check demo edits fuzz help quick test tools
 program := crates/tilefarm/out/tilefarm
 # The same program for processors with AVX2: where this machine's has that, and "make build" left it behind the other one.
 wide = $(shell grep -qw avx2 /proc/cpuinfo && [ $(program).x86-64-v3 -nt $(program) ] && echo $(program).x86-64-v3)
+
+# Lists the goals: each with the comment above it.
+help:
+	@awk '/^# / { told = told substr($$0, 2) "\n"; next } /^[a-z]+:/ { split($$0, goal, ":"); printf "make %s\n%s", goal[1], told } { told = "" }' Makefile
 
 # Evaluates the edge detector on its picture, without any proof, and shows the program, the picture and the result.
 demo:
@@ -11,7 +15,7 @@ demo:
 	@echo '(run without proofs, by rt try; "make test" checks the proofs and leaves the proved program in'
 	@echo ' crates/tilefarm/out/tilefarm)'
 
-# Every proof from nothing, every wrong body, every test, every stored run, the conformance cases and the examples.
+# The gate: every proof, every test, every stored run, the conformance cases, the examples and every wrong body.
 test:
 	@tests/gate
 
@@ -34,6 +38,10 @@ endif
 build:
 	@tests/build
 
+# The program without its proofs, in some three minutes: out/quick/tilefarm.
+quick:
+	@tests/quick
+
 # The conformance cases, on the programs that stand built.
 cases: | $(program)
 	@tests/run_cases $(program) $(wide)
@@ -44,7 +52,7 @@ fuzz: | $(program)
 
 # What stands round the program, on the one that stands built: tf, the pages, the errors' texts, the guide and the gallery.
 tools: | $(program)
-	@tests/test_pages && tools/make_usage --check && tests/test_tf && tests/test_errors && tests/test_guide && docs/gallery/make --check
+	@tests/test_pages && tools/make_usage --check && tests/test_tf && tests/test_play && tests/test_errors && tests/test_guide && docs/gallery/make --check
 
 $(program):
 	@tests/build

@@ -15,11 +15,13 @@ PROGRAM = f"{TOP}/crates/tilefarm/out/tilefarm"
 
 
 class Pipeline(NamedTuple):
-    """The kind of picture that a program takes. Its parameters, if the picture does not give them, are a part of the picture's sides."""
+    """The kind of picture that a program takes, and the lines of its tables. Its parameters, if the picture does not give them, are a part
+    of the picture's sides."""
 
     kind: str = "grey"
     part: int = 1
     names: tuple = ()
+    tables: bytes = b""
 
 
 class Suite(NamedTuple):
@@ -33,12 +35,17 @@ class Suite(NamedTuple):
         return content(f"{TOP}/{self.texts.format(name)}")
 
 
+# The curve of the program in C.
+CURVE = f"tone 0..255: {' '.join(str(v * v // 250 - 3) for v in range(256))}\n".encode()
 FIFTEEN = Suite({
     "copy": Pipeline(), "grey": Pipeline("colour"), "blur": Pipeline(), "unsharp": Pipeline("colour"), "sobel": Pipeline(),
     "harris": Pipeline(), "median": Pipeline(), "conv15": Pipeline(), "bilateral": Pipeline(),
     "pyramid": Pipeline("grey", 16, ("H", "W")), "blend": Pipeline("colour", 8, ("H", "W")),
     "interpolate": Pipeline("sparse", 16, ("H", "W")), "camera": Pipeline("raw"), "histogram": Pipeline(), "minmax": Pipeline(),
 }, "bench/pipelines/{0}.pipe", "bench/c/*.c")
+# Those that are timed where they are named.
+OTHERS = {"tone": Pipeline(tables=CURVE)}
+FIFTEEN.pipelines.update(OTHERS)
 EXAMPLES = Suite({
     "copy": Pipeline(), "blur": Pipeline(), "half": Pipeline("grey", 2, ("R", "C")), "sobel": Pipeline(), "unsharp": Pipeline(),
     "harris": Pipeline(), "histogram": Pipeline(),
@@ -129,7 +136,7 @@ class Bench:
         source = f"{self.room}/tilefarm.input"
         if self.held != name:
             with open(source, "wb") as file:
-                file.write(self.suite.text(name) + b"%%\n" + content(self.picture(name)))
+                file.write(self.suite.text(name) + b"%%\n" + self.suite.pipelines[name].tables + content(self.picture(name)))
             self.held = name
         return Command([self.program, "eval", *options, *self.parameters(name)], source, f"{self.room}/tilefarm.result")
 
@@ -172,7 +179,7 @@ def arguments(usage):
 def parsed(words):
     """What the command line says, and its other words, which go to tilefarm."""
     known, options = words.parse_known_args()
-    known.only = known.only or [*known.suite.pipelines]
+    known.only = known.only or [it for it in known.suite.pipelines if it not in OTHERS]
     if unknown := {*known.only}.difference(known.suite.pipelines):
         sys.exit(f"no pipeline of these has the name {', '.join(sorted(unknown))}")
     if not os.path.exists(known.program):

@@ -20,7 +20,7 @@ static const struct {
     {"copy", 1, 1, copy},           {"grey", 3, 1, grey},           {"blur", 1, 1, blur},     {"unsharp", 3, 1, unsharp},
     {"sobel", 1, 1, sobel},         {"harris", 1, 1, harris},       {"median", 1, 1, median}, {"conv15", 1, 1, conv15},
     {"bilateral", 1, 1, bilateral}, {"pyramid", 1, 16, pyramid},    {"blend", 3, 8, blend},   {"interpolate", 3, 16, interpolate},
-    {"camera", 1, 1, camera},       {"histogram", 1, 1, histogram}, {"minmax", 1, 1, minmax},
+    {"camera", 1, 1, camera},       {"histogram", 1, 1, histogram}, {"minmax", 1, 1, minmax}, {"tone", 1, 1, tone},
 };
 
 int main(int argc, char **argv) {

@@ -2,6 +2,6 @@
 #include "pictures.h"
 
 typedef void pipeline(const struct picture *p);
-pipeline copy, grey, histogram, minmax, median, camera;         /* points.c, camera.c */
+pipeline copy, grey, tone, histogram, minmax, median, camera;   /* points.c, camera.c */
 pipeline blur, unsharp, sobel, harris, conv15, bilateral;       /* stencils.c */
 pipeline pyramid, blend, interpolate;                           /* pyramids.c */
