@@ -54,11 +54,12 @@ impl Resolver<'_> {
             ≡ case_of (program_in self.now) (variables_in own.now) bounds.now.domain
             (branch case.now)) }
     {
-        Ok(JobCase::new(
+        JobCase::new(
+            self.alloc,
             bounds.boxes()[number],
             self.tests(own, case.condition.tests())?,
             self.formula(own, &case.value)?,
-        ))
+        )
     }
 
     fn job_cases(
@@ -130,8 +131,8 @@ impl Resolver<'_> {
         let bounds = self.bounds(&func.name);
         let job_cases = self.job_cases(&own, bounds, func.cases.list())?;
         let otherwise = self.otherwise(&own, &func.otherwise)?;
-        let body = Body::Function(Function::new(job_cases, otherwise));
-        Ok(self.stage(&func.name, bounds, body))
+        let body = Function::new(self.alloc, job_cases, otherwise)?;
+        Ok(self.stage(&func.name, bounds, Body::Function(body)))
     }
 
     fn accumulator(&self, accum: &Accum) -> Result<Stage, AllocError>
@@ -144,7 +145,7 @@ impl Resolver<'_> {
         let bounds = self.bounds(&accum.name);
         let value = self.formula(&own, &accum.value)?;
         let bin = self.formula(&own, &accum.bin)?;
-        let body = Accumulator::new(accum.fold, bounds.bins().unwrap(), value, bin);
+        let body = Accumulator::new(self.alloc, accum.fold, bounds.bins().unwrap(), value, bin)?;
         Ok(self.stage(&accum.name, bounds, Body::Accumulator(body)))
     }
 

@@ -91,28 +91,23 @@ fn takes_less(
     if !is_function(job, number) || job.is_output(number) || inlining.inlined(number) {
         return Ok(false);
     }
-    if !is_cheap(alloc, job, inlining, number)? {
+    if !is_cheap(job, inlining, number) {
         return Ok(false);
     }
     let readers = readers_of(alloc, job, order, number)?;
     if readers.len() < 2 || readers.len() > MOST_READERS {
         return Ok(false);
     }
-    all_read_plainly(alloc, job, inlining, &readers, number)
+    Ok(all_read_plainly(job, inlining, &readers, number))
 }
 
 // Whether a stage is a function of few steps that reads stored stages alone.
-fn is_cheap(
-    alloc: Global,
-    job: &Job,
-    inlining: &InlinedStages,
-    number: usize,
-) -> Result<bool, AllocError>
-    ensures { IfOk result (λ b. b ≡ true → steps_at (pipeline_in job.now) number ≤ 8) }
+fn is_cheap(job: &Job, inlining: &InlinedStages, number: usize) -> bool
+    ensures { result ≡ true → steps_at (pipeline_in job.now) number ≤ 8 }
 {
     match job.stage(number) {
-        Some(stage) if has_few_steps(stage) => reads_stored(alloc, inlining, stage),
-        _ => Ok(false),
+        Some(stage) if has_few_steps(stage) => reads_stored(inlining, stage),
+        _ => false,
     }
 }
 
@@ -181,45 +176,37 @@ fn after(formula: &Formula, steps: u32) -> Option<u32>
 }
 
 // Whether these are stored functions that read a stage at the point itself alone.
-fn all_read_plainly(
-    alloc: Global,
-    job: &Job,
-    inlining: &InlinedStages,
-    readers: &[usize],
-    number: usize,
-) -> Result<bool, AllocError>
-    ensures { IfOk result (λ b. b ≡ true
-        → list_all (reads_plainly (pipeline_in job.now) number) readers.now ≡ true) }
+fn all_read_plainly(job: &Job, inlining: &InlinedStages, readers: &[usize], number: usize) -> bool
+    ensures { result ≡ true
+        → list_all (reads_plainly (pipeline_in job.now) number) readers.now ≡ true }
 {
     for reader in readers {
-        if inlining.inlined(*reader) || !reads_plainly(alloc, job, *reader, number)? {
-            return Ok(false);
+        if inlining.inlined(*reader) || !reads_plainly(job, *reader, number) {
+            return false;
         }
     }
-    Ok(true)
+    true
 }
 
 // Whether a stage is a function that reads another at the point itself alone.
-fn reads_plainly(alloc: Global, job: &Job, reader: usize, number: usize) -> Result<bool, AllocError>
-    ensures { IfOk result (λ b. b ≡ reads_plainly (pipeline_in job.now) number reader) }
+fn reads_plainly(job: &Job, reader: usize, number: usize) -> bool
+    ensures { result ≡ reads_plainly (pipeline_in job.now) number reader }
 {
     match job.stage(reader) {
-        Some(stage) if is_function(job, reader) => all_plain(alloc, stage, number),
-        _ => Ok(false),
+        Some(stage) if is_function(job, reader) => all_plain(stage, number),
+        _ => false,
     }
 }
 
-fn all_plain(alloc: Global, stage: &Stage, number: usize) -> Result<bool, AllocError>
-    ensures { IfOk result (λ b. b
-        ≡ list_all (is_plain number) (reads_of (stage_view stage.now).body)) }
+fn all_plain(stage: &Stage, number: usize) -> bool
+    ensures { result ≡ list_all (is_plain number) (reads_of (stage_view stage.now).body) }
 {
-    let reads = stage.reads(alloc)?;
-    for read in reads.iter() {
+    for read in stage.reads() {
         if !is_plain(read, number) {
-            return Ok(false);
+            return false;
         }
     }
-    Ok(true)
+    true
 }
 
 // Whether it is no read of the stage of this number, or one at the point itself.

@@ -24,31 +24,30 @@ pub(crate) fn readers_of(
 {
     let mut readers = Vec::new(alloc);
     for reader in stages {
-        if does_read(alloc, job, number, *reader)? {
+        if does_read(job, number, *reader) {
             readers.push(*reader)?;
         }
     }
     Ok(readers)
 }
 
-fn does_read(alloc: Global, job: &Job, number: usize, reader: usize) -> Result<bool, AllocError>
-    ensures { IfOk result (λ b. b ≡ does_read (pipeline_in job.now) number reader) }
+fn does_read(job: &Job, number: usize, reader: usize) -> bool
+    ensures { result ≡ does_read (pipeline_in job.now) number reader }
 {
     match job.stage(reader) {
-        Some(stage) => reads_it(alloc, stage, number),
-        None => Ok(false),
+        Some(stage) => reads_it(stage, number),
+        None => false,
     }
 }
 
-fn reads_it(alloc: Global, stage: &Stage, number: usize) -> Result<bool, AllocError>
-    ensures { IfOk result (λ b. b
-        ≡ list_any (λ x. stage_read x == number) (reads_of (stage_view stage.now).body)) }
+fn reads_it(stage: &Stage, number: usize) -> bool
+    ensures { result
+        ≡ list_any (λ x. stage_read x == number) (reads_of (stage_view stage.now).body) }
 {
-    let reads = stage.reads(alloc)?;
-    for read in reads.iter() {
+    for read in stage.reads() {
         if stage_of(read) == number {
-            return Ok(true);
+            return true;
         }
     }
-    Ok(false)
+    false
 }

@@ -1,4 +1,5 @@
 pub mod Agreeing
+pub mod CaseFormulas
 pub mod Choosing
 pub mod Steps
 pub mod Unrolling

@@ -9,6 +9,8 @@ pub mod WellFormed
 pub mod WellFormedOnce
 pub mod Worked
 pub mod Lopsided
+pub mod FormulaViews
+pub mod CaseViews
 pub mod Views
 pub mod Readers
 pub mod Kept

@@ -1,11 +1,6 @@
 -- What contracts see of a job in memory: without where its parts lie, and vectors as their lists.
 use Rattle.std.specs.Prelude.{map}
 use Rattle.std.specs.Option.{option_map}
-use Rattle.job.specs.declared.formula.Formula.{Formula as KeptFormula}
-use Rattle.job.specs.declared.formula.Formula.TheVariants.{Number, Coordinate, Read, Neg'}
-use Rattle.job.specs.declared.formula.Formula.TheVariants.{Binary', Literal', Abs', Lookup', Clamp', Select'}
-use Rattle.job.specs.declared.formula.Formula.TheVariants.{Stencil}
-use Rattle.job.specs.declared.stage.JobCase.{JobCase as KeptCase}
 use Rattle.job.specs.declared.stage.Body.{Body as KeptBody}
 use Rattle.job.specs.declared.stage.Body.TheVariants.{Plane, Function, Accumulator}
 use Rattle.job.specs.declared.stage.Stage.{Stage as KeptStage}
@@ -13,27 +8,9 @@ use Rattle.job.specs.declared.outputs.Output.{Output as KeptOutput}
 use Rattle.job.specs.declared.outputs.Parameter.{Parameter as KeptParameter}
 use Rattle.job.specs.declared.bound_pipeline.BoundPipeline.{BoundPipeline}
 pub use Rattle.operations.specs.Views.{axis_view, test_view}
-use Rattle.job.specs.Formula.{Formula, number, coordinate, read, neg, binary, literal, abs, lookup, clamp, select}
-use Rattle.job.specs.Formula.{stencil}
-use Rattle.job.specs.Pipeline.{JobCase, Body, plane, function, accumulator, Stage, Output, Parameter, Pipeline}
-
-abbrev pub formula_view : KeptFormula → Formula
-formula_view (Number n) = number n
-formula_view (Coordinate x) = coordinate (axis_view x)
-formula_view (Read g i j) = read g i j
-formula_view (Neg' p a) = neg (formula_view a)
-formula_view (Binary' op p a q b) = binary op (formula_view a) (formula_view b)
-formula_view (Literal' op p a n) = literal op (formula_view a) n
-formula_view (Abs' p a) = abs (formula_view a)
-formula_view (Lookup' t p a) = lookup t (formula_view a)
-formula_view (Clamp' p a q b r c) = clamp (formula_view a) (formula_view b) (formula_view c)
-formula_view (Select' p a relation q b r c s d) = select (formula_view a) relation (formula_view b) (formula_view c) (formula_view d)
-formula_view (Stencil g divisor kernel) = stencil g divisor kernel
-
--- ---- stages and outputs
-
-abbrev pub case_view : KeptCase → JobCase
-case_view p = record { box = p.area; tests = map test_view p.tests.items; formula = formula_view p.formula }
+pub use Rattle.job.specs.FormulaViews.{formula_view}
+pub use Rattle.job.specs.CaseViews.{case_view}
+use Rattle.job.specs.Pipeline.{Body, plane, function, accumulator, Stage, Output, Parameter, Pipeline}
 
 abbrev pub body_view : KeptBody → Body
 body_view (Plane n) = plane n

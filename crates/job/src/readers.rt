@@ -1,7 +1,7 @@
 #![tactic(auto)]
 //! What a job tells of its output, its parameters, its picture and its functions.
 
-ghost use Rattle.std.specs.Prelude.{◌≡◌, ℕ, ◌+◌, ◌*◌, ◌<◌, [], List, length, map, slice_get, slice_index, slice_index_or, IfOk};
+ghost use Rattle.std.specs.Prelude.{◌≡◌, ℕ, ◌+◌, ◌*◌, ◌<◌, [], List, length, map, slice_get, slice_index, slice_index_or};
 ghost use Rattle.std.specs.Option.{option_map, option_map_or};
 ghost use Rattle.job.specs.Kept.{pipeline_in};
 ghost use Rattle.job.specs.Reads.{reads_of};
@@ -12,7 +12,6 @@ ghost use Rattle.job.specs.Views.{case_view};
 use crate::job::Job;
 use crate::reads::Read;
 use crate::stage::{Body, JobCase};
-use std::alloc::{AllocError, Global};
 
 impl Job {
     /// The numbers of the functions that are the planes of the result, one or three; none where the program has no output.
@@ -60,17 +59,13 @@ impl Job {
     }
 
     /// What the stage of this number reads, in the order of the text; of an accumulator first for the value and then for the bin.
-    ///
-    /// # Errors
-    ///
-    /// Fails only where memory is refused.
-    pub fn reads(&self, alloc: Global, number: usize) -> Result<Option<Vec<Read>>, AllocError>
-        ensures { IfOk result (λ found. option_map (λ reads. map read_view reads.items) found
-            ≡ option_map (λ s. reads_of s.body) (slice_get (pipeline_in self.now).stages number)) }
+    pub fn reads(&self, number: usize) -> Option<&[Read]>
+        ensures { option_map (λ reads. map read_view reads.now) result
+            ≡ option_map (λ s. reads_of s.body) (slice_get (pipeline_in self.now).stages number) }
     {
         match self.stage(number) {
-            Some(stage) => Ok(Some(stage.reads(alloc)?)),
-            None => Ok(None),
+            Some(stage) => Some(stage.reads()),
+            None => None,
         }
     }
 }

@@ -1,16 +1,15 @@
 #![tactic(auto)]
 //! What formulas read, in the order of the text.
 
-ghost use Rattle.std.specs.Prelude.{◌≡◌, ◌++◌, OnOk, IfOk, map};
+ghost use Rattle.std.specs.Prelude.{◌≡◌, ◌++◌, [], ◌∷◌, OnOk, IfOk, map};
 ghost use Rattle.std.specs.List.{flat_map};
 ghost use Rattle.std.specs.Option.{option_map};
-ghost use Rattle.job.specs.Pipeline.{function, accumulator};
-ghost use Rattle.job.specs.Views.{formula_view, case_view, stage_view};
+ghost use Rattle.job.specs.Views.{formula_view, stage_view};
 ghost use Rattle.job.specs.Reads.{reads_in, reads_of, other_formula};
 ghost use Rattle.job.specs.ReadViews.{read_view};
 
 use crate::formula::Formula;
-use crate::stage::{Accumulator, Body, Function, JobCase, Stage};
+use crate::stage::{Body, JobCase, Stage};
 use domains::Index;
 use operations::{Kernel, copied_kernel};
 use std::alloc::{AllocError, Global};
@@ -64,7 +63,7 @@ fn add_reads(found: &mut Vec<Read>, formula: &Formula) -> Result<(), AllocError>
 fn add_cases(found: &mut Vec<Read>, cases: &[JobCase]) -> Result<(), AllocError>
     ensures { OnOk result (map read_view found.new.items
         ≡ map read_view found.old.items
-        ++ flat_map reads_in (map (λ p. p.formula) (map case_view cases.now))) }
+        ++ flat_map reads_in (map (λ p. formula_view p.formula) cases.now)) }
 {
     for case in cases {
         add_reads(found, case.formula())?;
@@ -83,53 +82,68 @@ fn add_other(found: &mut Vec<Read>, other: &Option<Formula>) -> Result<(), Alloc
     }
 }
 
-impl Function {
-    // Puts the reads of the cases, and then those of what holds elsewhere, behind those that were found.
-    fn add_reads(&self, found: &mut Vec<Read>) -> Result<(), AllocError>
-        ensures { OnOk result (map read_view found.new.items
-            ≡ map read_view found.old.items
-            ++ reads_of (function (map case_view self.now.cases.items)
-            (option_map formula_view self.now.otherwise))) }
-    {
-        add_cases(found, self.cases())?;
-        add_other(found, self.otherwise())
-    }
+/// What a formula reads, in the order of the text.
+pub(crate) fn reads_in(alloc: Global, formula: &Formula) -> Result<Vec<Read>, AllocError>
+    ensures { IfOk result (λ v. map read_view v.items ≡ reads_in (formula_view formula.now)) }
+{
+    let mut found = Vec::new(alloc);
+    add_reads(&mut found, formula)?;
+    Ok(found)
 }
 
-impl Accumulator {
-    fn add_reads(&self, found: &mut Vec<Read>) -> Result<(), AllocError>
-        ensures { OnOk result (map read_view found.new.items
-            ≡ map read_view found.old.items
-            ++ reads_of (accumulator self.now.fold self.now.bins (formula_view self.now.value)
-            (formula_view self.now.bin))) }
-    {
-        add_reads(found, self.value())?;
-        add_reads(found, self.bin())
-    }
+/// What a formula reads, if there is one.
+pub(crate) fn reads_elsewhere(
+    alloc: Global,
+    otherwise: &Option<Formula>,
+) -> Result<Vec<Read>, AllocError>
+    ensures { IfOk result (λ v. map read_view v.items
+        ≡ flat_map reads_in (other_formula (option_map formula_view otherwise.now))) }
+{
+    let mut found = Vec::new(alloc);
+    add_other(&mut found, otherwise)?;
+    Ok(found)
+}
+
+/// What cases read, and then what stands elsewhere.
+pub(crate) fn reads_of_function(
+    alloc: Global,
+    cases: &[JobCase],
+    otherwise: &Option<Formula>,
+) -> Result<Vec<Read>, AllocError>
+    ensures { IfOk result (λ v. map read_view v.items
+        ≡ flat_map reads_in (map (λ p. formula_view p.formula) cases.now
+        ++ other_formula (option_map formula_view otherwise.now))) }
+{
+    let mut found = Vec::new(alloc);
+    add_cases(&mut found, cases)?;
+    add_other(&mut found, otherwise)?;
+    Ok(found)
+}
+
+/// What two formulas read, first the one and then the other.
+pub(crate) fn reads_of_both(
+    alloc: Global,
+    first: &Formula,
+    second: &Formula,
+) -> Result<Vec<Read>, AllocError>
+    ensures { IfOk result (λ v. map read_view v.items
+        ≡ flat_map reads_in (formula_view first.now ∷ formula_view second.now ∷ [])) }
+{
+    let mut found = Vec::new(alloc);
+    add_reads(&mut found, first)?;
+    add_reads(&mut found, second)?;
+    Ok(found)
 }
 
 impl Stage {
     /// What the stage reads, in the order of the text; of an accumulator first for the value and then for the bin.
-    pub fn reads(&self, alloc: Global) -> Result<Vec<Read>, AllocError>
-        ensures { IfOk result (λ v. map read_view v.items ≡ reads_of (stage_view self.now).body) }
+    pub fn reads(&self) -> &[Read]
+        ensures { map read_view result.now ≡ reads_of (stage_view self.now).body }
     {
-        let mut found = Vec::new(alloc);
         match self.body() {
-            Body::Plane(_) => {}
-            Body::Function(function) => function.add_reads(&mut found)?,
-            Body::Accumulator(accumulator) => accumulator.add_reads(&mut found)?,
+            Body::Plane(_) => &[],
+            Body::Function(function) => function.reads(),
+            Body::Accumulator(accumulator) => accumulator.reads(),
         }
-        Ok(found)
-    }
-}
-
-impl Formula {
-    /// What the formula reads, in the order of the text.
-    pub fn reads(&self, alloc: Global) -> Result<Vec<Read>, AllocError>
-        ensures { IfOk result (λ v. map read_view v.items ≡ reads_in (formula_view self.now)) }
-    {
-        let mut found = Vec::new(alloc);
-        add_reads(&mut found, self)?;
-        Ok(found)
     }
 }

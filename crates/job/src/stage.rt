@@ -1,23 +1,29 @@
 #![tactic(auto)]
 //! Stages at the values of the parameters.
 
-ghost use Rattle.std.specs.Prelude.{◌≡◌, Some, None, if◌then◌else◌};
-ghost use Rattle.job.specs.Answers.{has_tiles};
-ghost use Rattle.job.specs.Readers.{kind_of, fold_of, bins_of};
-ghost use Rattle.job.specs.Views.{stage_view};
+ghost use Rattle.std.specs.Prelude.{◌≡◌, [], ◌∷◌, ◌++◌, Some, None, IfOk, if◌then◌else◌, map};
+ghost use Rattle.std.specs.List.{flat_map};
+ghost use Rattle.std.specs.Option.{option_map};
+ghost use Rattle.job.specs.Reads.{reads_in, other_formula};
+ghost use Rattle.job.specs.ReadViews.{read_view, same_reads-prop};
+ghost use Rattle.job.specs.FormulaViews.{formula_view};
 
 use crate::formula::Formula;
 use crate::job::StageKind;
+use crate::reads::{Read, reads_elsewhere, reads_in, reads_of_both, reads_of_function};
 use domains::{Area, Fold, Grid, Span, TileSides};
 use operations::Test;
 use pipe_tokens::Name;
+use std::alloc::{AllocError, Global};
 
-/// A formula where all tests hold.
+/// A formula where all tests hold, with what it reads.
 #[derive(Debug, Drop)]
 pub struct JobCase {
     area: Option<Area>,
     tests: Vec<Test>,
     formula: Formula,
+    reads: Vec<Read>,
+    ghost found: { map read_view reads.items ≡ reads_in (formula_view formula) } by { same_reads-prop _ _ },
 }
 
 /// A function: the first case whose tests hold at a point gives its value there, else `otherwise`, else it is 0.
@@ -25,6 +31,13 @@ pub struct JobCase {
 pub struct Function {
     cases: Vec<JobCase>,
     otherwise: Option<Formula>,
+    other_reads: Vec<Read>,
+    all_reads: Vec<Read>,
+    ghost elsewhere: { map read_view other_reads.items
+        ≡ flat_map reads_in (other_formula (option_map formula_view otherwise)) } by { same_reads-prop _ _ },
+    ghost found: { map read_view all_reads.items
+        ≡ flat_map reads_in (map (λ p. formula_view p.formula) cases.items
+        ++ other_formula (option_map formula_view otherwise)) } by { same_reads-prop _ _ },
 }
 
 /// An accumulator: how it joins the numbers of a bin, its bins, and of each point the number and the bin.
@@ -34,6 +47,9 @@ pub struct Accumulator {
     bins: Span,
     value: Formula,
     bin: Formula,
+    point_reads: Vec<Read>,
+    ghost found: { map read_view point_reads.items
+        ≡ flat_map reads_in (formula_view value ∷ formula_view bin ∷ []) } by { same_reads-prop _ _ },
 }
 
 /// What stands at each point of a stage.
@@ -55,6 +71,10 @@ pub struct Stage {
 }
 
 impl Stage {
+    ghost use Rattle.job.specs.Answers.{has_tiles};
+    ghost use Rattle.job.specs.Readers.{kind_of, fold_of, bins_of};
+    ghost use Rattle.job.specs.Views.{stage_view};
+
     /// The stage of this name, rank and domain, with what stands at each point.
     pub fn new(name: Name, rank: usize, domain: Area, body: Body) -> Self
         ensures { result ≡ record { name = name; rank = rank; domain = domain; body = body } }
@@ -140,15 +160,28 @@ impl Stage {
 }
 
 impl JobCase {
-    /// The formula that stands in this area where these tests hold.
-    pub fn new(area: Option<Area>, tests: Vec<Test>, formula: Formula) -> Self
-        ensures { result ≡ record { area = area; tests = tests; formula = formula } }
+    /// The formula that stands in this area where these tests hold. What it reads is found once, and kept.
+    ///
+    /// # Errors
+    ///
+    /// Fails only where memory is refused.
+    pub fn new(
+        alloc: Global,
+        area: Option<Area>,
+        tests: Vec<Test>,
+        formula: Formula,
+    ) -> Result<Self, AllocError>
+        ensures area { IfOk result (λ p. p.area ≡ area) }
+        ensures tests { IfOk result (λ p. p.tests ≡ tests) }
+        ensures formula { IfOk result (λ p. p.formula ≡ formula) }
     {
-        JobCase {
+        let reads = reads_in(alloc, &formula)?;
+        Ok(JobCase {
             area,
             tests,
             formula,
-        }
+            reads,
+        })
     }
 
     /// The points of the domain at which the tests of bounds hold, if there are any.
@@ -171,14 +204,41 @@ impl JobCase {
     {
         &self.formula
     }
+
+    /// What the formula reads, in the order of the text.
+    pub fn reads(&self) -> &[Read]
+        ensures { map read_view result.now ≡ reads_in (formula_view self.now.formula) }
+    {
+        &self.reads
+    }
 }
 
 impl Function {
-    /// The function of these cases, with what stands elsewhere.
-    pub fn new(cases: Vec<JobCase>, otherwise: Option<Formula>) -> Self
-        ensures { result ≡ record { cases = cases; otherwise = otherwise } }
+    ghost use Rattle.job.specs.CaseViews.{case_view};
+    ghost use Rattle.job.specs.Pipeline.{function};
+    ghost use Rattle.job.specs.Reads.{reads_of};
+
+    /// The function of these cases, with what stands elsewhere. What it reads is found once, and kept.
+    ///
+    /// # Errors
+    ///
+    /// Fails only where memory is refused.
+    pub fn new(
+        alloc: Global,
+        cases: Vec<JobCase>,
+        otherwise: Option<Formula>,
+    ) -> Result<Self, AllocError>
+        ensures cases { IfOk result (λ f. f.cases ≡ cases) }
+        ensures otherwise { IfOk result (λ f. f.otherwise ≡ otherwise) }
     {
-        Function { cases, otherwise }
+        let other_reads = reads_elsewhere(alloc, &otherwise)?;
+        let all_reads = reads_of_function(alloc, &cases, &otherwise)?;
+        Ok(Function {
+            cases,
+            otherwise,
+            other_reads,
+            all_reads,
+        })
     }
 
     /// The cases, in the order of the text.
@@ -194,19 +254,52 @@ impl Function {
     {
         &self.otherwise
     }
+
+    /// What is read where no case holds, in the order of the text.
+    pub fn reads_elsewhere(&self) -> &[Read]
+        ensures { map read_view result.now
+            ≡ flat_map reads_in (other_formula (option_map formula_view self.now.otherwise)) }
+    {
+        &self.other_reads
+    }
+
+    /// What all cases read, and then what is read where none holds, in the order of the text.
+    #[tactic(auto, using(crate::proofs::CaseFormulas::formulas_of_cases))]
+    pub fn reads(&self) -> &[Read]
+        ensures { map read_view result.now
+            ≡ reads_of (function (map case_view self.now.cases.items)
+            (option_map formula_view self.now.otherwise)) }
+    {
+        &self.all_reads
+    }
 }
 
 impl Accumulator {
-    /// The accumulator that joins so over these bins, with the number and the bin of each point.
-    pub fn new(fold: Fold, bins: Span, value: Formula, bin: Formula) -> Self
-        ensures { result ≡ record { fold = fold; bins = bins; value = value; bin = bin } }
+    /// The accumulator that joins so over these bins, with the number and the bin of each point. What it reads is found once, and kept.
+    ///
+    /// # Errors
+    ///
+    /// Fails only where memory is refused.
+    pub fn new(
+        alloc: Global,
+        fold: Fold,
+        bins: Span,
+        value: Formula,
+        bin: Formula,
+    ) -> Result<Self, AllocError>
+        ensures fold { IfOk result (λ a. a.fold ≡ fold) }
+        ensures bins { IfOk result (λ a. a.bins ≡ bins) }
+        ensures value { IfOk result (λ a. a.value ≡ value) }
+        ensures bin { IfOk result (λ a. a.bin ≡ bin) }
     {
-        Accumulator {
+        let point_reads = reads_of_both(alloc, &value, &bin)?;
+        Ok(Accumulator {
             fold,
             bins,
             value,
             bin,
-        }
+            point_reads,
+        })
     }
 
     /// How the numbers of a bin are joined.
@@ -235,5 +328,13 @@ impl Accumulator {
         ensures { result.now ≡ self.now.bin }
     {
         &self.bin
+    }
+
+    /// What the number and then the bin of a point read, in the order of the text.
+    pub fn reads(&self) -> &[Read]
+        ensures { map read_view result.now
+            ≡ flat_map reads_in (formula_view self.now.value ∷ formula_view self.now.bin ∷ []) }
+    {
+        &self.point_reads
     }
 }

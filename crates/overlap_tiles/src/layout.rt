@@ -89,7 +89,7 @@ fn inner_ranges(
         return Ok(Vec::new(alloc));
     }
     let mut lasts = last_readers(alloc, job, inner)?;
-    mark(&mut lasts, alloc, job, target.stage, inner.len())?;
+    mark(&mut lasts, job, target.stage, inner.len());
     ranges(alloc, inner, &lasts)
 }
 

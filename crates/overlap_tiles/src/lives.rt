@@ -1,7 +1,7 @@
 #![tactic(auto)]
 //! The last steps that read a stage.
 
-ghost use Rattle.std.specs.Prelude.{◌≡◌, map, slice_set, IfOk, OnOk};
+ghost use Rattle.std.specs.Prelude.{◌≡◌, map, slice_set, IfOk};
 ghost use Rattle.job.specs.Kept.{pipeline_in};
 ghost use Rattle.job.specs.Reads.{stage_read};
 ghost use Rattle.job.specs.ReadViews.{read_view};
@@ -41,20 +41,12 @@ fn mark_reads(lasts: &mut [usize], reads: &[Read], place: usize)
 }
 
 /// Enters what a stage reads, whose step stands at this place, behind all steps that were entered before.
-pub(crate) fn mark(
-    lasts: &mut Vec<usize>,
-    alloc: Global,
-    job: &Job,
-    stage: usize,
-    place: usize,
-) -> Result<(), AllocError>
-    ensures { OnOk result (lasts.new.items
-        ≡ marked place lasts.old.items (reads_at (pipeline_in job.now) stage)) }
+pub(crate) fn mark(lasts: &mut Vec<usize>, job: &Job, stage: usize, place: usize)
+    ensures { lasts.new.items ≡ marked place lasts.old.items (reads_at (pipeline_in job.now) stage) }
 {
-    if let Some(reads) = job.reads(alloc, stage)? {
-        mark_reads(lasts, &reads, place);
+    if let Some(reads) = job.reads(stage) {
+        mark_reads(lasts, reads, place);
     }
-    Ok(())
 }
 
 /// For each stage the last place among the steps at which it is read; 0 where it is not.
@@ -68,7 +60,7 @@ pub(crate) fn last_readers(
 {
     let mut lasts = vec![in alloc; 0; job.stages().len()]?;
     for (place, step) in steps.iter().enumerate() {
-        mark(&mut lasts, alloc, job, step.stage, place)?;
+        mark(&mut lasts, job, step.stage, place);
     }
     Ok(lasts)
 }

@@ -201,25 +201,15 @@ impl TargetWalk<'_> {
 }
 
 /// Whether a stage reads nothing that is inlined.
-///
-/// # Errors
-///
-/// Fails only where memory is refused.
-pub fn reads_stored(
-    alloc: Global,
-    inlining: &InlinedStages,
-    stage: &Stage,
-) -> Result<bool, AllocError>
-    ensures { IfOk result (λ b. b
-        ≡ reads_stored inlining.now (reads_of (stage_view stage.now).body)) }
+pub fn reads_stored(inlining: &InlinedStages, stage: &Stage) -> bool
+    ensures { result ≡ reads_stored inlining.now (reads_of (stage_view stage.now).body) }
 {
-    let reads = stage.reads(alloc)?;
-    for read in reads.iter() {
+    for read in stage.reads() {
         if inlining.inlined(stage_of(read)) {
-            return Ok(false);
+            return false;
         }
     }
-    Ok(true)
+    true
 }
 
 /// The stage that is read.
@@ -255,7 +245,7 @@ pub(crate) fn tally_of(
     let Some(stage) = job.stage(number) else {
         return Ok(None);
     };
-    let is_alone = reads_stored(alloc, inlining, stage)?;
+    let is_alone = reads_stored(inlining, stage);
     let areas = areas_of_tiles(alloc, &grid)?;
     let walk = TargetWalk {
         job,

@@ -14,7 +14,7 @@ returns-clause-ranges c =
     let job = pipeline_in c.args.job.now in
     let inner : List (ℕ × Area) = map step_view c.args.inner.now in
     let table : c.deref.result.now ≡ last_readers job (inner ++ step_view c.args.target ∷ []) =
-    c.deref.ensures.value ∙ c.in_ok-mark.ensures
+    c.deref.ensures.value ∙ c.mark.ensures
     ∙ ap (λ (ls : List ℕ). marked (length c.args.inner.now) ls (reads_at job c.args.target.stage)) c.in_ok-lasts.ensures
     ∙ last_readers_push job inner (step_view c.args.target) (length c.args.inner.now) (sym (length-map c.args.inner.now step_view)) in
     IfOk-weaker c.ranges-2.result _ _ (λ rs e. e ∙ ap (λ (ls : List ℕ). ranges_by ls inner) table) c.ranges-2.ensures.ranges

@@ -49,4 +49,4 @@ tally-requires-clause-alone c =
     let there : slice_get job.stages c.args.number ≡ Some (stage_view c.in-Some-stage.stage.now) = sym c.stage.ensures
     ∙ ap (option_map (λ s. stage_view s.now)) c.in-Some-stage.is in
     λ holds a. alone_takes_none (record { job = job; inlining = c.args.inlining.now; stage = c.args.number; region = a })
-    (stage_view c.in-Some-stage.stage.now) there (sym c.in_ok-is_alone.ensures ∙ holds)
+    (stage_view c.in-Some-stage.stage.now) there (sym c.reads_stored-is_alone.ensures ∙ holds)
