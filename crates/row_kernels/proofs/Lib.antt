@@ -9,3 +9,5 @@ pub mod LastBits
 pub mod Taps
 pub mod Pieces
 pub mod Gaps
+pub mod ProductLaws
+pub mod Separating

@@ -7,5 +7,6 @@ pub mod Places
 pub mod Columns
 pub mod RowMask
 pub mod Stencil
+pub mod Separable
 pub mod Lookup
 pub mod inside

@@ -21,6 +21,7 @@ mod reciprocal;
 mod row_span;
 mod row_sums;
 mod sample_rows;
+mod separable;
 mod stencil;
 mod stencil3x3;
 mod sums;
@@ -43,7 +44,8 @@ pub use operators::{
 pub use row_span::{RowSpan, number_after};
 pub use row_sums::write_taps;
 pub use sample_rows::{gather_samples, take_samples};
-pub use stencil::add_taps;
+pub use separable::SeparableKernel;
+pub use stencil::{add_tap, add_taps};
 pub use stencil3x3::Kernel3x3;
 pub use sums::add_terms;
 pub use term::Term;

@@ -12,8 +12,8 @@ use crate::pairs::{Scaled, Sum};
 use crate::quintuple::Quintuple;
 use crate::stencil3x3::Triple;
 
-// Adds the products of a factor and the samples of a line.
-fn add_tap(out: &mut [i32], line: &[i32], factor: i32)
+/// Adds the products of a factor and the samples of a line.
+pub fn add_tap(out: &mut [i32], line: &[i32], factor: i32)
     requires { length line.now ≡ length out.old }
     ensures { EachPlace (length out.old) (λ k. (s : ℤ) → at out.old k ≡ wrapped s
         → at out.new k ≡ wrapped (s +ℤ factor *ℤ at line.now k)) }

@@ -13,3 +13,4 @@ pub mod RowByRow
 pub mod TrueTiles
 pub mod NearAreas
 pub mod SpansByParts
+pub mod Separated

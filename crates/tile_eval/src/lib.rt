@@ -27,4 +27,4 @@ pub use rows::{line_along, number_along};
 pub use source::RowSource;
 pub use source_row::SourceRow;
 pub use stages::stage_of;
-pub use true_stages::{TrueStages, function_tile, plain, plain_all, true_tile};
+pub use true_stages::{TrueStages, function_tile, plain, plain_all};

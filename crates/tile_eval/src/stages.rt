@@ -68,10 +68,10 @@ impl StageBuffers {
         ensures inputs { OnOk result
             (HasInputs (pipeline_in job.now) self.new.buffers.items stage) }
     {
-        let Some(reads) = job.reads(alloc, stage)? else {
+        let Some(reads) = job.reads(stage) else {
             return Ok(());
         };
-        for read in &reads {
+        for read in reads {
             self.learn(alloc, job, stage_of(read))?;
         }
         Ok(())

@@ -6,13 +6,29 @@ ghost use Rattle.domains.specs.Arithmetic.{wrapped, floor_div};
 ghost use Rattle.job.specs.Values.{kernel_row, kernel_column, weighted_sum};
 ghost use Rattle.job.specs.WellFormed.{IsDivisor, IsKernel};
 ghost use Rattle.row_kernels.specs.Rows.{EachPlace, at};
+ghost use Rattle.row_kernels.specs.Separable.{IsSeparable};
 ghost use Rattle.tile_eval.specs.Reading.{KernelWithin};
-ghost use Rattle.tile_eval.specs.inside.Stencil.{row_sum, IsUnder};
+ghost use Rattle.tile_eval.specs.inside.Stencil.{row_sum, column_sum, IsUnder};
 
 use crate::source::RowSource;
 use crate::source_row::SourceRow;
 use job::Kernel;
-use row_kernels::{Kernel3x1, Kernel3x3, Kernel5x1, Operand, add_taps, divide_by, write_taps};
+use row_kernels::{
+    Kernel3x1, Kernel3x3, Kernel5x1, Operand, SeparableKernel, add_tap, add_taps, divide_by, fill,
+    write_taps,
+};
+
+// Along rows of fewer points it takes longer to take a kernel apart than that spares.
+const WIDE: usize = 128;
+
+// Whether a kernel has at least three rows and columns, and more than three of one of them.
+fn has_many_factors(kernel: &Kernel) -> bool {
+    match kernel.as_slice() {
+        [first, _, _, _, ..] => first.as_slice().len() >= 3,
+        [first, _, _, ..] => first.as_slice().len() > 3,
+        _ => false,
+    }
+}
 
 impl<'a, S: RowSource> SourceRow<'a, S> {
     // The samples under a row of a kernel.
@@ -233,6 +249,85 @@ impl<'a, S: RowSource> SourceRow<'a, S> {
             || self.sums_of_five(stage, kernel, out)
     }
 
+    // Adds up the samples that lie one below another under a kernel, each times the factor of its row. Answers false if the source
+    // does not give all of them.
+    fn sum_columns(&self, stage: usize, kernel: &Kernel, down: &[i32], sums: &mut [i32]) -> bool
+        requires kernel { IsKernel kernel.now }
+        requires down { length kernel.now ≡ length down.now }
+        requires reads { EachPlace (length down.now) (λ a. EachPlace (length sums.old)
+            (λ j. S.has self.now.source.now stage (kernel_row kernel.now self.now.points.row a)
+            (kernel_column kernel.now self.now.points.col j))) }
+        ensures { IsTrue result
+            → EachPlace (length sums.old) (λ j. at sums.new j
+            ≡ wrapped (column_sum kernel.now (S.samples self.now.source.now stage)
+            self.now.points.row self.now.points.col down.now j)) }
+    {
+        fill(sums, 0);
+        for a in 0..down.len() {
+            let Some(line) = self.borrowed_line(stage, kernel, a, sums.len()) else {
+                return false;
+            };
+            add_tap(sums, line, down[a]);
+        }
+        true
+    }
+
+    // The sums of a stencil whose kernel is a product, first down and then along: n + m products for a kernel of n rows and m columns.
+    // Answers false, and writes no sums, if the source does not give all that it reads.
+    fn sums_down_and_along(
+        &self,
+        stage: usize,
+        kernel: &Kernel,
+        separable: &SeparableKernel,
+        out: &mut [i32],
+        temps: &mut [i32],
+    ) -> bool
+        requires kernel { IsKernel kernel.now }
+        requires separable { IsSeparable kernel.now separable.now.down.items
+            separable.now.along.items }
+        requires reads { KernelWithin (S.has self.now.source.now stage) kernel.now
+            self.now.points.row self.now.points.col (length out.old) }
+        requires room { length out.old + 14 ≤ length temps.old }
+        ensures { IsTrue result
+            → EachPlace (length out.old) (λ k. at out.new k
+            ≡ wrapped (weighted_sum kernel.now (S.samples self.now.source.now stage)
+            self.now.points.row (self.now.points.col +ℤ pos k))) }
+    {
+        let along = separable.along();
+        let sums = &mut temps[..out.len() + along.len() - 1];
+        if !self.sum_columns(stage, kernel, separable.down(), sums) {
+            return false;
+        }
+        write_taps(out, sums, along);
+        true
+    }
+
+    // The sums of a stencil along a wide row, if its kernel has many factors and is a product, likewise.
+    fn sums_of_separable(
+        &self,
+        stage: usize,
+        kernel: &Kernel,
+        out: &mut [i32],
+        temps: &mut [i32],
+    ) -> bool
+        requires kernel { IsKernel kernel.now }
+        requires reads { KernelWithin (S.has self.now.source.now stage) kernel.now
+            self.now.points.row self.now.points.col (length out.old) }
+        requires room { length out.old + 14 ≤ length temps.old }
+        ensures { IsTrue result
+            → EachPlace (length out.old) (λ k. at out.new k
+            ≡ wrapped (weighted_sum kernel.now (S.samples self.now.source.now stage)
+            self.now.points.row (self.now.points.col +ℤ pos k))) }
+    {
+        if out.len() < WIDE || !has_many_factors(kernel) {
+            return false;
+        }
+        match SeparableKernel::of(kernel) {
+            Some(separable) => self.sums_down_and_along(stage, kernel, &separable, out, temps),
+            None => false,
+        }
+    }
+
     /// The values of a stencil.
     pub(crate) fn stencil(
         &self,
@@ -251,7 +346,9 @@ impl<'a, S: RowSource> SourceRow<'a, S> {
             ≡ floor_div (wrapped (weighted_sum kernel.now (S.samples self.now.source.now stage)
             self.now.points.row (self.now.points.col +ℤ pos k))) (pos divisor)) }
     {
-        if !self.sums_at_once(stage, kernel, out) {
+        if !self.sums_at_once(stage, kernel, out)
+            && !self.sums_of_separable(stage, kernel, out, temps)
+        {
             self.sums_by_rows(stage, kernel, out, temps);
         }
         divide_by(out, Operand::Written, divisor);

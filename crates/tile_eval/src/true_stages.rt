@@ -124,27 +124,6 @@ pub fn function_tile(job: &Job, stage: usize, row: u32, col: u32) -> Option<Area
     }
 }
 
-/// The values of a function on its tile in this row and column of its grid, row by row: each stage that it reads is computed whole
-/// before, and so is it. There are none where it has no such tile, or no function has this number.
-///
-/// # Errors
-///
-/// Fails only where memory is refused.
-pub fn true_tile(
-    alloc: Global,
-    job: &Job,
-    stage: usize,
-    row: u32,
-    col: u32,
-) -> Result<Option<Vec<i32>>, AllocError>
-    ensures some { IfOk result (λ found. IfSome found
-        (λ values. IsTrueTile (pipeline_in job.now) stage row col values.items)) }
-    ensures none { IfOk result (λ found. IfNone found
-        ((values : List ℤ) → ¬ (IsTrueTile (pipeline_in job.now) stage row col values))) }
-{
-    TrueStages::of(alloc, job, &[stage])?.tile(alloc, stage, row, col)
-}
-
 /// The values of a plane or a function on its whole domain, row by row: without tiles, each stage that it reads is computed whole
 /// before. There are none where no stage has this number, or an accumulator does.
 ///

@@ -8,6 +8,10 @@ abbrev pub row_sum : List (List ℤ) → (ℤ → ℤ → ℤ) → ℤ → ℤ �
 row_sum kernel f r c a =
     sum_below (length (factors kernel a)) (λ b. at (factors kernel a) b *ℤ f (kernel_row kernel r a) (kernel_column kernel c b))
 
+-- the samples in column j under a kernel, each times the factor of its row, added up
+abbrev pub column_sum : List (List ℤ) → (ℤ → ℤ → ℤ) → ℤ → ℤ → List ℤ → ℕ → ℤ
+column_sum kernel f r c down j = sum_below (length down) (λ a. at down a *ℤ f (kernel_row kernel r a) (kernel_column kernel c j))
+
 -- the numbers of the line are the samples under row a of a kernel about the points of row r from column c on
 abbrev pub IsUnder : List (List ℤ) → (ℤ → ℤ → ℤ) → ℤ → ℤ → ℕ → List ℤ → Type 0
 IsUnder kernel f r c a line = EachPlace (length line) (λ j. at line j ≡ f (kernel_row kernel r a) (kernel_column kernel c j))

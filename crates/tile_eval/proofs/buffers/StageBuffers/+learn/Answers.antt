@@ -56,12 +56,11 @@ pub learn_reads-learn-requires : goal.learn_reads-learn-requires
 learn_reads-learn-requires t c =
     let job = pipeline_in c.args.job.now in
     let ranks : ℕ → ℕ = rank_of job.stages in
-    let one : ranks (stage_read (read_view (slice_index_or c.deref-read-items.result.now c.loop-read.read-index c.read-item.result))) <
+    let one : ranks (stage_read (read_view (slice_index_or c.in-Some.reads.now c.loop-read.read-index c.read-item.result))) <
     ranks c.args.stage =
-    read_falls job c.args.job.now.well c.args.stage c.loop-read.read-index c.deref-read-items.result.now c.read-item.result
-    (option_map (λ reads. map read_view reads.items) c.in_ok-reads.field-0) c.in_ok-reads.ensures
-    (ap (option_map (λ reads. map read_view reads.items)) c.in-Some.is
-    ∙ ap (λ xs. Some (map read_view xs)) (sym c.deref-read-items.ensures.value))
+    read_falls job c.args.job.now.well c.args.stage c.loop-read.read-index c.in-Some.reads.now c.read-item.result
+    (option_map (λ reads. map read_view reads.now) c.reads.result) c.reads.ensures
+    (ap (option_map (λ reads. map read_view reads.now)) c.in-Some.is)
     c.loop-read-test.true in
     let falls : ranks c.stage_of.result < ranks c.args.stage =
     subst (λ h. ranks h < ranks c.args.stage) (sym (c.stage_of.ensures ∙ ap (λ x. stage_read (read_view x)) c.read-item.is)) one in
@@ -74,13 +73,13 @@ learn_reads-loop-read-preserved t c = (
   c.in_ok-learn.ensures.places,
   c.in_ok-learn.ensures.right,
   (λ g known. c.in_ok-learn.ensures.more g (c.loop-read.invariant.2 g known)),
-  read_more (pipeline_in c.args.job.now) c.loop-read.self.buffers.items c.learn.new.self.buffers.items c.deref-read-items.result.now
+  read_more (pipeline_in c.args.job.now) c.loop-read.self.buffers.items c.learn.new.self.buffers.items c.in-Some.reads.now
       c.loop-read.read-index c.in_ok-learn.ensures.more
       (λ d.
       subst (λ h. AreKnownOf (pipeline_in c.args.job.now) c.learn.new.self.buffers.items h)
       (c.stage_of.ensures
       ∙ ap (λ x. stage_read (read_view x))
-      (c.read-item.is ∙ same_read c.deref-read-items.result.now c.loop-read.read-index c.read-item.result d c.loop-read-test.true))
+      (c.read-item.is ∙ same_read c.in-Some.reads.now c.loop-read.read-index c.read-item.result d c.loop-read-test.true))
       (served_known (pipeline_in c.args.job.now) c.stage_of.result c.learn.new.self.buffers.items c.in_ok-learn.ensures.served))
       c.loop-read.invariant.3,
 )
@@ -88,10 +87,7 @@ learn_reads-loop-read-preserved t c = (
 pub learn_reads-returns-clause-inputs : goal.learn_reads-returns-clause-inputs
 learn_reads-returns-clause-inputs t c =
     let job = pipeline_in c.args.job.now in
-    all_read job c.args.stage c.loop-read.self.buffers.items c.in-Some.reads.items
-    (option_map (λ reads. map read_view reads.items) c.in_ok-reads.field-0) c.in_ok-reads.ensures
-    (ap (option_map (λ reads. map read_view reads.items)) c.in-Some.is)
-    (λ k d h.
-    subst (λ xs. AreKnownOf job c.loop-read.self.buffers.items (stage_read (read_view (slice_index_or xs k d))))
-    c.deref-read-items.ensures.value
-    (c.loop-read.invariant.3 k d (omega (arith, h, c.loop-read-test.false, ap length c.deref-read-items.ensures.value))))
+    all_read job c.args.stage c.loop-read.self.buffers.items c.in-Some.reads.now
+    (option_map (λ reads. map read_view reads.now) c.reads.result) c.reads.ensures
+    (ap (option_map (λ reads. map read_view reads.now)) c.in-Some.is)
+    (λ k d h. c.loop-read.invariant.3 k d (omega (arith, h, c.loop-read-test.false)))

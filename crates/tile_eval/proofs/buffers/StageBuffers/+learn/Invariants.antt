@@ -22,4 +22,4 @@ invariant-learn_reads-loop-read l =
     × AreTrue (pipeline_in l.job) l.self.buffers.items
     × KnowsMore l.fn.self.buffers.items l.self.buffers.items
     × ((k : ℕ) (d : Read) → k < l.read-index
-    → AreKnownOf (pipeline_in l.job) l.self.buffers.items (stage_read (read_view (slice_index_or l.read-items k d))))
+    → AreKnownOf (pipeline_in l.job) l.self.buffers.items (stage_read (read_view (slice_index_or l.reads k d))))

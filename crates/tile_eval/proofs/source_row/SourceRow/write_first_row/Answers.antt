@@ -1,4 +1,4 @@
-use Rattle.std.proofs.Common.{arith, ℤ, ◌≡◌, ◌<◌, ◌≤◌, ◌+◌, ◌-◌, List, length, ◌∙◌, ap}
+use Rattle.std.proofs.Common.{arith, ℤ, ◌≡◌, ◌≤◌, ◌+◌, ◌-◌, List, length, ◌∙◌, ap}
 use Rattle.std.proofs.lemmas.Grind.{common_steps}
 use Rattle.std.specs.Prelude.{slice_index_or}
 use Rattle.job.specs.Values.{factors}
