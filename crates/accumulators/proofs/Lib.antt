@@ -1,3 +1,4 @@
+pub mod Crossing
 pub mod TotalsOfAnswer
 pub mod TileTotals
 pub mod TakenPartials

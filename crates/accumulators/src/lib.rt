@@ -13,5 +13,5 @@ mod totals_room;
 pub use answer::{Answer, Total, answer_of, evaluate};
 pub use partials::partial;
 pub use pictures::{KnownTiles, OpenPlane, Sheet, area_of_row, image_of, picture_with};
-pub use reductions::{accumulator_tile, join_into, partial_of, true_partial, whole};
+pub use reductions::{accumulator_tile, join_into, partial_of, whole};
 pub use running::Gathering;

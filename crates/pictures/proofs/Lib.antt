@@ -1,3 +1,4 @@
+pub mod Crossing
 pub mod PlanesRowByRow
 pub mod PictureOfAnswer
 pub mod TrueImage

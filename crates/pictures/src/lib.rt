@@ -1,4 +1,4 @@
-//! The picture of a job's output, row by row from tiles of its functions.
+//! The picture of a job's output: samples of its functions, clamped and added row of tiles by row of tiles.
 #![tactic(auto)]
 
 mod parting;

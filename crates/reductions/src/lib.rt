@@ -13,4 +13,4 @@ mod whole_totals;
 pub use bin_starts::starts;
 pub use join::{join_each, join_into};
 pub use rows_room::RowsRoom;
-pub use whole_totals::{accumulator_tile, partial_of, true_partial, whole};
+pub use whole_totals::{accumulator_tile, partial_of, whole};

@@ -92,25 +92,3 @@ pub fn partial_of(
         None => Ok(None),
     }
 }
-
-/// What an accumulator gathers in its bins, rising, over its tile in this row and column of its grid: each stage that it reads is
-/// computed whole before. There is nothing where it has no such tile, or no accumulator has this number.
-///
-/// # Errors
-///
-/// Fails only where memory is refused.
-pub fn true_partial(
-    alloc: Global,
-    job: &Job,
-    stage: usize,
-    row: u32,
-    col: u32,
-) -> Result<Option<Vec<i64>>, AllocError>
-    ensures some { IfOk result (λ found. IfSome found
-        (λ bins. IsTruePartial (pipeline_in job.now) stage row col bins.items)) }
-    ensures none { IfOk result (λ found. IfNone found
-        ((bins : List ℤ) → ¬ (IsTruePartial (pipeline_in job.now) stage row col bins))) }
-{
-    let stages = TrueStages::of(alloc, job, &[stage])?;
-    partial_of(alloc, &stages, stage, row, col)
-}

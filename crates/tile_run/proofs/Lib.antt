@@ -1,3 +1,4 @@
+pub mod Crossing
 pub mod NeedsAreHeld
 pub mod LastsAreFound
 pub mod RunAllStores

@@ -1,7 +1,7 @@
 #![tactic(auto)]
 //! Which stored functions are needed for what a job answers, and how long.
 
-ghost use Rattle.std.specs.Prelude.{◌≡◌, ◌+◌, ◌<◌, ℕ, Bool, List, length, map, IfOk, OnOk};
+ghost use Rattle.std.specs.Prelude.{◌≡◌, ◌+◌, ◌<◌, ℕ, Bool, List, length, map, IfOk};
 ghost use Rattle.job.specs.Kept.{pipeline_in};
 ghost use Rattle.job.specs.ReadViews.{read_view};
 ghost use Rattle.job.specs.Views.{stage_view};
@@ -71,9 +71,9 @@ impl Uses {
             lasts: vec![in alloc; Turn::Never; job.stages().len()]?,
         };
         for back in 0..last {
-            uses.add_rank(alloc, job, schedule, last - back)?;
+            uses.add_rank(job, schedule, last - back);
         }
-        uses.add_rank(alloc, job, schedule, 0)?;
+        uses.add_rank(job, schedule, 0);
         Ok(uses)
     }
 
@@ -111,41 +111,26 @@ impl Uses {
     }
 
     // A stage reads what it reads.
-    fn add_reads(
-        &mut self,
-        alloc: Global,
-        job: &Job,
-        schedule: &Schedule,
-        number: usize,
-    ) -> Result<(), AllocError>
-        ensures { OnOk result (self.new.lasts.items
-            ≡ with_reads (pipeline_in job.now) schedule.now.inlining self.old.lasts.items number) }
+    fn add_reads(&mut self, job: &Job, schedule: &Schedule, number: usize)
+        ensures { self.new.lasts.items
+            ≡ with_reads (pipeline_in job.now) schedule.now.inlining self.old.lasts.items number }
     {
         if let Some(stage) = job.stage(number) {
             let turn = self.reads_turn(job, schedule, number, stage);
-            all_read_in(&mut self.lasts, &stage.reads(alloc)?, turn);
+            all_read_in(&mut self.lasts, stage.reads(), turn);
         }
-        Ok(())
     }
 
     // And so do all stages of a rank, once those of greater ranks have.
-    fn add_rank(
-        &mut self,
-        alloc: Global,
-        job: &Job,
-        schedule: &Schedule,
-        rank: usize,
-    ) -> Result<(), AllocError>
+    fn add_rank(&mut self, job: &Job, schedule: &Schedule, rank: usize)
         requires { HasLastsFrom (pipeline_in job.now) schedule.now.inlining (rank + 1)
             self.old.lasts.items }
-        ensures { OnOk result (HasLastsFrom (pipeline_in job.now) schedule.now.inlining rank
-            self.new.lasts.items) }
+        ensures { HasLastsFrom (pipeline_in job.now) schedule.now.inlining rank self.new.lasts.items }
     {
         for number in 0..job.stages().len() {
             if job.rank(number) == Some(rank) {
-                self.add_reads(alloc, job, schedule, number)?;
+                self.add_reads(job, schedule, number);
             }
         }
-        Ok(())
     }
 }

@@ -1,4 +1,4 @@
-//! What a tile reads: samples of planes, and numbers of tiles that are given.
+//! What a tile reads: samples of planes, converted once where they are read often, and numbers of supplied tiles.
 #![tactic(auto)]
 
 mod given_rows;

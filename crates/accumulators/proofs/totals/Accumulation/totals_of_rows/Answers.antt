@@ -4,7 +4,19 @@ use Rattle.rayon.proofs.ToStd.{nat_range-All}
 use Rattle.reductions.specs.Accumulating.{AreBins}
 use Rattle.accumulators.specs.inside.Making.{totals_of_row, AreTotalsOfRow}
 use Rattle.pictures.proofs.MadeInOrder.{collected, collected_all}
+use denote.Param.Send.{sendable}
+use Rattle.std.proofs.Crossing as owners
+use Rattle.accumulators.proofs.Crossing.{accumulation_sync}
 use Rattle.accumulators.proofs.totals.Accumulation.totals_of_rows.Goals as goal
+
+pub map_init-requires-send-F : goal.map_init-requires-send-F
+map_init-requires-send-F g c κs within = search (accumulation_sync, sendable, owners.crosses) depth 40
+
+pub map_init-requires-sync-F : goal.map_init-requires-sync-F
+map_init-requires-sync-F g c κs within = search (accumulation_sync, sendable, owners.crosses) depth 40
+
+pub collect-requires-send-Self : goal.collect-requires-send-Self
+collect-requires-send-Self g c κs within = search (accumulation_sync, sendable, owners.crosses) depth 40
 
 pub collect-requires-clause-ready : goal.collect-requires-clause-ready
 collect-requires-clause-ready g c κs within =

@@ -7,7 +7,19 @@ use Rattle.pictures.specs.declared.strip.Strip.{Strip}
 use Rattle.pictures.specs.RowAreas.{row_area}
 use Rattle.pictures.specs.inside.Strips.{IsStripOf}
 use Rattle.pictures.proofs.MadeInOrder.{collected}
+use denote.Param.Send.{sendable}
+use Rattle.std.proofs.Crossing as owners
+use Rattle.pictures.proofs.Crossing.{streamed_sync}
 use Rattle.pictures.proofs.streamed.Streamed.strips.Goals as goal
+
+pub map_init-requires-send-F : goal.map_init-requires-send-F
+map_init-requires-send-F g c κs within = search (streamed_sync, sendable, owners.crosses) depth 40
+
+pub map_init-requires-sync-F : goal.map_init-requires-sync-F
+map_init-requires-sync-F g c κs within = search (streamed_sync, sendable, owners.crosses) depth 40
+
+pub collect-requires-send-Self : goal.collect-requires-send-Self
+collect-requires-send-Self g c κs within = search (streamed_sync, sendable, owners.crosses) depth 40
 
 pub collect-requires-clause-ready : goal.collect-requires-clause-ready
 collect-requires-clause-ready g c κs within =

@@ -6,7 +6,19 @@ use Rattle.tile_run.specs.StageRuns.{row_numbers, row_values}
 use Rattle.tile_run.specs.inside.RowWorks.{row_of}
 use Rattle.tile_run.specs.inside.Running.{grid_values}
 use Rattle.tile_run.proofs.RowsSideBySide.{rows_in_order, each_below}
+use denote.Param.Send.{sendable}
+use Rattle.std.proofs.Crossing as owners
+use Rattle.tile_run.proofs.Crossing.{stage_run_sync}
 use Rattle.tile_run.proofs.stage_run.StageRun.tiles_side_by_side.Goals as goal
+
+pub map_init-requires-send-F : goal.map_init-requires-send-F
+map_init-requires-send-F g c κs within = search (stage_run_sync, sendable, owners.crosses) depth 40
+
+pub map_init-requires-sync-F : goal.map_init-requires-sync-F
+map_init-requires-sync-F g c κs within = search (stage_run_sync, sendable, owners.crosses) depth 40
+
+pub collect-requires-send-Self : goal.collect-requires-send-Self
+collect-requires-send-Self g c κs within = search (stage_run_sync, sendable, owners.crosses) depth 40
 
 pub collect-requires-clause-ready : goal.collect-requires-clause-ready
 collect-requires-clause-ready g c κs within =

@@ -9,7 +9,7 @@ use Rattle.tile_run.specs.declared.uses.Uses.{Uses}
 use Rattle.tile_run.proofs.LastsAreFound.{HasLastsTo, lasts_start, lasts_more, lasts_other, lasts_end}
 use Rattle.tile_run.proofs.TestsOfRanks.{rank_there, rank_elsewhere}
 use Rattle.tile_run.proofs.uses.Uses.add_rank.Goals as goal
-use Rattle.tile_run.proofs.uses.Uses.add_rank.Goals.{then-eq+in_ok-add_reads, else-eq}
+use Rattle.tile_run.proofs.uses.Uses.add_rank.Goals.{then-eq, else-eq}
 
 pub loop-number-init : goal.loop-number-init
 loop-number-init c = lasts_start (pipeline_in c.args.job.now) c.args.schedule.now.inlining c.args.rank c.args.self.now.lasts.items c.requires
@@ -27,9 +27,9 @@ loop-number-preserved c =
     let test : option_eq eqb (option_map (λ s. s.rank) (slice_get job.stages n)) (Some c.args.rank) ≡ c.eq.result =
     sym (c.eq.ensures ∙ ap (λ (o : Option ℕ). option_eq eqb o (Some c.args.rank)) c.rank.ensures) in
     elim c.if-eq.branch [
-      | then-eq+in_ok-add_reads w ↦
+      | then-eq w ↦
           subst (λ (k : Uses). HasLastsTo job inlining c.args.rank (n + 1) k.lasts.items) (sym w.self-is)
-          (subst (HasLastsTo job inlining c.args.rank (n + 1)) (sym w.in_ok-add_reads.ensures)
+          (subst (HasLastsTo job inlining c.args.rank (n + 1)) (sym w.add_reads.ensures)
           (lasts_more job inlining (ranked_is job c.args.job.now.well) c.args.rank n c.loop-number.self.lasts.items c.loop-number.invariant
           within (rank_there job.stages n c.args.rank (test ∙ w.if-eq.true))))
       | else-eq w ↦

@@ -28,7 +28,7 @@ pub loop-back-preserved : goal.loop-back-preserved
 loop-back-preserved c =
     let less : c.last_rank-last.result - c.loop-back.back ≡ c.last_rank-last.result - (c.loop-back.back + 1) + 1 = omega arith in
     subst (λ (r : ℕ). HasLastsFrom (pipeline_in c.args.job.now) c.args.schedule.now.inlining r c.add_rank.new.self.lasts.items) less
-    c.in_ok-add_rank.ensures
+    c.add_rank.ensures
 
 pub returns : goal.returns
-returns c = lasts_all (pipeline_in c.args.job.now) c.args.schedule.now.inlining c.add_rank-2.new.self.lasts.items c.in_ok-add_rank-2.ensures
+returns c = lasts_all (pipeline_in c.args.job.now) c.args.schedule.now.inlining c.add_rank-2.new.self.lasts.items c.add_rank-2.ensures

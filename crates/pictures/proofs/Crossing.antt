@@ -1,0 +1,10 @@
+-- An output that is put together row by row may be shared by threads.
+use denote.Ref.{NamedLft}
+use denote.Param.Send.{IsSync}
+use denote.Param.SendFields.{declared_sync}
+use Rattle.pictures.specs.contracts.streamed.Streamed as Streamed
+use Rattle.tile_run.proofs.Crossing.{stage_run_sync}
+
+module _ (a : NamedLft) where
+  pub streamed_sync : IsSync (Streamed.the_row a)
+  streamed_sync = declared_sync (Streamed.the_type a) (stage_run_sync a, tt)

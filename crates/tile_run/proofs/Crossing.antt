@@ -1,0 +1,128 @@
+-- Jobs may be shared by threads.
+use denote.Builtin.{One}
+use denote.RattleType.{RattleType}
+use denote.Ref.{NamedLft}
+use denote.Hole.{as_row}
+use denote.Hole.FixLaws.{layer_row}
+use denote.Hole.FixSend.{Syncs, fix_sync}
+use denote.Struct.Field.{Field, i32-field, u32-field, usize-field, row_field}
+use denote.Param.Send.{IsSync, sendable}
+use denote.Param.SendFields.{as_row_sync, declared_sync, variants_sync}
+use Rattle.std.proofs.Crossing as owners
+use Rattle.std.specs.contracts.alloc.Global as Global
+use Rattle.std.specs.contracts.boxed.Box as Box
+use Rattle.std.specs.contracts.impls.GlobalAllocator.TheImpl.{ghosts}
+use Rattle.domains.specs.contracts.index.Index as Index
+use Rattle.domains.specs.contracts.operators.BinaryOp as BinaryOp
+use Rattle.domains.specs.contracts.operators.LiteralOp as LiteralOp
+use Rattle.domains.specs.contracts.operators.Relation as Relation
+use Rattle.operations.specs.contracts.point_test.Axis as Axis
+use Rattle.tables.specs.contracts.entries.Entries as Entries
+use Rattle.tables.specs.contracts.table.Table as Table
+use Rattle.job.specs.contracts.bound_pipeline.BoundPipeline as BoundPipeline
+use Rattle.job.specs.contracts.formula.Formula as Formula
+use Rattle.job.specs.contracts.job.Job as Job
+use Rattle.job.specs.contracts.reads.Read as Read
+use Rattle.job.specs.contracts.stage.Accumulator as Accumulator
+use Rattle.job.specs.contracts.stage.Body as Body
+use Rattle.job.specs.contracts.stage.Function as Function
+use Rattle.job.specs.contracts.stage.JobCase as JobCase
+use Rattle.job.specs.contracts.stage.Stage as Stage
+use Rattle.netpbm.specs.contracts.picture.Picture as Picture
+use Rattle.grouping.specs.contracts.schedule.Schedule as Schedule
+use Rattle.tile_run.specs.contracts.stage_run.StageRun as StageRun
+use Rattle.job.specs.contracts.formula.Formula.TheKnot as Knot
+use Rattle.job.specs.declared.formula.Formula.TheBlock as Block
+use Rattle.sequences.specs.contracts.sequence.Sequence as Sequence
+
+axis_sync : IsSync Axis.the_row
+axis_sync = search (sendable, owners.crosses) depth 40
+
+index_sync : IsSync Index.the_row
+index_sync = search (sendable, owners.crosses) depth 40
+
+kernel_sync : IsSync (Sequence.the_row (Sequence.the_row denote.Builtin.i32))
+kernel_sync = search (sendable, owners.crosses) depth 40
+
+entries_sync : IsSync Entries.the_row
+entries_sync = search (sendable, owners.crosses) depth 40
+
+table_sync : IsSync Table.the_row
+table_sync = search (sendable, owners.crosses) depth 40
+
+i32_sync : IsSync i32-field.row
+i32_sync = search (sendable) depth 20
+
+u32_sync : IsSync u32-field.row
+u32_sync = search (sendable) depth 20
+
+usize_sync : IsSync usize-field.row
+usize_sync = search (sendable) depth 20
+
+binary_sync : IsSync BinaryOp.the_row
+binary_sync = search (sendable, owners.crosses) depth 40
+
+literal_sync : IsSync LiteralOp.the_row
+literal_sync = search (sendable, owners.crosses) depth 40
+
+relation_sync : IsSync Relation.the_row
+relation_sync = search (sendable, owners.crosses) depth 40
+
+held : (F : Field) → IsSync F.row → IsSync (as_row (row_field (as_row F)))
+held F y = as_row_sync (row_field (as_row F)) (as_row_sync F y)
+
+declared : (F : Field) → IsSync (as_row F) → IsSync (as_row (row_field (as_row F)))
+declared F y = as_row_sync (row_field (as_row F)) y
+
+boxed : (R : RattleType) → IsSync R → IsSync (as_row (row_field (Box.the_row R Global.the_row ghosts)))
+boxed R y = as_row_sync (row_field (Box.the_row R Global.the_row ghosts)) (owners.Box-sync R y)
+
+layer_sync : (h : Knot.the_members → RattleType) → ((j : Knot.the_members) → IsSync (h j)) → IsSync (layer_row Knot.ring Knot.member-Formula h)
+layer_sync h all =
+    let b = h Knot.member-Formula in let x = boxed b (all Knot.member-Formula) in
+    record { shared = (variants_sync (Knot.type-Formula b b b b b b b b b b b b b) ((held i32-field i32_sync, tt), ((declared Axis.the_field axis_sync, tt), ((held usize-field usize_sync, (declared Index.the_field index_sync, (declared Index.the_field index_sync, tt))), ((x, tt), ((declared BinaryOp.the_field binary_sync, (x, (x, tt))), ((declared LiteralOp.the_field literal_sync, (x, (held u32-field u32_sync, tt))), ((x, tt), ((declared Entries.the_field entries_sync, (x, tt)), ((x, (x, (x, tt))), ((x, (declared Relation.the_field relation_sync, (x, (x, (x, tt))))), ((held usize-field usize_sync, (held u32-field u32_sync, (held (Sequence.the_field (Sequence.the_row denote.Builtin.i32)) kernel_sync, tt))), tt)))))))))))).shared }
+
+step : (i : Knot.the_members) → Syncs Knot.ring i
+step Block.member-Formula = record { sync = layer_sync }
+
+pub hole_sync : IsSync Knot.hole-Formula
+hole_sync = fix_sync Knot.ring step Knot.member-Formula
+
+pub formula_sync : IsSync Formula.the_row
+formula_sync =
+    let x = owners.Box-sync Knot.hole-Formula hole_sync in
+    variants_sync Formula.enum ((as_row_sync i32-field i32_sync, tt), ((axis_sync, tt), ((as_row_sync usize-field usize_sync, (index_sync, (index_sync, tt))), ((x, tt), ((binary_sync, (x, (x, tt))), ((literal_sync, (x, (as_row_sync u32-field u32_sync, tt))), ((x, tt), ((entries_sync, (x, tt)), ((x, (x, (x, tt))), ((x, (relation_sync, (x, (x, (x, tt))))), ((as_row_sync usize-field usize_sync, (as_row_sync u32-field u32_sync, (kernel_sync, tt))), tt)))))))))))
+
+pub read_sync : IsSync Read.the_row
+read_sync = search (sendable, owners.crosses) depth 40
+
+pub case_sync : IsSync JobCase.the_row
+case_sync = declared_sync JobCase.the_type (search (sendable, owners.crosses) depth 40, (search (sendable, owners.crosses) depth 40, (formula_sync, (owners.Vec-sync Read.the_row read_sync, tt))))
+
+pub function_sync : IsSync Function.the_row
+function_sync = search (formula_sync, case_sync, read_sync, sendable, owners.crosses) depth 40
+
+pub accumulator_sync : IsSync Accumulator.the_row
+accumulator_sync = declared_sync Accumulator.the_type (search (sendable, owners.crosses) depth 40, (search (sendable, owners.crosses) depth 40, (formula_sync, (formula_sync, (owners.Vec-sync Read.the_row read_sync, tt)))))
+
+pub body_sync : IsSync Body.the_row
+body_sync = variants_sync Body.enum ((search (sendable, owners.crosses) depth 40, tt), ((function_sync, tt), ((accumulator_sync, tt), tt)))
+
+pub stage_sync : IsSync Stage.the_row
+stage_sync = declared_sync Stage.the_type (search (sendable, owners.crosses) depth 40, (search (sendable, owners.crosses) depth 40, (search (sendable, owners.crosses) depth 40, (body_sync, tt))))
+
+pub picture_sync : IsSync Picture.the_row
+picture_sync = search (sendable, owners.crosses) depth 40
+
+pub pipeline_sync : IsSync BoundPipeline.the_row
+pipeline_sync = search (stage_sync, table_sync, picture_sync, sendable, owners.crosses) depth 40
+
+pub job_sync : IsSync Job.the_row
+job_sync = declared_sync Job.the_type (pipeline_sync, (search (sendable, owners.crosses) depth 40, (search (sendable, owners.crosses) depth 40, (search (sendable, owners.crosses) depth 40, tt))))
+
+pub schedule_sync : IsSync Schedule.the_row
+schedule_sync = search (sendable, owners.crosses) depth 40
+
+module _ (a : NamedLft) where
+  pub stage_run_sync : IsSync (StageRun.the_row a)
+  stage_run_sync = search (job_sync, schedule_sync, sendable, owners.crosses) depth 40
