@@ -1,3 +1,4 @@
+pub mod Crossing
 pub mod RowsAreTargets
 pub mod RowsAreKept
 pub mod StripsGrow

@@ -1,5 +1,6 @@
--- Planes of outputs of one job.
+-- Strips of outputs of one job.
 use Rattle.std.proofs.Common.{arith, ℕ, zero, suc, ◌≡◌, ◌+◌, ◌++◌, ◌∷◌, [], List, drop, map, append_assoc, ap, sym, ◌∙◌}
+use Rattle.std.specs.Prelude.{All}
 use Rattle.std.proofs.lemmas.List.{map-append}
 use Rattle.std.proofs.lemmas.List.Elements.{All-append}
 use Rattle.netpbm.specs.MadePlane.{MadePlane, made, made_samples}
@@ -7,7 +8,7 @@ use Rattle.job.specs.declared.job.Job.{Job}
 use Rattle.bands.specs.Filling.{AreOf}
 use Rattle.bands.specs.declared.strip.Strip.{Strip}
 
--- one plane more
+-- one strip more
 pub of_more : (job : Job) (strips : List Strip) (strip : Strip) → AreOf job strips → strip.job.now ≡ job → AreOf job (strips ++ strip ∷ [])
 of_more job strips strip are is = All-append (λ (s : Strip). s.job.now ≡ job) strips (strip ∷ []) are alone
   where
@@ -15,15 +16,22 @@ of_more job strips strip are is = All-append (λ (s : Strip). s.job.now ≡ job)
     alone zero d low = is
     alone (suc k) d low = absurd (omega arith)
 
--- what holds of some planes and one more holds of those, and of that one
+-- what holds of some things and one more holds of those, and of that one
+module _ {X : Type 0} (P : X → Type 0) where
+  pub all_less : (xs : List X) (x : X) → All P (xs ++ x ∷ []) → All P xs
+  all_less [] x all k d low = absurd (omega arith)
+  all_less (y ∷ ys) x all zero d low = all zero d (omega arith)
+  all_less (y ∷ ys) x all (suc k) d low = all_less ys x (λ m e l. all (suc m) e (omega arith)) k d (omega arith)
+
+  pub all_last : (xs : List X) (x : X) → All P (xs ++ x ∷ []) → P x
+  all_last [] x all = all zero x (omega arith)
+  all_last (y ∷ ys) x all = all_last ys x (λ m e l. all (suc m) e (omega arith))
+
 pub of_less : (job : Job) (strips : List Strip) (strip : Strip) → AreOf job (strips ++ strip ∷ []) → AreOf job strips
-of_less job [] strip are k d low = absurd (omega arith)
-of_less job (x ∷ xs) strip are zero d low = are zero d (omega arith)
-of_less job (x ∷ xs) strip are (suc k) d low = of_less job xs strip (λ m e l. are (suc m) e (omega arith)) k d (omega arith)
+of_less job = all_less (λ (s : Strip). s.job.now ≡ job)
 
 pub of_last : (job : Job) (strips : List Strip) (strip : Strip) → AreOf job (strips ++ strip ∷ []) → strip.job.now ≡ job
-of_last job [] strip are = are zero strip (omega arith)
-of_last job (x ∷ xs) strip are = of_last job xs strip (λ m e l. are (suc m) e (omega arith))
+of_last job = all_last (λ (s : Strip). s.job.now ≡ job)
 
 -- one plane more is whole
 pub made_more : (f : ℕ → List ℕ) (max : ℕ) (planes more : List MadePlane) (plane : MadePlane) (stages : List ℕ) (i stage : ℕ)

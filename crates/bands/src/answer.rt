@@ -1,7 +1,7 @@
 #![tactic(auto)]
 //! The answer of a job, band by band.
 
-ghost use Rattle.std.specs.Prelude.{◌≡◌, [], false, None, map, IfOk, IfErr, IfSome};
+ghost use Rattle.std.specs.Prelude.{◌≡◌, [], false, true, Some, None, map, IfOk, IfErr, IfSome};
 ghost use Rattle.std.specs.Option.{ForSome};
 ghost use Rattle.grouping.specs.Inlining.{IsScheduleOf};
 ghost use Rattle.job.specs.Kept.{pipeline_in, program_id_in};
@@ -9,10 +9,12 @@ ghost use Rattle.netpbm.specs.Image.{IsImage};
 ghost use Rattle.tile_run.specs.Work.{first_too_big, is_accumulator_at, is_stored_function};
 ghost use Rattle.accumulators.specs.Answers.{all_gathered, gathered_at, IsAnswer, IsEvaluationFault};
 
-use crate::picture::picture;
+use crate::picture::{picture, picture_in_strips};
+use crate::strip_job::row_count;
 use accumulators::Answer;
 use grouping::Schedule;
 use job::{Body, Job};
+use netpbm::Picture;
 use rayon::current_num_threads;
 use std::alloc::{AllocError, Global};
 use std::thread::Threads;
@@ -21,18 +23,12 @@ use tile_run::{RunFault, Uses, WORK_OF_TILE, Work, first_too_big, least_rows, po
 /// How much work, in reads and operators, several threads are worth in all: some three milliseconds of it.
 const WORK_WORTH_THREADS: u64 = 16_777_216;
 
-/// How much work each sample of the picture is then: less is done sooner than the parts of several threads are put together.
-const WORK_WORTH_JOINING: u64 = 100;
+/// How much work each sample of the picture is then: less is done sooner than strips are joined.
+const WORK_WORTH_JOINING: u64 = 12;
 
-/// How much work there is in all where less for each sample is worth several threads, too.
-const MUCH_WORK: u64 = 268_435_456;
-
-/// How much work each sample of the picture is in that case.
-const WORK_WORTH_JOINING_MUCH: u64 = 40;
-
-/// The answer of a job, as `accumulators::evaluate` gives it, and under the same clauses. Where there is work for one thread alone, the job
-/// has no accumulator, and no output is read by another stage, it is made band by band: a row of tiles of each output, once those
-/// rows of the other functions are made that it needs; and each row is kept only as long as it is read.
+/// The answer of a job, as `accumulators::evaluate` gives it, and under the same clauses. Where the job has no accumulator, and no output
+/// is read by another stage, it is made band by band: a row of tiles of each output, once those rows of the other functions are made
+/// that it needs; and each row is kept only as long as it is read. Where there is work for several threads, each has a strip of the rows.
 ///
 /// # Errors
 ///
@@ -56,12 +52,26 @@ pub fn evaluate(
     ensures fault { IfErr result (IsEvaluationFault (program_id_in job.now) (pipeline_in job.now)
         schedule.now.inlining) }
 {
-    if is_for_one(rt, job, schedule) {
-        if let Some(answer) = evaluate_in_bands(alloc, job, schedule)? {
-            return Ok(answer);
-        }
+    let found = if is_for_one(rt, job, schedule) {
+        evaluate_in_bands(alloc, job, schedule)?
+    } else {
+        evaluate_in_strips(rt, alloc, job, schedule, rows_for_each(rt, job))?
+    };
+    match found {
+        Some(answer) => Ok(answer),
+        None => accumulators::evaluate(rt, alloc, job, schedule),
     }
-    accumulators::evaluate(rt, alloc, job, schedule)
+}
+
+// How many rows of tiles of an output each thread makes.
+fn rows_for_each(rt: &impl Threads, job: &Job) -> u32 {
+    match job.outputs().first() {
+        Some(output) => {
+            let threads = u32::try_from(current_num_threads(rt)).unwrap_or(u32::MAX);
+            row_count(job, *output).div_ceil(threads)
+        }
+        None => 0,
+    }
 }
 
 // Whether one thread answers as soon as several: where there is one processor, where no stage has rows of tiles for two threads, and
@@ -73,12 +83,7 @@ fn is_for_one(rt: &impl Threads, job: &Job, schedule: &Schedule) -> bool {
 // Whether the work that a job takes is little, by a guess.
 fn is_little(job: &Job, schedule: &Schedule) -> bool {
     let work = work_of_all(job, schedule);
-    let each = if work < MUCH_WORK {
-        WORK_WORTH_JOINING
-    } else {
-        WORK_WORTH_JOINING_MUCH
-    };
-    work < WORK_WORTH_THREADS || work < samples_of_all(job).saturating_mul(each)
+    work < WORK_WORTH_THREADS || work < samples_of_all(job).saturating_mul(WORK_WORTH_JOINING)
 }
 
 // How much work the tiles of all stages are: the schedule says how many points they take together, and each is taken for one of the
@@ -133,7 +138,7 @@ fn is_small(job: &Job, schedule: &Schedule, stage: usize) -> bool {
     }
 }
 
-/// The answer of a job by one thread, band by band. There is none where the job has an accumulator, where another stage reads an output,
+/// The answer of a job by this thread alone, band by band. There is none where the job has an accumulator, where another stage reads an output,
 /// where a tile takes too much scratch memory, and where a row would be needed once it has gone.
 ///
 /// # Errors
@@ -155,22 +160,75 @@ pub fn evaluate_in_bands(
         (λ answer. first_too_big (pipeline_in job.now) schedule.now.inlining
         (is_accumulator_at (pipeline_in job.now)) ≡ None)) }
 {
-    if has_accumulators(job) || has_read_outputs(alloc, job, schedule)? {
-        return Ok(None);
-    }
-    if first_too_big(alloc, job, schedule, Work::Functions)?.is_some() {
-        return Ok(None);
-    }
-    if first_too_big(alloc, job, schedule, Work::Accumulators)?.is_some() {
+    if !goes_by_rows(alloc, job, schedule)? {
         return Ok(None);
     }
     let Some(picture) = picture(alloc, job, schedule)? else {
         return Ok(None);
     };
-    Ok(Some(Answer {
+    Ok(Some(answer_with(alloc, picture)))
+}
+
+/// The same in strips of `len` rows of tiles of each output, each strip by a thread of its own, which makes what it reads for itself.
+///
+/// # Errors
+///
+/// Fails only where memory is refused.
+pub fn evaluate_in_strips(
+    rt: &(impl Threads + Sync),
+    alloc: Global,
+    job: &Job,
+    schedule: &Schedule,
+    len: u32,
+) -> Result<Option<Answer>, AllocError>
+    requires schedule { IsScheduleOf (pipeline_in job.now) schedule.now }
+    ensures answer { IfOk result (λ found. IfSome found (IsAnswer (pipeline_in job.now))) }
+    ensures image { IfOk result (λ found. IfSome found
+        (λ answer. ForSome answer.picture IsImage)) }
+    ensures functions { IfOk result (λ found. IfSome found
+        (λ answer. first_too_big (pipeline_in job.now) schedule.now.inlining
+        (is_stored_function (pipeline_in job.now) schedule.now.inlining) ≡ None)) }
+    ensures accumulators { IfOk result (λ found. IfSome found
+        (λ answer. first_too_big (pipeline_in job.now) schedule.now.inlining
+        (is_accumulator_at (pipeline_in job.now)) ≡ None)) }
+{
+    if len == 0 || !goes_by_rows(alloc, job, schedule)? {
+        return Ok(None);
+    }
+    let Some(picture) = picture_in_strips(rt, alloc, job, schedule, len)? else {
+        return Ok(None);
+    };
+    Ok(Some(answer_with(alloc, picture)))
+}
+
+// A picture, and no total.
+fn answer_with(alloc: Global, picture: Picture) -> Answer
+    ensures picture { result.picture ≡ Some picture }
+    ensures totals { result.totals.items ≡ [] }
+{
+    Answer {
         picture: Some(picture),
         totals: Vec::new(alloc),
-    }))
+    }
+}
+
+// Whether a job may be answered row by row: it has no accumulator, nothing reads an output, and each tile has room.
+fn goes_by_rows(alloc: Global, job: &Job, schedule: &Schedule) -> Result<bool, AllocError>
+    requires schedule { IsScheduleOf (pipeline_in job.now) schedule.now }
+    ensures none { IfOk result (λ goes. goes ≡ true → all_gathered (pipeline_in job.now) ≡ []) }
+    ensures functions { IfOk result (λ goes. goes ≡ true → first_too_big (pipeline_in job.now)
+        schedule.now.inlining
+        (is_stored_function (pipeline_in job.now) schedule.now.inlining) ≡ None) }
+    ensures accumulators { IfOk result (λ goes. goes ≡ true → first_too_big (pipeline_in job.now)
+        schedule.now.inlining (is_accumulator_at (pipeline_in job.now)) ≡ None) }
+{
+    if has_accumulators(job) || has_read_outputs(alloc, job, schedule)? {
+        return Ok(false);
+    }
+    if first_too_big(alloc, job, schedule, Work::Functions)?.is_some() {
+        return Ok(false);
+    }
+    Ok(first_too_big(alloc, job, schedule, Work::Accumulators)?.is_none())
 }
 
 // Whether a job has accumulators.

@@ -2,12 +2,16 @@
 #![tactic(auto)]
 
 mod answer;
+mod apart_samples;
 mod band;
 mod band_run;
+mod filling;
 mod kept_rows;
 mod picture;
 mod row_range;
 mod strip;
+mod strip_job;
+mod strip_sheet;
 mod windows;
 
-pub use answer::{evaluate, evaluate_in_bands};
+pub use answer::{evaluate, evaluate_in_bands, evaluate_in_strips};

@@ -24,6 +24,23 @@ impl RowRange {
         }
     }
 
+    /// All rows, of which there are so many.
+    pub(crate) fn all(count: u32) -> RowRange {
+        RowRange {
+            first: 0,
+            end: count,
+        }
+    }
+
+    /// The part with this number of all rows, of which there are `count`, where they are parted into parts of `len` rows.
+    pub(crate) fn part(count: u32, len: u32, number: u32) -> RowRange {
+        let first = number.saturating_mul(len).min(count);
+        RowRange {
+            first,
+            end: first.saturating_add(len).min(count),
+        }
+    }
+
     /// The rows of tiles of a stage that meet an area of its domain.
     pub(crate) fn meeting(job: &Job, stage: usize, area: &Area) -> Option<RowRange> {
         let grid = job.grid(stage)?;

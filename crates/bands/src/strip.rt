@@ -1,38 +1,45 @@
 #![tactic(auto)]
-//! Planes of outputs that grow by rows of tiles.
+//! Strips of the planes of outputs, which grow by rows of tiles.
 
-ghost use Rattle.std.specs.Prelude.{◌≡◌, Some, IfOk, IfSome};
+ghost use Rattle.std.specs.Prelude.{◌≡◌, Some, [], IfOk, IfSome};
 ghost use Rattle.std.specs.Option.{ForSome};
 ghost use Rattle.netpbm.specs.MadePlane.{made};
 ghost use Rattle.job.specs.Answers.{samples};
 ghost use Rattle.job.specs.Kept.{pipeline_in};
 ghost use Rattle.job.specs.Readers.{grid_at};
 ghost use Rattle.bands.specs.Kept.{IsRowOf};
-ghost use Rattle.bands.specs.Strips.{HasRows};
+ghost use Rattle.bands.specs.Strips.{greatest_on, samples_on, HasRows};
 
+use crate::row_range::RowRange;
+use crate::strip_sheet::StripSheet;
 use domains::Grid;
 use job::Job;
 use netpbm::Plane;
-use pictures::{KnownTiles, OpenPlane, area_of_row};
+use pictures::{KnownTiles, Sheet, area_of_row};
 use std::alloc::{AllocError, Global};
 use tile_run::{LentRow, TileRow};
 
-/// The plane of an output of a job, as far as its rows of tiles are made.
+/// Rows of tiles of an output of a job that follow one another, as far as they are made.
 #[derive(Drop)]
 pub(crate) struct Strip<'a> {
     job: &'a Job,
     stage: usize,
     grid: Grid,
     max: u16,
-    // How many rows of tiles it has; none where one could not be added.
-    rows: Option<u32>,
-    sheet: OpenPlane,
+    // Its first row of tiles.
+    first: u32,
+    // The first behind it that is not made; none where one could not be added.
+    next: Option<u32>,
+    sheet: StripSheet,
     ghost own: { grid_at (pipeline_in job.now) stage ≡ Some grid },
-    ghost made: { ForSome rows (HasRows (pipeline_in job.now) stage grid max sheet.plane) },
+    ghost greatest: { greatest_on sheet ≡ max },
+    ghost made: { ForSome next (λ next. HasRows (pipeline_in job.now) stage grid max first next
+        (samples_on sheet)) },
 }
 
 impl<'a> Strip<'a> {
-    /// No row of the plane of this output is made. There is none where no stage that has tiles has this number.
+    /// None of these rows of this output is made. There is none where no stage that has tiles has this number, and where it has fewer
+    /// rows.
     ///
     /// # Errors
     ///
@@ -42,19 +49,24 @@ impl<'a> Strip<'a> {
         job: &'a Job,
         stage: usize,
         max: u16,
+        rows: RowRange,
     ) -> Result<Option<Strip<'a>>, AllocError>
         ensures { IfOk result (λ found. IfSome found (λ strip. strip.job.now ≡ job.now)) }
     {
         let Some(grid) = job.grid(stage) else {
             return Ok(None);
         };
-        let sheet = OpenPlane::with_capacity(alloc, max, grid.area.points() as usize)?;
+        if rows.first > grid.tile_rows() {
+            return Ok(None);
+        }
+        let sheet = sheet_for(alloc, &grid, max, rows)?;
         Ok(Some(Strip {
             job,
             stage,
             grid,
             max,
-            rows: Some(0),
+            first: rows.first,
+            next: Some(rows.first),
             sheet,
         }))
     }
@@ -66,12 +78,7 @@ impl<'a> Strip<'a> {
         self.stage
     }
 
-    /// How many rows of tiles it has in the end.
-    pub(crate) fn count(&self) -> u32 {
-        self.grid.tile_rows()
-    }
-
-    /// Adds the next row of tiles, if it is not whole, and answers whether this was that row.
+    /// Adds the next row of tiles, if the output has one more, and answers whether this was that row.
     ///
     /// # Errors
     ///
@@ -80,13 +87,13 @@ impl<'a> Strip<'a> {
         requires { IsRowOf (pipeline_in self.old.job.now) self.old.stage row tiles.now }
         ensures { self.new.job ≡ self.old.job }
     {
-        let Some(done) = self.rows else {
+        let Some(next) = self.next else {
             return Ok(false);
         };
-        if done != row || done >= self.grid.tile_rows() {
+        if next != row || next >= self.grid.tile_rows() {
             return Ok(false);
         }
-        self.rows = None;
+        self.next = None;
         let area = area_of_row(&self.grid, row);
         let lent = LentRow {
             stage: self.stage,
@@ -98,7 +105,30 @@ impl<'a> Strip<'a> {
             known: &lent,
         };
         known.push_area(&mut self.sheet, self.stage, &area)?;
-        self.rows = Some(row + 1);
+        self.next = Some(row + 1);
+        Ok(true)
+    }
+
+    /// Adds the rows of another strip, if it is of the same output and begins where this one ends, and answers whether it does.
+    ///
+    /// # Errors
+    ///
+    /// Fails only where memory is refused.
+    pub(crate) fn join(&mut self, behind: Strip<'_>) -> Result<bool, AllocError>
+        requires { behind.job.now ≡ self.old.job.now }
+        ensures { self.new.job ≡ self.old.job }
+    {
+        let Some(next) = self.next else {
+            return Ok(false);
+        };
+        if next != behind.first || self.stage != behind.stage || self.max != behind.max {
+            return Ok(false);
+        }
+        self.next = None;
+        if !self.sheet.append(behind.sheet)? {
+            return Ok(false);
+        }
+        self.next = behind.next;
         Ok(true)
     }
 
@@ -107,10 +137,33 @@ impl<'a> Strip<'a> {
         ensures { IfSome result (λ plane. plane
             ≡ made max (samples (pipeline_in self.entry.job.now) max stage)) }
     {
-        let rows = self.rows?;
-        if self.stage != stage || self.max != max || rows < self.grid.tile_rows() {
+        let next = self.next?;
+        if self.stage != stage || self.max != max {
             return None;
         }
-        Some(self.sheet.into_plane())
+        if self.first > 0 || next < self.grid.tile_rows() {
+            return None;
+        }
+        self.sheet.into_plane()
     }
+}
+
+// Room for the samples of rows of tiles: of the first rows in the plane itself, which will have those of all others too.
+fn sheet_for(alloc: Global, grid: &Grid, max: u16, rows: RowRange) -> Result<StripSheet, AllocError>
+    ensures greatest { IfOk result (λ sheet. greatest_on sheet ≡ max) }
+    ensures none { IfOk result (λ sheet. samples_on sheet ≡ []) }
+{
+    if rows.first == 0 {
+        StripSheet::plane(alloc, max, grid.area.points() as usize)
+    } else {
+        StripSheet::apart(alloc, max, points_of(grid, rows))
+    }
+}
+
+// How many points these rows of tiles have at most.
+fn points_of(grid: &Grid, rows: RowRange) -> usize {
+    let count = rows.end.saturating_sub(rows.first);
+    let height = count.saturating_mul(grid.sides.height());
+    let points = u64::from(height).saturating_mul(u64::from(grid.area.cols.len()));
+    points.min(grid.area.points()) as usize
 }

@@ -10,6 +10,6 @@ use Rattle.bands.proofs.picture.picture_of.Goals as goal
 pub picture_with-requires-clause-image : goal.picture_with-requires-clause-image
 picture_with-requires-clause-image c =
     let job = pipeline_in c.args.job.now in
-    let is : made_samples c.in-Some-2.planes.items ≡ map (samples job c.max-max.result) c.stages-2.result.now = rw c.in-Some-2.is at c.in_ok-planes.ensures in
+    let is : made_samples c.in-Some-2.planes.items ≡ map (samples job c.max-max.result) c.stages.result.now = rw c.in-Some-2.is at c.in_ok-planes.ensures in
     planes_picture job (value job) (output_view c.args.output.now) (made_samples c.in-Some-2.planes.items) c.requires.output
-    (is ∙ (λ i. map (samples job (c.max-max.ensures i)) (c.stages-2.ensures i)))
+    (is ∙ (λ i. map (samples job (c.max-max.ensures i)) (c.stages.ensures i)))

@@ -2,7 +2,7 @@ use Rattle.std.proofs.Common.{◌≡◌, IfSome, Option, sym, subst}
 use Rattle.bands.specs.Filling.{AreOf}
 use Rattle.bands.specs.declared.strip.Strip.{Strip}
 use Rattle.bands.proofs.StripsAreOf.{of_more}
-use Rattle.bands.proofs.picture.strips_of.Goals as goal
+use Rattle.bands.proofs.filling.strips_of.Goals as goal
 
 pub loop-stage-preserved : goal.loop-stage-preserved
 loop-stage-preserved c =

@@ -1,5 +1,5 @@
 use Rattle.bands.specs.Filling.{AreOf}
-use Rattle.bands.proofs.picture.add_row.Given as goal
+use Rattle.bands.proofs.filling.add_row.Given as goal
 
 abbrev pub invariant-loop-at : goal.invariant-loop-at
 invariant-loop-at l = AreOf l.fn.band.job.now l.strips

@@ -1,0 +1,148 @@
+#![tactic(auto)]
+//! Strips of outputs, filled row by row.
+
+ghost use Rattle.std.specs.Prelude.{◌≡◌, IfOk, IfSome, OnOk};
+ghost use Rattle.bands.specs.Filling.{AreOf};
+
+use crate::band::Band;
+use crate::row_range::RowRange;
+use crate::strip::Strip;
+use crate::windows::Windows;
+use grouping::Schedule;
+use job::Job;
+use std::alloc::{AllocError, Global};
+use tile_run::Scratch;
+
+/// Strips of these rows of these outputs, of which none is made, if each has such rows.
+///
+/// # Errors
+///
+/// Fails only where memory is refused.
+pub(crate) fn strips_of<'a>(
+    alloc: Global,
+    job: &'a Job,
+    stages: &[usize],
+    max: u16,
+    rows: RowRange,
+) -> Result<Option<Vec<Strip<'a>>>, AllocError>
+    ensures { IfOk result (λ found. IfSome found (λ strips. AreOf job.now strips.items)) }
+{
+    let mut strips = Vec::with_capacity(alloc, stages.len())?;
+    for stage in stages {
+        let Some(strip) = Strip::new(alloc, job, *stage, max, rows)? else {
+            return Ok(None);
+        };
+        strips.push(strip)?;
+    }
+    Ok(Some(strips))
+}
+
+/// Makes these rows of outputs, whatever was made of other functions before, and answers whether it could.
+///
+/// # Errors
+///
+/// Fails only where memory is refused.
+pub(crate) fn fill(
+    alloc: Global,
+    job: &Job,
+    schedule: &Schedule,
+    strips: &mut [Strip<'_>],
+    rows: RowRange,
+    scratch: &mut Scratch,
+) -> Result<bool, AllocError>
+    requires { AreOf job.now strips.old }
+    ensures { OnOk result (AreOf job.now strips.new) }
+{
+    let mut band = Band::new(alloc, job, schedule)?;
+    let mut windows = Windows::new(alloc, job)?;
+    for row in rows.first..rows.end {
+        if !fill_row(alloc, &mut band, &mut windows, scratch, strips, row)? {
+            return Ok(false);
+        }
+    }
+    Ok(true)
+}
+
+// Adds a row of tiles to each of these outputs, and answers whether it could.
+fn fill_row(
+    alloc: Global,
+    band: &mut Band<'_>,
+    windows: &mut Windows,
+    scratch: &mut Scratch,
+    strips: &mut [Strip<'_>],
+    row: u32,
+) -> Result<bool, AllocError>
+    requires { AreOf band.old.job.now strips.old }
+    ensures job { OnOk result (band.new.job ≡ band.old.job) }
+    ensures of { OnOk result (AreOf band.old.job.now strips.new) }
+{
+    want_row(alloc, band, windows, strips, row)?;
+    if !band.make_wanted(alloc, windows, scratch)? {
+        return Ok(false);
+    }
+    if !add_row(alloc, band, scratch, strips, row)? {
+        return Ok(false);
+    }
+    pass_row(windows, strips, row);
+    band.let_past_go(alloc, windows, scratch)?;
+    Ok(true)
+}
+
+// Wants what a row of tiles of each of these outputs reads.
+fn want_row(
+    alloc: Global,
+    band: &Band<'_>,
+    windows: &mut Windows,
+    strips: &[Strip<'_>],
+    row: u32,
+) -> Result<(), AllocError> {
+    for strip in strips {
+        band.want_reads(alloc, windows, strip.stage(), row)?;
+    }
+    Ok(())
+}
+
+// A row of tiles of each of these outputs is made.
+fn pass_row(windows: &mut Windows, strips: &[Strip<'_>], row: u32) {
+    for strip in strips {
+        windows.made(strip.stage(), row.saturating_add(1));
+    }
+}
+
+// Makes a row of tiles of each of these outputs and adds it, and answers whether it could.
+fn add_row(
+    alloc: Global,
+    band: &Band<'_>,
+    scratch: &mut Scratch,
+    strips: &mut [Strip<'_>],
+    row: u32,
+) -> Result<bool, AllocError>
+    requires { AreOf band.now.job.now strips.old }
+    ensures { OnOk result (AreOf band.now.job.now strips.new) }
+{
+    for at in 0..strips.len() {
+        if !add_to(alloc, band, scratch, &mut strips[at], row)? {
+            return Ok(false);
+        }
+    }
+    Ok(true)
+}
+
+// Makes a row of tiles of an output and adds it, and answers whether it could.
+fn add_to(
+    alloc: Global,
+    band: &Band<'_>,
+    scratch: &mut Scratch,
+    strip: &mut Strip<'_>,
+    row: u32,
+) -> Result<bool, AllocError>
+    requires { strip.old.job.now ≡ band.now.job.now }
+    ensures { strip.new.job ≡ strip.old.job }
+{
+    let Some(tiles) = band.row(alloc, strip.stage(), row, scratch)? else {
+        return Ok(false);
+    };
+    let is_added = strip.add(row, &tiles)?;
+    scratch.take_back_too(tiles);
+    Ok(is_added)
+}

@@ -1,0 +1,94 @@
+#![tactic(auto)]
+//! Where the samples of a strip are.
+
+ghost use Rattle.std.specs.Prelude.{◌≡◌, ◌++◌, [], true, IfOk, IfSome};
+ghost use Rattle.netpbm.specs.MadePlane.{made};
+ghost use Rattle.bands.specs.Strips.{greatest_on, samples_on};
+
+use crate::apart_samples::ApartSamples;
+use netpbm::Plane;
+use pictures::{OpenPlane, Sheet};
+use std::alloc::{AllocError, Global};
+
+/// The samples of a strip: in the output's plane, or apart from it.
+#[derive(Drop)]
+pub(crate) enum StripSheet {
+    Plane(OpenPlane),
+    Apart(ApartSamples),
+}
+
+impl StripSheet {
+    /// No samples yet, and room for so many: in a plane.
+    ///
+    /// # Errors
+    ///
+    /// Fails only where memory is refused.
+    pub(crate) fn plane(alloc: Global, max: u16, count: usize) -> Result<StripSheet, AllocError>
+        ensures greatest { IfOk result (λ sheet. greatest_on sheet ≡ max) }
+        ensures none { IfOk result (λ sheet. samples_on sheet ≡ []) }
+    {
+        Ok(StripSheet::Plane(OpenPlane::with_capacity(alloc, max, count)?))
+    }
+
+    /// The same apart from a plane.
+    ///
+    /// # Errors
+    ///
+    /// Fails only where memory is refused.
+    pub(crate) fn apart(alloc: Global, max: u16, count: usize) -> Result<StripSheet, AllocError>
+        ensures greatest { IfOk result (λ sheet. greatest_on sheet ≡ max) }
+        ensures none { IfOk result (λ sheet. samples_on sheet ≡ []) }
+    {
+        Ok(StripSheet::Apart(ApartSamples::with_capacity(alloc, max, count)?))
+    }
+
+    /// Adds samples that are apart from a plane, and answers whether they are.
+    ///
+    /// # Errors
+    ///
+    /// Fails only where memory is refused. A front of the samples may have been added then.
+    pub(crate) fn append(&mut self, behind: StripSheet) -> Result<bool, AllocError>
+        requires { greatest_on behind ≡ greatest_on self.old }
+        ensures greatest { greatest_on self.new ≡ greatest_on self.old }
+        ensures samples { IfOk result (λ added. added ≡ true → samples_on self.new
+            ≡ samples_on self.old ++ samples_on behind) }
+    {
+        match behind {
+            StripSheet::Plane(_) => Ok(false),
+            StripSheet::Apart(apart) => {
+                self.add(apart.samples())?;
+                Ok(true)
+            }
+        }
+    }
+
+    /// The plane, if the samples are in one.
+    pub(crate) fn into_plane(self) -> Option<Plane>
+        ensures { IfSome result (λ plane. plane ≡ made (greatest_on self) (samples_on self)) }
+    {
+        match self {
+            StripSheet::Plane(sheet) => Some(sheet.into_plane()),
+            StripSheet::Apart(_) => None,
+        }
+    }
+}
+
+impl Sheet for StripSheet {
+    ghost greatest_of = { greatest_on };
+
+    ghost samples = { samples_on };
+
+    fn greatest(&self) -> u16 {
+        match self {
+            StripSheet::Plane(sheet) => sheet.greatest(),
+            StripSheet::Apart(sheet) => sheet.greatest(),
+        }
+    }
+
+    fn add(&mut self, more: &[u16]) -> Result<(), AllocError> {
+        match self {
+            StripSheet::Plane(sheet) => sheet.add(more),
+            StripSheet::Apart(sheet) => sheet.add(more),
+        }
+    }
+}
