@@ -1,8 +1,8 @@
 //! A mailbox and a pass of it.
 
-ghost use Rattle.std.specs.Prelude.{◌≡◌, IfErr, IfSome};
-ghost use Rattle.crossbeam_queue.specs.Passes.{IsPassOf};
-ghost use Rattle.posts.specs.Parcels.{IsTrueParcel};
+ghost use Rattle.std.specs.Prelude.{◌≡◌, ◌++◌, ◌∷◌, [], IfErr, IfNone, IfSome, OnOk};
+ghost use Rattle.crossbeam_queue.specs.Passes.{IsPassOf, view};
+ghost use Rattle.posts.specs.Parcels.{IsTrueParcel, moves};
 
 use crate::parcel::Parcel;
 use crate::post::{Pass, Post};
@@ -19,7 +19,9 @@ pub struct Line<'a, C: NamedCatalog> {
 
 impl<'a, C: NamedCatalog> Line<'a, C> {
     /// A way to this mailbox, by a new pass. No memory is taken.
-    pub fn to(post: &'a Post<C>) -> Line<'a, C> {
+    pub fn to(post: &'a Post<C>) -> Line<'a, C>
+        ensures { view result.pass.seat ≡ moves [] [] }
+    {
         Line {
             post,
             pass: post.pass(),
@@ -29,7 +31,10 @@ impl<'a, C: NamedCatalog> Line<'a, C> {
     /// Puts a parcel of true updates in, as `Post::put` does.
     pub fn put<R: Wait>(&mut self, rt: &R, parcel: Parcel) -> Result<(), Parcel>
         requires is_true { IsTrueParcel C.catalog parcel }
+        ensures put { OnOk result (view self.new.pass.seat
+            ≡ moves ((view self.old.pass.seat).puts ++ parcel ∷ []) (view self.old.pass.seat).takes) }
         ensures handed_back { IfErr result (λ back. back ≡ parcel) }
+        ensures nothing { IfErr result (λ _. view self.new.pass.seat ≡ view self.old.pass.seat) }
     {
         self.post.put(rt, &mut self.pass, parcel)
     }
@@ -37,6 +42,9 @@ impl<'a, C: NamedCatalog> Line<'a, C> {
     /// Takes a parcel out, as `Post::take` does. Its updates are true.
     pub fn take<R: Wait>(&mut self, rt: &R) -> Option<Parcel>
         ensures is_true { IfSome result (IsTrueParcel C.catalog) }
+        ensures taken { IfSome result (λ parcel. view self.new.pass.seat
+            ≡ moves (view self.old.pass.seat).puts ((view self.old.pass.seat).takes ++ parcel ∷ [])) }
+        ensures nothing { IfNone result (view self.new.pass.seat ≡ view self.old.pass.seat) }
     {
         self.post.take(rt, &mut self.pass)
     }

@@ -1,7 +1,7 @@
 //! Mailboxes.
 
 ghost use Rattle.std.specs.Prelude.{◌≡◌, ◌<◌, ◌++◌, ◌∷◌, [], length, All, IfErr, IfNone, IfOk, IfSome, OnOk};
-ghost use Rattle.crossbeam_queue.specs.Passes.{IsPassOf, view};
+ghost use Rattle.crossbeam_queue.specs.Passes.{IsPassOf, ruled_capacity, view};
 ghost use Rattle.posts.specs.Parcels.{IsTrueParcel, moves};
 
 use crate::parcel::{Moves, Parcel};
@@ -43,6 +43,7 @@ impl<C: NamedCatalog> Post<C> {
     ) -> Result<(Post<C>, Vec<Pass<C>>), AllocError>
         requires named { catalog.now ≡ C.catalog }
         requires room { 0 < capacity }
+        ensures holds { IfOk result (λ r. ruled_capacity r.0.queue ≡ capacity) }
         ensures count { IfOk result (λ r. length r.1.items ≡ passes) }
         ensures passes { IfOk result (λ r. All
             (λ p. IsPassOf r.0.queue p.seat × (view p.seat ≡ moves [] [])) r.1.items) }
