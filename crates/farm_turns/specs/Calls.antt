@@ -1,0 +1,47 @@
+-- What a worker of a farm calls, each call with what it was given and what it was answered. A log has its oldest call first.
+use Rattle.std.specs.Prelude.{ℕ, Bool, Option, List, [], ◌∷◌, ◌++◌}
+use Rattle.identity.specs.declared.key.Key.{Key}
+use Rattle.tile_fact.specs.declared.fact.Fact.{Fact}
+use Rattle.tile_fact.specs.declared.update.Update.{Update}
+use Rattle.farm_turns.specs.declared.standing.Standing.{Standing}
+use Rattle.farm_turns.specs.declared.standing.Standing.TheVariants.{Known as known, Waiting as waiting, Open as open_by}
+
+pub data Call : Type 0 where
+  -- a worker enters a turn
+  Entered : (worker turn : ℕ) → Call
+  -- a parcel with these updates comes out of a node's mailbox, or none does
+  Received : (node : ℕ) (updates : List Update) → Call
+  Found_empty : (node : ℕ) → Call
+  -- the worker's node takes updates
+  Took : (updates : List Update) → Call
+  -- the worker takes a copy of what its node holds
+  Looked : Call
+  -- by the copy, a key is known, or its tile is to wait, or it can be made from the facts of these keys
+  Found_known : (key : Key) → Call
+  Found_waiting : (key : Key) → Call
+  Found_open : (key : Key) (needs : List Key) → Call
+  -- a key is claimed, and leased or not
+  Claimed : (time worker : ℕ) (key : Key) (ttl : ℕ) (leased : Bool) → Call
+  -- the worker's node lends facts of keys, or one of them is not held
+  Lent : (keys : List Key) (facts : Option (List Fact)) → Call
+  -- the tile of a key is computed from facts, if it can be
+  Computed : (key : Key) (facts : List Fact) (made : Option Fact) → Call
+  -- a worker tells that it has made a fact
+  Made : (worker turn : ℕ) (fact : Fact) → Call
+  -- a parcel with the fact is put into a node's mailbox, with the node that it comes from. Where there was no room it is dropped
+  Put : (node from : ℕ) (fact : Fact) → Call
+  -- a lease is given back
+  Released : (time worker : ℕ) (key : Key) → Call
+  -- the worker's node keeps what it holds, or restarts
+  Kept : Call
+  Restarted : Call
+
+-- what a look at a key finds, where plans need these keys
+abbrev pub found : {P : Type 0} → (P → List Key) → Key → Standing P → Call
+found needs_of key known = Found_known key
+found needs_of key waiting = Found_waiting key
+found needs_of key (open_by plan) = Found_open key (needs_of plan)
+
+-- the call is the next one: where the calls before may be these, they may be these and this one
+abbrev pub Calls : {S : Type 0} → (S → List Call → Type 0) → S → S → Call → Type 0
+Calls has_log old new call = (log : List Call) → has_log old log → has_log new (log ++ call ∷ [])

@@ -1,0 +1,10 @@
+-- Each one of so many.
+use Rattle.std.specs.Prelude.{ℕ, Bool, ◌+◌, nat_eq, nat_lt, if◌then◌else◌}
+
+-- whether the next one is told, where so many passed since the last that was. Where the period is 0, none is
+abbrev pub is_told : ℕ → ℕ → Bool
+is_told period passed = nat_eq (passed + 1) period
+
+-- how many have passed after the next one
+abbrev pub passed_after : ℕ → ℕ → ℕ
+passed_after period passed = if nat_lt (passed + 1) period then passed + 1 else 0

@@ -1,0 +1,4 @@
+pub mod Calls
+pub mod Every
+pub mod Turns
+pub mod Shifts

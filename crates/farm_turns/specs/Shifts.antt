@@ -1,0 +1,32 @@
+-- Where a worker stands.
+use Rattle.std.specs.Prelude.{◌≡◌, ◌+◌, ℕ, List}
+use Rattle.farm_turns.specs.Calls.{Call}
+use Rattle.farm_turns.specs.Turns.{Going, Told, CanBeTold, after_turn}
+use Rattle.farm_turns.specs.declared.counts.Counts.{Counts}
+use Rattle.farm_turns.specs.declared.rules.Rules.{Rules}
+
+-- the worker has come so far: its place may have this log, and its counts are these
+pub record IsAt {S : Type 0} (has_log : S → List Call → Type 0) (place : S) (counts : Counts) (g : Going) : Type 0 where
+  pub log : has_log place g.log
+  pub repeated : counts.repeated.passed ≡ g.repeated
+  pub lost : counts.lost.passed ≡ g.lost
+  pub settled : counts.settled ≡ g.settled
+  pub settling : counts.settling ≡ g.settling
+
+-- a worker that had come so far has gone through the turn
+pub record HasTurned {S : Type 0} (has_log : S → List Call → Type 0) (place : S) (counts : Counts) (rules : Rules) (turn : ℕ) (g : Going) : Type 0 where
+  pub told : Told
+  pub can : CanBeTold rules turn g told
+  pub at : IsAt has_log place counts (after_turn rules turn g told)
+
+-- the turns up to a number lead a worker from the one place to the other
+pub data GoesThrough (rules : Rules) (start : Going) : ℕ → Going → Type 0 where
+  no_turn : GoesThrough rules start 0 start
+  one_more : (turns : ℕ) (g : Going) (told : Told) → GoesThrough rules start turns g → CanBeTold rules (turns + 1) g told
+      → GoesThrough rules start (turns + 1) (after_turn rules (turns + 1) g told)
+
+-- a worker that had come so far has gone through all its turns
+pub record HasRun {S : Type 0} (has_log : S → List Call → Type 0) (place : S) (counts : Counts) (rules : Rules) (turns : ℕ) (g : Going) : Type 0 where
+  pub after : Going
+  pub through : GoesThrough rules g turns after
+  pub at : IsAt has_log place counts after

@@ -1,0 +1,39 @@
+//! Each one of so many.
+
+ghost use Rattle.std.specs.Prelude.{◌≡◌, ◌<◌, max};
+ghost use Rattle.farm_turns.specs.Every.{is_told, passed_after};
+
+/// Counts, and tells each one of so many; none where this is 0.
+#[derive(Debug, Drop)]
+pub struct Every {
+    period: u32,
+    passed: u32,
+    ghost below: { passed < max 1 period },
+}
+
+impl Every {
+    /// One of so many is to be told, of which none was counted yet.
+    pub fn new(period: u32) -> Every
+        ensures period { result.period ≡ period }
+        ensures passed { result.passed ≡ 0 }
+    {
+        Every { period, passed: 0 }
+    }
+
+    /// Counts one more, and tells whether it is the last of so many.
+    pub fn is_next(&mut self) -> bool
+        ensures told { result ≡ is_told self.old.period self.old.passed }
+        ensures passed { self.new.passed ≡ passed_after self.old.period self.old.passed }
+        ensures same { self.new.period ≡ self.old.period }
+    {
+        if self.period == 0 {
+            return false;
+        }
+        if self.passed + 1 < self.period {
+            self.passed += 1;
+            return false;
+        }
+        self.passed = 0;
+        true
+    }
+}

@@ -1,0 +1,15 @@
+//! What a worker of a farm does in a turn, whatever it is that takes its calls.
+#![tactic(auto)]
+
+mod counts;
+mod every;
+mod place;
+mod rules;
+mod shift;
+mod standing;
+
+pub use every::Every;
+pub use place::Place;
+pub use rules::Rules;
+pub use shift::Shift;
+pub use standing::Standing;
