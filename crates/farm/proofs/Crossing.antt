@@ -26,7 +26,6 @@ use Rattle.leases.specs.contracts.live.LiveDesk as LiveDesk
 use Rattle.posts.proofs.line.Line.TheSendSync as Line'
 use Rattle.posts.specs.contracts.line.Line as Line
 use Rattle.std.specs.contracts.marker.PhantomData as PhantomData
-use Rattle.farm_work.specs.contracts.every.Every as Every
 use Rattle.farm_setup.specs.contracts.setup.FarmSetup as FarmSetup
 use Rattle.farm.specs.contracts.worker.Worker as Worker
 use Rattle.farm_work.specs.contracts.work.Work as Work
@@ -36,6 +35,7 @@ use Rattle.named_catalogs.specs.declared.NamedCatalog.{Ghosts}
 use Rattle.job.specs.contracts.bound_pipeline.BoundPipeline as BoundPipeline
 use Rattle.job.specs.contracts.formula.Formula as Formula
 use Rattle.job.specs.contracts.job.Job as Job
+use Rattle.job.specs.contracts.reads.Read as Read
 use Rattle.job.specs.contracts.stage.Accumulator as Accumulator
 use Rattle.job.specs.contracts.stage.Body as Body
 use Rattle.job.specs.contracts.stage.Function as Function
@@ -104,14 +104,17 @@ formula_sync =
     let x = owners.Box-sync Knot.hole-Formula hole_sync in
     variants_sync Formula.enum ((as_row_sync i32-field i32_sync, tt), ((axis_sync, tt), ((as_row_sync usize-field usize_sync, (index_sync, (index_sync, tt))), ((x, tt), ((binary_sync, (x, (x, tt))), ((literal_sync, (x, (as_row_sync u32-field u32_sync, tt))), ((x, tt), ((entries_sync, (x, tt)), ((x, (x, (x, tt))), ((x, (relation_sync, (x, (x, (x, tt))))), ((as_row_sync usize-field usize_sync, (as_row_sync u32-field u32_sync, (kernel_sync, tt))), tt)))))))))))
 
+pub read_sync : IsSync Read.the_row
+read_sync = search (sendable, owners.crosses) depth 40
+
 pub case_sync : IsSync JobCase.the_row
-case_sync = declared_sync JobCase.the_type (search (sendable, owners.crosses) depth 40, (search (sendable, owners.crosses) depth 40, (formula_sync, tt)))
+case_sync = declared_sync JobCase.the_type (search (sendable, owners.crosses) depth 40, (search (sendable, owners.crosses) depth 40, (formula_sync, (owners.Vec-sync Read.the_row read_sync, tt))))
 
 pub function_sync : IsSync Function.the_row
-function_sync = search (formula_sync, case_sync, sendable, owners.crosses) depth 40
+function_sync = search (formula_sync, case_sync, read_sync, sendable, owners.crosses) depth 40
 
 pub accumulator_sync : IsSync Accumulator.the_row
-accumulator_sync = declared_sync Accumulator.the_type (search (sendable, owners.crosses) depth 40, (search (sendable, owners.crosses) depth 40, (formula_sync, (formula_sync, tt))))
+accumulator_sync = declared_sync Accumulator.the_type (search (sendable, owners.crosses) depth 40, (search (sendable, owners.crosses) depth 40, (formula_sync, (formula_sync, (owners.Vec-sync Read.the_row read_sync, tt)))))
 
 pub body_sync : IsSync Body.the_row
 body_sync = variants_sync Body.enum ((search (sendable, owners.crosses) depth 40, tt), ((function_sync, tt), ((accumulator_sync, tt), tt)))
@@ -139,9 +142,6 @@ key_sync = search (sendable, owners.crosses) depth 40
 
 setup_send : IsSend FarmSetup.the_row
 setup_send = search (sendable, owners.crosses) depth 40
-
-every_send : IsSend Every.the_row
-every_send = search (sendable, owners.crosses) depth 40
 
 phantom_sync : (T : RattleType) → IsSync (PhantomData.the_row T)
 phantom_sync T = search (sendable, owners.crosses) depth 40
@@ -175,7 +175,7 @@ module _ (a : NamedLft) (T : RattleType) (g : Ghosts T.Denot) where
         setup_send,
         (
           reference_send a (Work.the_row a T g) tt work_sync,
-          (reference_send a LiveDesk.the_row tt Desk.the_sync, (Hand.the_send a T g, (owners.Vec-send (Line.the_row a T g) (Line'.the_send a T g), (every_send, (every_send, (as_row_send usize-field (search sendable), tt)))))),
+          (reference_send a LiveDesk.the_row tt Desk.the_sync, (Hand.the_send a T g, (owners.Vec-send (Line.the_row a T g) (Line'.the_send a T g), tt))),
         ),
       ),
     ),

@@ -1,14 +1,27 @@
--- Numbers and printed names of the faults of a farm.
-use Rattle.std.specs.Prelude.{ℕ, List, codes}
+-- Numbers and printed names of the faults of a farm, and which is told at its end.
+use Rattle.std.specs.Prelude.{ℕ, Bool, true, false, List, Result, Ok, Err, codes}
 use Rattle.farm.specs.declared.fault.FarmFault.{FarmFault}
 use Rattle.farm.specs.declared.fault.FarmFault.TheVariants.{SpawnFailed, Memory, Close}
+use Rattle.receipts.specs.declared.fault.CloseFault.{CloseFault}
+use Rattle.receipts.specs.declared.fault.CloseFault.TheVariants as closes
 
 abbrev pub farm_fault_number : FarmFault → ℕ
-farm_fault_number SpawnFailed = 1
+farm_fault_number (SpawnFailed refusal) = 1
 farm_fault_number Memory = 2
 farm_fault_number (Close number) = 3
 
 abbrev pub farm_fault_name : FarmFault → List ℕ
-farm_fault_name SpawnFailed = codes "SpawnFailed"
+farm_fault_name (SpawnFailed refusal) = codes "SpawnFailed"
 farm_fault_name Memory = codes "Memory"
 farm_fault_name (Close number) = codes "Close"
+
+-- why a node does not close
+abbrev pub of_close : CloseFault → FarmFault
+of_close (closes.ReceiptMismatch number) = Close number
+of_close closes.Memory = Memory
+
+-- what is told of the closing of all nodes: why one does not close, or else that some worker met an end of memory
+abbrev pub of_closing : {X : Type 0} → Bool → Result X FarmFault → Result X FarmFault
+of_closing memory (Err fault) = Err fault
+of_closing true (Ok closed) = Err Memory
+of_closing false (Ok closed) = Ok closed

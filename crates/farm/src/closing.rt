@@ -1,9 +1,12 @@
 //! The nodes of a farm after it has run.
 
-ghost use Rattle.std.specs.Prelude.{◌≡◌, All, IfOk, length};
+ghost use Rattle.std.specs.List.{list_any};
+ghost use Rattle.std.specs.Prelude.{◌≡◌, false, All, IfErr, IfOk, length};
+ghost use Rattle.farm.specs.FarmFaults.{of_close, of_closing};
 ghost use Rattle.farm.specs.Reports.{IsSoundEnd, all_held};
 ghost use Rattle.held_facts.specs.Facts.{lent};
-ghost use Rattle.live_nodes.specs.Ends.{HaveAllReceipts};
+ghost use Rattle.live_nodes.specs.Ends.{HaveAllReceipts, IsSomeCloseFault};
+ghost use Rattle.receipts.specs.declared.fault.CloseFault.{CloseFault};
 
 use crate::fault::FarmFault;
 use crate::hand::End;
@@ -11,13 +14,50 @@ use crate::node::{Node, WORKERS};
 use books::Receipt;
 use held_facts::{HeldFacts, LendFault};
 use identity::Key;
-use live_nodes::{CloseFault, Closed, LiveNode, Seat};
+use live_nodes::{Closed, LiveNode, Seat};
 use named_catalogs::NamedCatalog;
 use std::alloc::{AllocError, Global};
 use std::vec;
 
-/// Closes each node with the receipts of its workers.
+/// Closes each node with the receipts of its workers. Where all are closed, none of the workers met an end of memory.
+///
+/// # Errors
+///
+/// `Close` where receipts do not match a node's history, before `Memory` of a worker.
 pub fn close_all<C: NamedCatalog>(
+    alloc: Global,
+    nodes: Vec<Node<C>>,
+    ends: Vec<End>,
+) -> Result<Vec<Closed>, FarmFault>
+    ensures sound { IfOk result (λ closed. All (IsSoundEnd C.catalog) closed.items) }
+    ensures count { IfOk result (λ closed. length closed.items ≡ length nodes.items) }
+    ensures memory { IfOk result (λ _. list_any (λ end. end.memory) ends.items ≡ false) }
+{
+    let memory = met_memory(&ends);
+    tell_closing(memory, close_each(alloc, nodes, ends))
+}
+
+// Whether one of these workers met an end of memory.
+fn met_memory(ends: &[End]) -> bool
+    ensures { result ≡ list_any (λ end. end.memory) ends.now }
+{
+    ends.iter().any(|end| end.memory)
+}
+
+// What is told of the closing of all nodes, where some worker met an end of memory or none.
+fn tell_closing<T: Drop>(memory: bool, closing: Result<T, FarmFault>) -> Result<T, FarmFault>
+    ensures told { result ≡ of_closing memory closing }
+    ensures none { IfOk result (λ _. memory ≡ false) }
+{
+    let closed = closing?;
+    if memory {
+        return Err(FarmFault::Memory);
+    }
+    Ok(closed)
+}
+
+// Closes each node with the receipts of its workers, whatever these met.
+fn close_each<C: NamedCatalog>(
     alloc: Global,
     nodes: Vec<Node<C>>,
     ends: Vec<End>,
@@ -59,12 +99,13 @@ fn close_one<C: NamedCatalog>(
     ends: Vec<(Seat, Vec<Receipt>)>,
 ) -> Result<Closed, FarmFault>
     requires { HaveAllReceipts ends.items }
-    ensures { IfOk result (IsSoundEnd C.catalog) }
+    ensures sound { IfOk result (IsSoundEnd C.catalog) }
+    ensures told { IfErr result (λ fault. (why : CloseFault)
+        × IsSomeCloseFault ends.items why × (fault ≡ of_close why)) }
 {
     match node.close(ends) {
         Ok(closed) => Ok(closed),
-        Err((_, _, CloseFault::ReceiptMismatch(number))) => Err(FarmFault::Close(number)),
-        Err((_, _, CloseFault::Memory)) => Err(FarmFault::Memory),
+        Err((_, _, fault)) => Err(FarmFault::from(fault)),
     }
 }
 

@@ -16,7 +16,7 @@ use crate::worker::Worker;
 use catalog::Catalog;
 use farm_answers::finish;
 use farm_setup::FarmSetup;
-use farm_work::{Every, Gate, Work};
+use farm_work::{Gate, Work};
 use grouping::Schedule;
 use identity::Key;
 use job::Job;
@@ -95,7 +95,7 @@ struct Shared<'a, C: NamedCatalog> {
 }
 
 // The ends of all nodes, after their workers have gone through all turns.
-fn work_all<'a, C: NamedCatalog + Send + Sync, G: Gate + Sync, R: Threads + Wait + Sync>(
+fn work_all<'a, C: NamedCatalog + Send + Sync + 'static, G: Gate + Sync, R: Threads + Wait + Sync>(
     rt: &R,
     alloc: Global,
     catalog: &'a Catalog,
@@ -115,22 +115,17 @@ fn work_all<'a, C: NamedCatalog + Send + Sync, G: Gate + Sync, R: Threads + Wait
     };
     let workers = workers(alloc, setup, &shared, seats)?;
     let ends = run_workers(rt, alloc, workers, gate)?;
-    let memory = ends.iter().any(|end| end.memory);
     let Shared { nodes, .. } = shared;
-    let closed = close_all(alloc, nodes, ends)?;
-    if memory {
-        return Err(FarmFault::Memory);
-    }
-    Ok(closed)
+    close_all(alloc, nodes, ends)
 }
 
 // Runs all workers in threads of their own.
-fn run_workers<'a, C: NamedCatalog + Send + Sync, G: Gate + Sync, R: Threads + Wait + Sync>(
-    rt: &R,
-    alloc: Global,
-    workers: Vec<Worker<'a, C>>,
-    gate: &G,
-) -> Result<Vec<End>, FarmFault> {
+fn run_workers<
+    'a,
+    C: NamedCatalog + Send + Sync + 'static,
+    G: Gate + Sync,
+    R: Threads + Wait + Sync,
+>(rt: &R, alloc: Global, workers: Vec<Worker<'a, C>>, gate: &G) -> Result<Vec<End>, FarmFault> {
     run_all(rt, alloc, workers, gate)
 }
 
@@ -157,9 +152,6 @@ fn workers<'a, C: NamedCatalog>(
                     end,
                 },
                 lines: lines_to(alloc, &shared.nodes)?,
-                lost: Every::new(setup.faults.lose),
-                repeated: Every::new(setup.faults.repeat),
-                settled: 0,
             });
             number = number.saturating_add(1);
         }

@@ -2,16 +2,18 @@
 
 ghost use Rattle.std.specs.Prelude.{◌≡◌};
 
+use crate::start::Refusal;
 use fault_rows::{Fault, FaultRow, fault_row};
+use live_nodes::CloseFault;
 use std::alloc::AllocError;
 use thiserror::Error;
 
 /// Why a farm has no answer.
 #[derive(Clone, Copy, Debug, PartialEq, Eq, Error)]
 pub enum FarmFault {
-    /// 1: a thread could not be started.
+    /// 1: a thread could not be started. What it holds only the start of a thread makes.
     #[error("a thread could not be started")]
-    SpawnFailed,
+    SpawnFailed(Refusal),
     /// 2: no memory was left.
     #[error("out of memory")]
     Memory,
@@ -28,7 +30,30 @@ impl Fault for FarmFault {
     ghost name_of = { farm_fault_name };
 
     fn row(&self) -> FaultRow {
-        fault_row!(self, FarmFault { SpawnFailed = 1, Memory = 2, Close(_) = 3 })
+        fault_row!(self, FarmFault { SpawnFailed(_) = 1, Memory = 2, Close(_) = 3 })
+    }
+}
+
+impl From<Refusal> for FarmFault {
+    ghost use Rattle.farm.specs.declared.fault.FarmFault.TheVariants.{SpawnFailed};
+
+    ghost from_gives = { λ refusal fault. fault ≡ SpawnFailed refusal };
+
+    fn from(refusal: Refusal) -> FarmFault {
+        FarmFault::SpawnFailed(refusal)
+    }
+}
+
+impl From<CloseFault> for FarmFault {
+    ghost use Rattle.farm.specs.FarmFaults.{of_close};
+
+    ghost from_gives = { λ fault told. told ≡ of_close fault };
+
+    fn from(fault: CloseFault) -> FarmFault {
+        match fault {
+            CloseFault::ReceiptMismatch(number) => FarmFault::Close(number),
+            CloseFault::Memory => FarmFault::Memory,
+        }
     }
 }
 

@@ -8,6 +8,8 @@ mod fault;
 mod hand;
 mod node;
 mod report;
+mod site;
+mod start;
 mod threads;
 mod worker;
 
@@ -15,3 +17,4 @@ pub use farm::Farm;
 pub use fault::FarmFault;
 pub use live_nodes::Closed;
 pub use report::FarmReport;
+pub use start::Refusal;

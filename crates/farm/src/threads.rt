@@ -2,6 +2,7 @@
 
 use crate::fault::FarmFault;
 use crate::hand::End;
+use crate::start::start;
 use farm_work::Gate;
 use std::alloc::Global;
 use std::sync::Wait;
@@ -47,21 +48,7 @@ fn start_all<'s, E, T: Task + Send + Drop + 's, G: Gate + Sync, R: Wait + Sync>(
     let mut handles = Vec::new(alloc);
     for task in tasks {
         handles.reserve(1)?;
-        handles.push_reserved(start(scope, rt, alloc, task, gate)?);
+        handles.push_reserved(start(scope, move || task.run(rt, alloc, gate))?);
     }
     Ok(handles)
-}
-
-// Starts a task in a thread of its own.
-fn start<'s, E, T: Task + Send + Drop + 's, G: Gate + Sync, R: Wait + Sync>(
-    scope: &Scope<'s, E>,
-    rt: &'s R,
-    alloc: Global,
-    task: T,
-    gate: &'s G,
-) -> Result<JoinHandle<End>, FarmFault> {
-    match scope.spawn(move || task.run(rt, alloc, gate)) {
-        Ok(handle) => Ok(handle),
-        Err(_) => Err(FarmFault::SpawnFailed),
-    }
 }

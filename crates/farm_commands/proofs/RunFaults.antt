@@ -17,7 +17,7 @@ use Rattle.job.specs.declared.job.Job.{Job}
 
 -- those of a farm as they are told
 pub of_farm : (f : FarmFault) → IsOfFarm (told_farm f)
-of_farm farms.SpawnFailed = tt
+of_farm (farms.SpawnFailed refusal) = tt
 of_farm farms.Memory = tt
 of_farm (farms.Close n) = tt
 

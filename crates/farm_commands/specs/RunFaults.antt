@@ -15,7 +15,7 @@ use Rattle.pipe_tree.specs.Tree.{Declaration}
 
 -- how a farm's faults are told
 abbrev pub told_farm : FarmFault → StreamFault
-told_farm farms.SpawnFailed = Farm SpawnFailed
+told_farm (farms.SpawnFailed refusal) = Farm SpawnFailed
 told_farm farms.Memory = Memory
 told_farm (farms.Close n) = Farm Close
 

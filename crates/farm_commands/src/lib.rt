@@ -5,4 +5,5 @@ mod farmed;
 mod stream;
 mod told;
 
-pub use stream::run_stream;
+pub use farmed::FarmRun;
+pub use stream::{run_input, run_stream};

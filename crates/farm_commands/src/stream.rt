@@ -1,16 +1,16 @@
 //! The command `run` as it is run: from a reader to a writer.
 
-ghost use Rattle.std.specs.Prelude.{IfErr, IfOk};
+ghost use Rattle.std.specs.Prelude.{◌≡◌, IfErr, IfOk, length};
 ghost use Rattle.inputs.specs.Outcomes.{CountsRead, CountsWritten, IsSaid, Writes, saying_of_job};
 ghost use Rattle.farm_commands.specs.RunFaults.{IsRunFault, refusing_run};
 ghost use Rattle.results.specs.Replies.{reply_bytes};
 ghost use Rattle.results.specs.Results.{SaysResult};
 
-use crate::farmed::farmed;
+use crate::farmed::{FarmRun, farmed};
 use command_line::Options;
 use farm_setup::FarmSetup;
 use inputs::{StreamFault, job_of, read_input};
-use results::{Reply, write_reply};
+use results::write_reply;
 use std::sync::Wait;
 use std::thread::Threads;
 use streams::{Sink, Source};
@@ -39,20 +39,21 @@ pub fn run_stream<H: AllocGlobal + Threads + Wait + Sync, R: Source, W: Sink>(
     ensures write { CountsWritten result (W.failures writer.old) (W.failures writer.new) }
 {
     let input = read_input(rt.alloc(), reader)?;
-    let reply = input_reply(rt, setup, options, parameters, input)?;
-    Ok(write_reply(&reply, writer)?)
+    let farmed = run_input(rt, setup, options, parameters, input)?;
+    Ok(write_reply(&farmed.reply, writer)?)
 }
 
-/// The result of the job of the input.
-fn input_reply<H: AllocGlobal + Threads + Wait + Sync>(
+/// Runs the farm of `run_stream` on what was read, and tells what it left.
+pub fn run_input<H: AllocGlobal + Threads + Wait + Sync>(
     rt: &H,
     setup: &FarmSetup,
     options: &Options,
     given: &[(String, i32)],
     input: Vec<u8>,
-) -> Result<Reply, StreamFault>
-    ensures said { IfOk result (λ reply. IsSaid SaysResult given.now options.now.sides input.items
-        (reply_bytes reply)) }
+) -> Result<FarmRun, StreamFault>
+    ensures said { IfOk result (λ farmed. IsSaid SaysResult given.now options.now.sides input.items
+        (reply_bytes farmed.reply)) }
+    ensures nodes { IfOk result (λ farmed. length farmed.closed.items ≡ setup.now.nodes) }
     ensures fault { IfErr result (IsRunFault input.items given.now options.now.sides) }
 {
     let job = job_of(rt.alloc(), options.sides, given, input)?;

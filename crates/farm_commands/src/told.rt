@@ -11,7 +11,7 @@ pub fn told(fault: FarmFault) -> StreamFault
     ensures { result ≡ told_farm fault }
 {
     match fault {
-        FarmFault::SpawnFailed => StreamFault::Farm(FarmLine::SpawnFailed),
+        FarmFault::SpawnFailed(_) => StreamFault::Farm(FarmLine::SpawnFailed),
         FarmFault::Memory => StreamFault::Memory,
         FarmFault::Close(_) => StreamFault::Farm(FarmLine::Close),
     }

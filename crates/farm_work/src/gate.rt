@@ -8,7 +8,7 @@ pub trait Gate {
     /// A worker enters a turn. Workers count from 0, turns from 1.
     fn enter(&self, worker: u8, turn: u32);
 
-    /// A worker has made a fact, which its node does not hold yet.
+    /// A worker has made a fact, which it has not given to its node yet.
     fn made(&self, worker: u8, turn: u32, fact: &Fact);
 }
 

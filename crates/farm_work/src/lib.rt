@@ -1,10 +1,8 @@
 //! What the workers of a farm go by: what they make and from what, and what they pass.
 #![tactic(auto)]
 
-mod every;
 mod gate;
 mod work;
 
-pub use every::Every;
 pub use gate::{Gate, Open};
 pub use work::Work;

@@ -1,9 +1,14 @@
 //! The work of a farm: the tiles of a job that its workers make.
 
-ghost use Rattle.std.specs.Prelude.{◌≡◌, All, IfOk, IfSome, List};
+ghost use Rattle.std.specs.Prelude.{◌≡◌, true, false, All, IfOk, IfSome, IfNone, List, fold};
+ghost use Rattle.std.specs.List.{list_any};
 ghost use Rattle.catalog.specs.Entries.{Entry};
-ghost use Rattle.held_facts.specs.HeldFacts.{HoldsTrueFacts};
+ghost use Rattle.farm_work.specs.Making.{IsNotMade};
+ghost use Rattle.fact_store.specs.Facts.{nothing, with_fact};
+ghost use Rattle.held_facts.specs.HeldAnswers.{HoldsTrueFacts, lacks};
 ghost use Rattle.fact_audit.specs.TrueFacts.{IsTrueFact};
+ghost use Rattle.job.specs.Kept.{pipeline_in, program_id_in};
+ghost use Rattle.overlap_tiles.specs.Plans.{IsTilePlan};
 
 use catalog::Catalog;
 use grouping::Schedule;
@@ -53,21 +58,32 @@ impl<'a, C: NamedCatalog> Work<'a, C> {
         alloc: Global,
         held: &HeldFacts,
         key: &Key,
-    ) -> Result<Option<TilePlan<'a>>, AllocError> {
-        if held.count(key) > 0 {
+    ) -> Result<Option<TilePlan<'a>>, AllocError>
+        ensures plan { IfOk result (λ found. IfSome found (IsTilePlan
+            (program_id_in self.now.job.now) (pipeline_in self.now.job.now)
+            self.now.schedule.now.inlining key.now.stage key.now.row key.now.col)) }
+        ensures lacked { IfOk result (λ found. IfSome found (λ _. lacks held.now key.now ≡ true)) }
+        ensures ready { IfOk result
+            (λ found. IfSome found (λ plan. list_any (lacks held.now) plan.needs ≡ false)) }
+    {
+        if !lacks(held, key) {
             return Ok(None);
         }
         let Some(plan) = self.plan(alloc, key)? else {
             return Ok(None);
         };
-        if plan.needs().iter().any(|need| held.count(need) == 0) {
+        if lacks_any(held, plan.needs()) {
             return Ok(None);
         }
         Ok(Some(plan))
     }
 
     // How a tile is made, if there is such a tile and it has room.
-    fn plan(&self, alloc: Global, key: &Key) -> Result<Option<TilePlan<'a>>, AllocError> {
+    fn plan(&self, alloc: Global, key: &Key) -> Result<Option<TilePlan<'a>>, AllocError>
+        ensures { IfOk result (λ found. IfSome found (IsTilePlan
+            (program_id_in self.now.job.now) (pipeline_in self.now.job.now)
+            self.now.schedule.now.inlining key.now.stage key.now.row key.now.col)) }
+    {
         let stage = usize::from(key.stage);
         match TilePlan::of(alloc, self.job, self.schedule, stage, key.row, key.col) {
             Ok(plan) => Ok(Some(plan)),
@@ -76,11 +92,14 @@ impl<'a, C: NamedCatalog> Work<'a, C> {
         }
     }
 
-    /// The fact of a tile, made from true facts, if these are all that it needs. It is true too.
+    /// The fact of a tile, made from true facts, if these are all that it needs. It is true too. There is none only where these facts
+    /// make none.
     pub fn make(&self, alloc: Global, facts: &[Fact], key: &Key) -> Result<Option<Fact>, AllocError>
         requires { All (IsTrueFact C.catalog) facts.now }
         ensures is_true { IfOk result (λ made. IfSome made (IsTrueFact C.catalog)) }
         ensures key { IfOk result (λ made. IfSome made (λ fact. fact.key ≡ key.now)) }
+        ensures none { IfOk result (λ made. IfNone made (IsNotMade
+            C.catalog facts.now self.now.schedule.now.inlining key.now)) }
     {
         let held = held_of(alloc, facts)?;
         match held.make(self.catalog, self.schedule, key) {
@@ -91,9 +110,24 @@ impl<'a, C: NamedCatalog> Work<'a, C> {
     }
 }
 
+// Whether nothing is held of a key.
+fn lacks(held: &HeldFacts, key: &Key) -> bool
+    ensures { result ≡ lacks held.now key.now }
+{
+    held.count(key) == 0
+}
+
+// Whether nothing is held of one of these keys.
+fn lacks_any(held: &HeldFacts, keys: &[Key]) -> bool
+    ensures { result ≡ list_any (lacks held.now) keys.now }
+{
+    keys.iter().any(|key| lacks(held, key))
+}
+
 // These facts as what is held, all of which is true where they are.
 fn held_of(alloc: Global, facts: &[Fact]) -> Result<HeldFacts, AllocError>
-    ensures { (catalog : List Entry) → All (IsTrueFact catalog) facts.now
+    ensures these { IfOk result (λ held. held ≡ fold with_fact nothing facts.now) }
+    ensures is_true { (catalog : List Entry) → All (IsTrueFact catalog) facts.now
         → IfOk result (HoldsTrueFacts catalog) }
 {
     let mut held = HeldFacts::new(alloc);

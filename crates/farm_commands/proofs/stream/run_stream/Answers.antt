@@ -8,15 +8,15 @@ use Rattle.results.specs.Replies.{reply_bytes}
 use Rattle.results.specs.Results.{SaysResult}
 use Rattle.farm_commands.proofs.stream.run_stream.Goals as goal
 
-pub returns-in_err-reply-clause-written : goal.returns-in_err-reply-clause-written
-returns-in_err-reply-clause-written g c =
+pub returns-in_err-farmed-clause-written : goal.returns-in_err-farmed-clause-written
+returns-in_err-farmed-clause-written g c =
     let given = c.args.parameters.now in
     let sides = c.args.options.now.sides in
     let read = c.in_ok-input.ensures in
-    let p = err_from_is_err_and c.from_residual-in_err-reply.result c.from_residual-in_err-reply.ensures.1 in
+    let p = err_from_is_err_and c.from_residual-in_err-farmed.result c.from_residual-in_err-farmed.ensures.1 in
     rw (p.1, p.2) (run_refused (saying_of_job SaysResult given sides) (g.R.Source.remaining c.args.reader.now)
-    c.in_ok-input.input.items given sides c.in_err-reply.field-0.0 (g.W.Sink.contents c.args.writer.now) read.whole read.within
-    c.in_err-reply.ensures.fault)
+    c.in_ok-input.input.items given sides c.in_err-farmed.field-0.0 (g.W.Sink.contents c.args.writer.now) read.whole read.within
+    c.in_err-farmed.ensures.fault)
 
 pub returns-in_err-write_reply-clause-written : goal.returns-in_err-write_reply-clause-written
 returns-in_err-write_reply-clause-written g c =
@@ -26,8 +26,8 @@ returns-in_err-write_reply-clause-written g c =
     let failed = c.from_residual-in_err-write_reply in
     let p = err_from_is_err_and failed.result failed.ensures.1 in
     part_written (saying_of_job SaysResult given sides) (refusing_run given sides) (g.R.Source.remaining c.args.reader.now)
-    c.in_ok-input.input.items tt (reply_bytes c.in_ok-reply.reply) failed.result (g.W.Sink.contents c.args.writer.now) _ read.whole
-    read.within c.in_ok-reply.ensures.said c.in_err-write_reply.ensures.taken (p.1 ∙ ap Err p.2)
+    c.in_ok-input.input.items tt (reply_bytes c.in_ok-farmed.farmed.reply) failed.result (g.W.Sink.contents c.args.writer.now) _ read.whole
+    read.within c.in_ok-farmed.ensures.said c.in_err-write_reply.ensures.taken (p.1 ∙ ap Err p.2)
 
 pub returns-clause-written : goal.returns-clause-written
 returns-clause-written g c =
@@ -35,5 +35,5 @@ returns-clause-written g c =
     let sides = c.args.options.now.sides in
     let read = c.in_ok-input.ensures in
     all_written (saying_of_job SaysResult given sides) (refusing_run given sides) (g.R.Source.remaining c.args.reader.now)
-    c.in_ok-input.input.items tt (reply_bytes c.in_ok-reply.reply) (g.W.Sink.contents c.args.writer.now) _ read.whole read.within
-    c.in_ok-reply.ensures.said c.in_ok-write_reply.ensures.taken
+    c.in_ok-input.input.items tt (reply_bytes c.in_ok-farmed.farmed.reply) (g.W.Sink.contents c.args.writer.now) _ read.whole read.within
+    c.in_ok-farmed.ensures.said c.in_ok-write_reply.ensures.taken

@@ -9,4 +9,4 @@ returns-in-Ok-clause-is_true g c =
     subst (λ (catalog : List Entry). IsTrueFact catalog c.in-Ok.fact) named
     (c.in-Ok.ensures.right
     (λ f held has. subst (λ (catalog : List Entry). IsTrueFact catalog f) (sym named)
-    (c.in_ok-held.ensures g.C.NamedCatalog.catalog c.requires f held)))
+    (c.in_ok-held.ensures.is_true g.C.NamedCatalog.catalog c.requires f held)))

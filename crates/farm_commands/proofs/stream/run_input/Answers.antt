@@ -3,7 +3,7 @@ use Rattle.inputs.proofs.Written.{said_of}
 use Rattle.farm_commands.proofs.RunFaults.{fault_of_farm, fault_of_input}
 use Rattle.results.specs.Replies.{reply_bytes}
 use Rattle.results.specs.Results.{SaysResult}
-use Rattle.farm_commands.proofs.stream.input_reply.Goals as goal
+use Rattle.farm_commands.proofs.stream.run_input.Goals as goal
 
 pub returns-in_err-job-clause-fault : goal.returns-in_err-job-clause-fault
 returns-in_err-job-clause-fault g c =
@@ -15,7 +15,7 @@ pub returns-clause-said : goal.returns-clause-said
 returns-clause-said g c =
     let read = c.in_ok-job.ensures in
     IfOk-weaker c.farmed.result _ _
-    (λ reply is. said_of SaysResult c.args.input.items c.args.given.now c.args.options.now.sides c.in_ok-job.job (reply_bytes reply)
+    (λ farmed is. said_of SaysResult c.args.input.items c.args.given.now c.args.options.now.sides c.in_ok-job.job (reply_bytes farmed.reply)
     read.of_input read.job is)
     c.farmed.ensures.reply
 

@@ -1,0 +1,22 @@
+//! Threads that are started.
+
+use std::thread::{JoinHandle, Scope};
+
+/// That the system refused to start a thread. Only [`start`] makes one, of what the toolchain's `spawn` hands back.
+#[derive(Clone, Copy, Debug, PartialEq, Eq)]
+pub struct Refusal {
+    by_spawn: (),
+}
+
+/// Starts work in a thread of its own.
+pub fn start<'s, E, F: FnOnce() -> T + Send + Drop + 's, T: Send + Drop + 's>(
+    scope: &Scope<'s, E>,
+    work: F,
+) -> Result<JoinHandle<T>, Refusal>
+    requires { F.pre work }
+{
+    match scope.spawn(work) {
+        Ok(handle) => Ok(handle),
+        Err(_) => Err(Refusal { by_spawn: () }),
+    }
+}
