@@ -1,4 +1,4 @@
-//! Parts of the program that are timed, each by the word that names it.
+//! A program to be timed, by its first word: `copy`, `audit`, `store`, `run`. Nothing of it has a definition.
 #![tactic(auto)]
 
 mod auditing;

@@ -1,4 +1,4 @@
-//! The commands: from the input to what a command writes, and how commands end. Those on fact files and on scripts stand in crates below.
+//! The commands `eval`, `check` and `plan`, and `run_command`: from the words to the exit status.
 #![tactic(auto)]
 
 mod answer;

@@ -1,4 +1,4 @@
-//! Whether facts are true of the jobs of a catalog.
+//! Which facts are true of the jobs of a catalog: verdicts, by whole stages that are computed without a schedule.
 #![tactic(auto)]
 
 pub mod laws;

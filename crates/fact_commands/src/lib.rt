@@ -1,4 +1,4 @@
-//! The commands on fact files: from the input to what they write.
+//! The commands `merge` and `audit`: from an input to the lines that they write.
 #![tactic(auto)]
 
 mod audit;

@@ -1,5 +1,4 @@
-//! What events do to the nodes of a world, by definitions alone, and what they amount to: whatever list of events leads to a world, its
-//! nodes hold what they took. No node runs here yet.
+//! What events do to the nodes of a world, and what they amount to, by definitions and laws alone. `worlds` runs them.
 #![tactic(auto)]
 
 mod done;

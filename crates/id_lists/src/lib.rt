@@ -1,4 +1,4 @@
-//! Sets of jobs' identities, in lists that rise.
+//! Sets of jobs' identities as rising lists.
 #![tactic(auto)]
 
 mod id_list;

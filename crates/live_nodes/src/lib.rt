@@ -1,4 +1,4 @@
-//! Nodes that threads share, and their end.
+//! A node that threads share, under a lock, with a seat for each caller; and how it closes over its receipts.
 #![tactic(auto)]
 
 mod closed;

@@ -1,4 +1,4 @@
-//! Receipts, compared with the history that they tell of.
+//! Whether receipts account for a history: each event has one, at its number, and each list rises.
 #![tactic(auto)]
 
 mod fault;

@@ -1,4 +1,4 @@
-//! The result of a job: its bytes, and how they are put together and written.
+//! The bytes of a job's result: the picture's one spelling and a line for each accumulator.
 #![tactic(auto)]
 
 mod reply;

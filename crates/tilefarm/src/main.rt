@@ -1,4 +1,4 @@
-//! A compiler for image pipelines: it reads a program and a picture, and writes the program's result, or tells of its stages.
+//! The program: it hands words, standard input and standard output to `run_command`.
 #![tactic(auto)]
 
 use commands::run_command;

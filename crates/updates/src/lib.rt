@@ -1,4 +1,4 @@
-//! Updates on their way from node to node: which of them are true, and copies of them.
+//! Facts and retirements on their way between nodes: which are true, and copies of them.
 #![tactic(auto)]
 
 mod copies;

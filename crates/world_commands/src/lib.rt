@@ -1,4 +1,4 @@
-//! The command `world`: from an input to what nodes hold after its script.
+//! The command `world`: the world of an input's script, and the lines that tell what its nodes hold.
 #![tactic(auto)]
 
 mod begun;

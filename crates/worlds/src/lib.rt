@@ -1,4 +1,4 @@
-//! Worlds: nodes that make, send, deliver, merge, keep and restart, over every list of events.
+//! Worlds of nodes that run events one at a time: make, send, deliver, merge, keep, restart, retire.
 #![tactic(auto)]
 
 mod fault;
