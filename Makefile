@@ -1,4 +1,4 @@
-.PHONY: build cases check demo edits fuzz help quick test tools
+.PHONY: build cases check demo edits fuzz help mutants quick test tools
 program := crates/tilefarm/out/tilefarm
 # The same program for processors with AVX2: where this machine's has that, and "make build" left it behind the other one.
 wide = $(shell grep -qw avx2 /proc/cpuinfo && [ $(program).x86-64-v3 -nt $(program) ] && echo $(program).x86-64-v3)
@@ -15,9 +15,14 @@ demo:
 	@echo '(run without proofs, by rt try; "make test" checks the proofs and leaves the proved program in'
 	@echo ' crates/tilefarm/out/tilefarm)'
 
-# The gate: every proof, every test, every stored run, the conformance cases, the examples and every wrong body.
+# The gate: every proof, every test, every stored run, the conformance cases, the examples, and wrong bodies for 45 minutes of
+# processor time.
 test:
 	@tests/gate
+
+# Every wrong body, however long that takes: before a release. Libraries that changed are proved first.
+mutants:
+	@tests/run_edits
 
 # What changed, over kept work; and each wrong body that no longer applies.
 check:

@@ -1,9 +1,11 @@
 """Runs the steps of the gate, which tests/gate starts, in a clone of HEAD: each with its lines, its time and its count.
 
-usage: tests/gate [--minutes N] [--anew]
+usage: tests/gate [--minutes N] [--bodies MINUTES | --all-bodies] [--anew]
 
---minutes N   a clock: proofs and tests that it leaves no time for have failed; wrong bodies that it leaves are named and counted as skipped
---anew        takes nothing that an earlier run on this machine proved or judged
+--minutes N       a clock: proofs and tests that it leaves no time for have failed; wrong bodies that it leaves are counted as skipped
+--bodies MINUTES  how much processor time wrong bodies may take, 45 minutes where nothing is said; those that it leaves are counted as skipped
+--all-bodies      judges all wrong bodies, however long that takes: before a release
+--anew            takes nothing that an earlier run on this machine proved or judged
 
 `rt ci` ends by putting older work back into the folder that it ran in, so a folder that has been worked in loses what the gate
 has just proved. A clone has no older work: the wrong bodies are judged over the libraries that this very run proved.
@@ -19,6 +21,7 @@ import tempfile
 import threading
 import time
 from concurrent.futures import ThreadPoolExecutor
+from typing import Optional
 
 import gate_table
 from gate_run import Clock, Step, counted, minutes, not_run, run, tell
@@ -29,6 +32,10 @@ PROVED = re.compile(r"rt: (\w+)(: its tests are)? proved$")
 JUDGED = re.compile(r"edits: (\w+): (\d+) of (\d+) refused, (\d+) checks, ([\d.]+) s of processor, ([\d.]+) s by the clock(?:, \d+ \w+)*$")
 # Seconds of the clock that are kept for what is told at the end.
 LAST = 20
+# Minutes of processor that wrong bodies may take, where nothing else is said.
+FOR_BODIES = 45.0
+# Where the names of wrong bodies that were not judged are left.
+NOT_JUDGED = "out/bodies_not_judged"
 
 
 class Times:
@@ -65,8 +72,9 @@ class Times:
 
 
 class Gate:
-    def __init__(self, clone: str, clock: Clock, is_anew: bool):
-        self.clone, self.clock, self.times = clone, clock, Times(clone)
+    def __init__(self, clone: str, clock: Clock, is_anew: bool, for_bodies: Optional[float] = FOR_BODIES):
+        """`for_bodies` is the processor time of wrong bodies in minutes, or nothing where all of them are to be judged."""
+        self.clone, self.clock, self.times, self.for_bodies = clone, clock, Times(clone), for_bodies
         self.anew = ["--anew"] if is_anew else []
         self.is_proved = False
 
@@ -100,8 +108,10 @@ class Gate:
             watching.join()
 
     def judge(self) -> Step:
-        """Judges wrong bodies in an order that the commit draws, as long as the clock allows."""
-        words = [*BODIES.command, "--order", commit(self.clone), *self.anew]
+        """Judges wrong bodies in an order that the commit draws, as long as the clock and their budget allow."""
+        words = [*BODIES.command, "--order", commit(self.clone), "--left", f"{TOP}/{NOT_JUDGED}", *self.anew]
+        if self.for_bodies is not None:
+            words += ["--budget", f"{self.for_bodies:g}"]
         if self.clock.is_set:
             words += ["--until", f"{self.clock.ends - LAST:.0f}"]
         return run(BODIES.name, self.clone, words, self.clock, self.times.hear)
@@ -143,6 +153,9 @@ def tell_all(gate: Gate, done: list[Step]) -> None:
 def main() -> int:
     parser = argparse.ArgumentParser(prog="tests/gate", usage=__doc__.split("usage: ")[1])
     parser.add_argument("--minutes", type=float)
+    bodies = parser.add_mutually_exclusive_group()
+    bodies.add_argument("--bodies", type=float, default=FOR_BODIES)
+    bodies.add_argument("--all-bodies", dest="bodies", action="store_const", const=None)
     parser.add_argument("--anew", action="store_true")
     asked = parser.parse_args()
     # (so that the clone is removed where the gate is ended from outside)
@@ -155,7 +168,7 @@ def main() -> int:
         if subprocess.run(["git", "clone", "--quiet", "--local", TOP, clone]).returncode:
             tell("gate: no clone could be made", "0 passed, 1 failed")
             return 2
-        gate = Gate(clone, clock, asked.anew)
+        gate = Gate(clone, clock, asked.anew, asked.bodies)
         done = gate.steps()
         if gate.is_proved:
             leave_programs(clone)

@@ -36,15 +36,16 @@ PROVE = Entry(
 )
 BODIES = Entry(
     "wrong bodies", ("tests/run_edits", "--as-built"), PROOFS,
-    "Each edit of `tests/edits/NAME` is refused: the contracts tell it from the body that stands there",
+    "Each edit of `tests/edits/NAME` that its budget has room for is refused: the contracts tell it from the body that stands there. "
+    "`tests/gate --all-bodies` has no budget",
     "make edits NAME",
 )
 
 CHECKS = tuple(Entry(*it) for it in (
     ("tests of the runner", ("tests/test_run_edits.py",), TEXT,
-     "A harmless edit is told as not refused, alone, beside wrong ones and in a caller of one"),
+     "A harmless edit is told as not refused, alone, beside wrong ones and in a caller of one; what a budget leaves is counted and named"),
     ("tests of the gate", ("tests/test_gate.py",), TEXT,
-     "What fails in a step is counted, and hides no other step; what the clock leaves is told by name"),
+     "What fails in a step is counted, and hides no other step; what the clock leaves is told by name, and the budget is handed on"),
     ("tests of the tests without proofs", ("tests/test_native",), TEXT,
      "A test that fails or is ended by a signal is told by name with what it says, and hides no other"),
     ("libraries that are listed", ("tests/test_cites",), TEXT,
@@ -114,7 +115,8 @@ CHECKS = tuple(Entry(*it) for it in (
      "a process by a signal when its stack cannot grow, which passes there alone"),
     ("one processor and several", ("tests/threads", BUILT), ALONE,
      "All cases are answered alike on one, two and four processors, as far as there are so many, a dozen of them a hundred times; "
-     "4,096 tiles of one point are computed by several threads, and a small picture by one"),
+     "4,096 tiles of one point are computed by several threads, and a small picture by one. `run` starts two threads for each node, and "
+     "goes through the turns and restarts and by the schedule that it is told"),
     ("random jobs", ("tests/fuzz", BUILT), ALONE,
      "Refusals of random and of damaged programs and pictures have their line and their status, `check`, `plan` and `eval` refuse the "
      "same in the same words, and a result is the same under every schedule, every tile sides and every spelling, and by every farm. "

@@ -1,10 +1,12 @@
 #!/usr/bin/env python3
 """Tests of tests/gate, in a repository of their own with stubs for all that it runs. The last line is 'N passed, M failed'."""
+import importlib.machinery
 import os
 import shutil
 import subprocess
 import sys
 import tempfile
+import types
 import unittest
 
 sys.dont_write_bytecode = True
@@ -107,14 +109,25 @@ class Gate(unittest.TestCase):
     def test_wrong_bodies_come_last_in_an_order_of_the_commit(self):
         _, lines = self.gate(PROVES)
         head = subprocess.run(["git", "rev-parse", "HEAD"], cwd=self.top, capture_output=True, text=True).stdout.strip()
-        self.assertIn(f"words: --as-built --order {head}", lines)
+        words = f"words: --as-built --order {head} --left {os.path.realpath(self.top)}/out/bodies_not_judged"
+        self.assertIn(f"{words} --budget 45", lines)
         begun = [it for it in lines if it.startswith("== gate: ") and "/" in it]
         self.assertTrue(begun[-1].startswith("== gate: wrong bodies: "))
+
+    def test_the_budget_of_wrong_bodies_is_handed_on(self):
+        for words, budget in {("--bodies", "7.5"): ["--budget", "7.5"], ("--bodies", "0"): ["--budget", "0"], ("--all-bodies",): []}.items():
+            with self.subTest(words):
+                _, lines = self.gate(PROVES, *words)
+                told = next(it for it in lines if it.startswith("words: ")).split()
+                self.assertEqual(told[told.index("--budget") :] if "--budget" in told else [], budget)
+
+    def test_a_budget_and_none_are_not_asked_for_together(self):
+        self.assertEqual(self.gate(PROVES, "--bodies", "5", "--all-bodies")[0], 2)
 
     def test_all_is_done_anew_where_that_is_asked_for(self):
         _, lines = self.gate(PROVES, "--anew")
         self.assertIn("rt ci: ci --anew", lines)
-        self.assertEqual([it for it in lines if it.startswith("words: ") and it.endswith(" --anew")], [it for it in lines if it.startswith("words: ")])
+        self.assertEqual([" --anew" in it for it in lines if it.startswith("words: ")], [True])
 
     def test_without_the_proofs_nothing_stands_on_them(self):
         status, lines = self.gate(REFUSES)
@@ -162,6 +175,42 @@ class Gate(unittest.TestCase):
                 self.assertEqual(ran.returncode, 2)
                 self.assertIn(f"{missing} is wanted", ran.stderr)
                 self.assertEqual(ran.stdout, "0 passed, 1 failed\n")
+
+
+LOG = """\
+> == gate: crate by crate, in minutes and seconds (proofs run side by side)
+> crate  proof  its tests  wrong bodies refused  checks  processor  clock
+> low    0:59
+> next   1:30   0:20
+> above  5:00              7 of 7                2       1:01       0:30
+> top    11:21
+> == gate: step by step
+> gate: proofs: 74 passed, 1 failed (120:40 of processor, 39:47 by the clock)
+"""
+
+
+class Page(unittest.TestCase):
+    def setUp(self):
+        self.page = types.ModuleType("gate_page")
+        self.page.__file__ = f"{TESTS}/gate_page"
+        importlib.machinery.SourceFileLoader("gate_page", self.page.__file__).exec_module(self.page)
+
+    def test_the_crates_times_are_those_of_a_log(self):
+        for log in (LOG, LOG.replace("> ", "")):
+            lines = self.page.times(log)
+            self.assertTrue(lines[0].startswith("All proofs and their tests took 120:40 of processor, 39:47 by the clock."))
+            self.assertEqual([it for it in lines if "`" in it], [
+                "| `top` | 11:21 | `above` | 5:00 | `next` | 1:30 | | |",
+                "Every other crate took less than 1:30. Over five minutes: `top`.",
+            ])
+
+    def test_a_log_without_the_table_is_refused(self):
+        for log in ("", LOG.replace("gate: proofs: ", "gate: others: "), LOG.split("> low")[0]):
+            with self.assertRaises(SystemExit):
+                self.page.times(log)
+
+    def test_lines_stand_between_the_marks(self):
+        self.assertEqual(self.page.between(("<b>\n", "<e>\n"), ["new"], "one\n<b>\nold\n<e>\ntwo\n"), "one\n<b>\nnew\n<e>\ntwo\n")
 
 
 if __name__ == "__main__":

@@ -6,6 +6,7 @@ import io
 import os
 import sys
 import tempfile
+import threading
 import time
 import types
 import unittest
@@ -15,7 +16,8 @@ TESTS = os.path.dirname(os.path.realpath(__file__))
 sys.path.insert(0, TESTS)
 
 import counted_tests
-from edits_runner.checking import Clock, Watched
+from edits_runner import crate_run
+from edits_runner.checking import EACH, MOST, READING, Budget, Clock, Watched
 from edits_runner.copies import Source, copies_of, copy_proofs, refused_copies
 from edits_runner.crate_run import CrateRun, next_round
 from edits_runner.edit import Edit
@@ -329,6 +331,31 @@ class Kept(Crate):
             self.assertIsNotNone(self.kept().of(self.third))
         self.assertIsNone(self.kept().of(self.edit("third_adds_four", "    a + 3", "    a + 5")))
 
+    def test_a_crate_changed_where_its_own_text_did(self):
+        self.assertFalse(self.kept().is_of_another_text())
+        self.kept().keep({self.third: Outcome(REFUSED, "its reason")})
+        self.assertFalse(self.kept().is_of_another_text())
+        write(f"{self.top}/crates/small/src/lib.rt", SOURCE + "\n")
+        self.assertFalse(self.kept().is_of_another_text())
+        write(f"{self.top}/crates/above/src/lib.rt", SOURCE + "\n")
+        self.assertTrue(self.kept().is_of_another_text())
+        write(f"{self.top}/crates/above/src/lib.rt", SOURCE)
+        self.assertFalse(self.kept().is_of_another_text())
+
+    def test_edits_that_one_clause_refuses_are_listed(self):
+        other, another = self.edit("third_adds_five", "    a + 3", "    a + 5"), self.edit("next_adds_three", "    a + 1", "    a + 3")
+        line = "note: src/lib.rt:25:1: it is not proved that what the function ensures holds when it returns (`returns-clause-sum`)"
+        proof = "./proofs/third/Answers.antt:6:5: error: `returns-clause-sum`: as printed, the two types differ"
+        self.kept().keep({self.third: Outcome(REFUSED, line), other: Outcome(REFUSED, proof), another: Outcome(REFUSED, line)})
+        for name in ("third_adds_four", "third_adds_five", "next_adds_three"):
+            os.makedirs(f"{self.top}/tests/edits/above", exist_ok=True)
+            os.rename(f"{self.top}/tests/edits/small/{name}.edit", f"{self.top}/tests/edits/above/{name}.edit")
+        status, lines = self.told("--same")
+        self.assertEqual((status, lines), (0, [
+            "edits: above: third: `returns-clause-sum`: third_adds_five.edit, third_adds_four.edit",
+            "edits: 1 clauses refuse more than one edit of a function, 1 edits beside the first, of 3 kept verdicts",
+        ]))
+
     def test_a_file_that_cannot_be_read_counts_for_nothing(self):
         self.kept().keep({self.third: Outcome(REFUSED, "its reason")})
         for text in ("", "[]", '{"a": 1}'):
@@ -426,8 +453,113 @@ class Ordered(Crate):
         self.assertTrue(any(it != drawn[0] for it in drawn[2:]))
 
     def test_words_that_lack_are_told(self):
-        for words in (["--until"], ["--until", "soon"], ["--order"], ["--nothing"]):
+        for words in (["--until"], ["--until", "soon"], ["--budget"], ["--budget", "much"], ["--order"], ["--left"], ["--nothing"]):
             self.assertIsNone(command().asked(words))
+
+    def test_crates_that_changed_come_before_all_others(self):
+        changes = {"a": False, "b": True, "c": False, "d": True, "e": False}
+        runs = [types.SimpleNamespace(crate=types.SimpleNamespace(name=name), verdicts=types.SimpleNamespace(is_of_another_text=lambda it=it: it))
+                for name, it in changes.items()]
+        self.assertEqual({it.crate.name for it in command().in_order(runs, "any")[:2]}, {"b", "d"})
+        for text in ("one", "another"):
+            work = command().weights(runs, text)
+            # (the first pass of a crate counts with what waits for it)
+            behind = {(name, what): it + (work[name, command().REST] if what == command().FIRST else 0) for (name, what), it in work.items()}
+            of = lambda changed, what: [it for (name, its), it in behind.items() if changes[name] == changed and its == what]
+            groups = [of(True, command().FIRST), of(True, command().REST), of(False, command().FIRST), of(False, command().REST)]
+            for before, after in zip(groups, groups[1:]):
+                self.assertGreater(min(before), max(after))
+
+
+class Budgeted(Crate):
+    """A budget of processor time, with a judge that says at once what it is said to take."""
+
+    def setUp(self):
+        super().setUp()
+        self.asked: list[list[str]] = []
+        self.addCleanup(setattr, crate_run, "run", crate_run.run)
+
+    def judging(self, reading: float, each: float) -> None:
+        """Has each check refuse all that it is asked for, and take so many seconds of processor, and more for each function."""
+
+        def run(words: list[str], folder: str, clock: Clock, check: object = None) -> Said:
+            names = [it for before, it in zip(words, words[1:]) if before == "--only"]
+            self.asked.append(names)
+            used = reading + each * len(names)
+            clock.budget.note(check, used)
+            if clock.is_over():
+                return Said("", -9, used)
+            verdicts = [f"fn small::{it}: no proof: `search` did not prove `returns`" for it in names]
+            return Said("\n".join([*verdicts, f"only={len(names)} proved=0"]), 1, used)
+
+        crate_run.run = run
+
+    def edits(self, count: int) -> None:
+        for at in range(count):
+            self.edit(f"third_adds_{at + 10}", "    a + 3", f"    a + {at + 10}")
+
+    def test_a_check_holds_what_there_is_room_for(self):
+        budget = Budget(100)
+        self.assertEqual(budget.begin("a", 50), int((100 - READING) / EACH))
+        budget.end("a", READING + 18, 9)
+        # (2 seconds each, as the first check says)
+        self.assertEqual(budget.begin("b", 15), 15)
+        budget.drop("b")
+        self.assertEqual(budget.begin("b", 50), MOST)
+        self.assertFalse(budget.has_ended())
+        budget.note("b", 100 - READING - 18)
+        self.assertTrue(budget.has_ended())
+
+    def test_without_a_budget_there_is_room_for_all(self):
+        budget = Budget()
+        self.assertEqual(budget.begin("a", 5000), 5000)
+        budget.note("a", 1e9)
+        self.assertFalse(budget.has_ended())
+
+    def test_where_there_is_no_room_it_waits_for_those_that_run(self):
+        budget, found = Budget(READING + 2 * EACH), []
+        self.assertEqual(budget.begin("a", 2), 2)
+        waiting = threading.Thread(target=lambda: found.append(budget.begin("b", 5)))
+        waiting.start()
+        waiting.join(0.1)
+        self.assertEqual(found, [])
+        budget.end("a", READING + 2, 2)
+        waiting.join(10)
+        self.assertEqual(found, [5])
+        budget.end("b", READING + 2 * EACH, 5)
+        self.assertEqual(budget.begin("c", 1), 0)
+
+    def test_what_the_budget_leaves_is_counted_and_named_in_a_file(self):
+        self.edits(12)
+        self.judging(READING, 10)
+        left = f"{self.top}/out/left"
+        status, lines = self.told("--budget", "1.5", "--order", "any", "--left", left)
+        judged = sum(map(len, self.asked))
+        self.assertLessEqual(READING * len(self.asked) + 10 * judged, 90)
+        self.assertGreater(judged, 5)
+        self.assertEqual((status, lines[-1]), (0, f"{judged} passed, 0 failed, {12 - judged} skipped"))
+        self.assertFalse(any("SKIPPED" in it and ".edit" in it for it in lines))
+        with open(left, encoding="utf-8") as file:
+            names = file.read().split()
+        self.assertEqual((len(names), names), (12 - judged, sorted(names)))
+        self.assertTrue(all(it.startswith("small/third_adds_") for it in names))
+        # (and what was judged is kept, so that the next run does others)
+        again = self.told("--budget", "0", "--order", "any", "--left", left)
+        self.assertEqual(again[1][-1], f"{judged} passed, 0 failed, {12 - judged} skipped")
+
+    def test_a_check_that_takes_more_than_there_is_is_ended(self):
+        self.edits(3)
+        self.judging(READING, 100)
+        status, lines = self.told("--budget", "1")
+        self.assertEqual((status, lines[-1], len(self.asked)), (0, "0 passed, 0 failed, 3 skipped", 1))
+
+    def test_without_a_budget_all_are_judged(self):
+        self.edits(12)
+        self.judging(READING, 1000)
+        left = f"{self.top}/out/left"
+        status, lines = self.told("--left", left)
+        self.assertEqual((status, lines[-1]), (0, "12 passed, 0 failed"))
+        self.assertEqual(os.path.getsize(left), 0)
 
 
 class Watching(unittest.TestCase):

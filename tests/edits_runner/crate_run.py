@@ -110,10 +110,11 @@ class Room:
         self.take_older()
         words = [rtlib.RATTLE, "check", *self.crate.words(["--jobs", str(jobs)], keeps=False), "--incremental", self.kept]
         words += [word for path in only for word in ("--only", path)]
-        said = run(words, self.folder, self.clock)
+        said = run(words, self.folder, self.clock, self.crate.name)
         if said.status == -signal.SIGKILL and not self.clock.is_over():
-            words[words.index("--jobs") + 1] = "1"
-            said = run(words, self.folder, self.clock)
+            words[words.index("--jobs") + 1], before = "1", said.processor
+            said = run(words, self.folder, self.clock, self.crate.name)
+            said.processor += before
         return said
 
     def close(self) -> None:
@@ -153,10 +154,11 @@ class Result(NamedTuple):
 class CrateRun:
     """Judges a crate's edits, in one pass or in several, of which the last one ends with `close`."""
 
-    def __init__(self, crate, edits: list[Edit], older: Optional[str], clock: Clock, tell: Callable[..., None], verdicts: KeptVerdicts):
+    def __init__(self, crate, edits: list[Edit], older: Optional[str], clock: Clock, tell: Callable[..., None], verdicts: KeptVerdicts,
+                 tells_skipped: bool = True):
         """`older` is a folder of kept work, if the checks are to begin with that."""
         self.crate, self.edits, self.older, self.clock, self.tell = crate, edits, older, clock, tell
-        self.verdicts = verdicts
+        self.verdicts, self.tells_skipped = verdicts, tells_skipped
         self.outcomes: dict[Edit, Outcome] = {}
         self.told: set[Edit] = set()
         self.checks, self.processor, self.took = 0, 0.0, 0.0
@@ -207,19 +209,27 @@ class CrateRun:
         if left and not self.clock.is_over():
             self.room = self.room or Room(self.crate, self.older, self.clock)
             self.stem = self.stem or stem_for(self.crate.folder)
-        while self.waiting and not self.clock.is_over():
-            self.round(jobs)
-        while self.whole and not self.clock.is_over():
-            self.alone(self.whole.pop(0), jobs)
+        try:
+            while room := self.room_for(len(self.waiting)):
+                self.round(jobs, room)
+            while self.room_for(len(self.whole[:1])):
+                self.alone(self.whole.pop(0), jobs)
+        finally:
+            # (other crates wait for what was set aside)
+            self.clock.budget.drop(self.crate.name)
         self.tell_new()
         self.took += time.monotonic() - began
+
+    def room_for(self, edits: int) -> int:
+        """For how many of these edits the clock and the budget leave room in a check that begins now."""
+        return self.clock.budget.begin(self.crate.name, edits) if edits and not self.clock.is_over() else 0
 
     def tell_new(self) -> None:
         """Tells what was found of edits of which nothing was told before."""
         found = [it for it in self.edits if it in self.outcomes and it not in self.told]
         self.verdicts.keep({it: self.outcomes[it] for it in found})
         self.told.update(found)
-        self.tell(*(line_of(it, self.outcomes[it]) for it in found))
+        self.tell(*(line_of(it, self.outcomes[it]) for it in found if self.tells_skipped or self.outcomes[it].word != SKIPPED))
 
     def close(self) -> Result:
         """Ends the run: what is not judged by now is skipped."""
@@ -236,14 +246,15 @@ class CrateRun:
         self.tell(result.line())
         return result
 
-    def round(self, jobs: int) -> None:
-        """Judges as many edits as one copy can hold, by one check: one of each function in its place, and others of it beside it."""
-        batch = next_round(self.waiting)
-        beside = [it for it in self.waiting if it not in batch and batch[0].shares and self.can_stand_beside(it)]
+    def round(self, jobs: int, most: int) -> None:
+        """Judges as many edits as one copy can hold, or as may be at most, by one check: one of each function in its place, others beside it."""
+        waiting = self.waiting[:most]
+        batch = next_round(waiting)
+        beside = [it for it in waiting if it not in batch and batch[0].shares and self.can_stand_beside(it)]
         batch = self.room.write(batch, (*copies_of(beside, self.stem, self.crate.folder),))
         self.waiting = [it for it in self.waiting if it not in batch and it not in beside]
         placed = self.room.placed()
-        said = self.checked(sorted({f.path for it in batch for f in it.functions} | {it.path() for it in placed}), jobs)
+        said = self.checked(sorted({f.path for it in batch for f in it.functions} | {it.path() for it in placed}), jobs, len(batch) + len(beside))
         if said.was_ended:
             return
         self.note_cost(batch, placed, said)
@@ -308,14 +319,15 @@ class CrateRun:
         if not self.room.write([edit]):
             self.outcomes[edit] = Outcome(BAD_EDIT, "its pairs cannot be applied one after the other")
             return
-        said = self.checked([], jobs)
+        said = self.checked([], jobs, 1)
         if said.was_ended:
             return
         self.outcomes[edit] = judged_whole(edit, said)
         self.report(f"{edit.label} alone, by a whole check", said)
 
-    def checked(self, only: list[str], jobs: int) -> Said:
+    def checked(self, only: list[str], jobs: int, edits: int) -> Said:
         said = self.room.check(only, jobs)
+        self.clock.budget.end(self.crate.name, said.processor, edits)
         said.was_ended = said.status == -signal.SIGKILL and self.clock.is_over()
         self.checks += 1
         self.processor += said.processor

@@ -16,6 +16,8 @@ from .verdicts import REFUSED, Outcome
 
 # How many files of a crate stay: each is of other texts, the newest of the last run that wrote one.
 MOST = 16
+# Where a file of verdicts has the sum of the crate's own texts: no edit has this sum.
+OWN = "own texts"
 
 
 def folder_of_verdicts() -> str:
@@ -61,15 +63,25 @@ class KeptVerdicts:
 
     def __init__(self, crate, folder: str, is_used: bool, seen: Optional[dict[str, str]] = None):
         self.crate, self.folder, self.sum = crate, folder, sum_of_crate(crate, {} if seen is None else seen)
-        self.known = self.read() if is_used else {}
+        self.known = self.read(self.path()) if is_used else {}
 
     def path(self) -> str:
         return f"{self.folder}/{self.crate.name}-{self.sum}.json"
 
-    def read(self) -> dict[str, str]:
+    def paths(self) -> list[str]:
+        """The files of all texts of the crate."""
+        names = os.listdir(self.folder) if os.path.isdir(self.folder) else []
+        return [f"{self.folder}/{it}" for it in names if it.rpartition("-")[0] == self.crate.name]
+
+    def is_of_another_text(self) -> bool:
+        """Whether the crate's own text changed since its edits were judged: some were, and none of this text, over whatever libraries."""
+        own = [self.read(it).get(OWN) for it in self.paths()]
+        return any(own) and rt.own_sum(self.crate) not in own
+
+    def read(self, path: str) -> dict[str, str]:
         """What each refused edit was refused for, by the sum of its text; nothing where that cannot be read."""
         try:
-            with open(self.path(), encoding="utf-8") as file:
+            with open(path, encoding="utf-8") as file:
                 found = json.load(file) if os.fstat(file.fileno()).st_uid == os.geteuid() else {}
         except (OSError, ValueError):
             return {}
@@ -88,11 +100,10 @@ class KeptVerdicts:
         with contextlib.suppress(OSError):
             os.makedirs(self.folder, 0o700, exist_ok=True)
             with tempfile.NamedTemporaryFile("w", dir=self.folder, prefix=".new-", delete=False, encoding="utf-8") as made:
-                json.dump({**self.read(), **found}, made)
+                json.dump({**self.read(self.path()), **found, OWN: rt.own_sum(self.crate)}, made)
             os.replace(made.name, self.path())
             self.drop_oldest()
 
     def drop_oldest(self) -> None:
-        names = [f"{self.folder}/{it}" for it in os.listdir(self.folder) if it.rpartition("-")[0] == self.crate.name]
-        for path in sorted(names, key=os.path.getmtime)[:-MOST]:
+        for path in sorted(self.paths(), key=os.path.getmtime)[:-MOST]:
             os.remove(path)
