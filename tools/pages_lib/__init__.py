@@ -1,0 +1,1 @@
+"""What docs/THEOREMS.md and docs/CRATES.md are made of."""
