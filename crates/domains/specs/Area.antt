@@ -35,7 +35,7 @@ pub record IsAreaHull (a b h : Area) : Type 0 where
 abbrev pub common_of : Area → Area → Area
 common_of a b = record { rows = meet_of a.rows b.rows; cols = meet_of a.cols b.cols }
 
--- the hull of two areas, by its spans
+-- the bounding box of two areas, by its spans
 abbrev pub area_hull : Area → Area → Area
 area_hull a b = record { rows = hull_of a.rows b.rows; cols = hull_of a.cols b.cols }
 
@@ -47,6 +47,6 @@ point_count a = len_of a.rows * len_of a.cols
 abbrev pub points_of : Area → List (ℤ × ℤ)
 points_of a = pairs (numbers_of a.rows) (numbers_of a.cols)
 
--- a point stands before another, row by row
+-- a point comes before another, row by row
 abbrev pub IsPointBefore : ℤ × ℤ → ℤ × ℤ → Type 0
 IsPointBefore p q = IsBeforeBy ◌<ℤ◌ ◌<ℤ◌ p q

@@ -2,7 +2,7 @@
 use Rattle.std.specs.Prelude.{ℤ, pos, ◌≡◌, ◌+ℤ◌, ◌*ℤ◌, ◌≤ℤ◌, ◌<ℤ◌, FitsSigned}
 use Rattle.std.specs.Int.{Width, w32, w64, int_wrap, int_div_euclid, int_rem_euclid, int_min, int_max}
 
--- what is left of a whole number at 32 bits, and at 64 bits
+-- a whole number wrapped at 32 bits, and at 64 bits
 abbrev pub wrapped : ℤ → ℤ
 wrapped n = int_wrap w32 n
 
@@ -16,7 +16,7 @@ floor_div a d = int_div_euclid a d
 abbrev pub floor_rem : ℤ → ℤ → ℤ
 floor_rem a d = int_rem_euclid a d
 
--- v cut to at least lo, and then to at most hi
+-- v clamped to at least lo, and then to at most hi
 abbrev pub clamped : ℤ → ℤ → ℤ → ℤ
 clamped v lo hi = int_min (int_max v lo) hi
 

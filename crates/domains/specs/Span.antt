@@ -39,7 +39,7 @@ pub record IsHull (a b h : Ends) : Type 0 where
 abbrev pub meet_of : Ends → Ends → Ends
 meet_of a b = record { lo = int_max a.lo b.lo; hi = int_min a.hi b.hi }
 
--- the hull of two spans, by its ends
+-- the least span that holds both spans, by its ends
 abbrev pub hull_of : Ends → Ends → Ends
 hull_of a b = record { lo = int_min a.lo b.lo; hi = int_max a.hi b.hi }
 

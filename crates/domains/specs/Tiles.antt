@@ -1,4 +1,4 @@
--- A grid parts an area into tiles: of equal height and width, but for the last rows and columns of tiles, which may be cut short.
+-- A grid partitions an area into tiles of equal height and width. The last rows and columns of tiles may be smaller.
 use Rattle.std.specs.Prelude.{ℕ, ◌+◌, ◌*◌, ◌/◌, ◌<◌, ℤ, pos, ◌≡◌, Bool, ◌&&◌, ◌+ℤ◌, ◌-ℤ◌, int_le, List, filter}
 use Rattle.std.specs.Int.{int_min, int_gap, div_ceil}
 use Rattle.std.specs.List.{range_with_len}
@@ -14,7 +14,7 @@ pub record IsGrid (g : Grid) : Type 0 where
   pub area : IsArea g.area
   pub sides : IsSides g.sides
 
--- part i of a span that is parted, from its least number on, into spans of so many numbers, the last of which may have fewer
+-- part i of a span that is split, from its least number on, into spans of `side` numbers; the last may have fewer
 abbrev pub part_of : Ends → ℕ → ℕ → Ends
 part_of s side i = record { lo = s.lo +ℤ pos (i * side); hi = int_min s.hi (s.lo +ℤ pos ((i + 1) * side) -ℤ pos 1) }
 
@@ -80,6 +80,6 @@ pub record MeetsTile (g : Grid) (a : Area) (i j : ℕ) : Type 0 where
   pub in_tile : HoldsPoint (tile_area g i j) row col
   pub in_area : HoldsPoint a row col
 
--- a tile stands before another, row by row
+-- a tile comes before another, row by row
 abbrev pub IsBefore : ℕ × ℕ → ℕ × ℕ → Type 0
 IsBefore s t = IsBeforeBy ◌<◌ ◌<◌ s t

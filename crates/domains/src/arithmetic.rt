@@ -1,7 +1,7 @@
 //! Whole numbers at 32 and 64 bits: sums and products that wrap, and division that rounds down.
 
 ghost use Rattle.std.specs.Prelude.{◌≡◌, ℕ, pos, ◌^◌, ◌<◌, ◌+ℤ◌, ◌-ℤ◌, ◌*ℤ◌, ◌≤ℤ◌, ◌<ℤ◌, unsigned_abs, neg_ℤ};
-ghost use Rattle.domains.specs.Arithmetic.{wrapped, wrapped_long, floor_div, floor_rem, clamped};
+ghost use Rattle.domains.specs.Arithmetic.{wrapped, wrapped_long, floor_div, floor_rem};
 
 /// `a + b`, wrapped at 32 bits.
 #[inline]
@@ -81,14 +81,6 @@ pub fn floor_rem(a: i32, divisor: i32) -> i32
     ensures { result ≡ floor_rem a divisor }
 {
     a.rem_euclid(divisor)
-}
-
-/// `v` cut to at least `lo`, and then to at most `hi`.
-#[inline]
-pub fn clamp(v: i32, lo: i32, hi: i32) -> i32
-    ensures { result ≡ clamped v lo hi }
-{
-    v.max(lo).min(hi)
 }
 
 /// `sum + other`, wrapped at 64 bits.

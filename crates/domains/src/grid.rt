@@ -61,7 +61,7 @@ impl TileSides {
     }
 }
 
-/// An area, parted into tiles from its first row and column on.
+/// An area, partitioned into tiles from its first row and column on.
 #[derive(Clone, Copy, Debug, PartialEq, Eq)]
 pub struct Grid {
     pub area: Area,
@@ -75,7 +75,7 @@ impl Grid {
     ghost use Rattle.domains.specs.Tiles.{IsGrid, HasTile, IsTileOf, MeetsTile, IsBefore, tile_rows, tile_cols, tile_area};
     ghost use Rattle.domains.specs.Tiles.{tile_at, tiles_of, cover};
 
-    /// The tiles of these sides that part the area.
+    /// The tiles of these sides that partition the area.
     pub fn new(area: Area, sides: TileSides) -> Grid
         ensures { result ≡ record { area = area; sides = sides } }
     {

@@ -1,4 +1,5 @@
-//! What the definitions amount to, proved once for the crates above. A law is a function that does nothing: its clauses are the law.
+//! Consequences of the definitions, proved once for dependent crates. A law is a function that does nothing: its clauses are the
+//! law.
 
 ghost use Rattle.std.specs.Prelude.{◌≡◌, ◌≤◌, ◌*◌, ◌^◌, ◌↔◌, ℕ, ℤ, pos, negsuc, ◌+ℤ◌, ◌*ℤ◌, ◌≤ℤ◌, ◌<ℤ◌, AllPairs, Contains};
 ghost use Rattle.std.specs.Int.{w32, w64};
@@ -26,7 +27,7 @@ pub fn division_rounds_down()
     ensures rises { (a b d : ℤ) → pos 0 <ℤ d → a ≤ℤ b → floor_div a d ≤ℤ floor_div b d }
 {}
 
-/// An index never falls, so images grow with spans, and the image of a hull is the hull of the images.
+/// An index never falls. So images grow with spans, and the image of a bounding box is the bounding box of the images.
 pub fn images_grow()
     ensures rises { (x : Scale) (v w : ℤ) → IsIndex x → v ≤ℤ w → index_at x v ≤ℤ index_at x w }
     ensures grows { (x : Scale) (s t : Ends) → IsIndex x → IsSpan s → IsSubspan s t
@@ -38,7 +39,7 @@ pub fn images_grow()
         → image_of x (hull_of s t) ≡ hull_of (image_of x s) (image_of x t) }
 {}
 
-/// The intersection and the hull of two areas are those of their rows and of their columns.
+/// The intersection and the bounding box of two areas are those of their rows and of their columns.
 pub fn areas_meet_by_their_spans()
     ensures common { (a b : Area) → IsCommon a b (common_of a b) }
     ensures hull { (a b : Area) → IsArea a → IsArea b → IsAreaHull a b (area_hull a b) }
@@ -52,7 +53,7 @@ pub fn points_are_listed()
     ensures order { (a : Area) → AllPairs IsPointBefore (points_of a) }
 {}
 
-/// The tiles part the area: each point lies in exactly one, and no two have a point in common.
+/// The tiles partition the area: each point lies in exactly one, and no two have a point in common.
 pub fn tiles_part_the_area()
     ensures one { (g : Grid) (r c : ℤ) → IsGrid g → HoldsPoint g.area r c
         → IsTileOf g r c (tile_at g r c) }

@@ -57,7 +57,7 @@ pub(crate) fn place(span: &Span, side: u32, v: i32) -> Option<u32>
     }
 }
 
-// The first of the parts that have a number in common with `other`, and the one behind the last of them.
+// The first of the parts that have a number in common with `other`, and the one after the last of them.
 pub(crate) fn meeting(span: &Span, side: u32, other: &Span) -> (u32, u32)
     requires { 1 ≤ side }
     ensures parts { (k : ℕ) → k < part_count span.now side

@@ -1,9 +1,9 @@
--- Bounds of coordinates: what comparisons say of a point. Remainders bound nothing.
+-- Bounds of coordinates: what comparisons imply for a point. Remainders bound nothing.
 use Rattle.std.specs.Prelude.{ℤ, ◌≤ℤ◌, ◌≡◌, List, [], ◌∷◌}
-use Rattle.domains.specs.declared.operators.Relation.{Relation}
-use Rattle.domains.specs.declared.operators.Relation.TheVariants.{AtMost, AtLeast, Equals}
-use Rattle.operations.specs.Tests.{Test, compare, remainder}
-use Rattle.operations.specs.Values.{along}
+use Rattle.operators.specs.declared.operator.Relation.{Relation}
+use Rattle.operators.specs.declared.operator.Relation.TheVariants.{AtMost, AtLeast, Equals}
+use Rattle.operators.specs.Tests.{Test, compare, remainder}
+use Rattle.operators.specs.Values.{along}
 
 abbrev pub Relates : Relation → ℤ → ℤ → Type 0
 Relates AtMost a b = a ≤ℤ b

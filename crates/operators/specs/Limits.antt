@@ -1,9 +1,9 @@
 -- Limits of numbers of the text, of tests and of domains.
 use Rattle.std.specs.Prelude.{ℕ, ◌^◌, ◌<◌, ◌≤◌, pos, negsuc, ◌≤ℤ◌}
 use Rattle.domains.specs.Span.{Ends, IsSpan}
-use Rattle.domains.specs.declared.operators.LiteralOp.{LiteralOp}
-use Rattle.domains.specs.declared.operators.LiteralOp.TheVariants.{Div, Rem, Shl, Shr}
-use Rattle.operations.specs.Tests.{Test, compare, remainder}
+use Rattle.operators.specs.declared.operator.LiteralOp.{LiteralOp}
+use Rattle.operators.specs.declared.operator.LiteralOp.TheVariants.{Div, Rem, Shl, Shr}
+use Rattle.operators.specs.Tests.{Test, compare, remainder}
 
 -- a divisor or a modulus
 abbrev pub IsDivisor : ℕ → Type 0

@@ -1,18 +1,27 @@
 -- The values of operators, tests and kernels.
-use Rattle.std.specs.Prelude.{ℕ, zero, suc, ◌+◌, ◌*◌, ◌/◌, ◌^◌, ℤ, pos, ◌+ℤ◌, ◌-ℤ◌, ◌*ℤ◌, int_le, Bool, true, ◌&&◌}
+use Rattle.std.specs.Prelude.{ℕ, zero, suc, ◌/◌, ◌^◌, ℤ, pos, neg_ℤ, unsigned_abs, ◌+ℤ◌, ◌-ℤ◌, ◌*ℤ◌, int_le}
+use Rattle.std.specs.Prelude.{Bool, true, ◌&&◌}
 use Rattle.std.specs.Prelude.{List, [], ◌∷◌, slice_index_or}
 use Rattle.std.specs.Int.{int_min, int_max}
 use Rattle.std.specs.Ordering.{int_eq}
-use Rattle.domains.specs.Arithmetic.{wrapped, floor_div, floor_rem}
-use Rattle.domains.specs.declared.operators.BinaryOp.{BinaryOp}
-use Rattle.domains.specs.declared.operators.BinaryOp.TheVariants.{Add, Sub, Mul, Min, Max}
-use Rattle.domains.specs.declared.operators.LiteralOp.{LiteralOp}
-use Rattle.domains.specs.declared.operators.LiteralOp.TheVariants.{Div, Rem, Shl, Shr}
-use Rattle.domains.specs.declared.operators.Relation.{Relation}
-use Rattle.domains.specs.declared.operators.Relation.TheVariants.{AtMost, AtLeast, Equals}
-use Rattle.operations.specs.Tests.{Axis, row, column, Test, compare, remainder}
+use Rattle.domains.specs.Arithmetic.{wrapped, floor_div, floor_rem, clamped}
+use Rattle.operators.specs.declared.operator.UnaryOp.{UnaryOp}
+use Rattle.operators.specs.declared.operator.UnaryOp.TheVariants.{Neg, Abs}
+use Rattle.operators.specs.declared.operator.BinaryOp.{BinaryOp}
+use Rattle.operators.specs.declared.operator.BinaryOp.TheVariants.{Add, Sub, Mul, Min, Max}
+use Rattle.operators.specs.declared.operator.TernaryOp.{TernaryOp}
+use Rattle.operators.specs.declared.operator.TernaryOp.TheVariants.{Clamp}
+use Rattle.operators.specs.declared.operator.LiteralOp.{LiteralOp}
+use Rattle.operators.specs.declared.operator.LiteralOp.TheVariants.{Div, Rem, Shl, Shr}
+use Rattle.operators.specs.declared.operator.Relation.{Relation}
+use Rattle.operators.specs.declared.operator.Relation.TheVariants.{AtMost, AtLeast, Equals}
+use Rattle.operators.specs.Tests.{Axis, row, column, Test, compare, remainder}
 
 -- ---- numbers of 32 bits
+
+abbrev pub unary_value : UnaryOp → ℤ → ℤ
+unary_value Neg a = wrapped (neg_ℤ a)
+unary_value Abs a = wrapped (pos (unsigned_abs a))
 
 abbrev pub binary_value : BinaryOp → ℤ → ℤ → ℤ
 binary_value Add a b = wrapped (a +ℤ b)
@@ -21,7 +30,10 @@ binary_value Mul a b = wrapped (a *ℤ b)
 binary_value Min a b = int_min a b
 binary_value Max a b = int_max a b
 
--- a shift to the left is a product with a power of two, and one to the right a quotient
+abbrev pub ternary_value : TernaryOp → ℤ → ℤ → ℤ → ℤ
+ternary_value Clamp a low high = clamped a low high
+
+-- a shift to the left is a product with a power of two, and one to the right a quotient by one
 abbrev pub literal_value : LiteralOp → ℤ → ℕ → ℤ
 literal_value Div a n = floor_div a (pos n)
 literal_value Rem a n = floor_rem a (pos n)
@@ -48,7 +60,7 @@ sum_below (suc n) f = sum_below n f +ℤ f n
 abbrev pub factors : List (List ℤ) → ℕ → List ℤ
 factors kernel a = slice_index_or kernel a []
 
--- the place that a kernel about v reads with its factor number a of n: its middle factor is over v itself
+-- the place that a kernel at v reads with its factor number a of n: its middle factor is at v itself
 abbrev pub under : ℤ → ℕ → ℕ → ℤ
 under v n a = v +ℤ pos a -ℤ pos (n / 2)
 

@@ -12,7 +12,7 @@ pub type Kernel = Sequence<Factors>;
 /// One row of a kernel: its factors from the left.
 pub type Factors = Sequence<i32>;
 
-/// The same kernel once more.
+/// A copy of the kernel.
 pub fn copied_kernel(kernel: &Kernel) -> Result<Kernel, AllocError>
     ensures { IfOk result (λ copy. copy ≡ kernel.now) }
 {

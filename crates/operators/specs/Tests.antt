@@ -1,6 +1,6 @@
 -- Tests of the coordinates of a point.
 use Rattle.std.specs.Prelude.{ℕ, ℤ}
-use Rattle.domains.specs.declared.operators.Relation.{Relation}
+use Rattle.operators.specs.declared.operator.Relation.{Relation}
 
 -- the first coordinate of a point is its row, the second its column
 pub data Axis : Type 0 where

@@ -1,1 +1,2 @@
 pub mod KernelSums
+pub mod Fitting

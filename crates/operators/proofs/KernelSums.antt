@@ -1,6 +1,6 @@
 -- Sums of as many numbers.
 use Rattle.std.proofs.Common.{ℕ, suc, zero, arith, ◌<◌, ◌≡◌, ℤ, ◌+ℤ◌, ap, ◌∙◌, refl}
-use Rattle.operations.specs.Values.{sum_below}
+use Rattle.operators.specs.Values.{sum_below}
 
 lt_more : (k n : ℕ) → k < n → k < suc n
 lt_more k n h = omega arith

@@ -1,6 +1,6 @@
 //! Tests of points.
 
-use domains::Relation;
+use crate::operator::Relation;
 
 /// One of the two coordinates of a point.
 #[derive(Clone, Copy, Debug, PartialEq, Eq)]
@@ -14,6 +14,6 @@ pub enum Axis {
 pub enum Test {
     /// The coordinate is compared with a number.
     Compare(Axis, Relation, i128),
-    /// The coordinate has this remainder by a modulus: the modulus stands first.
+    /// The coordinate has this remainder by a modulus: the modulus comes first.
     Remainder(Axis, u32, u32),
 }

@@ -1,0 +1,11 @@
+//! The operators of expressions, by arity, with their values at operands; tests of points, and kernels. The crate has neither
+//! stages nor the syntax of operators.
+#![tactic(auto)]
+
+mod kernel;
+mod operator;
+mod point_test;
+
+pub use kernel::{Factors, Kernel, copied_kernel};
+pub use operator::{BinaryOp, Fold, LiteralOp, Relation, TernaryOp, UnaryOp};
+pub use point_test::{Axis, Test};
