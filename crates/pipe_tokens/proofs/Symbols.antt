@@ -1,9 +1,8 @@
--- Reserved words and marks, one by one.
+-- Reserved words and marks.
 use Rattle.std.proofs.Common.{◌≡◌, ℕ, ◌<◌, ◌≤◌, true, List, ◌++◌, length, Some, refl, arith}
 use Rattle.std.specs.List.{prefix_len}
 use Rattle.pipe_tokens.specs.declared.token.Token.TheVariants as tokens
 use Rattle.pipe_tokens.specs.declared.token.Keyword.{Keyword}
-use Rattle.pipe_tokens.specs.declared.token.Keyword.TheVariants as words
 use Rattle.pipe_tokens.specs.declared.token.Punct.{Punct}
 use Rattle.pipe_tokens.specs.declared.token.Punct.TheVariants as marks
 use Rattle.pipe_tokens.specs.Character.{is_name_byte}
@@ -14,71 +13,17 @@ use Rattle.pipe_tokens.specs.Lexing.{lexeme, piece_of}
 -- a reserved word is an identifier
 pub word_is_identifier : (word : Keyword) → is_identifier (bytes_of_word word) ≡ true
 unfolding bytes_of_word
-word_is_identifier words.Param = refl
-word_is_identifier words.Image = refl
-word_is_identifier words.Func = refl
-word_is_identifier words.In = refl
-word_is_identifier words.Case = refl
-word_is_identifier words.Else = refl
-word_is_identifier words.Accum = refl
-word_is_identifier words.Over = refl
-word_is_identifier words.Sum = refl
-word_is_identifier words.Min = refl
-word_is_identifier words.Max = refl
-word_is_identifier words.At = refl
-word_is_identifier words.Output = refl
-word_is_identifier words.And = refl
-word_is_identifier words.Abs = refl
-word_is_identifier words.Clamp = refl
-word_is_identifier words.Select = refl
-word_is_identifier words.Stencil = refl
-word_is_identifier words.Table = refl
+word_is_identifier word = grind arith
 
 -- no two are spelled alike
 pub word_of-bytes_of_word : (word : Keyword) → word_of (bytes_of_word word) ≡ Some word
 unfolding bytes_of_word
-word_of-bytes_of_word words.Param = refl
-word_of-bytes_of_word words.Image = refl
-word_of-bytes_of_word words.Func = refl
-word_of-bytes_of_word words.In = refl
-word_of-bytes_of_word words.Case = refl
-word_of-bytes_of_word words.Else = refl
-word_of-bytes_of_word words.Accum = refl
-word_of-bytes_of_word words.Over = refl
-word_of-bytes_of_word words.Sum = refl
-word_of-bytes_of_word words.Min = refl
-word_of-bytes_of_word words.Max = refl
-word_of-bytes_of_word words.At = refl
-word_of-bytes_of_word words.Output = refl
-word_of-bytes_of_word words.And = refl
-word_of-bytes_of_word words.Abs = refl
-word_of-bytes_of_word words.Clamp = refl
-word_of-bytes_of_word words.Select = refl
-word_of-bytes_of_word words.Stencil = refl
-word_of-bytes_of_word words.Table = refl
+word_of-bytes_of_word word = grind arith
 
 -- none is as long as the longest name
 pub word_short : (word : Keyword) → length (bytes_of_word word) ≤ 7
 unfolding bytes_of_word
-word_short words.Param = omega arith
-word_short words.Image = omega arith
-word_short words.Func = omega arith
-word_short words.In = omega arith
-word_short words.Case = omega arith
-word_short words.Else = omega arith
-word_short words.Accum = omega arith
-word_short words.Over = omega arith
-word_short words.Sum = omega arith
-word_short words.Min = omega arith
-word_short words.Max = omega arith
-word_short words.At = omega arith
-word_short words.Output = omega arith
-word_short words.And = omega arith
-word_short words.Abs = omega arith
-word_short words.Clamp = omega arith
-word_short words.Select = omega arith
-word_short words.Stencil = omega arith
-word_short words.Table = omega arith
+word_short word = grind arith
 
 pub mark_len : (mark : Punct) → 0 < length (bytes_of_mark mark)
 unfolding bytes_of_mark

@@ -6,7 +6,7 @@ use Rattle.std.specs.Char.{is_ascii_alphanumeric}
 abbrev pub is_white : ℕ → Bool
 is_white b = b == 32 || b == 9 || b == 13 || b == 10
 
--- a byte that goes on with a comment: an LF ends it
+-- a byte that continues a comment: an LF ends it
 abbrev pub is_comment_byte : ℕ → Bool
 is_comment_byte b = nat_lt b 128 && not (b == 10)
 

@@ -1,4 +1,4 @@
--- What the longest tokens of a text are, apart from any way to find them.
+-- The longest tokens of a text, defined independently of how they are found.
 use Rattle.std.specs.Prelude.{◌≡◌, ℕ, ◌+◌, ◌<◌, ◌≤◌, true, false, ◌⊎◌, List, [], ◌∷◌, ◌++◌, length, MatchBool}
 use Rattle.std.specs.List.{prefix_len, list_all}
 use Rattle.std.specs.Char.{is_ascii_digit}
@@ -26,16 +26,16 @@ Spells tokens.TooBig bytes = IsDigits bytes × (2147483647 < digits_value 10 byt
 Spells tokens.Bad bytes = ⊥
 Spells tokens.NotAscii bytes = ⊥
 
--- white space and comments, in any mix, in front of the rest of a text. A comment begins with `#` and ends where an LF,
--- a byte of 128 or more, or nothing stands
+-- white space and comments, in any mix, before the rest of a text. A comment begins with `#` and ends before an LF, a byte of 128
+-- or more, or the end
 pub data Gap (rest : List ℕ) : List ℕ → Type 0 where
   nothing : Gap rest []
   white : (b : ℕ) (gap : List ℕ) → is_white b ≡ true → Gap rest gap → Gap rest (b ∷ gap)
   comment : (body gap : List ℕ) → list_all is_comment_byte body ≡ true → prefix_len is_comment_byte (gap ++ rest) ≡ 0 → Gap rest gap
       → Gap rest (35 ∷ (body ++ gap))
 
--- bytes that are a token, and no more of the text is one. No letter, digit or `_` stands directly behind a name, a
--- reserved word or a number
+-- bytes that are a token, and no longer part of the text is one. No letter, digit or `_` comes directly after a name, a reserved
+-- word or a number
 pub record IsLongest (token : Token) (lexeme rest : List ℕ) : Type 0 where
   pub spelled : Spells token lexeme
   pub longest : (other : Token) (front back : List ℕ) → lexeme ++ rest ≡ front ++ back → Spells other front → length front ≤ length lexeme
@@ -58,7 +58,7 @@ pub record BeginsLongName (text : List ℕ) : Type 0 where
   pub named : is_identifier name ≡ true
   pub long : 32 < length name
 
--- digits with a letter or `_` directly behind them
+-- digits with a letter or `_` directly after them
 pub record BeginsDigitsAndLetter (text : List ℕ) : Type 0 where
   pub digits : List ℕ
   pub letter : ℕ
@@ -73,13 +73,13 @@ pub record BeginsNotAscii (text : List ℕ) : Type 0 where
   pub parts : text ≡ first ∷ others
   pub above : 128 ≤ first
 
--- what stands at a token's place: its bytes and the rest. A fault has no bytes of its own
+-- the bytes of a token at its place, and the rest. A fault has no bytes of its own
 abbrev pub StandsAt : Token → List ℕ → List ℕ → Type 0
 StandsAt tokens.Bad lexeme rest = (lexeme ≡ []) × (BeginsNothing rest ⊎ (BeginsLongName rest ⊎ BeginsDigitsAndLetter rest))
 StandsAt tokens.NotAscii lexeme rest = (lexeme ≡ []) × BeginsNotAscii rest
 StandsAt token lexeme rest = IsLongest token lexeme rest
 
--- a text that stands at an offset is a gap, then a token that starts at `start`, then the rest
+-- a text at an offset is a gap, then a token that starts at `start`, then the rest
 pub record Begins (offset : ℕ) (text : List ℕ) (token : Token) (start : ℕ) (lexeme rest : List ℕ) : Type 0 where
   pub gap : List ℕ
   pub parts : text ≡ gap ++ (lexeme ++ rest)
@@ -87,8 +87,7 @@ pub record Begins (offset : ℕ) (text : List ℕ) (token : Token) (start : ℕ)
   pub start_is : start ≡ offset + length gap
   pub stands : StandsAt token lexeme rest
 
--- the tokens of a text that stands at an offset, and their starts: gap, token, gap, token .., gap. A lexical fault is
--- the last token
+-- the tokens of a text at an offset, and their starts: gap, token, gap, token .., gap. A lexical fault is the last token
 abbrev pub CutsInto : ℕ → List ℕ → List Token → List ℕ → Type 0
 CutsInto offset text [] [] = Gap [] text
 CutsInto offset text [] (start ∷ starts) = ⊥

@@ -18,18 +18,18 @@ gap len = record { token = None; len = len }
 abbrev pub lexeme : Token → ℕ → Piece
 lexeme token len = record { token = Some token; len = len }
 
--- what letters, digits and `_` are together: a reserved word, else a name, if they are few enough
+-- the token of letters, digits and `_`: a reserved word, else a name, if they are few enough
 abbrev pub token_of_word : List ℕ → Token
 token_of_word bytes = unwrap_or (option_map tokens.Keyword (word_of bytes)) (if is_name bytes then tokens.Name bytes else tokens.Bad)
 
--- what digits are together: their value, if it is small enough
+-- the token of digits: their value, if it is small enough
 abbrev pub token_of_digits : List ℕ → Token
 token_of_digits digits = if nat_le (digits_value 10 digits) 2147483647 then tokens.Int (digits_value 10 digits) else tokens.TooBig
 
 abbrev pub word_piece : List ℕ → Piece
 word_piece text = lexeme (token_of_word (take_while is_name_byte text)) (prefix_len is_name_byte text)
 
--- digits, with no letter or `_` directly behind them
+-- digits, with no letter or `_` directly after them
 abbrev pub digits_piece : List ℕ → Piece
 digits_piece text =
     lexeme (if prefix_len is_name_byte text == prefix_len is_ascii_digit text then token_of_digits (take_while is_ascii_digit text)
@@ -69,7 +69,7 @@ abbrev pub lexemes_with : ℕ → Option Token → List Lexeme → List Lexeme
 lexemes_with start None later = later
 lexemes_with start (Some token) later = record { token = token; start = start } ∷ (if is_fault token then [] else later)
 
--- the lexemes of a text that stands at an offset, of which the first bytes belong to the piece before
+-- the lexemes of a text at an offset, of which the first bytes belong to the piece before
 unfoldable pub lexemes_from : (offset taken : ℕ) → List ℕ → List Lexeme
 lexemes_from offset taken [] = []
 lexemes_from offset (suc taken) (b ∷ text) = lexemes_from (suc offset) taken text

@@ -1,4 +1,4 @@
--- What a name is.
+-- The names of a text.
 use Rattle.std.specs.Prelude.{◌≡◌, ℕ, ◌≤◌, ◌-◌, Bool, false, ◌&&◌, nat_le, List, [], ◌∷◌, length, take, drop, replicate, IsTrue}
 use Rattle.std.specs.List.{list_all}
 use Rattle.std.specs.Char.{is_ascii_alphabetic}

@@ -34,7 +34,7 @@ all_words =
     words.Param ∷ words.Image ∷ words.Func ∷ words.In ∷ words.Case ∷ words.Else ∷ words.Accum ∷ words.Over ∷ words.Sum ∷ words.Min
     ∷ words.Max ∷ words.At ∷ words.Output ∷ words.And ∷ words.Abs ∷ words.Clamp ∷ words.Select ∷ words.Stencil ∷ words.Table ∷ []
 
--- the reserved word that the bytes are
+-- the reserved word that the bytes spell
 abbrev pub word_of : List ℕ → Option Keyword
 word_of bytes = find (λ word. bytes_eq (bytes_of_word word) bytes) all_words
 
@@ -66,6 +66,6 @@ all_marks =
     ∷ marks.Semicolon ∷ marks.Colon ∷ marks.Plus ∷ marks.Minus ∷ marks.Star ∷ marks.Slash ∷ marks.Percent ∷ marks.ShiftLeft
     ∷ marks.ShiftRight ∷ marks.AtMost ∷ marks.AtLeast ∷ marks.Equals ∷ marks.DotDot ∷ []
 
--- the mark that a text begins with. None is the front of another, so that there is one at most
+-- the mark that a text begins with. None is a prefix of another, so that there is at most one
 abbrev pub mark_at : List ℕ → Option Punct
 mark_at text = find (λ mark. starts_with nat_eq text (bytes_of_mark mark)) all_marks

@@ -6,7 +6,7 @@ use Rattle.pipe_tokens.specs.declared.token.Token.TheVariants as tokens
 use Rattle.pipe_tokens.specs.Naming.{is_name}
 use Rattle.pipe_tokens.specs.Spelled.{bytes_of_word, bytes_of_mark, word_of}
 
--- what a token is spelled as; a number without leading zeros
+-- the spelling of a token; a number without leading zeros
 abbrev pub bytes_of : Token → List ℕ
 bytes_of (tokens.Keyword word) = bytes_of_word word
 bytes_of (tokens.Punct mark) = bytes_of_mark mark

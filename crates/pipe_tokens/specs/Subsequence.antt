@@ -1,8 +1,8 @@
--- Tokens of which some are left out.
+-- Lists of tokens from which some are omitted.
 use Rattle.std.specs.Prelude.{List, [], ◌∷◌, ◌++◌}
 use Rattle.pipe_tokens.specs.declared.token.Token.{Token}
 
--- the first list is the second with some tokens left out
+-- the first list is the second with some tokens omitted
 pub data IsSubsequence : List Token → List Token → Type 0 where
   nothing : IsSubsequence [] []
   keeps : (token : Token) (few many : List Token) → IsSubsequence few many → IsSubsequence (token ∷ few) (token ∷ many)

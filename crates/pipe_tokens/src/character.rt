@@ -10,14 +10,14 @@ pub fn is_white(byte: u8) -> bool
     byte == b' ' || byte == b'\t' || byte == b'\r' || byte == b'\n'
 }
 
-/// Whether a comment goes on with the byte: an LF ends it, and a byte of 128 or more is part of no text.
+/// Whether the byte continues a comment: an LF ends it, and a byte of 128 or more is part of no text.
 pub fn is_comment_byte(byte: u8) -> bool
     ensures { result ≡ character.is_comment_byte byte }
 {
     byte < 128 && byte != b'\n'
 }
 
-/// Whether a name goes on with the byte.
+/// Whether the byte continues a name.
 pub fn is_name_byte(byte: u8) -> bool
     ensures { result ≡ character.is_name_byte byte }
 {

@@ -17,13 +17,13 @@ pub struct Lexed {
     pub starts: Vec<usize>,
 }
 
-/// Cuts a text into its longest tokens. Lexing ends at the first lexical fault, `Bad` or `NotAscii`, which is the last
-/// token then. The text has any length. Memory is the only error.
+/// Cuts a text into its longest tokens. Lexing ends at the first lexical fault, `Bad` or `NotAscii`, which is then the last
+/// token. The text has any length. Memory is the only error.
 pub fn lex(alloc: Global, text: &[u8]) -> Result<Lexed, AllocError>
-    // Gaps and longest tokens in turn.
+    // Gaps and longest tokens alternate.
     ensures longest { IfOk result
         (λ lexed. CutsInto 0 text.now lexed.tokens.items lexed.starts.items) }
-    // These are the one such list, which can be computed.
+    // There is one such list, and these definitions compute it.
     ensures tokens { IfOk result (λ lexed. lexed.tokens.items ≡ tokens_of text.now) }
     ensures starts { IfOk result (λ lexed. lexed.starts.items ≡ starts_of text.now) }
 

@@ -1,6 +1,6 @@
-//! The tokens of a program's text. `lex` cuts a text into its longest tokens, each with the offset where it starts, and
-//! `spell` writes tokens in the fewest bytes. What was spelled is cut into the same tokens again, and no text that is
-//! cut into these tokens is shorter.
+//! The tokens of a program's text. `lex` cuts a text into its longest tokens, each with the offset where it starts, and `spell`
+//! writes tokens in the fewest bytes. The spelling of tokens is cut into the same tokens again, and no text that is cut into
+//! these tokens is shorter.
 #![tactic(auto)]
 
 mod character;

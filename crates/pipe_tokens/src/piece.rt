@@ -13,11 +13,11 @@ use crate::token::{Keyword, Punct, Token};
 /// The largest number that a text may have.
 pub const MAX_INT: u32 = 2147483647;
 
-/// What a text begins with: a token, or where there is none a part of the gap before one.
+/// What a text begins with: a token, or if there is none a part of the gap before one.
 #[derive(Clone, Copy, Debug)]
 pub struct Piece {
     pub token: Option<Token>,
-    /// How many bytes it has.
+    /// The number of its bytes.
     pub len: usize,
 }
 

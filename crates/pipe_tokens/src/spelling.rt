@@ -10,8 +10,8 @@ ghost use Rattle.pipe_tokens.specs.Subsequence.{IsSubsequence};
 use crate::token::Token;
 use std::alloc::{AllocError, Global};
 
-/// The tokens in the fewest bytes: one blank between two neighbours that both begin with a letter or a digit, and no
-/// other. Numbers have no leading zeros. `TooBig`, `Bad` and `NotAscii` have no spelling and are left out.
+/// The tokens in the fewest bytes: one blank between two neighbours that both begin with a letter or a digit, and no other.
+/// Numbers have no leading zeros. `TooBig`, `Bad` and `NotAscii` have no spelling and are omitted.
 pub fn spell(alloc: Global, tokens: &[Token]) -> Result<Vec<u8>, AllocError>
     ensures { IfOk result (λ bytes. bytes.items ≡ spelling tokens.now) }
 {
@@ -28,20 +28,20 @@ pub fn spell(alloc: Global, tokens: &[Token]) -> Result<Vec<u8>, AllocError>
     Ok(bytes)
 }
 
-/// What was spelled is cut into the same tokens again.
+/// The spelling of tokens is cut into the same tokens again.
 pub fn spelled_tokens_come_back()
     ensures { (tokens : List Token) → AllByRecursion HasSpelling tokens
         → tokens_of (spelling tokens) ≡ tokens }
 {}
 
-/// A text is no shorter than the spelling of its tokens, and the tokens have a spelling but for numbers that are too
-/// big and the lexical fault at the end.
+/// A text is no shorter than the spelling of its tokens. All of its tokens have a spelling, except numbers that are too big and
+/// the lexical fault at the end.
 pub fn spelling_is_shortest()
     ensures shortest { (text : List ℕ) → length (spelling (tokens_of text)) ≤ length text }
     ensures readable { (text : List ℕ) → AllByRecursion IsReadable (tokens_of text) }
 {}
 
-/// Tokens of which some are left out have a spelling that is no longer.
+/// If some tokens are omitted, the spelling of the others is no longer.
 pub fn fewer_tokens_are_no_longer()
     ensures { (few : List Token) (many : List Token) → IsSubsequence few many
         → AllByRecursion HasSpelling many → length (spelling few) ≤ length (spelling many) }

@@ -1,4 +1,4 @@
-//! What a program's text is made of.
+//! The tokens of a program's text.
 
 ghost use Rattle.std.specs.Prelude.{◌≡◌};
 
@@ -73,7 +73,7 @@ pub enum Punct {
     DotDot,
 }
 
-/// The longest piece of text that is one thing.
+/// A token: the longest piece of text that is one unit.
 #[derive(Clone, Copy, Debug, PartialEq, Eq)]
 pub enum Token {
     Keyword(Keyword),
@@ -84,7 +84,7 @@ pub enum Token {
     Int(u32),
     /// Digits whose value is above 2147483647.
     TooBig,
-    /// A byte that begins no token, a name of more than 32 bytes, or digits with a letter or `_` directly behind them.
+    /// A byte that begins no token, a name of more than 32 bytes, or digits with a letter or `_` directly after them.
     Bad,
     /// A byte of 128 or more.
     NotAscii,
@@ -155,7 +155,7 @@ impl Keyword {
 impl Punct {
     ghost use Rattle.pipe_tokens.specs.Spelled.{bytes_of_mark, mark_at};
 
-    /// The marks. None is the front of another.
+    /// The marks. None is a prefix of another.
     const ALL: [Punct; 20] = [
         Punct::OpenRound,
         Punct::CloseRound,
