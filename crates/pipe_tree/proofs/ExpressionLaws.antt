@@ -1,41 +1,41 @@
 -- Expressions are read as the grammar says, within any levels.
-use Rattle.std.proofs.Common.{Bool, true, false, ◌≡◌, ℕ, zero, suc, ◌<◌, List, [], ◌∷◌, Option, Some, None, Ok, Err, refl, subst, ap}
-use Rattle.std.proofs.Common.{arith, ◌⊎◌, inl, inr}
+use Rattle.std.proofs.Common.{Bool, true, false, ◌≡◌, ℕ, zero, suc, ◌<◌, List, [], ◌∷◌, Option, Some, None, Ok, Err, refl, ap}
+use Rattle.std.proofs.Common.{arith, inl, inr}
 use Rattle.pipe_tokens.specs.declared.token.Token.{Token}
 use Rattle.pipe_tokens.specs.declared.token.Token.TheVariants as token
 use Rattle.pipe_tokens.specs.declared.token.Punct.{Punct}
 use Rattle.pipe_tokens.specs.declared.token.Punct.TheVariants as marks
-use Rattle.pipe_tokens.specs.declared.token.Keyword.{Keyword}
 use Rattle.pipe_tokens.specs.declared.token.Keyword.TheVariants as words
 use Rattle.pipe_tree.specs.declared.fault.Kind.TheVariants.{TooDeep}
 use Rattle.pipe_tree.specs.declared.limits.Counts.{Counts}
 use Rattle.pipe_tree.specs.declared.limits.Role.{Role}
 use Rattle.pipe_tree.specs.declared.limits.Role.TheVariants as roles
+use Rattle.pipe_tree.specs.declared.ahead.Call.{Call}
+use Rattle.pipe_tree.specs.declared.ahead.Call.TheVariants as calls
 use Rattle.pipe_tree.specs.declared.ahead.Factor.{Factor}
 use Rattle.pipe_tree.specs.declared.ahead.Factor.TheVariants as factors
 use Rattle.pipe_tree.specs.declared.ahead.Opening.{Opening}
 use Rattle.pipe_tree.specs.declared.ahead.Opening.TheVariants as opening
 use Rattle.pipe_tree.specs.declared.ahead.Start.{Start}
 use Rattle.pipe_tree.specs.declared.ahead.Start.TheVariants as start
-use Rattle.domains.specs.declared.operators.BinaryOp.{BinaryOp}
-use Rattle.domains.specs.declared.operators.BinaryOp.TheVariants.{Min, Max}
-use Rattle.domains.specs.declared.operators.Relation.{Relation}
+use Rattle.operators.specs.declared.operator.Relation.{Relation}
 use Rattle.pipe_tree.specs.Tokens.{head}
 use Rattle.pipe_tree.specs.Limits.{Tagged, fits}
-use Rattle.pipe_tree.specs.Operators.{name_at, sign_at, factor_at, relation_at}
-use Rattle.pipe_tree.specs.Lookahead.{is_mark_at, start_at}
+use Rattle.pipe_tree.specs.Operators.{name_at, sign_at, factor_at, call_at, relation_at}
+use Rattle.pipe_tree.specs.Lookahead.{is_mark_at, start_by, start_at}
 use Rattle.pipe_tree.specs.Grammar as g
 use Rattle.pipe_tree.specs.Grammar.{Rule, Then, Gives, many, ◌or◌, leaf, Unary, Product, Expression}
 use Rattle.pipe_tree.specs.Faults.{GoesOn}
 use Rattle.pipe_tree.specs.Tree.{Node, lookup, variable}
 use Rattle.pipe_tree.specs.Reading.{At, Answer, Reader, ◌>>=◌, gives, stop, by_key, choose, while, mark, is_factor_at, is_sign_at}
 use Rattle.pipe_tree.specs.Reading.{literal_number, name, name_end, named, read_end, entry_of, a_stencil, operand, product_more, product_of, sum_more, sum_of}
-use Rattle.pipe_tree.specs.Reading.{negation, group, word_of, pair, absolute}
-use Rattle.pipe_tree.specs.Reading.{clamped, selected, opened, unary_by, unary_at, entry_at, product_at, expression_at}
+use Rattle.pipe_tree.specs.Reading.{negation, group, arguments, called, selected, opened}
+use Rattle.pipe_tree.specs.Reading.{unary_by, unary_at, entry_at, product_at, expression_at}
 use Rattle.pipe_tree.proofs.Laws.{on, state, tagged, Within, Sound, HasText, Follow, Any, Ends, All, Parses, Starts, widen}
 use Rattle.pipe_tree.proofs.Laws.{refuse_sound, or_all, or_wider, all_weaker, choose_left, choose_right, choose_when, then_all, then_at, then_wider}
 use Rattle.pipe_tree.proofs.Laws.{then_has, has_within, token_rule, parses_then, parses_next, parses_gives}
-use Rattle.pipe_tree.proofs.TokenLaws.{parses_mark, parses_word, parses_name, parses_sign, parses_factor, parses_relation, parses_int}
+use Rattle.pipe_tree.proofs.TokenLaws.{parses_mark, parses_word, parses_name, parses_sign, parses_factor, parses_call, parses_relation}
+use Rattle.pipe_tree.proofs.TokenLaws.{parses_int, call_good}
 use Rattle.pipe_tree.proofs.LoopLaws.{Turns, loop_unroll, parses_loop, loop_follows}
 use Rattle.pipe_tree.proofs.StartLaws.{Passing, Failing, starts_by, starts_with, starts_means, starts_int, starts_gives, long_front}
 use Rattle.pipe_tree.proofs.StartLaws.{long_means, key_sound, key_all}
@@ -84,6 +84,9 @@ relation_is_no_operator t x e = absurd cc
 name_starts_name : (t : Token) (x : List ℕ) → name_at (Some t) ≡ Some x → start_at (Some t) ≡ start.Name
 name_starts_name (token.Name y) x e = refl
 name_starts_name t x e = absurd cc
+
+call_starts_call : (t : Token) (c : Call) → call_at (Some t) ≡ Some c → start_at (Some t) ≡ start.Opening opening.Call
+call_starts_call t c e = ap (λ (o : Option Call). start_by o (Some t)) e
 
 -- ---- products and sums, over what reads a unary
 
@@ -178,29 +181,33 @@ module _ (n : ℕ) (e : Reader Node) (E : ℕ → Rule Node) (reads : Parses n e
   pub parses_group : Parses n (group e) Any (λ m. g.group (E m))
   parses_group = parses_next n _ _ Any _ _ (parses_mark n marks.OpenRound roles.Plain) (λ _. last (λ a. a))
 
-  pub parses_absolute : Parses n (absolute e) Any (λ m. g.absolute (E m))
-  parses_absolute =
-      parses_next n _ _ Any _ _ (parses_word n words.Abs roles.Node) (λ _.
-      parses_next n _ _ Any _ _ (parses_mark n marks.OpenRound roles.Plain) (λ _. last _))
+  -- an operand that ends the operands
+  final : (f : Node → Node) → Parses n (e >>= λ a. gives (f a)) NoOperator (λ m. Then (E m) (λ a. Gives (f a)))
+  final f =
+      parses_then n e _ NoOperator NoOperator _ _ reads (λ a. parses_gives n (f a) NoOperator)
+      (λ m a. starts_gives (f a) NoOperator NoOperator (λ h s. s))
 
-  pub parses_pair : (op : BinaryOp) → Parses n (pair op e) Any (λ m. g.pair (word_of op) op (E m))
-  parses_pair op =
-      parses_next n _ _ Any _ _ (parses_word n (word_of op) roles.Node) (λ _.
-      parses_next n _ _ Any _ _ (parses_mark n marks.OpenRound roles.Plain) (λ _.
-      parses_then n e _ NoOperator Any _ _ reads (λ a.
-      parses_next n _ _ Any _ _ (parses_mark n marks.Comma roles.Plain) (λ _. last _))
-      (λ m a. ends_mark marks.Comma roles.Plain _ Any ((refl, refl), refl, refl))))
+  parses_arguments : (c : Call) → Parses n (arguments e c) NoOperator (λ m. g.arguments (E m) c)
+  parses_arguments (calls.Unary op) = final _
+  parses_arguments (calls.Binary op) =
+      parses_then n e _ NoOperator NoOperator _ _ reads
+      (λ a. parses_next n _ _ NoOperator _ _ (parses_mark n marks.Comma roles.Plain) (λ _. final _))
+      (λ m a. ends_mark marks.Comma roles.Plain _ NoOperator ((refl, refl), refl, refl))
+  parses_arguments (calls.Ternary op) =
+      parses_then n e _ NoOperator NoOperator _ _ reads (λ a.
+      parses_next n _ _ NoOperator _ _ (parses_mark n marks.Comma roles.Plain) (λ _.
+      parses_then n e _ NoOperator NoOperator _ _ reads
+      (λ b. parses_next n _ _ NoOperator _ _ (parses_mark n marks.Comma roles.Plain) (λ _. final _))
+      (λ m b. ends_mark marks.Comma roles.Plain _ NoOperator ((refl, refl), refl, refl))))
+      (λ m a. ends_mark marks.Comma roles.Plain _ NoOperator ((refl, refl), refl, refl))
 
-  pub parses_clamped : Parses n (clamped e) Any (λ m. g.clamped (E m))
-  parses_clamped =
-      parses_next n _ _ Any _ _ (parses_word n words.Clamp roles.Node) (λ _.
+  pub parses_called : Parses n (called e) Any (λ m. g.called (E m))
+  parses_called =
+      parses_next n _ _ Any _ _ (parses_call n) (λ c.
       parses_next n _ _ Any _ _ (parses_mark n marks.OpenRound roles.Plain) (λ _.
-      parses_then n e _ NoOperator Any _ _ reads (λ a.
-      parses_next n _ _ Any _ _ (parses_mark n marks.Comma roles.Plain) (λ _.
-      parses_then n e _ NoOperator Any _ _ reads (λ b.
-      parses_next n _ _ Any _ _ (parses_mark n marks.Comma roles.Plain) (λ _. last _))
-      (λ m b. ends_mark marks.Comma roles.Plain _ Any ((refl, refl), refl, refl))))
-      (λ m a. ends_mark marks.Comma roles.Plain _ Any ((refl, refl), refl, refl))))
+      parses_then n _ _ NoOperator Any _ _ (parses_arguments c)
+      (λ a. parses_next n _ _ Any _ _ (parses_mark n marks.CloseRound roles.Plain) (λ _. parses_gives n a Any))
+      (λ m a. ends_mark marks.CloseRound roles.Plain _ Any ((refl, refl), refl, refl))))
 
   pub parses_selected : Parses n (selected e) Any (λ m. g.selected (E m))
   parses_selected =
@@ -287,18 +294,13 @@ module _ (deep : Type 0) (open_level : Opening → Reader Node) (entry : List �
 
   -- what opens a level, each as the rule says
   levels_all : (U E : Rule Node) → All deep (open_level opening.Minus) NoOpen (g.negation U)
-      → All deep (open_level opening.Group) NoOpen (g.group E) → All deep (open_level (opening.Pair Min)) NoOpen (g.pair words.Min Min E)
-      → All deep (open_level (opening.Pair Max)) NoOpen (g.pair words.Max Max E) → All deep (open_level opening.Abs) NoOpen (g.absolute E)
-      → All deep (open_level opening.Clamp) NoOpen (g.clamped E) → All deep (open_level opening.Select) NoOpen (g.selected E)
-      → ((x : List ℕ) → All deep (entry x) NoOpen (g.entry_of E x))
+      → All deep (open_level opening.Group) NoOpen (g.group E) → All deep (open_level opening.Call) NoOpen (g.called E)
+      → All deep (open_level opening.Select) NoOpen (g.selected E) → ((x : List ℕ) → All deep (entry x) NoOpen (g.entry_of E x))
       → All deep (by_key start_at (unary_by open_level entry)) NoOpen (leaf or g.opened U E or g.looked_up E)
-  levels_all U E negated grouped least most absolute clamped selected looked =
+  levels_all U E negated grouped called selected looked =
       let key = key_all start_at (unary_by open_level entry) deep NoOpen in
       or_all deep _ NoOpen _ _
       (or_all deep _ NoOpen _ _ leaf_all
-      (or_all deep _ NoOpen _ _
-      (or_all deep _ NoOpen _ _
-      (or_all deep _ NoOpen _ _
       (or_all deep _ NoOpen _ _
       (or_all deep _ NoOpen _ _
       (or_all deep _ NoOpen _ _
@@ -306,14 +308,8 @@ module _ (deep : Type 0) (open_level : Opening → Reader Node) (entry : List �
       (starts_with (token.Punct marks.Minus) roles.Node _ NoOpen (λ h. start_at h ≡ start.Opening opening.Minus) refl) negated)
       (key (g.group E) (start.Opening opening.Group)
       (starts_with (token.Punct marks.OpenRound) roles.Plain _ NoOpen (λ h. start_at h ≡ start.Opening opening.Group) refl) grouped))
-      (key (g.pair words.Min Min E) (start.Opening (opening.Pair Min))
-      (starts_with (token.Keyword words.Min) roles.Node _ NoOpen (λ h. start_at h ≡ start.Opening (opening.Pair Min)) refl) least))
-      (key (g.pair words.Max Max E) (start.Opening (opening.Pair Max))
-      (starts_with (token.Keyword words.Max) roles.Node _ NoOpen (λ h. start_at h ≡ start.Opening (opening.Pair Max)) refl) most))
-      (key (g.absolute E) (start.Opening opening.Abs)
-      (starts_with (token.Keyword words.Abs) roles.Node _ NoOpen (λ h. start_at h ≡ start.Opening opening.Abs) refl) absolute))
-      (key (g.clamped E) (start.Opening opening.Clamp)
-      (starts_with (token.Keyword words.Clamp) roles.Node _ NoOpen (λ h. start_at h ≡ start.Opening opening.Clamp) refl) clamped))
+      (key (g.called E) (start.Opening opening.Call) (starts_by g.call _ NoOpen (λ h. start_at h ≡ start.Opening opening.Call)
+      (starts_means call_at roles.Node Any (λ h. start_at h ≡ start.Opening opening.Call) call_starts_call)) called))
       (key (g.selected E) (start.Opening opening.Select)
       (starts_with (token.Keyword words.Select) roles.Node _ NoOpen (λ h. start_at h ≡ start.Opening opening.Select) refl) selected)))
       (key (g.looked_up E) start.Name (starts_by (g.name roles.Node) _ NoOpen (λ h. start_at h ≡ start.Name)
@@ -344,61 +340,31 @@ level_in_unary n text x p = inl (inr p)
 abbrev opened_rule : Rule Node → Rule Node → Opening → Rule Node
 opened_rule U E opening.Minus = g.negation U
 opened_rule U E opening.Group = g.group E
-opened_rule U E opening.Abs = g.absolute E
-opened_rule U E opening.Clamp = g.clamped E
+opened_rule U E opening.Call = g.called E
 opened_rule U E opening.Select = g.selected E
-opened_rule U E (opening.Pair op) = g.pair (word_of op) op E
 
-pair_word : (w : Keyword) (op : BinaryOp) → start_at (Some (token.Keyword w)) ≡ start.Opening (opening.Pair op) → (op ≡ Min) ⊎ (op ≡ Max)
-pair_word words.Min op e = inl cc
-pair_word words.Max op e = inr cc
-pair_word w op e = absurd cc
-
-no_pair_mark : (m : Punct) (op : BinaryOp) → start_at (Some (token.Punct m)) ≡ start.Opening (opening.Pair op) → ⊥
-no_pair_mark marks.Minus op e = cc
-no_pair_mark marks.OpenRound op e = cc
-no_pair_mark m op e = cc
-
--- `min` and `max` are the only pairs
-pair_is : (h : Option Token) (op : BinaryOp) → start_at h ≡ start.Opening (opening.Pair op) → (op ≡ Min) ⊎ (op ≡ Max)
-pair_is (Some (token.Keyword w)) op e = pair_word w op e
-pair_is (Some (token.Punct m)) op e = absurd (no_pair_mark m op e)
-pair_is (Some t) op e = absurd cc
-pair_is None op e = absurd cc
-
-opened_within : (U E : Rule Node) (h : Option Token) (o : Opening) → start_at h ≡ start.Opening o
-    → Within (opened_rule U E o) (g.opened U E)
-opened_within U E h opening.Minus e text x p = inl (inl (inl (inl (inl (inl p)))))
-opened_within U E h opening.Group e text x p = inl (inl (inl (inl (inl (inr p)))))
-opened_within U E h opening.Abs e text x p = inl (inl (inr p))
-opened_within U E h opening.Clamp e text x p = inl (inr p)
-opened_within U E h opening.Select e text x p = inr p
-opened_within U E h (opening.Pair op) e text x p = within_pair (pair_is h op e)
-  where
-    within_pair : (op ≡ Min) ⊎ (op ≡ Max) → g.opened U E text x
-    within_pair (inl is) = inl (inl (inl (inl (inr (subst (λ (q : BinaryOp). g.pair (word_of q) q E text x) is p)))))
-    within_pair (inr is) = inl (inl (inl (inr (subst (λ (q : BinaryOp). g.pair (word_of q) q E text x) is p))))
+opened_within : (U E : Rule Node) (o : Opening) → Within (opened_rule U E o) (g.opened U E)
+opened_within U E opening.Minus text x p = inl (inl (inl p))
+opened_within U E opening.Group text x p = inl (inl (inr p))
+opened_within U E opening.Call text x p = inl (inr p)
+opened_within U E opening.Select text x p = inr p
 
 -- a rule that begins with a token goes on with it
-going_with : (t : Token) (role : Role) (Q : Unit {0} → Rule Node) → fits t ≡ true → HasText (Q tt)
-    → GoesOn (Then (token_rule t role) Q) [] (Some t) (λ u. fits u.token ≡ true)
-going_with t role Q good q = record {
+going_by : {X : Type 0} (R : Rule X) (t : Token) (role : Role) (x : X) (Q : X → Rule Node) → R (tagged t role ∷ []) x → fits t ≡ true
+    → HasText (Q x) → GoesOn (Then R Q) [] (Some t) (λ u. fits u.token ≡ true)
+going_by R t role x Q first good q = record {
   next = tagged t role;
   more = q.text;
   value = q.value;
   ahead_is = refl;
   holds = good;
   rule =
-      record {
-        front =
-            tagged t role ∷ [];
-        back = q.text;
-        value = tt;
-        parts = refl;
-        first = record { text_is = refl; value = refl };
-        second = q.rule;
-      };
+      record { front = tagged t role ∷ []; back = q.text; value = x; parts = refl; first = first; second = q.rule };
 }
+
+going_with : (t : Token) (role : Role) (Q : Unit {0} → Rule Node) → fits t ≡ true → HasText (Q tt)
+    → GoesOn (Then (token_rule t role) Q) [] (Some t) (λ u. fits u.token ≡ true)
+going_with t role Q good q = going_by (token_rule t role) t role tt Q (record { text_is = refl; value = refl }) good q
 
 goes_within : (R Q : Rule Node) (h : Option Token) (P : Tagged → Type 0) → Within R Q → GoesOn R [] h P → GoesOn Q [] h P
 goes_within R Q h P up f =
@@ -424,38 +390,36 @@ argument : (Q : Node → Rule Node) → ((a : Node) → HasText (Q a))
     → HasText (Then (g.sums (g.product (Unary 0))) (λ a. Then (g.mark marks.Comma roles.Plain) (λ _. Q a)))
 argument Q has = then_has _ _ sum_has (λ a. then_has _ _ (mark_has marks.Comma roles.Plain) (λ _. has a))
 
+-- the operands of a call
+arguments_have : (c : Call) → HasText (g.arguments (g.sums (g.product (Unary 0))) c)
+arguments_have (calls.Unary op) = then_has _ _ sum_has (λ a. (parses_gives 0 _ Any).has)
+arguments_have (calls.Binary op) = argument _ (λ a. then_has _ _ sum_has (λ b. (parses_gives 0 _ Any).has))
+arguments_have (calls.Ternary op) = argument _ (λ a. argument _ (λ b. then_has _ _ sum_has (λ c. (parses_gives 0 _ Any).has)))
+
 -- a level that is opened has its place, if there is one more level
-too_deep : (h : Option Token) (o : Opening) → start_at h ≡ start.Opening o → GoesOn (Unary 1) [] h (λ t. fits t.token ≡ true)
-too_deep (Some (token.Punct marks.Minus)) o e =
-    goes_within (g.negation (Unary 0)) (Unary 1) _ _ (λ text x p. level_in_unary 0 text x (inl (inl (inl (inl (inl (inl p)))))))
+deep_by : (h : Option Token) (c : Option Call) (o : Opening) → call_at h ≡ c → start_by c h ≡ start.Opening o
+    → GoesOn (Unary 1) [] h (λ t. fits t.token ≡ true)
+deep_by (Some t) (Some c) o is e =
+    goes_within (g.called (g.sums (g.product (Unary 0)))) (Unary 1) _ _ (λ text x p. level_in_unary 0 text x (inl (inr p)))
+    (going_by g.call t roles.Node c _ (record { token = t; text_is = refl; means = is }) (call_good t c is)
+    (then_has _ _ (mark_has marks.OpenRound roles.Plain) (λ _. then_has _ _ (arguments_have c) (λ a.
+    then_has _ _ (mark_has marks.CloseRound roles.Plain) (λ _. (parses_gives 0 a Any).has)))))
+deep_by None (Some c) o is e = absurd cc
+deep_by (Some (token.Punct marks.Minus)) None o is e =
+    goes_within (g.negation (Unary 0)) (Unary 1) _ _ (λ text x p. level_in_unary 0 text x (inl (inl (inl p))))
     (going_with (token.Punct marks.Minus) roles.Node _ refl (then_has _ _ (unary_has 0) (λ a. (parses_gives 0 _ Any).has)))
-too_deep (Some (token.Punct marks.OpenRound)) o e =
-    goes_within (g.group (g.sums (g.product (Unary 0)))) (Unary 1) _ _
-    (λ text x p. level_in_unary 0 text x (inl (inl (inl (inl (inl (inr p)))))))
+deep_by (Some (token.Punct marks.OpenRound)) None o is e =
+    goes_within (g.group (g.sums (g.product (Unary 0)))) (Unary 1) _ _ (λ text x p. level_in_unary 0 text x (inl (inl (inr p))))
     (going_with (token.Punct marks.OpenRound) roles.Plain _ refl (closes (λ a. a)))
-too_deep (Some (token.Keyword words.Min)) o e =
-    goes_within (g.pair words.Min Min (g.sums (g.product (Unary 0)))) (Unary 1) _ _
-    (λ text x p. level_in_unary 0 text x (inl (inl (inl (inl (inr p))))))
-    (going_with (token.Keyword words.Min) roles.Node _ refl
-    (then_has _ _ (mark_has marks.OpenRound roles.Plain) (λ _. argument _ (λ a. closes _))))
-too_deep (Some (token.Keyword words.Max)) o e =
-    goes_within (g.pair words.Max Max (g.sums (g.product (Unary 0)))) (Unary 1) _ _
-    (λ text x p. level_in_unary 0 text x (inl (inl (inl (inr p)))))
-    (going_with (token.Keyword words.Max) roles.Node _ refl
-    (then_has _ _ (mark_has marks.OpenRound roles.Plain) (λ _. argument _ (λ a. closes _))))
-too_deep (Some (token.Keyword words.Abs)) o e =
-    goes_within (g.absolute (g.sums (g.product (Unary 0)))) (Unary 1) _ _ (λ text x p. level_in_unary 0 text x (inl (inl (inr p))))
-    (going_with (token.Keyword words.Abs) roles.Node _ refl (then_has _ _ (mark_has marks.OpenRound roles.Plain) (λ _. closes _)))
-too_deep (Some (token.Keyword words.Clamp)) o e =
-    goes_within (g.clamped (g.sums (g.product (Unary 0)))) (Unary 1) _ _ (λ text x p. level_in_unary 0 text x (inl (inr p)))
-    (going_with (token.Keyword words.Clamp) roles.Node _ refl
-    (then_has _ _ (mark_has marks.OpenRound roles.Plain) (λ _. argument _ (λ a. argument _ (λ b. closes _)))))
-too_deep (Some (token.Keyword words.Select)) o e =
+deep_by (Some (token.Keyword words.Select)) None o is e =
     goes_within (g.selected (g.sums (g.product (Unary 0)))) (Unary 1) _ _ (λ text x p. level_in_unary 0 text x (inr p))
     (going_with (token.Keyword words.Select) roles.Node _ refl (then_has _ _ (mark_has marks.OpenRound roles.Plain) (λ _.
     then_has _ _ sum_has (λ a. then_has _ _ (parses_relation 0).has (λ r. argument _ (λ b. argument _ (λ c. closes _)))))))
-too_deep (Some t) o e = absurd cc
-too_deep None o e = absurd cc
+deep_by (Some t) None o is e = absurd cc
+deep_by None None o is e = absurd cc
+
+too_deep : (h : Option Token) (o : Opening) → start_at h ≡ start.Opening o → GoesOn (Unary 1) [] h (λ t. fits t.token ≡ true)
+too_deep h o e = deep_by h (call_at h) o refl e
 
 -- ---- names
 
@@ -584,8 +548,8 @@ zero_all zero = leaf_all (0 < 0) (λ _. stop TooDeep) (λ _. stop TooDeep)
 zero_all (suc m) =
     let D = 0 < suc m in
     let d : D = omega arith in
-    levels_all D (λ _. stop TooDeep) (λ _. stop TooDeep) (Unary m) (g.sums (g.product (Unary m))) (deep_all D _ d) (deep_all D _ d) (deep_all D _ d)
-    (deep_all D _ d) (deep_all D _ d) (deep_all D _ d) (deep_all D _ d) (λ x. deep_all D _ d)
+    levels_all D (λ _. stop TooDeep) (λ _. stop TooDeep) (Unary m) (g.sums (g.product (Unary m))) (deep_all D _ d) (deep_all D _ d)
+    (deep_all D _ d) (deep_all D _ d) (λ x. deep_all D _ d)
 
 zero_wider : Within (Unary 0) (Unary 1)
 unfolding Unary
@@ -621,18 +585,15 @@ module _ (n : ℕ) (reads : Parses n (unary_at n) NoOpen Unary) where
       → Sound (opened u e o) (opened_rule (Unary n) (E n) o) (opened_rule (Unary (suc n)) (E (suc n)) o) s (opened u e o s)
   open_sound s opening.Minus = (parses_negation n u Unary reads).sound s
   open_sound s opening.Group = (parses_group n e E inner).sound s
-  open_sound s opening.Abs = (parses_absolute n e E inner).sound s
-  open_sound s opening.Clamp = (parses_clamped n e E inner).sound s
+  open_sound s opening.Call = (parses_called n e E inner).sound s
   open_sound s opening.Select = (parses_selected n e E inner).sound s
-  open_sound s (opening.Pair op) = (parses_pair n e E inner op).sound s
 
-  open_within : (s : At) (o : Opening) → start_at (head s.rest) ≡ start.Opening o
-      → Sound (opened u e o) (Unary (suc n)) (Unary (suc (suc n))) s (opened u e o s)
-  open_within s o is =
+  open_within : (s : At) (o : Opening) → Sound (opened u e o) (Unary (suc n)) (Unary (suc (suc n))) s (opened u e o s)
+  open_within s o =
       widen (opened u e o) (opened_rule (Unary n) (E n) o) (opened_rule (Unary (suc n)) (E (suc n)) o) (Unary (suc n)) (Unary (suc (suc n)))
       s (opened u e o s)
-      (λ text x p. level_in_unary n text x (opened_within (Unary n) (E n) (head s.rest) o is text x p))
-      (λ text x p. level_in_unary (suc n) text x (opened_within (Unary (suc n)) (E (suc n)) (head s.rest) o is text x p))
+      (λ text x p. level_in_unary n text x (opened_within (Unary n) (E n) o text x p))
+      (λ text x p. level_in_unary (suc n) text x (opened_within (Unary (suc n)) (E (suc n)) o text x p))
       (open_sound s o)
 
   entries_sound : (x : List ℕ) (s : At) → is_mark_at marks.OpenSquare (head s.rest) ≡ true
@@ -652,7 +613,7 @@ module _ (n : ℕ) (reads : Parses n (unary_at n) NoOpen Unary) where
   next_sound s =
       key_sound start_at (unary_by (opened u e) (entry_of e)) (Unary (suc n)) (Unary (suc (suc n))) s
       (leaf_sound (opened u e) (entry_of e) (Unary (suc n)) (Unary (suc (suc n))) (leaf_in_unary (suc n)) (leaf_in_unary (suc (suc n))) s
-      (open_within s) (names_sound s) (start_at (head s.rest)) refl)
+      (λ o is. open_within s o) (names_sound s) (start_at (head s.rest)) refl)
 
   next_wider : Within (Unary (suc n)) (Unary (suc (suc n)))
   unfolding Unary
@@ -662,15 +623,9 @@ module _ (n : ℕ) (reads : Parses n (unary_at n) NoOpen Unary) where
       (or_wider _ _ _ _
       (or_wider _ _ _ _
       (or_wider _ _ _ _
-      (or_wider _ _ _ _
-      (or_wider _ _ _ _
-      (or_wider _ _ _ _
       (parses_negation n u Unary reads).wider
       (parses_group n e E inner).wider)
-      (parses_pair n e E inner Min).wider)
-      (parses_pair n e E inner Max).wider)
-      (parses_absolute n e E inner).wider)
-      (parses_clamped n e E inner).wider)
+      (parses_called n e E inner).wider)
       (parses_selected n e E inner).wider))
       (then_wider (g.name roles.Node) (g.name roles.Node) (g.entry_of (E n)) (g.entry_of (E (suc n))) (λ text x p. p)
       (λ x. (parses_entry_of n e E inner x).wider))
@@ -687,10 +642,7 @@ module _ (n : ℕ) (reads : Parses n (unary_at n) NoOpen Unary) where
       levels_all D (opened u e) (entry_of e) (Unary m) (E m)
       (deeper (n < m) D (negation u) NoOpen (g.negation (Unary m)) up ((parses_negation n u Unary reads).all m))
       (any (group e) (g.group (E m)) ((parses_group n e E inner).all m))
-      (any (pair Min e) (g.pair words.Min Min (E m)) ((parses_pair n e E inner Min).all m))
-      (any (pair Max e) (g.pair words.Max Max (E m)) ((parses_pair n e E inner Max).all m))
-      (any (absolute e) (g.absolute (E m)) ((parses_absolute n e E inner).all m))
-      (any (clamped e) (g.clamped (E m)) ((parses_clamped n e E inner).all m))
+      (any (called e) (g.called (E m)) ((parses_called n e E inner).all m))
       (any (selected e) (g.selected (E m)) ((parses_selected n e E inner).all m))
       (λ x. any (entry_of e x) (g.entry_of (E m) x) ((parses_entry_of n e E inner x).all m))
 

@@ -6,7 +6,7 @@ use Rattle.pipe_tokens.specs.declared.token.Punct.TheVariants as marks
 use Rattle.pipe_tokens.specs.declared.token.Keyword.TheVariants as words
 use Rattle.pipe_tree.specs.declared.limits.Role.{Role}
 use Rattle.pipe_tree.specs.declared.limits.Role.TheVariants as roles
-use Rattle.domains.specs.declared.operators.Relation.{Relation}
+use Rattle.operators.specs.declared.operator.Relation.{Relation}
 use Rattle.pipe_tree.specs.declared.tree.Test.{Test}
 use Rattle.pipe_tree.specs.Operators.{relation_at}
 use Rattle.pipe_tree.specs.Lookahead.{is_mark_at, is_word_at}

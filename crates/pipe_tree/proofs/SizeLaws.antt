@@ -7,13 +7,13 @@ use Rattle.std.proofs.lemmas.List.Sums.{sum_by_push, sum_by-cons}
 use Rattle.pipe_tokens.specs.declared.token.Token.{Token}
 use Rattle.pipe_tokens.specs.declared.token.Token.TheVariants as token
 use Rattle.pipe_tokens.specs.declared.token.Keyword.TheVariants as words
-use Rattle.pipe_tokens.specs.declared.token.Keyword.{Keyword}
 use Rattle.pipe_tree.specs.declared.limits.Counts.{Counts}
 use Rattle.pipe_tree.specs.declared.limits.Role.{Role}
 use Rattle.pipe_tree.specs.declared.limits.Role.TheVariants as roles
+use Rattle.pipe_tree.specs.declared.ahead.Call.{Call}
+use Rattle.pipe_tree.specs.declared.ahead.Call.TheVariants as calls
 use Rattle.pipe_tree.specs.declared.ahead.Factor.{Factor}
 use Rattle.pipe_tree.specs.declared.ahead.Factor.TheVariants as factors
-use Rattle.domains.specs.declared.operators.BinaryOp.{BinaryOp}
 use Rattle.pipe_tree.specs.declared.tree.Names.{Names}
 use Rattle.pipe_tree.specs.declared.tree.Names.TheVariants.{One, Three}
 use Rattle.pipe_tree.specs.Limits.{Tagged, fits, counted, counted_next, counted_all, none_yet, most_levels}
@@ -22,7 +22,7 @@ use Rattle.pipe_tree.specs.Grammar.{Rule, Then, Gives, Takes, Means, Some_of, ma
 use Rattle.pipe_tree.specs.Faults.{IsText}
 use Rattle.pipe_tree.specs.Sizes.{Weights, nodes, stages, params, tables, cases, node_size, cases_size, optional_size, names_size}
 use Rattle.pipe_tree.specs.Sizes.{item_size, size, KeepsLimits}
-use Rattle.pipe_tree.specs.Tree.{Node, number, variable, read, lookup, neg, binary, literal, abs, clamp, select, stencil, Branch}
+use Rattle.pipe_tree.specs.Tree.{Node, number, variable, read, lookup, unary, binary, ternary, literal, select, stencil, Branch}
 use Rattle.pipe_tree.specs.Tree.{Function, Declaration, image, table, param, function, accumulator, output}
 use Rattle.pipe_tree.proofs.Laws.{counted_all-append, counted_all-none}
 
@@ -64,6 +64,12 @@ module _ (w : Weights) where
   both : {X Y : Type 0} (k : ℕ) (R : Rule X) (Q : X → Rule Y) (f : X → ℕ) (h : Y → ℕ) → Weighs R f → ((x : X) → Adds (k + f x) (Q x) h)
       → Adds k (Then R Q) h
   both k R Q f h first second text y p =
+      omega (arith, ap (weight w) p.parts, weight-append w p.front p.back, first p.front p.value p.first, second p.value p.back y p.second)
+
+  -- where the first, with what is before it, makes up a value
+  behind : {X Y : Type 0} (k : ℕ) (R : Rule X) (Q : X → Rule Y) (f : X → ℕ) (h : Y → ℕ) → Adds k R f → ((x : X) → Adds (f x) (Q x) h)
+      → Adds k (Then R Q) h
+  behind k R Q f h first second text y p =
       omega (arith, ap (weight w) p.parts, weight-append w p.front p.back, first p.front p.value p.first, second p.value p.back y p.second)
 
   -- where the first weighs nothing
@@ -214,41 +220,45 @@ module _ (w : Weights) where
       (λ x. light _ _ _ _ (takes _ roles.Plain _) (λ _. light _ _ _ _ (int roles.Plain) (λ d. light _ _ _ _ (takes _ roles.Plain _)
       (λ _. light _ _ _ _ (adds _ _ kernel) (λ k. light _ _ _ _ (takes _ roles.Plain _) (λ _. gives _ _ node (omega arith))))))))))
 
-  module _ (U : Rule Node) (unary : Weighs U node) where
+  module _ (U : Rule Node) (strong : Weighs U node) where
     operand : (a : Node) (f : Factor) → Adds (node a + w.node) (g.operand U a f) node
-    operand a factors.Times = both _ _ _ _ _ unary (λ b. gives _ _ node (omega arith))
+    operand a factors.Times = both _ _ _ _ _ strong (λ b. gives _ _ node (omega arith))
     operand a (factors.Literal op) = light _ _ _ _ (int roles.Plain) (λ n. gives _ _ node (omega arith))
 
     product : Weighs (g.product U) node
     product =
-        adds _ _ (both 0 _ _ _ _ unary (λ a. changed (node a) _ _ _ (omega arith)
+        adds _ _ (both 0 _ _ _ _ strong (λ a. changed (node a) _ _ _ (omega arith)
         (many_adds (g.product_more U) node (λ b. both (node b) _ _ _ _ (means _ roles.Node) (λ f. operand b f)) a)))
 
     sums : Weighs (g.sums U) node
     sums =
-        adds _ _ (both 0 _ _ _ _ unary (λ a. changed (node a) _ _ _ (omega arith) (many_adds (g.sum_more U) node
-        (λ b. both (node b) _ _ _ _ (means _ roles.Node) (λ c. both _ _ _ _ _ unary (λ d. gives _ _ node (omega arith)))) a)))
+        adds _ _ (both 0 _ _ _ _ strong (λ a. changed (node a) _ _ _ (omega arith) (many_adds (g.sum_more U) node
+        (λ b. both (node b) _ _ _ _ (means _ roles.Node) (λ c. both _ _ _ _ _ strong (λ d. gives _ _ node (omega arith)))) a)))
 
-  module _ (U E : Rule Node) (unary : Weighs U node) (inner : Weighs E node) where
-    pair : (v : Keyword) (op : BinaryOp) → Adds 0 (g.pair v op E) node
-    pair v op =
-        both 0 _ _ _ _ (takes _ roles.Node _) (λ _. light _ _ _ _ (takes _ roles.Plain _) (λ _. both _ _ _ _ _ inner
-        (λ a. light _ _ _ _ (takes _ roles.Plain _)
-        (λ _. both _ _ _ _ _ inner (λ b. light _ _ _ _ (takes _ roles.Plain _) (λ _. gives _ _ node (omega arith)))))))
+  module _ (U E : Rule Node) (strong : Weighs U node) (inner : Weighs E node) where
+    arguments : (c : Call) → Adds w.node (g.arguments E c) node
+    arguments (calls.Unary op) = both _ _ _ _ _ inner (λ a. gives _ _ node (omega arith))
+    arguments (calls.Binary op) =
+        both _ _ _ _ _ inner (λ a. light _ _ _ _ (takes _ roles.Plain _)
+        (λ _. both _ _ _ _ _ inner (λ b. gives _ _ node (omega arith))))
+    arguments (calls.Ternary op) =
+        both _ _ _ _ _ inner (λ a. light _ _ _ _ (takes _ roles.Plain _)
+        (λ _. both _ _ _ _ _ inner (λ b. light _ _ _ _ (takes _ roles.Plain _)
+        (λ _. both _ _ _ _ _ inner (λ c. gives _ _ node (omega arith))))))
+
+    called : Adds 0 (g.called E) node
+    called =
+        both 0 _ _ _ _ (means _ roles.Node) (λ c. light _ _ _ _ (takes _ roles.Plain _)
+        (λ _. behind _ _ _ node _ (changed w.node _ _ _ (omega arith) (arguments c)) (λ a. light _ _ _ _ (takes _ roles.Plain _)
+        (λ _. gives _ _ node (omega arith)))))
 
     opened : Adds 0 (g.opened U E) node
     opened =
-        choice 0 _ _ _ (choice 0 _ _ _ (choice 0 _ _ _ (choice 0 _ _ _ (choice 0 _ _ _ (choice 0 _ _ _
-        (both 0 _ _ _ _ (takes _ roles.Node _) (λ _. both _ _ _ _ _ unary (λ a. gives _ _ node (omega arith))))
+        choice 0 _ _ _ (choice 0 _ _ _ (choice 0 _ _ _
+        (both 0 _ _ _ _ (takes _ roles.Node _) (λ _. both _ _ _ _ _ strong (λ a. gives _ _ node (omega arith))))
         (light 0 _ _ _ (takes _ roles.Plain _)
         (λ _. both _ _ _ _ _ inner (λ a. light _ _ _ _ (takes _ roles.Plain _) (λ _. gives _ _ node (omega arith))))))
-        (pair _ _))
-        (pair _ _))
-        (both 0 _ _ _ _ (takes _ roles.Node _) (λ _. light _ _ _ _ (takes _ roles.Plain _)
-        (λ _. both _ _ _ _ _ inner (λ a. light _ _ _ _ (takes _ roles.Plain _) (λ _. gives _ _ node (omega arith)))))))
-        (both 0 _ _ _ _ (takes _ roles.Node _) (λ _. light _ _ _ _ (takes _ roles.Plain _) (λ _. both _ _ _ _ _ inner
-        (λ a. light _ _ _ _ (takes _ roles.Plain _) (λ _. both _ _ _ _ _ inner (λ b. light _ _ _ _ (takes _ roles.Plain _)
-        (λ _. both _ _ _ _ _ inner (λ c. light _ _ _ _ (takes _ roles.Plain _) (λ _. gives _ _ node (omega arith)))))))))))
+        called)
         (both 0 _ _ _ _ (takes _ roles.Node _) (λ _. light _ _ _ _ (takes _ roles.Plain _) (λ _. both _ _ _ _ _ inner
         (λ a. light _ _ _ _ (means _ roles.Plain) (λ r. both _ _ _ _ _ inner (λ b. light _ _ _ _ (takes _ roles.Plain _)
         (λ _. both _ _ _ _ _ inner (λ c. light _ _ _ _ (takes _ roles.Plain _)
@@ -259,17 +269,17 @@ module _ (w : Weights) where
         both 0 _ _ _ _ (means _ roles.Node) (λ x. light _ _ _ _ (takes _ roles.Plain _) (λ _. both _ _ _ _ _ inner
         (λ a. light _ _ _ _ (takes _ roles.Plain _) (λ _. gives _ _ node (omega arith)))))
 
-  unary : (m : ℕ) → Weighs (g.Unary m) node
+  unaries : (m : ℕ) → Weighs (g.Unary m) node
   unfolding g.Unary
-  unary zero = adds _ _ leaf
-  unary (suc m) =
+  unaries zero = adds _ _ leaf
+  unaries (suc m) =
       adds _ _ (choice 0 _ _ _ (choice 0 _ _ _ leaf
-      (opened (g.Unary m) (g.sums (g.product (g.Unary m))) (unary m) (sums (g.product (g.Unary m)) (product (g.Unary m) (unary m)))))
-      (looked (g.Unary m) (g.sums (g.product (g.Unary m))) (unary m) (sums (g.product (g.Unary m)) (product (g.Unary m) (unary m)))))
+      (opened (g.Unary m) (g.sums (g.product (g.Unary m))) (unaries m) (sums (g.product (g.Unary m)) (product (g.Unary m) (unaries m)))))
+      (looked (g.Unary m) (g.sums (g.product (g.Unary m))) (unaries m) (sums (g.product (g.Unary m)) (product (g.Unary m) (unaries m)))))
 
   expression : (m : ℕ) → Weighs (g.Expression m) node
   unfolding g.Expression g.Product
-  expression m = sums (g.product (g.Unary m)) (product (g.Unary m) (unary m))
+  expression m = sums (g.product (g.Unary m)) (product (g.Unary m) (unaries m))
 
   -- ---- items
 
@@ -514,12 +524,11 @@ no_node : (a : Node) → node_size 0 a ≡ 0
 no_node (number n) = refl
 no_node (variable x) = refl
 no_node (read x i j) = refl
-no_node (neg a) = omega (arith, no_node a)
+no_node (unary op a) = omega (arith, no_node a)
 no_node (binary op a b) = omega (arith, no_node a, no_node b)
 no_node (literal op a n) = omega (arith, no_node a)
-no_node (abs a) = omega (arith, no_node a)
 no_node (lookup x a) = omega (arith, no_node a)
-no_node (clamp a b c) = omega (arith, no_node a, no_node b, no_node c)
+no_node (ternary op a b c) = omega (arith, no_node a, no_node b, no_node c)
 no_node (select a r b c d) = omega (arith, no_node a, no_node b, no_node c, no_node d)
 no_node (stencil x d k) = refl
 

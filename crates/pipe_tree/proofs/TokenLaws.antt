@@ -15,19 +15,22 @@ use Rattle.pipe_tree.specs.declared.fault.Kind.TheVariants.{NumberTooBig}
 use Rattle.pipe_tree.specs.declared.limits.Counts.{Counts}
 use Rattle.pipe_tree.specs.declared.limits.Role.{Role}
 use Rattle.pipe_tree.specs.declared.limits.Role.TheVariants as roles
+use Rattle.pipe_tree.specs.declared.ahead.Call.{Call}
+use Rattle.pipe_tree.specs.declared.ahead.Call.TheVariants as calls
 use Rattle.pipe_tree.specs.declared.ahead.Factor.{Factor}
 use Rattle.pipe_tree.specs.declared.ahead.Factor.TheVariants as factors
-use Rattle.domains.specs.declared.operators.Fold.{Fold}
-use Rattle.domains.specs.declared.operators.Fold.TheVariants as folds
-use Rattle.domains.specs.declared.operators.Relation.{Relation}
-use Rattle.domains.specs.declared.operators.Relation.TheVariants as relations
+use Rattle.operators.specs.declared.operator.UnaryOp.TheVariants.{Abs}
+use Rattle.operators.specs.declared.operator.Fold.{Fold}
+use Rattle.operators.specs.declared.operator.Fold.TheVariants as folds
+use Rattle.operators.specs.declared.operator.Relation.{Relation}
+use Rattle.operators.specs.declared.operator.Relation.TheVariants as relations
 use Rattle.pipe_tree.specs.Tokens.{head}
 use Rattle.pipe_tree.specs.Limits.{Tagged, is_number, fits}
-use Rattle.pipe_tree.specs.Operators.{name_at, sign_at, factor_at, relation_at, fold_at}
+use Rattle.pipe_tree.specs.Operators.{name_at, sign_at, factor_at, call_at, relation_at, fold_at}
 use Rattle.pipe_tree.specs.Lookahead.{is_mark_at, is_word_at}
 use Rattle.pipe_tree.specs.Grammar as g
 use Rattle.pipe_tree.specs.Grammar.{Rule, Then, Gives, Takes, Means, Some_of, ◌or◌}
-use Rattle.pipe_tree.specs.Reading.{At, ◌>>=◌, gives, stop, refuse, begin, mark, word, meant, means, name, sign, factor, relation}
+use Rattle.pipe_tree.specs.Reading.{At, ◌>>=◌, gives, stop, refuse, begin, mark, word, meant, means, name, sign, factor, call, relation}
 use Rattle.pipe_tree.specs.Reading.{fold, int_by, int}
 use Rattle.pipe_tree.proofs.Laws.{on, state, tagged, Within, Sound, HasText, Any, Ends, Parses, retarget, widen, then_at}
 use Rattle.pipe_tree.proofs.Laws.{parses_expect, token_rule, begin_sound}
@@ -142,6 +145,10 @@ factor_good : (t : Token) (x : Factor) → factor_at (Some t) ≡ Some x → fit
 factor_good (token.Punct m) x e = refl
 factor_good t x e = absurd cc
 
+pub call_good : (t : Token) (x : Call) → call_at (Some t) ≡ Some x → fits t ≡ true
+call_good (token.Keyword w) x e = refl
+call_good t x e = absurd cc
+
 relation_good : (t : Token) (x : Relation) → relation_at (Some t) ≡ Some x → fits t ≡ true
 relation_good (token.Punct m) x e = refl
 relation_good t x e = absurd cc
@@ -158,6 +165,9 @@ parses_sign n role = parses_means sign_at role sign_good refl (token.Punct marks
 
 pub parses_factor : (n : ℕ) → Parses n factor Any (λ _. g.factor)
 parses_factor n = parses_means factor_at roles.Node factor_good refl (token.Punct marks.Star) factors.Times refl n
+
+pub parses_call : (n : ℕ) → Parses n call Any (λ _. g.call)
+parses_call n = parses_means call_at roles.Node call_good refl (token.Keyword words.Abs) (calls.Unary Abs) refl n
 
 pub parses_relation : (n : ℕ) → Parses n relation Any (λ _. g.relation)
 parses_relation n = parses_means relation_at roles.Plain relation_good refl (token.Punct marks.AtMost) relations.AtMost refl n

@@ -1,4 +1,4 @@
--- What a tree in memory says.
+-- The content of a tree in memory.
 use Rattle.std.specs.Prelude.{List}
 use Rattle.pipe_tree.specs.declared.tree.Item.{Item}
 use Rattle.pipe_tree.specs.declared.tree.Tree.{Tree}
@@ -8,6 +8,6 @@ use Rattle.pipe_tree.specs.Tree.{Declaration, declarations}
 abbrev pub items_of : Tree → List Item
 items_of tree = tree.items.items
 
--- all that a tree says
+-- all items of a tree as plain data
 abbrev pub content : Tree → List Declaration
 content tree = declarations (items_of tree)

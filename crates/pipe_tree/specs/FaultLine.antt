@@ -1,4 +1,4 @@
--- How a fault is told: its number, its name and where it stands.
+-- How a fault is reported: its number, its name and its offset.
 use Rattle.std.specs.Prelude.{ℕ, List, codes, Option, Some, None}
 use Rattle.pipe_tree.specs.declared.fault.ParseFault.{ParseFault}
 use Rattle.pipe_tree.specs.declared.fault.ParseFault.TheVariants.{NotAscii, BadToken, Unexpected, NumberTooBig, TooDeep, TooLong}

@@ -1,4 +1,4 @@
--- The fault of a text, by what is wrong and where.
+-- The fault of a text, by its kind and its offset.
 use Rattle.std.specs.Prelude.{ℕ}
 use Rattle.pipe_tree.specs.declared.fault.Kind.{Kind}
 use Rattle.pipe_tree.specs.declared.fault.Kind.TheVariants as kinds

@@ -1,4 +1,4 @@
--- Texts and their faults, apart from any way to read them.
+-- Texts and their faults, defined independently of how texts are read.
 use Rattle.std.specs.Prelude.{◌≡◌, ℕ, ◌+◌, ◌<◌, ◌≤◌, Bool, true, false, List, ◌∷◌, ◌++◌, length, slice_get, unwrap_or, Option, Some, None}
 use Rattle.pipe_tokens.specs.declared.token.Token.{Token}
 use Rattle.pipe_tokens.specs.declared.token.Token.TheVariants as token
@@ -38,7 +38,7 @@ pub record IsText (bytes : List ℕ) (tree : List Declaration) : Type 0 where
 abbrev pub AnyProgram : Rule (List Declaration)
 AnyProgram = Some_of Program
 
--- a text of the rule goes on behind `before` with the token that is ahead, and P holds for how it is tagged there
+-- a text of the rule continues after `before` with the token that is ahead, and P holds for how it is tagged there
 pub record GoesOn {X : Type 0} (R : Rule X) (before : List Tagged) (ahead : Option Token) (P : Tagged → Type 0) : Type 0 where
   pub next : Tagged
   pub more : List Tagged
@@ -47,7 +47,7 @@ pub record GoesOn {X : Type 0} (R : Rule X) (before : List Tagged) (ahead : Opti
   pub rule : R (before ++ next ∷ more) value
   pub holds : P next
 
--- no text of the rule goes on behind these tokens with the token that is ahead, or ends where none is
+-- no text of the rule continues after these tokens with the token that is ahead, or ends if there is none
 abbrev pub NoneGoesOn : {X : Type 0} → Rule X → List Token → Option Token → Type 0
 NoneGoesOn {X} R before ahead =
     (text : List Tagged) (value : X) (more : List Token) → R text value → untagged text ≡ before ++ more → head more ≡ ahead → ⊥
@@ -57,25 +57,25 @@ pub record Begins {X : Type 0} (R : Rule X) (before : List Tagged) : Type 0 wher
   pub value : X
   pub rule : R (before ++ more) value
 
--- a byte or a token that is none, which is no token of any text
+-- a lexical fault, which is no token of any text
 abbrev pub is_lexical : Option Token → Bool
 is_lexical (Some token.Bad) = true
 is_lexical (Some token.NotAscii) = true
 is_lexical _ = false
 
--- what is wrong with the token that is ahead, or with the end, behind a text with these counts
+-- the kind of the fault of the token that is ahead, or of the end, after a text with these counts
 abbrev pub Wrong : Kind → List Tagged → Counts → Option Token → Type 0
 Wrong kinds.NotAscii before counts ahead = ahead ≡ Some token.NotAscii
 Wrong kinds.BadToken before counts ahead = ahead ≡ Some token.Bad
--- it has no place
+-- the grammar does not allow it there
 Wrong kinds.Unexpected before counts ahead = (is_lexical ahead ≡ false) × NoneGoesOn AnyProgram (untagged before) ahead
--- it has its place, but is too big
+-- the grammar allows it there, but it is too big
 Wrong kinds.NumberTooBig before counts ahead =
     GoesOn (Program most_levels) before ahead (λ t. (is_number t.token ≡ true) × (fits t.token ≡ false))
--- it has its place, but only in programs that are too deep
+-- the grammar allows it there, but only in programs that are too deep
 Wrong kinds.TooDeep before counts ahead =
     GoesOn AnyProgram before ahead (λ t. fits t.token ≡ true) × NoneGoesOn (Program most_levels) (untagged before) ahead
--- it has its place, but passes a limit of what is counted
+-- the grammar allows it there, but it exceeds a limit of what is counted
 Wrong kinds.TooMany before counts ahead =
     GoesOn (Program most_levels) before ahead (λ t. (fits t.token ≡ true) × (counted t.role counts ≡ None))
 
@@ -90,7 +90,7 @@ pub record IsHalt (tokens : List Token) (halt : Halt) : Type 0 where
   pub begins : Begins (Program most_levels) before
   pub wrong : Wrong halt.kind before counts (head last)
 
--- a fault of the tokens stands where the first token that remains starts, or at the end of the bytes
+-- a fault of the tokens is where the first token that remains starts, or at the end of the bytes
 pub record IsFaultAt (bytes : List ℕ) (kind : Kind) (offset : ℕ) : Type 0 where
   pub tokens : List Token
   pub starts : List ℕ

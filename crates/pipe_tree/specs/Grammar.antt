@@ -1,4 +1,4 @@
--- The grammar of programs. A rule says which tagged tokens stand for which value.
+-- The grammar of programs. A rule defines which tagged tokens denote which value.
 use Rattle.std.specs.Prelude.{◌≡◌, ℕ, zero, suc, ℤ, pos, neg_ℤ, Bool, true, false, ◌⊎◌, List, [], ◌∷◌, ◌++◌, Option, Some, None}
 use Rattle.std.specs.List.{list_any}
 use Rattle.pipe_tokens.specs.declared.token.Token.{Token}
@@ -12,26 +12,29 @@ use Rattle.pipe_tokens.specs.declared.token.Keyword.TheVariants as words
 use Rattle.pipe_tree.specs.declared.limits.Role.{Role}
 use Rattle.pipe_tree.specs.declared.limits.Role.TheVariants as roles
 use Rattle.pipe_tree.specs.declared.tree.AffineSpan.{AffineSpan}
-use Rattle.domains.specs.declared.operators.BinaryOp.{BinaryOp}
-use Rattle.domains.specs.declared.operators.BinaryOp.TheVariants.{Add, Sub, Mul, Min, Max}
-use Rattle.domains.specs.declared.operators.Fold.{Fold}
+use Rattle.operators.specs.declared.operator.UnaryOp.TheVariants.{Neg}
+use Rattle.operators.specs.declared.operator.BinaryOp.{BinaryOp}
+use Rattle.operators.specs.declared.operator.BinaryOp.TheVariants.{Add, Sub, Mul}
+use Rattle.operators.specs.declared.operator.Fold.{Fold}
 use Rattle.pipe_tree.specs.declared.tree.Image.{Image}
 use Rattle.pipe_tree.specs.declared.tree.Index.{Index}
 use Rattle.pipe_tree.specs.declared.tree.Names.{Names}
 use Rattle.pipe_tree.specs.declared.tree.Names.TheVariants.{One, Three}
 use Rattle.pipe_tree.specs.declared.tree.Output.{Output}
 use Rattle.pipe_tree.specs.declared.tree.Param.{Param}
-use Rattle.domains.specs.declared.operators.Relation.{Relation}
+use Rattle.operators.specs.declared.operator.Relation.{Relation}
 use Rattle.pipe_tree.specs.declared.tree.Table.{Table}
 use Rattle.pipe_tree.specs.declared.tree.Term.{Term}
 use Rattle.pipe_tree.specs.declared.tree.Test.{Test}
 use Rattle.pipe_tree.specs.declared.tree.Test.TheVariants.{Compare, Remainder}
 use Rattle.pipe_tree.specs.declared.tree.Variable.{Variable}
+use Rattle.pipe_tree.specs.declared.ahead.Call.{Call}
+use Rattle.pipe_tree.specs.declared.ahead.Call.TheVariants as calls
 use Rattle.pipe_tree.specs.declared.ahead.Factor.{Factor}
 use Rattle.pipe_tree.specs.declared.ahead.Factor.TheVariants as factors
 use Rattle.pipe_tree.specs.Limits.{Tagged}
-use Rattle.pipe_tree.specs.Operators.{name_at, sign_at, factor_at, relation_at, fold_at}
-use Rattle.pipe_tree.specs.Tree.{Node, number, variable, read, lookup, neg, binary, literal, abs, clamp, select, stencil, Branch}
+use Rattle.pipe_tree.specs.Operators.{name_at, sign_at, factor_at, call_at, relation_at, fold_at}
+use Rattle.pipe_tree.specs.Tree.{Node, number, variable, read, lookup, unary, binary, ternary, literal, select, stencil, Branch}
 use Rattle.pipe_tree.specs.Tree.{Function, Accumulator, Declaration, param, image, table, function, accumulator, output}
 
 abbrev pub Rule : Type 0 → Type 1
@@ -39,7 +42,7 @@ Rule X = List Tagged → X → Type 0
 
 -- ---- how rules are put together
 
--- one rule behind another, which may use the first one's value
+-- one rule after another, which may use the first one's value
 pub record Then {X Y : Type 0} (R : Rule X) (Q : X → Rule Y) (text : List Tagged) (y : Y) : Type 0 where
   pub front : List Tagged
   pub back : List Tagged
@@ -62,7 +65,7 @@ pub record Takes {X : Type 0} (t : Token) (role : Role) (x : X) (text : List Tag
   pub text_is : text ≡ record { token = t; role = role } ∷ []
   pub value : y ≡ x
 
--- one token of a kind, and what it means
+-- one token of a kind, and its meaning
 pub record Means {X : Type 0} (meaning : Option Token → Option X) (role : Role) (text : List Tagged) (x : X) : Type 0 where
   pub token : Token
   pub text_is : text ≡ record { token = token; role = role } ∷ []
@@ -76,7 +79,7 @@ pub record Some_of {X Y : Type 0} (R : Y → Rule X) (text : List Tagged) (x : X
   pub which : Y
   pub it : R which text x
 
--- a turn any number of times
+-- a rule that is repeated any number of times
 abbrev pub times : {A : Type 0} → (A → Rule A) → ℕ → A → Rule A
 times turn zero a = Gives a
 times turn (suc n) a = turn a >>= times turn n
@@ -113,13 +116,16 @@ sign role = Means sign_at role
 abbrev pub factor : Rule Factor
 factor = Means factor_at roles.Node
 
+abbrev pub call : Rule Call
+call = Means call_at roles.Node
+
 abbrev pub relation : Rule Relation
 relation = Means relation_at roles.Plain
 
 abbrev pub fold : Rule Fold
 fold = Means fold_at roles.Plain
 
--- A number that is too big stands where a number may stand, but it passes a limit.
+-- A number that is too big is allowed where a number is, but it exceeds a limit.
 abbrev pub int : Role → Rule ℕ
 int role = Some_of (λ n. Takes (token.Int n) role n) or Takes token.TooBig role 0
 
@@ -294,24 +300,24 @@ literal_number = do
 abbrev pub leaf : Rule Node
 leaf = literal_number or named or a_stencil
 
--- an operator behind a, and its right operand
+-- an operator after a, and its right operand
 abbrev pub operand : Rule Node → Node → Factor → Rule Node
-operand unary a factors.Times = do
-  b ← unary
+operand U a factors.Times = do
+  b ← U
   Gives (binary Mul a b)
-operand unary a (factors.Literal op) = do
+operand U a (factors.Literal op) = do
   n ← int roles.Plain
   Gives (literal op a n)
 
 abbrev pub product_more : Rule Node → Node → Rule Node
-product_more unary a = do
+product_more U a = do
   f ← factor
-  operand unary a f
+  operand U a f
 
 abbrev pub product : Rule Node → Rule Node
-product unary = do
-  a ← unary
-  many (product_more unary) a
+product U = do
+  a ← U
+  many (product_more U) a
 
 abbrev pub sum_op : Bool → BinaryOp
 sum_op true = Sub
@@ -329,10 +335,10 @@ sums product = do
   many (sum_more product) a
 
 abbrev pub negation : Rule Node → Rule Node
-negation unary = do
+negation U = do
   _ ← mark Minus roles.Node
-  a ← unary
-  Gives (neg a)
+  a ← U
+  Gives (unary Neg a)
 
 abbrev pub group : Rule Node → Rule Node
 group expression = do
@@ -341,36 +347,31 @@ group expression = do
   _ ← mark CloseRound roles.Plain
   Gives a
 
--- `min` or `max` of two
-abbrev pub pair : Keyword → BinaryOp → Rule Node → Rule Node
-pair w op expression = do
-  _ ← word w roles.Node
-  _ ← mark OpenRound roles.Plain
+-- the rest of a call, after its opening parenthesis
+abbrev pub arguments : Rule Node → Call → Rule Node
+arguments expression (calls.Unary op) = do
+  a ← expression
+  Gives (unary op a)
+arguments expression (calls.Binary op) = do
   a ← expression
   _ ← mark Comma roles.Plain
   b ← expression
-  _ ← mark CloseRound roles.Plain
   Gives (binary op a b)
-
-abbrev pub absolute : Rule Node → Rule Node
-absolute expression = do
-  _ ← word words.Abs roles.Node
-  _ ← mark OpenRound roles.Plain
-  a ← expression
-  _ ← mark CloseRound roles.Plain
-  Gives (abs a)
-
-abbrev pub clamped : Rule Node → Rule Node
-clamped expression = do
-  _ ← word words.Clamp roles.Node
-  _ ← mark OpenRound roles.Plain
+arguments expression (calls.Ternary op) = do
   a ← expression
   _ ← mark Comma roles.Plain
   b ← expression
   _ ← mark Comma roles.Plain
   c ← expression
+  Gives (ternary op a b c)
+
+abbrev pub called : Rule Node → Rule Node
+called expression = do
+  op ← call
+  _ ← mark OpenRound roles.Plain
+  a ← arguments expression op
   _ ← mark CloseRound roles.Plain
-  Gives (clamp a b c)
+  Gives a
 
 abbrev pub selected : Rule Node → Rule Node
 selected expression = do
@@ -386,18 +387,15 @@ selected expression = do
   _ ← mark CloseRound roles.Plain
   Gives (select a r b c d)
 
--- what opens a level, over what may stand in it
+-- what opens a level, over what may be in it
 abbrev pub opened : Rule Node → Rule Node → Rule Node
-opened unary expression =
-    negation unary
+opened U expression =
+    negation U
     or group expression
-    or pair words.Min Min expression
-    or pair words.Max Max expression
-    or absolute expression
-    or clamped expression
+    or called expression
     or selected expression
 
--- the entry of a table at what an expression says, which opens a level
+-- the entry of a table at the value of an expression, which opens a level
 abbrev pub entry_of : Rule Node → List ℕ → Rule Node
 entry_of expression x = do
   _ ← mark OpenSquare roles.Plain
@@ -410,7 +408,7 @@ looked_up expression = do
   x ← name roles.Node
   entry_of expression x
 
--- with at most so many levels open at once
+-- with at most this number of levels open at once
 unfoldable pub Unary : ℕ → Rule Node
 Unary zero = leaf
 Unary (suc levels) = leaf or opened (Unary levels) (sums (product (Unary levels))) or looked_up (sums (product (Unary levels)))
@@ -555,12 +553,12 @@ abbrev pub is_output : Declaration → Bool
 is_output (output o) = true
 is_output _ = false
 
--- an output where there is none yet
+-- an output, if there is none yet
 pub record FirstOutput (items : List Declaration) (text : List Tagged) (o : Output) : Type 0 where
   pub no_other : list_any is_output items ≡ false
   pub it : an_output text o
 
--- one more item that is no image
+-- one more item that is not an image
 abbrev pub other : ℕ → List Declaration → Rule (List Declaration)
 other levels items = (do
   p ← a_param

@@ -1,4 +1,4 @@
--- How many of each thing a text may have, and how big its numbers may be.
+-- How many of each thing a text may have, and how large its numbers may be.
 use Rattle.std.specs.Prelude.{ℕ, ◌+◌, Bool, true, false, nat_lt, nat_le, List, [], ◌∷◌, map, Option, Some, None, if◌then◌else◌}
 use Rattle.pipe_tokens.specs.declared.token.Token.{Token}
 use Rattle.pipe_tokens.specs.declared.token.Token.TheVariants as token
@@ -14,15 +14,15 @@ most_bytes = 65536
 abbrev pub most_levels : ℕ
 most_levels = 64
 
--- what crates above call the role that counts nothing, and the counts
+-- the names that crates above use for the role that counts nothing, and for the counts
 abbrev pub plain : Role
 plain = Plain
 
 abbrev pub CountsSoFar : Type 0
 CountsSoFar = Counts
 
--- The counts with one more, unless that passes its limit: 4,096 nodes of expressions, 64 stages, 64 parameters, 16
--- tables, and 16 cases in each function.
+-- The counts with one more, unless that exceeds its limit: 4,096 nodes of expressions, 64 stages, 64 parameters, 16 tables, and
+-- 16 cases in each function.
 abbrev pub counted : Role → Counts → Option Counts
 counted Plain c = Some c
 counted Node c = if nat_lt c.nodes 4096 then Some (record c { nodes = c.nodes + 1 }) else None
@@ -54,12 +54,12 @@ fits token.Bad = false
 fits token.NotAscii = false
 fits _ = true
 
--- the counts behind one more token, unless it passes a limit
+-- the counts after one more token, unless it exceeds a limit
 abbrev pub counted_next : Option Counts → Tagged → Option Counts
 counted_next None t = None
 counted_next (Some c) t = if fits t.token then counted t.role c else None
 
--- the counts behind a text, unless it passes a limit
+-- the counts after a text, unless it exceeds a limit
 abbrev pub counted_all : Option Counts → List Tagged → Option Counts
 counted_all counts [] = counts
 counted_all counts (t ∷ text) = counted_all (counted_next counts t) text

@@ -1,5 +1,5 @@
 -- What the token ahead begins. Only the contracts of functions inside the parser cite this.
-use Rattle.std.specs.Prelude.{Bool, true, false, Option, Some}
+use Rattle.std.specs.Prelude.{Bool, true, false, Option, Some, None}
 use denote.Enum.Bare.{sameb}
 use Rattle.pipe_tokens.specs.contracts.token.Punct as mark_type
 use Rattle.pipe_tokens.specs.contracts.token.Keyword as word_type
@@ -9,12 +9,13 @@ use Rattle.pipe_tokens.specs.declared.token.Token.{Token}
 use Rattle.pipe_tokens.specs.declared.token.Token.TheVariants as token
 use Rattle.pipe_tokens.specs.declared.token.Punct.TheVariants as mark
 use Rattle.pipe_tokens.specs.declared.token.Keyword.TheVariants as word
-use Rattle.domains.specs.declared.operators.BinaryOp.TheVariants as binary
+use Rattle.pipe_tree.specs.declared.ahead.Call.{Call}
 use Rattle.pipe_tree.specs.declared.ahead.Start.{Start}
 use Rattle.pipe_tree.specs.declared.ahead.Start.TheVariants as start
 use Rattle.pipe_tree.specs.declared.ahead.Opening.TheVariants as opening
 use Rattle.pipe_tree.specs.declared.ahead.ItemStart.{ItemStart}
 use Rattle.pipe_tree.specs.declared.ahead.ItemStart.TheVariants as item
+use Rattle.pipe_tree.specs.Operators.{call_at}
 
 abbrev pub is_mark_at : Punct → Option Token → Bool
 is_mark_at m (Some (token.Punct n)) = sameb mark_type.the_type n m
@@ -29,19 +30,20 @@ is_number_at (Some (token.Int n)) = true
 is_number_at (Some token.TooBig) = true
 is_number_at _ = false
 
+-- what the token begins; a word that calls an operator is tested first
+abbrev pub start_by : Option Call → Option Token → Start
+start_by (Some c) h = start.Opening opening.Call
+start_by None (Some (token.Int n)) = start.Number
+start_by None (Some token.TooBig) = start.Number
+start_by None (Some (token.Name x)) = start.Name
+start_by None (Some (token.Punct mark.Minus)) = start.Opening opening.Minus
+start_by None (Some (token.Punct mark.OpenRound)) = start.Opening opening.Group
+start_by None (Some (token.Keyword word.Select)) = start.Opening opening.Select
+start_by None (Some (token.Keyword word.Stencil)) = start.Stencil
+start_by None _ = start.Nothing
+
 abbrev pub start_at : Option Token → Start
-start_at (Some (token.Int n)) = start.Number
-start_at (Some token.TooBig) = start.Number
-start_at (Some (token.Name x)) = start.Name
-start_at (Some (token.Punct mark.Minus)) = start.Opening opening.Minus
-start_at (Some (token.Punct mark.OpenRound)) = start.Opening opening.Group
-start_at (Some (token.Keyword word.Min)) = start.Opening (opening.Pair binary.Min)
-start_at (Some (token.Keyword word.Max)) = start.Opening (opening.Pair binary.Max)
-start_at (Some (token.Keyword word.Abs)) = start.Opening opening.Abs
-start_at (Some (token.Keyword word.Clamp)) = start.Opening opening.Clamp
-start_at (Some (token.Keyword word.Select)) = start.Opening opening.Select
-start_at (Some (token.Keyword word.Stencil)) = start.Stencil
-start_at _ = start.Nothing
+start_at h = start_by (call_at h) h
 
 abbrev pub item_at : Option Token → ItemStart
 item_at (Some (token.Keyword word.Param)) = item.Param

@@ -1,14 +1,19 @@
--- What single tokens mean: names, signs, operators and relations. The grammar cites these tables.
+-- The meaning of single tokens: names, signs, operators and relations. The grammar cites these tables.
 use Rattle.std.specs.Prelude.{ℕ, Bool, true, false, List, Option, Some, None}
 use Rattle.pipe_tokens.specs.declared.token.Token.{Token}
 use Rattle.pipe_tokens.specs.declared.token.Token.TheVariants as token
 use Rattle.pipe_tokens.specs.declared.token.Punct.TheVariants as mark
 use Rattle.pipe_tokens.specs.declared.token.Keyword.TheVariants as word
-use Rattle.domains.specs.declared.operators.LiteralOp.TheVariants as literal
-use Rattle.domains.specs.declared.operators.Fold.{Fold}
-use Rattle.domains.specs.declared.operators.Fold.TheVariants as fold
-use Rattle.domains.specs.declared.operators.Relation.{Relation}
-use Rattle.domains.specs.declared.operators.Relation.TheVariants as relation
+use Rattle.operators.specs.declared.operator.UnaryOp.TheVariants as unary
+use Rattle.operators.specs.declared.operator.BinaryOp.TheVariants as binary
+use Rattle.operators.specs.declared.operator.TernaryOp.TheVariants as ternary
+use Rattle.operators.specs.declared.operator.LiteralOp.TheVariants as literal
+use Rattle.operators.specs.declared.operator.Fold.{Fold}
+use Rattle.operators.specs.declared.operator.Fold.TheVariants as fold
+use Rattle.operators.specs.declared.operator.Relation.{Relation}
+use Rattle.operators.specs.declared.operator.Relation.TheVariants as relation
+use Rattle.pipe_tree.specs.declared.ahead.Call.{Call}
+use Rattle.pipe_tree.specs.declared.ahead.Call.TheVariants as call
 use Rattle.pipe_tree.specs.declared.ahead.Factor.{Factor}
 use Rattle.pipe_tree.specs.declared.ahead.Factor.TheVariants as factor
 
@@ -30,6 +35,14 @@ factor_at (Some (token.Punct mark.Percent)) = Some (factor.Literal literal.Rem)
 factor_at (Some (token.Punct mark.ShiftLeft)) = Some (factor.Literal literal.Shl)
 factor_at (Some (token.Punct mark.ShiftRight)) = Some (factor.Literal literal.Shr)
 factor_at _ = None
+
+-- the operators that are called by a word
+abbrev pub call_at : Option Token → Option Call
+call_at (Some (token.Keyword word.Abs)) = Some (call.Unary unary.Abs)
+call_at (Some (token.Keyword word.Min)) = Some (call.Binary binary.Min)
+call_at (Some (token.Keyword word.Max)) = Some (call.Binary binary.Max)
+call_at (Some (token.Keyword word.Clamp)) = Some (call.Ternary ternary.Clamp)
+call_at _ = None
 
 abbrev pub relation_at : Option Token → Option Relation
 relation_at (Some (token.Punct mark.AtMost)) = Some relation.AtMost

@@ -1,5 +1,5 @@
--- Reading tokens from left to right, with one token ahead and the first fault that is met. Only the contracts of
--- functions inside the parser cite this. What is read is what the grammar says: that is proved of each reader.
+-- Reading tokens from left to right, with one token ahead and the first fault that is met. Only the contracts of functions inside
+-- the parser cite this. Each reader is proved to agree with the grammar.
 use Rattle.std.specs.Prelude.{ℕ, zero, suc, nat_le, ℤ, pos, Bool, true, false, List, [], ◌∷◌, ◌++◌, length, Option, Some}
 use Rattle.std.specs.Prelude.{None, is_some, Result, Ok, Err, if◌then◌else◌}
 use Rattle.std.specs.List.{list_any}
@@ -17,6 +17,8 @@ use Rattle.pipe_tree.specs.declared.fault.Halt.{Halt}
 use Rattle.pipe_tree.specs.declared.limits.Counts.{Counts}
 use Rattle.pipe_tree.specs.declared.limits.Role.{Role}
 use Rattle.pipe_tree.specs.declared.limits.Role.TheVariants as roles
+use Rattle.pipe_tree.specs.declared.ahead.Call.{Call}
+use Rattle.pipe_tree.specs.declared.ahead.Call.TheVariants as calls
 use Rattle.pipe_tree.specs.declared.ahead.Factor.{Factor}
 use Rattle.pipe_tree.specs.declared.ahead.Factor.TheVariants as factors
 use Rattle.pipe_tree.specs.declared.ahead.ItemStart.{ItemStart}
@@ -26,16 +28,16 @@ use Rattle.pipe_tree.specs.declared.ahead.Opening.TheVariants as opening
 use Rattle.pipe_tree.specs.declared.ahead.Start.{Start}
 use Rattle.pipe_tree.specs.declared.ahead.Start.TheVariants as start
 use Rattle.pipe_tree.specs.declared.tree.AffineSpan.{AffineSpan}
-use Rattle.domains.specs.declared.operators.BinaryOp.{BinaryOp}
-use Rattle.domains.specs.declared.operators.BinaryOp.TheVariants.{Mul, Min}
-use Rattle.domains.specs.declared.operators.Fold.{Fold}
+use Rattle.operators.specs.declared.operator.UnaryOp.TheVariants.{Neg}
+use Rattle.operators.specs.declared.operator.BinaryOp.TheVariants.{Mul}
+use Rattle.operators.specs.declared.operator.Fold.{Fold}
 use Rattle.pipe_tree.specs.declared.tree.Image.{Image}
 use Rattle.pipe_tree.specs.declared.tree.Index.{Index}
 use Rattle.pipe_tree.specs.declared.tree.Names.{Names}
 use Rattle.pipe_tree.specs.declared.tree.Names.TheVariants.{One, Three}
 use Rattle.pipe_tree.specs.declared.tree.Output.{Output}
 use Rattle.pipe_tree.specs.declared.tree.Param.{Param}
-use Rattle.domains.specs.declared.operators.Relation.{Relation}
+use Rattle.operators.specs.declared.operator.Relation.{Relation}
 use Rattle.pipe_tree.specs.declared.tree.Table.{Table}
 use Rattle.pipe_tree.specs.declared.tree.Term.{Term}
 use Rattle.pipe_tree.specs.declared.tree.Test.{Test}
@@ -43,10 +45,10 @@ use Rattle.pipe_tree.specs.declared.tree.Test.TheVariants.{Compare, Remainder}
 use Rattle.pipe_tree.specs.declared.tree.Variable.{Variable}
 use Rattle.pipe_tree.specs.Tokens.{head, tail}
 use Rattle.pipe_tree.specs.Limits.{most_levels, counted, none_yet}
-use Rattle.pipe_tree.specs.Operators.{name_at, sign_at, factor_at, relation_at, fold_at}
+use Rattle.pipe_tree.specs.Operators.{name_at, sign_at, factor_at, call_at, relation_at, fold_at}
 use Rattle.pipe_tree.specs.Lookahead.{is_mark_at, is_word_at, is_number_at, start_at, item_at}
 use Rattle.pipe_tree.specs.Grammar.{signed, sum_op, is_output}
-use Rattle.pipe_tree.specs.Tree.{Node, number, variable, read, lookup, neg, binary, literal, abs, clamp, select, stencil, Branch}
+use Rattle.pipe_tree.specs.Tree.{Node, number, variable, read, lookup, unary, binary, ternary, literal, select, stencil, Branch}
 use Rattle.pipe_tree.specs.Tree.{Function, Accumulator, Declaration, param, image, table, function, accumulator, output}
 
 -- where a reader is: what was counted so far, and the tokens that remain
@@ -85,11 +87,11 @@ stop kind s = Err (halt_of kind s.rest)
 abbrev pub refuse : {X : Type 0} → Reader X
 refuse s = stop (kind_at (head s.rest)) s
 
--- goes on by the token ahead
+-- continues by the token ahead
 abbrev pub by_key : {K X : Type 0} → (Option Token → K) → (K → Reader X) → Reader X
 by_key key f s = f (key (head s.rest)) s
 
--- one reader where the token ahead passes a test, else another
+-- one reader if the token ahead passes a test, else another
 abbrev pub choose : {X : Type 0} → (Option Token → Bool) → Reader X → Reader X → Reader X
 choose test r q s = if test (head s.rest) then r s else q s
 
@@ -126,6 +128,9 @@ sign = means sign_at
 abbrev pub factor : Reader Factor
 factor = means factor_at roles.Node
 
+abbrev pub call : Reader Call
+call = means call_at roles.Node
+
 abbrev pub relation : Reader Relation
 relation = means relation_at roles.Plain
 
@@ -140,7 +145,7 @@ int_by role _ = refuse
 abbrev pub int : Role → Reader ℕ
 int role = by_key (λ h. h) (int_by role)
 
--- A loop: `goes` says by the token ahead whether there is one more turn.
+-- A loop: `goes` decides by the token ahead whether there is one more turn.
 unfoldable pub turns : {A : Type 0} → (A → Option Token → Bool) → (A → Reader A) → ℕ → A → Reader A
 turns goes turn zero a = gives a
 turns goes turn (suc n) a = choose (goes a) (turn a >>= turns goes turn n) (gives a)
@@ -149,7 +154,7 @@ turns goes turn (suc n) a = choose (goes a) (turn a >>= turns goes turn n) (give
 unfoldable pub loop : {A : Type 0} → (A → Option Token → Bool) → (A → Reader A) → A → Reader A
 loop goes turn a s = turns goes turn (suc (length s.rest)) a s
 
--- goes on while the token ahead passes a test
+-- continues while the token ahead passes a test
 abbrev pub while : {A : Type 0} → (Option Token → Bool) → (A → Reader A) → A → Reader A
 while test = loop (λ _. test)
 
@@ -287,7 +292,7 @@ read_end x = do
   _ ← mark CloseRound roles.Plain
   gives (read x i j)
 
--- what is behind a name, where `entry` reads an entry of a table
+-- what comes after a name, where `entry` reads an entry of a table
 abbrev pub name_end : (List ℕ → Reader Node) → List ℕ → Reader Node
 name_end entry x = choose (is_mark_at OpenRound) (read_end x) (choose (is_mark_at OpenSquare) (entry x) (gives (variable x)))
 
@@ -334,10 +339,10 @@ literal_number = do
   gives (number n)
 
 abbrev pub operand : Reader Node → Node → Factor → Reader Node
-operand unary a factors.Times = do
-  b ← unary
+operand u a factors.Times = do
+  b ← u
   gives (binary Mul a b)
-operand unary a (factors.Literal op) = do
+operand u a (factors.Literal op) = do
   n ← int roles.Plain
   gives (literal op a n)
 
@@ -345,14 +350,14 @@ abbrev pub is_factor_at : Option Token → Bool
 is_factor_at h = is_some (factor_at h)
 
 abbrev pub product_more : Reader Node → Node → Reader Node
-product_more unary a = do
+product_more u a = do
   f ← factor
-  operand unary a f
+  operand u a f
 
 abbrev pub product_of : Reader Node → Reader Node
-product_of unary = do
-  a ← unary
-  while is_factor_at (product_more unary) a
+product_of u = do
+  a ← u
+  while is_factor_at (product_more u) a
 
 abbrev pub sum_more : Reader Node → Node → Reader Node
 sum_more product a = do
@@ -366,10 +371,10 @@ sum_of product = do
   while is_sign_at (sum_more product) a
 
 abbrev pub negation : Reader Node → Reader Node
-negation unary = do
+negation u = do
   _ ← mark Minus roles.Node
-  a ← unary
-  gives (neg a)
+  a ← u
+  gives (unary Neg a)
 
 abbrev pub group : Reader Node → Reader Node
 group expression = do
@@ -378,39 +383,31 @@ group expression = do
   _ ← mark CloseRound roles.Plain
   gives a
 
-abbrev pub word_of : BinaryOp → Keyword
-word_of Min = words.Min
-word_of _ = words.Max
-
-abbrev pub pair : BinaryOp → Reader Node → Reader Node
-pair op expression = do
-  _ ← word (word_of op) roles.Node
-  _ ← mark OpenRound roles.Plain
+-- the rest of a call, after its opening parenthesis
+abbrev pub arguments : Reader Node → Call → Reader Node
+arguments expression (calls.Unary op) = do
+  a ← expression
+  gives (unary op a)
+arguments expression (calls.Binary op) = do
   a ← expression
   _ ← mark Comma roles.Plain
   b ← expression
-  _ ← mark CloseRound roles.Plain
   gives (binary op a b)
-
-abbrev pub absolute : Reader Node → Reader Node
-absolute expression = do
-  _ ← word words.Abs roles.Node
-  _ ← mark OpenRound roles.Plain
-  a ← expression
-  _ ← mark CloseRound roles.Plain
-  gives (abs a)
-
-abbrev pub clamped : Reader Node → Reader Node
-clamped expression = do
-  _ ← word words.Clamp roles.Node
-  _ ← mark OpenRound roles.Plain
+arguments expression (calls.Ternary op) = do
   a ← expression
   _ ← mark Comma roles.Plain
   b ← expression
   _ ← mark Comma roles.Plain
   c ← expression
+  gives (ternary op a b c)
+
+abbrev pub called : Reader Node → Reader Node
+called expression = do
+  op ← call
+  _ ← mark OpenRound roles.Plain
+  a ← arguments expression op
   _ ← mark CloseRound roles.Plain
-  gives (clamp a b c)
+  gives a
 
 abbrev pub selected : Reader Node → Reader Node
 selected expression = do
@@ -426,16 +423,14 @@ selected expression = do
   _ ← mark CloseRound roles.Plain
   gives (select a r b c d)
 
--- what opens a level, over what may stand in it
+-- what opens a level, over what may be in it
 abbrev pub opened : Reader Node → Reader Node → Opening → Reader Node
-opened unary expression opening.Minus = negation unary
-opened unary expression opening.Group = group expression
-opened unary expression opening.Abs = absolute expression
-opened unary expression opening.Clamp = clamped expression
-opened unary expression opening.Select = selected expression
-opened unary expression (opening.Pair op) = pair op expression
+opened u expression opening.Minus = negation u
+opened u expression opening.Group = group expression
+opened u expression opening.Call = called expression
+opened u expression opening.Select = selected expression
 
--- the entry of a table at what an expression says
+-- the entry of a table at the value of an expression
 abbrev pub entry_of : Reader Node → List ℕ → Reader Node
 entry_of expression x = do
   _ ← mark OpenSquare roles.Plain
@@ -451,14 +446,14 @@ unary_by open_level entry start.Stencil = a_stencil
 unary_by open_level entry (start.Opening o) = open_level o
 unary_by open_level entry start.Nothing = refuse
 
--- with so many levels that may still be opened
+-- with the number of levels that may still be opened
 unfoldable pub unary_at : ℕ → Reader Node
 unary_at zero = by_key start_at (unary_by (λ _. stop TooDeep) (λ _. stop TooDeep))
 unary_at (suc levels) =
     by_key start_at
     (unary_by (opened (unary_at levels) (sum_of (product_of (unary_at levels)))) (entry_of (sum_of (product_of (unary_at levels)))))
 
--- the entry of a table, with so many levels that may still be opened
+-- the entry of a table, with the number of levels that may still be opened
 abbrev pub entry_at : ℕ → List ℕ → Reader Node
 entry_at zero x = stop TooDeep
 entry_at (suc levels) x = entry_of (sum_of (product_of (unary_at levels))) x
@@ -616,7 +611,7 @@ item_by levels item_start.Nothing = refuse
 unfoldable pub item : ℕ → Reader Declaration
 item levels = by_key item_at (item_by levels)
 
--- whether one more item begins that is no image
+-- whether one more item begins that is not an image
 abbrev pub goes_on_by : List Declaration → ItemStart → Bool
 goes_on_by items item_start.Param = true
 goes_on_by items item_start.Table = true

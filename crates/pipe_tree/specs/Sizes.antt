@@ -1,12 +1,12 @@
--- How much a tree has of what is counted in its text.
+-- How many of what is counted in a text its tree has.
 use Rattle.std.specs.Prelude.{ℕ, ◌+◌, ◌≤◌, List, Option, Some, None}
 use Rattle.std.specs.Prelude.{sum_by, All}
 use Rattle.pipe_tree.specs.declared.tree.Names.{Names}
 use Rattle.pipe_tree.specs.declared.tree.Names.TheVariants.{One, Three}
-use Rattle.pipe_tree.specs.Tree.{Node, number, variable, read, lookup, neg, binary, literal, abs, clamp, select, stencil, Branch}
+use Rattle.pipe_tree.specs.Tree.{Node, number, variable, read, lookup, unary, binary, ternary, literal, select, stencil, Branch}
 use Rattle.pipe_tree.specs.Tree.{Declaration, param, image, table, function, accumulator, output}
 
--- what a node of an expression, a stage, a parameter, a table, a function and a case weigh
+-- the weights of a node of an expression, a stage, a parameter, a table, a function and a case
 pub record Weights : Type 0 where
   pub node : ℕ
   pub stage : ℕ
@@ -20,11 +20,10 @@ node_size w (number n) = w
 node_size w (variable x) = w
 node_size w (read x i j) = w
 node_size w (lookup x a) = w + node_size w a
-node_size w (neg a) = w + node_size w a
+node_size w (unary op a) = w + node_size w a
 node_size w (binary op a b) = w + node_size w a + node_size w b
+node_size w (ternary op a b c) = w + node_size w a + node_size w b + node_size w c
 node_size w (literal op a n) = w + node_size w a
-node_size w (abs a) = w + node_size w a
-node_size w (clamp a b c) = w + node_size w a + node_size w b + node_size w c
 node_size w (select a r b c d) = w + node_size w a + node_size w b + node_size w c + node_size w d
 node_size w (stencil x d kernel) = w
 
@@ -51,7 +50,7 @@ item_size w (output o) = 0
 abbrev pub size : Weights → List Declaration → ℕ
 size w tree = sum_by (item_size w) tree
 
--- each of these alone
+-- the weights that count one of these alone
 abbrev pub nodes : Weights
 nodes = record { node = 1; stage = 0; param = 0; table = 0; function = 0; case = 0 }
 
@@ -67,7 +66,7 @@ tables = record { node = 0; stage = 0; param = 0; table = 1; function = 0; case 
 abbrev pub cases : Weights
 cases = record { node = 0; stage = 0; param = 0; table = 0; function = 0; case = 1 }
 
--- what each tree of a text keeps
+-- the limits of each tree that has a text
 pub record KeepsLimits (tree : List Declaration) : Type 0 where
   pub few_nodes : size nodes tree ≤ 4096
   pub few_stages : size stages tree ≤ 64

@@ -1,13 +1,15 @@
--- A tree as plain data, without where its parts lie in memory. Names are their bytes, affine sums the lists of their
--- terms, conditions the lists of their tests and kernels the lists of their rows.
+-- A tree as plain data, without the addresses of its parts. Names are their bytes, affine sums the lists of their terms,
+-- conditions the lists of their tests and kernels the lists of their rows.
 use Rattle.std.specs.Prelude.{ℕ, ℤ, List, map, Option}
 use Rattle.std.specs.Option.{option_map}
 use Rattle.pipe_tree.specs.declared.tree.Test.{Test}
 use Rattle.pipe_tree.specs.declared.tree.Index.{Index}
-use Rattle.domains.specs.declared.operators.BinaryOp.{BinaryOp}
-use Rattle.domains.specs.declared.operators.LiteralOp.{LiteralOp}
-use Rattle.domains.specs.declared.operators.Relation.{Relation}
-use Rattle.domains.specs.declared.operators.Fold.{Fold}
+use Rattle.operators.specs.declared.operator.UnaryOp.{UnaryOp}
+use Rattle.operators.specs.declared.operator.BinaryOp.{BinaryOp}
+use Rattle.operators.specs.declared.operator.TernaryOp.{TernaryOp}
+use Rattle.operators.specs.declared.operator.LiteralOp.{LiteralOp}
+use Rattle.operators.specs.declared.operator.Relation.{Relation}
+use Rattle.operators.specs.declared.operator.Fold.{Fold}
 use Rattle.pipe_tree.specs.declared.tree.AffineSpan.{AffineSpan}
 use Rattle.pipe_tree.specs.declared.tree.Variable.{Variable}
 use Rattle.pipe_tree.specs.declared.tree.Param.{Param}
@@ -21,7 +23,7 @@ use Rattle.pipe_tree.specs.declared.tree.Accum.{Accum}
 use Rattle.pipe_tree.specs.declared.tree.Item.{Item}
 use Rattle.pipe_tree.specs.declared.tree.Item.TheVariants as items
 use Rattle.pipe_tree.specs.declared.tree.Expr.{Expr}
-use Rattle.pipe_tree.specs.declared.tree.Expr.TheVariants.{Number, Name, Read, Lookup', Neg', Binary', Literal', Abs', Clamp', Select', Stencil}
+use Rattle.pipe_tree.specs.declared.tree.Expr.TheVariants.{Number, Name, Read, Lookup', Unary', Binary', Ternary', Literal', Select', Stencil}
 
 -- ---- the data
 
@@ -31,11 +33,10 @@ pub data Node : Type 0 where
   variable : List ℕ → Node
   read : List ℕ → Index → Index → Node
   lookup : List ℕ → Node → Node
-  neg : Node → Node
+  unary : UnaryOp → Node → Node
   binary : BinaryOp → Node → Node → Node
+  ternary : TernaryOp → Node → Node → Node → Node
   literal : LiteralOp → Node → ℕ → Node
-  abs : Node → Node
-  clamp : Node → Node → Node → Node
   select : Node → Relation → Node → Node → Node → Node
   stencil : List ℕ → ℕ → List (List ℤ) → Node
 
@@ -69,18 +70,17 @@ pub data Declaration : Type 0 where
   accumulator : Accumulator → Declaration
   output : Output → Declaration
 
--- ---- what is seen of the items in memory
+-- ---- views of the items in memory
 
 abbrev pub view : Expr → Node
 view (Number n) = number n
 view (Name x) = variable x
 view (Read x i j) = read x i j
 view (Lookup' x p a) = lookup x (view a)
-view (Neg' p a) = neg (view a)
+view (Unary' op p a) = unary op (view a)
 view (Binary' op p a q b) = binary op (view a) (view b)
+view (Ternary' op p a q b r c) = ternary op (view a) (view b) (view c)
 view (Literal' op p a n) = literal op (view a) n
-view (Abs' p a) = abs (view a)
-view (Clamp' p a q b r c) = clamp (view a) (view b) (view c)
 view (Select' p a relation q b r c s d) = select (view a) relation (view b) (view c) (view d)
 view (Stencil x d kernel) = stencil x d kernel
 

@@ -14,13 +14,13 @@ pub enum ParseFault {
     /// 1: a byte of 128 or more, in a comment too.
     #[error("byte {0} is no ASCII character")]
     NotAscii(usize),
-    /// 2: a byte that begins no token, a name of more than 32 bytes, or digits with a letter or `_` behind them.
+    /// 2: a byte that begins no token, a name of more than 32 bytes, or digits with a letter or `_` after them.
     #[error("no token begins at byte {0}")]
     BadToken(usize),
-    /// 3: a token with which the tokens before it begin no program, or the end of a text that is none.
+    /// 3: a token with which the tokens before it begin no program, or the end of a text that is no program.
     #[error("byte {0} is unexpected")]
     Unexpected(usize),
-    /// 4: a number above 2147483647, where a number may stand.
+    /// 4: a number above 2147483647, where the grammar allows a number.
     #[error("the number at byte {0} is too big")]
     NumberTooBig(usize),
     /// 5: the token that opens a level too many.
@@ -53,7 +53,7 @@ impl Fault for ParseFault {
 }
 
 impl ParseFault {
-    /// Where the fault stands. Memory has no place.
+    /// The offset of the fault. Memory has none.
     pub fn offset(&self) -> Option<usize>
         ensures { result ≡ offset_of self.now }
     {
@@ -85,7 +85,7 @@ pub enum Kind {
     TooMany,
 }
 
-/// A fault, and how many tokens remain where it stands.
+/// A fault, and how many tokens remain at its place.
 #[derive(Clone, Copy)]
 pub struct Halt {
     pub kind: Kind,

@@ -1,5 +1,5 @@
-//! The language of image pipelines: a program as a tree, the grammar of its text and its limits, and the faults of texts that have no
-//! tree. The parser stands above.
+//! The language of image pipelines: a program as a tree, the grammar of its text and its limits, and the faults of texts that
+//! have no tree. The parser is in the crates above.
 #![tactic(auto)]
 
 mod ahead;
@@ -9,7 +9,7 @@ mod sizes;
 mod tree;
 mod uniqueness;
 
-pub use ahead::{Factor, ItemStart, Opening, Start};
+pub use ahead::{Call, Factor, ItemStart, Opening, Start};
 pub use fault::{Halt, Kind, ParseFault};
 pub use limits::{Counts, MAX_BYTES, MAX_LEVELS, Role};
 pub use sizes::trees_keep_limits;

@@ -1,5 +1,5 @@
 #![tactic(auto)]
-//! What is counted while a text is read, and how many of each it may have.
+//! What is counted while a text is read, and the limits of these counts.
 
 ghost use Rattle.std.specs.Prelude.{◌≡◌};
 ghost use Rattle.pipe_tree.specs.Limits.{counted};
@@ -44,19 +44,19 @@ pub enum Role {
     Case,
 }
 
-/// How many there are so far.
+/// The counts so far.
 #[derive(Clone, Copy)]
 pub struct Counts {
     pub nodes: u32,
     pub stages: u32,
     pub params: u32,
     pub tables: u32,
-    /// Of the last function.
+    /// The cases of the last function.
     pub cases: u32,
 }
 
 impl Counts {
-    // With one more, unless that passes its limit.
+    // With one more, unless that exceeds its limit.
     pub fn with(self, role: Role) -> Option<Counts>
         ensures { result ≡ counted role self }
     {

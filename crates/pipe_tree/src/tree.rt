@@ -1,11 +1,11 @@
 #![tactic(auto)]
-//! What a program's text says: its items in order, with expressions as nodes.
+//! The content of a program's text: its items in order, with expressions as nodes.
 
 ghost use Rattle.std.specs.Prelude.{◌≡◌};
 ghost use Rattle.pipe_tree.specs.Tree.{cases_of, declarations};
 ghost use Rattle.pipe_tree.specs.Sizes.{KeepsLimits};
 
-use domains::{BinaryOp, Fold, LiteralOp, Relation};
+use operators::{BinaryOp, Fold, LiteralOp, Relation, TernaryOp, UnaryOp};
 use pipe_tokens::Name;
 use std::marker::Model;
 
@@ -46,7 +46,7 @@ pub enum Item {
     Output(Output),
 }
 
-/// `param NAME;`: a number that is given when the program is run.
+/// `param NAME;`: a number that is supplied when the program is run.
 #[derive(Debug, Drop)]
 pub struct Param {
     pub name: Name,
@@ -60,15 +60,15 @@ pub struct Image {
     pub columns: Affine,
 }
 
-/// `table NAME[FIRST .. LAST];`: a number for each index of a span. The numbers are given with the picture.
+/// `table NAME[FIRST .. LAST];`: a number for each index of a span. The numbers are supplied with the picture.
 #[derive(Debug, Drop)]
 pub struct Table {
     pub name: Name,
     pub span: AffineSpan,
 }
 
-/// `func NAME(ROW, COLUMN) { CASES else }`: a function on a rectangle. The first case that holds at a point gives
-/// its value there, else `otherwise`.
+/// `func NAME(ROW, COLUMN) { CASES else }`: a function on a rectangle. The value at a point is that of the first case that holds
+/// there, else `otherwise`.
 #[derive(Debug, Drop)]
 pub struct Func {
     pub name: Name,
@@ -86,7 +86,7 @@ pub struct Accum {
     pub row: Variable,
     pub column: Variable,
     pub fold: Fold,
-    /// What a point adds to its bin.
+    /// The value that a point adds to its bin.
     pub value: Expr,
     /// The bin of a point.
     pub bin: Expr,
@@ -113,7 +113,7 @@ pub struct Variable {
     pub span: AffineSpan,
 }
 
-/// `[FIRST .. LAST]`, both ends within.
+/// `[FIRST .. LAST]`, both ends included.
 #[derive(Debug, Drop)]
 pub struct AffineSpan {
     pub first: Affine,
@@ -154,7 +154,7 @@ impl Affine {
 /// `factor`, times the parameter `name` if there is one; subtracted if `negative`.
 #[derive(Clone, Copy, Debug)]
 pub struct Term {
-    /// Whether a `-` stands before it.
+    /// Whether a `-` comes before it.
     pub negative: bool,
     /// 1 where the text has a name alone.
     pub factor: u32,
@@ -241,13 +241,11 @@ pub enum Expr {
     Read(Name, Index, Index),
     /// `NAME[INDEX]`: the entry of a table at an index.
     Lookup(Name, Box<Expr>),
-    Neg(Box<Expr>),
+    Unary(UnaryOp, Box<Expr>),
     Binary(BinaryOp, Box<Expr>, Box<Expr>),
+    Ternary(TernaryOp, Box<Expr>, Box<Expr>, Box<Expr>),
     /// An operation whose right operand is a number of the text.
     Literal(LiteralOp, Box<Expr>, u32),
-    Abs(Box<Expr>),
-    /// `clamp(VALUE, LEAST, GREATEST)`
-    Clamp(Box<Expr>, Box<Expr>, Box<Expr>),
     /// `select(LEFT RELATION RIGHT, THEN, ELSE)`
     Select(Box<Expr>, Relation, Box<Expr>, Box<Expr>, Box<Expr>),
     /// `stencil(NAME, DIVISOR, KERNEL)`

@@ -12,7 +12,7 @@ pub fn texts_have_one_tree()
     ensures { (bytes : List ℕ) (a b : List Declaration) → IsText bytes a → IsText bytes b → a ≡ b }
 {}
 
-/// No bytes have two faults, and no text has one. Memory may run out for any.
+/// No bytes have two faults, and no text has a fault. Memory may run out for any.
 pub fn faults_are_determined()
     ensures one { (bytes : List ℕ) (a b : ParseFault) → IsFault bytes a → IsFault bytes b
         → a ≢ ParseFault.Memory → b ≢ ParseFault.Memory → a ≡ b }
