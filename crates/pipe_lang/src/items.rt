@@ -234,7 +234,7 @@ fn output(parser: &mut Parser<'_>) -> Result<Output, ParseError>
     Ok(Output { names, max })
 }
 
-// Which item the token ahead begins.
+// The item that the token ahead begins.
 fn item_of(token: Option<Token>) -> ItemStart
     ensures { result ≡ item_at token }
 {
@@ -248,7 +248,7 @@ fn item_of(token: Option<Token>) -> ItemStart
     }
 }
 
-// The item ahead, which is no image.
+// The item ahead, which is not an image.
 #[tactic(auto, unfolding(pipe_tree::specs::Reading::item))]
 fn item(parser: &mut Parser<'_>) -> Result<Item, ParseError>
     ensures exact { Reads (λ i. (declaration i, at parser.new)) result
@@ -266,7 +266,7 @@ fn item(parser: &mut Parser<'_>) -> Result<Item, ParseError>
     }
 }
 
-// Puts the items up to an image, a second output or the end behind those that were read.
+// Adds the items up to an image, a second output or the end after those that were read.
 #[tactic(auto, using(crate::proofs::ItemUnrolled::next_item), unfolding(pipe_tree::specs::Reading::others))]
 fn others(parser: &mut Parser<'_>, items: &mut Vec<Item>) -> Result<(), ParseError>
     ensures exact { Reads (λ _. (declarations items.new.items, at parser.new)) result
@@ -280,7 +280,7 @@ fn others(parser: &mut Parser<'_>, items: &mut Vec<Item>) -> Result<(), ParseErr
     Ok(())
 }
 
-// Exactly one image stands among the others.
+// Exactly one image is among the items.
 #[tactic(auto, unfolding(pipe_tree::specs::Reading::program_at))]
 fn whole(parser: &mut Parser<'_>) -> Result<Vec<Item>, ParseError>
     ensures exact { Reads (λ items. (declarations items.items, at parser.new)) result
@@ -304,7 +304,7 @@ fn has_output(items: &[Item]) -> bool
     items.iter().any(|item| matches!(item, Item::Output(_)))
 }
 
-// Whether the token begins one more item that is no image.
+// Whether the token begins one more item that is not an image.
 #[tactic(auto, using(crate::proofs::ItemUnrolled::any_declaration))]
 fn goes_on(token: Option<Token>, items: &[Item]) -> bool
     ensures { result ≡ reading.goes_on (declarations items.now) token }

@@ -1,4 +1,4 @@
-//! The parser of programs: a text to its tree, or to its first fault.
+//! The parser of programs: from a text to its tree, or to its first fault.
 #![tactic(auto)]
 
 mod items;

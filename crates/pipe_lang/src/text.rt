@@ -1,5 +1,5 @@
 #![tactic(auto)]
-//! A text to its tree.
+//! From a text to its tree.
 
 ghost use Rattle.std.specs.Prelude.{◌≡◌, ◌-◌, ◌<◌, length, List, slice_get, unwrap_or, IfOk, IfErr, MatchResult};
 ghost use Rattle.pipe_tree.specs.Limits.{most_bytes};
@@ -16,10 +16,10 @@ use std::alloc::Global;
 
 /// The tree of a program's text.
 ///
-/// TooLong comes before any other fault. Of the others a text has one at most, and none if it has a tree. Memory may
-/// run out for any text that is not too long: no clause says that it lasts.
+/// TooLong comes before any other fault. A text has at most one of the others, and none if it has a tree. Memory may run out for
+/// any text that is not too long: no clause excludes it.
 pub fn parse(alloc: Global, text: &[u8]) -> Result<Tree, ParseFault>
-    // This comes first, and does not look at the text.
+    // This comes first, and does not depend on the content of the text.
     ensures long { most_bytes < length text.now → result ≡ Err (ParseFault.TooLong most_bytes) }
 
     // What is read is a text of the grammar, within the limits.
@@ -27,7 +27,7 @@ pub fn parse(alloc: Global, text: &[u8]) -> Result<Tree, ParseFault>
     // A text is read as its tree, unless memory runs out.
     ensures only { (tree : List Declaration) → IsText text.now tree
         → MatchResult result (λ t. content t ≡ tree) (λ e. e ≡ ParseFault.Memory) }
-    // Where and why there is none.
+    // Where and why a text has no tree.
     ensures fault { IfErr result (IsFault text.now) }
 {
     if text.len() > MAX_BYTES {
@@ -44,7 +44,7 @@ pub fn parse(alloc: Global, text: &[u8]) -> Result<Tree, ParseFault>
     }
 }
 
-// Where the token starts from which on so many remain, or the end where none does.
+// The start of the token from which on `remaining` tokens remain, or the end if there is none.
 fn offset_of(starts: &[usize], remaining: usize, end: usize) -> usize
     ensures { result ≡ unwrap_or (slice_get starts.now (length starts.now - remaining)) end }
 {

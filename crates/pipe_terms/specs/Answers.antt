@@ -1,4 +1,4 @@
--- What a function of the parser answers.
+-- The results of functions of the parser.
 use Rattle.std.specs.Prelude.{◌≡◌, Result, Ok, Err}
 use Rattle.pipe_tree.specs.declared.fault.Halt.{Halt}
 use Rattle.pipe_tree.specs.Reading.{At}
@@ -10,7 +10,7 @@ use Rattle.pipe_terms.specs.declared.parser.Parser.{Parser}
 abbrev pub at : Parser → At
 at p = record { counts = p.counts; rest = p.rest.now }
 
--- What a function returned, seen by view, is what reading answers, unless memory ran out.
+-- The result of a function, seen by view, is the answer of its reader, unless memory ran out.
 abbrev pub Fails : {Y : Type 0} → ParseError → Result Y Halt → Type 0
 Fails errors.Memory answer = Unit {0}
 Fails (errors.Fault h) answer = answer ≡ Err h

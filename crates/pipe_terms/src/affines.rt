@@ -24,7 +24,7 @@ impl Parser<'_> {
         Ok(false)
     }
 
-    // A number and the name that it is multiplied by, if there is one; 1 and a name, where no number stands.
+    // A number and the name that it is multiplied by, if there is one; 1 and a name, where there is no number.
     #[tactic(auto, unfolding(pipe_tree::specs::Reading::scaled_name))]
     fn scaled_name(&mut self) -> Result<(u32, Option<Name>), ParseError>
         ensures exact { Reads (λ f. (f, at self.new)) result (reading.scaled_name (at self.old)) }
@@ -41,7 +41,7 @@ impl Parser<'_> {
         Ok((factor, Some(self.name(Role::Plain)?)))
     }
 
-    // Puts one more term behind the others.
+    // Adds one more term after the others.
     fn term(&mut self, terms: &mut Vec<Term>, negative: bool) -> Result<(), ParseError>
         ensures exact { Reads (λ _. (terms.new.items, at self.new)) result
             (reading.term negative terms.old.items (at self.old)) }

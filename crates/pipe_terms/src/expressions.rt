@@ -1,5 +1,5 @@
 #![tactic(auto)]
-//! Expressions, within so many levels that may still be opened.
+//! Expressions, within the number of levels that may still be opened.
 
 ghost use Rattle.std.specs.Prelude.{◌≡◌, ◌<◌, ◌≤◌, length, suc, IfOk, IfErr};
 ghost use Rattle.pipe_tree.specs.Tree.{view};
@@ -10,22 +10,12 @@ ghost use Rattle.pipe_terms.specs.Answers.{at, Reads};
 use crate::lookahead::{factor_of, sign_of, start_of};
 use crate::parse_error::ParseError;
 use crate::parser::Parser;
-use domains::BinaryOp;
+use operators::{BinaryOp, UnaryOp};
 use pipe_tokens::{Keyword, Name, Punct};
-use pipe_tree::{Expr, Factor, Kind, Opening, Role, Start};
-
-// The word of `min`, and of `max` else.
-fn word_of(op: BinaryOp) -> Keyword
-    ensures { result ≡ reading.word_of op }
-{
-    match op {
-        BinaryOp::Min => Keyword::Min,
-        _ => Keyword::Max,
-    }
-}
+use pipe_tree::{Call, Expr, Factor, Kind, Opening, Role, Start};
 
 impl Parser<'_> {
-    // The levels that are left behind the token ahead, which opens one.
+    // The levels that are left after the token ahead, which opens one.
     fn open_level(&self, levels: u32) -> Result<u32, ParseError>
         ensures ok { IfOk result (λ rest. levels ≡ suc rest) }
         ensures err { IfErr result
@@ -58,7 +48,7 @@ impl Parser<'_> {
         Ok(left)
     }
 
-    // An expression in a box of its own, as an operand stands in another.
+    // An expression in a box of its own, as the operand of another.
     #[cycle(expression)]
     fn operand(&mut self, levels: u32) -> Result<Box<Expr>, ParseError>
         ensures exact { Reads (λ e. (view e.value, at self.new)) result
@@ -127,7 +117,7 @@ impl Parser<'_> {
         Ok(Expr::Name(name))
     }
 
-    // An entry of a table, with so many levels left behind the bracket.
+    // An entry of a table, with `levels` left after the bracket.
     #[cycle(expression)]
     fn table_entry(&mut self, name: Name, levels: u32) -> Result<Expr, ParseError>
         ensures exact { Reads (λ e. (view e, at self.new)) result
@@ -140,7 +130,7 @@ impl Parser<'_> {
         Ok(Expr::Lookup(name, index))
     }
 
-    // What opens a level, with so many left behind it.
+    // What opens a level, with `levels` left after it.
     #[cycle(expression)]
     fn opened(&mut self, opening: Opening, levels: u32) -> Result<Expr, ParseError>
         ensures exact { Reads (λ e. (view e, at self.new)) result
@@ -151,57 +141,47 @@ impl Parser<'_> {
             Opening::Minus => {
                 self.mark(Punct::Minus, Role::Node)?;
                 let operand = self.unary(levels)?;
-                Ok(Expr::Neg(Box::new(self.alloc, operand)?))
+                Ok(Expr::Unary(UnaryOp::Neg, Box::new(self.alloc, operand)?))
             }
             Opening::Group => {
                 self.mark(Punct::OpenRound, Role::Plain)?;
                 let inner = self.expression(levels)?;
                 Ok(self.ended(inner, Punct::CloseRound)?)
             }
-            Opening::Abs => {
-                self.word(Keyword::Abs, Role::Node)?;
+            Opening::Call => {
+                let call = self.call()?;
                 self.mark(Punct::OpenRound, Role::Plain)?;
-                let operand = self.operand(levels)?;
-                self.mark(Punct::CloseRound, Role::Plain)?;
-                Ok(Expr::Abs(operand))
+                let called = self.arguments(call, levels)?;
+                Ok(self.ended(called, Punct::CloseRound)?)
             }
-            Opening::Clamp => self.clamp(levels),
             Opening::Select => self.select(levels),
-            Opening::Pair(op) => self.pair(op, levels),
         }
     }
 
-    // `min` or `max` of two.
+    // The rest of a call, after its opening parenthesis.
     #[cycle(expression)]
-    fn pair(&mut self, op: BinaryOp, levels: u32) -> Result<Expr, ParseError>
+    fn arguments(&mut self, call: Call, levels: u32) -> Result<Expr, ParseError>
         ensures exact { Reads (λ e. (view e, at self.new)) result
-            (reading.pair op (expression_at levels) (at self.old)) }
+            (reading.arguments (expression_at levels) call (at self.old)) }
         ensures shorter { length self.new.rest.now ≤ length self.old.rest.now }
     {
-        self.word(word_of(op), Role::Node)?;
-        self.mark(Punct::OpenRound, Role::Plain)?;
-        let left = self.operand(levels)?;
-        self.mark(Punct::Comma, Role::Plain)?;
-        let right = self.operand(levels)?;
-        self.mark(Punct::CloseRound, Role::Plain)?;
-        Ok(Expr::Binary(op, left, right))
-    }
-
-    #[cycle(expression)]
-    fn clamp(&mut self, levels: u32) -> Result<Expr, ParseError>
-        ensures exact { Reads (λ e. (view e, at self.new)) result
-            (reading.clamped (expression_at levels) (at self.old)) }
-        ensures shorter { length self.new.rest.now ≤ length self.old.rest.now }
-    {
-        self.word(Keyword::Clamp, Role::Node)?;
-        self.mark(Punct::OpenRound, Role::Plain)?;
-        let value = self.operand(levels)?;
-        self.mark(Punct::Comma, Role::Plain)?;
-        let least = self.operand(levels)?;
-        self.mark(Punct::Comma, Role::Plain)?;
-        let greatest = self.operand(levels)?;
-        self.mark(Punct::CloseRound, Role::Plain)?;
-        Ok(Expr::Clamp(value, least, greatest))
+        match call {
+            Call::Unary(op) => Ok(Expr::Unary(op, self.operand(levels)?)),
+            Call::Binary(op) => {
+                let left = self.operand(levels)?;
+                self.mark(Punct::Comma, Role::Plain)?;
+                let right = self.operand(levels)?;
+                Ok(Expr::Binary(op, left, right))
+            }
+            Call::Ternary(op) => {
+                let first = self.operand(levels)?;
+                self.mark(Punct::Comma, Role::Plain)?;
+                let second = self.operand(levels)?;
+                self.mark(Punct::Comma, Role::Plain)?;
+                let third = self.operand(levels)?;
+                Ok(Expr::Ternary(op, first, second, third))
+            }
+        }
     }
 
     #[cycle(expression)]

@@ -1,4 +1,4 @@
-//! The parser of terms: each rule of the grammar for what stands inside an item is a method of [`Parser`], which reads it from
+//! The parser of terms: each rule of the grammar for what occurs inside an item is a method of [`Parser`], which reads it from
 //! left to right with one token ahead.
 #![tactic(auto)]
 

@@ -5,9 +5,9 @@ ghost use Rattle.std.specs.Prelude.{◌≡◌};
 ghost use Rattle.pipe_tree.specs.Operators.{sign_at, factor_at, relation_at, fold_at};
 ghost use Rattle.pipe_tree.specs.Lookahead.{start_at, is_number_at, is_mark_at, is_word_at};
 
-use domains::{BinaryOp, Fold, LiteralOp, Relation};
+use operators::{Fold, LiteralOp, Relation};
 use pipe_tokens::{Keyword, Punct, Token};
-use pipe_tree::{Factor, Opening, Start};
+use pipe_tree::{Call, Factor, Opening, Start};
 
 pub(crate) fn is_mark(token: Option<Token>, mark: Punct) -> bool
     ensures { result ≡ is_mark_at mark token }
@@ -27,7 +27,7 @@ pub(crate) fn is_word(token: Option<Token>, word: Keyword) -> bool
     }
 }
 
-// Whether a number is ahead, be it too big.
+// Whether a number is ahead, even one that is too big.
 pub(crate) fn is_number(token: Option<Token>) -> bool
     ensures { result ≡ is_number_at token }
 {
@@ -88,12 +88,9 @@ pub(crate) fn start_of(token: Option<Token>) -> Start
         Some(Token::Name(_)) => Start::Name,
         Some(Token::Punct(Punct::Minus)) => Start::Opening(Opening::Minus),
         Some(Token::Punct(Punct::OpenRound)) => Start::Opening(Opening::Group),
-        Some(Token::Keyword(Keyword::Min)) => Start::Opening(Opening::Pair(BinaryOp::Min)),
-        Some(Token::Keyword(Keyword::Max)) => Start::Opening(Opening::Pair(BinaryOp::Max)),
-        Some(Token::Keyword(Keyword::Abs)) => Start::Opening(Opening::Abs),
-        Some(Token::Keyword(Keyword::Clamp)) => Start::Opening(Opening::Clamp),
         Some(Token::Keyword(Keyword::Select)) => Start::Opening(Opening::Select),
         Some(Token::Keyword(Keyword::Stencil)) => Start::Stencil,
+        _ if Call::at(token).is_some() => Start::Opening(Opening::Call),
         _ => Start::Nothing,
     }
 }

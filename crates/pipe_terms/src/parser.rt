@@ -12,15 +12,15 @@ ghost use Rattle.pipe_tree.specs.Lookahead.{is_mark_at, is_word_at};
 
 use crate::lookahead::{factor_of, fold_of, is_mark, is_word, relation_of, sign_of};
 use crate::parse_error::ParseError;
-use domains::{Fold, Relation};
+use operators::{Fold, Relation};
 use pipe_tokens::{Keyword, Name, Punct, Token};
-use pipe_tree::{Counts, Factor, Halt, Kind, Role};
+use pipe_tree::{Call, Counts, Factor, Halt, Kind, Role};
 use std::alloc::Global;
 
 /// The greatest number of a text.
 pub const MAX_NUMBER: u32 = 2147483647;
 
-/// A place in a list of tokens: what is left of it, and what was counted on the way.
+/// A position in a list of tokens: the tokens that remain, and what was counted so far.
 #[derive(Drop)]
 pub struct Parser<'a> {
     pub alloc: Global,
@@ -87,7 +87,7 @@ impl Parser<'_> {
         })
     }
 
-    /// The fault of the token ahead, or of the end, where it has no place.
+    /// The fault of the token ahead, or of the end, where the grammar does not allow it.
     pub fn refuse(&self) -> ParseError
         ensures { result
             ≡ ParseError.Fault (halt_of (kind_at (head self.now.rest.now)) self.now.rest.now) }
@@ -130,7 +130,7 @@ impl Parser<'_> {
         }
     }
 
-    // Passes the token ahead, which counts as the role, where it means something; that is given back.
+    // Passes the token ahead, which counts as the role, if it has a meaning; returns the meaning.
     fn meant<T: Drop>(&mut self, meaning: Option<T>, role: Role) -> Result<T, ParseError>
         ensures exact { Reads (λ x. (x, at self.new)) result
             (reading.meant role meaning (at self.old)) }
@@ -145,7 +145,7 @@ impl Parser<'_> {
         Ok(meaning)
     }
 
-    /// Gives back what was read, if this punctuation comes after it.
+    /// Returns what was read, if this punctuation comes after it.
     pub fn ended<T: Drop>(&mut self, value: T, mark: Punct) -> Result<T, ParseError>
         ensures exact { Reads (λ _. (tt, at self.new)) result
             (reading.mark mark Role.Plain (at self.old)) }
@@ -215,6 +215,15 @@ impl Parser<'_> {
     {
         let factor = factor_of(self.ahead());
         self.meant(factor, Role::Node)
+    }
+
+    // Reads the keyword of an operator that is written as a call.
+    pub(crate) fn call(&mut self) -> Result<Call, ParseError>
+        ensures exact { Reads (λ c. (c, at self.new)) result (reading.call (at self.old)) }
+        ensures shorter { length self.new.rest.now ≤ length self.old.rest.now }
+    {
+        let call = Call::at(self.ahead());
+        self.meant(call, Role::Node)
     }
 
     /// Reads a relation.

@@ -25,11 +25,8 @@ decreases-table_entry l = 6 * l.levels + 6
 abbrev pub decreases-opened : goal.decreases-opened
 decreases-opened l = 6 * l.levels + 7
 
-abbrev pub decreases-pair : goal.decreases-pair
-decreases-pair l = 6 * l.levels + 6
-
-abbrev pub decreases-clamp : goal.decreases-clamp
-decreases-clamp l = 6 * l.levels + 6
+abbrev pub decreases-arguments : goal.decreases-arguments
+decreases-arguments l = 6 * l.levels + 6
 
 abbrev pub decreases-select : goal.decreases-select
 decreases-select l = 6 * l.levels + 6
