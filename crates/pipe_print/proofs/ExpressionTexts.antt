@@ -1,5 +1,5 @@
 -- The canonical texts of expressions: no deeper than the text that was read, wherever they stand.
-use Rattle.std.proofs.Common.{◌≡◌, ℕ, zero, suc, ◌≤◌, Bool, true, false, List, [], ◌∷◌, ◌++◌, Some, refl, sym, ap, subst, ◌∙◌}
+use Rattle.std.proofs.Common.{◌≡◌, ℕ, zero, suc, ◌≤◌, Bool, true, false, List, [], ◌∷◌, ◌++◌, refl, sym, ap, subst, ◌∙◌}
 use Rattle.std.proofs.Common.{append_assoc, arith, inl, inr}
 use Rattle.std.proofs.lemmas.List.{append-nil}
 use Rattle.pipe_tokens.specs.declared.token.Token.{Token}
@@ -7,25 +7,24 @@ use Rattle.pipe_tokens.specs.declared.token.Token.TheVariants as token
 use Rattle.pipe_tokens.specs.declared.token.Punct.{Punct}
 use Rattle.pipe_tokens.specs.declared.token.Punct.TheVariants as mark
 use Rattle.pipe_tokens.specs.declared.token.Keyword.{Keyword}
-use Rattle.pipe_tokens.specs.declared.token.Keyword.TheVariants as word
-use Rattle.domains.specs.declared.operators.BinaryOp.{BinaryOp}
-use Rattle.domains.specs.declared.operators.BinaryOp.TheVariants.{Mul, Min, Max}
-use Rattle.domains.specs.declared.operators.LiteralOp.{LiteralOp}
-use Rattle.domains.specs.declared.operators.LiteralOp.TheVariants.{Div, Rem, Shl, Shr}
+use Rattle.pipe_tree.specs.declared.ahead.Call.{Call}
+use Rattle.pipe_tree.specs.declared.ahead.Call.TheVariants as calls
+use Rattle.pipe_tree.specs.declared.ahead.Factor.{Factor}
+use Rattle.pipe_tree.specs.declared.ahead.Factor.TheVariants as factors
 use Rattle.pipe_tree.specs.Limits.{Tagged, plain}
-use Rattle.pipe_tree.specs.Operators.{factor_at}
-use Rattle.pipe_tree.specs.Tree.{Node, binary, literal}
+use Rattle.pipe_tree.specs.Tree.{Node, binary}
 use Rattle.pipe_tree.specs.Grammar.{Rule, Then, Gives, Takes, Some_of, times, many, leaf, literal_number, named, a_stencil}
-use Rattle.pipe_tree.specs.Grammar.{operand, product_more, product, sum_op, sum_more, sums, negation, group, pair, absolute}
-use Rattle.pipe_tree.specs.Grammar.{clamped, selected, opened, looked_up, Unary, Product, Expression}
+use Rattle.pipe_tree.specs.Grammar.{operand, product_more, product, sum_op, sum_more, sums, negation, group, arguments}
+use Rattle.pipe_tree.specs.Grammar.{called, selected, opened, looked_up, Unary, Product, Expression}
 use Rattle.pipe_tree.specs.Grammar as g
 use Rattle.pipe_print.specs.declared.place.Place.{Place}
 use Rattle.pipe_print.specs.declared.place.Place.TheVariants as place
 use Rattle.pipe_print.specs.Canonical as c
-use Rattle.pipe_print.specs.Canonical.{◌⌢◌, grouped, expression_tokens, literal_mark, relation_mark}
+use Rattle.pipe_print.specs.Canonical.{grouped, expression_tokens}
 use Rattle.pipe_print.proofs.Printed.{Shortens, nothing, leaves_out, Shortens-append, Printed, fused, joined, at_text, chain}
-use Rattle.pipe_print.proofs.Printed.{rechain, ended, gives, takes, gives_dropped, relabel, becomes, skip_back}
-use Rattle.pipe_print.proofs.SingleTokens.{means, name_printed, sign_printed, relation_printed, int_printed, some_is}
+use Rattle.pipe_print.proofs.Printed.{rechain, ended, reended, gives, takes, gives_dropped, relabel, becomes, skip_back}
+use Rattle.pipe_print.proofs.SingleTokens.{IsTokenOf, IsWordOf, means, means_factor, means_call, name_printed, sign_printed}
+use Rattle.pipe_print.proofs.SingleTokens.{relation_printed, int_printed}
 use Rattle.pipe_print.proofs.IndexTexts.{named_printed, stencil_printed}
 
 -- ---- turns
@@ -141,7 +140,7 @@ group_printed m e d text p =
     let all : Printed (group (sums (product (Unary m)))) e (grouped d) (bracketed text) =
     joined {Q = λ _. Then (sums (product (Unary m))) (λ a. Then (g.mark mark.CloseRound plain) (λ _. Gives a))}
     (takes (mark_again mark.OpenRound)) inner in
-    becomes (λ t h. inl (inr (inl (inl (inl (inl (inl (inr h)))))))) all
+    becomes (λ t h. inl (inr (inl (inl (inr h))))) all
 
 -- ---- the places of an expression
 
@@ -189,49 +188,26 @@ record Operand (R : Rule Node) (t : Token) (a b : Node) (text : List Tagged) : T
 
 module _ (n m : ℕ) (each : (text : List Tagged) (e : Node) → Unary n text e → Everywhere (Unary m) e text)
     (above : (text : List Tagged) (e : Node) → Unary n text e → Everywhere (Unary (suc m)) e text) where
-  times_operand : (a b : Node) (text : List Tagged) → Then (Unary n) (λ b. Gives (binary Mul a b)) text b
-      → Operand (Then (Unary m) (λ b. Gives (binary Mul a b))) (token.Punct mark.Star) a b text
-  times_operand a b text p =
-      let right = (each p.front p.value p.first).operand in
-      subst (λ (b : Node). Operand (Then (Unary m) (λ b. Gives (binary Mul a b))) (token.Punct mark.Star) a b text) (sym p.second.value)
-      (record {
-        more = expression_tokens p.value place.Unary;
-        printed = ended (λ (b : Node). binary Mul a b) (skip_back p right (gives_dropped p.second));
-        factor = refl;
-        whole = refl;
-        operand = refl;
-      })
-
-  literal_operand : (op : LiteralOp) (a b : Node) (text : List Tagged) → Then (g.int plain) (λ k. Gives (literal op a k)) text b
-      → Operand (Then (g.int plain) (λ k. Gives (literal op a k))) (token.Punct (literal_mark op)) a b text
-  literal_operand op a b text p =
-      subst (λ (b : Node). Operand (Then (g.int plain) (λ k. Gives (literal op a k))) (token.Punct (literal_mark op)) a b text)
-      (sym p.second.value) (record {
-        more = c.int p.value;
-        printed = ended (λ (k : ℕ). literal op a k) (skip_back p (int_printed p.first) (gives_dropped p.second));
-        factor = refl;
-        whole = refl;
-        operand = refl;
-      })
-
-  operand_printed : (t : Token) (f : _) → factor_at (Some t) ≡ Some f → (a b : Node) (text : List Tagged) → operand (Unary n) a f text b
+  operand_printed : (t : Token) (f : Factor) → IsTokenOf t f → (a b : Node) (text : List Tagged) → operand (Unary n) a f text b
       → Operand (operand (Unary m) a f) t a b text
-  operand_printed (token.Punct mark.Star) f e a b text =
-      subst (λ k. operand (Unary n) a k text b → Operand (operand (Unary m) a k) (token.Punct mark.Star) a b text) (some_is e)
-      (times_operand a b text)
-  operand_printed (token.Punct mark.Slash) f e a b text =
-      subst (λ k. operand (Unary n) a k text b → Operand (operand (Unary m) a k) (token.Punct mark.Slash) a b text) (some_is e)
-      (literal_operand Div a b text)
-  operand_printed (token.Punct mark.Percent) f e a b text =
-      subst (λ k. operand (Unary n) a k text b → Operand (operand (Unary m) a k) (token.Punct mark.Percent) a b text) (some_is e)
-      (literal_operand Rem a b text)
-  operand_printed (token.Punct mark.ShiftLeft) f e a b text =
-      subst (λ k. operand (Unary n) a k text b → Operand (operand (Unary m) a k) (token.Punct mark.ShiftLeft) a b text) (some_is e)
-      (literal_operand Shl a b text)
-  operand_printed (token.Punct mark.ShiftRight) f e a b text =
-      subst (λ k. operand (Unary n) a k text b → Operand (operand (Unary m) a k) (token.Punct mark.ShiftRight) a b text) (some_is e)
-      (literal_operand Shr a b text)
-  operand_printed _ f e a b text = λ p. absurd cc
+  operand_printed t factors.Times is a b text p =
+      let e = p.second.value in
+      record {
+        more = expression_tokens p.value place.Unary;
+        printed = reended p (each p.front p.value p.first).operand;
+        factor = rw (e, is) refl;
+        whole = rw e refl;
+        operand = rw e refl;
+      }
+  operand_printed t (factors.Literal op) is a b text p =
+      let e = p.second.value in
+      record {
+        more = c.int p.value;
+        printed = reended p (int_printed p.first);
+        factor = rw (e, is) refl;
+        whole = rw e refl;
+        operand = rw e refl;
+      }
 
   -- of a product of a
   abbrev ProductFits : Node → List Tagged → Type 0
@@ -239,7 +215,7 @@ module _ (n m : ℕ) (each : (text : List Tagged) (e : Node) → Unary n text e 
 
   product_turn_fits : (a b : Node) (s t : List Tagged) → ProductFits a s → product_more (Unary n) a t b → ProductFits b (s ++ t)
   product_turn_fits a b s t fits p =
-      let o = operand_printed p.first.token p.value p.first.means a b p.back p.second in
+      let o = operand_printed p.first.token p.value (means_factor p.first.token p.value p.first.means) a b p.back p.second in
       let turn : Printed (product_more (Unary m) a) b (p.first.token ∷ o.more) t = rechain p (means p.first) o.printed in
       let factor : Printed (product (Unary m)) b (expression_tokens b place.Product) (s ++ t) =
       relabel (sym o.factor) (one_more fits.factor turn) in
@@ -328,52 +304,64 @@ module _ (n : ℕ) (each : UnaryFits n) where
 
 -- ---- what opens a level
 
-module _ (U E V F : Rule Node) (unary : (text : List Tagged) (e : Node) → U text e → Printed V e (expression_tokens e place.Unary) text)
+module _ (U E V F : Rule Node) (unary_at : (text : List Tagged) (e : Node) → U text e → Printed V e (expression_tokens e place.Unary) text)
     (inner : (text : List Tagged) (e : Node) → E text e → Printed F e (expression_tokens e place.Sum) text) where
   negation_printed : (p : Place) (text : List Tagged) (e : Node) → negation U text e → Printed (negation V) e (expression_tokens e p) text
   negation_printed p text e p1 =
       let p2 = p1.second in
-      relabel
-      (ap (λ (l : List Token). c.mark mark.Minus ++ l) (append-nil _) ∙ ap (λ (e : Node). expression_tokens e p) (sym p2.second.value))
-      (rechain p1 (takes p1.first) (rechain p2 (unary p2.front p2.value p2.first) (gives p2.second)))
+      relabel (ap (λ (e : Node). expression_tokens e p) (sym p2.second.value))
+      (rechain p1 (takes p1.first) (reended p2 (unary_at p2.front p2.value p2.first)))
 
-  pair_printed : (w : Keyword) (op : BinaryOp) (p : Place)
-      → ((a b : Node)
-      → c.word w ⌢ c.mark mark.OpenRound ⌢ expression_tokens a place.Sum ⌢ c.mark mark.Comma ⌢ expression_tokens b place.Sum ⌢ c.mark
-      mark.CloseRound ≡ expression_tokens (binary op a b) p)
-      → (text : List Tagged) (e : Node) → pair w op E text e → Printed (pair w op F) e (expression_tokens e p) text
-  pair_printed w op p tokens text e p1 =
+  -- the operands of an operator that this word calls
+  record Arguments (w : Keyword) (op : Call) (e : Node) (text : List Tagged) : Type 0 where
+    operands : List Token
+    printed : Printed (arguments F op) e operands text
+    whole : (p : Place) → c.word w ++ grouped operands ≡ expression_tokens e p
+
+  arguments_printed : (w : Keyword) (op : Call) → IsWordOf w op → (text : List Tagged) (e : Node) → arguments E op text e
+      → Arguments w op e text
+  arguments_printed w (calls.Unary op) is text e p1 =
+      record {
+        operands = expression_tokens p1.value place.Sum;
+        printed = reended p1 (inner p1.front p1.value p1.first);
+        whole = λ p. rw (p1.second.value, is) refl;
+      }
+  arguments_printed w (calls.Binary op) is text e p1 =
+      let p2 = p1.second in
+      let p3 = p2.second in
+      record {
+        operands = expression_tokens p1.value place.Sum ++ (c.mark mark.Comma ++ expression_tokens p3.value place.Sum);
+        printed =
+            rechain p1 (inner p1.front p1.value p1.first)
+            (rechain p2 (takes p2.first) (reended p3 (inner p3.front p3.value p3.first)));
+        whole = λ p. rw (p3.second.value, is) refl;
+      }
+  arguments_printed w (calls.Ternary op) is text e p1 =
       let p2 = p1.second in
       let p3 = p2.second in
       let p4 = p3.second in
       let p5 = p4.second in
-      let p6 = p5.second in
-      relabel (tokens p3.value p5.value ∙ ap (λ (e : Node). expression_tokens e p) (sym p6.second.value))
-      (rechain p1 (takes p1.first) (rechain p2 (takes p2.first) (rechain p3 (inner p3.front p3.value p3.first) (rechain p4 (takes p4.first)
-      (rechain p5 (inner p5.front p5.value p5.first) (rechain p6 (takes p6.first) (gives p6.second)))))))
+      record {
+        operands =
+            expression_tokens p1.value place.Sum
+            ++ (c.mark mark.Comma ++ (expression_tokens p3.value place.Sum ++ (c.mark mark.Comma ++ expression_tokens p5.value place.Sum)));
+        printed =
+            rechain p1 (inner p1.front p1.value p1.first)
+            (rechain p2 (takes p2.first) (rechain p3 (inner p3.front p3.value p3.first)
+            (rechain p4 (takes p4.first) (reended p5 (inner p5.front p5.value p5.first)))));
+        whole = λ p. rw (p5.second.value, is) refl;
+      }
 
-  absolute_printed : (p : Place) (text : List Tagged) (e : Node) → absolute E text e → Printed (absolute F) e (expression_tokens e p) text
-  absolute_printed p text e p1 =
+  called_printed : (p : Place) (text : List Tagged) (e : Node) → called E text e → Printed (called F) e (expression_tokens e p) text
+  called_printed p text e p1 =
       let p2 = p1.second in
       let p3 = p2.second in
       let p4 = p3.second in
-      relabel (ap (λ (e : Node). expression_tokens e p) (sym p4.second.value))
-      (rechain p1 (takes p1.first)
-      (rechain p2 (takes p2.first) (rechain p3 (inner p3.front p3.value p3.first) (rechain p4 (takes p4.first) (gives p4.second)))))
-
-  clamped_printed : (p : Place) (text : List Tagged) (e : Node) → clamped E text e → Printed (clamped F) e (expression_tokens e p) text
-  clamped_printed p text e p1 =
-      let p2 = p1.second in
-      let p3 = p2.second in
-      let p4 = p3.second in
-      let p5 = p4.second in
-      let p6 = p5.second in
-      let p7 = p6.second in
-      let p8 = p7.second in
-      relabel (ap (λ (e : Node). expression_tokens e p) (sym p8.second.value))
-      (rechain p1 (takes p1.first) (rechain p2 (takes p2.first) (rechain p3 (inner p3.front p3.value p3.first) (rechain p4 (takes p4.first)
-      (rechain p5 (inner p5.front p5.value p5.first)
-      (rechain p6 (takes p6.first) (rechain p7 (inner p7.front p7.value p7.first) (rechain p8 (takes p8.first) (gives p8.second)))))))))
+      let by = means_call p1.first.token p1.value p1.first.means in
+      let a = arguments_printed by.word p1.value by.word_is p3.front p3.value p3.first in
+      relabel (a.whole p ∙ ap (λ (e : Node). expression_tokens e p) (sym p4.second.value))
+      (rechain p1 (relabel (ap (λ (t : Token). t ∷ []) by.token_is) (means p1.first))
+      (rechain p2 (takes p2.first) (rechain p3 a.printed (rechain p4 (takes p4.first) (gives p4.second)))))
 
   selected_printed : (p : Place) (text : List Tagged) (e : Node) → selected E text e → Printed (selected F) e (expression_tokens e p) text
   selected_printed p text e p1 =
@@ -436,21 +424,11 @@ module _ (n : ℕ) (each : UnaryFits n) (m : ℕ) (low : n ≤ m) where
 
   opened_fits : (text : List Tagged) (e : Node) → opened (Unary n) (sums (product (Unary n))) text e → Everywhere (Unary (suc m)) e text
   unfolding Unary
-  opened_fits text e (inl (inl (inl (inl (inl (inl h)))))) =
-      same_places (Unary (suc m)) e text (λ p. becomes (λ t k. inl (inr (inl (inl (inl (inl (inl (inl k))))))))
+  opened_fits text e (inl (inl (inl h))) = same_places (Unary (suc m)) e text (λ p. becomes (λ t k. inl (inr (inl (inl (inl k)))))
       (negation_printed (Unary n) (sums (product (Unary n))) (Unary m) (sums (product (Unary m))) operand_at inner_at p text e h))
-  opened_fits text e (inl (inl (inl (inl (inl (inr h)))))) = group_fits text e h
-  opened_fits text e (inl (inl (inl (inl (inr h))))) =
-      same_places (Unary (suc m)) e text (λ p. becomes (λ t k. inl (inr (inl (inl (inl (inl (inr k)))))))
-      (pair_printed (Unary n) (sums (product (Unary n))) (Unary m) (sums (product (Unary m))) operand_at inner_at word.Min Min p
-      (λ a b. refl) text e h))
-  opened_fits text e (inl (inl (inl (inr h)))) = same_places (Unary (suc m)) e text (λ p. becomes (λ t k. inl (inr (inl (inl (inl (inr k))))))
-      (pair_printed (Unary n) (sums (product (Unary n))) (Unary m) (sums (product (Unary m))) operand_at inner_at word.Max Max p
-      (λ a b. refl) text e h))
-  opened_fits text e (inl (inl (inr h))) = same_places (Unary (suc m)) e text (λ p. becomes (λ t k. inl (inr (inl (inl (inr k)))))
-      (absolute_printed (Unary n) (sums (product (Unary n))) (Unary m) (sums (product (Unary m))) operand_at inner_at p text e h))
+  opened_fits text e (inl (inl (inr h))) = group_fits text e h
   opened_fits text e (inl (inr h)) = same_places (Unary (suc m)) e text (λ p. becomes (λ t k. inl (inr (inl (inr k))))
-      (clamped_printed (Unary n) (sums (product (Unary n))) (Unary m) (sums (product (Unary m))) operand_at inner_at p text e h))
+      (called_printed (Unary n) (sums (product (Unary n))) (Unary m) (sums (product (Unary m))) operand_at inner_at p text e h))
   opened_fits text e (inr h) = same_places (Unary (suc m)) e text (λ p. becomes (λ t k. inl (inr (inr k)))
       (selected_printed (Unary n) (sums (product (Unary n))) (Unary m) (sums (product (Unary m))) operand_at inner_at p text e h))
 

@@ -177,6 +177,13 @@ skip_back {text = text} p a h = record {
       (subst (λ (l : List Tagged). Shortens (a.tagged ++ []) l) (sym p.parts) (Shortens-append a.tagged p.front [] p.back a.shorter h));
 }
 
+-- a rule at its end, where another rule reads what the value is made of
+pub reended : {X Y : Type 0} {R R' : Rule X} {f : X → Y} {text : List Tagged} {y : Y} {c : List Token}
+    (p : Then R (λ v. Gives (f v)) text y) → Printed R' p.value c p.front → Printed (Then R' (λ v. Gives (f v))) y c text
+reended {R' = R'} {f = f} {text = text} {c = c} p a =
+    subst (λ y. Printed (Then R' (λ v. Gives (f v))) y c text) (sym p.second.value)
+    (ended f (skip_back p a (gives_dropped p.second)))
+
 -- ---- turns that put more behind a list
 
 -- a text of the rule, which puts some elements behind the list

@@ -1,15 +1,22 @@
 -- The canonical tokens of what one token means.
-use Rattle.std.proofs.Common.{◌≡◌, ℕ, Bool, true, false, List, [], ◌∷◌, Option, Some, refl, sym, ap, subst, inl, inr}
+use Rattle.std.proofs.Common.{◌≡◌, ℕ, Bool, true, false, List, [], ◌∷◌, Option, Some, refl, sym, ap, subst, inl, inr, arith}
 use Rattle.pipe_tokens.specs.declared.token.Token.{Token}
 use Rattle.pipe_tokens.specs.declared.token.Token.TheVariants as token
 use Rattle.pipe_tokens.specs.declared.token.Punct.TheVariants as mark
+use Rattle.pipe_tokens.specs.declared.token.Keyword.{Keyword}
 use Rattle.pipe_tokens.specs.declared.token.Keyword.TheVariants as word
-use Rattle.domains.specs.declared.operators.Relation.{Relation}
-use Rattle.domains.specs.declared.operators.Fold.{Fold}
+use Rattle.operators.specs.declared.operator.Relation.{Relation}
+use Rattle.operators.specs.declared.operator.Fold.{Fold}
 use Rattle.pipe_tree.specs.Limits.{Tagged, plain}
-use Rattle.pipe_tree.specs.Operators.{name_at, sign_at, relation_at, fold_at}
+use Rattle.pipe_tree.specs.declared.ahead.Call.{Call}
+use Rattle.pipe_tree.specs.declared.ahead.Call.TheVariants as calls
+use Rattle.pipe_tree.specs.declared.ahead.Factor.{Factor}
+use Rattle.pipe_tree.specs.declared.ahead.Factor.TheVariants as factors
+use Rattle.pipe_tree.specs.Operators.{name_at, sign_at, factor_at, call_at, relation_at, fold_at}
 use Rattle.pipe_tree.specs.Grammar as g
 use Rattle.pipe_tree.specs.Grammar.{Rule, Takes, Means, Some_of}
+use Rattle.pipe_print.specs.declared.forms.UnaryForm.TheVariants as unary_forms
+use Rattle.pipe_print.specs.declared.forms.BinaryForm.TheVariants as binary_forms
 use Rattle.pipe_print.specs.Canonical as c
 use Rattle.pipe_print.proofs.Printed.{Shortens, Shortens-refl, nothing, leaves_out}
 use Rattle.pipe_print.proofs.Printed.{puts_zero, Printed, Drops, becomes, relabel, takes, takes_dropped}
@@ -47,6 +54,32 @@ means_fold (token.Keyword word.Sum) f e = ap (λ (f : Fold). c.word (c.fold_word
 means_fold (token.Keyword word.Min) f e = ap (λ (f : Fold). c.word (c.fold_word f)) (some_is e)
 means_fold (token.Keyword word.Max) f e = ap (λ (f : Fold). c.word (c.fold_word f)) (some_is e)
 means_fold _ f e = absurd cc
+
+-- the token of an operator of a product
+abbrev pub IsTokenOf : Token → Factor → Type 0
+IsTokenOf t factors.Times = t ≡ token.Punct mark.Star
+IsTokenOf t (factors.Literal op) = t ≡ token.Punct (c.literal_mark op)
+
+pub means_factor : (t : Token) (f : Factor) → factor_at (Some t) ≡ Some f → IsTokenOf t f
+means_factor t f e = grind arith
+
+-- the word by which an operator is called
+abbrev pub IsWordOf : Keyword → Call → Type 0
+IsWordOf w (calls.Unary op) = c.unary_form op ≡ unary_forms.Call w
+IsWordOf w (calls.Binary op) = c.binary_form op ≡ binary_forms.Call w
+IsWordOf w (calls.Ternary op) = c.ternary_word op ≡ w
+
+pub record CalledBy (t : Token) (op : Call) : Type 0 where
+  pub word : Keyword
+  pub token_is : t ≡ token.Keyword word
+  pub word_is : IsWordOf word op
+
+call_of_word : (w : Keyword) (op : Call) → call_at (Some (token.Keyword w)) ≡ Some op → IsWordOf w op
+call_of_word w op e = grind arith
+
+pub means_call : (t : Token) (op : Call) → call_at (Some t) ≡ Some op → CalledBy t op
+means_call (token.Keyword w) op e = record { word = w; token_is = refl; word_is = call_of_word w op e }
+means_call _ op e = absurd cc
 
 pub name_printed : {role : _} {text : List Tagged} {x : List ℕ} → g.name role text x → Printed (g.name role) x (c.name x) text
 name_printed {x = x} p = relabel (means_name p.token x p.means) (means p)

@@ -1,5 +1,5 @@
--- The canonical text of a tree: its tokens in the fewest bytes. No factor of 1 before a name, no addend of 0 and no
--- divisor of 1 is among them, and no parenthesis that the grammar does not need.
+-- The canonical text of a tree: its tokens in the fewest bytes. It has no factor of 1 before a name, no addend of 0, no divisor
+-- of 1, and no parenthesis that the grammar does not need.
 use Rattle.std.specs.Prelude.{ℕ, zero, suc, ℤ, pos, negsuc, Bool, true, false}
 use Rattle.std.specs.Prelude.{not, ◌&&◌, ◌==◌, List, [], ◌∷◌, ◌++◌, Option, Some, None, if◌then◌else◌}
 use Rattle.std.specs.List.{flat_map}
@@ -16,13 +16,18 @@ use Rattle.pipe_tree.specs.declared.tree.Term.{Term}
 use Rattle.pipe_tree.specs.declared.tree.Test.{Test}
 use Rattle.pipe_tree.specs.declared.tree.Test.TheVariants.{Compare, Remainder}
 use Rattle.pipe_tree.specs.declared.tree.Index.{Index}
-use Rattle.domains.specs.declared.operators.BinaryOp.TheVariants.{Add, Sub, Mul, Min, Max}
-use Rattle.domains.specs.declared.operators.LiteralOp.{LiteralOp}
-use Rattle.domains.specs.declared.operators.LiteralOp.TheVariants.{Div, Rem, Shl, Shr}
-use Rattle.domains.specs.declared.operators.Relation.{Relation}
-use Rattle.domains.specs.declared.operators.Relation.TheVariants as relations
-use Rattle.domains.specs.declared.operators.Fold.{Fold}
-use Rattle.domains.specs.declared.operators.Fold.TheVariants as folds
+use Rattle.operators.specs.declared.operator.UnaryOp.{UnaryOp}
+use Rattle.operators.specs.declared.operator.UnaryOp.TheVariants.{Neg, Abs}
+use Rattle.operators.specs.declared.operator.BinaryOp.{BinaryOp}
+use Rattle.operators.specs.declared.operator.BinaryOp.TheVariants.{Add, Sub, Mul, Min, Max}
+use Rattle.operators.specs.declared.operator.TernaryOp.{TernaryOp}
+use Rattle.operators.specs.declared.operator.TernaryOp.TheVariants.{Clamp}
+use Rattle.operators.specs.declared.operator.LiteralOp.{LiteralOp}
+use Rattle.operators.specs.declared.operator.LiteralOp.TheVariants.{Div, Rem, Shl, Shr}
+use Rattle.operators.specs.declared.operator.Relation.{Relation}
+use Rattle.operators.specs.declared.operator.Relation.TheVariants as relations
+use Rattle.operators.specs.declared.operator.Fold.{Fold}
+use Rattle.operators.specs.declared.operator.Fold.TheVariants as folds
 use Rattle.pipe_tree.specs.declared.tree.AffineSpan.{AffineSpan}
 use Rattle.pipe_tree.specs.declared.tree.Variable.{Variable}
 use Rattle.pipe_tree.specs.declared.tree.Names.{Names}
@@ -31,15 +36,19 @@ use Rattle.pipe_tree.specs.declared.tree.Param.{Param}
 use Rattle.pipe_tree.specs.declared.tree.Image.{Image}
 use Rattle.pipe_tree.specs.declared.tree.Table.{Table}
 use Rattle.pipe_tree.specs.declared.tree.Output.{Output}
-use Rattle.pipe_tree.specs.Tree.{Node, number, variable, read, lookup, neg, binary, literal, abs, clamp, select, stencil, Branch}
+use Rattle.pipe_tree.specs.Tree.{Node, number, variable, read, lookup, unary, binary, ternary, literal, select, stencil, Branch}
 use Rattle.pipe_tree.specs.Tree.{Function, Accumulator, Declaration, param, image, table, function, accumulator, output}
+use Rattle.pipe_print.specs.declared.forms.UnaryForm.{UnaryForm}
+use Rattle.pipe_print.specs.declared.forms.UnaryForm.TheVariants as unary_forms
+use Rattle.pipe_print.specs.declared.forms.BinaryForm.{BinaryForm}
+use Rattle.pipe_print.specs.declared.forms.BinaryForm.TheVariants as binary_forms
 use Rattle.pipe_print.specs.declared.place.Place.{Place}
 use Rattle.pipe_print.specs.declared.place.Place.TheVariants as places
 
 -- ---- single tokens
 
 infixr 60 ◌⌢◌
--- tokens, and more tokens behind them
+-- tokens, and more tokens after them
 abbrev pub ◌⌢◌ : List Token → List Token → List Token
 front ⌢ back = front ++ back
 
@@ -76,7 +85,7 @@ bracketed tokens_of xs = mark OpenSquare ⌢ separated (mark Comma) tokens_of xs
 
 -- ---- affine sums
 
--- a name that is multiplied. A factor of 1 is left out
+-- a name that is multiplied. A factor of 1 is omitted
 abbrev pub scaled_tokens : ℕ → List ℕ → List Token
 scaled_tokens factor x = if factor == 1 then name x else (int factor ⌢ mark Star ⌢ name x)
 
@@ -88,7 +97,7 @@ product_tokens factor None = int factor
 abbrev pub term_tokens : Term → List Token
 term_tokens t = product_tokens t.factor t.name
 
--- a term behind others
+-- a term after others
 abbrev pub next_term_tokens : Term → List Token
 next_term_tokens t = sign_tokens t.negative ⌢ term_tokens t
 
@@ -114,13 +123,13 @@ grouped ts = mark OpenRound ⌢ ts ⌢ mark CloseRound
 abbrev pub grouped_if : Bool → List Token → List Token
 grouped_if b ts = if b then grouped ts else ts
 
--- an addend of 0 is left out
+-- an addend of 0 is omitted
 abbrev pub addend_tokens : ℤ → List Token
 addend_tokens (pos zero) = []
 addend_tokens (pos (suc n)) = mark Plus ⌢ int (suc n)
 addend_tokens (negsuc n) = mark Minus ⌢ int (suc n)
 
--- a divisor of 1 is left out
+-- a divisor of 1 is omitted
 abbrev pub divisor_tokens : ℕ → List Token
 divisor_tokens div = if div == 1 then [] else (mark Slash ⌢ int div)
 
@@ -128,7 +137,7 @@ abbrev pub is_zero : ℤ → Bool
 is_zero (pos zero) = true
 is_zero _ = false
 
--- parentheses stand exactly where something is added and the sum is divided
+-- there are parentheses exactly where something is added and the sum is divided
 abbrev pub index_tokens : Index → List Token
 index_tokens i =
     grouped_if (not (is_zero i.add) && not (i.div == 1)) (scaled_tokens i.mul i.name ⌢ addend_tokens i.add) ⌢ divisor_tokens i.div
@@ -150,7 +159,21 @@ abbrev pub stencil_tokens : List ℕ → ℕ → List (List ℤ) → List Token
 stencil_tokens x divisor kernel =
     word words.Stencil ⌢ mark OpenRound ⌢ name x ⌢ mark Comma ⌢ int divisor ⌢ mark Comma ⌢ kernel_tokens kernel ⌢ mark CloseRound
 
--- ---- expressions
+-- ---- operators
+
+abbrev pub unary_form : UnaryOp → UnaryForm
+unary_form Neg = unary_forms.Prefix Minus
+unary_form Abs = unary_forms.Call words.Abs
+
+abbrev pub binary_form : BinaryOp → BinaryForm
+binary_form Add = binary_forms.Sum Plus
+binary_form Sub = binary_forms.Sum Minus
+binary_form Mul = binary_forms.Product Star
+binary_form Min = binary_forms.Call words.Min
+binary_form Max = binary_forms.Call words.Max
+
+abbrev pub ternary_word : TernaryOp → Keyword
+ternary_word Clamp = words.Clamp
 
 abbrev pub literal_mark : LiteralOp → Punct
 literal_mark Div = Slash
@@ -163,8 +186,10 @@ relation_mark relations.AtMost = AtMost
 relation_mark relations.AtLeast = AtLeast
 relation_mark relations.Equals = Equals
 
--- An expression stands where the grammar takes any expression, no sum, or no sum and no product (`Place`). What it does
--- not take stands there in parentheses: a sum of two, and a product of two.
+-- ---- expressions
+
+-- The place of an expression accepts any expression, no sum, or no sum and no product (`Place`). What it does not accept is put
+-- in parentheses: a sum of two, and a product of two.
 abbrev pub sum_in : Place → List Token → List Token
 sum_in places.Sum ts = ts
 sum_in places.Product ts = grouped ts
@@ -175,26 +200,27 @@ product_in places.Sum ts = ts
 product_in places.Product ts = ts
 product_in places.Unary ts = grouped ts
 
--- `min` or `max` of two
-abbrev pub pair_tokens : Keyword → List Token → List Token → List Token
-pair_tokens w a b = word w ⌢ mark OpenRound ⌢ a ⌢ mark Comma ⌢ b ⌢ mark CloseRound
+-- an operator and its operands, by its form. The tokens of an operand depend on its place
+abbrev pub unary_tokens : UnaryForm → (Place → List Token) → List Token
+unary_tokens (unary_forms.Prefix m) a = mark m ⌢ a places.Unary
+unary_tokens (unary_forms.Call w) a = word w ⌢ grouped (a places.Sum)
+
+abbrev pub binary_tokens : BinaryForm → (Place → List Token) → (Place → List Token) → Place → List Token
+binary_tokens (binary_forms.Sum m) a b p = sum_in p (a places.Sum ⌢ mark m ⌢ b places.Product)
+binary_tokens (binary_forms.Product m) a b p = product_in p (a places.Product ⌢ mark m ⌢ b places.Unary)
+binary_tokens (binary_forms.Call w) a b p = word w ⌢ grouped (a places.Sum ⌢ mark Comma ⌢ b places.Sum)
 
 abbrev pub expression_tokens : Node → Place → List Token
 expression_tokens (number n) p = int n
 expression_tokens (variable x) p = name x
 expression_tokens (read x row column) p = read_tokens x row column
 expression_tokens (lookup x a) p = name x ⌢ mark OpenSquare ⌢ expression_tokens a places.Sum ⌢ mark CloseSquare
-expression_tokens (neg a) p = mark Minus ⌢ expression_tokens a places.Unary
-expression_tokens (binary Add a b) p = sum_in p (expression_tokens a places.Sum ⌢ mark Plus ⌢ expression_tokens b places.Product)
-expression_tokens (binary Sub a b) p = sum_in p (expression_tokens a places.Sum ⌢ mark Minus ⌢ expression_tokens b places.Product)
-expression_tokens (binary Mul a b) p = product_in p (expression_tokens a places.Product ⌢ mark Star ⌢ expression_tokens b places.Unary)
-expression_tokens (binary Min a b) p = pair_tokens words.Min (expression_tokens a places.Sum) (expression_tokens b places.Sum)
-expression_tokens (binary Max a b) p = pair_tokens words.Max (expression_tokens a places.Sum) (expression_tokens b places.Sum)
+expression_tokens (unary op a) p = unary_tokens (unary_form op) (expression_tokens a)
+expression_tokens (binary op a b) p = binary_tokens (binary_form op) (expression_tokens a) (expression_tokens b) p
+expression_tokens (ternary op a b c) p =
+    word (ternary_word op) ⌢ grouped (expression_tokens a places.Sum ⌢ mark Comma ⌢ expression_tokens b places.Sum ⌢ mark Comma ⌢
+    expression_tokens c places.Sum)
 expression_tokens (literal op a n) p = product_in p (expression_tokens a places.Product ⌢ mark (literal_mark op) ⌢ int n)
-expression_tokens (abs a) p = word words.Abs ⌢ grouped (expression_tokens a places.Sum)
-expression_tokens (clamp a low high) p =
-    word words.Clamp ⌢ mark OpenRound ⌢ expression_tokens a places.Sum ⌢ mark Comma ⌢ expression_tokens low places.Sum ⌢ mark Comma ⌢
-    expression_tokens high places.Sum ⌢ mark CloseRound
 expression_tokens (select a relation b held other) p =
     word words.Select ⌢ mark OpenRound ⌢ expression_tokens a places.Sum ⌢ mark (relation_mark relation) ⌢ expression_tokens b places.Sum
     ⌢ mark Comma ⌢ expression_tokens held places.Sum ⌢ mark Comma ⌢ expression_tokens other places.Sum ⌢ mark CloseRound
@@ -247,7 +273,7 @@ function_tokens f =
     word words.Func ⌢ name f.name ⌢ variables_tokens f.row f.column ⌢ mark OpenCurly ⌢ flat_map case_tokens f.cases ⌢ otherwise_tokens
     f.otherwise ⌢ mark CloseCurly
 
--- what a point gives to its bin, and which bin that is
+-- the value that a point adds to its bin, and the bin
 abbrev pub update_tokens : Accumulator → List Token
 update_tokens a =
     word (fold_word a.fold) ⌢ expression_tokens a.value places.Sum ⌢ word words.At ⌢ expression_tokens a.bin places.Sum ⌢ mark Semicolon

@@ -1,4 +1,4 @@
--- Texts with so many levels and so many nodes.
+-- Texts with limits on levels and counts.
 use Rattle.std.specs.Prelude.{◌≡◌, ℕ, List, Some}
 use Rattle.pipe_tokens.specs.declared.token.Token.{Token}
 use Rattle.pipe_tokens.specs.Cutting.{CutsInto}
@@ -6,8 +6,8 @@ use Rattle.pipe_tree.specs.Limits.{CountsSoFar, Tagged, untagged, counted_all, n
 use Rattle.pipe_tree.specs.Grammar.{Program}
 use Rattle.pipe_tree.specs.Tree.{Declaration}
 
--- the bytes are a text of the tree in which at most so many levels are open at once, and in which there are so many
--- nodes, stages, parameters and tables
+-- the bytes are a text of the tree in which at most `levels` levels are open at once. The text has `counts` nodes, stages,
+-- parameters and tables
 pub record IsTextWithin (levels : ℕ) (counts : CountsSoFar) (bytes : List ℕ) (tree : List Declaration) : Type 0 where
   pub tokens : List Token
   pub starts : List ℕ

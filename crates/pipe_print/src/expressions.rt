@@ -2,13 +2,16 @@
 //! Expressions, with parentheses only where the grammar needs them.
 
 ghost use Rattle.std.specs.Prelude.{◌≡◌, ◌++◌, OnOk};
-ghost use Rattle.pipe_tree.specs.Tree.{view, binary};
-ghost use Rattle.pipe_print.specs.Canonical.{mark as mark_tokens, ◌⌢◌, grouped_if, literal_mark, relation_mark, pair_tokens};
-ghost use Rattle.pipe_print.specs.Canonical.{expression_tokens};
+ghost use Rattle.pipe_tree.specs.Tree.{view, unary, binary};
+ghost use Rattle.pipe_print.specs.Canonical.{mark as mark_tokens, ◌⌢◌, grouped_if, relation_mark, expression_tokens};
 
+use crate::forms::{
+    BinaryForm, UnaryForm, form_of_binary, form_of_unary, mark_of_literal, mark_of_relation,
+    word_of_ternary,
+};
 use crate::place::Place;
 use crate::printer::Printer;
-use domains::{BinaryOp, LiteralOp, Relation};
+use operators::{BinaryOp, Relation, UnaryOp};
 use pipe_tokens::{Keyword, Punct};
 use pipe_tree::Expr;
 use std::alloc::AllocError;
@@ -19,42 +22,20 @@ fn is_grouped(e: &Expr, place: Place) -> bool
         ≡ grouped_if result (expression_tokens (view e.now) Place.Sum) }
 {
     match e {
-        Expr::Binary(op, ..) => match op {
-            BinaryOp::Add | BinaryOp::Sub => place.groups_sums(),
-            BinaryOp::Mul => place.groups_products(),
-            BinaryOp::Min | BinaryOp::Max => false,
+        Expr::Binary(op, ..) => match form_of_binary(*op) {
+            BinaryForm::Sum(_) => place.groups_sums(),
+            BinaryForm::Product(_) => place.groups_products(),
+            BinaryForm::Call(_) => false,
         },
         Expr::Literal(..) => place.groups_products(),
         Expr::Number(_)
         | Expr::Name(_)
         | Expr::Read(..)
         | Expr::Lookup(..)
-        | Expr::Neg(_)
-        | Expr::Abs(_)
-        | Expr::Clamp(..)
+        | Expr::Unary(..)
+        | Expr::Ternary(..)
         | Expr::Select(..)
         | Expr::Stencil(..) => false,
-    }
-}
-
-fn mark_of_literal(op: LiteralOp) -> Punct
-    ensures { result ≡ literal_mark op }
-{
-    match op {
-        LiteralOp::Div => Punct::Slash,
-        LiteralOp::Rem => Punct::Percent,
-        LiteralOp::Shl => Punct::ShiftLeft,
-        LiteralOp::Shr => Punct::ShiftRight,
-    }
-}
-
-fn mark_of_relation(relation: Relation) -> Punct
-    ensures { result ≡ relation_mark relation }
-{
-    match relation {
-        Relation::AtMost => Punct::AtMost,
-        Relation::AtLeast => Punct::AtLeast,
-        Relation::Equals => Punct::Equals,
     }
 }
 
@@ -79,7 +60,7 @@ impl Printer {
         }
     }
 
-    // A mark, and an expression behind it.
+    // A mark, and an expression after it.
     #[cycle(expression)]
     fn behind(&mut self, mark: Punct, e: &Expr, place: Place) -> Result<(), AllocError>
         ensures { OnOk result
@@ -104,24 +85,19 @@ impl Printer {
                 self.mark(Punct::CloseSquare)
             }
             Expr::Stencil(name, divisor, kernel) => self.stencil(name, *divisor, kernel),
-            Expr::Neg(a) => self.behind(Punct::Minus, a, Place::Unary),
+            Expr::Unary(op, a) => self.unary(*op, a),
             Expr::Binary(op, a, b) => self.binary(*op, a, b),
+            Expr::Ternary(op, a, b, c) => {
+                self.word(word_of_ternary(*op))?;
+                self.behind(Punct::OpenRound, a, Place::Sum)?;
+                self.behind(Punct::Comma, b, Place::Sum)?;
+                self.behind(Punct::Comma, c, Place::Sum)?;
+                self.mark(Punct::CloseRound)
+            }
             Expr::Literal(op, a, number) => {
                 self.expression(a, Place::Product)?;
                 self.mark(mark_of_literal(*op))?;
                 self.int(*number)
-            }
-            Expr::Abs(a) => {
-                self.word(Keyword::Abs)?;
-                self.behind(Punct::OpenRound, a, Place::Sum)?;
-                self.mark(Punct::CloseRound)
-            }
-            Expr::Clamp(a, least, greatest) => {
-                self.word(Keyword::Clamp)?;
-                self.behind(Punct::OpenRound, a, Place::Sum)?;
-                self.behind(Punct::Comma, least, Place::Sum)?;
-                self.behind(Punct::Comma, greatest, Place::Sum)?;
-                self.mark(Punct::CloseRound)
             }
             Expr::Select(a, relation, b, then, otherwise) => {
                 self.word(Keyword::Select)?;
@@ -135,39 +111,40 @@ impl Printer {
     }
 
     #[cycle(expression)]
+    fn unary(&mut self, op: UnaryOp, a: &Expr) -> Result<(), AllocError>
+        ensures { OnOk result
+            (self.new ≡ self.old ++ expression_tokens (unary op (view a.now)) Place.Sum) }
+    {
+        match form_of_unary(op) {
+            UnaryForm::Prefix(mark) => self.behind(mark, a, Place::Unary),
+            UnaryForm::Call(word) => {
+                self.word(word)?;
+                self.behind(Punct::OpenRound, a, Place::Sum)?;
+                self.mark(Punct::CloseRound)
+            }
+        }
+    }
+
+    #[cycle(expression)]
     fn binary(&mut self, op: BinaryOp, a: &Expr, b: &Expr) -> Result<(), AllocError>
         ensures { OnOk result (self.new
             ≡ self.old ++ expression_tokens (binary op (view a.now) (view b.now)) Place.Sum) }
     {
-        match op {
-            BinaryOp::Add => {
+        match form_of_binary(op) {
+            BinaryForm::Sum(mark) => {
                 self.expression(a, Place::Sum)?;
-                self.behind(Punct::Plus, b, Place::Product)
+                self.behind(mark, b, Place::Product)
             }
-            BinaryOp::Sub => {
-                self.expression(a, Place::Sum)?;
-                self.behind(Punct::Minus, b, Place::Product)
-            }
-            BinaryOp::Mul => {
+            BinaryForm::Product(mark) => {
                 self.expression(a, Place::Product)?;
-                self.behind(Punct::Star, b, Place::Unary)
+                self.behind(mark, b, Place::Unary)
             }
-            BinaryOp::Min => self.pair(Keyword::Min, a, b),
-            BinaryOp::Max => self.pair(Keyword::Max, a, b),
+            BinaryForm::Call(word) => {
+                self.word(word)?;
+                self.behind(Punct::OpenRound, a, Place::Sum)?;
+                self.behind(Punct::Comma, b, Place::Sum)?;
+                self.mark(Punct::CloseRound)
+            }
         }
-    }
-
-    // `min` or `max` of two.
-    #[cycle(expression)]
-    fn pair(&mut self, word: Keyword, a: &Expr, b: &Expr) -> Result<(), AllocError>
-        ensures { OnOk result (self.new
-            ≡ self.old
-            ++ pair_tokens word (expression_tokens (view a.now) Place.Sum)
-            (expression_tokens (view b.now) Place.Sum)) }
-    {
-        self.word(word)?;
-        self.behind(Punct::OpenRound, a, Place::Sum)?;
-        self.behind(Punct::Comma, b, Place::Sum)?;
-        self.mark(Punct::CloseRound)
     }
 }

@@ -12,7 +12,7 @@ ghost use Rattle.pipe_print.specs.Canonical.{update_tokens, accumulator_tokens, 
 use crate::lists::Entry;
 use crate::place::Place;
 use crate::printer::Printer;
-use domains::Fold;
+use operators::Fold;
 use pipe_tokens::{Keyword, Punct, Token};
 use pipe_tree::{
     Accum, Case, Condition, Expr, Func, Image, Item, Names, Output, Param, Table, Test, Variable,
@@ -138,7 +138,7 @@ impl Printer {
         self.mark(Punct::CloseCurly)
     }
 
-    // What a point gives to its bin, and which bin that is.
+    // The value that a point adds to its bin, and the bin.
     fn update(&mut self, accum: &Accum) -> Result<(), AllocError>
         ensures { OnOk result (self.new ≡ self.old ++ update_tokens (accumulator_of accum.now)) }
     {

@@ -10,8 +10,8 @@ ghost use Rattle.pipe_tree.specs.Tree.{Declaration};
 ghost use Rattle.pipe_print.specs.Canonical.{canonical_tokens, canonical};
 ghost use Rattle.pipe_print.specs.Within.{IsTextWithin};
 
-/// What a text says is said by its canonical text too, which keeps all limits that the text keeps. All texts of a tree
-/// have the canonical tokens in their order, with others between them, and none is shorter than the canonical text.
+/// If a tree has a text, its canonical text is one too, and keeps all limits that the text keeps. All texts of a tree contain the
+/// canonical tokens in their order, with others between them. None is shorter than the canonical text.
 pub fn canonical_text_is_least()
     ensures text { (bytes : List ℕ) (tree : List Declaration) → IsText bytes tree
         → IsText (canonical tree) tree }
@@ -19,13 +19,13 @@ pub fn canonical_text_is_least()
         → IsSubsequence (canonical_tokens tree) (tokens_of bytes) }
     ensures no_longer { (bytes : List ℕ) (tree : List Declaration) → IsText bytes tree
         → length (canonical tree) ≤ length bytes }
-    // It is no deeper, and has as many nodes.
+    // It is not deeper, and has as many nodes.
     ensures no_deeper { (levels : ℕ) (counts : CountsSoFar) (bytes : List ℕ) (tree : List Declaration)
         → IsTextWithin levels counts bytes tree → IsTextWithin levels counts (canonical tree) tree }
 {}
 
-/// The canonical text of a tree is a text of no other tree, so that two trees that have texts have one canonical text
-/// exactly where they are equal.
+/// The canonical text of a tree is a text of no other tree. So two trees that have texts have the same canonical text exactly
+/// where they are equal.
 pub fn canonical_text_is_of_one_tree()
     ensures alone { (bytes : List ℕ) (tree other : List Declaration) → IsText bytes tree
         → IsText (canonical tree) other → other ≡ tree }

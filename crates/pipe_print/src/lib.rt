@@ -1,9 +1,10 @@
-//! Texts of programs in their canonical form: of all texts of a tree this one has no token too many, no blank that
-//! could be left out and no parenthesis that the grammar does not need.
+//! Texts of programs in their canonical form: of all texts of a tree this one has the fewest tokens, no blank that could be
+//! omitted and no parenthesis that the grammar does not need.
 #![tactic(auto)]
 
 mod affines;
 mod expressions;
+mod forms;
 mod indices;
 mod items;
 pub mod laws;

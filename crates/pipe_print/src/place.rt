@@ -1,7 +1,7 @@
 #![tactic(auto)]
-//! Where an expression stands.
+//! The places of expressions.
 
-/// What the grammar takes where an expression stands. Whatever else stands there is put in parentheses.
+/// What the grammar accepts at the place of an expression. Any other expression is put in parentheses.
 #[derive(Clone, Copy)]
 pub(crate) enum Place {
     /// Any expression.

@@ -1,6 +1,6 @@
 #![tactic(auto)]
-//! The tokens that were printed so far, and how one more is put behind them. Each rule of the grammar is a method of
-//! `Printer` that prints what a parser reads by it.
+//! The tokens that were printed so far, and how one more is added after them. Each rule of the grammar is a method of `Printer`
+//! that prints what a parser reads by it.
 
 ghost use Rattle.std.specs.Prelude.{◌≡◌, [], ◌∷◌, ◌++◌, OnOk};
 ghost use Rattle.pipe_print.specs.Canonical.{sign_tokens, scaled_tokens};

@@ -1,5 +1,5 @@
 #![tactic(auto)]
-//! A tree to its text.
+//! From a tree to its text.
 
 ghost use Rattle.std.specs.Prelude.{◌≡◌, IfOk};
 ghost use Rattle.pipe_tree.specs.Content.{content};
@@ -10,9 +10,9 @@ use pipe_tokens::spell;
 use pipe_tree::Tree;
 use std::alloc::{AllocError, Global};
 
-/// The canonical text of a tree: its tokens, with one blank between two neighbours that both begin with a letter or a
-/// digit, and nothing else. Numbers have no leading zeros, and factors of 1 before a name, addends of 0 and divisors of
-/// 1 are left out, as are all parentheses that the grammar does not need.
+/// The canonical text of a tree: its tokens, with one blank between two neighbours that both begin with a letter or a digit, and
+/// nothing else. Numbers have no leading zeros. Factors of 1 before a name, addends of 0 and divisors of 1 are omitted, as are
+/// all parentheses that the grammar does not need.
 pub fn print(alloc: Global, tree: &Tree) -> Result<Vec<u8>, AllocError>
     ensures { IfOk result (λ text. text.items ≡ canonical (content tree.now)) }
 {

@@ -12,8 +12,8 @@ decreases-expression l = 5 * node_size 1 (view l.e.now) + 1
 abbrev pub decreases-behind : goal.decreases-behind
 decreases-behind l = 5 * node_size 1 (view l.e.now) + 2
 
-abbrev pub decreases-pair : goal.decreases-pair
-decreases-pair l = 5 * (node_size 1 (view l.a.now) + node_size 1 (view l.b.now)) + 3
+abbrev pub decreases-unary : goal.decreases-unary
+decreases-unary l = 5 * node_size 1 (view l.a.now) + 3
 
 abbrev pub decreases-binary : goal.decreases-binary
-decreases-binary l = 5 * (node_size 1 (view l.a.now) + node_size 1 (view l.b.now)) + 4
+decreases-binary l = 5 * (node_size 1 (view l.a.now) + node_size 1 (view l.b.now)) + 3
