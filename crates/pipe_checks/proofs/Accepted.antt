@@ -9,8 +9,8 @@ use Rattle.std.proofs.lemmas.Bool.Decides.{nat_tests}
 use Rattle.std.proofs.lemmas.Int.{ints}
 use Rattle.std.proofs.lemmas.List.Elements.{All-nil, All-cons, All-weaker}
 use Rattle.std.proofs.lemmas.List.Sums.{AllPass-from_list_all}
-use Rattle.domains.specs.declared.operators.LiteralOp.{LiteralOp}
-use Rattle.domains.specs.declared.operators.LiteralOp.TheVariants.{Div, Rem, Shl, Shr}
+use Rattle.operators.specs.declared.operator.LiteralOp.{LiteralOp}
+use Rattle.operators.specs.declared.operator.LiteralOp.TheVariants.{Div, Rem, Shl, Shr}
 use Rattle.pipe_tree.specs.declared.tree.Names.{Names}
 use Rattle.pipe_tree.specs.declared.tree.Names.TheVariants.{One, Three}
 use Rattle.pipe_tree.specs.declared.tree.Index.{Index}
@@ -90,11 +90,10 @@ IsSound names (tree.number n) = n ≤ greatest_number
 IsSound names (tree.variable x) = Unit {0}
 IsSound names (tree.read x i j) = IsNameOf IsReadableKind names x × IsSoundIndex i × IsSoundIndex j
 IsSound names (tree.lookup x a) = IsNameOf IsTableKind names x × IsSound names a
-IsSound names (tree.neg a) = IsSound names a
+IsSound names (tree.unary op a) = IsSound names a
 IsSound names (tree.binary op a b) = IsSound names a × IsSound names b
+IsSound names (tree.ternary op a b c) = IsSound names a × IsSound names b × IsSound names c
 IsSound names (tree.literal op a n) = IsSound names a × IsSoundLiteral op n
-IsSound names (tree.abs a) = IsSound names a
-IsSound names (tree.clamp a b c) = IsSound names a × IsSound names b × IsSound names c
 IsSound names (tree.select a r b c d) = IsSound names a × IsSound names b × IsSound names c × IsSound names d
 IsSound names (tree.stencil x d k) = IsNameOf IsReadableKind names x × IsWithin 1 greatest_number d × IsSoundKernel k
 
@@ -259,17 +258,16 @@ module _ (names : List Symbol) (locals : Locals) where
   sound (tree.lookup x a) h =
       let first = first_of names locals (name x expected.Table) (expr_places a) h in
       (table_name x first.0, sound a first.1)
-  sound (tree.neg a) h = sound a h
+  sound (tree.unary op a) h = sound a h
   sound (tree.binary op a b) h = let both = both_of (expr_places a) (expr_places b) h in (sound a both.0, sound b both.1)
+  sound (tree.ternary op a b c) h =
+      let first = both_of (expr_places a) (expr_places b ++ expr_places c) h in
+      let second = both_of (expr_places b) (expr_places c) first.1 in
+      (sound a first.0, sound b second.0, sound c second.1)
   sound (tree.literal op a n) h =
       let place = ranged n (least_literal op) (greatest_literal op) in
       let both = both_of (expr_places a) (place ∷ []) h in
       (sound a both.0, literal_ok op n (only_of place both.1))
-  sound (tree.abs a) h = sound a h
-  sound (tree.clamp a b c) h =
-      let first = both_of (expr_places a) (expr_places b ++ expr_places c) h in
-      let second = both_of (expr_places b) (expr_places c) first.1 in
-      (sound a first.0, sound b second.0, sound c second.1)
   sound (tree.select a r b c d) h =
       let first = both_of (expr_places a) (expr_places b ++ (expr_places c ++ expr_places d)) h in
       let second = both_of (expr_places b) (expr_places c ++ expr_places d) first.1 in

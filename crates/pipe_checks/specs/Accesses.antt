@@ -1,7 +1,7 @@
 -- The reads and stencils of expressions, and what each stage reads.
 use Rattle.std.specs.Prelude.{ℕ, ℤ, Bool, true, false, Option, Some, None, List, [], ◌∷◌, ◌++◌, map, length, slice_get}
 use Rattle.pipe_tree.specs.declared.tree.Index.{Index}
-use Rattle.pipe_tree.specs.Tree.{Node, number, variable, read, lookup, neg, binary, literal, abs, clamp, select, stencil, Branch}
+use Rattle.pipe_tree.specs.Tree.{Node, number, variable, read, lookup, unary, binary, ternary, literal, select, stencil, Branch}
 use Rattle.pipe_tree.specs.Tree.{Declaration, param, image, table, function, accumulator, output}
 use Rattle.pipe_checks.specs.declared.symbol.NameKind.{NameKind}
 use Rattle.pipe_checks.specs.declared.symbol.NameKind.TheVariants.{Param, Table, Plane, Func, Accum}
@@ -16,7 +16,7 @@ abbrev pub read_at : Option ℕ → Index → Index → List Access
 read_at None i j = []
 read_at (Some g) i j = Read g i j ∷ []
 
--- how long the first row of a kernel is
+-- the length of the first row of a kernel
 abbrev pub width_of : List (List ℤ) → ℕ
 width_of [] = 0
 width_of (row ∷ rows) = length row
@@ -32,11 +32,10 @@ accesses_of names (number n) = []
 accesses_of names (variable x) = []
 accesses_of names (read x i j) = read_at (number_of names x) i j
 accesses_of names (lookup x a) = accesses_of names a
-accesses_of names (neg a) = accesses_of names a
+accesses_of names (unary op a) = accesses_of names a
 accesses_of names (binary op a b) = accesses_of names a ++ accesses_of names b
+accesses_of names (ternary op a b c) = accesses_of names a ++ accesses_of names b ++ accesses_of names c
 accesses_of names (literal op a n) = accesses_of names a
-accesses_of names (abs a) = accesses_of names a
-accesses_of names (clamp a b c) = accesses_of names a ++ accesses_of names b ++ accesses_of names c
 accesses_of names (select a r b c d) = accesses_of names a ++ accesses_of names b ++ accesses_of names c ++ accesses_of names d
 accesses_of names (stencil x d k) = stencil_at (number_of names x) k
 
@@ -72,13 +71,13 @@ abbrev pub reads_of : List Symbol → Option Declaration → List ℕ
 reads_of names None = []
 reads_of names (Some d) = map stage_read (item_accesses names d)
 
--- what a stage reads
+-- the stages that a stage reads, and whether it is a plane
 abbrev pub links_of : List Declaration → List Symbol → Symbol → Links
 links_of ds names s = record { is_plane = is_plane s.kind; reads = reads_of names (slice_get ds s.item) }
 
 abbrev pub links_from : List Declaration → List Symbol → List Symbol → List Links
 links_from ds names stages = map (links_of ds names) stages
 
--- what each stage of a program reads
+-- the same for each stage of a program
 abbrev pub graph_of : List Declaration → List Links
 graph_of ds = links_from ds (stages_of ds) (stages_of ds)

@@ -4,7 +4,8 @@ use Rattle.pipe_tree.specs.declared.tree.Tree.{Tree}
 use Rattle.pipe_checks.specs.declared.symbol.Symbol.{Symbol}
 use Rattle.pipe_checks.specs.Links.{Links}
 
--- a program, its stages, parameters and tables in the order of the text, and by the numbers of stages what each reads, and its rank
+-- a program, its stages, parameters and tables in the order of the text, and by the numbers of stages what each reads, and its
+-- rank
 pub record CheckedProgram : Type 0 where
   pub tree : Tree
   pub stages : List Symbol
@@ -13,7 +14,7 @@ pub record CheckedProgram : Type 0 where
   pub graph : List Links
   pub ranks : List ℕ
 
--- a program with what is known of it
+-- a program with its lists
 abbrev pub with_lists : Tree → List Symbol → List Symbol → List Symbol → List Links → List ℕ → CheckedProgram
 with_lists tree stages params tables graph ranks =
     record { tree = tree; stages = stages; params = params; tables = tables; graph = graph; ranks = ranks }

@@ -17,7 +17,7 @@ use Rattle.pipe_checks.specs.Accesses.{graph_of}
 use Rattle.pipe_checks.specs.Twice.{locals_of, varies_again}
 use Rattle.pipe_checks.specs.Uses.{places_of, are_served, IsFirstUnserved}
 
--- ---- names that stand for two things
+-- ---- names that denote two things
 
 -- item n declares a name that was declared before
 pub record DeclaresAgain (names : List Symbol) (n : ℕ) : Type 0 where
@@ -33,30 +33,30 @@ IsTwice names n d = DeclaresAgain names n ⊎ IsTrue (varies_again names (locals
 abbrev pub NoneTwice : List Symbol → List Declaration → Type 0
 NoneTwice names ds = (k : ℕ) (d : Declaration) → slice_get ds k ≡ Some d → ¬ (IsTwice names k d)
 
--- item n is the first with a name that stands for two things
+-- item n is the first with a name that denotes two things
 pub record IsFirstTwice (names : List Symbol) (ds : List Declaration) (n : ℕ) : Type 0 where
   pub item : Declaration
   pub there : slice_get ds n ≡ Some item
   pub twice : IsTwice names n item
   pub first : (k : ℕ) (d : Declaration) → k < n → slice_get ds k ≡ Some d → ¬ (IsTwice names k d)
 
--- ---- places that do not get what they want
+-- ---- places that do not have what they require
 
--- each place of the item gets what it wants
+-- each place of the item has what it requires
 abbrev pub is_good : List Symbol → Declaration → Bool
 is_good names d = are_served names (locals_of d) (places_of d)
 
 abbrev pub AllGood : List Symbol → List Declaration → Type 0
 AllGood names ds = (k : ℕ) (d : Declaration) → slice_get ds k ≡ Some d → is_good names d ≡ true
 
--- item n is the first with a place that is not served, and this is wrong at its first
+-- item n is the first with a place that is not served, and this is the fault of its first such place
 pub record IsFirstWrong (names : List Symbol) (ds : List Declaration) (wrong : Violation) (n : ℕ) : Type 0 where
   pub item : Declaration
   pub there : slice_get ds n ≡ Some item
   pub is : IsFirstUnserved names (locals_of item) (places_of item) wrong
   pub first : (k : ℕ) (d : Declaration) → k < n → slice_get ds k ≡ Some d → is_good names d ≡ true
 
--- ---- the whole
+-- ---- the whole program
 
 abbrev pub is_result : Declaration → Bool
 is_result (param p) = false
@@ -66,12 +66,12 @@ is_result (function f) = false
 is_result (accumulator a) = true
 is_result (output o) = true
 
--- each name stands for what its place wants
+-- each name denotes what its place requires
 pub record IsNamed (ds : List Declaration) : Type 0 where
   pub once : NoneTwice (declared_names ds) ds
   pub good : AllGood (declared_names ds) ds
 
--- the first fault of a program, but for memory
+-- the first fault of a program, except for memory
 abbrev pub IsFault : List Declaration → CheckFault → Type 0
 IsFault ds (Twice n) = IsFirstTwice (declared_names ds) ds n
 IsFault ds (Unknown n) = NoneTwice (declared_names ds) ds × IsFirstWrong (declared_names ds) ds violation.Unknown n
@@ -87,7 +87,7 @@ abbrev pub reads_at : Option Links → Option (List ℕ)
 reads_at None = None
 reads_at (Some l) = Some l.reads
 
--- what `check` keeps of a program
+-- what `check` stores of a program
 abbrev pub tree_in : Checked → Tree
 tree_in c = c.tree
 
@@ -106,7 +106,7 @@ graph_in c = c.graph
 abbrev pub ranks_in : Checked → List ℕ
 ranks_in c = c.ranks
 
--- the names, ranks and reads of a program that means something
+-- the names, ranks and reads of a well-formed program
 pub record IsCheckedOf (tree : Tree) (c : Checked) : Type 0 where
   pub same : tree_in c ≡ tree
   pub named : IsNamed (content tree)

@@ -1,4 +1,4 @@
--- Which stages read which, the ranks of stages, and cycles of reads. Stages are known by their numbers.
+-- Which stages read which, the ranks of stages, and cycles of reads. Stages are identified by their numbers.
 use Rattle.std.specs.Prelude.{ℕ, zero, suc, ◌+◌, ◌-◌, ◌<◌, ◌≤◌, ◌≡◌, true, false, List, [], length, slice_index, slice_index_or, Contains}
 use Rattle.pipe_checks.specs.Links.{Links}
 
@@ -34,7 +34,7 @@ abbrev pub Way : List Links → ℕ → ℕ → ℕ → Type 0
 Way g zero s t = s ≡ t
 Way g (suc k) s t = (u : ℕ) × Reads g s u × Way g k u t
 
--- no stage leads back to itself
+-- no stage reads itself through any number of reads
 abbrev pub IsAcyclic : List Links → Type 0
 IsAcyclic g = (s k : ℕ) → Way g (suc k) s s → ⊥
 
@@ -52,7 +52,7 @@ pub record IsShortestFrom (g : List Links) (s : ℕ) (c : List ℕ) : Type 0 whe
   pub first : (d : List ℕ) → IsCycle g d → slice_index d 0 ≡ s → length d ≡ length c → (i : ℕ) → i < length c
       → ((k : ℕ) → k < i → slice_index d k ≡ slice_index c k) → slice_index c i ≤ slice_index d i
 
--- the first of the shortest cycles from the least stage that lies on any
+-- the first of the shortest cycles from the least stage that is on any
 pub record IsShortestCycle (g : List Links) (c : List ℕ) : Type 0 where
   pub from_start : IsShortestFrom g (slice_index c 0) c
   pub least : (d : List ℕ) → IsCycle g d → slice_index c 0 ≤ slice_index d 0

@@ -1,4 +1,4 @@
--- What is known of a stage.
+-- The reads of a stage.
 use Rattle.std.specs.Prelude.{ℕ, Bool, List}
 
 -- a stage: whether it is a plane of the picture, and the stages that it reads, by their numbers

@@ -24,7 +24,7 @@ item_names n (function f) = record { name = f.name; kind = Func; item = n } ∷ 
 item_names n (accumulator a) = record { name = a.name; kind = Accum; item = n } ∷ []
 item_names n (output o) = []
 
--- the names that items declare, of which the first has the number n
+-- the names that items declare, of which the first item has the number n
 abbrev pub names_from : ℕ → List Declaration → List Symbol
 names_from n [] = []
 names_from n (d ∷ ds) = item_names n d ++ names_from (n + 1) ds
@@ -46,7 +46,7 @@ is_table Plane = false
 is_table Func = false
 is_table Accum = false
 
--- what has a number at each point, or for each bin
+-- a declared thing that has a number at each point, or for each bin
 abbrev pub is_stage : NameKind → Bool
 is_stage Param = false
 is_stage Table = false
@@ -64,11 +64,11 @@ tables_of ds = filter (λ d. is_table d.kind) (declared_names ds)
 abbrev pub stages_of : List Declaration → List Symbol
 stages_of ds = filter (λ d. is_stage d.kind) (declared_names ds)
 
--- the number of the first of the names that is this one
+-- the number of the first of the names that equals this one
 abbrev pub number_of : List Symbol → List ℕ → Option ℕ
 number_of names x = position (λ d. bytes_eq d.name x) names
 
--- the first of the names that is this one
+-- the first of the names that equals this one
 abbrev pub place_of : List Symbol → Option ℕ → Option Symbol
 place_of names None = None
 place_of names (Some n) = slice_get names n

@@ -1,4 +1,4 @@
--- Names that stand for two things.
+-- Names that denote two things.
 use Rattle.std.specs.Prelude.{ℕ, Bool, false, ◌||◌, Option, Some, None, is_some, List}
 use Rattle.std.specs.Str.{bytes_eq}
 use Rattle.pipe_tree.specs.Tree.{Declaration, param, image, table, function, accumulator, output}
@@ -23,6 +23,6 @@ abbrev pub are_same : Option (List ℕ) → Option (List ℕ) → Bool
 are_same (Some x) (Some y) = bytes_eq x y
 are_same x y = false
 
--- a variable equals its fellow or a declared name
+-- a variable equals the other variable of its item or a declared name
 abbrev pub varies_again : List Symbol → Locals → Bool
 varies_again names locals = are_same locals.row locals.column || is_declared names locals.row || is_declared names locals.column

@@ -1,4 +1,4 @@
--- The places of an item in the order of the text, each with what it wants, and what is wrong where a place does not get it.
+-- The places of an item in the order of the text, each with what it requires, and the fault of a place that does not have it.
 use Rattle.std.specs.Prelude.{ℕ, ◌%◌, ◌≡◌, ℤ, pos, negsuc, int_le, Bool, true, false, ◌&&◌, ◌==◌, nat_le, nat_lt, if◌then◌else◌}
 use Rattle.std.specs.Prelude.{Option, Some, None, is_none, List, [], ◌∷◌, ◌++◌, length}
 use Rattle.std.specs.List.{list_all}
@@ -6,13 +6,13 @@ use Rattle.std.specs.Str.{bytes_eq}
 use Rattle.pipe_tree.specs.declared.tree.Term.{Term}
 use Rattle.pipe_tree.specs.declared.tree.Index.{Index}
 use Rattle.pipe_tree.specs.declared.tree.AffineSpan.{AffineSpan}
-use Rattle.domains.specs.declared.operators.LiteralOp.{LiteralOp}
-use Rattle.domains.specs.declared.operators.LiteralOp.TheVariants.{Div, Rem, Shl, Shr}
+use Rattle.operators.specs.declared.operator.LiteralOp.{LiteralOp}
+use Rattle.operators.specs.declared.operator.LiteralOp.TheVariants.{Div, Rem, Shl, Shr}
 use Rattle.pipe_tree.specs.declared.tree.Test.{Test}
 use Rattle.pipe_tree.specs.declared.tree.Test.TheVariants.{Compare, Remainder}
 use Rattle.pipe_tree.specs.declared.tree.Names.{Names}
 use Rattle.pipe_tree.specs.declared.tree.Names.TheVariants.{One, Three}
-use Rattle.pipe_tree.specs.Tree.{Node, number, variable, read, lookup, neg, binary, literal, abs, clamp, select, stencil, Branch}
+use Rattle.pipe_tree.specs.Tree.{Node, number, variable, read, lookup, unary, binary, ternary, literal, select, stencil, Branch}
 use Rattle.pipe_tree.specs.Tree.{Function, Accumulator, Declaration, param, image, table, function, accumulator, output}
 use Rattle.pipe_checks.specs.declared.symbol.NameKind.{NameKind}
 use Rattle.pipe_checks.specs.declared.symbol.NameKind.TheVariants as kind
@@ -29,7 +29,7 @@ use Rattle.pipe_checks.specs.Accesses.{width_of}
 
 -- ---- places
 
--- a place of an item, and what it wants
+-- a place of an item, and what it requires
 pub data Place : Type 0 where
   -- a name of one of these roles
   name : (x : List ℕ) (roles : Expected) → Place
@@ -37,7 +37,7 @@ pub data Place : Type 0 where
   ranged : (n least most : ℕ) → Place
   -- the remainder of a test: a number below its modulus
   remainder : (n modulus : ℕ) → Place
-  -- what an index adds: a number from -4096 to 4096
+  -- the addend of an index: a number from -4096 to 4096
   shift : (n : ℤ) → Place
   -- a kernel: a rectangle of odd sides up to 15
   kernel : (rows : List (List ℤ)) → Place
@@ -57,7 +57,7 @@ affine_places (t ∷ ts) = factor_places t.name ++ affine_places ts
 abbrev pub span_places : AffineSpan → List Place
 span_places s = affine_places s.first ++ affine_places s.last
 
--- `m * x + k` over d: the factor, the variable, what is added, the divisor
+-- `m * x + k` over d: the factor, the variable, the addend, the divisor
 unfoldable pub index_places : Index → Expected → List Place
 index_places i roles = ranged i.mul 1 16 ∷ name i.name roles ∷ shift i.add ∷ ranged i.div 1 16 ∷ []
 
@@ -85,11 +85,10 @@ expr_places (number n) = ranged n 0 greatest_number ∷ []
 expr_places (variable x) = name x expected.Number ∷ []
 expr_places (read x i j) = read_places x i j
 expr_places (lookup x a) = name x expected.Table ∷ expr_places a
-expr_places (neg a) = expr_places a
+expr_places (unary op a) = expr_places a
 expr_places (binary op a b) = expr_places a ++ expr_places b
+expr_places (ternary op a b c) = expr_places a ++ (expr_places b ++ expr_places c)
 expr_places (literal op a n) = expr_places a ++ ranged n (least_literal op) (greatest_literal op) ∷ []
-expr_places (abs a) = expr_places a
-expr_places (clamp a b c) = expr_places a ++ (expr_places b ++ expr_places c)
 expr_places (select a r b c d) = expr_places a ++ (expr_places b ++ (expr_places c ++ expr_places d))
 expr_places (stencil x d k) = stencil_places x d k
 
@@ -149,7 +148,7 @@ abbrev pub declared_role : Option Symbol → Option NameRole
 declared_role None = None
 declared_role (Some d) = Some (role_of d.kind)
 
--- what a name stands for in an item: a variable of it, or what is declared by this name
+-- what a name denotes in an item: a variable of it, or what is declared by this name
 abbrev pub role_at : List Symbol → Locals → List ℕ → Option NameRole
 role_at names locals x =
     if is_it locals.row x then Some role.Row
@@ -171,7 +170,7 @@ allows expected.Variable role.Row = true
 allows expected.Variable role.Column = true
 allows w s = false
 
--- ---- what is wrong at a place, if anything
+-- ---- the fault of a place, if any
 
 abbrev pub wrong_name : Expected → Option NameRole → Option Violation
 wrong_name roles None = Some Unknown
@@ -202,14 +201,14 @@ wrong_at names locals (remainder n modulus) = wrong_remainder n modulus
 wrong_at names locals (shift n) = wrong_shift n
 wrong_at names locals (kernel rows) = wrong_kernel rows
 
--- a place is served where it gets what it wants
+-- a place is served if it has what it requires
 abbrev pub is_served : List Symbol → Locals → Place → Bool
 is_served names locals place = is_none (wrong_at names locals place)
 
 abbrev pub are_served : List Symbol → Locals → List Place → Bool
 are_served names locals places = list_all (is_served names locals) places
 
--- the first of the places that is not served, and what is wrong there
+-- the first of the places that is not served, and its fault
 pub record IsFirstUnserved (names : List Symbol) (locals : Locals) (places : List Place) (wrong : Violation) : Type 0 where
   pub before : List Place
   pub place : Place

@@ -11,8 +11,8 @@ use pipe_tokens::Name;
 use pipe_tree::{Expr, Index, Kernel, Row};
 use std::alloc::{AllocError, Global};
 
-/// A read or a stencil in the text, with the number of the stage that is read. What a read of a job is besides, its indices
-/// over whole numbers or the kernel itself, comes once the names are resolved.
+/// A read or a stencil in the text, with the number of the stage that is read. The other parts of a job's read, its indices over
+/// integers or the kernel itself, are made once the names are resolved.
 #[derive(Clone, Copy, Debug)]
 pub enum Access {
     /// A read at an index of the row and an index of the column.
@@ -51,7 +51,7 @@ fn add_read(
     }
 }
 
-/// How long the first row of a kernel is.
+/// The length of the first row of a kernel.
 pub(crate) fn width_of(rows: &[Row]) -> usize
     ensures { result ≡ width_of rows.now }
 {
@@ -92,17 +92,17 @@ pub fn add_accesses(
         Expr::Number(_) | Expr::Name(_) => Ok(()),
         Expr::Read(name, row, column) => add_read(found, stages, name, row, column),
         Expr::Lookup(_, index) => add_accesses(found, stages, index),
-        Expr::Neg(operand) | Expr::Abs(operand) | Expr::Literal(_, operand, _) => {
+        Expr::Unary(_, operand) | Expr::Literal(_, operand, _) => {
             add_accesses(found, stages, operand)
         }
         Expr::Binary(_, left, right) => {
             add_accesses(found, stages, left)?;
             add_accesses(found, stages, right)
         }
-        Expr::Clamp(value, least, greatest) => {
-            add_accesses(found, stages, value)?;
-            add_accesses(found, stages, least)?;
-            add_accesses(found, stages, greatest)
+        Expr::Ternary(_, first, second, third) => {
+            add_accesses(found, stages, first)?;
+            add_accesses(found, stages, second)?;
+            add_accesses(found, stages, third)
         }
         Expr::Select(left, _, right, then, otherwise) => {
             add_accesses(found, stages, left)?;
@@ -114,8 +114,8 @@ pub fn add_accesses(
     }
 }
 
-/// The reads and stencils of an expression in the order of the text. The stages are those of its program: a name that none
-/// of them has is passed over, of which a checked program has none. Fails where no memory is left.
+/// The reads and stencils of an expression in the order of the text. The stages are those of its program. A name of no stage is
+/// skipped; a checked program has no such name. Fails where no memory is left.
 pub fn accesses(alloc: Global, stages: &[Symbol], expr: &Expr) -> Result<Vec<Access>, AllocError>
     ensures { IfOk result (λ v. v.items ≡ accesses_of stages.now (view expr.now)) }
 {

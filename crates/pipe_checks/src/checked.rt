@@ -1,5 +1,5 @@
 #![tactic(auto)]
-//! Programs whose names stand for what their places want.
+//! Programs whose names all denote what their places require.
 
 ghost use Rattle.std.specs.Prelude.{◌≡◌, true, false, Some, None, Ok, Err, OnOk, IfOk, IfErr, slice_get};
 ghost use Rattle.std.specs.List.{list_any};
@@ -27,8 +27,8 @@ use pipe_tree::{Item, Tree};
 use std::alloc::Global;
 use std::marker::Model;
 
-/// A program whose names all stand for what their places want, and whose stages do not read each other in a cycle. Only
-/// `check` makes one.
+/// A program whose names all denote what their places require, and whose stages do not read each other in a cycle. Only `check`
+/// makes one.
 #[derive(Debug, Drop)]
 pub struct Checked {
     tree: Tree,
@@ -94,8 +94,8 @@ impl Checked {
         self.ranks.as_slice().get(stage).copied()
     }
 
-    /// The numbers of the stages that a stage reads, in the order of the text, each as often as it is read; none where there
-    /// is no such stage.
+    /// The numbers of the stages that a stage reads, in the order of the text, each as often as it is read; none if there is no
+    /// such stage.
     pub fn reads(&self, stage: usize) -> Option<&[usize]>
         ensures { option_copied result ≡ reads_at (slice_get (graph_in self.now) stage) }
     {
@@ -137,7 +137,7 @@ fn judge_all(declared: &NameTable, items: &[Item]) -> Result<(), CheckFault>
     Ok(())
 }
 
-// Whether each name stands for one thing, and then whether each place gets what it wants.
+// Checks that each name denotes one thing, and then that each place has what it requires.
 #[tactic(auto, using(crate::proofs::Faulting::judged_named, crate::proofs::Faulting::judged_fault))]
 fn judge_names(declared: &DeclaredNames, items: &[Item]) -> Result<(), CheckFault>
     requires { IsTableOf (declared_names (declarations items.now)) declared.now }
@@ -183,7 +183,7 @@ fn ranks_of(alloc: Global, graph: &[Links]) -> Result<Vec<usize>, CheckFault>
     }
 }
 
-// All that is known of a program but its tree.
+// All results for a program, without its tree.
 #[derive(Drop)]
 struct Found {
     stages: Vec<Symbol>,
@@ -217,8 +217,8 @@ fn findings(alloc: Global, items: &[Item]) -> Result<Found, CheckFault>
     })
 }
 
-/// The program, or its first fault: the first item with a name that stands for two things; else item by item, in the order
-/// of the text, the first place that does not hold what it wants; else a missing result; else a cycle of reads.
+/// The program, or its first fault. First comes the first item with a name that denotes two things. Then, item by item in the
+/// order of the text, the first place that does not have what it requires. Then a missing result, and last a cycle of reads.
 pub fn check(alloc: Global, tree: Tree) -> Result<Checked, (Tree, CheckFault)>
     ensures ok { IfOk result (IsCheckedOf tree) }
     ensures back { IfErr result (λ e. e.0 ≡ tree) }

@@ -62,7 +62,7 @@ fn next_distance(
     }
 }
 
-// The distances, with those that are one more than `steps`.
+// The distances, with those of `steps` + 1 added.
 fn one_more(
     alloc: Global,
     graph: &[Links],
@@ -80,7 +80,7 @@ fn one_more(
     Ok(next)
 }
 
-// The goal alone, at distance 0.
+// Only the goal is known, at distance 0.
 fn only(alloc: Global, count: usize, goal: usize) -> Result<Vec<Option<usize>>, AllocError>
     ensures each { IfOk result (λ v. length v.items ≡ count) }
     ensures only { IfOk result (λ v. (t : ℕ) → t < count
@@ -93,7 +93,7 @@ fn only(alloc: Global, count: usize, goal: usize) -> Result<Vec<Option<usize>>, 
     Ok(far)
 }
 
-// How many reads lead from each stage to `goal`, where any do.
+// The number of reads from each stage to `goal`, where it can be reached.
 fn distances(alloc: Global, graph: &[Links], goal: usize) -> Result<Vec<Option<usize>>, AllocError>
     requires { goal < length graph.now }
     ensures { IfOk result (λ v. AreDistances graph.now goal v.items) }
@@ -107,7 +107,7 @@ fn distances(alloc: Global, graph: &[Links], goal: usize) -> Result<Vec<Option<u
     Ok(far)
 }
 
-// The least distance of what a stage reads.
+// The least known distance of a stage that this one reads.
 fn nearest(links: &Links, far: &[Option<usize>]) -> Option<usize>
     ensures some { IfSome result (SomeAt far.now links.now.reads) }
     ensures least { IfSome result (λ d. (k : ℕ) → SomeAt far.now links.now.reads k → d ≤ k) }
@@ -190,7 +190,7 @@ fn cycle_from(
     }
 }
 
-/// The first of the shortest cycles of reads from the least stage that lies on one.
+/// The first of the shortest cycles of reads from the least stage that is on one.
 pub(crate) fn shortest_cycle(alloc: Global, graph: &[Links]) -> Result<Vec<usize>, AllocError>
     requires { ¬ (IsAcyclic graph.now) }
     ensures { IfOk result (λ v. IsShortestCycle graph.now v.items) }

@@ -1,5 +1,5 @@
 #![tactic(auto)]
-//! Why a program is refused.
+//! Why a program is rejected.
 
 ghost use Rattle.std.specs.Prelude.{◌≡◌};
 
@@ -31,38 +31,38 @@ impl Cycle {
     }
 }
 
-/// Why a program means nothing. Items are numbered from 0. A name that stands for two things is told first, at the first
-/// such item. Else the items are judged in turn, each in the order of its text, and the first place that does not hold what
-/// it wants is told at its item; then a missing result, and then a cycle.
+/// Why a program is ill-formed. Items are numbered from 0. The first fault is a name that denotes two things, reported at the
+/// first such item. Else the items are checked in order, each in the order of its text. The first place that does not have what
+/// it requires is reported at its item. After that comes a missing result, and then a cycle.
 #[derive(Debug, Drop, Error)]
 pub enum CheckFault {
     /// 1: a name that is neither declared nor a variable of its item.
     #[error("item {0} has an unknown name")]
     Unknown(usize),
-    /// 2: a name that was declared before, told at the item that declares it again; or a variable that equals its fellow
-    /// or a name that is declared anywhere, told at the item of the variable.
+    /// 2: a name that was declared before, reported at the item that declares it again. Or a variable that equals the other
+    /// variable of its item or a declared name, reported at the item of the variable.
     #[error("item {0} has a name that stands for two things")]
     Twice(usize),
-    /// 3: a name of another kind than its place wants. Extents, intervals and the bounds of tests want parameters; what is
-    /// read or stenciled is a plane or a function, and what is looked up a table; the first index of a read wants the first
-    /// variable of the item and the second the second; a test wants a variable, any other name of an expression a variable or
-    /// a parameter; and outputs are functions.
+    /// 3: a name of another kind than its place requires. Extents, intervals and the bounds of tests require parameters. What is
+    /// read or stenciled is a plane or a function, and what is looked up is a table. The first index of a read requires the first
+    /// variable of the item, and the second index the second. A test requires a variable; any other name of an expression is a
+    /// variable or a parameter. Outputs are functions.
     #[error("item {0} has a name of another kind than its place wants")]
     Kind(usize),
     /// 4: a kernel with rows of unequal length, an even side or a side over 15.
     #[error("item {0} has a kernel that is no rectangle of odd sides up to 15")]
     BadKernel(usize),
-    /// 5: a number that is out of its range. The factor and the divisor of an index are 1 to 16, and what it adds is -4096
-    /// to 4096. The number after `/` or `%`, the divisor of a stencil and the modulus of a test are at least 1, and the
-    /// remainder of a test is less than its modulus. A shift is 0 to 31, and the greatest sample of an output 1 to 65535.
-    /// No number of an expression or a test is above 2147483647; a text that is parsed has none that is.
+    /// 5: a number that is out of its range. The factor and the divisor of an index are 1 to 16, and its addend is -4096 to 4096.
+    /// The number after `/` or `%`, the divisor of a stencil and the modulus of a test are at least 1. The remainder of a test is
+    /// less than its modulus. A shift is 0 to 31, and the greatest sample of an output 1 to 65535. No number of an expression or
+    /// a test is above 2147483647; a text that is parsed has none that is.
     #[error("item {0} has a number that is out of range")]
     BadLiteral(usize),
     /// 6: neither an output nor an accumulator.
     #[error("there is no result")]
     NoResult,
-    /// 7: stages that read each other in a cycle: a shortest one from the least stage that lies on any, and of several the
-    /// first by the numbers of the stages.
+    /// 7: stages that read each other in a cycle: a shortest cycle from the least stage that is on any. Of several cycles it is
+    /// the first by the numbers of the stages.
     #[error("stages read each other in a cycle")]
     Cycle(Cycle),
     /// 8: no memory was left.
@@ -96,12 +96,12 @@ impl From<AllocError> for CheckFault {
     }
 }
 
-/// What is wrong at one place of an item.
+/// The fault of one place of an item.
 #[derive(Clone, Copy, Debug, PartialEq, Eq)]
 pub enum Violation {
-    /// A name that stands for nothing there.
+    /// A name that denotes nothing there.
     Unknown,
-    /// A name of another kind than the place wants.
+    /// A name of another kind than the place requires.
     Kind,
     /// A kernel that is no rectangle of odd sides up to 15.
     BadKernel,

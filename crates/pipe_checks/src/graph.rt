@@ -12,8 +12,8 @@ use pipe_tree::{Case, Expr, Item};
 use std::alloc::{AllocError, Global};
 use std::marker::Model;
 
-/// The numbers of the stages that a stage reads, in the order of the text. Contracts see their list, and whether the
-/// stage is a plane of the picture.
+/// The numbers of the stages that a stage reads, in the order of the text. Contracts see their list, and whether the stage is a
+/// plane of the picture.
 #[derive(Debug, Drop)]
 pub(crate) struct Links {
     is_plane: bool,

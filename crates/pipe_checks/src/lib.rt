@@ -1,4 +1,4 @@
-//! Whether a program means something: each name stands for what its place wants, and no stage leads back to itself.
+//! Whether a program is well-formed: each name denotes what its place requires, and no stage reads itself through others.
 #![tactic(auto)]
 
 mod access;

@@ -1,5 +1,5 @@
 #![tactic(auto)]
-//! The ranks of the stages: a stage has its rank once all that it reads have theirs.
+//! The ranks of the stages: a stage gets its rank once all stages that it reads have theirs.
 
 ghost use Rattle.std.specs.Prelude.{◌≡◌, ℕ, ◌<◌, ◌+◌, Option, Some, None, IfSome, IfNone, IfOk, OnSome, length, slice_get, replicate, map};
 ghost use Rattle.pipe_checks.specs.Graph.{links_at, IsRanking, IsAcyclic};
@@ -8,7 +8,7 @@ ghost use Rattle.pipe_checks.specs.inside.Search.{rank_over, known_rank, SomeUnr
 use crate::graph::{Links, known};
 use std::alloc::{AllocError, Global};
 
-// The rank of a stage whose reads all have theirs.
+// The rank of a stage whose reads all have ranks.
 fn rank_above(ranks: &[Option<usize>], links: &Links) -> Option<usize>
     requires { (t r : ℕ) → slice_get ranks.now t ≡ Some (Some r) → r < usize.MAX }
     ensures rank { IfSome result (λ r. r ≡ rank_over (known_rank ranks.now) links.now) }

@@ -12,7 +12,7 @@ use pipe_tokens::Name;
 use pipe_tree::{Item, Names};
 use std::alloc::{AllocError, Global};
 
-/// What a declared name stands for.
+/// What a declared name denotes.
 #[derive(Clone, Copy, Debug, PartialEq, Eq)]
 pub enum NameKind {
     Param,
@@ -23,7 +23,7 @@ pub enum NameKind {
 }
 
 impl NameKind {
-    /// Whether the name stands for a plane of the picture.
+    /// Whether the name denotes a plane of the picture.
     pub fn is_plane(self) -> bool
         ensures { result ≡ is_plane self }
     {
@@ -61,7 +61,7 @@ impl NameKind {
     }
 }
 
-/// A name, what it stands for, and the number of the item that declares it.
+/// A name, what it denotes, and the number of the item that declares it.
 #[derive(Clone, Copy, Debug)]
 pub struct Symbol {
     pub name: Name,
@@ -164,7 +164,7 @@ pub(crate) fn stages_of(alloc: Global, names: &[Symbol]) -> Result<Vec<Symbol>, 
         .collect(alloc)
 }
 
-/// The number of the first of the names that is this one.
+/// The number of the first of the names that equals this one.
 pub fn number_of(names: &[Symbol], name: &Name) -> Option<usize>
     ensures { result ≡ number_of names.now name.now }
 {
@@ -173,8 +173,8 @@ pub fn number_of(names: &[Symbol], name: &Name) -> Option<usize>
         .position(|declared| is_same(&declared.name, name))
 }
 
-/// The stages that the items declare, in the order of the text. A stage's number is its place here, also in a fault of a
-/// program that `check` refuses.
+/// The stages that the items declare, in the order of the text. A stage's number is its place here, also in a fault of a program
+/// that `check` rejects.
 pub fn declared_stages(alloc: Global, items: &[Item]) -> Result<Vec<Symbol>, AllocError>
     ensures { IfOk result (λ v. v.items ≡ stages_of (declarations items.now)) }
 {
@@ -182,8 +182,8 @@ pub fn declared_stages(alloc: Global, items: &[Item]) -> Result<Vec<Symbol>, All
     stages_of(alloc, &names)
 }
 
-/// The tables that the items declare, in the order of the text. A table's number is its place here, also where the program is
-/// one that `check` refuses.
+/// The tables that the items declare, in the order of the text. A table's number is its place here, also if `check` rejects the
+/// program.
 pub fn declared_tables(alloc: Global, items: &[Item]) -> Result<Vec<Symbol>, AllocError>
     ensures { IfOk result (λ v. v.items ≡ tables_of (declarations items.now)) }
 {

@@ -42,7 +42,8 @@ impl NameTable {
         }
     }
 
-    /// Adds a declaration. A name that is there keeps its place and takes the new one. Whether it was there.
+    /// Adds a declaration. If the name is there, it keeps its place and the new declaration replaces the old one. Returns whether
+    /// it was there.
     pub(crate) fn declare(&mut self, symbol: Symbol) -> Result<bool, AllocError>
         ensures known { IfOk result (λ known. known ≡ is_some (number_of self.old symbol.name)) }
         ensures table { OnOk result (self.new ≡ put self.old symbol) }
@@ -58,7 +59,7 @@ impl NameTable {
         self.symbols.get_index_of(name)
     }
 
-    /// What a name was declared as.
+    /// The declaration of a name.
     pub(crate) fn declared_at(&self, name: &Name) -> Option<Symbol>
         ensures { result ≡ declared_at self.now name.now }
     {
@@ -105,7 +106,7 @@ fn table_of(alloc: Global, names: &[Symbol]) -> Result<DeclaredNames, AllocError
     Ok(DeclaredNames { table, again })
 }
 
-/// The names that the items declare, each found in the table or put at its end.
+/// The names that the items declare, each found in the table or added at its end.
 pub(crate) fn declare_all(alloc: Global, items: &[Item]) -> Result<DeclaredNames, AllocError>
     ensures { IfOk result (IsTableOf (declared_names (declarations items.now))) }
 {

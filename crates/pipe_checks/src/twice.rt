@@ -1,5 +1,5 @@
 #![tactic(auto)]
-//! Names that stand for two things.
+//! Names that denote two things.
 
 ghost use Rattle.std.specs.Prelude.{◌≡◌, IfSome, IfNone};
 ghost use Rattle.pipe_tree.specs.Tree.{declaration, declarations};
@@ -62,7 +62,7 @@ fn are_same(row: &Option<Name>, column: &Option<Name>) -> bool
     }
 }
 
-// Whether a variable equals its fellow or a declared name.
+// Whether a variable equals the other variable of its item or a declared name.
 fn varies_again(names: &NameTable, locals: &Locals) -> bool
     ensures { result ≡ varies_again names.now locals.now }
 {
@@ -71,7 +71,7 @@ fn varies_again(names: &NameTable, locals: &Locals) -> bool
         || is_declared(names, &locals.column)
 }
 
-/// The first item with a name that stands for two things.
+/// The first item with a name that denotes two things.
 pub(crate) fn first_twice(declared: &DeclaredNames, items: &[Item]) -> Option<usize>
     requires { IsTableOf (declared_names (declarations items.now)) declared.now }
     ensures first { IfSome result

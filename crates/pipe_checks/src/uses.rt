@@ -1,5 +1,5 @@
 #![tactic(auto, using(crate::proofs::Judging::judged_append, crate::proofs::Judging::judged_one))]
-//! Whether each place of an item holds what it wants, in the order of the text.
+//! Whether each place of an item has what it requires, in the order of the text.
 
 ghost use Rattle.std.specs.Prelude.{◌≡◌, ◌==◌, length};
 ghost use Rattle.std.specs.List.{list_all};
@@ -16,7 +16,7 @@ use crate::access::width_of;
 use crate::fault::Violation;
 use crate::symbol::{NameKind, is_same};
 use crate::table::NameTable;
-use domains::LiteralOp;
+use operators::LiteralOp;
 use pipe_tokens::Name;
 use pipe_tree::{
     Accum, Affine, AffineSpan, Case, Expr, Func, Index, Item, Kernel, Names, Output, Row, Test,
@@ -28,19 +28,19 @@ pub const MAX_NUMBER: u32 = 2_147_483_647;
 /// The greatest factor and the greatest divisor of an index.
 pub const MAX_SCALE: u32 = 16;
 
-/// The greatest number that an index adds or takes away.
+/// The greatest number that an index adds or subtracts.
 pub const MAX_ADD: i32 = 4096;
 
-/// The greatest number that a value is shifted by.
+/// The greatest number of bits that a value is shifted by.
 pub const MAX_SHIFT: u32 = 31;
 
 /// The greatest side of a kernel.
 pub const MAX_SIDE: usize = 15;
 
-/// The greatest of an output's greatest samples.
+/// The upper limit of an output's greatest sample.
 pub const MAX_SAMPLE: u32 = 65535;
 
-/// What a name stands for in an item: its part there.
+/// What a name denotes in an item: its role there.
 #[derive(Clone, Copy, Debug, PartialEq, Eq)]
 pub(crate) enum NameRole {
     Param,
@@ -52,7 +52,7 @@ pub(crate) enum NameRole {
     Column,
 }
 
-/// What a place wants.
+/// What a place requires.
 #[derive(Clone, Copy, Debug, PartialEq, Eq)]
 pub(crate) enum Expected {
     /// A parameter.
@@ -296,19 +296,19 @@ fn judge_expr(names: &NameTable, locals: &Locals, expr: &Expr) -> Result<(), Vio
             judge_name(names, locals, name, Expected::Table)?;
             judge_expr(names, locals, index)
         }
-        Expr::Neg(operand) | Expr::Abs(operand) => judge_expr(names, locals, operand),
+        Expr::Unary(_, operand) => judge_expr(names, locals, operand),
         Expr::Binary(_, left, right) => {
             judge_expr(names, locals, left)?;
             judge_expr(names, locals, right)
         }
+        Expr::Ternary(_, first, second, third) => {
+            judge_expr(names, locals, first)?;
+            judge_expr(names, locals, second)?;
+            judge_expr(names, locals, third)
+        }
         Expr::Literal(op, operand, number) => {
             judge_expr(names, locals, operand)?;
             judge_literal(*op, *number)
-        }
-        Expr::Clamp(value, least, greatest) => {
-            judge_expr(names, locals, value)?;
-            judge_expr(names, locals, least)?;
-            judge_expr(names, locals, greatest)
         }
         Expr::Select(left, _, right, then, otherwise) => {
             judge_expr(names, locals, left)?;
@@ -410,7 +410,7 @@ fn judge_outputs(names: &NameTable, locals: &Locals, outputs: &Names) -> Result<
     }
 }
 
-/// The first place of the item that does not hold what it wants, as a fault.
+/// The first place of the item that does not have what it requires, as a fault.
 pub(crate) fn judge_item(names: &NameTable, locals: &Locals, item: &Item) -> Result<(), Violation>
     ensures { result ≡ judged names.now locals.now (places_of (declaration item.now)) }
 {

@@ -1,4 +1,4 @@
--- What a table of names keeps: only inner contracts cite this.
+-- What a table of names stores: only inner contracts cite this.
 use Rattle.std.specs.Prelude.{ℕ, List}
 use Rattle.pipe_checks.specs.declared.symbol.Symbol.{Symbol}
 

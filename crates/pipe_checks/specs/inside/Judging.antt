@@ -1,11 +1,11 @@
--- What judging places one after the other answers: only contracts of private functions cite this.
+-- The results of checking places one after the other: only contracts of private functions cite this.
 use Rattle.std.specs.Prelude.{Option, Some, None, Result, Ok, Err, List, [], ◌∷◌}
 use Rattle.pipe_checks.specs.declared.symbol.Symbol.{Symbol}
 use Rattle.pipe_checks.specs.declared.fault.Violation.{Violation}
 use Rattle.pipe_checks.specs.declared.uses.Locals.{Locals}
 use Rattle.pipe_checks.specs.Uses.{Place, wrong_at}
 
--- Ok, or what is wrong
+-- Ok, or the fault
 abbrev pub Verdict : Type 0
 Verdict = Result (Unit {0}) Violation
 
@@ -13,7 +13,7 @@ abbrev pub verdict : Option Violation → Verdict
 verdict None = Ok tt
 verdict (Some wrong) = Err wrong
 
--- one verdict and then another: the first that is wrong decides
+-- one verdict and then another: the first that is a fault decides
 abbrev pub and_then : Verdict → Verdict → Verdict
 and_then (Ok u) v = v
 and_then (Err e) v = Err e

@@ -1,4 +1,4 @@
--- What the searches for ranks and for cycles know on their way: only contracts of private functions cite this.
+-- What the searches for ranks and for cycles know in each step: only contracts of private functions cite this.
 use Rattle.std.specs.Prelude.{ℕ, ◌+◌, ◌-◌, ◌<◌, ◌≤◌, ◌≡◌, ◌⊎◌, true, if◌then◌else◌, Option, Some, None, is_none, unwrap_or}
 use Rattle.std.specs.Prelude.{count_by, Result, Ok, Err, List, map, length, slice_get, slice_index, slice_index_or, Any}
 use Rattle.pipe_tree.specs.Tree.{Declaration}
@@ -18,11 +18,11 @@ use Rattle.pipe_checks.specs.Checking.{is_result, AllGood, IsFirstWrong, IsNamed
 
 -- ---- ranks
 
--- how many are not known
+-- the number of entries that are unknown
 abbrev pub unknowns : List (Option ℕ) → ℕ
 unknowns xs = count_by is_none xs
 
--- the rank that is known of a stage, or else 0
+-- the known rank of a stage, or else 0
 abbrev pub known_rank : List (Option ℕ) → ℕ → ℕ
 known_rank ranks t = unwrap_or (slice_index_or ranks t None) 0
 
@@ -30,7 +30,7 @@ known_rank ranks t = unwrap_or (slice_index_or ranks t None) 0
 abbrev pub rank_over : (ℕ → ℕ) → Links → ℕ
 rank_over rank l = if l.is_plane then 0 else greatest (map rank l.reads) + 1
 
--- a rank and the number of those that are not known are together at most n
+-- a known rank and the number of unknown ranks are together at most n
 abbrev pub IsBounded : List (Option ℕ) → ℕ → Type 0
 IsBounded ranks n = (t r : ℕ) → slice_get ranks t ≡ Some (Some r) → r + unknowns ranks ≤ n
 
@@ -38,7 +38,7 @@ IsBounded ranks n = (t r : ℕ) → slice_get ranks t ≡ Some (Some r) → r + 
 abbrev pub SomeUnranked : List (Option ℕ) → List ℕ → Type 0
 SomeUnranked ranks reads = Any (λ t. slice_get ranks t ≡ Some None) reads
 
--- each rank that is known is the stage's rank by those that it reads, and these are known too
+-- each known rank is the stage's rank by those that it reads, and these are known too
 pub record AreRanked (g : List Links) (ranks : List (Option ℕ)) : Type 0 where
   pub each : length ranks ≡ length g
   pub bounded : IsBounded ranks (length g)
@@ -51,30 +51,30 @@ pub record AreRanked (g : List Links) (ranks : List (Option ℕ)) : Type 0 where
 abbrev pub SomeAt : List (Option ℕ) → List ℕ → ℕ → Type 0
 SomeAt far reads k = Any (λ t. slice_get far t ≡ Some (Some k)) reads
 
--- a stage whose distance is not known reads one that is known to be at this distance
+-- a stage whose distance is unknown reads one that is known to be at this distance
 abbrev pub LeadsOn : List Links → List (Option ℕ) → ℕ → Type 0
 LeadsOn g far k = (s : ℕ) × (slice_get far s ≡ Some None) × SomeAt far (links_at g s).reads k
 
--- what becomes of a distance: it stays, or is found to be k + 1, or stays unknown
+-- how a distance changes: it stays, or is found to be k + 1, or stays unknown
 abbrev pub IsStepAt : List Links → List (Option ℕ) → ℕ → ℕ → Option ℕ → Type 0
 IsStepAt g far k s d =
     ((e : ℕ) × (slice_get far s ≡ Some (Some e)) × (d ≡ Some e))
     ⊎ (((slice_get far s ≡ Some None) × SomeAt far (links_at g s).reads k × (d ≡ Some (k + 1)))
     ⊎ ((slice_get far s ≡ Some None) × (SomeAt far (links_at g s).reads k → ⊥) × (d ≡ None)))
 
--- the distances, with those that are one more than k
+-- the distances, with those of k + 1 added
 pub record IsStepFrom (g : List Links) (far : List (Option ℕ)) (k : ℕ) (next : List (Option ℕ)) : Type 0 where
   pub each : length next ≡ length far
   pub step : (s : ℕ) (d : Option ℕ) → slice_get next s ≡ Some d → IsStepAt g far k s d
 
--- all that leads to the goal is known, with the least number of reads
+-- all stages that lead to the goal are known, with the least number of reads
 pub record AreDistances (g : List Links) (goal : ℕ) (far : List (Option ℕ)) : Type 0 where
   pub each : length far ≡ length g
   pub way : (t d : ℕ) → slice_get far t ≡ Some (Some d) → Way g d t goal
   pub low : (t d : ℕ) → slice_get far t ≡ Some (Some d) → d < length g
   pub least : (t k : ℕ) → Way g k t goal → (d : ℕ) × (slice_get far t ≡ Some (Some d)) × (d ≤ k)
 
--- a list of stages from the start back to it, of which each reads the next: the least of those at the distance left, then
+-- a list of stages from the start back to it, of which each reads the next. It has the least of those at the distance left, then
 -- the least of those at one less, and so on
 pub record IsWayBack (g : List Links) (start : ℕ) (far : List (Option ℕ)) (left : ℕ) (c : List ℕ) : Type 0 where
   pub long : length c ≡ left + 2
@@ -93,7 +93,7 @@ fault_of violation.Kind n = Kind n
 fault_of violation.BadKernel n = BadKernel n
 fault_of violation.BadLiteral n = BadLiteral n
 
--- all places are good, or this is the fault of the first that is not
+-- all places are good, or this is the fault of the first place that is not
 abbrev pub IsJudged : List Symbol → List Declaration → Result (Unit {0}) CheckFault → Type 0
 IsJudged names ds (Ok u) = AllGood names ds
 IsJudged names ds (Err f) = (wrong : Violation) × (n : ℕ) × (f ≡ fault_of wrong n) × IsFirstWrong names ds wrong n
@@ -109,7 +109,7 @@ IsCyclic g (BadKernel n) = ⊥
 IsCyclic g (BadLiteral n) = ⊥
 IsCyclic g NoResult = ⊥
 
--- what is found of a program without a fault
+-- the results for a program without a fault
 pub record IsFound (ds : List Declaration) (f : Found) : Type 0 where
   pub named : IsNamed ds
   pub result : list_any is_result ds ≡ true

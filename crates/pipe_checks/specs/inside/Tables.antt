@@ -6,7 +6,7 @@ use Rattle.pipe_checks.specs.declared.table.DeclaredNames.{DeclaredNames}
 use Rattle.pipe_checks.specs.Names.{number_of}
 use Rattle.pipe_checks.specs.Checking.{DeclaresAgain}
 
--- the list with a declaration in the place of the first of its name, or else at the end
+-- the list with a declaration instead of the first of its name, or else at the end
 abbrev pub put : List Symbol → Symbol → List Symbol
 put [] s = s ∷ []
 put (d ∷ ds) s = if bytes_eq d.name s.name then s ∷ ds else d ∷ put ds s
