@@ -4,7 +4,7 @@ use Rattle.std.specs.Str.{bytes_eq}
 use Rattle.domains.specs.Span.{Ends}
 use Rattle.domains.specs.Area.{HoldsPoint}
 use Rattle.domains.specs.declared.area.Area.{Area}
-use Rattle.domains.specs.declared.operators.Relation.{Relation}
+use Rattle.operators.specs.declared.operator.Relation.{Relation}
 use Rattle.pipe_tree.specs.declared.tree.Term.{Term}
 use Rattle.pipe_tree.specs.declared.tree.Test.{Test}
 use Rattle.pipe_tree.specs.declared.tree.Test.TheVariants.{Compare}

@@ -10,7 +10,7 @@ use Rattle.std.proofs.lemmas.Int.{ints}
 use Rattle.std.proofs.lemmas.Option.{same_Some, none-some}
 use Rattle.domains.specs.Index.{IsIndex}
 use Rattle.pipe_tree.specs.declared.tree.Index.{Index}
-use Rattle.pipe_tree.specs.Tree.{Node, number, variable, read, lookup, neg, binary, literal, abs, clamp, select, stencil, Branch}
+use Rattle.pipe_tree.specs.Tree.{Node, number, variable, read, lookup, unary, binary, ternary, literal, select, stencil, Branch}
 use Rattle.pipe_tree.specs.Tree.{Declaration, param, image, table, function, accumulator, output}
 use Rattle.pipe_tree.specs.declared.tree.Names.{Names}
 use Rattle.pipe_tree.specs.declared.tree.Names.TheVariants.{One, Three}
@@ -117,15 +117,14 @@ node_sound names stages (number n) h = tt
 node_sound names stages (variable x) h = tt
 node_sound names stages (read x i j) h = read_sound stages x i j (index_is i h.1) (index_is j h.2)
 node_sound names stages (lookup x a) h = node_sound names stages a h.1
-node_sound names stages (neg a) h = node_sound names stages a h
+node_sound names stages (unary op a) h = node_sound names stages a h
 node_sound names stages (binary op a b) h =
     both_sound stages (accesses_of stages a) (accesses_of stages b) (node_sound names stages a h.0) (node_sound names stages b h.1)
-node_sound names stages (literal op a n) h = node_sound names stages a h.0
-node_sound names stages (abs a) h = node_sound names stages a h
-node_sound names stages (clamp a b c) h =
+node_sound names stages (ternary op a b c) h =
     let first =
     both_sound stages (accesses_of stages a) (accesses_of stages b) (node_sound names stages a h.0) (node_sound names stages b h.1) in
     both_sound stages (accesses_of stages a ++ accesses_of stages b) (accesses_of stages c) first (node_sound names stages c h.2)
+node_sound names stages (literal op a n) h = node_sound names stages a h.0
 node_sound names stages (select a r b c d) h =
     let first =
     both_sound stages (accesses_of stages a) (accesses_of stages b) (node_sound names stages a h.0) (node_sound names stages b h.1) in

@@ -43,17 +43,17 @@ IsBins first last (Err TooWide) = (first ≤ℤ last) × (((first <ℤ negsuc 16
 abbrev pub IsSpanOf : List Setting → AffineSpan → Result Ends IntervalFault → Type 0
 IsSpanOf ss s = IsInterval (affine_value ss s.first) (affine_value ss s.last)
 
--- an area by its rows and its columns, or the fault of the first that has one
+-- an area by its rows and its columns, or the fault of the rows, or else that of the columns
 abbrev pub IsArea : (Result Ends IntervalFault → Type 0) → (Result Ends IntervalFault → Type 0) → Result Area IntervalFault → Type 0
 IsArea Rows Columns (Ok a) = Rows (Ok a.rows) × Columns (Ok a.cols)
 IsArea Rows Columns (Err f) = Rows (Err f) ⊎ ((rows : Ends) × Rows (Ok rows) × Columns (Err f))
 
--- what stands before an area: its fault goes first
+-- what comes before an area: its fault takes precedence
 abbrev pub IsAfter : (Result Ends IntervalFault → Type 0) → (Result Area IntervalFault → Type 0) → Result Area IntervalFault → Type 0
 IsAfter Before Then (Ok a) = (e : Ends) × Before (Ok e) × Then (Ok a)
 IsAfter Before Then (Err f) = Before (Err f) ⊎ ((e : Ends) × Before (Ok e) × Then (Err f))
 
--- the domain of a plane or a function, and the reduction domain of an accumulator, whose bins go first; other items have none
+-- the domain of a plane or a function, or the reduction domain of an accumulator, whose bins come first; other items have none
 abbrev pub IsDomain : List Setting → Declaration → Result Area IntervalFault → Type 0
 IsDomain ss (param p) r = r ≡ Err Empty
 IsDomain ss (image i) r = IsArea (IsExtent (affine_value ss i.rows)) (IsExtent (affine_value ss i.columns)) r

@@ -34,7 +34,7 @@ pub record ReadCase : Type 0 where
 abbrev pub branch_case : List Symbol → List ℕ → Branch → ReadCase
 branch_case stages row b = record { row = row; tests = b.condition; accesses = accesses_of stages b.value }
 
--- what stands under no condition
+-- a case without a condition
 abbrev pub whole_case : List ℕ → List Access → ReadCase
 whole_case row accesses = record { row = row; tests = []; accesses = accesses }
 
@@ -42,7 +42,7 @@ abbrev pub otherwise_cases : List Symbol → List ℕ → Option Node → List R
 otherwise_cases stages row None = []
 otherwise_cases stages row (Some a) = whole_case row (accesses_of stages a) ∷ []
 
--- the cases of an item by their numbers: `else` stands after the others, and an accumulator is one case
+-- the cases of an item by their numbers: `else` comes after the others, and an accumulator is one case
 abbrev pub item_cases : List Symbol → Declaration → List ReadCase
 item_cases stages (param p) = []
 item_cases stages (image i) = []
@@ -63,9 +63,9 @@ stage_cases ds stages s = declared_cases stages (slice_get ds s.item)
 abbrev pub IsInBox : List Setting → Area → ReadCase → ℤ → ℤ → Type 0
 IsInBox ss domain x r c = HoldsPoint domain r c × BoundsHold ss x.row x.tests r c
 
--- ---- what a read takes
+-- ---- the indices of a read
 
--- an index of the text, over whole numbers
+-- an index of the text, over integers
 abbrev pub scale_of : Index → Scale
 scale_of i = record { mul = pos i.mul; add = i.add; div = pos i.div }
 
@@ -98,20 +98,20 @@ Stays areas Box access =
 abbrev pub AllStay : List Area → (ℤ → ℤ → Type 0) → List Access → Type 0
 AllStay areas Box accesses = (m : ℕ) (access : Access) → slice_get accesses m ≡ Some access → Stays areas Box access
 
--- each read of each case of a stage stays
+-- each read of each case of a stage stays in bounds
 abbrev pub StageStays : List Setting → List Area → Area → List ReadCase → Type 0
 StageStays ss areas domain cases =
     (n : ℕ) (x : ReadCase) → slice_get cases n ≡ Some x → AllStay areas (IsInBox ss domain x) x.accesses
 
--- and so for stage k
+-- the same for stage k
 abbrev pub StaysAt : List Setting → List Declaration → List Symbol → List Area → ℕ → Symbol → Type 0
 StaysAt ss ds stages areas k s = (domain : Area) → slice_get areas k ≡ Some domain → StageStays ss areas domain (stage_cases ds stages s)
 
 abbrev pub AreInBounds : List Setting → List Declaration → List Symbol → List Area → Type 0
 AreInBounds ss ds stages areas = (k : ℕ) (s : Symbol) → slice_get stages k ≡ Some s → StaysAt ss ds stages areas k s
 
--- a program means something at the values of its parameters: all are set, each table has its span and each stage its domain, and
--- each read stays
+-- a program is in bounds at the values of its parameters: all are set, each table has its span and each stage its domain, and
+-- each read stays in bounds
 pub record IsInBounds (ss : List Setting) (ds : List Declaration) : Type 0 where
   pub set : AllSet ss
   pub tables : TablesStand ss ds (tables_of ds)
@@ -141,7 +141,7 @@ pub record AreExtremes (Is : ℤ → Type 0) (least greatest : ℤ) : Type 0 whe
   pub between : (v : ℤ) → Is v → (least ≤ℤ v) × (v ≤ℤ greatest)
 
 -- a read leaves the domain of what it reads along this axis, and takes numbers from the least to the greatest along it. The
--- columns are told only where it stays along the rows
+-- columns are reported only if it stays along the rows
 pub record Leaves (areas : List Area) (Box : ℤ → ℤ → Type 0) (access : Access) (axis : Axis) (least greatest : ℤ) : Type 0 where
   pub domain : Area
   pub there : slice_get areas (stage_read access) ≡ Some domain
@@ -151,7 +151,7 @@ pub record Leaves (areas : List Area) (Box : ℤ → ℤ → Type 0) (access : A
 
 -- ---- the first read that leaves
 
--- f tells of read m of case n of stage k that it leaves
+-- f reports that read m of case n of stage k leaves its domain
 pub record TellsRead (areas : List Area) (Box : ℤ → ℤ → Type 0) (access : Access) (k n m : ℕ) (f : BoundFault) : Type 0 where
   pub axis : Axis
   pub least : ℤ
@@ -159,7 +159,7 @@ pub record TellsRead (areas : List Area) (Box : ℤ → ℤ → Type 0) (access 
   pub told : f ≡ OutOfBounds k n m axis least greatest
   pub leaves : Leaves areas Box access axis least greatest
 
--- of the reads of case n of stage k: those before it stay
+-- the first of the reads of case n of stage k: those before it stay
 pub record IsFirstRead (areas : List Area) (Box : ℤ → ℤ → Type 0) (accesses : List Access) (k n : ℕ) (f : BoundFault) : Type 0 where
   pub number : ℕ
   pub access : Access
@@ -167,7 +167,7 @@ pub record IsFirstRead (areas : List Area) (Box : ℤ → ℤ → Type 0) (acces
   pub before : (m : ℕ) (y : Access) → m < number → slice_get accesses m ≡ Some y → Stays areas Box y
   pub tells : TellsRead areas Box access k n number f
 
--- of the cases of stage k
+-- the first of the cases of stage k
 pub record IsFirstCase (ss : List Setting) (areas : List Area) (domain : Area) (cases : List ReadCase) (k : ℕ) (f : BoundFault) : Type 0
   where
     pub number : ℕ
@@ -176,7 +176,7 @@ pub record IsFirstCase (ss : List Setting) (areas : List Area) (domain : Area) (
     pub before : (n : ℕ) (y : ReadCase) → n < number → slice_get cases n ≡ Some y → AllStay areas (IsInBox ss domain y) y.accesses
     pub read : IsFirstRead areas (IsInBox ss domain place) place.accesses k number f
 
--- of the stages
+-- the first of the stages
 pub record IsFirstStage (ss : List Setting) (ds : List Declaration) (stages : List Symbol) (areas : List Area) (f : BoundFault) : Type 0
   where
     pub number : ℕ
@@ -187,13 +187,13 @@ pub record IsFirstStage (ss : List Setting) (ds : List Declaration) (stages : Li
     pub before : (k : ℕ) (y : Symbol) → k < number → slice_get stages k ≡ Some y → StaysAt ss ds stages areas k y
     pub case : IsFirstCase ss areas domain (stage_cases ds stages stage) number f
 
--- f tells the first read that leaves what it reads, of a program whose stages have domains
+-- f reports the first read that leaves what it reads, in a program whose stages have domains
 pub record IsFirstDeparture (ss : List Setting) (ds : List Declaration) (f : BoundFault) : Type 0 where
   pub areas : List Area
   pub domains : HaveDomains ss ds (stages_of ds) areas
   pub stage : IsFirstStage ss ds (stages_of ds) areas f
 
--- ---- the fault of a program, but for memory
+-- ---- the fault of a program, except for memory
 
 abbrev pub IsBoundFault : List Setting → List Declaration → BoundFault → Type 0
 IsBoundFault ss ds (ParamUnset n) = IsFirstUnset ss n

@@ -43,7 +43,7 @@ abbrev pub named_value : List Setting → Option (List ℕ) → ℤ
 named_value ss None = pos 1
 named_value ss (Some name) = param_value ss name
 
--- the value of a term, and of a sum of terms, exactly
+-- the exact values of a term and of a sum of terms
 abbrev pub term_value : List Setting → Term → ℤ
 term_value ss t =
     let product = pos t.factor *ℤ named_value ss t.name in

@@ -1,4 +1,4 @@
--- What judging the bounds finds of each stage: its domain, the bins of an accumulator, and the boxes of a function's cases.
+-- The bounds of each stage: its domain, the bins of an accumulator, and the boxes of a function's cases.
 use Rattle.std.specs.Prelude.{ℕ, ◌≡◌, Option, Some, None, Ok, List, [], length, map, slice_get, IfSome}
 use Rattle.domains.specs.Span.{Ends}
 use Rattle.domains.specs.Area.{IsArea}
@@ -12,7 +12,7 @@ use Rattle.pipe_bounds.specs.Settings.{affine_value}
 use Rattle.pipe_bounds.specs.Boxes.{BoundsHold}
 use Rattle.pipe_bounds.specs.Domains.{IsBins, IsDomain}
 
--- how contracts see what is found of a stage; a case whose box has no point has none
+-- the bounds of a stage, as contracts see them; a case whose box has no point has none
 pub record StageBounds : Type 0 where
   pub domain : Area
   pub bins : Option Ends
@@ -21,7 +21,7 @@ pub record StageBounds : Type 0 where
 abbrev pub domains_in : List StageBounds → List Area
 domains_in found = map (λ b. b.domain) found
 
--- an accumulator has bins, and nothing else has
+-- only an accumulator has bins
 abbrev pub HasBins : List Setting → Declaration → Option Ends → Type 0
 HasBins ss (param p) bins = bins ≡ None
 HasBins ss (image i) bins = bins ≡ None
@@ -42,7 +42,7 @@ pub record AreBoxes (ss : List Setting) (row : List ℕ) (domain : Area) (cases 
   pub box : (n : ℕ) (b : Branch) (o : Option Area) → slice_get cases n ≡ Some b → slice_get boxes n ≡ Some o
       → IsBox ss row domain b.condition o
 
--- a function's cases have boxes; what stands under no condition has none
+-- a function's cases have boxes; `else` and other items have none
 abbrev pub HasBoxes : List Setting → Declaration → Area → List (Option Area) → Type 0
 HasBoxes ss (param p) domain boxes = boxes ≡ []
 HasBoxes ss (image i) domain boxes = boxes ≡ []
@@ -51,13 +51,13 @@ HasBoxes ss (function f) domain boxes = AreBoxes ss f.row.name domain f.cases bo
 HasBoxes ss (accumulator a) domain boxes = boxes ≡ []
 HasBoxes ss (output o) domain boxes = boxes ≡ []
 
--- what is found of a stage that this item declares
+-- the bounds of a stage that this item declares
 pub record IsBoundsOf (ss : List Setting) (d : Declaration) (b : StageBounds) : Type 0 where
   pub domain : IsDomain ss d (Ok b.domain)
   pub bins : HasBins ss d b.bins
   pub boxes : HasBoxes ss d b.domain b.boxes
 
--- and so for each stage, in the order of the stages
+-- the same for each stage, in the order of the stages
 pub record AreBoundsOf (ss : List Setting) (ds : List Declaration) (stages : List Symbol) (found : List StageBounds) : Type 0 where
   pub each : length found ≡ length stages
   pub stage : (k : ℕ) (s : Symbol) (b : StageBounds) → slice_get stages k ≡ Some s → slice_get found k ≡ Some b

@@ -9,7 +9,7 @@ use Rattle.pipe_bounds.specs.declared.params.Setting.{Setting}
 use Rattle.pipe_bounds.specs.Settings.{affine_value}
 use Rattle.pipe_bounds.specs.Domains.{IsBins}
 
--- what the span of a table is, by the item that declares it: as wide as bins may be
+-- the span of a table, or its fault, by the item that declares it: its width has the limit of bins
 abbrev pub IsTableSpan : List Setting → List Declaration → Symbol → Result Ends IntervalFault → Type 0
 IsTableSpan ss ds s r =
     (t : Table) × (slice_get ds s.item ≡ Some (table t)) × IsBins (affine_value ss t.span.first) (affine_value ss t.span.last) r

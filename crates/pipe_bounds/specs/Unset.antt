@@ -1,4 +1,4 @@
--- A parameter at first.
+-- The initial state of a parameter.
 use Rattle.std.specs.Prelude.{None}
 use Rattle.pipe_bounds.specs.declared.params.Setting.{Setting}
 use Rattle.pipe_checks.specs.declared.symbol.Symbol.{Symbol}

@@ -28,7 +28,7 @@ AreSet ss (Err f) = (n : ℕ) × (f ≡ ParamUnset n) × IsFirstUnset ss n
 
 -- ---- domains
 
--- what a stage's domain is, by the item that declares it
+-- the domain of a stage, or its fault, by the item that declares it
 abbrev pub IsStageDomain : List Setting → List Declaration → Symbol → Result Area IntervalFault → Type 0
 IsStageDomain ss ds s r = (d : Declaration) × (slice_get ds s.item ≡ Some d) × IsDomain ss d r
 

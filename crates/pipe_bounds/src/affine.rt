@@ -26,8 +26,7 @@ fn term_value(params: &Params, term: &Term) -> i128
     if term.negative { -product } else { product }
 }
 
-/// The value of a sum at the values of the parameters, where a name that is no parameter or has no value counts as 0. It
-/// never wraps.
+/// The value of a sum at the values of the parameters. A name that is no parameter or has no value counts as 0. It never wraps.
 pub fn affine_value(params: &Params, affine: &Affine) -> i128
     ensures { result ≡ affine_value params.now affine.now }
 {

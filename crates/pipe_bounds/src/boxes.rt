@@ -1,5 +1,5 @@
 #![tactic(auto)]
-//! The box of a case: the points of the domain that its tests of bounds leave.
+//! The box of a case: the points of the domain at which its tests of bounds hold.
 
 ghost use Rattle.std.specs.Prelude.{◌≡◌, ◌≤ℤ◌, IfOk};
 ghost use Rattle.pipe_tree.specs.Tree.{branches};
@@ -10,7 +10,8 @@ ghost use Rattle.pipe_bounds.specs.Settings.{affine_value};
 
 use crate::affine::affine_value;
 use crate::params::Params;
-use domains::{Area, Relation, Span};
+use domains::{Area, Span};
+use operators::Relation;
 use pipe_checks::is_same;
 use pipe_tokens::Name;
 use pipe_tree::{Case, Test};
@@ -74,8 +75,8 @@ fn cut(params: &Params, row: &Name, area: &Area, test: &Test) -> Option<Area>
     }
 }
 
-// The points of a domain at which all tests of bounds hold, of a case whose variable of the rows is `row`; any other name is
-// the variable of the columns. Tests of a remainder leave all points.
+// The points of a domain at which all tests of bounds of a case hold. The variable of the rows is `row`; any other name is the
+// variable of the columns. Tests of a remainder exclude no points.
 fn case_box(params: &Params, row: &Name, domain: &Area, tests: &[Test]) -> Option<Area>
     ensures { IsBox params.now row.now domain.now tests.now result }
 {

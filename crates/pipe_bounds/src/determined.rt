@@ -1,5 +1,5 @@
 #![tactic(auto)]
-//! At the values of its parameters a program has one fault, or is in bounds. This is a law, which no code runs.
+//! At the values of its parameters a program either has exactly one fault or is in bounds. This is a law, which no code runs.
 
 ghost use Rattle.std.specs.Prelude.{◌≡◌, ◌≢◌, List};
 ghost use Rattle.pipe_tree.specs.Tree.{Declaration};
@@ -8,7 +8,7 @@ ghost use Rattle.pipe_bounds.specs.InBounds.{IsBoundFault, IsInBounds};
 
 use crate::fault::BoundFault;
 
-/// No program has two faults at the same values, and none that is in bounds has one. Memory may run out for any.
+/// No program has two faults at the same values, and no program that is in bounds has a fault. Memory may run out for any.
 pub fn bound_faults_are_determined()
     ensures one { (ss : List SettingType) (ds : List Declaration) (f g : BoundFault)
         → IsBoundFault ss ds f → IsBoundFault ss ds g

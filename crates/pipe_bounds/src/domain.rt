@@ -1,5 +1,5 @@
 #![tactic(auto)]
-//! Where stages lie: their domains, and the bins of accumulators; and the spans of tables.
+//! The domains of stages, the bins of accumulators, and the spans of tables.
 
 ghost use Rattle.std.specs.Prelude.{◌≡◌, None};
 ghost use Rattle.pipe_bounds.specs.Domains.{IsInterval, IsExtent, IsBins, IsArea, IsSpanOf};
@@ -12,18 +12,18 @@ use crate::params::Params;
 use domains::{Area, Span};
 use pipe_tree::{Accum, Affine, AffineSpan, Func, Image, Item};
 
-/// The ends of a domain, of bins and of a table lie from `-MAX_END` to `MAX_END`.
+/// The ends of a domain, of bins and of a table are from `-MAX_END` to `MAX_END`.
 const MAX_END: i128 = 16384;
 
 /// The greatest extent of a picture, and the most bins or entries of a table.
 const MAX_SIZE: i128 = 4096;
 
-/// Why an interval is none.
+/// Why two ends are not those of an interval.
 #[derive(Clone, Copy, Debug, PartialEq, Eq)]
 pub(crate) enum IntervalFault {
     /// Its last number is below its first.
     Empty,
-    /// It reaches too far.
+    /// It leaves `-MAX_END` to `MAX_END`, or is too long.
     TooWide,
 }
 
@@ -126,7 +126,7 @@ fn without_bins(domain: Area) -> Place
     Place { domain, bins: None }
 }
 
-/// Where the stages lie that an item declares.
+/// The domain, and the bins if any, of the stages that an item declares.
 pub(crate) fn place_of(params: &Params, item: &Item) -> Result<Place, IntervalFault>
     ensures { IsPlaced params.now (declaration item.now) result }
 {

@@ -1,5 +1,5 @@
 #![tactic(auto)]
-//! Why a value of a parameter is refused, or a program at the values of its parameters.
+//! Why a value of a parameter is rejected, or a program at the values of its parameters.
 
 ghost use Rattle.std.specs.Prelude.{◌≡◌};
 
@@ -13,7 +13,7 @@ pub enum ParamFault {
     /// 1: no parameter has this name.
     #[error("no parameter has this name")]
     NoSuchParam,
-    /// 2: the parameter has a value, which it keeps.
+    /// 2: the parameter already has a value, which it keeps.
     #[error("the parameter has a value")]
     SetTwice,
 }
@@ -37,8 +37,9 @@ pub enum Axis {
     Columns,
 }
 
-/// Why a program means nothing at the values of its parameters. Parameters, tables and stages are given by their numbers. A
-/// parameter without a value is told first, then the first table with a fault, then the first stage with one, then a read.
+/// Why a program is ill-formed at the values of its parameters. Parameters, tables and stages are given by their numbers. The
+/// first fault is reported: a parameter without a value, then the first table with a fault, then the first stage with one, then a
+/// read.
 #[derive(Clone, Copy, Debug, PartialEq, Eq, Error)]
 pub enum BoundFault {
     /// 1: a parameter without a value.

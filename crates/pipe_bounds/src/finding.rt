@@ -54,7 +54,7 @@ fn bounds_at(
     Ok(StageBounds::new(place.domain, place.bins, boxes))
 }
 
-/// What is found of each stage, or the first fault of a domain.
+/// The bounds of each stage, or the first fault of a domain.
 pub(crate) fn bounds_of_stages(
     alloc: Global,
     params: &Params,

@@ -1,5 +1,5 @@
 #![tactic(auto)]
-//! Indices of the text, over whole numbers.
+//! Indices of the text, over integers.
 
 ghost use Rattle.std.specs.Prelude.{◌≡◌};
 ghost use Rattle.domains.specs.Index.{IsIndex};
@@ -7,8 +7,8 @@ ghost use Rattle.pipe_bounds.specs.InBounds.{scale_of};
 
 use domains::Index;
 
-/// The index that the text writes, without the name of its variable. Its factor and its divisor are from 1 to 16, and what it
-/// adds from -4096 to 4096, as `check` sees to.
+/// The index in the text, without the name of its variable. `check` ensures that its factor and its divisor are from 1 to 16, and
+/// that its addend is from -4096 to 4096.
 pub fn index_of(index: &pipe_tree::Index) -> Index
     requires { IsIndex (scale_of index.now) }
     ensures { result ≡ scale_of index.now }

@@ -14,7 +14,7 @@ pub struct Setting {
     pub value: Option<i32>,
 }
 
-/// For each parameter of a program its value, if it has one. Contracts see the list of its settings.
+/// The parameters of a program, each with its value if it has one. Contracts see the list of its settings.
 #[derive(Debug, Drop)]
 pub struct Params {
     settings: Vec<Setting>,
@@ -43,7 +43,7 @@ impl Params {
         Params::unset(alloc, checked.params())
     }
 
-    /// These parameters with these values, in this order. Whether they are those of a program is not judged here.
+    /// These parameters with these values, in this order. It is not checked that they are those of a program.
     pub fn of_settings(settings: Vec<Setting>) -> Self
         ensures { result ≡ settings.items }
     {
@@ -86,7 +86,7 @@ impl Params {
             .position(|setting| setting.name.as_bytes() == name)
     }
 
-    /// Gives the parameter of this name its value, if it has none yet.
+    /// Sets the value of the parameter of this name, if it has none yet.
     pub fn set(&mut self, name: &str, value: i32) -> Result<(), ParamFault>
         ensures ok { OnOk result (SetsOne self.old self.new name.now value) }
         ensures err { OnErr result (self.new ≡ self.old) }

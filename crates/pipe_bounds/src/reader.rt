@@ -1,5 +1,5 @@
 #![tactic(auto)]
-//! The reads of a stage, judged one by one.
+//! The bounds of a stage's reads, checked one by one.
 
 ghost use Rattle.std.specs.Prelude.{◌≡◌, length, map};
 ghost use Rattle.std.specs.Option.{option_map};
@@ -20,7 +20,7 @@ use pipe_tokens::Name;
 use pipe_tree::{Accum, Case, Expr, Func, Item};
 use std::alloc::Global;
 
-/// A stage whose reads are judged.
+/// A stage whose reads are checked.
 #[derive(Drop)]
 pub(crate) struct Reader<'a> {
     pub(crate) alloc: Global,
@@ -150,7 +150,7 @@ impl Reader<'_> {
         self.accesses(0, &found, self.domain)
     }
 
-    /// Judges the reads of the stage, which the item declares.
+    /// Checks the reads of the stage, which the item declares.
     pub(crate) fn item(&self, item: &Item) -> Result<(), BoundFault>
         requires sound { AreSoundCases (length self.now.found.now)
             (item_cases self.now.stages.now (declaration item.now)) }

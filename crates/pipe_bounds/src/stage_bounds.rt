@@ -1,12 +1,12 @@
 #![tactic(auto)]
-//! What judging the bounds finds of a stage.
+//! The bounds of a stage.
 
 ghost use Rattle.std.specs.Prelude.{◌≡◌};
 
 use domains::{Area, Span};
 use std::marker::Model;
 
-/// What judging the bounds finds of a stage. Contracts see its three parts.
+/// The bounds of a stage. Contracts see its three parts.
 #[derive(Debug, Drop)]
 pub struct StageBounds {
     domain: Area,
@@ -47,8 +47,8 @@ impl StageBounds {
         self.bins
     }
 
-    /// The box of each case of a function, in the order of the text; none where it has no point. `else` has the whole domain,
-    /// and is not among them.
+    /// The box of each case of a function, in the order of the text; none for a case whose box has no point. `else` has the whole
+    /// domain, and is not included.
     pub fn boxes(&self) -> &[Option<Area>]
         ensures { result.now ≡ self.now.boxes }
     {

@@ -1,5 +1,5 @@
 #![tactic(auto)]
-//! What a read takes over an area, and where that leaves a domain.
+//! The indices that a read takes over an area, and where they leave a domain.
 
 ghost use Rattle.std.specs.Prelude.{◌≡◌, ◌≤◌, ◌/◌, ℕ};
 ghost use Rattle.domains.specs.Span.{IsSpan};
@@ -13,10 +13,10 @@ use crate::index::index_of;
 use domains::{Area, Span};
 use pipe_checks::Access;
 
-/// The numbers of domains lie within this of 0.
+/// The distance from 0 up to which the numbers of domains lie.
 const MAX_REACH: i32 = 16384;
 
-/// What a read takes, along an axis along which it leaves the domain.
+/// The indices that a read takes along an axis where it leaves the domain.
 #[derive(Clone, Copy)]
 pub(crate) struct Departure {
     pub(crate) axis: Axis,
@@ -36,7 +36,7 @@ fn image_of(index: &pipe_tree::Index, span: &Span) -> Span
     index_of(index).image(span)
 }
 
-// The numbers that a side of this length of a kernel takes about those of a span.
+// The numbers that a kernel side of this length takes around those of a span.
 fn widened(span: &Span, side: usize) -> Span
     requires near { InDomainRange span.now }
     requires side { side ≤ 15 }
@@ -71,7 +71,7 @@ pub(crate) fn taken(access: &Access, area: &Area) -> Area
     }
 }
 
-/// The first axis along which what is taken leaves the domain.
+/// The first axis along which the taken indices leave the domain.
 pub(crate) fn departing(taken: &Area, domain: &Area) -> Option<Departure>
     ensures { IsDeparting taken.now domain.now result }
 {

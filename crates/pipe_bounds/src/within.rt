@@ -1,5 +1,5 @@
 #![tactic(auto)]
-//! Whether a program means something at the values of its parameters.
+//! Whether a program is in bounds at the values of its parameters.
 
 ghost use Rattle.std.specs.Prelude.{◌≡◌, ℕ, OnOk, IfOk, IfErr, Err};
 ghost use Rattle.pipe_bounds.specs.declared.fault.BoundFault.TheVariants.{ParamUnset};
@@ -66,17 +66,17 @@ fn judge_reads(
     Ok(())
 }
 
-/// What judging the bounds finds of a program.
+/// The bounds of a program.
 #[derive(Debug, Drop)]
 pub struct ProgramBounds {
-    /// What is found of each stage, by its number.
+    /// The bounds of each stage, by its number.
     pub stages: Vec<StageBounds>,
     /// The span of each table, by its number.
     pub tables: Vec<Span>,
 }
 
-/// What is found of each stage and each table, by its number, where the program means something at the values of its
-/// parameters; else the first fault. Both are as `bounds` has them.
+/// The bounds of each stage and the span of each table, by their numbers, if the program is in bounds at the values of its
+/// parameters. Else the first fault. Both are as `bounds` defines them.
 pub fn bounds_by_stage(
     alloc: Global,
     checked: &Checked,
@@ -102,11 +102,11 @@ pub fn bounds_by_stage(
     })
 }
 
-/// Whether the program means something at the values of its parameters: all have values, each table has a span and each stage a
-/// domain, and at each point of each case's box each read takes points of the domain of what it reads alone. Else the first
-/// fault: a parameter without a value; then a table that is empty or too wide; then a stage with an interval that is; then a
-/// read that leaves, by stage, case and read, and the rows before the columns. The values are those of `params`, which are to be
-/// of this program.
+/// Whether the program is in bounds at the values of its parameters. All parameters have values, each table has a span and each
+/// stage a domain. At each point of a case's box, each read takes only points of the domain of what it reads. Else the first
+/// fault: a parameter without a value; then a table that is empty or too wide; then a stage with such an interval; then a read
+/// that leaves a domain. Of such reads the first by stage, case and read is reported, and rows before columns. The values are
+/// those of `params`, which must belong to this program.
 pub fn bounds(alloc: Global, checked: &Checked, params: &Params) -> Result<(), BoundFault>
     ensures ok { OnOk result (IsInBounds params.now (content (tree_in checked.now))) }
     ensures fault { IfErr result (IsBoundFault params.now (content (tree_in checked.now))) }

@@ -1,4 +1,4 @@
--- What reads take over areas, by spans, and what the parts of `bounds` answer. Only inner contracts cite this.
+-- The spans of indices that reads take over areas, and the results of the parts of `bounds`. Only inner contracts cite this.
 use Rattle.std.specs.Prelude.{ℕ, ◌<◌, ◌≤◌, ◌/◌, ℤ, pos, negsuc, ◌+ℤ◌, ◌≤ℤ◌}
 use Rattle.std.specs.Prelude.{◌≡◌, ◌⊎◌, Option, Some, None, Result, Ok, Err, List, length, slice_get}
 use Rattle.domains.specs.Span.{Ends, Holds, IsSubspan}
@@ -25,19 +25,19 @@ use Rattle.pipe_bounds.specs.StageBounds.{HasBins}
 use Rattle.pipe_bounds.specs.Within.{IsFirstFaultyDomain}
 use Rattle.pipe_bounds.specs.Tables.{IsFirstFaultyTable}
 
--- ---- what is taken
+-- ---- the indices that are taken
 
--- t reaches n to both sides of s
+-- t extends s by n at both ends
 pub record IsWidened (n : ℕ) (s t : Ends) : Type 0 where
   pub lo : t.lo +ℤ pos n ≡ s.lo
   pub hi : t.hi ≡ s.hi +ℤ pos n
 
--- t goes from the least to the greatest index that a read or a stencil takes over the points of an area, on each axis
+-- t has the least and the greatest index that a read or a stencil takes over the points of an area, on each axis
 abbrev pub IsTaken : Access → Area → Area → Type 0
 IsTaken (Read g i j) a t = IsImage (scale_of i) a.rows t.rows × IsImage (scale_of j) a.cols t.cols
 IsTaken (Stencil g m n) a t = IsWidened (m / 2) a.rows t.rows × IsWidened (n / 2) a.cols t.cols
 
--- along this axis what is taken leaves the domain, from the least to the greatest index; the rows go first
+-- along this axis the taken indices leave the domain, from the least to the greatest index; rows come before columns
 abbrev pub LeavesAlong : Area → Area → Axis → ℤ → ℤ → Type 0
 LeavesAlong t d Rows least greatest =
     (IsSubspan t.rows d.rows → ⊥) × (least ≡ t.rows.lo) × (greatest ≡ t.rows.hi)
@@ -47,16 +47,16 @@ LeavesAlong t d Columns least greatest =
 abbrev pub IsDeparture : Area → Area → Departure → Type 0
 IsDeparture t d x = LeavesAlong t d x.axis x.least x.greatest
 
--- what is taken lies in the domain
+-- the taken indices lie in the domain
 abbrev pub StaysWithin : Area → Area → Type 0
 StaysWithin t d = IsSubspan t.rows d.rows × IsSubspan t.cols d.cols
 
--- what is taken lies in the domain, or leaves it
+-- the taken indices lie in the domain, or leave it
 abbrev pub IsDeparting : Area → Area → Option Departure → Type 0
 IsDeparting t d None = StaysWithin t d
 IsDeparting t d (Some x) = IsDeparture t d x
 
--- ---- what `check` and the domains leave to take
+-- ---- what `check` and the domains ensure of indices
 
 -- each number lies within 16,384 of 0
 abbrev pub InDomainRange : Ends → Type 0
@@ -65,7 +65,7 @@ InDomainRange s = (v : ℤ) → Holds s v → (negsuc 16383 ≤ℤ v) × (v ≤�
 abbrev pub InDomainRanges : Area → Type 0
 InDomainRanges a = InDomainRange a.rows × InDomainRange a.cols
 
--- a read of one of so many stages at indices in their ranges, or a stencil with short sides
+-- a read of one of `count` stages at indices in their ranges, or a stencil with short sides
 abbrev pub IsSound : ℕ → Access → Type 0
 IsSound count (Read g i j) = (g < count) × IsIndex (scale_of i) × IsIndex (scale_of j)
 IsSound count (Stencil g m n) = (g < count) × (m ≤ 15) × (n ≤ 15)
@@ -87,7 +87,7 @@ AreDeclared ds stages = (k : ℕ) (s : Symbol) → slice_get stages k ≡ Some s
 abbrev pub AreTables : List Declaration → List Symbol → Type 0
 AreTables ds tables = (k : ℕ) (s : Symbol) → slice_get tables k ≡ Some s → (t : Table) × (slice_get ds s.item ≡ Some (table t))
 
--- ---- where the stages of an item lie, and the span of a table
+-- ---- the domain and the bins of an item's stages, and the span of a table
 
 abbrev pub IsPlace : List Setting → Declaration → Place → Type 0
 IsPlace ss d place = IsDomain ss d (Ok place.domain) × HasBins ss d place.bins
@@ -105,18 +105,18 @@ IsItemSpan ss (function f) r = r ≡ Err Empty
 IsItemSpan ss (accumulator a) r = r ≡ Err Empty
 IsItemSpan ss (output o) r = r ≡ Err Empty
 
--- ---- what is answered
+-- ---- results
 
--- all is good, or else the fault tells what is wrong, or memory
+-- a value for which Good holds, or else a fault for which Wrong holds, or memory
 abbrev pub IsAnswer : {X : Type 0} → (X → Type 0) → (BoundFault → Type 0) → Result X BoundFault → Type 0
 IsAnswer Good Wrong (Ok x) = Good x
 IsAnswer Good Wrong (Err f) = (f ≡ Memory) ⊎ Wrong f
 
--- of the reads of case n of stage k over a box
+-- for the reads of case n of stage k over a box
 abbrev pub AnswersReads : List Area → (ℤ → ℤ → Type 0) → List Access → ℕ → ℕ → Result (Unit {0}) BoundFault → Type 0
 AnswersReads areas Box accesses k n r = IsAnswer (λ u. AllStay areas Box accesses) (IsFirstRead areas Box accesses k n) r
 
--- of the cases of stage k
+-- for the cases of stage k
 abbrev pub AnswersCases : List Setting → List Area → Area → List ReadCase → ℕ → Result (Unit {0}) BoundFault → Type 0
 AnswersCases ss areas domain cases k r = IsAnswer (λ u. StageStays ss areas domain cases) (IsFirstCase ss areas domain cases k) r
 
@@ -124,7 +124,7 @@ abbrev pub domain_fault : IntervalFault → ℕ → BoundFault
 domain_fault Empty k = EmptyDomain k
 domain_fault TooWide k = DomainTooWide k
 
--- f tells the first stage whose domain is faulty
+-- f reports the first stage whose domain is faulty
 pub record TellsDomain (ss : List Setting) (ds : List Declaration) (stages : List Symbol) (f : BoundFault) : Type 0 where
   pub fault : IntervalFault
   pub stage : ℕ
@@ -135,7 +135,7 @@ abbrev pub table_fault : IntervalFault → ℕ → BoundFault
 table_fault Empty k = EmptyTable k
 table_fault TooWide k = TableTooWide k
 
--- f tells the first table whose span is faulty
+-- f reports the first table whose span is faulty
 pub record TellsTable (ss : List Setting) (ds : List Declaration) (tables : List Symbol) (f : BoundFault) : Type 0 where
   pub fault : IntervalFault
   pub number : ℕ

@@ -1,7 +1,7 @@
 use Rattle.std.proofs.Common.{Some, ◌≤ℤ◌, subst, sym}
 use Rattle.std.specs.Int.{w128}
 use Rattle.std.proofs.lemmas.Int.{to_z-of_z}
-use Rattle.domains.specs.declared.operators.Relation.{Relation}
+use Rattle.operators.specs.declared.operator.Relation.{Relation}
 use Rattle.pipe_bounds.specs.Boxes.{Meets}
 use Rattle.domains.specs.Cuts.{IsCut}
 use Rattle.pipe_bounds.proofs.Cutting.{cut_twice}
