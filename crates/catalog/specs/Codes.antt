@@ -1,17 +1,20 @@
--- A code of formulas, by which a proof tells them apart: the operations one behind the other, each behind its operands.
+-- An encoding of formulas, by which a proof distinguishes them: the operations one after the other, each after its operands.
 use Rattle.std.specs.Prelude.{ℕ, ℤ, pos, ◌≡◌, ◌⊎◌, Bool, true, false, List, [], ◌∷◌, ◌++◌}
 use Rattle.std.proofs.Common.{refl, ap, ◌∙◌, inl, inr}
 use Rattle.std.specs.Coded.{Coded, code_by, coded×, coded⊎, coded_ℕ, coded_ℤ, coded_bool, coded_list}
 use Rattle.domains.specs.Index.{Scale}
-use Rattle.domains.specs.declared.operators.BinaryOp.{BinaryOp}
-use Rattle.domains.specs.declared.operators.LiteralOp.{LiteralOp}
-use Rattle.domains.specs.declared.operators.Relation.{Relation}
+use Rattle.operators.specs.declared.operator.UnaryOp.{UnaryOp}
+use Rattle.operators.specs.declared.operator.BinaryOp.{BinaryOp}
+use Rattle.operators.specs.declared.operator.TernaryOp.{TernaryOp}
+use Rattle.operators.specs.declared.operator.LiteralOp.{LiteralOp}
+use Rattle.operators.specs.declared.operator.Relation.{Relation}
 use Rattle.tables.specs.Entries.{Entries}
-use Rattle.domains.specs.contracts.operators.BinaryOp as binaries
-use Rattle.domains.specs.contracts.operators.LiteralOp as literals
-use Rattle.domains.specs.contracts.operators.Relation as relations
-use Rattle.job.specs.Formula.{row, column, Formula, number, coordinate, read, neg, binary, literal, abs, lookup, clamp, select}
-use Rattle.job.specs.Formula.{stencil}
+use Rattle.operators.specs.contracts.operator.UnaryOp as unaries
+use Rattle.operators.specs.contracts.operator.BinaryOp as binaries
+use Rattle.operators.specs.contracts.operator.TernaryOp as ternaries
+use Rattle.operators.specs.contracts.operator.LiteralOp as literals
+use Rattle.operators.specs.contracts.operator.Relation as relations
+use Rattle.job.specs.Formula.{row, column, Formula, number, coordinate, read, unary, binary, ternary, literal, lookup, select, stencil}
 
 -- ---- leaves and operations
 
@@ -23,7 +26,7 @@ Leaf = (ℤ ⊎ Bool) ⊎ ((ℕ × (Numbers × Numbers)) ⊎ (ℕ × (ℕ × Lis
 
 -- of one operand, of two, of three or of four
 abbrev Operation : Type 0
-Operation = (Bool ⊎ ((LiteralOp × ℕ) ⊎ ((ℤ × ℤ) × List ℤ))) ⊎ (BinaryOp ⊎ (ℕ ⊎ Relation))
+Operation = (UnaryOp ⊎ ((LiteralOp × ℕ) ⊎ ((ℤ × ℤ) × List ℤ))) ⊎ (BinaryOp ⊎ (TernaryOp ⊎ Relation))
 
 abbrev pub Step : Type 0
 Step = Leaf ⊎ Operation
@@ -38,8 +41,9 @@ leaf_code =
 
 abbrev operation_code : Coded Operation
 operation_code =
-    coded⊎ (coded⊎ coded_bool (coded⊎ (coded× literals.the_row.coded coded_ℕ) (coded× (coded× coded_ℤ coded_ℤ) (coded_list coded_ℤ))))
-    (coded⊎ binaries.the_row.coded (coded⊎ coded_ℕ relations.the_row.coded))
+    coded⊎
+    (coded⊎ unaries.the_row.coded (coded⊎ (coded× literals.the_row.coded coded_ℕ) (coded× (coded× coded_ℤ coded_ℤ) (coded_list coded_ℤ))))
+    (coded⊎ binaries.the_row.coded (coded⊎ ternaries.the_row.coded relations.the_row.coded))
 
 abbrev pub step_code : Coded Step
 step_code = coded⊎ leaf_code operation_code
@@ -64,12 +68,11 @@ spelled (coordinate row) = inl (inl (inr true)) ∷ []
 spelled (coordinate column) = inl (inl (inr false)) ∷ []
 spelled (read g i j) = inl (inr (inl (g, (numbers_of i, numbers_of j)))) ∷ []
 spelled (stencil g divisor kernel) = inl (inr (inr (g, (divisor, kernel)))) ∷ []
-spelled (neg a) = spelled a ++ inr (inl (inl true)) ∷ []
-spelled (abs a) = spelled a ++ inr (inl (inl false)) ∷ []
+spelled (unary op a) = spelled a ++ inr (inl (inl op)) ∷ []
 spelled (literal op a n) = spelled a ++ inr (inl (inr (inl (op, n)))) ∷ []
 spelled (lookup t a) = spelled a ++ inr (inl (inr (inr (ends_and_values t)))) ∷ []
 spelled (binary op a b) = spelled a ++ (spelled b ++ inr (inr (inl op)) ∷ [])
-spelled (clamp a b c) = spelled a ++ (spelled b ++ (spelled c ++ inr (inr (inr (inl 0))) ∷ []))
+spelled (ternary op a b c) = spelled a ++ (spelled b ++ (spelled c ++ inr (inr (inr (inl op))) ∷ []))
 spelled (select a relation b c d) = spelled a ++ (spelled b ++ (spelled c ++ (spelled d ++ inr (inr (inr (inr relation))) ∷ [])))
 
 abbrev leaf : Leaf → Formula
@@ -81,12 +84,11 @@ leaf (inr (inr (g, (divisor, kernel)))) = stencil g divisor kernel
 
 -- the operation takes the formulas in front, the last operand first
 abbrev made : Operation → List Formula → List Formula
-made (inl (inl true)) (a ∷ fs) = neg a ∷ fs
-made (inl (inl false)) (a ∷ fs) = abs a ∷ fs
+made (inl (inl op)) (a ∷ fs) = unary op a ∷ fs
 made (inl (inr (inl (op, n)))) (a ∷ fs) = literal op a n ∷ fs
 made (inl (inr (inr t))) (a ∷ fs) = lookup (entries_of t) a ∷ fs
 made (inr (inl op)) (b ∷ a ∷ fs) = binary op a b ∷ fs
-made (inr (inr (inl k))) (c ∷ b ∷ a ∷ fs) = clamp a b c ∷ fs
+made (inr (inr (inl op))) (c ∷ b ∷ a ∷ fs) = ternary op a b c ∷ fs
 made (inr (inr (inr relation))) (d ∷ c ∷ b ∷ a ∷ fs) = select a relation b c d ∷ fs
 made op fs = fs
 
@@ -104,7 +106,7 @@ read_back steps = first (gathered steps [])
 
 -- ---- what was spelled is read back
 
--- two operations one behind the other
+-- one list of operations after the other
 gathered-append : (xs ys : List Step) (fs : List Formula) → gathered (xs ++ ys) fs ≡ gathered ys (gathered xs fs)
 gathered-append [] ys fs = refl
 gathered-append (inl x ∷ xs) ys fs = gathered-append xs ys (leaf x ∷ fs)
@@ -120,17 +122,16 @@ all_back (coordinate row) fs = refl
 all_back (coordinate column) fs = refl
 all_back (read g i j) fs = refl
 all_back (stencil g divisor kernel) fs = refl
-all_back (neg a) fs = both a (inr (inl (inl true)) ∷ []) fs (all_back a fs)
-all_back (abs a) fs = both a (inr (inl (inl false)) ∷ []) fs (all_back a fs)
+all_back (unary op a) fs = both a (inr (inl (inl op)) ∷ []) fs (all_back a fs)
 all_back (literal op a n) fs = both a (inr (inl (inr (inl (op, n)))) ∷ []) fs (all_back a fs)
 all_back (lookup t a) fs = both a (inr (inl (inr (inr (ends_and_values t)))) ∷ []) fs (all_back a fs)
 all_back (binary op a b) fs =
     both a (spelled b ++ inr (inr (inl op)) ∷ []) fs (all_back a fs)
     ∙ both b (inr (inr (inl op)) ∷ []) (a ∷ fs) (all_back b (a ∷ fs))
-all_back (clamp a b c) fs =
-    both a (spelled b ++ (spelled c ++ inr (inr (inr (inl 0))) ∷ [])) fs (all_back a fs)
-    ∙ both b (spelled c ++ inr (inr (inr (inl 0))) ∷ []) (a ∷ fs) (all_back b (a ∷ fs))
-    ∙ both c (inr (inr (inr (inl 0))) ∷ []) (b ∷ a ∷ fs) (all_back c (b ∷ a ∷ fs))
+all_back (ternary op a b c) fs =
+    both a (spelled b ++ (spelled c ++ inr (inr (inr (inl op))) ∷ [])) fs (all_back a fs)
+    ∙ both b (spelled c ++ inr (inr (inr (inl op))) ∷ []) (a ∷ fs) (all_back b (a ∷ fs))
+    ∙ both c (inr (inr (inr (inl op))) ∷ []) (b ∷ a ∷ fs) (all_back c (b ∷ a ∷ fs))
 all_back (select a relation b c d) fs =
     both a (spelled b ++ (spelled c ++ (spelled d ++ inr (inr (inr (inr relation))) ∷ []))) fs (all_back a fs)
     ∙ both b (spelled c ++ (spelled d ++ inr (inr (inr (inr relation))) ∷ [])) (a ∷ fs) (all_back b (a ∷ fs))

@@ -1,5 +1,5 @@
--- What a catalog holds of each job: the canonical text of its program, and its pipeline. The two identities and the bytes that are
--- hashed are told by these.
+-- What a catalog holds of each job: the canonical text of its program, and its pipeline. These determine the two identities and
+-- the bytes that are hashed.
 use Rattle.std.specs.Prelude.{ℕ, ◌≡◌, ◌≤◌, List, Some, length, slice_get}
 use Rattle.sha2.specs.Sha256.{sha256}
 use Rattle.job.specs.declared.job.Job.{Job}
@@ -17,7 +17,7 @@ pub record Entry : Type 0 where
 abbrev pub entry_of : Job → Entry
 entry_of job = record { text = program_text_in job; pipeline = pipeline_in job }
 
--- the digests of the text and of what the program is given
+-- the digests of the text and of the program's input
 abbrev pub ids_of : Entry → Ids
 ids_of entry = record { program = sha256 entry.text; input = input_id entry.pipeline }
 
@@ -25,7 +25,7 @@ ids_of entry = record { program = sha256 entry.text; input = input_id entry.pipe
 abbrev pub AreHashedAlike : Entry → Entry → Type 0
 AreHashedAlike a b = (a.text ≡ b.text) × (input_bytes a.pipeline ≡ input_bytes b.pipeline)
 
--- the job of these identities stands at this place
+-- the job of these identities is at this place
 abbrev pub StandsAt : List Entry → Ids → ℕ → Type 0
 StandsAt entries ids i = (entry : Entry) × (slice_get entries i ≡ Some entry) × (ids_of entry ≡ ids)
 

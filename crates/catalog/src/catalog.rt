@@ -1,4 +1,4 @@
-//! Jobs, told apart by their identities.
+//! Jobs, distinguished by their identities.
 
 ghost use Rattle.std.specs.Prelude.{◌≡◌, ◌++◌, ◌∷◌, [], ℕ, List, length, map, slice_get, IfOk, IfErr, IfSome, IfNone, OnOk, OnErr};
 ghost use Rattle.std.specs.Option.{option_map};
@@ -12,11 +12,11 @@ use job::Job;
 use std::alloc::Global;
 use std::marker::Model;
 
-/// The most jobs of a catalog.
+/// The greatest number of jobs of a catalog.
 pub const MOST_JOBS: usize = 16;
 
-/// At most 16 jobs, in the order in which they were admitted. No two have equal identities. Each keeps the identity of its input, so
-/// that [`find`](Catalog::find) hashes nothing.
+/// At most 16 jobs, in the order in which they were admitted. No two have equal identities. Each keeps the identity of its input,
+/// so that [`find`](Catalog::find) hashes nothing.
 #[derive(Debug, Drop)]
 pub struct Catalog {
     jobs: Vec<Job>,
@@ -38,7 +38,7 @@ impl Model for Catalog {
 }
 
 impl Catalog {
-    /// A catalog without jobs. No memory is taken.
+    /// A catalog without jobs. No memory is allocated.
     pub fn new(alloc: Global) -> Catalog
         ensures { result ≡ [] }
     {
@@ -47,13 +47,13 @@ impl Catalog {
         }
     }
 
-    /// Takes a job in, and gives its index. Where the job is refused it comes back, as the same pipeline and text, and the catalog
-    /// is as before. All samples of its picture are hashed, unless it keeps that identity; where a job has the same identities, the
+    /// Adds a job, and returns its index. A refused job is handed back, as the same pipeline and text, and the catalog is
+    /// unchanged. All samples of its picture are hashed, unless it keeps that identity. If a job has the same identities, the
     /// pictures are compared.
     ///
     /// # Errors
     ///
-    /// The first of `Same`, `Clash`, `Full` and `Memory`. Memory is refused only for a job that is new, where there is room.
+    /// The first of `Same`, `Clash`, `Full` and `Memory`. Memory is refused only for a new job, where the catalog is not full.
     pub fn admit(&mut self, job: Job) -> Result<usize, (Job, AdmitFault)>
         ensures taken { OnOk result (self.new ≡ self.old ++ entry_of job ∷ []) }
         ensures index { IfOk result (λ index. index ≡ length self.old) }
@@ -73,7 +73,7 @@ impl Catalog {
         }
     }
 
-    // Takes a job in that is not refused, unless memory is.
+    // Adds a job that is not refused, unless memory is.
     fn take(&mut self, job: Job) -> Result<usize, Job>
         requires { IsAdmitted self.old (entry_of job) }
         ensures taken { OnOk result (self.new ≡ self.old ++ entry_of job ∷ []) }
@@ -112,7 +112,7 @@ impl Catalog {
         self.jobs().len()
     }
 
-    /// The job of this index. No memory is taken.
+    /// The job of this index. No memory is allocated.
     pub fn job(&self, index: usize) -> Option<&Job>
         ensures job { option_map (λ job. entry_of job.now) result ≡ slice_get self.now index }
         ensures jobs { AreJobs self.now }
@@ -121,7 +121,7 @@ impl Catalog {
         self.jobs().get(index)
     }
 
-    /// The index of the job of these identities. Nothing is hashed, and no memory is taken.
+    /// The index of the job of these identities. Nothing is hashed, and no memory is allocated.
     pub fn find(&self, ids: &Ids) -> Option<usize>
         ensures some { IfSome result (StandsAt self.now ids.now) }
         ensures none { IfNone result ((i : ℕ) → ¬ (StandsAt self.now ids.now i)) }

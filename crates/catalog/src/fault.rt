@@ -2,13 +2,13 @@
 
 use thiserror::Error;
 
-/// The first reason that there is, in this order.
+/// The first reason that applies, in this order.
 #[derive(Clone, Copy, Debug, PartialEq, Eq, Error)]
 pub enum AdmitFault {
-    /// The job is there already: the same bytes are hashed of the one at this index.
+    /// The job is in the catalog already: the same bytes are hashed of the one at this index.
     #[error("the job is there already, at {0}")]
     Same(usize),
-    /// The job at this index has the same identities, and other bytes are hashed of it.
+    /// The job at this index has the same identities, but other bytes are hashed of it.
     #[error("another job at {0} has the same identities")]
     Clash(usize),
     /// The catalog has 16 jobs.

@@ -6,7 +6,8 @@ ghost use Rattle.catalog.specs.Entries.{entry_of, ids_of};
 use identity::Ids;
 use job::Job;
 
-/// The identities of a job. Where it does not keep that of its input (`Job::keep_input_id`), all samples of its picture are hashed.
+/// The identities of a job. Where it does not keep that of its input (`Job::keep_input_id`), all samples of its picture are
+/// hashed.
 pub fn ids_of(job: &Job) -> Ids
     ensures { result ≡ ids_of (entry_of job.now) }
 {

@@ -1,4 +1,4 @@
-//! A catalog: up to 16 jobs, told apart by their identities.
+//! A catalog: up to 16 jobs, distinguished by their identities.
 #![tactic(auto)]
 
 mod catalog;

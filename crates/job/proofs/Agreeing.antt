@@ -1,13 +1,13 @@
 -- Two valuations that have one value for all that is read give one value.
-use Rattle.std.proofs.Common.{ℕ, ◌≡◌, ℤ, pos, neg_ℤ, ◌*ℤ◌, unsigned_abs, List, [], ◌∷◌, ◌++◌, length}
+use Rattle.std.proofs.Common.{ℕ, ◌≡◌, ℤ, pos, ◌*ℤ◌, List, [], ◌∷◌, ◌++◌, length}
 use Rattle.std.proofs.Common.{ap, ◌∙◌, refl}
 use Rattle.std.specs.Prelude.{All, if◌then◌else◌, slice_index_or}
 use Rattle.std.proofs.lemmas.List.Elements.{All-nil, All-cons, All-head, All-tail}
-use Rattle.domains.specs.Arithmetic.{wrapped, floor_div, clamped}
+use Rattle.domains.specs.Arithmetic.{wrapped, floor_div}
 use Rattle.tables.specs.Entries.{entry_at}
-use Rattle.job.specs.Formula.{Formula, number, coordinate, read, neg, binary, literal, abs, lookup, clamp, select, stencil}
-use Rattle.job.specs.Values.{Valuation, binary_value, literal_value, is_related, factors, weighted_sum, formula_value}
-pub use Rattle.operations.proofs.KernelSums.{sum_below-agrees}
+use Rattle.job.specs.Formula.{Formula, number, coordinate, read, unary, binary, ternary, literal, lookup, select, stencil}
+use Rattle.job.specs.Values.{Valuation, unary_value, binary_value, ternary_value, literal_value, is_related, factors, weighted_sum, formula_value}
+pub use Rattle.operators.proofs.KernelSums.{sum_below-agrees}
 use Rattle.job.specs.Reads.{Read, point, window, reads_in, EachTaken, EachRead, SameAt}
 
 -- what holds of each element of two lists holds of those of each
@@ -31,24 +31,23 @@ module _ (e h : Valuation) (r c : ℤ) where
   formula_value-agrees (number n) same = refl
   formula_value-agrees (coordinate x) same = refl
   formula_value-agrees (read g i j) same = All-head (λ x. EachTaken (SameAt e h) x r c) (point g i j) [] same
-  formula_value-agrees (neg a) same = ap (λ (z : ℤ). wrapped (neg_ℤ z)) (formula_value-agrees a same)
+  formula_value-agrees (unary op a) same = ap (unary_value op) (formula_value-agrees a same)
   formula_value-agrees (binary op a b) same =
       ap (λ (z : ℤ). binary_value op z (formula_value e b r c))
       (formula_value-agrees a (All-left (λ x. EachTaken (SameAt e h) x r c) (reads_in a) (reads_in b) same))
       ∙ ap (λ (z : ℤ). binary_value op (formula_value h a r c) z)
       (formula_value-agrees b (All-right (λ x. EachTaken (SameAt e h) x r c) (reads_in a) (reads_in b) same))
-  formula_value-agrees (literal op a n) same = ap (λ (z : ℤ). literal_value op z n) (formula_value-agrees a same)
-  formula_value-agrees (abs a) same = ap (λ (z : ℤ). wrapped (pos (unsigned_abs z))) (formula_value-agrees a same)
-  formula_value-agrees (lookup t a) same = ap (entry_at t) (formula_value-agrees a same)
-  formula_value-agrees (clamp a low high) same =
+  formula_value-agrees (ternary op a b d) same =
       let P : Read → Type 0 = λ x. EachTaken (SameAt e h) x r c in
-      let front : All P (reads_in a ++ reads_in low) = All-left P (reads_in a ++ reads_in low) (reads_in high) same in
-      ap (λ (z : ℤ). clamped z (formula_value e low r c) (formula_value e high r c))
-      (formula_value-agrees a (All-left P (reads_in a) (reads_in low) front))
-      ∙ ap (λ (z : ℤ). clamped (formula_value h a r c) z (formula_value e high r c))
-      (formula_value-agrees low (All-right P (reads_in a) (reads_in low) front))
-      ∙ ap (λ (z : ℤ). clamped (formula_value h a r c) (formula_value h low r c) z)
-      (formula_value-agrees high (All-right P (reads_in a ++ reads_in low) (reads_in high) same))
+      let front : All P (reads_in a ++ reads_in b) = All-left P (reads_in a ++ reads_in b) (reads_in d) same in
+      ap (λ (z : ℤ). ternary_value op z (formula_value e b r c) (formula_value e d r c))
+      (formula_value-agrees a (All-left P (reads_in a) (reads_in b) front))
+      ∙ ap (λ (z : ℤ). ternary_value op (formula_value h a r c) z (formula_value e d r c))
+      (formula_value-agrees b (All-right P (reads_in a) (reads_in b) front))
+      ∙ ap (λ (z : ℤ). ternary_value op (formula_value h a r c) (formula_value h b r c) z)
+      (formula_value-agrees d (All-right P (reads_in a ++ reads_in b) (reads_in d) same))
+  formula_value-agrees (literal op a n) same = ap (λ (z : ℤ). literal_value op z n) (formula_value-agrees a same)
+  formula_value-agrees (lookup t a) same = ap (entry_at t) (formula_value-agrees a same)
   formula_value-agrees (select a relation b first second) same =
       let P : Read → Type 0 = λ x. EachTaken (SameAt e h) x r c in
       let three : All P (reads_in a ++ reads_in b ++ reads_in first) =

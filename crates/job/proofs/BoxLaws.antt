@@ -7,8 +7,8 @@ use Rattle.std.proofs.lemmas.Bool.Decides.{Decides-int_eq}
 use Rattle.domains.specs.Span.{Ends, Holds}
 use Rattle.domains.specs.Area.{HoldsPoint, IsArea}
 use Rattle.domains.specs.declared.area.Area.{Area}
-use Rattle.domains.specs.declared.operators.Relation.{Relation}
-use Rattle.domains.specs.declared.operators.Relation.TheVariants.{AtMost, AtLeast, Equals}
+use Rattle.operators.specs.declared.operator.Relation.{Relation}
+use Rattle.operators.specs.declared.operator.Relation.TheVariants.{AtMost, AtLeast, Equals}
 use Rattle.job.specs.Formula.{row, column, Test, compare, remainder}
 use Rattle.job.specs.Values.{along, is_related, is_passed, all_passed}
 use Rattle.domains.specs.Cuts.{IsCutArea}

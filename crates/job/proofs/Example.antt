@@ -6,7 +6,7 @@ use Rattle.std.proofs.lemmas.Int.{ints}
 use Rattle.std.proofs.lemmas.List.Elements.{All-nil, All-cons, All-from_recursion}
 use Rattle.domains.specs.Area.{HoldsPoint}
 use Rattle.netpbm.specs.Image.{IsPlane, IsImage}
-use Rattle.domains.specs.declared.operators.Relation.TheVariants.{Equals}
+use Rattle.operators.specs.declared.operator.Relation.TheVariants.{Equals}
 use Rattle.job.specs.Formula.{row, column, stencil, compare}
 use Rattle.job.specs.Pipeline.{Stage}
 use Rattle.domains.specs.declared.area.Area.{Area}

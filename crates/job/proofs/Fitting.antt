@@ -1,77 +1,27 @@
 -- Values fit 32 bits.
-use Rattle.std.proofs.Common.{ℕ, zero, suc, arith, ◌≡◌, ◌≤◌, ◌<◌, ◌^◌, ◌*◌, ◌+◌, ℤ, pos, negsuc, ◌≤ℤ◌, ◌<ℤ◌, FitsSigned, w32}
+use Rattle.std.proofs.Common.{ℕ, zero, suc, arith, ◌≡◌, ◌≤◌, ◌*◌, ◌+◌, ℤ, pos, FitsSigned, w32}
 use Rattle.std.proofs.Common.{List, [], ◌∷◌, ◌++◌, Bool, true, false, Option, Some, None, ◌∙◌, refl}
 use Rattle.std.specs.Prelude.{All, map, if◌then◌else◌, slice_index, slice_index_or, unsigned_abs}
-use Rattle.std.specs.Int.{int_gap, int_min, int_max}
+use Rattle.std.specs.Int.{int_gap}
 use Rattle.std.specs.Option.{option_map_or, ForSome}
-use Rattle.std.proofs.lemmas.Int.{ints, clamps, SFits-int_wrap}
+use Rattle.std.proofs.lemmas.Int.{ints, SFits-int_wrap}
 use Rattle.std.proofs.lemmas.List.Elements.{All-head, All-tail}
-use Rattle.domains.specs.Arithmetic.{wrapped, floor_div, floor_rem, clamped}
-use Rattle.domains.proofs.Floors.{floor_splits, floor_div_rises, floor_div_within}
+use Rattle.domains.specs.Arithmetic.{wrapped, clamped}
 use Rattle.netpbm.specs.Image.{Image, IsPlane, IsImage}
-use Rattle.domains.specs.declared.operators.BinaryOp.{BinaryOp}
-use Rattle.domains.specs.declared.operators.BinaryOp.TheVariants.{Add, Sub, Mul, Min, Max}
-use Rattle.domains.specs.declared.operators.LiteralOp.{LiteralOp}
-use Rattle.domains.specs.declared.operators.LiteralOp.TheVariants.{Div, Rem, Shl, Shr}
-use Rattle.std.proofs.lemmas.Nat.{pow_pos}
+pub use Rattle.operators.proofs.Fitting.{from_bounds, quotient_fits, unary_fits, binary_fits, ternary_fits, literal_fits}
 use Rattle.domains.specs.Area.{HoldsPoint}
 use Rattle.domains.specs.declared.area.Area.{Area}
 use Rattle.tables.specs.Entries.{Entries, IsEntries, entry_at}
-use Rattle.job.specs.Formula.{Axis, row, column, Formula, number, coordinate, read, neg, binary, literal, abs, lookup, clamp, select}
-use Rattle.job.specs.Formula.{stencil}
+use Rattle.job.specs.Formula.{Axis, row, column, Formula, number, coordinate, read, unary, binary, ternary, literal, lookup, select, stencil}
 use Rattle.job.specs.Pipeline.{JobCase, Body, plane, function, accumulator}
-use Rattle.job.specs.Values.{Valuation, binary_value, literal_value, is_related, along, weighted_sum, formula_value, all_passed}
+use Rattle.job.specs.Values.{Valuation, is_related, along, weighted_sum, formula_value, all_passed}
 use Rattle.job.specs.Values.{chosen, sample_at, body_value}
 use Rattle.job.specs.Reads.{Read, point, reads_in, EachTaken, EachRead, CaseReads, BodyReads, other_formula, formulas_of}
 use Rattle.job.specs.Boxes.{box_of, AreBoxed}
-use Rattle.job.specs.WellFormed.{IsDivisor, IsLiteral, IsFormula}
+use Rattle.job.specs.WellFormed.{IsFormula}
 use Rattle.job.proofs.Agreeing.{All-left, All-right}
 use Rattle.job.proofs.Steps.{All-from_map, All-both, other_each}
 use Rattle.job.proofs.BoxLaws.{passed_in_box}
-
--- ---- bounds
-
-pub from_bounds : (z : ℤ) → negsuc 2147483647 ≤ℤ z → z ≤ℤ pos 2147483647 → FitsSigned w32 z
-from_bounds (pos n) low high = omega (arith, ints)
-from_bounds (negsuc n) low high = omega (arith, ints)
-
-pub to_bounds : (z : ℤ) → FitsSigned w32 z → (negsuc 2147483647 ≤ℤ z) × (z ≤ℤ pos 2147483647)
-to_bounds (pos n) fits = (omega (arith, ints), omega (arith, ints))
-to_bounds (negsuc n) fits = (omega (arith, ints), omega (arith, ints))
-
-min_fits : (a b : ℤ) → FitsSigned w32 a → FitsSigned w32 b → FitsSigned w32 (int_min a b)
-min_fits a b f g =
-    let x = to_bounds a f in let y = to_bounds b g in
-    let a_low = x.0 in let a_high = x.1 in let b_low = y.0 in let b_high = y.1 in
-    from_bounds (int_min a b) (omega (arith, ints, clamps)) (omega (arith, ints, clamps))
-
-max_fits : (a b : ℤ) → FitsSigned w32 a → FitsSigned w32 b → FitsSigned w32 (int_max a b)
-max_fits a b f g =
-    let x = to_bounds a f in let y = to_bounds b g in
-    let a_low = x.0 in let a_high = x.1 in let b_low = y.0 in let b_high = y.1 in
-    from_bounds (int_max a b) (omega (arith, ints, clamps)) (omega (arith, ints, clamps))
-
-pub clamped_fits : (a low high : ℤ) → FitsSigned w32 a → FitsSigned w32 low → FitsSigned w32 high → FitsSigned w32 (clamped a low high)
-clamped_fits a low high f g h = min_fits (int_max a low) high (max_fits a low f g) h
-
-above_zero : (n : ℕ) → 1 ≤ n → pos 0 <ℤ pos n
-above_zero n h = omega (arith, ints)
-
-pub quotient_fits : (a : ℤ) (n : ℕ) → 1 ≤ n → FitsSigned w32 a → FitsSigned w32 (floor_div a (pos n))
-quotient_fits a n some fits =
-    let d = above_zero n some in
-    let x = to_bounds a fits in
-    let low = x.0 in let high = x.1 in
-    let least = (floor_div_within a (pos n) 2147483647 d low (omega (arith, ints))).0 in
-    let rises = floor_div_rises a (pos 2147483647) (pos n) d high in
-    let most = (floor_div_within (pos 2147483647) (pos n) 2147483646 d (omega (arith, ints)) (omega (arith, ints))).1 in
-    from_bounds (floor_div a (pos n)) least (omega (arith, ints))
-
-rest_fits : (a : ℤ) (n : ℕ) → IsDivisor n → FitsSigned w32 (floor_rem a (pos n))
-rest_fits a n is =
-    let split = floor_splits a (pos n) (above_zero n is.0) in
-    let least = split.least in let below = split.below in let few = is.1 in
-    from_bounds (floor_rem a (pos n)) (omega (arith, ints)) (omega (arith, ints))
 
 -- ---- samples
 
@@ -94,23 +44,7 @@ sample_fits picture n r c is =
     small_fits _ picture.max (plane_bounded (picture.rows * picture.cols) picture.max picture.planes n
     (unsigned_abs r * picture.cols + unsigned_abs c) is.planes) is.max.most
 
--- ---- operations
-
-binary_fits : (op : BinaryOp) (a b : ℤ) → FitsSigned w32 a → FitsSigned w32 b → FitsSigned w32 (binary_value op a b)
-binary_fits Add a b f g = SFits-int_wrap w32 _
-binary_fits Sub a b f g = SFits-int_wrap w32 _
-binary_fits Mul a b f g = SFits-int_wrap w32 _
-binary_fits Min a b f g = min_fits a b f g
-binary_fits Max a b f g = max_fits a b f g
-
-literal_fits : (op : LiteralOp) (a : ℤ) (n : ℕ) → IsLiteral op n → FitsSigned w32 a → FitsSigned w32 (literal_value op a n)
-literal_fits Div a n is f = quotient_fits a n is.0 f
-literal_fits Rem a n is f = rest_fits a n is
-literal_fits Shl a n is f = SFits-int_wrap w32 _
-literal_fits Shr a n is f = quotient_fits a (2 ^ n) (at_least_one (2 ^ n) (pow_pos n)) f
-  where
-    at_least_one : (m : ℕ) → 0 < m → 1 ≤ m
-    at_least_one m h = omega arith
+-- ---- selects
 
 one_of_fits : (b : Bool) (x y : ℤ) → FitsSigned w32 x → FitsSigned w32 y → FitsSigned w32 (if b then x else y)
 one_of_fits true x y f g = f
@@ -142,20 +76,19 @@ module _ (env : Valuation) (r c : ℤ) (row_fits : FitsSigned w32 r) (column_fit
   formula_fits (number n) is reads = is
   formula_fits (coordinate x) is reads = along_fits x
   formula_fits (read g i j) is reads = All-head TakenFits (point g i j) [] reads
-  formula_fits (neg a) is reads = SFits-int_wrap w32 _
+  formula_fits (unary op a) is reads = unary_fits op (formula_value env a r c) (formula_fits a is reads)
   formula_fits (binary op a b) is reads =
       binary_fits op (formula_value env a r c) (formula_value env b r c)
       (formula_fits a is.0 (All-left TakenFits (reads_in a) (reads_in b) reads))
       (formula_fits b is.1 (All-right TakenFits (reads_in a) (reads_in b) reads))
+  formula_fits (ternary op a b d) is reads =
+      let front : All TakenFits (reads_in a ++ reads_in b) = All-left TakenFits (reads_in a ++ reads_in b) (reads_in d) reads in
+      ternary_fits op (formula_value env a r c) (formula_value env b r c) (formula_value env d r c)
+      (formula_fits a is.0 (All-left TakenFits (reads_in a) (reads_in b) front))
+      (formula_fits b is.1 (All-right TakenFits (reads_in a) (reads_in b) front))
+      (formula_fits d is.2 (All-right TakenFits (reads_in a ++ reads_in b) (reads_in d) reads))
   formula_fits (literal op a n) is reads = literal_fits op (formula_value env a r c) n is.0 (formula_fits a is.1 reads)
-  formula_fits (abs a) is reads = SFits-int_wrap w32 _
   formula_fits (lookup t a) is reads = entry_fits t is.0 (formula_value env a r c)
-  formula_fits (clamp a low high) is reads =
-      let front : All TakenFits (reads_in a ++ reads_in low) = All-left TakenFits (reads_in a ++ reads_in low) (reads_in high) reads in
-      clamped_fits (formula_value env a r c) (formula_value env low r c) (formula_value env high r c)
-      (formula_fits a is.0 (All-left TakenFits (reads_in a) (reads_in low) front))
-      (formula_fits low is.1 (All-right TakenFits (reads_in a) (reads_in low) front))
-      (formula_fits high is.2 (All-right TakenFits (reads_in a ++ reads_in low) (reads_in high) reads))
   formula_fits (select a relation b first second) is reads =
       let three : All TakenFits (reads_in a ++ reads_in b ++ reads_in first) =
       All-left TakenFits (reads_in a ++ reads_in b ++ reads_in first) (reads_in second) reads in

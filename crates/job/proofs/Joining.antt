@@ -4,8 +4,8 @@ use Rattle.std.specs.Prelude.{fold}
 use Rattle.std.specs.Int.{int_wrap, int_min, int_max}
 use Rattle.std.proofs.lemmas.Int.{ints, clamps, int_wrap-add_left, int_wrap-add_right, fold-int_min_bounds, fold-int_max_bounds}
 use Rattle.std.proofs.lemmas.List.Sums.{fold-append}
-use Rattle.domains.specs.declared.operators.Fold.{Fold}
-use Rattle.domains.specs.declared.operators.Fold.TheVariants.{Sum, Min, Max}
+use Rattle.operators.specs.declared.operator.Fold.{Fold}
+use Rattle.operators.specs.declared.operator.Fold.TheVariants.{Sum, Min, Max}
 use Rattle.job.specs.Totals.{start_of, total_of, joined}
 
 plus_assoc : (a b x : ℤ) → a +ℤ b +ℤ x ≡ a +ℤ (b +ℤ x)

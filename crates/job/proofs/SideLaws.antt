@@ -1,19 +1,14 @@
--- What a job answers knows of no sides of tiles, and with wider tiles a job stays one.
-use Rattle.std.proofs.Common.{◌≡◌, ◌≤◌, ◌<◌, ◌*◌, ℕ, zero, suc, refl, arith, map, slice_get, inl, inr}
-use Rattle.std.specs.Prelude.{slice_index, []}
-use Rattle.std.specs.Int.{div_ceil}
+-- What a job answers knows of no sides of tiles, and in tiles of other sides a job stays one.
+use Rattle.std.proofs.Common.{◌≡◌, ℕ, zero, suc, refl, map, slice_get}
+use Rattle.std.specs.Prelude.{slice_index, [], All}
 use Rattle.std.specs.Option.{option_map, option_map_or}
-use Rattle.std.proofs.lemmas.Bool.{cases_lt}
 use Rattle.std.proofs.lemmas.List.Elements.{All-weaker}
-use Rattle.std.proofs.Math.Nat.{mul-le-mul_left, mul-le-mul_right}
-use Rattle.domains.proofs.PartsOfSpans.{starts_below, starts_in}
+use Rattle.domains.proofs.Places.{all_at}
 use Rattle.domains.specs.Area.{points_of}
 use Rattle.domains.specs.Sides.{Sides, IsSides}
-use Rattle.domains.specs.Span.{len_of}
-use Rattle.domains.specs.Tiles.{tile_rows, tile_cols}
-use Rattle.job.specs.Answers.{grid_of, height_of, image, sample_of, width_of}
+use Rattle.job.specs.Answers.{height_of, image, sample_of, width_of}
 use Rattle.job.specs.Pipeline.{Output, Pipeline, rank_of}
-use Rattle.job.specs.TileSides.{wider, with_sides}
+use Rattle.job.specs.TileSides.{HasFewTiles, with_sides}
 use Rattle.job.specs.Totals.{body_totals, totals}
 use Rattle.job.specs.Values.{stage_value, value, value_within}
 use Rattle.job.specs.WellFormed.{IsJob, IsOutput, IsOutputPlane}
@@ -40,27 +35,6 @@ same_image job s = λ i. option_map
           (slice_get job.stages g) []) o.stages;
     }) job.output
 
--- ---- tiles
-
--- wider parts are no more
-fewer_parts : (n s t : ℕ) → 1 ≤ s → s ≤ t → div_ceil n t ≤ div_ceil n s
-fewer_parts n s t some wide =
-    elim (cases_lt (div_ceil n s) (div_ceil n t)) [
-      | inr h ↦ h
-      | inl h ↦
-          let i = div_ceil n s in
-          let below : i * t < n = starts_below n t i (omega (arith, some, wide)) h in
-          let less : i * s ≤ i * t = mul-le-mul_left i wide in
-          let again : i < div_ceil n s = starts_in n s i some (omega (arith, below, less)) in
-          absurd (omega (arith, again))
-    ]
-
-fewer_tiles : (a b c d : ℕ) → a ≤ c → b ≤ d → c * d ≤ 65536 → a * b ≤ 65536
-fewer_tiles a b c d rows cols few =
-    let one : a * b ≤ a * d = mul-le-mul_left a cols in
-    let two : a * d ≤ c * d = mul-le-mul_right d rows in
-    omega (arith, one, two, few)
-
 -- ---- jobs
 
 output_stays : (job : Pipeline) (s : Sides) (o : Output) → IsOutput job o → IsOutput (with_sides s job) o
@@ -78,11 +52,9 @@ output_stays job s o is =
       max = is.max;
     }
 
-pub wider_job : (job : Pipeline) (sides : Sides) → IsJob job → IsSides sides → IsJob (with_sides (wider job.sides sides) job)
-wider_job job sides is wide =
-    let both = wider job.sides sides in
-    let tall : job.sides.height ≤ both.height = omega arith in
-    let long : job.sides.width ≤ both.width = omega arith in
+-- a job stays one under other sides of tiles, of which no stage has too many
+pub resized_job : (job : Pipeline) (sides : Sides) → IsJob job → IsSides sides → All (HasFewTiles sides) job.stages → IsJob (with_sides sides job)
+resized_job job sides is fit few =
     record {
       stages = λ g s there.
           let stage = is.stages g s there in
@@ -94,23 +66,13 @@ wider_job job sides is wide =
             boxes = stage.boxes;
             formulas = stage.formulas;
             reads = stage.reads;
-            tiles = λ has.
-                fewer_tiles (tile_rows (grid_of (with_sides both job) s)) (tile_cols (grid_of (with_sides both job) s))
-                (tile_rows (grid_of job s)) (tile_cols (grid_of job s))
-                (fewer_parts (len_of s.domain.rows) job.sides.height both.height is.sides.height_least tall)
-                (fewer_parts (len_of s.domain.cols) job.sides.width both.width is.sides.width_least long)
-                (stage.tiles has);
+            tiles = all_at (HasFewTiles sides) job.stages g s few there;
           };
       few_stages = is.few_stages;
-      output = λ o there. output_stays job both o (is.output o there);
+      output = λ o there. output_stays job sides o (is.output o there);
       params = is.params;
       tables = is.tables;
       few_tables = is.few_tables;
       picture = is.picture;
-      sides = record {
-        height_least = omega (arith, is.sides.height_least);
-        height_most = omega (arith, is.sides.height_most, wide.height_most);
-        width_least = omega (arith, is.sides.width_least);
-        width_most = omega (arith, is.sides.width_most, wide.width_most);
-      };
+      sides = fit;
     }

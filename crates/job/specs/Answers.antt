@@ -15,11 +15,11 @@ use Rattle.job.specs.Values.{value}
 
 -- ---- the picture
 
--- a value cut to 0 and to the greatest sample
+-- a value clamped to 0 and the greatest sample
 abbrev pub sample_of : ℕ → ℤ → ℕ
 sample_of max v = unsigned_abs (clamped v (pos 0) (pos max))
 
--- the cut values of a stage on an area, row by row
+-- the clamped values of a stage on an area, row by row
 abbrev pub samples_over : Pipeline → ℕ → ℕ → Area → List ℕ
 samples_over job max g area = map (λ p. sample_of max (value job g p.0 p.1)) (points_of area)
 
@@ -86,6 +86,6 @@ is_accumulator_at job g = option_map_or (λ s. is_accumulator s.body) (slice_get
 abbrev pub is_result : Pipeline → ℕ → Bool
 is_result job g = is_output job g || is_accumulator_at job g
 
--- the tiles from which the answer is put together: those of outputs and accumulators, each once, stage by stage
+-- the tiles from which the answer is assembled: those of outputs and accumulators, each once, stage by stage
 abbrev pub wanted : Pipeline → List Tile
 wanted job = flat_map (tiles job) (filter (is_result job) (range_with_len 0 (length job.stages)))

@@ -3,11 +3,11 @@ use Rattle.std.specs.Prelude.{ℤ, ◌≡◌, int_le, ◌&&◌, if◌then◌else
 use Rattle.std.specs.Int.{int_min, int_max}
 use Rattle.domains.specs.Span.{Ends}
 use Rattle.domains.specs.declared.area.Area.{Area}
-use Rattle.domains.specs.declared.operators.Relation.{Relation}
-use Rattle.domains.specs.declared.operators.Relation.TheVariants.{AtMost, AtLeast, Equals}
+use Rattle.operators.specs.declared.operator.Relation.{Relation}
+use Rattle.operators.specs.declared.operator.Relation.TheVariants.{AtMost, AtLeast, Equals}
 use Rattle.job.specs.Formula.{Axis, row, column, Test, compare, remainder}
 use Rattle.job.specs.Pipeline.{Body, plane, function, accumulator}
-pub use Rattle.operations.specs.Bounds.{Relates, BoundHolds, BoundsHold}
+pub use Rattle.operators.specs.Bounds.{Relates, BoundHolds, BoundsHold}
 
 -- ---- the box, by its ends
 

@@ -1,7 +1,7 @@
 -- What contracts see of a case in memory.
 use Rattle.std.specs.Prelude.{map}
 use Rattle.job.specs.declared.stage.JobCase.{JobCase as KeptCase}
-use Rattle.operations.specs.Views.{test_view}
+use Rattle.operators.specs.Views.{test_view}
 use Rattle.job.specs.Pipeline.{JobCase}
 use Rattle.job.specs.FormulaViews.{formula_view}
 

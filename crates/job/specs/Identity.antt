@@ -46,7 +46,7 @@ settings_bytes job = settings_by job job.tables
 abbrev pub input_bytes : Pipeline → List ℕ
 input_bytes job = settings_bytes job ++ spelling job.picture
 
--- the identity of what the program is given
+-- the identity of the program's input
 abbrev pub input_id : Pipeline → List ℕ
 input_id job = sha256 (input_bytes job)
 

@@ -3,11 +3,12 @@ use Rattle.std.specs.Prelude.{ℤ, pos, negsuc, Some, None, List, [], ◌∷◌}
 use Rattle.domains.specs.Index.{Scale}
 use Rattle.domains.specs.declared.area.Area.{Area}
 use Rattle.netpbm.specs.Image.{image}
-use Rattle.domains.specs.declared.operators.BinaryOp.TheVariants.{Add, Mul}
-use Rattle.domains.specs.declared.operators.LiteralOp.TheVariants.{Shl}
-use Rattle.domains.specs.declared.operators.Relation.TheVariants.{AtMost, AtLeast}
-use Rattle.domains.specs.declared.operators.Fold.TheVariants.{Max}
-use Rattle.job.specs.Formula.{row, column, number, coordinate, read, neg, binary, literal, stencil, Test, compare, remainder}
+use Rattle.operators.specs.declared.operator.UnaryOp.TheVariants.{Neg}
+use Rattle.operators.specs.declared.operator.BinaryOp.TheVariants.{Add, Mul}
+use Rattle.operators.specs.declared.operator.LiteralOp.TheVariants.{Shl}
+use Rattle.operators.specs.declared.operator.Relation.TheVariants.{AtMost, AtLeast}
+use Rattle.operators.specs.declared.operator.Fold.TheVariants.{Max}
+use Rattle.job.specs.Formula.{row, column, number, coordinate, read, unary, binary, literal, stencil, Test, compare, remainder}
 use Rattle.job.specs.Pipeline.{function, accumulator, Stage, Pipeline}
 use Rattle.job.specs.Worked.{ends, area, sides, same, plane_stage, everywhere, job_of}
 
@@ -89,7 +90,7 @@ greatest_samples =
             name = 109 ∷ [];
             rank = 1;
             domain = area (pos 1) (pos 2);
-            body = accumulator Max (ends (negsuc 0) (pos 1)) (read 0 same same) (binary Add (coordinate column) (neg (number (pos 1))));
+            body = accumulator Max (ends (negsuc 0) (pos 1)) (read 0 same same) (binary Add (coordinate column) (unary Neg (number (pos 1))));
           }
           ∷ [];
       output = None;

@@ -1,12 +1,12 @@
--- A job as contracts see it: the stages of a program at its parameters' values, the tables and the picture that it was given, and
--- the sides of tiles.
+-- A job as contracts see it: the stages of a program at its parameters' values, the supplied tables and picture, and the sides of
+-- tiles.
 use Rattle.std.specs.Prelude.{ℕ, ℤ, Option, List, slice_get}
 use Rattle.std.specs.Option.{option_map_or}
 use Rattle.domains.specs.Span.{Ends}
 use Rattle.domains.specs.Sides.{Sides}
 use Rattle.domains.specs.declared.area.Area.{Area}
 use Rattle.netpbm.specs.Image.{Image}
-use Rattle.domains.specs.declared.operators.Fold.{Fold}
+use Rattle.operators.specs.declared.operator.Fold.{Fold}
 use Rattle.tables.specs.declared.table.Table.{Table}
 use Rattle.job.specs.Formula.{Formula, Test}
 
@@ -16,8 +16,8 @@ pub record JobCase : Type 0 where
   pub tests : List Test
   pub formula : Formula
 
--- what stands at each point: a plane of the picture, by its number; cases, and what holds elsewhere; or, of an
--- accumulator, how it joins what bins, and of each point the value and the bin
+-- what a stage is at each point: a plane of the picture, by its number; or cases, and what holds elsewhere. An accumulator has
+-- how it joins which bins, and of each point the value and the bin
 pub data Body : Type 0 where
   plane : ℕ → Body
   function : List JobCase → Option Formula → Body

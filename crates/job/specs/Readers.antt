@@ -1,8 +1,8 @@
--- What is told of a stage.
+-- What is reported of a stage.
 use Rattle.std.specs.Prelude.{ℕ, if◌then◌else◌, Option, Some, None, List, slice_get}
 use Rattle.domains.specs.Span.{Ends}
 use Rattle.domains.specs.declared.grid.Grid.{Grid}
-use Rattle.domains.specs.declared.operators.Fold.{Fold}
+use Rattle.operators.specs.declared.operator.Fold.{Fold}
 use Rattle.job.specs.declared.job.StageKind.{StageKind}
 use Rattle.job.specs.declared.job.StageKind.TheVariants.{Plane, Function, Accumulator}
 use Rattle.job.specs.Pipeline.{JobCase, Body, plane, function, accumulator, Stage, Pipeline}
@@ -16,7 +16,7 @@ body_kind (accumulator fold bins value bin) = Accumulator
 abbrev pub kind_of : Stage → StageKind
 kind_of s = body_kind s.body
 
--- how an accumulator joins what bins
+-- how an accumulator joins, and which bins
 abbrev pub fold_of : Body → Option Fold
 fold_of (plane n) = None
 fold_of (function cases otherwise) = None

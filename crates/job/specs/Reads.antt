@@ -6,7 +6,7 @@ use Rattle.domains.specs.Index.{Scale, index_at}
 use Rattle.domains.specs.Area.{HoldsPoint}
 use Rattle.domains.specs.declared.area.Area.{Area}
 use Rattle.domains.specs.Greatest.{greatest}
-use Rattle.job.specs.Formula.{Formula, number, coordinate, read, neg, binary, literal, abs, lookup, clamp, select, stencil}
+use Rattle.job.specs.Formula.{Formula, number, coordinate, read, unary, binary, ternary, literal, lookup, select, stencil}
 use Rattle.job.specs.Pipeline.{JobCase, Body, plane, function, accumulator, Stage, rank_of}
 use Rattle.job.specs.Values.{Valuation, factors, kernel_row, kernel_column}
 
@@ -24,12 +24,11 @@ abbrev pub reads_in : Formula → List Read
 reads_in (number n) = []
 reads_in (coordinate x) = []
 reads_in (read g i j) = point g i j ∷ []
-reads_in (neg a) = reads_in a
+reads_in (unary op a) = reads_in a
 reads_in (binary op a b) = reads_in a ++ reads_in b
+reads_in (ternary op a b c) = reads_in a ++ reads_in b ++ reads_in c
 reads_in (literal op a n) = reads_in a
-reads_in (abs a) = reads_in a
 reads_in (lookup t a) = reads_in a
-reads_in (clamp a low high) = reads_in a ++ reads_in low ++ reads_in high
 reads_in (select a relation b first second) = reads_in a ++ reads_in b ++ reads_in first ++ reads_in second
 reads_in (stencil g divisor kernel) = window g kernel ∷ []
 
@@ -59,7 +58,7 @@ AgreeOver e h region f = (r c : ℤ) → HoldsPoint region r c → EachRead (Sam
 abbrev pub CaseReads : (ℕ → ℤ → ℤ → Type 0) → JobCase → ℤ → ℤ → Type 0
 CaseReads P p r c = ForSome p.box (λ box. HoldsPoint box r c → EachRead P p.formula r c)
 
--- P holds of all that a stage reads at a point. What stands elsewhere than in the cases counts at each point
+-- P holds of all that a stage reads at a point. The formula outside the cases counts at each point
 abbrev pub BodyReads : (ℕ → ℤ → ℤ → Type 0) → Body → ℤ → ℤ → Type 0
 BodyReads P (plane n) r c = Unit {0}
 BodyReads P (function cases otherwise) r c = All (λ p. CaseReads P p r c) cases × ForSome otherwise (λ f. EachRead P f r c)

@@ -1,7 +1,10 @@
 -- The same job under other sides of tiles.
-use Rattle.std.specs.Prelude.{max}
+use Rattle.std.specs.Prelude.{◌*◌, ◌≤◌, IsTrue}
 use Rattle.domains.specs.Sides.{Sides}
-use Rattle.job.specs.Pipeline.{Pipeline}
+use Rattle.domains.specs.declared.grid.Grid.{Grid}
+use Rattle.domains.specs.Tiles.{tile_rows, tile_cols}
+use Rattle.job.specs.Answers.{has_tiles}
+use Rattle.job.specs.Pipeline.{Pipeline, Stage}
 
 abbrev pub with_sides : Sides → Pipeline → Pipeline
 with_sides sides job =
@@ -14,6 +17,8 @@ with_sides sides job =
       sides = sides;
     }
 
--- the least sides that are at least both
-abbrev pub wider : Sides → Sides → Sides
-wider a b = record { height = max a.height b.height; width = max a.width b.width }
+-- a function or accumulator has at most 65,536 tiles of these sides
+abbrev pub HasFewTiles : Sides → Stage → Type 0
+HasFewTiles sides s =
+    let grid : Grid = record { area = s.domain; sides = sides } in
+    IsTrue (has_tiles s.body) → tile_rows grid * tile_cols grid ≤ 65536

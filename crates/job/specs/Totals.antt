@@ -1,4 +1,4 @@
--- What an accumulator gathers in its bins.
+-- What an accumulator accumulates in its bins.
 use Rattle.std.specs.Prelude.{ℕ, ℤ, pos, negsuc, ◌+ℤ◌, List, [], map, filter, fold, slice_get}
 use Rattle.std.specs.Int.{int_min, int_max}
 use Rattle.std.specs.Option.{option_map_or}
@@ -7,13 +7,13 @@ use Rattle.domains.specs.Arithmetic.{wrapped_long}
 use Rattle.domains.specs.Span.{numbers_of}
 use Rattle.domains.specs.Area.{points_of}
 use Rattle.domains.specs.declared.area.Area.{Area}
-use Rattle.domains.specs.declared.operators.Fold.{Fold}
-use Rattle.domains.specs.declared.operators.Fold.TheVariants.{Sum, Min, Max}
+use Rattle.operators.specs.declared.operator.Fold.{Fold}
+use Rattle.operators.specs.declared.operator.Fold.TheVariants.{Sum, Min, Max}
 use Rattle.job.specs.Formula.{Formula}
 use Rattle.job.specs.Pipeline.{Body, plane, function, accumulator, Pipeline}
 use Rattle.job.specs.Values.{Valuation, formula_value, value}
 
--- what a bin starts from, which it stays at where no point has this bin
+-- the start of a bin, which it keeps if no point has this bin
 abbrev pub start_of : Fold → ℤ
 start_of Sum = pos 0
 start_of Min = pos 9223372036854775807
@@ -25,7 +25,7 @@ total_of Sum vs = wrapped_long (fold ◌+ℤ◌ (start_of Sum) vs)
 total_of Min vs = fold int_min (start_of Min) vs
 total_of Max vs = fold int_max (start_of Max) vs
 
--- the total of two lists, one behind the other, by the totals of each
+-- the total of two lists, one after the other, by the totals of each
 abbrev pub joined : Fold → ℤ → ℤ → ℤ
 joined Sum a b = wrapped_long (a +ℤ b)
 joined Min a b = int_min a b

@@ -1,15 +1,14 @@
 -- The value of a stage at a point.
-use Rattle.std.specs.Prelude.{ℕ, zero, suc, ◌+◌, ◌*◌, ℤ, pos, neg_ℤ, ◌*ℤ◌, unsigned_abs}
+use Rattle.std.specs.Prelude.{ℕ, zero, suc, ◌+◌, ◌*◌, ℤ, pos, ◌*ℤ◌, unsigned_abs}
 use Rattle.std.specs.Prelude.{if◌then◌else◌, Option, Some, None}
 use Rattle.std.specs.Prelude.{List, [], ◌∷◌, length, slice_get, slice_index, slice_index_or}
 use Rattle.std.specs.Option.{option_map_or}
-use Rattle.domains.specs.Arithmetic.{wrapped, floor_div, clamped}
+use Rattle.domains.specs.Arithmetic.{wrapped, floor_div}
 use Rattle.domains.specs.Index.{index_at}
 use Rattle.netpbm.specs.Image.{Image}
 use Rattle.tables.specs.Entries.{entry_at}
-use Rattle.job.specs.Formula.{Formula, number, coordinate, read, neg, binary, literal, abs, lookup, clamp, select}
-use Rattle.job.specs.Formula.{stencil}
-pub use Rattle.operations.specs.Values.{binary_value, literal_value, is_related, along, sum_below, factors, under, is_passed, all_passed}
+use Rattle.job.specs.Formula.{Formula, number, coordinate, read, unary, binary, ternary, literal, lookup, select, stencil}
+pub use Rattle.operators.specs.Values.{unary_value, binary_value, ternary_value, literal_value, is_related, along, sum_below, factors, under, is_passed, all_passed}
 use Rattle.job.specs.Pipeline.{JobCase, Body, plane, function, accumulator, Stage, Pipeline, rank_of}
 
 -- a number for each stage, row and column
@@ -37,12 +36,11 @@ abbrev pub formula_value : Valuation → Formula → ℤ → ℤ → ℤ
 formula_value env (number n) r c = n
 formula_value env (coordinate x) r c = along x r c
 formula_value env (read g i j) r c = env g (index_at i r) (index_at j c)
-formula_value env (neg a) r c = wrapped (neg_ℤ (formula_value env a r c))
+formula_value env (unary op a) r c = unary_value op (formula_value env a r c)
 formula_value env (binary op a b) r c = binary_value op (formula_value env a r c) (formula_value env b r c)
+formula_value env (ternary op a b d) r c = ternary_value op (formula_value env a r c) (formula_value env b r c) (formula_value env d r c)
 formula_value env (literal op a n) r c = literal_value op (formula_value env a r c) n
-formula_value env (abs a) r c = wrapped (pos (unsigned_abs (formula_value env a r c)))
 formula_value env (lookup t a) r c = entry_at t (formula_value env a r c)
-formula_value env (clamp a low high) r c = clamped (formula_value env a r c) (formula_value env low r c) (formula_value env high r c)
 formula_value env (select a relation b first second) r c =
     if is_related relation (formula_value env a r c) (formula_value env b r c)
     then formula_value env first r c
@@ -56,7 +54,7 @@ abbrev pub chosen : List JobCase → Option Formula → ℤ → ℤ → Option F
 chosen [] otherwise r c = otherwise
 chosen (p ∷ ps) otherwise r c = if all_passed p.tests r c then Some p.formula else chosen ps otherwise r c
 
--- a sample of a plane, whose samples stand row by row
+-- a sample of a plane, whose samples are listed row by row
 abbrev pub sample_at : Image → ℕ → ℤ → ℤ → ℤ
 sample_at picture n r c = pos (slice_index (slice_index_or picture.planes n []) (unsigned_abs r * picture.cols + unsigned_abs c))
 
@@ -70,7 +68,7 @@ abbrev pub stage_value : Pipeline → Valuation → Option Stage → ℤ → ℤ
 stage_value job env None r c = pos 0
 stage_value job env (Some s) r c = body_value job.picture env s.body r c
 
--- the values of the stages whose ranks are below this number; of the others it says nothing
+-- the values of the stages whose ranks are below this number; of the others it specifies nothing
 abbrev pub value_within : Pipeline → ℕ → Valuation
 value_within job zero g r c = pos 0
 value_within job (suc n) g r c = stage_value job (value_within job n) (slice_get job.stages g) r c

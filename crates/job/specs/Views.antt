@@ -7,7 +7,7 @@ use Rattle.job.specs.declared.stage.Stage.{Stage as KeptStage}
 use Rattle.job.specs.declared.outputs.Output.{Output as KeptOutput}
 use Rattle.job.specs.declared.outputs.Parameter.{Parameter as KeptParameter}
 use Rattle.job.specs.declared.bound_pipeline.BoundPipeline.{BoundPipeline}
-pub use Rattle.operations.specs.Views.{axis_view, test_view}
+pub use Rattle.operators.specs.Views.{axis_view, test_view}
 pub use Rattle.job.specs.FormulaViews.{formula_view}
 pub use Rattle.job.specs.CaseViews.{case_view}
 use Rattle.job.specs.Pipeline.{Body, plane, function, accumulator, Stage, Output, Parameter, Pipeline}

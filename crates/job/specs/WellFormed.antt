@@ -12,9 +12,8 @@ use Rattle.domains.specs.declared.area.Area.{Area}
 use Rattle.netpbm.specs.Image.{Image, InRange, IsImage}
 use Rattle.tables.specs.Entries.{AreEntries, IsEntries, span_from}
 use Rattle.tables.specs.declared.table.Table.{Table}
-use Rattle.job.specs.Formula.{Formula, number, coordinate, read, neg, binary}
-use Rattle.job.specs.Formula.{literal, abs, lookup, clamp, select, stencil}
-pub use Rattle.operations.specs.Limits.{IsDivisor, IsLiteral, IsTest, InDomainRange}
+use Rattle.job.specs.Formula.{Formula, number, coordinate, read, unary, binary, ternary, literal, lookup, select, stencil}
+pub use Rattle.operators.specs.Limits.{IsDivisor, IsLiteral, IsTest, InDomainRange}
 use Rattle.job.specs.Pipeline.{Body, plane, function, accumulator, Stage, Output, Pipeline}
 use Rattle.job.specs.Values.{Valuation, factors, body_value}
 use Rattle.job.specs.Reads.{BodyReads, formulas_of, rank_by}
@@ -37,12 +36,11 @@ abbrev pub IsFormula : Formula → Type 0
 IsFormula (number n) = FitsSigned w32 n
 IsFormula (coordinate x) = Unit {0}
 IsFormula (read g i j) = IsIndex i × IsIndex j
-IsFormula (neg a) = IsFormula a
+IsFormula (unary op a) = IsFormula a
 IsFormula (binary op a b) = IsFormula a × IsFormula b
+IsFormula (ternary op a b c) = IsFormula a × IsFormula b × IsFormula c
 IsFormula (literal op a n) = IsLiteral op n × IsFormula a
-IsFormula (abs a) = IsFormula a
 IsFormula (lookup t a) = IsEntries t × IsFormula a
-IsFormula (clamp a low high) = IsFormula a × IsFormula low × IsFormula high
 IsFormula (select a relation b first second) = IsFormula a × IsFormula b × IsFormula first × IsFormula second
 IsFormula (stencil g divisor kernel) = IsDivisor divisor × IsKernel kernel
 
@@ -128,7 +126,7 @@ case_count (plane n) = 0
 case_count (function cases otherwise) = length cases
 case_count (accumulator fold bins value bin) = 0
 
--- what holds besides of a job whose program was parsed
+-- what also holds of a job whose program was parsed
 pub record IsSmall (job : Pipeline) : Type 0 where
   pub few_stages : length job.stages ≤ 64
   pub few_params : length job.params ≤ 64

@@ -7,14 +7,14 @@ use Rattle.std.proofs.Props.{props}
 use mathlib.Core.HLevel.{Σ_prop}
 use native.Mathlib.Nat.{ℕ_set}
 use Rattle.domains.specs.Span.{len_of}
-use Rattle.domains.specs.declared.operators.LiteralOp.{LiteralOp}
-use Rattle.domains.specs.declared.operators.LiteralOp.TheVariants.{Div, Rem, Shl, Shr}
+use Rattle.operators.specs.declared.operator.LiteralOp.{LiteralOp}
+use Rattle.operators.specs.declared.operator.LiteralOp.TheVariants.{Div, Rem, Shl, Shr}
 use Rattle.domains.specs.Area.{HoldsPoint}
 use Rattle.domains.specs.declared.area.Area.{Area}
 use Rattle.netpbm.specs.Image.{Image, IsImage}
 use Rattle.job.specs.Boxes.{AreBoxed}
-use Rattle.job.specs.Formula.{Formula, number, coordinate, read, neg, binary}
-use Rattle.job.specs.Formula.{literal, abs, lookup, clamp, select, stencil, Test, compare, remainder}
+use Rattle.job.specs.Formula.{Formula, number, coordinate, read, unary, binary, ternary, literal, lookup, select, stencil}
+use Rattle.job.specs.Formula.{Test, compare, remainder}
 use Rattle.job.specs.Pipeline.{Body, plane, function, accumulator, Stage, Output, Pipeline}
 use Rattle.job.specs.Reads.{Read, point, window, EachTaken, BodyReads}
 use Rattle.job.specs.WellFormed.{IsLiteral, IsFormula, IsTest, IsValued}
@@ -58,12 +58,11 @@ IsFormula-prop : (f : Formula) → IsProp (IsFormula f)
 IsFormula-prop (number n) = hlevel props
 IsFormula-prop (coordinate x) = hlevel props
 IsFormula-prop (read g i j) = hlevel props
-IsFormula-prop (neg a) = IsFormula-prop a
+IsFormula-prop (unary op a) = IsFormula-prop a
 IsFormula-prop (binary op a b) = hlevel (IsFormula-prop a, IsFormula-prop b, props)
+IsFormula-prop (ternary op a b c) = hlevel (IsFormula-prop a, IsFormula-prop b, IsFormula-prop c, props)
 IsFormula-prop (literal op a n) = hlevel (IsLiteral-prop, IsFormula-prop a, props)
-IsFormula-prop (abs a) = IsFormula-prop a
 IsFormula-prop (lookup t a) = hlevel (IsFormula-prop a, props)
-IsFormula-prop (clamp a low high) = hlevel (IsFormula-prop a, IsFormula-prop low, IsFormula-prop high, props)
 IsFormula-prop (select a relation b first second) =
     hlevel (IsFormula-prop a, IsFormula-prop b, IsFormula-prop first, IsFormula-prop second, props)
 IsFormula-prop (stencil g divisor kernel) = hlevel props

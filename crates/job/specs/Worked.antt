@@ -5,12 +5,13 @@ use Rattle.domains.specs.Index.{Scale}
 use Rattle.domains.specs.Sides.{Sides}
 use Rattle.domains.specs.declared.area.Area.{Area}
 use Rattle.netpbm.specs.Image.{Image, image}
-use Rattle.domains.specs.declared.operators.BinaryOp.TheVariants.{Add}
-use Rattle.domains.specs.declared.operators.LiteralOp.TheVariants.{Div, Rem}
-use Rattle.domains.specs.declared.operators.Relation.TheVariants.{Equals}
-use Rattle.domains.specs.declared.operators.Fold.TheVariants.{Sum, Min}
+use Rattle.operators.specs.declared.operator.UnaryOp.TheVariants.{Neg, Abs}
+use Rattle.operators.specs.declared.operator.BinaryOp.TheVariants.{Add}
+use Rattle.operators.specs.declared.operator.LiteralOp.TheVariants.{Div, Rem}
+use Rattle.operators.specs.declared.operator.Relation.TheVariants.{Equals}
+use Rattle.operators.specs.declared.operator.Fold.TheVariants.{Sum, Min}
 use Rattle.tables.specs.declared.table.Table.{Table}
-use Rattle.job.specs.Formula.{row, column, Formula, number, read, neg, binary, literal, abs, lookup, stencil, compare}
+use Rattle.job.specs.Formula.{row, column, Formula, number, read, unary, binary, literal, lookup, stencil, compare}
 use Rattle.job.specs.Answers.{Tile}
 use Rattle.job.specs.Pipeline.{JobCase, plane, function, accumulator, Stage, Pipeline}
 
@@ -104,9 +105,9 @@ edges =
     job_of
     (plane_stage 73 0 (area (pos 0) (pos 0))
     ∷ everywhere 97 1 (area (pos 0) (pos 0)) beyond
-    ∷ everywhere 98 1 (area (pos 0) (pos 0)) (abs beyond)
-    ∷ everywhere 99 1 (area (pos 0) (pos 0)) (literal Div (neg (number (pos 7))) 2)
-    ∷ everywhere 100 1 (area (pos 0) (pos 0)) (literal Rem (neg (number (pos 7))) 2)
+    ∷ everywhere 98 1 (area (pos 0) (pos 0)) (unary Abs beyond)
+    ∷ everywhere 99 1 (area (pos 0) (pos 0)) (literal Div (unary Neg (number (pos 7))) 2)
+    ∷ everywhere 100 1 (area (pos 0) (pos 0)) (literal Rem (unary Neg (number (pos 7))) 2)
     ∷ [])
     (1 ∷ [])
     255

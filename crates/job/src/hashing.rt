@@ -1,5 +1,5 @@
 #![tactic(auto)]
-//! What is hashed of a job: its program's canonical text, and what the program is given.
+//! What is hashed of a job: its program's canonical text, and the program's input.
 
 ghost use Rattle.std.specs.Prelude.{◌≡◌, ◌++◌, ◌∷◌, [], ℕ, List, length, map, IfOk, OnOk};
 ghost use Rattle.std.specs.List.{flat_map};
@@ -25,7 +25,7 @@ pub(crate) fn program_id(text: &[u8]) -> ProgramId
     ProgramId::new(Sha256::digest(text))
 }
 
-/// The identity of what a program is given. All is hashed case by case, without memory.
+/// The identity of a program's input. Each part is hashed as it is visited, without memory.
 pub(crate) fn input_id(parts: &BoundPipeline) -> InputId
     ensures { result ≡ input_id (pipeline_of parts.now) }
 {
@@ -128,7 +128,7 @@ fn hash_entries<D: Digest>(hasher: &mut D, entries: &[i32])
     }
 }
 
-/// The bytes whose digest is the identity of what a program is given.
+/// The bytes whose digest is the identity of a program's input.
 pub(crate) fn input_bytes(alloc: Global, parts: &BoundPipeline) -> Result<Vec<u8>, AllocError>
     ensures { IfOk result (λ bytes. bytes.items ≡ input_bytes (pipeline_of parts.now)) }
 {
@@ -198,7 +198,7 @@ fn push_entries(bytes: &mut Vec<u8>, entries: &[i32]) -> Result<(), AllocError>
     Ok(())
 }
 
-// A number of parameters, of tables or of entries in 16 bits. A text has at most 64 parameters and 16 tables, a table 4,096 entries.
+// A number of parameters, tables or entries in 16 bits. A text has at most 64 parameters and 16 tables, a table 4,096 entries.
 fn count_bytes(count: usize) -> [u8; 2]
     ensures { result ≡ to_be_bytes w16 count }
 {

@@ -1,29 +1,30 @@
 #![tactic(auto)]
 //! Programs that are bound to pictures.
 
-ghost use Rattle.std.specs.Prelude.{◌≡◌, ◌↔◌, map, slice_get, IsSome, IfSome, IfOk, IsTrue};
+ghost use Rattle.std.specs.Prelude.{◌≡◌, ◌↔◌, map, slice_get, All, IsSome, IsOk, IfSome, IfOk, IfErr, IsTrue};
 ghost use Rattle.std.specs.Option.{option_map, ForSome};
 ghost use Rattle.sha2.specs.Sha256.{sha256};
 ghost use Rattle.job.specs.Identity.{input_bytes, input_id, HasTileAt};
 ghost use Rattle.job.specs.Readers.{kind_of, grid_at, stage_fold, stage_bins};
 ghost use Rattle.job.specs.WellFormed.{IsJob};
 ghost use Rattle.job.specs.WellFormedOnce.{IsJob-prop};
-ghost use Rattle.job.specs.TileSides.{wider, with_sides};
+ghost use Rattle.job.specs.TileSides.{HasFewTiles, with_sides};
 ghost use Rattle.job.specs.Views.{stage_view, output_view, parameter_view, pipeline_of};
 
 use crate::bound_pipeline::BoundPipeline;
 use crate::outputs::{Output, Parameter};
 use crate::stage::Stage;
 use crate::{hashing, sameness};
-use domains::{Area, Fold, Grid, Span, TileSides};
+use domains::{Area, Grid, Span, TileSides};
 use identity::{InputId, Key, ProgramId};
 use netpbm::Picture;
+use operators::Fold;
 use pipe_tokens::Name;
 use std::alloc::{AllocError, Global};
 use tables::Table;
 
-/// A program at the values of its parameters, the picture that it works on, and the sides of its tiles. It is well formed, as `new`
-/// asks.
+/// A program at the values of its parameters, the picture that it works on, and the sides of its tiles. It is well-formed, as
+/// `new` requires.
 #[derive(Debug, Drop)]
 pub struct Job {
     parts: BoundPipeline,
@@ -63,30 +64,34 @@ impl Job {
         }
     }
 
-    /// The same job with tiles of at least these sides. It answers the same (`laws::answers_know_no_sides`), and its inputs have another
-    /// identity where the sides are others.
-    pub fn with_wider_tiles(self, sides: TileSides) -> Job
-        ensures pipeline { pipeline_in result
-            ≡ with_sides (wider (pipeline_in self).sides sides) (pipeline_in self) }
-        ensures text { program_text_in result ≡ program_text_in self }
-        ensures program { program_id_in result ≡ program_id_in self }
+    /// The same job with tiles of these sides, if no stage has more than 65,536 of them. Its answer is the same
+    /// (`laws::answers_know_no_sides`), and its input has another identity if the sides differ.
+    ///
+    /// # Errors
+    ///
+    /// Returns the job unchanged if a stage would have more tiles.
+    pub fn with_tiles(self, sides: TileSides) -> Result<Job, Job>
+        ensures few { IsOk result ↔ All (HasFewTiles sides) (pipeline_in self).stages }
+        ensures pipeline { IfOk result (λ job. pipeline_in job ≡ with_sides sides (pipeline_in self)) }
+        ensures text { IfOk result (λ job. program_text_in job ≡ program_text_in self) }
+        ensures program { IfOk result (λ job. program_id_in job ≡ program_id_in self) }
+        ensures unchanged { IfErr result (λ job. job ≡ self) }
     {
+        if !have_few_tiles(&self.parts.stages, sides) {
+            return Err(self);
+        }
         let Job {
             parts,
             text,
             program,
             ..
         } = self;
-        let parts = BoundPipeline {
-            sides: wider(parts.sides, sides),
-            ..parts
-        };
-        Job {
-            parts,
+        Ok(Job {
+            parts: BoundPipeline { sides, ..parts },
             text,
             program,
             input: None,
-        }
+        })
     }
 
     /// The stages, in the order in which the text declares their names. A stage's number is its place here.
@@ -118,14 +123,14 @@ impl Job {
         &self.parts.params
     }
 
-    /// The tables that were handed in, in the order of the text.
+    /// The supplied tables, in the order of the text.
     pub fn tables(&self) -> &[Table]
         ensures { result.now ≡ (pipeline_in self.now).tables }
     {
         &self.parts.tables
     }
 
-    /// The table of this number, as it was handed in.
+    /// The table of this number, as it was supplied.
     pub fn table(&self, index: usize) -> Option<&Table>
         ensures { option_map (λ t. t.now) result ≡ slice_get (pipeline_in self.now).tables index }
     {
@@ -211,8 +216,8 @@ impl Job {
         self.program
     }
 
-    /// The identity of what the program is given: of the sides of the tiles, the parameters, the tables and the picture. Where it is not
-    /// kept, all samples of the picture are hashed at each call; no memory is taken.
+    /// The identity of the program's input: of the sides of the tiles, the parameters, the tables and the picture. If it is not
+    /// kept, each call hashes all samples of the picture. No memory is taken.
     pub fn input_id(&self) -> InputId
         ensures { result ≡ input_id (pipeline_in self.now) }
     {
@@ -222,7 +227,7 @@ impl Job {
         }
     }
 
-    /// Hashes what the program is given, and keeps this identity: from then on `input_id` and `key` hash nothing.
+    /// Hashes the program's input, and keeps this identity: from then on `input_id` and `key` hash nothing.
     pub fn keep_input_id(&mut self)
         ensures pipeline { pipeline_in self.new ≡ pipeline_in self.old }
         ensures text { program_text_in self.new ≡ program_text_in self.old }
@@ -242,8 +247,8 @@ impl Job {
         hashing::input_bytes(alloc, &self.parts)
     }
 
-    /// Whether the same bytes are hashed of both jobs: of the programs their canonical texts, and of what they are given
-    /// `input_bytes`. Where they are, all identities are equal. No picture is copied, and no memory is taken.
+    /// Whether the same bytes are hashed of both jobs: the canonical texts of their programs, and their `input_bytes`. If so, all
+    /// identities are equal. No picture is copied, and no memory is taken.
     pub fn hashes_the_same(&self, other: &Job) -> bool
         ensures { IsTrue result
             ↔ (program_text_in self.now ≡ program_text_in other.now)
@@ -255,8 +260,8 @@ impl Job {
         sameness::same_input(&self.parts, &other.parts)
     }
 
-    /// The key of the tile in this row and column of the stage's grid; none where there is no such tile. It names what the
-    /// program is given, at the cost of `input_id`.
+    /// The key of the tile in this row and column of the stage's grid; none if there is no such tile. It has the identity of the
+    /// program's input, at the cost of `input_id`.
     pub fn key(&self, stage: u16, row: u32, col: u32) -> Option<Key>
         ensures there { IsSome result ↔ HasTileAt (pipeline_in self.now) stage row col }
         ensures key { IfSome result (λ k. k
@@ -282,12 +287,9 @@ impl Job {
     }
 }
 
-// The least sides that are at least both.
-fn wider(a: TileSides, b: TileSides) -> TileSides
-    ensures { result ≡ wider a b }
+// Whether each stage that has tiles has at most 65,536 of these sides.
+fn have_few_tiles(stages: &[Stage], sides: TileSides) -> bool
+    ensures { IsTrue result ↔ All (λ stage. HasFewTiles sides (stage_view stage)) stages.now }
 {
-    match TileSides::new(a.height().max(b.height()), a.width().max(b.width())) {
-        Some(sides) => sides,
-        None => unreachable!(),
-    }
+    stages.iter().all(|stage| stage.has_few_tiles(sides))
 }

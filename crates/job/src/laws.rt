@@ -7,7 +7,7 @@ ghost use Rattle.domains.specs.Area.{HoldsPoint, IsArea, IsSubarea};
 ghost use Rattle.domains.specs.declared.area.Area.{Area};
 ghost use Rattle.domains.specs.Sides.{Sides};
 ghost use Rattle.netpbm.specs.Image.{Image};
-ghost use Rattle.domains.specs.declared.operators.Fold.{Fold};
+ghost use Rattle.operators.specs.declared.operator.Fold.{Fold};
 ghost use Rattle.job.specs.Formula.{Formula, Test};
 ghost use Rattle.job.specs.Answers.{image};
 ghost use Rattle.job.specs.TileSides.{with_sides};
@@ -20,7 +20,8 @@ ghost use Rattle.job.specs.Totals.{body_totals, total_of, joined, totals_over, t
 ghost use Rattle.job.specs.WellFormed.{IsReadable, IsJob, IsSmall, Solves};
 ghost use Rattle.job.specs.Identity.{input_bytes};
 
-/// Reads lead to lower ranks. So a value is what its stage makes of the values that it reads, and steps beyond the rank change nothing.
+/// Reads lead to lower ranks. So a value is what its stage makes of the values that it reads, and steps beyond the rank change
+/// nothing.
 pub fn values_unroll()
     ensures falls { (stages : List Stage) (g : ℕ) (s : Stage) → IsRanked stages
         → slice_get stages g ≡ Some s
@@ -38,7 +39,7 @@ pub fn values_are_the_one_solution()
         → IsReadable job.stages g r c → env g r c ≡ value job g r c }
 {}
 
-/// What a job answers knows of no sides of tiles.
+/// The answer of a job does not depend on the sides of tiles.
 pub fn answers_know_no_sides()
     ensures values { (job : Pipeline) (sides : Sides) → value (with_sides sides job) ≡ value job }
     ensures image { (job : Pipeline) (sides : Sides) → image (with_sides sides job) ≡ image job }
@@ -60,9 +61,8 @@ pub fn totals_fit()
         → All (FitsSigned w64) (totals_over job area g) }
 {}
 
-/// Two valuations that have one value for all that is read give one value: for a formula at a point or over a
-/// region, for a stage at a point of its domain,
-/// and for the totals of an accumulator over an area.
+/// Two valuations that have one value for all that is read give one value. This holds of a formula at a point or over a region,
+/// of a stage at a point of its domain, and of totals over an area.
 pub fn what_is_read_decides()
     ensures formula { (e h : Valuation) (f : Formula) (r c : ℤ) → EachRead (SameAt e h) f r c
         → formula_value e f r c ≡ formula_value h f r c }
@@ -76,7 +76,7 @@ pub fn what_is_read_decides()
         → body_totals e area body ≡ body_totals h area body }
 {}
 
-/// The total of two lists of values, one behind the other, is that of their totals.
+/// The total of two lists of values, one after the other, is that of their totals.
 pub fn totals_join()
     ensures { (way : Fold) (vs ws : List ℤ)
         → total_of way (vs ++ ws) ≡ joined way (total_of way vs) (total_of way ws) }
@@ -90,7 +90,7 @@ pub fn boxes_are_cut_by_bounds()
         → box_of domain tests ≡ Some box → IsArea box }
 {}
 
-/// Equal bytes are of one input: the sides of the tiles, the parameters, the picture and the tables are the same. There are few
+/// Inputs with equal bytes are the same: they have the same sides of tiles, parameters, picture and tables. There are few
 /// parameters, as in a text.
 pub fn one_input()
     ensures { (a b : Pipeline) → IsJob a → IsJob b → IsSmall a → IsSmall b

@@ -1,5 +1,5 @@
-//! A job: a program at its parameters' values, with the picture that it works on and the sides of its tiles. Its definitions say what the
-//! value of a stage at a point is. It knows of no text but the canonical one that it keeps.
+//! A job: a program at its parameters' values, with the picture that it works on and the sides of its tiles. Its definitions
+//! specify the value of a stage at a point. It knows of no text but the canonical one that it keeps.
 #![tactic(auto)]
 
 mod bound_pipeline;
@@ -18,7 +18,7 @@ pub mod worked;
 pub use bound_pipeline::BoundPipeline;
 pub use formula::Formula;
 pub use job::{Job, StageKind};
-pub use operations::{Axis, Factors, Kernel, Test, copied_kernel};
+pub use operators::{Axis, Factors, Kernel, Test, copied_kernel};
 pub use outputs::{Output, Parameter};
 pub use reads::Read;
 pub use stage::{Accumulator, Body, Function, JobCase, Stage};

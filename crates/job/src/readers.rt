@@ -1,5 +1,5 @@
 #![tactic(auto)]
-//! What a job tells of its output, its parameters, its picture and its functions.
+//! What a job reports of its output, its parameters, its picture and its functions.
 
 ghost use Rattle.std.specs.Prelude.{◌≡◌, ℕ, ◌+◌, ◌*◌, ◌<◌, [], List, length, map, slice_get, slice_index, slice_index_or};
 ghost use Rattle.std.specs.Option.{option_map, option_map_or};

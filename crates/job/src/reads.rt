@@ -11,7 +11,7 @@ ghost use Rattle.job.specs.ReadViews.{read_view};
 use crate::formula::Formula;
 use crate::stage::{Body, JobCase, Stage};
 use domains::Index;
-use operations::{Kernel, copied_kernel};
+use operators::{Kernel, copied_kernel};
 use std::alloc::{AllocError, Global};
 
 /// A read of a stage, which is named by its number.
@@ -23,7 +23,7 @@ pub enum Read {
     Window(usize, Kernel),
 }
 
-// Puts the reads of a formula behind those that were found.
+// Appends the reads of a formula to those that were found.
 fn add_reads(found: &mut Vec<Read>, formula: &Formula) -> Result<(), AllocError>
     ensures { OnOk result (map read_view found.new.items
         ≡ map read_view found.old.items ++ reads_in (formula_view formula.now)) }
@@ -34,18 +34,17 @@ fn add_reads(found: &mut Vec<Read>, formula: &Formula) -> Result<(), AllocError>
             found.push(Read::Point(*stage, *row, *column))?;
             Ok(())
         }
-        Formula::Neg(operand)
-        | Formula::Abs(operand)
+        Formula::Unary(_, operand)
         | Formula::Literal(_, operand, _)
         | Formula::Lookup(_, operand) => add_reads(found, operand),
         Formula::Binary(_, left, right) => {
             add_reads(found, left)?;
             add_reads(found, right)
         }
-        Formula::Clamp(value, least, greatest) => {
-            add_reads(found, value)?;
-            add_reads(found, least)?;
-            add_reads(found, greatest)
+        Formula::Ternary(_, first, second, third) => {
+            add_reads(found, first)?;
+            add_reads(found, second)?;
+            add_reads(found, third)
         }
         Formula::Select(left, _, right, then, otherwise) => {
             add_reads(found, left)?;
@@ -104,7 +103,7 @@ pub(crate) fn reads_elsewhere(
     Ok(found)
 }
 
-/// What cases read, and then what stands elsewhere.
+/// What cases read, and then what the formula outside the cases reads.
 pub(crate) fn reads_of_function(
     alloc: Global,
     cases: &[JobCase],

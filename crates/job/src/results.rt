@@ -1,5 +1,5 @@
 #![tactic(auto)]
-//! The stages of whose tiles the answer of a job is put together.
+//! The stages from whose tiles the answer of a job is assembled.
 
 ghost use Rattle.std.specs.Prelude.{◌≡◌, ◌==◌};
 ghost use Rattle.std.specs.List.{list_any};

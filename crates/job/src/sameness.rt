@@ -16,8 +16,8 @@ use domains::TileSides;
 use netpbm::{Picture, Samples};
 use tables::Table;
 
-/// Whether the bytes whose digests are the identities of the inputs are the same. The pictures are compared and not copied; no memory
-/// is taken.
+/// Whether the bytes whose digests are the identities of the inputs are the same. The pictures are compared and not copied; no
+/// memory is taken.
 pub(crate) fn same_input(a: &BoundPipeline, b: &BoundPipeline) -> bool
     requires first { IsJob (pipeline_of a.now) }
     requires second { IsJob (pipeline_of b.now) }
@@ -44,7 +44,7 @@ fn same_sides(a: &TileSides, b: &TileSides) -> bool
     a == b
 }
 
-// Whether the parameters are the same. They are where their bytes are equal, whatever pictures are behind them.
+// Whether the parameters are the same. They are if their bytes are equal, whatever pictures follow them.
 fn same_parameters(a: &[Parameter], b: &[Parameter]) -> bool
     requires first { All (λ p. FitsSigned w32 p.value) (map parameter_view a.now) }
     requires second { All (λ p. FitsSigned w32 p.value) (map parameter_view b.now) }
@@ -75,7 +75,7 @@ fn same_parameter(a: &Parameter, b: &Parameter) -> bool
     a.name.as_bytes() == b.name.as_bytes() && a.value == b.value
 }
 
-// Whether the tables are the same. They are where their bytes are equal, whatever pictures are behind them.
+// Whether the tables are the same. They are if their bytes are equal, whatever pictures follow them.
 fn same_tables(a: &[Table], b: &[Table]) -> bool
     requires first { All IsTable a.now }
     requires second { All IsTable b.now }

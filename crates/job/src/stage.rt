@@ -1,20 +1,24 @@
 #![tactic(auto)]
 //! Stages at the values of the parameters.
 
-ghost use Rattle.std.specs.Prelude.{◌≡◌, [], ◌∷◌, ◌++◌, Some, None, IfOk, if◌then◌else◌, map};
+ghost use Rattle.std.specs.Prelude.{◌≡◌, ◌↔◌, [], ◌∷◌, ◌++◌, Some, None, IfOk, IsTrue, if◌then◌else◌, map};
 ghost use Rattle.std.specs.List.{flat_map};
 ghost use Rattle.std.specs.Option.{option_map};
 ghost use Rattle.job.specs.Reads.{reads_in, other_formula};
 ghost use Rattle.job.specs.ReadViews.{read_view, same_reads-prop};
 ghost use Rattle.job.specs.FormulaViews.{formula_view};
+ghost use Rattle.job.specs.TileSides.{HasFewTiles};
 
 use crate::formula::Formula;
 use crate::job::StageKind;
 use crate::reads::{Read, reads_elsewhere, reads_in, reads_of_both, reads_of_function};
-use domains::{Area, Fold, Grid, Span, TileSides};
-use operations::Test;
+use domains::{Area, Grid, Span, TileSides};
+use operators::{Fold, Test};
 use pipe_tokens::Name;
 use std::alloc::{AllocError, Global};
+
+// The most tiles of a stage.
+const MOST_TILES: u64 = 65_536;
 
 /// A formula where all tests hold, with what it reads.
 #[derive(Debug, Drop)]
@@ -52,7 +56,7 @@ pub struct Accumulator {
         ≡ flat_map reads_in (formula_view value ∷ formula_view bin ∷ []) } by { same_reads-prop _ _ },
 }
 
-/// What stands at each point of a stage.
+/// What a stage is at each point.
 #[derive(Debug, Drop)]
 pub enum Body {
     /// A plane of the picture, by its number.
@@ -75,7 +79,7 @@ impl Stage {
     ghost use Rattle.job.specs.Readers.{kind_of, fold_of, bins_of};
     ghost use Rattle.job.specs.Views.{stage_view};
 
-    /// The stage of this name, rank and domain, with what stands at each point.
+    /// The stage of this name, rank and domain, with what it is at each point.
     pub fn new(name: Name, rank: usize, domain: Area, body: Body) -> Self
         ensures { result ≡ record { name = name; rank = rank; domain = domain; body = body } }
     {
@@ -108,7 +112,7 @@ impl Stage {
         &self.domain
     }
 
-    /// What stands at each point.
+    /// What the stage is at each point.
     pub fn body(&self) -> &Body
         ensures { result.now ≡ self.now.body }
     {
@@ -146,6 +150,16 @@ impl Stage {
         }
     }
 
+    /// Whether it has at most 65,536 tiles of these sides; a plane has none.
+    pub(crate) fn has_few_tiles(&self, sides: TileSides) -> bool
+        ensures { IsTrue result ↔ HasFewTiles sides (stage_view self.now) }
+    {
+        match self.grid(sides) {
+            Some(grid) => grid.tiles() <= MOST_TILES,
+            None => true,
+        }
+    }
+
     /// The tiles of these sides of a function or accumulator.
     pub(crate) fn grid(&self, sides: TileSides) -> Option<Grid>
         ensures { result
@@ -160,7 +174,7 @@ impl Stage {
 }
 
 impl JobCase {
-    /// The formula that stands in this area where these tests hold. What it reads is found once, and kept.
+    /// The case of a formula, in this area, where these tests hold. What it reads is found once, and kept.
     ///
     /// # Errors
     ///
@@ -198,7 +212,7 @@ impl JobCase {
         &self.tests
     }
 
-    /// What stands where all tests hold.
+    /// The formula where all tests hold.
     pub fn formula(&self) -> &Formula
         ensures { result.now ≡ self.now.formula }
     {
@@ -218,7 +232,7 @@ impl Function {
     ghost use Rattle.job.specs.Pipeline.{function};
     ghost use Rattle.job.specs.Reads.{reads_of};
 
-    /// The function of these cases, with what stands elsewhere. What it reads is found once, and kept.
+    /// The function of these cases, with `otherwise` elsewhere. What it reads is found once, and kept.
     ///
     /// # Errors
     ///
@@ -248,7 +262,7 @@ impl Function {
         &self.cases
     }
 
-    /// What stands where no case holds.
+    /// The formula where no case holds.
     pub fn otherwise(&self) -> &Option<Formula>
         ensures { result.now ≡ self.now.otherwise }
     {
@@ -275,7 +289,8 @@ impl Function {
 }
 
 impl Accumulator {
-    /// The accumulator that joins so over these bins, with the number and the bin of each point. What it reads is found once, and kept.
+    /// The accumulator that joins by `fold` over these bins, with the number and the bin of each point. What it reads is found
+    /// once, and kept.
     ///
     /// # Errors
     ///

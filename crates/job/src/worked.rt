@@ -2,10 +2,12 @@
 
 ghost use Rattle.std.specs.Prelude.{◌≡◌, ℤ, pos, negsuc, Some, [], ◌∷◌};
 ghost use Rattle.netpbm.specs.Image.{image as picture};
-ghost use Rattle.domains.specs.declared.operators.BinaryOp.TheVariants.{Sub};
-ghost use Rattle.domains.specs.declared.operators.LiteralOp.TheVariants.{Shl, Shr};
-ghost use Rattle.domains.specs.declared.operators.Relation.TheVariants.{AtMost, AtLeast, Equals};
-ghost use Rattle.job.specs.Formula.{number, read, neg, binary, literal, clamp, select};
+ghost use Rattle.operators.specs.declared.operator.UnaryOp.TheVariants.{Neg};
+ghost use Rattle.operators.specs.declared.operator.BinaryOp.TheVariants.{Sub};
+ghost use Rattle.operators.specs.declared.operator.TernaryOp.TheVariants.{Clamp};
+ghost use Rattle.operators.specs.declared.operator.LiteralOp.TheVariants.{Shl, Shr};
+ghost use Rattle.operators.specs.declared.operator.Relation.TheVariants.{AtMost, AtLeast, Equals};
+ghost use Rattle.job.specs.Formula.{number, read, unary, binary, ternary, literal, select};
 ghost use Rattle.job.specs.Boxes.{box_of};
 ghost use Rattle.job.specs.Identity.{input_bytes};
 ghost use Rattle.job.specs.Values.{Valuation, formula_value, value};
@@ -63,23 +65,23 @@ pub fn kernels_are_not_turned()
     ensures { value leaning 1 (pos 0) (pos 1) ≡ pos 321 }
 {}
 
-/// The first case that holds counts, then the next, then the other formula. A shift goes before a sum.
+/// The first case that holds counts, then the next, then the other formula. A shift is computed before a sum.
 pub fn first_case_counts()
     ensures { image choosing
         ≡ Some (picture 3 4 20 ((0 ∷ 1 ∷ 8 ∷ 1 ∷ 10 ∷ 1 ∷ 9 ∷ 1 ∷ 20 ∷ 20 ∷ 10 ∷ 10 ∷ []) ∷ [])) }
 {}
 
-/// Rows are cut by tests of the first variable, columns by those of the second, and nothing by a remainder.
+/// Tests of the first variable restrict rows, those of the second restrict columns, and a remainder restricts nothing.
 pub fn boxes_by_axis()
     ensures rows { box_of (area (pos 2) (pos 3)) odd_columns ≡ Some (area (pos 1) (pos 3)) }
     ensures columns { box_of (area (pos 2) (pos 3)) right_half
         ≡ Some (record { rows = ends (pos 0) (pos 2); cols = ends (pos 2) (pos 3) }) }
 {}
 
-/// A clamp is cut from below and then from above; a comparison has its left side on the left; shifts double and halve.
+/// A clamp applies its lower end and then its upper end; a comparison has its left side on the left; shifts double and halve.
 pub fn operations_by_hand()
     ensures clamp { (env : Valuation) (r c : ℤ)
-        → formula_value env (clamp (number (pos 5)) (number (pos 7)) (number (pos 3))) r c ≡ pos 3 }
+        → formula_value env (ternary Clamp (number (pos 5)) (number (pos 7)) (number (pos 3))) r c ≡ pos 3 }
     ensures at_most { (env : Valuation) (r c : ℤ)
         → formula_value env
         (select (number (pos 1)) AtMost (number (pos 2)) (number (pos 3)) (number (pos 4))) r c
@@ -95,7 +97,7 @@ pub fn operations_by_hand()
     ensures doubles { (env : Valuation) (r c : ℤ)
         → formula_value env (literal Shl (number (pos 1)) 31) r c ≡ negsuc 2147483647 }
     ensures halves { (env : Valuation) (r c : ℤ)
-        → formula_value env (literal Shr (neg (number (pos 5))) 1) r c ≡ negsuc 2 }
+        → formula_value env (literal Shr (unary Neg (number (pos 5))) 1) r c ≡ negsuc 2 }
 {}
 
 /// Points and indices may lie below 0, and an index is rounded down.
@@ -112,7 +114,7 @@ pub fn greatest_of_columns()
         ≡ pos 5 ∷ pos 8 ∷ negsuc 9223372036854775807 ∷ [] }
 {}
 
-/// An entry of a table at an index, which is cut to the ends of the table; and what is hashed of a job with a table.
+/// An entry of a table at an index, which is clamped to the ends of the table; and what is hashed of a job with a table.
 pub fn looks_entries_up()
     ensures entries { image (toned (read 0 same same))
         ≡ Some (picture 1 3 255 ((10 ∷ 30 ∷ 40 ∷ []) ∷ [])) }

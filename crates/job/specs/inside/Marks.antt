@@ -1,4 +1,4 @@
--- The byte behind parameters.
+-- The byte after parameters.
 use Rattle.std.specs.Prelude.{ℕ, ◌≡◌, ◌<◌, ◌⊎◌}
 
 -- no name has this length: a name has 1 to 32 bytes
