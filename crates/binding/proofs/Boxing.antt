@@ -6,8 +6,8 @@ use Rattle.std.proofs.lemmas.Int.{ints}
 use Rattle.domains.specs.Span.{Ends}
 use Rattle.domains.specs.Area.{HoldsPoint, IsArea}
 use Rattle.domains.specs.declared.area.Area.{Area}
-use Rattle.domains.specs.declared.operators.Relation.{Relation}
-use Rattle.domains.specs.declared.operators.Relation.TheVariants.{AtMost, AtLeast, Equals}
+use Rattle.operators.specs.declared.operator.Relation.{Relation}
+use Rattle.operators.specs.declared.operator.Relation.TheVariants.{AtMost, AtLeast, Equals}
 use Rattle.pipe_tree.specs.declared.tree.Test.{Test}
 use Rattle.pipe_tree.specs.declared.tree.Test.TheVariants.{Compare, Remainder}
 use Rattle.pipe_bounds.specs.Boxes as text

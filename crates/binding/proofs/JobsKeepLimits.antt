@@ -33,11 +33,10 @@ no_node (tree.number n) = refl
 no_node (tree.variable x) = refl
 no_node (tree.read x i j) = refl
 no_node (tree.lookup x a) = omega (arith, no_node a)
-no_node (tree.neg a) = omega (arith, no_node a)
+no_node (tree.unary op a) = omega (arith, no_node a)
 no_node (tree.binary op a b) = omega (arith, no_node a, no_node b)
+no_node (tree.ternary op a b c) = omega (arith, no_node a, no_node b, no_node c)
 no_node (tree.literal op a n) = omega (arith, no_node a)
-no_node (tree.abs a) = omega (arith, no_node a)
-no_node (tree.clamp a b c) = omega (arith, no_node a, no_node b, no_node c)
 no_node (tree.select a r b c d) = omega (arith, no_node a, no_node b, no_node c, no_node d)
 no_node (tree.stencil x d k) = refl
 

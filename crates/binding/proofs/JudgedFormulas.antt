@@ -5,8 +5,8 @@ use Rattle.std.specs.Prelude.{All, if◌then◌else◌, map, unwrap_or}
 use Rattle.std.specs.Str.{bytes_eq}
 use Rattle.std.proofs.lemmas.Int.{ints}
 use Rattle.std.proofs.lemmas.List.Elements.{All-nil, All-cons, All-head, All-tail, All-weaker}
-use Rattle.domains.specs.declared.operators.LiteralOp.{LiteralOp}
-use Rattle.domains.specs.declared.operators.LiteralOp.TheVariants.{Div, Rem, Shl, Shr}
+use Rattle.operators.specs.declared.operator.LiteralOp.{LiteralOp}
+use Rattle.operators.specs.declared.operator.LiteralOp.TheVariants.{Div, Rem, Shl, Shr}
 use Rattle.pipe_tree.specs.declared.tree.Test.{Test}
 use Rattle.pipe_tree.specs.declared.tree.Test.TheVariants.{Compare, Remainder}
 use Rattle.pipe_tree.specs.Tree as tree
@@ -90,11 +90,10 @@ module _ (p : Program) (vars : Variables) where
     formula_is (tree.variable x) h = name_is small x
     formula_is (tree.read x i j) h = (index_is i h.1, index_is j h.2)
     formula_is (tree.lookup x a) h = (handed x h.0, formula_is a h.1)
-    formula_is (tree.neg a) h = formula_is a h
+    formula_is (tree.unary op a) h = formula_is a h
     formula_is (tree.binary op a b) h = (formula_is a h.0, formula_is b h.1)
+    formula_is (tree.ternary op a b c) h = (formula_is a h.0, formula_is b h.1, formula_is c h.2)
     formula_is (tree.literal op a n) h = (literal_is op n h.1, formula_is a h.0)
-    formula_is (tree.abs a) h = formula_is a h
-    formula_is (tree.clamp a b c) h = (formula_is a h.0, formula_is b h.1, formula_is c h.2)
     formula_is (tree.select a relation b c d) h =
         (formula_is a h.0, formula_is b h.1, formula_is c h.2, formula_is d h.3)
     formula_is (tree.stencil x d k) h = (divisor_is d h.1, kernel_is k h.2)

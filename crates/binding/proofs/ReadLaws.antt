@@ -94,18 +94,17 @@ module _ (ds : List Declaration) (p : Program) (own : p.stages ≡ stages_of ds)
       subst (λ (o : Option ℕ). AreSame (point (stage_number p x) (scale_of i) (scale_of j) ∷ []) (read_at o i j)) (sym r.1)
       ((r.2, refl, refl, r.3), tt)
   reads_same vars (tree.lookup x a) h = reads_same vars a h.1
-  reads_same vars (tree.neg a) h = reads_same vars a h
+  reads_same vars (tree.unary op a) h = reads_same vars a h
   reads_same vars (tree.binary op a b) h =
       both (reads_in (formula_of p vars a)) (reads_in (formula_of p vars b)) (accesses_of (stages_of ds) a) (accesses_of (stages_of ds) b)
       (reads_same vars a h.0) (reads_same vars b h.1)
-  reads_same vars (tree.literal op a n) h = reads_same vars a h.0
-  reads_same vars (tree.abs a) h = reads_same vars a h
-  reads_same vars (tree.clamp a b c) h =
+  reads_same vars (tree.ternary op a b c) h =
       both (reads_in (formula_of p vars a) ++ reads_in (formula_of p vars b)) (reads_in (formula_of p vars c))
       (accesses_of (stages_of ds) a ++ accesses_of (stages_of ds) b) (accesses_of (stages_of ds) c)
       (both (reads_in (formula_of p vars a)) (reads_in (formula_of p vars b)) (accesses_of (stages_of ds) a) (accesses_of (stages_of ds) b)
       (reads_same vars a h.0) (reads_same vars b h.1))
       (reads_same vars c h.2)
+  reads_same vars (tree.literal op a n) h = reads_same vars a h.0
   reads_same vars (tree.select a relation b c d) h =
       both (reads_in (formula_of p vars a) ++ reads_in (formula_of p vars b) ++ reads_in (formula_of p vars c))
       (reads_in (formula_of p vars d)) (accesses_of (stages_of ds) a ++ accesses_of (stages_of ds) b ++ accesses_of (stages_of ds) c)

@@ -43,11 +43,10 @@ module _ (ds : List Declaration) (given : List Table) (handed : (x : List â„•) â
   ranged (tree.variable x) h = tt
   ranged (tree.read x i j) h = (index_is i h.1, index_is j h.2)
   ranged (tree.lookup x a) h = (handed x h.0, ranged a h.1)
-  ranged (tree.neg a) h = ranged a h
+  ranged (tree.unary op a) h = ranged a h
   ranged (tree.binary op a b) h = (ranged a h.0, ranged b h.1)
+  ranged (tree.ternary op a b c) h = (ranged a h.0, ranged b h.1, ranged c h.2)
   ranged (tree.literal op a n) h = ranged a h.0
-  ranged (tree.abs a) h = ranged a h
-  ranged (tree.clamp a b c) h = (ranged a h.0, ranged b h.1, ranged c h.2)
   ranged (tree.select a r b c d) h = (ranged a h.0, ranged b h.1, ranged c h.2, ranged d h.3)
   ranged (tree.stencil x d k) h = tt
 

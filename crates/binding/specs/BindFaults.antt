@@ -1,4 +1,4 @@
--- What makes a job of a program and a picture, and the first fault of those that are none.
+-- When a program and a picture make a job, and the first fault if they make none.
 use Rattle.std.specs.Prelude.{ℕ, ◌<◌, ◌≡◌, ◌≢◌, ◌⊎◌, Some, List, [], ◌∷◌, length, slice_get, codes}
 use Rattle.std.specs.List.{flat_map}
 use Rattle.domains.specs.Sides.{Sides}
@@ -30,7 +30,7 @@ IsPictureFault settings i picture (TooManyTiles n) = ⊥
 IsPictureFault settings i picture Memory = ⊥
 IsPictureFault settings i picture (TableMismatch n) = ⊥
 
--- table n is declared and given, and fits
+-- table n is declared and supplied, and fits
 pub record FitsAt (settings : List Setting) (declared : List TableText) (given : List Table) (n : ℕ) : Type 0 where
   pub text : TableText
   pub there : slice_get declared n ≡ Some text
@@ -38,13 +38,13 @@ pub record FitsAt (settings : List Setting) (declared : List TableText) (given :
   pub handed : slice_get given n ≡ Some table
   pub fits : IsTableFit settings text table
 
--- table n is the first that is declared and not given, given and not declared, or unfit
+-- table n is the first that is declared and not supplied, supplied and not declared, or unfit
 pub record IsFirstMisfit (settings : List Setting) (declared : List TableText) (given : List Table) (n : ℕ) : Type 0 where
   pub some : (n < length declared) ⊎ (n < length given)
   pub misfit : ¬ (FitsAt settings declared given n)
   pub before : (k : ℕ) → k < n → FitsAt settings declared given k
 
--- stage n is the first that has more
+-- stage n is the first with more than 65,536 tiles
 pub record IsFirstCrowded (job : Pipeline) (n : ℕ) : Type 0 where
   pub stage : Stage
   pub there : slice_get job.stages n ≡ Some stage
@@ -62,7 +62,7 @@ abbrev pub settled_program : Program → Image → Picture → Program
 settled_program p i picture =
     record { stages = p.stages; ranks = p.ranks; settings = settings_for i picture p.settings; tables = p.tables }
 
--- the job is what the items say, and nothing is amiss
+-- the job is what the items specify, and there is no fault
 pub record IsBound (items : List Declaration) (p : Program) (picture : Picture) (sides : Sides) (job : Pipeline) : Type 0 where
   pub image : Image
   pub declared : flat_map item_images items ≡ image ∷ []
@@ -84,14 +84,14 @@ IsSizeFault job ExtentMismatch = ⊥
 IsSizeFault job Memory = ⊥
 IsSizeFault job (TableMismatch n) = ⊥
 
--- the program is out of bounds, or it is not and a table does not fit, or all tables fit and the picture does not
+-- the program is out of bounds; or it is not and a table does not fit; or all tables fit and the picture does not
 abbrev pub IsEarlyFault : List Setting → List Declaration → List Table → Image → Picture → BindFault → Type 0
 IsEarlyFault settings items tables i picture fault =
     ((f : BoundFault) × (fault ≡ Bounds f) × (f ≢ bounds.Memory) × IsBoundFault settings items f)
     ⊎ (((n : ℕ) × (fault ≡ TableMismatch n) × IsInBounds settings items × IsFirstMisfit settings (flat_map item_tables items) tables n)
     ⊎ (IsInBounds settings items × TablesFit settings (flat_map item_tables items) tables × IsPictureFault settings i picture fault))
 
--- or all that is well, and the sizes of stages are not
+-- or none of these, and the sizes of stages do not fit
 abbrev pub IsLateFault : Program → List Declaration → Image → Picture → Sides → BindFault → Type 0
 IsLateFault p items i picture sides fault =
     IsInBounds p.settings items × TablesFit p.settings (flat_map item_tables items) p.tables × PlanesFit i picture

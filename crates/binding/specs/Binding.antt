@@ -30,14 +30,14 @@ use Rattle.pipe_checks.specs.Checking.{IsNamed}
 use Rattle.pipe_bounds.specs.Within.{AllSet}
 use Rattle.pipe_checks.specs.Graph.{IsRanking}
 use Rattle.pipe_checks.specs.Accesses.{graph_of, is_plane}
-use Rattle.job.specs.Formula.{Axis, row, column, Formula, number, coordinate, read, lookup, neg, binary, literal, abs, clamp, select}
+use Rattle.job.specs.Formula.{Axis, row, column, Formula, number, coordinate, read, lookup, unary, binary, ternary, literal, select}
 use Rattle.job.specs.Formula.{stencil, Test, compare, remainder}
 use Rattle.job.specs.Pipeline.{JobCase, plane, function, accumulator, Stage, Output, Parameter, Pipeline}
 use Rattle.job.specs.Boxes.{box_of}
 use Rattle.tables.specs.declared.table.Table.{Table}
 use Rattle.tables.specs.Entries.{Entries, span_from}
 
--- ---- parameters that are not given
+-- ---- parameters without values
 
 -- an extent that is this parameter alone
 abbrev pub is_exactly : List Term → List ℕ → Bool
@@ -71,9 +71,9 @@ pub record IsSmallTable (t : Table) : Type 0 where
 abbrev pub AreSmallTables : List Table → Type 0
 AreSmallTables tables = All IsSmallTable tables
 
--- ---- what names stand for
+-- ---- what names mean
 
--- in a program: its stages, their ranks, the values of its parameters, and the tables that are given
+-- in a program: its stages, their ranks, the values of its parameters, and the supplied tables
 pub record Program : Type 0 where
   pub stages : List Symbol
   pub ranks : List ℕ
@@ -90,12 +90,12 @@ rank_named p x = slice_index p.ranks (stage_number p x)
 abbrev pub plane_number : Program → List ℕ → ℕ
 plane_number p x = unwrap_or (number_of (filter (λ d. is_plane d.kind) p.stages) x) 0
 
--- the entries of a table, one for each number from its first index on
+-- the entries of a table, one for each index from its first on
 abbrev pub entries_of : Option Table → Entries
 entries_of None = record { span = span_from (pos 0) 0; values = [] }
 entries_of (Some t) = record { span = span_from t.lo (length t.values); values = t.values }
 
--- the first given table of this name
+-- the first supplied table of this name
 abbrev pub table_named : List Table → List ℕ → Option Table
 table_named tables x = find (λ t. bytes_eq t.name x) tables
 
@@ -126,11 +126,10 @@ formula_of p own (tree.number n) = number (pos n)
 formula_of p own (tree.variable x) = name_formula p own x
 formula_of p own (tree.read x i j) = read (stage_number p x) (scale_of i) (scale_of j)
 formula_of p own (tree.lookup x a) = lookup (entries_named p x) (formula_of p own a)
-formula_of p own (tree.neg a) = neg (formula_of p own a)
+formula_of p own (tree.unary op a) = unary op (formula_of p own a)
 formula_of p own (tree.binary op a b) = binary op (formula_of p own a) (formula_of p own b)
+formula_of p own (tree.ternary op a b c) = ternary op (formula_of p own a) (formula_of p own b) (formula_of p own c)
 formula_of p own (tree.literal op a n) = literal op (formula_of p own a) n
-formula_of p own (tree.abs a) = abs (formula_of p own a)
-formula_of p own (tree.clamp a low high) = clamp (formula_of p own a) (formula_of p own low) (formula_of p own high)
 formula_of p own (tree.select a relation b first second) =
     select (formula_of p own a) relation (formula_of p own b) (formula_of p own first) (formula_of p own second)
 formula_of p own (tree.stencil x divisor kernel) = stencil (stage_number p x) divisor kernel
@@ -150,11 +149,11 @@ ends_of p s = record { lo = affine_value p.settings s.first; hi = affine_value p
 abbrev pub area_of : Program → Variable → Variable → Area
 area_of p x y = record { rows = ends_of p x.span; cols = ends_of p y.span }
 
--- from 0 on, so many numbers
+-- as many numbers as the extent says, from 0 on
 abbrev pub extent_of : Program → List Term → Ends
 extent_of p terms = record { lo = pos 0; hi = affine_value p.settings terms -ℤ pos 1 }
 
--- from 0 on, so many rows and columns
+-- as many rows and columns as the extents say, from 0 on
 abbrev pub plane_area : Program → Image → Area
 plane_area p i = record { rows = extent_of p i.rows; cols = extent_of p i.columns }
 
@@ -237,19 +236,19 @@ item_tables (tree.function f) = []
 item_tables (tree.accumulator a) = []
 item_tables (tree.output o) = []
 
--- the given table has the name of the declared one, and an entry for each index of its span
+-- the supplied table has the name of the declared one, and an entry for each index of its span
 pub record IsTableFit (settings : List Setting) (declared : TableText) (given : Table) : Type 0 where
   pub name : given.name ≡ declared.name
   pub first : affine_value settings declared.span.first ≡ given.lo
   pub last : affine_value settings declared.span.last ≡ (given.lo +ℤ pos (length given.values)) -ℤ pos 1
 
--- each declared table is given, in the order of the text, and no other is
+-- each declared table is supplied, in the order of the text, and no other is
 abbrev pub TablesFit : List Setting → List TableText → List Table → Type 0
 TablesFit settings declared given = AllZip (IsTableFit settings) declared given
 
--- The job is what the items say, where each name stands for what its place wants: at the values that are given for the
--- parameters, which are all of them in the order of the text, with those from the picture, and with the tables that are
--- given. All parameters then have values, and each declared table its entries.
+-- The job is what the items specify, where each name is resolved to what its place requires. `given` lists all parameters in the
+-- order of the text; those without values are taken from the picture. The tables are the supplied ones. All parameters then have
+-- values, and each declared table its entries.
 pub record IsJobOf (items : List Declaration) (given : List Setting) (tables : List Table) (picture : Picture) (sides : Sides)
     (job : Pipeline) : Type 0 where
   pub named : IsNamed items

@@ -1,4 +1,4 @@
--- A small program, written out, and the job that it is at a picture of two rows and two columns.
+-- A small program, written out, and its job for a picture of two rows and two columns.
 use Rattle.std.specs.Prelude.{ℕ, ℤ, pos, true, false, Option, Some, None, List, [], ◌∷◌}
 use Rattle.netpbm.specs.Image.{Image, image}
 use Rattle.pipe_tree.specs.declared.tree.Term.{Term}
@@ -49,7 +49,7 @@ copying =
     ∷ tree.output (record { names = One (102 ∷ []); max = 255 })
     ∷ []
 
--- no parameter is given
+-- no parameter has a value
 abbrev pub unset : List Setting
 unset = record { name = 82 ∷ []; value = None } ∷ record { name = 67 ∷ []; value = None } ∷ []
 

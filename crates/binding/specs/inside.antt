@@ -1,4 +1,4 @@
--- What clauses of inner functions cite, and no public clause does.
+-- Definitions that clauses of inner functions cite, and no public clause does.
 pub mod Parts
 pub mod Ranges
 pub mod Resolving

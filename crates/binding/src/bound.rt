@@ -1,5 +1,5 @@
 #![tactic(auto)]
-//! A program, the values of its parameters and a picture to a job.
+//! From a program, the values of its parameters and a picture to a job.
 
 ghost use Rattle.std.specs.Prelude.{◌≡◌, ◌≢◌, ◌⊎◌, [], ◌∷◌, IfOk, IfErr, OnOk, map};
 ghost use Rattle.pipe_tree.specs.Content.{content};
@@ -83,7 +83,7 @@ fn resolve(
     })
 }
 
-// What is found of the stages, where the program is in bounds and the tables and the picture fit.
+// What is found of the stages, if the program is in bounds and the tables and the picture fit.
 fn judge(
     alloc: Global,
     checked: &Checked,
@@ -164,10 +164,9 @@ fn bound_parts(
     }
 }
 
-/// The job that a program is at the values of its parameters, for the tables that it declares, a picture and the sides of
-/// tiles; a parameter without a value is a side of the picture where an extent is this parameter alone. Else the first
-/// fault, in the order of `BindFault` but for `TableMismatch`, which is the second, and what was given. The text is
-/// hashed, and the tables and the picture are not.
+/// The job of a program with values of its parameters, its tables, a picture and the sides of tiles. A parameter without a value
+/// is a side of the picture if an extent is this parameter alone. Otherwise the first fault, and what was supplied. Faults have
+/// the order of `BindFault`, except that `TableMismatch` is the second. The text is hashed; the tables and the picture are not.
 pub fn bind(
     alloc: Global,
     checked: Checked,

@@ -11,26 +11,26 @@ use thiserror::Error;
 /// Why a program cannot be bound to a picture.
 #[derive(Clone, Copy, Debug, PartialEq, Eq, Error)]
 pub enum BindFault {
-    /// 1: the program means nothing at the values of its parameters.
+    /// 1: the program is ill-formed at the values of its parameters.
     #[error("{0}")]
     Bounds(BoundFault),
-    /// 2: the picture has not as many planes as the program names.
+    /// 2: the picture has a different number of planes than the program names.
     #[error("the picture has another number of planes than the program names")]
     Planes,
     /// 3: a side of the picture is not the extent that the program gives it.
     #[error("the picture has other sides than the program's planes")]
     ExtentMismatch,
-    /// 4: three functions of the output with unequal sides, or a side that no picture has.
+    /// 4: the three functions of the output have unequal sides, or a side that no picture has.
     #[error("the functions of the output make no picture")]
     OutputShapes,
     /// 5: the first stage that has too many tiles.
     #[error("stage {0} has too many tiles")]
     TooManyTiles(usize),
-    /// 6: no memory was left.
+    /// 6: memory ran out.
     #[error("out of memory")]
     Memory,
-    /// 7: the first table that is given otherwise than the program declares it: by another name, from another first index or with
-    /// another number of entries, or not at all; one past the last that is declared, if too many are given.
+    /// 7: the first table that does not match its declaration: it has another name, first index or number of entries, or it is
+    /// missing. If too many are supplied, it is one past the last that is declared.
     #[error("table {0} is not given as the program declares it")]
     TableMismatch(usize),
 }

@@ -1,5 +1,5 @@
 #![tactic(auto)]
-//! Whether the tables that are given are those that a program declares.
+//! Whether the supplied tables are those that a program declares.
 
 ghost use Rattle.std.specs.Prelude.{◌≡◌, ◌↔◌, ◌+ℤ◌, ◌-ℤ◌, pos, IsTrue, IfSome, IfNone, All, FitsSigned, length};
 ghost use Rattle.std.specs.Int.{w32};
@@ -22,7 +22,7 @@ fn last_index(table: &Table) -> i128
     i128::from(table.lo) + table.values.as_slice().len() as i128 - 1
 }
 
-// Whether the given table has the name and the span of the declared one.
+// Whether the supplied table has the name and the span of the declared one.
 fn table_fits(params: &Params, declared: &pipe_tree::Table, given: &Table) -> bool
     ensures { IsTrue result ↔ IsTableFit params.now declared.now given.now }
 {
@@ -38,7 +38,7 @@ pub(crate) fn table_named<'a>(tables: &'a [Table], name: &Name) -> Option<&'a Ta
     tables.iter().find(|table| is_same(&table.name, name))
 }
 
-/// The number of the first table that is given otherwise than it is declared.
+/// The number of the first supplied table that does not match its declaration.
 pub(crate) fn table_misfit(params: &Params, items: &[Item], given: &[Table]) -> Option<usize>
     ensures some { IfSome result (IsFirstMisfit params.now
         (flat_map item_tables (declarations items.now)) given.now) }
@@ -57,7 +57,7 @@ pub(crate) fn table_misfit(params: &Params, items: &[Item], given: &[Table]) -> 
     (number < given.len()).then_some(number)
 }
 
-// Numbers of 32 bits are within them.
+// Each entry fits 32 bits.
 fn fit_entries(entries: &[i32])
     ensures { All (FitsSigned w32) entries.now }
 {
@@ -74,7 +74,7 @@ fn fit_table(table: &Table)
     fit_entries(table.values.as_slice());
 }
 
-/// So have all tables.
+/// All tables have names, and entries of 32 bits.
 pub(crate) fn fit_tables(tables: &[Table])
     ensures { AreSmallTables tables.now }
 {

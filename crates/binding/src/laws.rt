@@ -24,14 +24,14 @@ pub fn stages_keep_their_numbers()
         → map (λ s. s.name) (flat_map (item_stages p) items) ≡ map (λ d. d.name) (stages_of items) }
 {}
 
-/// Parameters that are not given are the sides of the picture; the job answers the picture that it was given.
+/// Parameters without values are the sides of the picture. The job answers the picture that was supplied.
 pub fn copies_two_by_two()
     ensures binds { IsJobOf copying unset [] two_by_two (sides_of 64 64) copy }
     ensures answers { image copy ≡ Some two_by_two }
 {}
 
-/// A parameter without a value is a side of the picture, its rows before its columns, where an extent is this parameter and
-/// nothing else; what is given stays.
+/// A parameter without a value is a side of the picture, its rows before its columns, if an extent is exactly this parameter.
+/// Supplied values stay.
 pub fn sides_become_parameters()
     ensures rows_first { settings_for square one_by_two (setting 78 None)
         ≡ setting 78 (Some (pos 1)) }
@@ -45,8 +45,9 @@ pub fn sides_become_parameters()
         ∷ record { name = codes "C"; value = Some (pos 2) } ∷ [] }
 {}
 
-/// A program says at most one job. This is a job, where the program keeps the limits of a text, the values and the entries that
-/// are given are numbers of 32 bits, all is in bounds and the picture, the sides of tiles, the shapes of the output and the numbers of tiles fit.
+/// A program specifies at most one job. The job is well-formed if the program keeps the limits of a text, and supplied values and
+/// entries are numbers of 32 bits. All must be in bounds; and the picture, the sides of tiles, the shapes of the output and the
+/// numbers of tiles must fit.
 pub fn bound_programs_are_jobs()
     ensures one { (items : List Declaration) (given : List Setting) (tables : List Table)
         (image : Picture) (sides : Sides) (a b : Pipeline) → IsJobOf items given tables image sides a

@@ -1,5 +1,5 @@
-//! From a checked program to a job: names become numbers of stages, parameters their values, and the picture takes its place, or the
-//! first fault is told.
+//! From a checked program to a job: names become numbers of stages, parameters their values, and the picture takes its place.
+//! Otherwise the first fault is reported.
 #![tactic(auto)]
 
 mod bound;

@@ -59,7 +59,7 @@ fn factors_of(alloc: Global, row: &pipe_tree::Row) -> Result<Factors, AllocError
     Ok(Factors::new(row.entries().to_vec(alloc)?))
 }
 
-// The factors that a text has.
+// The factors of a kernel in the text.
 fn kernel_of(alloc: Global, kernel: &pipe_tree::Kernel) -> Result<Kernel, AllocError>
     ensures { IfOk result (λ k. k ≡ kernel.now) }
 {
@@ -70,7 +70,7 @@ fn kernel_of(alloc: Global, kernel: &pipe_tree::Kernel) -> Result<Kernel, AllocE
     Ok(Kernel::new(rows))
 }
 
-/// A program at the values of its parameters, what was found of each of its stages, and the tables that are given.
+/// A program with the values of its parameters, what was found of each of its stages, and the supplied tables.
 #[derive(Drop)]
 pub(crate) struct Resolver<'a> {
     pub alloc: Global,
@@ -95,7 +95,7 @@ impl Resolver<'_> {
         self.checked.rank(self.stage_number(name)).unwrap_or(0)
     }
 
-    /// The place of the plane of this name among the planes.
+    /// The index of the plane of this name among the planes.
     pub fn plane_number(&self, name: &Name) -> Result<usize, AllocError>
         ensures { IfOk result (λ n. n ≡ plane_number (program_in self.now) name.now) }
     {
@@ -144,21 +144,21 @@ impl Resolver<'_> {
                 self.entries(name)?,
                 self.boxed(own, index)?,
             )),
-            Expr::Neg(operand) => Ok(Formula::Neg(self.boxed(own, operand)?)),
+            Expr::Unary(op, operand) => Ok(Formula::Unary(*op, self.boxed(own, operand)?)),
             Expr::Binary(op, left, right) => Ok(Formula::Binary(
                 *op,
                 self.boxed(own, left)?,
                 self.boxed(own, right)?,
             )),
+            Expr::Ternary(op, first, second, third) => Ok(Formula::Ternary(
+                *op,
+                self.boxed(own, first)?,
+                self.boxed(own, second)?,
+                self.boxed(own, third)?,
+            )),
             Expr::Literal(op, operand, number) => {
                 Ok(Formula::Literal(*op, self.boxed(own, operand)?, *number))
             }
-            Expr::Abs(operand) => Ok(Formula::Abs(self.boxed(own, operand)?)),
-            Expr::Clamp(value, least, greatest) => Ok(Formula::Clamp(
-                self.boxed(own, value)?,
-                self.boxed(own, least)?,
-                self.boxed(own, greatest)?,
-            )),
             Expr::Select(left, relation, right, then, otherwise) => Ok(Formula::Select(
                 self.boxed(own, left)?,
                 *relation,

@@ -99,7 +99,7 @@ impl Resolver<'_> {
         }
     }
 
-    // The stage of this name, of which this was found and this is computed.
+    // The stage of this name, with its bounds and its body.
     fn stage(&self, name: &Name, bounds: &StageBounds, body: Body) -> Stage
         ensures { result ≡ record {
           name = name.now;

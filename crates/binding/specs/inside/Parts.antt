@@ -19,7 +19,7 @@ pub record ArePartsOf (p : Program) (items : List Declaration) (parts : Parts) :
   pub output : option_map output_view parts.output ≡ slice_get (flat_map (item_outputs p) items) 0
   pub params : map parameter_view parts.params.items ≡ map parameter_of p.settings
 
--- and nothing is amiss with bounds and picture
+-- and bounds and picture have no fault
 pub record AreBoundParts (items : List Declaration) (p : Program) (picture : Picture) (parts : Parts) : Type 0 where
   pub image : Image
   pub declared : flat_map item_images items ≡ image ∷ []
@@ -32,7 +32,7 @@ pub record AreBoundParts (items : List Declaration) (p : Program) (picture : Pic
   pub small : AreSmall (settings_for image picture p.settings)
   pub extents : ExtentsFit (settings_for image picture p.settings) image picture
 
--- something is amiss with them
+-- bounds or picture have a fault
 pub record IsPartsFault (items : List Declaration) (p : Program) (picture : Picture) (fault : BindFault) : Type 0 where
   pub image : Image
   pub declared : flat_map item_images items ≡ image ∷ []

@@ -6,7 +6,7 @@ use Rattle.domains.specs.declared.area.Area.{Area}
 use Rattle.pipe_tree.specs.declared.tree.Image.{Image}
 use Rattle.pipe_tree.specs.declared.tree.Names.{Names}
 use Rattle.pipe_tree.specs.declared.tree.Names.TheVariants.{One, Three}
-use Rattle.pipe_tree.specs.Tree.{Function, Accumulator, Node, number, variable, read, lookup, neg, binary, literal, abs, clamp, select}
+use Rattle.pipe_tree.specs.Tree.{Function, Accumulator, Node, number, variable, read, lookup, unary, binary, ternary, literal, select}
 use Rattle.pipe_tree.specs.Tree.{stencil, Branch, Declaration, param, image, table, function, accumulator, output}
 use Rattle.pipe_bounds.specs.StageBounds.{StageBounds}
 use Rattle.job.specs.Boxes.{box_of}
@@ -15,23 +15,22 @@ use Rattle.tables.specs.declared.table.Table.{Table}
 use Rattle.tables.specs.Entries.{AreEntries, span_from}
 use Rattle.pipe_bounds.specs.InBounds.{scale_of}
 
--- a table of this name is given, and has entries
+-- a table of this name is supplied, and has entries
 pub record HasEntries (tables : List Table) (x : List ℕ) : Type 0 where
   pub table : Table
   pub named : table_named tables x ≡ Some table
   pub entries : AreEntries (span_from table.lo (length table.values)) (length table.values)
 
--- its numbers fit 32 bits, its indices are in range, and its tables are given
+-- its numbers fit 32 bits, its indices are in range, and its tables are supplied
 abbrev pub IsRanged : List Table → Node → Type 0
 IsRanged ts (number n) = n < 2 ^ 31
 IsRanged ts (variable x) = Unit {0}
 IsRanged ts (read x i j) = IsIndex (scale_of i) × IsIndex (scale_of j)
 IsRanged ts (lookup x a) = HasEntries ts x × IsRanged ts a
-IsRanged ts (neg a) = IsRanged ts a
+IsRanged ts (unary op a) = IsRanged ts a
 IsRanged ts (binary op a b) = IsRanged ts a × IsRanged ts b
+IsRanged ts (ternary op a b c) = IsRanged ts a × IsRanged ts b × IsRanged ts c
 IsRanged ts (literal op a n) = IsRanged ts a
-IsRanged ts (abs a) = IsRanged ts a
-IsRanged ts (clamp a b c) = IsRanged ts a × IsRanged ts b × IsRanged ts c
 IsRanged ts (select a relation b c d) = IsRanged ts a × IsRanged ts b × IsRanged ts c × IsRanged ts d
 IsRanged ts (stencil x divisor kernel) = Unit {0}
 
@@ -47,7 +46,7 @@ IsRangedItem ts (function f) = All (IsRangedBranch ts) f.cases × ForSome f.othe
 IsRangedItem ts (accumulator a) = IsRanged ts a.value × IsRanged ts a.bin
 IsRangedItem ts (output o) = Unit {0}
 
--- ---- what was found of its stages, by the names that stand for them
+-- ---- what was found of its stages, by their names
 
 -- of the stage of this name
 pub record HasBounds (p : Program) (found : List StageBounds) (x : List ℕ) (Is : StageBounds → Type 0) : Type 0 where

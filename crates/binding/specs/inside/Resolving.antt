@@ -1,4 +1,4 @@
--- What contracts see of a program on its way to a job.
+-- How contracts see a program on its way to a job.
 use Rattle.std.specs.Prelude.{map}
 use Rattle.pipe_tree.specs.declared.tree.Output.{Output as OutputText}
 use Rattle.job.specs.Pipeline.{Output}
