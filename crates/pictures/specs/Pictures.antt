@@ -1,4 +1,4 @@
--- The picture of a job's output, from numbers that are given of its functions.
+-- The picture of a job's output, from supplied numbers of its functions.
 use Rattle.std.specs.Prelude.{ℕ, ◌≡◌, Option, Some, List, [], map, slice_get, slice_index, All}
 use Rattle.std.specs.Option.{option_map, option_map_or}
 use Rattle.domains.specs.Area.{points_of}
@@ -8,12 +8,12 @@ use Rattle.job.specs.Pipeline.{Output, Pipeline, Stage}
 use Rattle.job.specs.Values.{Valuation}
 use Rattle.tile_sources.specs.KnownTiles.{KnownTiles, given_at, IsGivenStage}
 
--- the numbers of a stage, cut to 0 and the greatest sample, row by row, where env gives the number at each point
+-- the numbers of a stage, clamped to 0 and the greatest sample, row by row, where env has the number at each point
 abbrev pub samples_from : Pipeline → Valuation → ℕ → ℕ → List ℕ
 samples_from job env max g =
     option_map_or (λ s. map (λ p. sample_of max (env g p.0 p.1)) (points_of s.domain)) (slice_get job.stages g) []
 
--- the picture of an output, whose planes these are
+-- the picture of an output, with these planes
 abbrev pub picture_with : Pipeline → Output → List (List ℕ) → Image
 picture_with job o planes = record {
   rows = height_of job (slice_index o.stages 0);
@@ -26,11 +26,11 @@ picture_with job o planes = record {
 abbrev pub picture_from : Pipeline → Valuation → Output → Image
 picture_from job env o = picture_with job o (map (samples_from job env o.max) o.stages)
 
--- the picture of a job that has an output, by the numbers that are given, whatever they are
+-- the picture of a job that has an output, from whatever numbers are supplied
 abbrev pub given_image : Pipeline → KnownTiles → Option Image
 given_image job given = option_map (picture_from job (given_at job given)) job.output
 
--- all tiles of stage g are given, each with as many numbers as points
+-- all tiles of stage g are supplied, each with as many numbers as points
 abbrev pub IsLentStage : Pipeline → KnownTiles → ℕ → Type 0
 IsLentStage job given g = (s : Stage) × IsGivenStage job given g s
 

@@ -1,4 +1,4 @@
--- Areas of which each point lies in a tile that is given, as those of rows of tiles.
+-- Areas of which each point lies in a supplied tile, such as those of rows of tiles.
 use Rattle.std.specs.Prelude.{ℕ, ℤ, ◌≡◌, Some, slice_get}
 use Rattle.domains.specs.Area.{HoldsPoint}
 use Rattle.domains.specs.Tiles.{part_of}
@@ -12,7 +12,7 @@ use Rattle.tile_sources.specs.KnownTiles.{KnownTiles, HasWholeTiles, IsGivenAt}
 abbrev pub row_area : Grid → ℕ → Area
 row_area grid i = record { rows = part_of grid.area.rows grid.sides.height i; cols = grid.area.cols }
 
--- each point of an area lies in a tile of stage g that is given
+-- each point of an area lies in a supplied tile of stage g
 pub record IsGivenArea (job : Pipeline) (given : KnownTiles) (g : ℕ) (area : Area) : Type 0 where
   pub stage : Stage
   pub there : slice_get job.stages g ≡ Some stage

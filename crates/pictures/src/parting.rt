@@ -1,12 +1,12 @@
 #![tactic(auto)]
-//! Work that is parted among threads.
+//! Work that is partitioned among threads.
 
 ghost use Rattle.std.specs.Prelude.{◌<◌, ◌/◌, IsTrue};
 
 use rayon::current_num_threads;
 use std::thread::Threads;
 
-/// Whether so many rows are for one thread: where there is one processor, and where they are too few for two pieces.
+/// Whether one thread computes all of these rows: where there is one processor, and where the rows are too few for two parts.
 pub fn is_for_one(rt: &impl Threads, rows: u32, least: usize) -> bool
     ensures { rows / 2 < least → IsTrue result }
 {

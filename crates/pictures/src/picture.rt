@@ -17,7 +17,6 @@ ghost use Rattle.pictures.specs.RowAreas.{IsGivenArea};
 
 use crate::sheet::{OpenPlane, Sheet};
 use domains::Area;
-use domains::arithmetic::clamp;
 use job::{Job, Output};
 use netpbm::{Picture, Plane};
 use row_kernels::number_after;
@@ -25,18 +24,18 @@ use std::alloc::{AllocError, Global};
 use tile_eval::number_at;
 use tile_run::{Known, lend_given_row};
 
-// How many values are cut before their samples are added.
+// The number of values that are clamped before their samples are added.
 const PIECE: usize = 512;
 
-/// A job with whatever lends the tiles of its functions.
+/// A job with a source of the tiles of its functions.
 #[derive(Drop)]
 pub struct KnownTiles<'a, K: Known> {
     pub job: &'a Job,
     pub known: &'a K,
 }
 
-/// The picture of a job that has an output, from the numbers that are lent of its functions, whatever these are: each is cut to 0 and
-/// the greatest sample. Where they are true, it is the job's image.
+/// The picture of a job that has an output, from whatever numbers are supplied for its functions: each is clamped to 0 and the
+/// greatest sample. If the numbers are true, it is the job's image.
 ///
 /// # Errors
 ///
@@ -100,7 +99,7 @@ impl<K: Known> KnownTiles<'_, K> {
         Ok(planes)
     }
 
-    /// The values of a function, row by row, cut to 0 and the greatest sample.
+    /// The values of a function, row by row, clamped to 0 and the greatest sample.
     ///
     /// # Errors
     ///
@@ -118,7 +117,7 @@ impl<K: Known> KnownTiles<'_, K> {
         }
     }
 
-    // Those of its domain.
+    // The plane of a function over its domain.
     fn plane_over(
         &self,
         alloc: Global,
@@ -139,7 +138,7 @@ impl<K: Known> KnownTiles<'_, K> {
         Ok(sheet.into_plane())
     }
 
-    /// Adds the values of a function on an area to a sheet, row by row, cut to 0 and its greatest sample.
+    /// Adds the values of a function on an area to a sheet, row by row, clamped to 0 and the sheet's greatest sample.
     ///
     /// # Errors
     ///
@@ -167,7 +166,8 @@ impl<K: Known> KnownTiles<'_, K> {
         Ok(())
     }
 
-    // Adds the values of a row from a column on, cut to 0 and the greatest sample: tile by tile, from the numbers of the tiles.
+    // Adds the values of a row from a column on, clamped to 0 and the greatest sample: tile by tile, from the numbers of the
+    // tiles.
     fn push_row<S: Sheet>(
         &self,
         sheet: &mut S,
@@ -195,7 +195,7 @@ impl<K: Known> KnownTiles<'_, K> {
     }
 }
 
-/// The picture of an output, whose planes these are.
+/// The picture of an output, with these planes.
 pub fn picture_with(job: &Job, output: &Output, planes: Vec<Plane>) -> Picture
     requires output { IsOutput (pipeline_in job.now) (output_view output.now) }
     requires image { IsImage (picture_with (pipeline_in job.now) (output_view output.now)
@@ -213,7 +213,7 @@ pub fn picture_with(job: &Job, output: &Output, planes: Vec<Plane>) -> Picture
     }
 }
 
-// Adds values to a sheet, cut to 0 and its greatest sample, piece by piece.
+// Adds values to a sheet, clamped to 0 and its greatest sample, `PIECE` of them at a time.
 fn push_cut<S: Sheet>(sheet: &mut S, values: &[i32]) -> Result<(), AllocError>
     ensures max { S.greatest_of sheet.new ≡ S.greatest_of sheet.old }
     ensures samples { OnOk result (S.samples sheet.new
@@ -232,7 +232,7 @@ fn push_cut<S: Sheet>(sheet: &mut S, values: &[i32]) -> Result<(), AllocError>
     Ok(())
 }
 
-// Each value, cut to 0 and the greatest sample.
+// Each value, clamped to 0 and the greatest sample.
 fn cut_into(cuts: &mut [u16], values: &[i32], max: u16)
     requires { length cuts.old ≡ length values.now }
     ensures { cuts.new ≡ map (sample_of max) values.now }
@@ -242,14 +242,14 @@ fn cut_into(cuts: &mut [u16], values: &[i32], max: u16)
     }
 }
 
-// The value cut to 0 and the greatest sample.
+// The value clamped to 0 and the greatest sample.
 fn cut(value: i32, max: u16) -> u16
     ensures { result ≡ sample_of max value }
 {
-    clamp(value, 0, i32::from(max)) as u16
+    value.max(0).min(i32::from(max)) as u16
 }
 
-// How many rows the domain of a stage has.
+// The number of rows of the domain of a stage.
 fn height_of(job: &Job, stage: usize) -> u32
     ensures { result ≡ height_of (pipeline_in job.now) stage }
 {
@@ -259,7 +259,7 @@ fn height_of(job: &Job, stage: usize) -> u32
     }
 }
 
-// How many columns the domain of a stage has.
+// The number of columns of the domain of a stage.
 fn width_of(job: &Job, stage: usize) -> u32
     ensures { result ≡ width_of (pipeline_in job.now) stage }
 {

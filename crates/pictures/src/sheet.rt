@@ -1,5 +1,5 @@
 #![tactic(auto)]
-//! Where samples are added, one behind the other.
+//! Where samples are added, one after the other.
 
 ghost use Rattle.std.specs.Prelude.{◌≡◌, ◌≤◌, ◌++◌, [], ℕ, List, All, IfOk, OnOk};
 ghost use Rattle.netpbm.specs.MadePlane.{made};
@@ -19,11 +19,11 @@ pub trait Sheet {
     fn greatest(&self) -> u16
         ensures { result ≡ greatest_of self.now };
 
-    /// Adds samples behind those that there are.
+    /// Adds samples after those that are there.
     ///
     /// # Errors
     ///
-    /// Fails only where memory is refused. A front of the samples may have been added then.
+    /// Fails only where memory is refused. Then some of the first samples may have been added.
     fn add(&mut self, more: &[u16]) -> Result<(), AllocError>
         requires { All (λ sample. sample ≤ greatest_of self.old) more.now }
         ensures max { greatest_of self.new ≡ greatest_of self.old }
@@ -39,7 +39,7 @@ pub struct OpenPlane {
 }
 
 impl OpenPlane {
-    /// No samples yet, and room for so many.
+    /// No samples yet, and capacity for `count`.
     ///
     /// # Errors
     ///
@@ -51,7 +51,7 @@ impl OpenPlane {
         Ok(OpenPlane { max, plane })
     }
 
-    /// The plane, which is done.
+    /// The finished plane.
     pub fn into_plane(self) -> Plane
         ensures { result ≡ self.plane }
     {

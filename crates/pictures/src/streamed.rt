@@ -1,5 +1,5 @@
 #![tactic(auto)]
-//! Planes of outputs that nothing else reads, made as their tiles are.
+//! Planes of outputs that nothing else reads, filled while their tiles are computed.
 
 ghost use Rattle.std.specs.Prelude.{◌≡◌, ◌<◌, ◌++◌, map, IfOk, OnOk};
 ghost use Rattle.std.specs.List.{range_with_len};
@@ -23,7 +23,7 @@ use std::alloc::{AllocError, Global};
 use std::thread::Threads;
 use tile_run::{LentRow, Scratch, StageRun, least_rows};
 
-/// An output of a job, of whose tiles each thread has one row in memory at a time.
+/// An output of a job. Each thread has one row of its tiles in memory at a time.
 #[derive(Clone, Copy)]
 pub struct Streamed<'a> {
     pub run: StageRun<'a>,
@@ -45,7 +45,7 @@ pub fn area_of_row(grid: &Grid, row: u32) -> Area
 }
 
 impl Streamed<'_> {
-    /// Its values, row by row, cut to 0 and the greatest sample.
+    /// The values of the output, row by row, clamped to 0 and the greatest sample.
     ///
     /// # Errors
     ///
@@ -107,7 +107,7 @@ impl Streamed<'_> {
         Ok(plane)
     }
 
-    // A strip for each row of tiles. Threads have so many rows at least.
+    // A strip for each row of tiles. Each thread gets at least `least` rows.
     fn strips(
         &self,
         rt: &(impl Threads + Sync),

@@ -8,7 +8,7 @@ use crate::sheet::Sheet;
 use netpbm::Plane;
 use std::alloc::{AllocError, Global};
 
-/// The samples of some rows of a plane, which are kept until those of the rows before are there.
+/// The samples of some rows of a plane, which are kept until those of the rows before are available.
 #[derive(Drop)]
 pub(crate) struct Strip {
     max: u16,
@@ -16,7 +16,7 @@ pub(crate) struct Strip {
 }
 
 impl Strip {
-    /// No samples yet, and room for so many.
+    /// No samples yet, and capacity for `count`.
     ///
     /// # Errors
     ///
@@ -44,7 +44,7 @@ impl Sheet for Strip {
     }
 }
 
-/// Adds strips to a plane, one behind the other.
+/// Adds strips to a plane, one after the other.
 ///
 /// # Errors
 ///

@@ -4,8 +4,8 @@ use Rattle.std.proofs.Common.{ap, sym, add-zero}
 use Rattle.std.proofs.Math.IntN.{+ℤ_assoc, +ℤ_idr, +ℤ_idl}
 use Rattle.std.proofs.lemmas.Grind.{common_steps}
 use Rattle.domains.specs.Arithmetic.{wrapped}
-use Rattle.operations.specs.Values.{sum_below}
-use Rattle.operations.proofs.KernelSums.{sum_below-agrees}
+use Rattle.operators.specs.Values.{sum_below}
+use Rattle.operators.proofs.KernelSums.{sum_below-agrees}
 use Rattle.row_kernels.specs.Rows.{at}
 use Rattle.row_kernels.specs.Stencil.{tap_sum}
 use Rattle.row_kernels.proofs.Taps.{tap_of_other}

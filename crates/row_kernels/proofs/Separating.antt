@@ -3,8 +3,8 @@ use Rattle.std.proofs.Common.{arith, ℕ, zero, suc, ℤ, ◌≡◌, ◌<◌, po
 use Rattle.std.proofs.Math.IntN.{*ℤ-zero}
 use Rattle.std.proofs.lemmas.Int.{int_wrap-mul_right}
 use Rattle.domains.specs.Arithmetic.{wrapped}
-use Rattle.operations.specs.Values.{sum_below, factors}
-use Rattle.operations.proofs.KernelSums.{sum_below-agrees}
+use Rattle.operators.specs.Values.{sum_below, factors}
+use Rattle.operators.proofs.KernelSums.{sum_below-agrees}
 use Rattle.row_kernels.specs.Rows.{at}
 use Rattle.row_kernels.specs.Separable.{IsSeparable}
 use Rattle.row_kernels.proofs.ProductLaws.{grouped, over_sum, other_order}

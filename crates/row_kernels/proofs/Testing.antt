@@ -1,8 +1,8 @@
 -- Tests one after another.
 use Rattle.std.proofs.Common.{arith, ℕ, ℤ, zero, suc, map, ◌≡◌, ◌<◌, List, [], ◌∷◌, length, drop, sym, ap}
 use Rattle.std.specs.Prelude.{◌&&◌, slice_index_or}
-use Rattle.operations.specs.Tests.{Test}
-use Rattle.operations.specs.Values.{is_passed, all_passed}
+use Rattle.operators.specs.Tests.{Test}
+use Rattle.operators.specs.Values.{is_passed, all_passed}
 
 -- the tests from one on: that one, and those after it
 pub passed_step : {X : Type 0} (f : X → Test) (xs : List X) (i : ℕ) (x : X) (r c : ℤ) → i < length xs → x ≡ slice_index_or xs i x

@@ -1,4 +1,4 @@
--- Where an index goes along a row.
+-- The columns that an index takes along a row.
 use Rattle.std.specs.Prelude.{ℕ, ℤ, pos, ◌+ℤ◌}
 use Rattle.std.specs.Int.{int_gap}
 use Rattle.domains.specs.Index.{Scale, index_at}

@@ -1,4 +1,4 @@
--- What is made of the numbers that an operator gives.
+-- Epilogues: what is applied to the results of an operator.
 use Rattle.std.specs.Prelude.{ℤ, pos, ◌^◌, unsigned_abs}
 use Rattle.domains.specs.Arithmetic.{wrapped, clamped, floor_div}
 use Rattle.row_kernels.specs.Added.{added}
@@ -14,7 +14,7 @@ shifted s v = floor_div (added v s.add) (pos (2 ^ s.count.bits))
 abbrev pub cut : Bounds → ℤ → ℤ
 cut c v = clamped v c.low c.high
 
--- what a finish makes of a number
+-- what an epilogue makes of a number
 abbrev pub finish_value : Finish → ℤ → ℤ
 finish_value Nothing v = v
 finish_value Absolute v = wrapped (pos (unsigned_abs v))

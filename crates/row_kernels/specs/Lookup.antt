@@ -1,4 +1,4 @@
--- The entry of a table that an index takes, over the entries where they lie: the index is cut to the table's span.
+-- The entry of a table that an index takes, over borrowed entries: the index is clamped to the table's span.
 use Rattle.std.specs.Prelude.{ℤ, List}
 use Rattle.std.specs.Int.{int_gap}
 use Rattle.domains.specs.Arithmetic.{clamped}

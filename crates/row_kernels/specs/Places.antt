@@ -1,4 +1,4 @@
--- Where the points of an area stand among its values.
+-- Where the points of an area are among its values.
 use Rattle.std.specs.Prelude.{ℕ, ◌+◌, ◌*◌, ℤ}
 use Rattle.std.specs.Int.{int_gap}
 use Rattle.domains.specs.Span.{len_of}

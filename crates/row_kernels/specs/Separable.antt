@@ -1,9 +1,9 @@
--- Kernels that are products of a column and a row of factors.
+-- Separable kernels: products of a column and a row of factors.
 use Rattle.std.specs.Prelude.{◌≡◌, ℤ, ◌*ℤ◌, List, length}
-use Rattle.operations.specs.Values.{factors}
+use Rattle.operators.specs.Values.{factors}
 use Rattle.row_kernels.specs.Rows.{EachPlace, at}
 
--- the numbers of a row are those of another one, each taken so many times
+-- the numbers of a row are those of another one, each times a factor
 pub record IsMultiple (row : List ℤ) (times : ℤ) (other : List ℤ) : Type 0 where
   pub width : length row ≡ length other
   pub products : EachPlace (length other) (λ b. at row b ≡ times *ℤ at other b)

@@ -1,14 +1,14 @@
--- Operands of sums.
+-- Addends.
 use Rattle.std.specs.Prelude.{ℕ, ℤ, ◌*ℤ◌, Option, Some, None, List}
 use Rattle.domains.specs.Arithmetic.{wrapped}
 use Rattle.row_kernels.specs.Operands.{operand_at}
 use Rattle.row_kernels.specs.declared.term.Term.{Term}
 
--- v, taken a number of times if there is a factor
+-- v, multiplied by the factor if there is one
 abbrev pub times : Option ℤ → ℤ → ℤ
 times None v = v
 times (Some factor) v = wrapped (factor *ℤ v)
 
--- a term at place k of a row in which these numbers stand
+-- an addend at place k of a row that holds these numbers
 abbrev pub term_at : Term → List ℤ → ℕ → ℤ
 term_at term out k = times term.factor (operand_at term.of out k)

@@ -31,7 +31,7 @@ pub(crate) fn distance(span: &Span, v: i32) -> usize
     (v - span.lo()) as usize
 }
 
-// So many numbers from a place on.
+// `count` numbers from a place on.
 fn part_of(values: &[i32], place: usize, count: usize) -> &[i32]
     requires { place + count ≤ length values.now }
     ensures count { length result.now ≡ count }
@@ -73,7 +73,7 @@ impl<'a> BufferView<'a> {
         out.copy_from_slice(self.slice(row, first, out.len()));
     }
 
-    /// So many values along a row, from a column on.
+    /// `count` values along a row, from a column on.
     pub fn slice(&self, row: i32, first: i32, count: usize) -> &'a [i32]
         requires { EachPlace count (λ k. HoldsPoint self.now.area row (first +ℤ pos k)) }
         ensures count { length result.now ≡ count }

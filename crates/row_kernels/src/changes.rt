@@ -1,5 +1,5 @@
 #![tactic(auto)]
-//! What is made of one number.
+//! Operations on one number.
 
 ghost use Rattle.std.specs.Prelude.{◌≡◌, ℤ, ◌<◌, ◌^◌, ◌*ℤ◌, pos, neg_ℤ, unsigned_abs};
 ghost use Rattle.domains.specs.Arithmetic.{wrapped, clamped, floor_div, floor_rem};
@@ -8,15 +8,15 @@ ghost use Rattle.row_kernels.specs.Added.{added};
 use crate::pairs::Pair;
 use crate::reciprocal::Reciprocal;
 use domains::arithmetic::{
-    clamp, shr, wrapping_abs, wrapping_add, wrapping_neg, wrapping_shl, wrapping_sub,
+    shr, wrapping_abs, wrapping_add, wrapping_neg, wrapping_shl, wrapping_sub,
 };
 
-/// Makes another number of one.
+/// An operation on one number.
 pub(crate) trait Change: Copy {
-    /// The number that it makes.
+    /// Its result.
     ghost value: { Self → ℤ → ℤ };
 
-    /// Makes it.
+    /// Computes it.
     fn of(&self, number: i32) -> i32
         ensures { result ≡ value self.now number };
 }
@@ -47,7 +47,7 @@ impl Change for AbsoluteValue {
     }
 }
 
-/// The number cut to at least `low`, and then to at most `high`.
+/// The number clamped to at least `low`, and then to at most `high`.
 #[derive(Clone, Copy, Debug)]
 pub struct Cut {
     pub(crate) low: i32,
@@ -59,7 +59,7 @@ impl Change for Cut {
 
     #[inline]
     fn of(&self, number: i32) -> i32 {
-        clamp(number, self.low, self.high)
+        number.max(self.low).min(self.high)
     }
 }
 
@@ -73,7 +73,7 @@ impl Change for Reciprocal {
     }
 }
 
-/// What its division, rounded down, leaves.
+/// The remainder of its division, rounded down.
 #[derive(Clone, Copy)]
 pub(crate) struct Rest(pub(crate) Reciprocal);
 
@@ -143,7 +143,7 @@ fn add_to(left: i32, right: i32) -> i32
     wrapping_add(left, right)
 }
 
-/// What another change makes of what one makes.
+/// A change, and then another change of its result.
 #[derive(Clone, Copy)]
 pub(crate) struct Chained<C: Change, D: Change>(pub(crate) C, pub(crate) D);
 
@@ -156,7 +156,7 @@ impl<C: Change, D: Change> Change for Chained<C, D> {
     }
 }
 
-/// What a pair makes of the number and one that stands left of it.
+/// What a pair makes of a fixed left number and of the number.
 #[derive(Clone, Copy)]
 pub(crate) struct After<P: Pair<Made = i32>>(pub(crate) i32, pub(crate) P);
 
@@ -182,7 +182,7 @@ impl<P: Pair<Made = i32>> Change for Twice<P> {
     }
 }
 
-/// What the division by a power of two, rounded down, leaves.
+/// The remainder of the division by a power of two, rounded down.
 #[derive(Clone, Copy)]
 pub(crate) struct LastBits {
     pub(crate) count: Count,
@@ -198,7 +198,7 @@ impl Change for LastBits {
     }
 }
 
-/// What a change makes of what a pair makes.
+/// A pair, and then a change of its result.
 #[derive(Clone, Copy)]
 pub(crate) struct Finished<P: Pair<Made = i32>, C: Change>(pub(crate) P, pub(crate) C);
 

@@ -1,5 +1,5 @@
 #![tactic(auto)]
-//! Where an index that divides goes along a row, without a division at each point.
+//! The columns of a dividing index along a row, without a division at each point.
 
 ghost use Rattle.std.specs.Prelude.{◌≡◌, ◌<◌, ◌≤◌, ◌+ℤ◌, ◌*ℤ◌, ◌<ℤ◌, ◌≤ℤ◌, ◌==◌, ◌&&◌, ℕ, pos, negsuc};
 ghost use Rattle.domains.specs.Arithmetic.{floor_rem};
@@ -8,7 +8,7 @@ use crate::reciprocal::Reciprocal;
 use domains::Index;
 use domains::arithmetic::floor_rem;
 
-/// The columns that an index takes at columns side by side, counted from the first of them. The index divides.
+/// The columns that a dividing index takes at adjacent columns, counted from the first of them.
 #[derive(Clone, Copy, Debug)]
 pub struct DividedColumns {
     left: u32,
@@ -37,7 +37,7 @@ fn divisor_of(index: &Index) -> u32
     index.div() as u32
 }
 
-// What the division leaves at a column.
+// The remainder of the division at a column.
 #[tactic(auto, using(std::proofs::lemmas::Int::ints))]
 fn rest_at(index: &Index, col: i32) -> u32
     requires least { negsuc 32767 ≤ℤ col }
@@ -69,7 +69,7 @@ impl DividedColumns {
         }
     }
 
-    /// What the division leaves at the first column.
+    /// The remainder of the division at the first column.
     pub fn left(&self) -> usize
         ensures number { result ≡ self.now.left }
         ensures below { result < self.now.reciprocal.divisor }

@@ -1,9 +1,9 @@
 #![tactic(auto)]
-//! What is made of the numbers that an operator gives, while they are at hand.
+//! Epilogues: what is applied to the results of an operator in the same pass over the row.
 
 use crate::changes::{Cut, RoundedShift};
 
-/// What is made of the numbers that an operator gives, in the same pass over the row.
+/// What is applied to the results of an operator, in the same pass over the row.
 #[derive(Clone, Copy, Debug)]
 pub enum Finish {
     /// They stay as they are.
@@ -12,8 +12,8 @@ pub enum Finish {
     Absolute,
     /// A number is added, and the sums are divided by a power of two, rounded down.
     Shift(RoundedShift),
-    /// They are cut to at least a number, and then to at most another one.
+    /// They are clamped to at least a number, and then to at most another one.
     Cut(Cut),
-    /// They are shifted first, and what that gives is cut.
+    /// They are shifted first, and the result is clamped.
     ShiftAndCut(RoundedShift, Cut),
 }

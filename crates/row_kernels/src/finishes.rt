@@ -1,10 +1,10 @@
 #![tactic(auto)]
-//! Rows that are finished in the pass that makes them, and which finish does the work of an operator.
+//! Rows to which an epilogue is applied in the pass that makes them, and the epilogues that do the work of operators.
 
 ghost use Rattle.std.specs.Prelude.{◌≡◌, ◌<◌, ◌^◌, ◌+ℤ◌, ℤ, pos, length, IfSome};
-ghost use Rattle.domains.specs.Arithmetic.{wrapped, clamped, floor_div};
-ghost use Rattle.operations.specs.Values.{literal_value};
-ghost use Rattle.operations.specs.Limits.{IsLiteral};
+ghost use Rattle.domains.specs.Arithmetic.{wrapped, floor_div};
+ghost use Rattle.operators.specs.Values.{unary_value, ternary_value, literal_value};
+ghost use Rattle.operators.specs.Limits.{IsLiteral};
 ghost use Rattle.row_kernels.specs.Finishes.{finish_value, shifted};
 ghost use Rattle.row_kernels.specs.Operands.{operand_at, Serves};
 ghost use Rattle.row_kernels.specs.Rows.{EachPlace, at};
@@ -14,9 +14,9 @@ use crate::finish::Finish;
 use crate::operand::Operand;
 use crate::operand_rows::{make_of, make_of_both, place};
 use crate::pairs::Pair;
-use domains::LiteralOp;
+use operators::{LiteralOp, TernaryOp, UnaryOp};
 
-/// Writes what a finish makes of an operand.
+/// Writes what an epilogue makes of an operand.
 pub fn finish_row(out: &mut [i32], of: Operand, finish: Finish)
     requires { Serves (length out.old) of }
     ensures { EachPlace (length out.old)
@@ -31,7 +31,7 @@ pub fn finish_row(out: &mut [i32], of: Operand, finish: Finish)
     }
 }
 
-/// Writes what is made of two operands, and finishes it in the same pass.
+/// Writes what a pair makes of two operands, and applies an epilogue in the same pass.
 pub(crate) fn finish_both<P: Pair<Made = i32>>(
     out: &mut [i32],
     left: Operand,
@@ -57,14 +57,33 @@ pub(crate) fn finish_both<P: Pair<Made = i32>>(
 }
 
 impl Finish {
-    /// Numbers are cut to at least `low`, and then to at most `high`.
-    pub fn cut(low: i32, high: i32) -> Finish
-        ensures { (v : ℤ) → finish_value result v ≡ clamped v low high }
+    /// The epilogue that first does the work of an operator on one number, if there is one.
+    pub fn after_unary(self, op: UnaryOp) -> Option<Finish>
+        ensures { IfSome result (λ finish. (v : ℤ) → finish_value finish v
+            ≡ finish_value self (unary_value op v)) }
     {
-        Finish::Cut(Cut { low, high })
+        match (self, op) {
+            (Finish::Nothing, UnaryOp::Abs) => Some(Finish::Absolute),
+            _ => None,
+        }
     }
 
-    /// The finish that shifts to the right first.
+    /// The epilogue that first does the work of an operator on three numbers, if there is one. The second and the third number
+    /// are the same all along the row.
+    pub fn after_ternary(self, op: TernaryOp, second: i32, third: i32) -> Option<Finish>
+        ensures { IfSome result (λ finish. (v : ℤ) → finish_value finish v
+            ≡ finish_value self (ternary_value op v second third)) }
+    {
+        match (self, op) {
+            (Finish::Nothing, TernaryOp::Clamp) => Some(Finish::Cut(Cut {
+                low: second,
+                high: third,
+            })),
+            _ => None,
+        }
+    }
+
+    /// The epilogue that shifts to the right first.
     fn after_shift(self, bits: u32) -> Option<Finish>
         requires { bits < 32 }
         ensures { IfSome result (λ finish. (v : ℤ) → finish_value finish v
@@ -81,7 +100,7 @@ impl Finish {
         }
     }
 
-    /// The finish that does the work of an operator first whose right operand is a number of the text, if there is one.
+    /// The epilogue that first does the work of an operator with a literal as its right operand, if there is one.
     pub fn after_literal(self, op: LiteralOp, number: u32) -> Option<Finish>
         requires { IsLiteral op number }
         ensures { IfSome result (λ finish. (v : ℤ) → finish_value finish v
@@ -100,7 +119,7 @@ impl Finish {
         }
     }
 
-    /// The finish that adds a number first, if there is one.
+    /// The epilogue that adds a number first, if there is one.
     pub fn after_sum(self, number: i32) -> Option<Finish>
         ensures { IfSome result (λ finish. (v : ℤ) → finish_value finish v
             ≡ finish_value self (wrapped (v +ℤ number))) }
@@ -116,7 +135,7 @@ impl Finish {
 }
 
 impl RoundedShift {
-    // The shift of the sums with a number, where nothing is added yet.
+    // The shift with a number added first, if it adds nothing yet.
     fn after_sum(self, number: i32) -> Option<RoundedShift>
         ensures { IfSome result (λ shift. (v : ℤ) → shifted shift v
             ≡ shifted self (wrapped (v +ℤ number))) }

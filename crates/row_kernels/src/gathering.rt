@@ -1,5 +1,5 @@
 #![tactic(auto)]
-//! Numbers that are gathered where an index goes along a row.
+//! Numbers that are gathered at the columns that an index takes along a row.
 
 ghost use Rattle.std.specs.Prelude.{◌≡◌, ◌<◌, ◌+◌, ◌*◌, ◌/◌, ◌^◌, ℕ, pos, length};
 ghost use Rattle.row_kernels.specs.Columns.{column_gap};
@@ -19,7 +19,7 @@ fn step_of(index: &Index) -> usize
     index.mul() as usize
 }
 
-// Takes every second number from a place on. (A step that is known is what vector code is made of.)
+// Takes every second number from a place on. (A constant step allows vector code.)
 fn take_every_second<V: Values>(numbers: V, place: usize, out: &mut [i32])
     requires few { (j : ℕ) → V.has numbers j → j < 2 ^ 64 }
     requires there { EachPlace (length out.old) (λ k. V.has numbers (place + k * 2)) }
@@ -46,7 +46,7 @@ fn take_every<V: Values>(numbers: V, place: usize, step: usize, out: &mut [i32])
     }
 }
 
-// Takes each number from a place on twice, and the first of them once where a half is left before it.
+// Takes each number from a place on twice; the first of them only once if `left` is 1.
 fn take_twice<V: Values>(numbers: V, place: usize, left: usize, out: &mut [i32])
     requires left { left < 2 }
     requires few { (j : ℕ) → V.has numbers j → j < 2 ^ 64 }
@@ -67,7 +67,7 @@ fn take_twice<V: Values>(numbers: V, place: usize, left: usize, out: &mut [i32])
     out[last] = numbers.at(place + (left + last) / 2);
 }
 
-// Takes the numbers from a place on, where an index that divides goes.
+// Takes the numbers from a place on, at the columns of a dividing index.
 fn take_divided<V: Values>(numbers: V, place: usize, columns: &DividedColumns, out: &mut [i32])
     requires short { length out.old < 65536 }
     requires few { (j : ℕ) → V.has numbers j → j < 2 ^ 64 }
@@ -84,7 +84,7 @@ fn take_divided<V: Values>(numbers: V, place: usize, columns: &DividedColumns, o
     }
 }
 
-/// Writes the numbers from a place on, where an index goes along the columns of some points.
+/// Writes the numbers from a place on, at the columns that an index takes at the columns of some points.
 pub fn gather_along<V: Values>(
     numbers: V,
     place: usize,

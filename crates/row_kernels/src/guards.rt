@@ -4,18 +4,17 @@
 ghost use Rattle.std.specs.Prelude.{◌≡◌, ◌≢◌, ◌<◌, ◌==◌, ◌%◌, ◌+ℤ◌, ◌≤ℤ◌, ℤ, pos, length, map, All, if◌then◌else◌};
 ghost use Rattle.std.specs.Ordering.{int_eq};
 ghost use Rattle.domains.specs.Arithmetic.{floor_rem};
-ghost use Rattle.operations.specs.Values.{along, is_related, is_passed, all_passed};
-ghost use Rattle.operations.specs.Bounds.{BoundsHold};
-ghost use Rattle.operations.specs.Limits.{IsDivisor, IsTest};
-ghost use Rattle.operations.specs.Views.{axis_view, test_view};
+ghost use Rattle.operators.specs.Values.{along, is_related, is_passed, all_passed};
+ghost use Rattle.operators.specs.Bounds.{BoundsHold};
+ghost use Rattle.operators.specs.Limits.{IsDivisor, IsTest};
+ghost use Rattle.operators.specs.Views.{axis_view, test_view};
 ghost use Rattle.row_kernels.specs.Rows.{EachPlace, at};
 ghost use Rattle.row_kernels.specs.RowMask.{HoldsWhere};
 
 use crate::loops::choose;
 use crate::row_span::RowSpan;
-use domains::Relation;
 use domains::arithmetic::floor_rem;
-use operations::{Axis, Test};
+use operators::{Axis, Relation, Test};
 
 fn coordinate(axis: Axis, row: i32, col: i32) -> i32
     ensures { result ≡ along (axis_view axis) row col }
@@ -79,13 +78,13 @@ fn all_pass(tests: &[Test], row: i32, col: i32) -> bool
 pub enum RowMask {
     Nowhere,
     Everywhere,
-    /// In the columns of which a division by the first number leaves the second.
+    /// The columns with a remainder: their division by the first number leaves the second.
     Leaving(u32, u32),
     /// Each point is to be tested.
     Unknown,
 }
 
-/// Where in a row of points all tests hold, as far as this is told at once.
+/// Where in a row of points in the bounds all tests hold, as far as this is known without testing each point.
 pub fn where_passed(tests: &[Test], points: &RowSpan) -> RowMask
     requires { All (λ t. IsTest (test_view t)) tests.now }
     ensures { HoldsWhere result (map test_view tests.now) points.now.row }
@@ -110,7 +109,7 @@ pub fn where_passed(tests: &[Test], points: &RowSpan) -> RowMask
     }
 }
 
-// What a division of a number leaves.
+// The remainder of the division of a number.
 fn left_of(v: i32, modulus: u32) -> u32
     requires { IsDivisor modulus }
     ensures number { pos result ≡ floor_rem v (pos modulus) }
@@ -119,7 +118,7 @@ fn left_of(v: i32, modulus: u32) -> u32
     floor_rem(v, modulus as i32) as u32
 }
 
-// How far behind a number, of which this is left, the first one lies that leaves the rest.
+// How far after a number with the remainder `left` the first number with the remainder `rest` lies.
 fn gap_to_rest(left: u32, modulus: u32, rest: u32) -> usize
     requires modulus { IsDivisor modulus }
     requires left { left < modulus }
@@ -138,7 +137,7 @@ fn gap_to_rest(left: u32, modulus: u32, rest: u32) -> usize
     gap as usize
 }
 
-// Takes the numbers of the other row at every second place. (Each place is written, which is what vector code is made of.)
+// Takes the numbers of the other row at every second place. (Each place is written, which allows vector code.)
 fn take_alternate(out: &mut [i32], other: &[i32], first: u32)
     requires other { length other.now ≡ length out.old }
     requires short { length out.old < 65536 }
@@ -151,7 +150,7 @@ fn take_alternate(out: &mut [i32], other: &[i32], first: u32)
     }
 }
 
-// Takes the numbers of the other row in the columns that leave this rest, one of so many.
+// Takes the numbers of the other row in the columns whose remainder by `modulus` is `rest`.
 fn take_leaving(out: &mut [i32], other: &[i32], modulus: u32, rest: u32, points: &RowSpan)
     requires other { length other.now ≡ length out.old }
     requires modulus { IsDivisor modulus }
@@ -174,7 +173,7 @@ fn take_leaving(out: &mut [i32], other: &[i32], modulus: u32, rest: u32, points:
     }
 }
 
-// Takes the numbers of the other row where all tests hold, each point tested.
+// Takes the numbers of the other row where all tests hold, by testing each point.
 fn take_passed(out: &mut [i32], other: &[i32], tests: &[Test], points: &RowSpan)
     requires other { length other.now ≡ length out.old }
     requires tests { All (λ t. IsTest (test_view t)) tests.now }

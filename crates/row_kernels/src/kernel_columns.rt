@@ -3,12 +3,12 @@
 
 ghost use Rattle.std.specs.Prelude.{◌≡◌, ◌<◌, ◌+ℤ◌, ℤ, [], ◌∷◌, length, IfSome, IfNone};
 ghost use Rattle.domains.specs.Arithmetic.{wrapped};
-ghost use Rattle.operations.specs.Values.{factors};
+ghost use Rattle.operators.specs.Values.{factors};
 ghost use Rattle.row_kernels.specs.Rows.{EachPlace, at};
 ghost use Rattle.row_kernels.specs.Stencil.{tap_sum, HasSize};
 
 use crate::products::add_product;
-use operations::{Factors, Kernel};
+use operators::{Factors, Kernel};
 use std::marker::Model;
 
 // The factor of a row that has no other.
@@ -55,7 +55,7 @@ impl Kernel3x1 {
         }
     }
 
-    /// What the factors give at place `k` of their lines, added up and wrapped at 32 bits.
+    /// The sum of the factors times the numbers at place `k` of their lines, wrapped at 32 bits.
     #[inline]
     fn sum(&self, top: &[i32], middle: &[i32], bottom: &[i32], k: usize) -> i32
         requires top { k < length top.now }
@@ -71,7 +71,7 @@ impl Kernel3x1 {
         add_product(two, self.bottom, bottom, k)
     }
 
-    /// Writes at each place what the factors give there of their lines.
+    /// Writes at each place the sum of the factors times the numbers of their lines there.
     pub fn write_sums(self, out: &mut [i32], top: &[i32], middle: &[i32], bottom: &[i32])
         requires top { length top.now ≡ length out.old }
         requires middle { length middle.now ≡ length out.old }
@@ -124,7 +124,7 @@ impl Kernel5x1 {
         }
     }
 
-    /// What the factors give at place `k` of their lines, added up and wrapped at 32 bits.
+    /// The sum of the factors times the numbers at place `k` of their lines, wrapped at 32 bits.
     #[inline]
     fn sum(&self, a: &[i32], b: &[i32], c: &[i32], d: &[i32], e: &[i32], k: usize) -> i32
         requires a { k < length a.now }
@@ -144,7 +144,7 @@ impl Kernel5x1 {
         add_product(four, self.fifth, e, k)
     }
 
-    /// Writes at each place what the factors give there of their lines.
+    /// Writes at each place the sum of the factors times the numbers of their lines there.
     pub fn write_sums(self, out: &mut [i32], a: &[i32], b: &[i32], c: &[i32], d: &[i32], e: &[i32])
         requires a { length a.now ≡ length out.old }
         requires b { length b.now ≡ length out.old }

@@ -1,4 +1,4 @@
-//! Rows of numbers, and what is done to them place by place: kernels of formulas, stencils and guards, which know of no stages.
+//! Rows of numbers and operations on them, place by place: kernels of formulas, stencils and guards, independent of stages.
 #![tactic(auto)]
 
 mod buffer_view;
@@ -13,11 +13,11 @@ mod lookup;
 mod loops;
 mod operand;
 mod operand_rows;
-mod operators;
 mod pairs;
 mod products;
 mod quintuple;
 mod reciprocal;
+mod row_operators;
 mod row_span;
 mod row_sums;
 mod sample_rows;
@@ -38,8 +38,9 @@ pub use kernel_columns::{Kernel3x1, Kernel5x1};
 pub use lookup::look_up;
 pub use loops::{count_up, fill};
 pub use operand::Operand;
-pub use operators::{
-    combine, combine_literal, combine_scaled, cut, divide_by, keep_related, negate,
+pub use row_operators::{
+    apply_ternary, apply_unary, combine, combine_literal, combine_scaled, divide_by, keep_related,
+    unary_number,
 };
 pub use row_span::{RowSpan, number_after};
 pub use row_sums::write_taps;

@@ -9,14 +9,13 @@ ghost use Rattle.row_kernels.specs.Rows.{EachPlace, at};
 ghost use Rattle.tables.specs.Entries.{entry_at};
 
 use crate::buffer_view::distance;
-use crate::changes::Change;
+use crate::changes::{Change, Cut};
 use crate::operand::Operand;
 use crate::operand_rows::make_of;
 use domains::Span;
-use domains::arithmetic::clamp;
 use tables::Entries;
 
-// A table's entries, one for each index of a span, where they lie.
+// A table's entries, one for each index of a span, borrowed.
 #[derive(Clone, Copy)]
 struct Lent<'a> {
     span: Span,
@@ -24,13 +23,17 @@ struct Lent<'a> {
     ghost size: { length values.now ≡ len_of span },
 }
 
-// The number of the span that is next to v.
+// The number of the span that is nearest to v.
 #[inline]
 fn cut_into(span: &Span, v: i32) -> i32
     ensures holds { Holds span.now result }
     ensures value { result ≡ clamped v span.now.lo span.now.hi }
 {
-    clamp(v, span.lo(), span.hi())
+    let cut = Cut {
+        low: span.lo(),
+        high: span.hi(),
+    };
+    cut.of(v)
 }
 
 // Takes the entry at a number.
@@ -48,8 +51,8 @@ impl Change for LookUp<'_> {
     }
 }
 
-/// Writes the entries of a table at the numbers of an operand. A number below the first index takes the first entry, and one above the
-/// last takes the last.
+/// Writes the entries of a table at the numbers of an operand. A number below the first index takes the first entry, and one
+/// above the last takes the last.
 pub fn look_up(out: &mut [i32], of: Operand, table: &Entries)
     requires { Serves (length out.old) of }
     ensures { EachPlace (length out.old) (λ k. at out.new k

@@ -1,5 +1,5 @@
 #![tactic(auto)]
-//! Rows whose numbers are made place by place.
+//! Rows whose numbers are computed place by place.
 
 ghost use Rattle.std.specs.Prelude.{◌≡◌, ◌≤ℤ◌, ◌+ℤ◌, pos, length, if◌then◌else◌};
 ghost use Rattle.row_kernels.specs.Rows.{EachPlace, at};
@@ -29,7 +29,7 @@ pub fn count_up(out: &mut [i32], first: i32)
     }
 }
 
-/// Each number becomes what is made of it.
+/// Applies a change to each number of a row.
 pub(crate) fn change<C: Change>(out: &mut [i32], make: C)
     ensures { EachPlace (length out.old) (λ k. at out.new k ≡ C.value make (at out.old k)) }
 {
@@ -38,7 +38,7 @@ pub(crate) fn change<C: Change>(out: &mut [i32], make: C)
     }
 }
 
-/// Writes what is made of the numbers of a line.
+/// Writes what a change makes of the numbers of a line.
 pub(crate) fn write_changed<C: Change>(out: &mut [i32], line: &[i32], make: C)
     requires { length line.now ≡ length out.old }
     ensures { EachPlace (length out.old) (λ k. at out.new k ≡ C.value make (at line.now k)) }
@@ -48,7 +48,7 @@ pub(crate) fn write_changed<C: Change>(out: &mut [i32], line: &[i32], make: C)
     }
 }
 
-/// Each number becomes what is made of it and of the number of a line.
+/// Replaces each number by what a pair makes of it and of the number of a line.
 pub(crate) fn join<P: Pair<Made = i32>>(out: &mut [i32], right: &[i32], make: P)
     requires { length right.now ≡ length out.old }
     ensures { EachPlace (length out.old)
@@ -59,7 +59,7 @@ pub(crate) fn join<P: Pair<Made = i32>>(out: &mut [i32], right: &[i32], make: P)
     }
 }
 
-/// Writes what is made of the numbers of two lines.
+/// Writes what a pair makes of the numbers of two lines.
 pub(crate) fn write_joined<P: Pair<Made = i32>>(
     out: &mut [i32],
     left: &[i32],
@@ -76,7 +76,7 @@ pub(crate) fn write_joined<P: Pair<Made = i32>>(
     }
 }
 
-/// Each number is joined with that of a line, and what this makes with that of another line.
+/// Joins each number with that of a line, and the result with that of another line.
 pub(crate) fn join_twice<P: Pair<Made = i32>, Q: Pair<Made = i32>>(
     out: &mut [i32],
     second: &[i32],
@@ -94,7 +94,7 @@ pub(crate) fn join_twice<P: Pair<Made = i32>, Q: Pair<Made = i32>>(
     }
 }
 
-/// Writes what is made of the numbers of two lines, joined with those of a third.
+/// Writes the numbers of two lines, joined, and then joined with those of a third.
 pub(crate) fn write_joined_twice<P: Pair<Made = i32>, Q: Pair<Made = i32>>(
     out: &mut [i32],
     first: &[i32],
@@ -114,7 +114,7 @@ pub(crate) fn write_joined_twice<P: Pair<Made = i32>, Q: Pair<Made = i32>>(
     }
 }
 
-/// One of two numbers. (Both are at hand when it is called: a choice between places to read from is no vector code.)
+/// One of two numbers. (Both are available when it is called: a choice between places to read from does not give vector code.)
 #[inline]
 pub(crate) fn choose(holds: bool, one: i32, other: i32) -> i32
     ensures { result ≡ (if holds then one else other) }
@@ -122,7 +122,7 @@ pub(crate) fn choose(holds: bool, one: i32, other: i32) -> i32
     if holds { one } else { other }
 }
 
-/// Takes the other number where that of a line is not related to one, and keeps its own where it is.
+/// Keeps its own number where that of a line is related to one, and takes the other number elsewhere.
 pub(crate) fn keep<R: Pair<Made = bool>, V: Values, W: Values>(
     out: &mut [i32],
     other: W,

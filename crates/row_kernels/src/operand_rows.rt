@@ -1,5 +1,5 @@
 #![tactic(auto)]
-//! Rows that are made of operands.
+//! Rows that are computed from operands.
 
 ghost use Rattle.std.specs.Prelude.{◌≡◌, length, if◌then◌else◌};
 ghost use Rattle.row_kernels.specs.Operands.{operand_at, Serves, IsGiven};
@@ -23,7 +23,7 @@ pub(crate) fn place(out: &mut [i32], of: Operand)
     }
 }
 
-/// Writes what is made of an operand.
+/// Writes what a change makes of an operand.
 pub(crate) fn make_of<C: Change>(out: &mut [i32], of: Operand, make: C)
     requires { Serves (length out.old) of }
     ensures { EachPlace (length out.old)
@@ -36,7 +36,7 @@ pub(crate) fn make_of<C: Change>(out: &mut [i32], of: Operand, make: C)
     }
 }
 
-/// Writes what is made of two operands.
+/// Writes what a pair makes of two operands.
 pub(crate) fn make_of_both<P: Pair<Made = i32>>(
     out: &mut [i32],
     left: Operand,

@@ -1,5 +1,5 @@
 #![tactic(auto)]
-//! What is made of two numbers.
+//! Operations on two numbers.
 
 ghost use Rattle.std.specs.Prelude.{◌≡◌, ℤ, ◌+ℤ◌, ◌-ℤ◌, ◌*ℤ◌, int_le};
 ghost use Rattle.std.specs.Int.{int_min, int_max};
@@ -8,14 +8,14 @@ ghost use Rattle.domains.specs.Arithmetic.{wrapped};
 
 use domains::arithmetic::{wrapping_add, wrapping_mul, wrapping_sub};
 
-/// Makes something of two numbers: another number, or whether they are related.
+/// An operation on two numbers: it gives another number, or whether they are related.
 pub(crate) trait Pair: Copy {
     type Made;
 
-    /// What it makes.
+    /// Its result.
     ghost value: { Self → ℤ → ℤ → Self.Made };
 
-    /// Makes it.
+    /// Computes it.
     fn of(&self, left: i32, right: i32) -> Self::Made
         ensures { result ≡ value self.now left right };
 }
@@ -125,7 +125,7 @@ impl Pair for Equal {
     }
 }
 
-/// What a pair makes of the numbers where they change places.
+/// What a pair makes of the numbers when they are exchanged.
 #[derive(Clone, Copy)]
 pub(crate) struct Exchanged<P: Pair>(pub(crate) P);
 
@@ -140,7 +140,7 @@ impl<P: Pair> Pair for Exchanged<P> {
     }
 }
 
-/// What a pair makes of a number and of the other one, taken so many times.
+/// What a pair makes of a number and of the other one times a factor.
 #[derive(Clone, Copy)]
 pub(crate) struct Scaled<P: Pair>(pub(crate) P, pub(crate) i32);
 

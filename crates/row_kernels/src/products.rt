@@ -7,7 +7,7 @@ ghost use Rattle.row_kernels.specs.Rows.{at};
 
 use domains::arithmetic::{wrapping_add, wrapping_mul, wrapping_sub};
 
-/// A sum and one product more, wrapped at 32 bits.
+/// A sum plus one more product, wrapped at 32 bits.
 #[inline]
 pub fn add_product(sum: i32, factor: i32, line: &[i32], k: usize) -> i32
     requires { k < length line.now }
@@ -16,7 +16,7 @@ pub fn add_product(sum: i32, factor: i32, line: &[i32], k: usize) -> i32
     wrapping_add(sum, wrapping_mul(factor, line[k]))
 }
 
-/// A sum and the product of a factor and the gap between the numbers of two lines, wrapped at 32 bits.
+/// A sum plus the product of a factor and the difference of the numbers of two lines, wrapped at 32 bits.
 #[inline]
 pub fn add_gap(sum: i32, factor: i32, from: &[i32], to: &[i32], k: usize) -> i32
     requires from { k < length from.now }

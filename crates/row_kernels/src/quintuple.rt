@@ -29,7 +29,7 @@ impl Model for Quintuple {
 }
 
 impl Quintuple {
-    /// The first five factors, if there are so many.
+    /// The first five factors, if there are at least five.
     pub fn first_of(factors: &[i32]) -> Option<Quintuple>
         ensures is { IfSome result (λ q. q ≡ take 5 factors.now) }
         ensures many { IfSome result (λ q. 5 ≤ length factors.now) }

@@ -1,11 +1,11 @@
 #![tactic(auto)]
-//! Division by a number that stays the same, without a division at each number.
+//! Division by a fixed number, without a division for each number.
 
 ghost use Rattle.std.specs.Prelude.{◌≡◌, ◌<◌, ◌≤◌, ◌*◌, ◌/◌, ◌^◌, ◌+ℤ◌, pos};
 ghost use Rattle.domains.specs.Arithmetic.{floor_div, floor_rem};
 ghost use Rattle.row_kernels.specs.inside.Reciprocal.{IsReciprocal, distance, on_side};
 
-/// A divisor, with the factor whose product is cut by the last `shift` bits in place of a division.
+/// A divisor, with a factor. The product with the factor, without its last `shift` bits, is used instead of a division.
 #[derive(Clone, Copy, Debug)]
 pub struct Reciprocal {
     divisor: u32,
@@ -18,7 +18,7 @@ pub struct Reciprocal {
 }
 
 impl Reciprocal {
-    /// Of a divisor from 2 on.
+    /// The reciprocal of a divisor of at least 2.
     pub fn new(divisor: u32) -> Reciprocal
         requires least { 2 ≤ divisor }
         requires most { divisor < 2 ^ 31 }
@@ -57,7 +57,7 @@ impl Reciprocal {
         on_side(a, self.quotient(distance(a)))
     }
 
-    /// What that division leaves, from 0 up to below the divisor.
+    /// The remainder of that division, from 0 up to below the divisor.
     #[inline]
     pub fn floor_rest(&self, a: i32) -> i32
         ensures { result ≡ floor_rem a (pos self.now.divisor) }
@@ -78,7 +78,7 @@ fn distance(a: i32) -> u32
     if a < 0 { (-1 - a) as u32 } else { a as u32 }
 }
 
-// The number that lies `n` from 0, and -1 - n on the other side, where `a` lies.
+// `n` if `a` is at least 0, else -1 - `n`.
 #[inline]
 #[tactic(auto, using(std::proofs::lemmas::Int::ints))]
 fn on_side(a: i32, n: u32) -> i32

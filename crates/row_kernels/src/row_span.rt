@@ -4,12 +4,12 @@
 ghost use Rattle.std.specs.Prelude.{◌≡◌, ◌<◌, ◌≤◌, ◌-◌, ◌≤ℤ◌, ◌+ℤ◌, ◌-ℤ◌, pos, negsuc, Some};
 ghost use Rattle.domains.specs.Index.{index_at};
 ghost use Rattle.domains.specs.Span.{len_of};
-ghost use Rattle.operations.specs.Values.{under};
-ghost use Rattle.operations.specs.Limits.{InDomainRange};
+ghost use Rattle.operators.specs.Values.{under};
+ghost use Rattle.operators.specs.Limits.{InDomainRange};
 
 use domains::{Area, Index, Span};
 
-/// Points side by side: their row, the first column, and how many they are.
+/// Adjacent points of a row: the row, the first column, and how many they are.
 #[derive(Clone, Copy, Debug)]
 pub struct RowSpan {
     pub row: i32,
@@ -115,7 +115,7 @@ impl RowSpan {
         index.at(self.col)
     }
 
-    /// The row that a kernel of so many rows reads with its row number `a`.
+    /// The row that row number `a` of a kernel of `rows` rows reads.
     #[tactic(auto, using(std::proofs::lemmas::Int::ints))]
     pub fn row_under(&self, rows: usize, a: usize) -> i32
         requires rows { rows ≤ 15 }
@@ -125,7 +125,7 @@ impl RowSpan {
         self.row + a as i32 - (rows / 2) as i32
     }
 
-    /// The first column that a kernel of so many columns reads.
+    /// The first column that a kernel of `cols` columns reads.
     #[tactic(auto, using(std::proofs::lemmas::Int::ints))]
     pub fn col_under(&self, cols: usize) -> i32
         requires { cols ≤ 15 }

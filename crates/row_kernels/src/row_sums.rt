@@ -1,9 +1,9 @@
 #![tactic(auto)]
-//! What a row of a kernel gives along a line of numbers, written in one pass where the row is short.
+//! The sums of a kernel's row along a line of numbers, written in one pass if the row is short.
 
 ghost use Rattle.std.specs.Prelude.{◌≡◌, ◌<◌, ◌≤◌, ◌+◌, ◌*ℤ◌, length};
 ghost use Rattle.domains.specs.Arithmetic.{wrapped};
-ghost use Rattle.operations.specs.Values.{sum_below};
+ghost use Rattle.operators.specs.Values.{sum_below};
 ghost use Rattle.row_kernels.specs.Rows.{EachPlace, at};
 ghost use Rattle.row_kernels.specs.Stencil.{tap_sum};
 
@@ -12,8 +12,8 @@ use crate::quintuple::Quintuple;
 use crate::stencil::add_taps;
 use crate::stencil3x3::Triple;
 
-// Writes the products of the first factors of a line, added up: of five where there are so many, else of three, else of none.
-// Answers of how many.
+// Writes the sums of the products of the first factors of a line: of five if there are so many, else of three, else of none.
+// Returns how many.
 fn write_piece(out: &mut [i32], line: &[i32], factors: &[i32]) -> usize
     requires { length line.now + 1 ≡ length out.old + length factors.now }
     ensures within { result ≤ length factors.now }
@@ -32,7 +32,7 @@ fn write_piece(out: &mut [i32], line: &[i32], factors: &[i32]) -> usize
     0
 }
 
-/// Writes the products of factors and the samples of a line, which begins with those of the first factor, added up.
+/// Writes the sums of the products of factors and the samples of a line, which begins with those of the first factor.
 pub fn write_taps(out: &mut [i32], line: &[i32], factors: &[i32])
     requires { length line.now + 1 ≡ length out.old + length factors.now }
     ensures { EachPlace (length out.old)

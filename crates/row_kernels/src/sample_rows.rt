@@ -1,5 +1,5 @@
 #![tactic(auto)]
-//! Samples of planes as rows of numbers, however they lie in memory.
+//! Samples of planes as rows of numbers, whatever their layout in memory.
 
 ghost use Rattle.std.specs.Prelude.{◌≡◌, ◌≤◌, ◌<◌, ◌+◌, ◌*◌, ◌^◌, ℕ, pos, length, slice_index};
 ghost use Rattle.plane_samples.specs.Samples.{count_in, sample_in};
@@ -38,7 +38,7 @@ impl<'a> Values for SpacedPairs<'a> {
     }
 }
 
-// Bytes side by side. (A distance that is known is what vector code is made of.)
+// Adjacent bytes. (A constant distance allows vector code.)
 #[derive(Clone, Copy)]
 struct EachByte<'a>(SpacedBytes<'a>);
 
@@ -68,7 +68,7 @@ impl<'a> Values for EveryThird<'a> {
     }
 }
 
-// Pairs of bytes side by side.
+// Adjacent pairs of bytes.
 #[derive(Clone, Copy)]
 struct EachPair<'a>(SpacedPairs<'a>);
 
@@ -174,7 +174,7 @@ fn gather_pairs(
     gather_along(*spaced, place, col, points, out)
 }
 
-/// Writes the samples from a place on, where an index goes along the columns of some points.
+/// Writes the samples from a place on, at the columns that an index takes at the columns of some points.
 pub fn gather_samples(
     samples: &Samples<'_>,
     place: usize,

@@ -1,11 +1,11 @@
 #![tactic(auto)]
-//! Kernels that are products of a column and a row of factors.
+//! Separable kernels: products of a column and a row of factors.
 
 ghost use Rattle.std.specs.Prelude.{◌≡◌, IfSome, IsTrue};
 ghost use Rattle.row_kernels.specs.Separable.{IsMultiple, IsSeparable};
 
 use arrayvec::ArrayVec;
-use operations::Kernel;
+use operators::Kernel;
 
 /// A kernel whose factors are products of a factor of the row and one of the column.
 #[derive(Debug, Drop)]
@@ -57,7 +57,7 @@ fn divisor_of(row: &[i32]) -> u32 {
     divisor
 }
 
-// The quotients of a row and a number, if it has no more than a kernel.
+// The quotients of a row and a number, if the row is no longer than that of a kernel.
 fn divided(row: &[i32], divisor: i32) -> Option<ArrayVec<i32, 15>> {
     let mut quotients = ArrayVec::new();
     for number in row {
@@ -77,7 +77,7 @@ fn base_of(kernel: &Kernel) -> Option<ArrayVec<i32, 15>> {
     None
 }
 
-// How often the base must be taken for the row, by the first place where it is not 0.
+// The factor of the base in the row, by the first place where the base is not 0.
 fn quotient(row: &[i32], base: &[i32]) -> Option<i32> {
     for b in 0..base.len() {
         if base[b] != 0 {
@@ -87,7 +87,7 @@ fn quotient(row: &[i32], base: &[i32]) -> Option<i32> {
     None
 }
 
-// Whether a row is the base, taken so many times.
+// Whether a row is the base times a factor.
 fn is_multiple(row: &[i32], times: i32, base: &[i32]) -> bool
     ensures { IsTrue result → IsMultiple row.now times base.now }
 {
@@ -105,7 +105,7 @@ fn is_multiple(row: &[i32], times: i32, base: &[i32]) -> bool
     true
 }
 
-// How often the base is taken in each row of the kernel, if all are multiples of it.
+// The factor of the base in each row of the kernel, if all rows are multiples of it.
 fn multiples_of(kernel: &Kernel, base: &[i32]) -> Option<ArrayVec<i32, 15>>
     ensures { IfSome result (λ down. IsSeparable kernel.now down.items base.now) }
 {

@@ -3,7 +3,7 @@
 
 ghost use Rattle.std.specs.Prelude.{◌≡◌, ◌<◌, ◌≤◌, ◌+◌, ◌+ℤ◌, ◌*ℤ◌, ℤ, length};
 ghost use Rattle.domains.specs.Arithmetic.{wrapped};
-ghost use Rattle.operations.specs.Values.{sum_below};
+ghost use Rattle.operators.specs.Values.{sum_below};
 ghost use Rattle.row_kernels.specs.Rows.{EachPlace, at};
 ghost use Rattle.row_kernels.specs.Stencil.{tap_sum};
 
@@ -25,7 +25,7 @@ pub fn add_tap(out: &mut [i32], line: &[i32], factor: i32)
     }
 }
 
-// Adds the products of the first factors of a line: of five where there are so many, else of three, else of one. Answers of how many.
+// Adds the products of the first factors of a line: of five if there are so many, else of three, else of one. Returns how many.
 fn add_piece(out: &mut [i32], line: &[i32], factors: &[i32]) -> usize
     requires some { 0 < length factors.now }
     requires line { length line.now + 1 ≡ length out.old + length factors.now }

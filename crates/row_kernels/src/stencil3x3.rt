@@ -3,7 +3,7 @@
 
 ghost use Rattle.std.specs.Prelude.{◌≡◌, ◌<◌, ◌≤◌, ◌+◌, ◌+ℤ◌, ◌*ℤ◌, neg_ℤ, ℤ, [], ◌∷◌, take, length, IfSome, IfNone, IsTrue};
 ghost use Rattle.domains.specs.Arithmetic.{wrapped};
-ghost use Rattle.operations.specs.Values.{factors};
+ghost use Rattle.operators.specs.Values.{factors};
 ghost use Rattle.row_kernels.specs.Rows.{EachPlace, at};
 ghost use Rattle.row_kernels.specs.Stencil.{tap_sum, HasSize};
 ghost use Rattle.row_kernels.specs.inside.Triples.{three_ones, three_zeros, negated, IsDifference, HasDifferences};
@@ -11,7 +11,7 @@ ghost use Rattle.row_kernels.specs.inside.Triples.{three_ones, three_zeros, nega
 use crate::products::add_gap;
 use crate::sums_of_nine::{write_sums_of_nine, write_sums_of_three};
 use domains::arithmetic::{wrapping_add, wrapping_mul, wrapping_neg, wrapping_sub};
-use operations::Kernel;
+use operators::Kernel;
 use std::marker::Model;
 
 // Whether a factor subtracts what another one adds.
@@ -38,7 +38,7 @@ impl Model for Triple {
 }
 
 impl Triple {
-    /// These factors, if they are three.
+    /// These factors, if there are three.
     pub fn of(factors: &[i32]) -> Option<Triple>
         ensures is { IfSome result (λ t. t ≡ factors.now) }
         ensures none { IfNone result (¬ (length factors.now ≡ 3)) }
@@ -53,7 +53,7 @@ impl Triple {
         }
     }
 
-    /// The first three factors, if there are so many.
+    /// The first three factors, if there are at least three.
     pub fn first_of(factors: &[i32]) -> Option<Triple>
         ensures is { IfSome result (λ t. t ≡ take 3 factors.now) }
         ensures many { IfSome result (λ t. 3 ≤ length factors.now) }
@@ -82,7 +82,7 @@ impl Triple {
         self.left == 0 && self.middle == 0 && self.right == 0
     }
 
-    // Whether the left factor is subtracted as the right one is added, and the middle one is 0.
+    // Whether the left factor is the negation of the right one, and the middle one is 0.
     fn is_difference(&self) -> bool
         ensures { IsTrue result → IsDifference self.now }
     {
@@ -204,7 +204,7 @@ impl Kernel3x3 {
         }
     }
 
-    /// What the rows give along their lines from place `k` on, added up and wrapped at 32 bits.
+    /// The sum of what the rows give along their lines from place `k` on, wrapped at 32 bits.
     #[inline]
     fn sum(&self, top: &[i32], middle: &[i32], bottom: &[i32], k: usize) -> i32
         requires top { k + 2 < length top.now }
@@ -291,7 +291,7 @@ impl Kernel3x3 {
         self.bottom.gap_sum(top, bottom, k)
     }
 
-    // Writes what the outer rows give where they are opposites.
+    // Writes what the outer rows give, if they are opposites.
     fn write_outer_gaps(self, out: &mut [i32], top: &[i32], bottom: &[i32])
         requires rows { factors self 0 ≡ negated (factors self 2) }
         requires top { length top.now ≡ length out.old + 2 }
@@ -342,7 +342,7 @@ impl Kernel3x3 {
         self.bottom.add_difference(two, bottom, k)
     }
 
-    // Writes what rows give that are differences.
+    // Writes what the rows give, if they are differences.
     fn write_differences(self, out: &mut [i32], top: &[i32], middle: &[i32], bottom: &[i32])
         requires rows { HasDifferences self }
         requires top { length top.now ≡ length out.old + 2 }

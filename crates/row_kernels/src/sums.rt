@@ -17,7 +17,7 @@ use crate::operand_rows::make_of_both;
 use crate::pairs::{Pair, Scaled, Sum};
 use crate::term::Term;
 
-// Writes what is made of two operands and then of that and a third one: in one pass where both at the right are lines.
+// Writes what a pair makes of two operands, joined with a third one by another pair: in one pass if both at the right are lines.
 fn make_of_three<P: Pair<Made = i32>, Q: Pair<Made = i32>>(
     out: &mut [i32],
     first: Operand,
@@ -47,7 +47,7 @@ fn make_of_three<P: Pair<Made = i32>, Q: Pair<Made = i32>>(
     }
 }
 
-// The same, finished: in the same pass where nothing is cut.
+// The same with an epilogue: in the same pass if nothing is clamped.
 fn finish_three<P: Pair<Made = i32>, Q: Pair<Made = i32>>(
     out: &mut [i32],
     first: Operand,
@@ -71,7 +71,7 @@ fn finish_three<P: Pair<Made = i32>, Q: Pair<Made = i32>>(
     finish_row(out, Operand::Written, finish);
 }
 
-/// Writes what a finish makes of the sum of an operand and two terms.
+/// Writes what an epilogue makes of the sum of an operand and two addends.
 pub fn add_terms(out: &mut [i32], first: Operand, second: Term, third: Term, finish: Finish)
     requires serve { Serves (length out.old) first × Serves (length out.old) second.of
         × Serves (length out.old) third.of }

@@ -1,6 +1,6 @@
 #![tactic(auto)]
-//! Sums of three and of nine numbers that lie together: what kernels of one by three and of three by three add whose factors are
-//! all 1.
+//! Sums of three and of nine adjacent numbers: what kernels of one by three and of three by three give if all their factors
+//! are 1.
 
 ghost use Rattle.std.specs.Prelude.{◌≡◌, ◌<◌, ◌≤◌, ◌+◌, ◌+ℤ◌, length};
 ghost use Rattle.domains.specs.Arithmetic.{wrapped};

@@ -1,9 +1,9 @@
 #![tactic(auto)]
-//! Operands of sums.
+//! Addends.
 
 use crate::operand::Operand;
 
-/// An operand of a sum, which may be taken a number of times.
+/// An operand of a sum, which may have a factor.
 #[derive(Clone, Copy, Debug)]
 pub struct Term<'a> {
     pub factor: Option<i32>,

@@ -1,5 +1,5 @@
 #![tactic(auto)]
-//! What has numbers along a row.
+//! Sources of numbers along a row.
 
 ghost use Rattle.std.specs.Prelude.{◌≡◌, ◌<◌, ℕ, ℤ, pos, length, slice_index};
 ghost use Rattle.row_kernels.specs.Rows.{at};

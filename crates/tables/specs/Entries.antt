@@ -14,7 +14,7 @@ pub record AreIndices (span : Ends) : Type 0 where
   pub ordered : span.lo ≤ℤ span.hi
   pub most : span.hi ≤ℤ pos 16384
 
--- so many entries are one for each index, at most 4,096
+-- count entries are one for each index, at most 4,096
 pub record AreEntries (span : Ends) (count : ℕ) : Type 0 where
   pub indices : AreIndices span
   pub size : count ≡ len_of span
@@ -29,6 +29,6 @@ pub record IsEntries (t : Entries) : Type 0 where
 abbrev pub entry_at : Entries → ℤ → ℤ
 entry_at t v = slice_index_or t.values (int_gap t.span.lo (clamped v t.span.lo t.span.hi)) (pos 0)
 
--- the span of so many indices from the first
+-- the span of count indices from the first
 abbrev pub span_from : ℤ → ℕ → Ends
 span_from lo count = record { lo = lo; hi = (lo +ℤ pos count) -ℤ pos 1 }

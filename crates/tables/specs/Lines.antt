@@ -1,4 +1,4 @@
--- The line of a table, `NAME LO..HI: V V V`, without a line feed: the form in which totals are printed. Words are parted by one blank.
+-- The line of a table, `NAME LO..HI: V V V`, without a line feed: the form in which totals are printed. A blank separates words.
 use Rattle.std.specs.List.{slice_split}
 use Rattle.std.specs.Prelude.{◌≡◌, ℕ, ◌==◌, ℤ, pos, negsuc, IsTrue, None, List, [], ◌∷◌, drop, length, map, FitsSigned}
 use Rattle.std.specs.Prelude.{if◌then◌else◌, neg_ℤ}
@@ -11,7 +11,7 @@ use Rattle.pipe_tokens.specs.Spelled.{word_of}
 use Rattle.tables.specs.Entries.{AreEntries, AreIndices}
 use Rattle.tables.specs.declared.table.Table.{Table}
 
--- what stands before the first such byte, between each two, and after the last
+-- what is before the first such byte, between each two, and after the last
 abbrev pub parts : ℕ → List ℕ → List (List ℕ)
 parts byte text = slice_split (λ b. b == byte) text
 
@@ -39,7 +39,7 @@ SpellIntegers (word ∷ words) (z ∷ zs) = SpellsInteger word z × SpellInteger
 SpellIntegers [] (z ∷ zs) = ⊥
 SpellIntegers (word ∷ words) [] = ⊥
 
--- a number cut to the least and to the greatest of 32 bits
+-- a number clamped to the least and the greatest of 32 bits
 abbrev pub cut_to_32 : ℤ → ℤ
 cut_to_32 z = clamped z (negsuc 2147483647) (pos 2147483647)
 
@@ -50,18 +50,18 @@ pub record IsTableName (word : List ℕ) : Type 0 where
   pub name : IsTrue (is_name word)
   pub free : word_of word ≡ None
 
--- `LO..HI` of indices, in its parts between dots: nothing stands between the two
+-- `LO..HI` of indices, split at dots: nothing is between the two
 abbrev pub SpellEnds : List (List ℕ) → Ends → Type 0
 SpellEnds (first ∷ between ∷ last ∷ []) span =
     (length between ≡ 0) × SpellsInteger first span.lo × SpellsInteger last span.hi × AreIndices span
 SpellEnds _ span = ⊥
 
--- `LO..HI:`, in its parts between colons: nothing stands behind the one
+-- `LO..HI:`, split at colons: nothing is after the one
 abbrev pub SpellSpan : List (List ℕ) → Ends → Type 0
 SpellSpan (ends ∷ behind ∷ []) span = (length behind ≡ 0) × SpellEnds (parts 46 ends) span
 SpellSpan _ span = ⊥
 
--- a name, the ends, and as many entries as the ends say, each cut to 32 bits
+-- a name, the ends, and as many entries as the ends specify, each clamped to 32 bits
 pub record TellsTable (name ends : List ℕ) (entries : List (List ℕ)) (table : Table) : Type 0 where
   pub named : IsTableName name
   pub name_is : table.name ≡ name

@@ -8,7 +8,6 @@ ghost use Rattle.tables.specs.Entries.{AreEntries, IsEntries, entry_at, span_fro
 
 use crate::table::{MOST_ENTRIES, MOST_INDEX, Table};
 use domains::Span;
-use domains::arithmetic::clamp;
 use sequences::Numbers;
 use std::alloc::AllocError;
 use std::marker::Model;
@@ -32,12 +31,12 @@ impl Model for Entries {
 }
 
 impl Entries {
-    /// The entries of a table, which are shared and not copied; none where there are none, more than 4,096, or an index
-    /// lies beyond 16,384 of 0.
+    /// The entries of a table, which are shared and not copied. None if there are no entries, more than 4,096, or an index
+    /// farther than 16,384 from 0.
     ///
     /// # Errors
     ///
-    /// Fails only where too many copies live to be counted.
+    /// Fails only if there are too many copies to count.
     pub fn of(table: &Table) -> Result<Option<Entries>, AllocError>
         ensures some { IfOk result (λ found. IfSome found (λ e. e
             ≡ record {
@@ -76,7 +75,7 @@ impl Entries {
         self.values.as_slice()
     }
 
-    /// The entry at an index, which is cut to the span.
+    /// The entry at an index, which is clamped to the span.
     pub fn entry(&self, index: i32) -> i32
         ensures { result ≡ entry_at self.now index }
     {
@@ -84,7 +83,7 @@ impl Entries {
     }
 }
 
-/// The same entries once more, which are shared.
+/// A copy shares the entries.
 impl Clone for Entries {
     ghost is_clone = { λ it copy. copy ≡ it };
 
@@ -96,13 +95,13 @@ impl Clone for Entries {
     }
 }
 
-// The number of the span that is next to v.
+// The number of the span that is nearest to v.
 #[inline]
 fn cut_into(span: &Span, v: i32) -> i32
     ensures holds { Holds span.now result }
     ensures value { result ≡ clamped v span.now.lo span.now.hi }
 {
-    clamp(v, span.lo(), span.hi())
+    v.max(span.lo()).min(span.hi())
 }
 
 // How far a number of a span lies after the first.
@@ -115,7 +114,7 @@ fn distance(span: &Span, v: i32) -> usize
     (v - span.lo()) as usize
 }
 
-// Numbers of 32 bits are within them.
+// All numbers fit in 32 bits.
 fn fit_numbers(numbers: &[i32])
     ensures { All (FitsSigned w32) numbers.now }
 {

@@ -1,4 +1,4 @@
-//! Why a line is no table.
+//! Why a line is not a table.
 
 ghost use Rattle.std.specs.Prelude.{◌≡◌};
 

@@ -20,14 +20,14 @@ pub fn integer(word: &[u8]) -> Option<i64>
     }
 }
 
-// The number cut to the least and to the greatest of 32 bits.
+// The number clamped to the least and the greatest of 32 bits.
 fn cut_to_32(number: i64) -> i32
     ensures { result ≡ cut_to_32 number }
 {
     number.max(i64::from(i32::MIN)).min(i64::from(i32::MAX)) as i32
 }
 
-/// The numbers that the words spell, each cut to 32 bits.
+/// The numbers that the words spell, each clamped to 32 bits.
 pub fn entries_of(alloc: Global, words: &[&[u8]]) -> Result<Vec<i32>, TableFault>
     ensures some { IfOk result (λ entries. (zs : List ℤ) × SpellIntegers (map (λ w. w.now) words.now) zs
         × (entries.items ≡ map cut_to_32 zs)) }

@@ -1,4 +1,4 @@
-//! Tables: numbers that are handed in beside a picture, a line of text for each table, and the entry that an index takes.
+//! Tables: numbers that are supplied with a picture, a line of text for each table, and the entry that an index takes.
 #![tactic(auto)]
 
 mod entries;

@@ -1,4 +1,4 @@
-//! Lines that tell tables.
+//! Lines that describe tables.
 
 ghost use Rattle.std.specs.Prelude.{◌≡◌, [], ◌∷◌, IfErr, IfNone, IfOk, IfSome, map};
 ghost use Rattle.domains.specs.Span.{Ends};
@@ -16,7 +16,7 @@ use pipe_tokens::{Keyword, Name};
 use sequences::Numbers;
 use std::alloc::Global;
 
-/// The table that the words of a line tell.
+/// The table that the words of a line describe.
 pub fn table_in(alloc: Global, words: &[&[u8]]) -> Result<Table, TableFault>
     ensures found { IfOk result (TellTable (map (λ w. w.now) words.now)) }
     ensures fault { IfErr result (λ fault. fault ≡ BadLine
@@ -72,7 +72,7 @@ fn span_of(alloc: Global, word: &[u8]) -> Result<Span, TableFault>
     span_in(alloc, &halves)
 }
 
-// The same of the parts between colons.
+// The same, from the parts between colons.
 fn span_in(alloc: Global, halves: &[&[u8]]) -> Result<Span, TableFault>
     ensures found { IfOk result (SpellSpan (map (λ h. h.now) halves.now)) }
     ensures within { IfOk result AreIndices }
@@ -85,7 +85,7 @@ fn span_in(alloc: Global, halves: &[&[u8]]) -> Result<Span, TableFault>
     }
 }
 
-// The same of what stands before the colon, and behind it.
+// The same, from what is before the colon and after it.
 fn span_before(alloc: Global, ends: &[u8], behind: &[u8]) -> Result<Span, TableFault>
     ensures found { IfOk result (SpellSpan (ends.now ∷ behind.now ∷ [])) }
     ensures within { IfOk result AreIndices }
@@ -102,7 +102,7 @@ fn span_before(alloc: Global, ends: &[u8], behind: &[u8]) -> Result<Span, TableF
     }
 }
 
-// The indices whose ends the parts of `LO..HI` between dots spell.
+// The indices whose ends are spelled by the parts of `LO..HI` between dots.
 fn ends_in(ends: &[&[u8]]) -> Option<Span>
     ensures some { IfSome result (SpellEnds (map (λ e. e.now) ends.now)) }
     ensures within { IfSome result AreIndices }
@@ -115,7 +115,7 @@ fn ends_in(ends: &[&[u8]]) -> Option<Span>
     }
 }
 
-// The same of what stands before two dots, between them, and behind them.
+// The same, from what is before two dots, between them, and after them.
 fn ends_round(first: &[u8], between: &[u8], last: &[u8]) -> Option<Span>
     ensures some { IfSome result (SpellEnds (first.now ∷ between.now ∷ last.now ∷ [])) }
     ensures within { IfSome result AreIndices }

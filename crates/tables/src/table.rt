@@ -30,9 +30,10 @@ pub struct Table {
 impl Table {
     ghost use Rattle.tables.specs.declared.table.Table.{Table as TableType};
 
-    /// The table that a line tells, without its line feed: `NAME LO..HI: V V V`, the form in which totals are printed. NAME is a name
-    /// of the language that is not reserved. LO and HI lie within ±16,384, LO is at most HI, and there are as many numbers as from
-    /// LO to HI, at most 4,096. A number is digits, with or without a `-` before them, within 64 bits; entries are cut to 32 bits.
+    /// The table that a line describes, without its line feed: `NAME LO..HI: V V V`, the form in which totals are printed.
+    /// NAME is a name of the language that is not reserved. LO and HI lie within ±16,384, and LO is at most HI.
+    /// There are as many numbers as from LO to HI, at most 4,096. A number is digits, with or without a `-` before them,
+    /// within 64 bits; entries are clamped to 32 bits.
     pub fn read(alloc: Global, line: &[u8]) -> Result<Table, TableFault>
         ensures found { IfOk result (IsTableLine line.now) }
         ensures fault { IfErr result (λ fault. fault ≡ BadLine
@@ -42,7 +43,7 @@ impl Table {
         table_in(alloc, &words)
     }
 
-    /// The indices; none where there are none, more than 4,096, or one lies beyond 16,384 of 0.
+    /// The indices. None if there are no entries, more than 4,096, or an index farther than 16,384 from 0.
     pub fn span(&self) -> Option<Span>
         ensures some { IfSome result (λ span. span ≡ span_from self.now.lo (length self.now.values)) }
         ensures within { IfSome result (λ span. AreEntries span (length self.now.values)) }

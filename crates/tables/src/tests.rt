@@ -1,4 +1,4 @@
-//! Lines that tell tables, and lines that do not.
+//! Lines that describe tables, and lines that do not.
 
 use crate::{Entries, Table, TableFault};
 use std::alloc::Global;

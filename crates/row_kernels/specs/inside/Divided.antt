@@ -1,7 +1,7 @@
--- Where an index that divides goes along a row.
+-- The columns that a dividing index takes along a row.
 use Rattle.std.specs.Prelude.{ℕ, ◌+◌, ◌*◌, ◌/◌}
 use Rattle.row_kernels.specs.declared.divided_columns.DividedColumns.{DividedColumns}
 
--- how far the column at point k lies after the first: the division goes on from what it left at the first
+-- how far the column at point k lies after the first: the division continues from the remainder at the first
 abbrev pub steps_to : DividedColumns → ℕ → ℕ
 steps_to columns k = (columns.left + k * columns.step) / columns.reciprocal.divisor

@@ -1,7 +1,7 @@
 -- Rows of three factors.
 use Rattle.std.specs.Prelude.{ℤ, pos, neg_ℤ, ◌≡◌, List, [], ◌∷◌}
 use Rattle.domains.specs.Arithmetic.{wrapped}
-use Rattle.operations.specs.Values.{factors}
+use Rattle.operators.specs.Values.{factors}
 use Rattle.row_kernels.specs.Rows.{at}
 
 abbrev pub three_ones : List ℤ
@@ -10,12 +10,12 @@ three_ones = pos 1 ∷ pos 1 ∷ pos 1 ∷ []
 abbrev pub three_zeros : List ℤ
 three_zeros = pos 0 ∷ pos 0 ∷ pos 0 ∷ []
 
--- each factor subtracted, as numbers of 32 bits
+-- each factor negated, as numbers of 32 bits
 abbrev pub negated : List ℤ → List ℤ
 negated [] = []
 negated (f ∷ fs) = wrapped (neg_ℤ f) ∷ negated fs
 
--- a factor on the right, nothing in the middle, and on the left what is subtracted as the right is added
+-- a factor on the right, 0 in the middle, and its negation on the left
 pub record IsDifference (row : List ℤ) : Type 0 where
   pub empty : at row 1 ≡ pos 0
   pub opposite : at row 0 ≡ wrapped (neg_ℤ (at row 2))

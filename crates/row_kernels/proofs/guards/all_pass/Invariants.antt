@@ -1,6 +1,6 @@
 use Rattle.std.proofs.Common.{◌≡◌, map, drop}
-use Rattle.operations.specs.Values.{all_passed}
-use Rattle.operations.specs.Views.{test_view}
+use Rattle.operators.specs.Values.{all_passed}
+use Rattle.operators.specs.Views.{test_view}
 use Rattle.row_kernels.proofs.guards.all_pass.Given as goal
 
 abbrev pub invariant-loop-test : goal.invariant-loop-test

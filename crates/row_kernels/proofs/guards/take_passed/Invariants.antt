@@ -1,7 +1,7 @@
 use Rattle.std.proofs.Common.{◌≡◌, ℕ, ◌≤◌, ◌+ℤ◌, pos}
 use Rattle.std.specs.Prelude.{if◌then◌else◌, map}
-use Rattle.operations.specs.Values.{all_passed}
-use Rattle.operations.specs.Views.{test_view}
+use Rattle.operators.specs.Values.{all_passed}
+use Rattle.operators.specs.Views.{test_view}
 use Rattle.row_kernels.specs.Rows.{EachPlace, at}
 use Rattle.row_kernels.proofs.guards.take_passed.Given as goal
 

@@ -1,6 +1,6 @@
 use Rattle.std.proofs.Common.{arith, ◌≡◌, ◌+◌, ◌<◌, ◌≤◌, ◌*ℤ◌, ℕ, length, ap, ◌∙◌}
 use Rattle.domains.specs.Arithmetic.{wrapped}
-use Rattle.operations.specs.Values.{sum_below}
+use Rattle.operators.specs.Values.{sum_below}
 use Rattle.row_kernels.specs.Rows.{at}
 use Rattle.row_kernels.proofs.Pieces.{rest_more}
 use Rattle.row_kernels.proofs.row_sums.write_taps.Goals as goal

@@ -1,5 +1,5 @@
 use Rattle.std.proofs.Common.{◌≡◌, length}
-use Rattle.operations.specs.Values.{factors}
+use Rattle.operators.specs.Values.{factors}
 use Rattle.row_kernels.specs.Rows.{EachPlace, at}
 use Rattle.row_kernels.specs.Separable.{IsMultiple}
 use Rattle.row_kernels.proofs.separable.multiples_of.Given as goal

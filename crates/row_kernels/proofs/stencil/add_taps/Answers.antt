@@ -1,6 +1,6 @@
 use Rattle.std.proofs.Common.{arith, ℕ, ◌≡◌, ◌+◌, ◌<◌, ◌≤◌, ◌+ℤ◌, ◌*ℤ◌, length, ap, ◌∙◌}
 use Rattle.domains.specs.Arithmetic.{wrapped}
-use Rattle.operations.specs.Values.{sum_below}
+use Rattle.operators.specs.Values.{sum_below}
 use Rattle.row_kernels.specs.Rows.{at}
 use Rattle.row_kernels.proofs.Pieces.{piece_more}
 use Rattle.row_kernels.proofs.stencil.add_taps.Goals as goal

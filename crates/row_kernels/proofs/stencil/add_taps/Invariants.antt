@@ -1,6 +1,6 @@
 use Rattle.std.proofs.Common.{◌≡◌, ◌≤◌, ◌+◌, ◌-◌, ◌+ℤ◌, ◌*ℤ◌, ℤ, length}
 use Rattle.domains.specs.Arithmetic.{wrapped}
-use Rattle.operations.specs.Values.{sum_below}
+use Rattle.operators.specs.Values.{sum_below}
 use Rattle.row_kernels.specs.Rows.{EachPlace, at}
 use Rattle.row_kernels.proofs.stencil.add_taps.Given as goal
 

@@ -1,7 +1,7 @@
 use Rattle.std.proofs.Common.{rules, ℤ, ◌+ℤ◌, w32, FitsSigned, ap, ◌∙◌, List}
 use Rattle.std.proofs.lemmas.Int.{to_z-of_z}
 use Rattle.domains.specs.Arithmetic.{wrapped}
-use Rattle.operations.specs.Values.{factors}
+use Rattle.operators.specs.Values.{factors}
 use Rattle.row_kernels.specs.Stencil.{tap_sum}
 use Rattle.row_kernels.proofs.Taps.{wrapped_two}
 use Rattle.row_kernels.proofs.stencil3x3.Kernel3x3.outer_sum.Goals as goal

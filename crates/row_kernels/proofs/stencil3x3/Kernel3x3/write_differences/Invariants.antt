@@ -1,6 +1,6 @@
 use Rattle.std.proofs.Common.{◌≡◌, ◌+ℤ◌}
 use Rattle.domains.specs.Arithmetic.{wrapped}
-use Rattle.operations.specs.Values.{factors}
+use Rattle.operators.specs.Values.{factors}
 use Rattle.row_kernels.specs.Rows.{EachPlace, at}
 use Rattle.row_kernels.specs.Stencil.{tap_sum}
 use Rattle.row_kernels.proofs.stencil3x3.Kernel3x3.write_differences.Given as goal

@@ -1,25 +1,27 @@
 #![tactic(auto)]
-//! What the operators of formulas make of rows of numbers.
+//! The operators of formulas on rows of numbers.
 
-ghost use Rattle.std.specs.Prelude.{◌≡◌, ◌<ℤ◌, ◌*ℤ◌, length, pos, neg_ℤ, if◌then◌else◌};
-ghost use Rattle.domains.specs.Arithmetic.{wrapped, clamped, floor_div, floor_rem};
-ghost use Rattle.operations.specs.Values.{binary_value, literal_value, is_related};
-ghost use Rattle.operations.specs.Limits.{IsDivisor, IsLiteral};
+ghost use Rattle.std.specs.Prelude.{◌≡◌, ◌<ℤ◌, ◌*ℤ◌, length, pos, if◌then◌else◌};
+ghost use Rattle.domains.specs.Arithmetic.{wrapped, floor_div, floor_rem};
+ghost use Rattle.operators.specs.Values.{unary_value, binary_value, ternary_value, literal_value, is_related};
+ghost use Rattle.operators.specs.Limits.{IsDivisor, IsLiteral};
 ghost use Rattle.row_kernels.specs.Finishes.{finish_value};
 ghost use Rattle.row_kernels.specs.Operands.{operand_at, Serves, IsGiven};
 ghost use Rattle.row_kernels.specs.Rows.{EachPlace, at};
 
-use crate::changes::{Count, LastBits, Negation, Rest, ShiftedLeft, ShiftedRight};
+use crate::changes::{
+    AbsoluteValue, Change, Count, LastBits, Negation, Rest, ShiftedLeft, ShiftedRight,
+};
 use crate::finish::Finish;
 use crate::finishes::{finish_both, finish_row};
 use crate::operand::Operand;
 use crate::operand_rows::{keep_where, make_of, make_of_both, place};
 use crate::pairs::{AtMost, Difference, Equal, Exchanged, Greatest, Least, Product, Scaled, Sum};
 use crate::reciprocal::Reciprocal;
-use domains::{BinaryOp, LiteralOp, Relation};
+use operators::{BinaryOp, LiteralOp, Relation, TernaryOp, UnaryOp};
 
-/// Writes what a finish makes of what an operator gives. (The lesser and the greater number are finished in a second pass, so that
-/// fewer loops are compiled.)
+/// Writes the results of an operator, with an epilogue. (For the lesser and the greater number the epilogue is a second pass,
+/// so that fewer loops are compiled.)
 pub fn combine(op: BinaryOp, out: &mut [i32], left: Operand, right: Operand, finish: Finish)
     requires left { Serves (length out.old) left }
     requires right { Serves (length out.old) right }
@@ -36,7 +38,7 @@ pub fn combine(op: BinaryOp, out: &mut [i32], left: Operand, right: Operand, fin
     finish_row(out, Operand::Written, finish);
 }
 
-/// Writes what a finish makes of what an operator gives whose right operand is taken a number of times.
+/// Writes the results of an operator whose right operand is multiplied by a factor, with an epilogue.
 pub fn combine_scaled(
     op: BinaryOp,
     out: &mut [i32],
@@ -61,7 +63,7 @@ pub fn combine_scaled(
     finish_row(out, Operand::Written, finish);
 }
 
-/// Writes the quotients by a number of a text, rounded down.
+/// Writes the quotients by a literal, rounded down.
 pub fn divide_by(out: &mut [i32], of: Operand, number: u32)
     requires of { Serves (length out.old) of }
     requires number { IsDivisor number }
@@ -79,7 +81,7 @@ pub fn divide_by(out: &mut [i32], of: Operand, number: u32)
     }
 }
 
-/// Writes what the division by a number of a text, rounded down, leaves.
+/// Writes the remainders of the division by a literal, rounded down.
 fn leave_remainder(out: &mut [i32], of: Operand, number: u32)
     requires of { Serves (length out.old) of }
     requires number { IsDivisor number }
@@ -100,7 +102,7 @@ fn leave_remainder(out: &mut [i32], of: Operand, number: u32)
     }
 }
 
-/// Writes what an operator gives whose right operand is a number of the text.
+/// Writes the results of an operator whose right operand is a literal.
 pub fn combine_literal(op: LiteralOp, out: &mut [i32], left: Operand, number: u32)
     requires left { Serves (length out.old) left }
     requires number { IsLiteral op number }
@@ -115,26 +117,49 @@ pub fn combine_literal(op: LiteralOp, out: &mut [i32], left: Operand, number: u3
     }
 }
 
-/// Writes the negations.
-pub fn negate(out: &mut [i32], of: Operand)
-    requires { Serves (length out.old) of }
-    ensures { EachPlace (length out.old)
-        (λ k. at out.new k ≡ wrapped (neg_ℤ (operand_at of.entry out.old k))) }
+/// The number that an operator gives.
+pub fn unary_number(op: UnaryOp, number: i32) -> i32
+    ensures { result ≡ unary_value op number }
 {
-    make_of(out, of, Negation);
+    match op {
+        UnaryOp::Neg => Negation.of(number),
+        UnaryOp::Abs => AbsoluteValue.of(number),
+    }
 }
 
-/// Writes the numbers of an operand, cut to at least that of `low`, and then to at most that of `high`. (A finish cuts to two numbers.)
-pub fn cut(out: &mut [i32], of: Operand, low: Operand, high: Operand)
-    requires of { Serves (length out.old) of }
-    requires low { Serves (length out.old) low }
-    requires high { Serves (length out.old) high × IsGiven high }
-    ensures { EachPlace (length out.old) (λ k. at out.new k
-        ≡ clamped (operand_at of.entry out.old k) (operand_at low.entry out.old k)
-        (operand_at high.entry out.old k)) }
+/// Writes the results of an operator.
+pub fn apply_unary(op: UnaryOp, out: &mut [i32], of: Operand)
+    requires { Serves (length out.old) of }
+    ensures { EachPlace (length out.old)
+        (λ k. at out.new k ≡ unary_value op (operand_at of.entry out.old k)) }
 {
-    make_of_both(out, of, low, Greatest);
-    make_of_both(out, Operand::Written, high, Least);
+    match op {
+        UnaryOp::Neg => make_of(out, of, Negation),
+        UnaryOp::Abs => make_of(out, of, AbsoluteValue),
+    }
+}
+
+/// Writes the results of an operator. (If the second and the third operand are numbers, an epilogue may do its work.)
+pub fn apply_ternary(
+    op: TernaryOp,
+    out: &mut [i32],
+    first: Operand,
+    second: Operand,
+    third: Operand,
+)
+    requires first { Serves (length out.old) first }
+    requires second { Serves (length out.old) second }
+    requires third { Serves (length out.old) third × IsGiven third }
+    ensures { EachPlace (length out.old) (λ k. at out.new k
+        ≡ ternary_value op (operand_at first.entry out.old k) (operand_at second.entry out.old k)
+        (operand_at third.entry out.old k)) }
+{
+    match op {
+        TernaryOp::Clamp => {
+            make_of_both(out, first, second, Greatest);
+            make_of_both(out, Operand::Written, third, Least);
+        }
+    }
 }
 
 /// Keeps a number where the left operand is in the relation to the right one, and takes the other operand elsewhere.
