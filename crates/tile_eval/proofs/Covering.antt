@@ -2,23 +2,19 @@
 use Rattle.std.proofs.Common.{arith, ℕ, ℤ, ◌≡◌, ◌+◌, ◌-◌, ◌<◌, ◌≤◌, ◌⊎◌, inl, inr, pos, ◌+ℤ◌, ◌-ℤ◌, ◌≤ℤ◌, ◌↔◌}
 use Rattle.std.proofs.Common.{List, Bool, true, false, Option, length, take, drop, subst, sym, ap, ◌∙◌, refl}
 use Rattle.std.specs.Prelude.{if◌then◌else◌, slice_index_or}
-use Rattle.std.specs.Option.{ForSome}
-use Rattle.std.specs.Prelude.{All}
 use Rattle.std.proofs.lemmas.Int.{ints}
 use Rattle.std.proofs.lemmas.Bool.{cases_lt}
 use Rattle.std.proofs.lemmas.List.Elements.{All-take, All-drop}
 use Rattle.std.proofs.lemmas.Grind.{common_steps}
 use borrow.Rule.Slice.PartMut.{put_mid}
 use Rattle.domains.specs.Span.{Ends, Holds, IsMeet}
-use Rattle.job.specs.Formula.{Formula}
 use Rattle.job.specs.Pipeline.{JobCase}
 use Rattle.row_kernels.specs.Rows.{EachPlace, at}
-use Rattle.tile_eval.specs.Reading.{HasRoom}
-use Rattle.tile_eval.specs.inside.Cases.{IsReady, IsRoomy}
+use Rattle.tile_eval.specs.inside.Cases.{IsReady, IsRoomy, AreReady}
 use Rattle.job.specs.Reads.{EachRead}
-use Rattle.job.specs.WellFormed.{IsFormula}
 use Rattle.job.specs.Views.{case_view}
 use Rattle.job.specs.declared.stage.JobCase.{JobCase as KeptCase}
+use Rattle.job.specs.declared.formula.Formula.{Formula as KeptFormula}
 use Rattle.tile_eval.proofs.Gathering.{room_less}
 
 -- ---- a part of a row
@@ -119,40 +115,35 @@ roomy_less n m room p le is =
 cut_less : (a b : ℕ) (xs : List ℤ) → a < b → b ≤ length xs → length (take (b - a) (drop a xs)) ≤ length xs
 cut_less a b xs o le = rw (cut_len a b xs o le) (omega arith)
 
--- what is asked of cases, and of what holds elsewhere, is so along a part
-pub part_cases : (has : ℕ → ℤ → ℤ → Type 0) (row col r c : ℤ) (a b room : ℕ) (xs : List ℤ) (ps : List KeptCase) → a < b → b ≤ length xs
-    → r ≡ row → c ≡ col +ℤ pos a
-    → All (λ p. EachPlace (length xs) (λ k. IsReady has (case_view p) row (col +ℤ pos k)) × IsRoomy (length xs) room (case_view p)) ps
-    → All (λ p. EachPlace (length (take (b - a) (drop a xs))) (λ j. IsReady has (case_view p) r (c +ℤ pos j))
-    × IsRoomy (length (take (b - a) (drop a xs))) room (case_view p)) ps
-part_cases has row col r c a b room xs ps o le e f h = λ i d l. (
-  part_each (IsReady has (case_view (slice_index_or ps i d))) row col r c a b xs o le e f (λ k m low high. (h i d l).0 k m),
-  roomy_less (length xs) _ room (case_view (slice_index_or ps i d)) (cut_less a b xs o le) (h i d l).1,
-)
-
-pub part_other : (has : ℕ → ℤ → ℤ → Type 0) (row col r c : ℤ) (a b room : ℕ) (xs : List ℤ) (other : Option Formula) → a < b → b ≤ length xs
-    → r ≡ row → c ≡ col +ℤ pos a
-    → ForSome other (λ g. EachPlace (length xs) (λ k. EachRead has g row (col +ℤ pos k)) × IsFormula g × HasRoom g (length xs) room)
-    → ForSome other (λ g. EachPlace (length (take (b - a) (drop a xs))) (λ j. EachRead has g r (c +ℤ pos j)) × IsFormula g
-    × HasRoom g (length (take (b - a) (drop a xs))) room)
-part_other has row col r c a b room xs other o le e f h = λ g is.
-    let it = h g is in
-    let same : room ≤ room = omega arith in (
-      part_each (EachRead has g) row col r c a b xs o le e f (λ k m low high. it.0 k m),
-      it.1,
-      room_less g (length xs) _ room room (cut_less a b xs o le) same it.2,
-    )
+-- what is ready along a row is so along a part
+pub part_ready : (has : ℕ → ℤ → ℤ → Type 0) (row col r c : ℤ) (a b room : ℕ) (xs : List ℤ) (ps : List KeptCase) (o : Option KeptFormula)
+    → a < b → b ≤ length xs → r ≡ row → c ≡ col +ℤ pos a
+    → AreReady has row col (length xs) room ps o → AreReady has r c (length (take (b - a) (drop a xs))) room ps o
+part_ready has row col r c a b room xs ps o l le e f h = record {
+  cases = λ i d m. (
+    part_each (IsReady has (case_view (slice_index_or ps i d))) row col r c a b xs l le e f (λ k n low high. (h.cases i d m).0 k n),
+    roomy_less (length xs) _ room (case_view (slice_index_or ps i d)) (cut_less a b xs l le) (h.cases i d m).1,
+  );
+  other = λ g is.
+      let it = h.other g is in
+      let same : room ≤ room = omega arith in (
+        part_each (EachRead has g) row col r c a b xs l le e f (λ k n low high. it.0 k n),
+        it.1,
+        room_less g (length xs) _ room room (cut_less a b xs l le) same it.2,
+      );
+}
 
 -- ---- the cases behind the first
 
 pub fewer_cases : (ps : List KeptCase) → 1 ≤ length ps → length (take (length ps - 1) (drop 1 ps)) + 1 ≡ length ps
 fewer_cases ps some = grind (arith, common_steps)
 
-pub cases_behind : (has : ℕ → ℤ → ℤ → Type 0) (row col : ℤ) (n room : ℕ) (ps : List KeptCase)
-    → All (λ p. EachPlace n (λ k. IsReady has (case_view p) row (col +ℤ pos k)) × IsRoomy n room (case_view p)) ps
-    → All (λ p. EachPlace n (λ k. IsReady has (case_view p) row (col +ℤ pos k)) × IsRoomy n room (case_view p)) (take (length ps - 1)
-    (drop 1 ps))
-cases_behind has row col n room ps h = All-take P (length ps - 1) (drop 1 ps) (All-drop P 1 ps h)
+pub ready_behind : (has : ℕ → ℤ → ℤ → Type 0) (row col : ℤ) (n room : ℕ) (ps : List KeptCase) (o : Option KeptFormula)
+    → AreReady has row col n room ps o → AreReady has row col n room (take (length ps - 1) (drop 1 ps)) o
+ready_behind has row col n room ps o h = record {
+  cases = All-take P (length ps - 1) (drop 1 ps) (All-drop P 1 ps h.cases);
+  other = h.other;
+}
   where
     P : KeptCase → Type 0
     P p = EachPlace n (λ k. IsReady has (case_view p) row (col +ℤ pos k)) × IsRoomy n room (case_view p)

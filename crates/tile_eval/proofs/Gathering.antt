@@ -4,7 +4,7 @@ use Rattle.std.proofs.Common.{length, subst, sym, ap, ◌∙◌}
 use Rattle.std.specs.Prelude.{All, slice_index_or}
 use Rattle.std.proofs.lemmas.Bool.{cases_lt}
 use Rattle.std.proofs.lemmas.List.Elements.{All-head, All-tail}
-use Rattle.job.specs.Formula.{Formula, number, coordinate, read, neg, binary, literal, abs, lookup, clamp, select, stencil}
+use Rattle.job.specs.Formula.{Formula, number, coordinate, read, unary, binary, ternary, literal, lookup, select, stencil}
 use Rattle.job.specs.Values.{factors, under, kernel_row, kernel_column}
 use Rattle.job.specs.Reads.{Read, point, window, reads_in, EachTaken}
 use Rattle.job.specs.WellFormed.{IsFormula, IsKernel}
@@ -78,18 +78,17 @@ module _ (has : ℕ → ℤ → ℤ → Type 0) (r c : ℤ) (n : ℕ) where
   reads_along (number m) some is h = tt
   reads_along (coordinate x) some is h = tt
   reads_along (read g i j) some is h = first (point g i j) h
-  reads_along (neg a) some is h = reads_along a some is h
+  reads_along (unary op a) some is h = reads_along a some is h
   reads_along (binary op a b) some is h =
       (reads_along a some is.0 (front (reads_in a) (reads_in b) h), reads_along b some is.1 (back (reads_in a) (reads_in b) h))
-  reads_along (literal op a m) some is h = reads_along a some is.1 h
-  reads_along (abs a) some is h = reads_along a some is h
-  reads_along (lookup t a) some is h = reads_along a some is.1 h
-  reads_along (clamp a low high) some is h =
-      let two = front (reads_in a ++ reads_in low) (reads_in high) h in (
-        reads_along a some is.0 (front (reads_in a) (reads_in low) two),
-        reads_along low some is.1 (back (reads_in a) (reads_in low) two),
-        reads_along high some is.2 (back (reads_in a ++ reads_in low) (reads_in high) h),
+  reads_along (ternary op a b d) some is h =
+      let two = front (reads_in a ++ reads_in b) (reads_in d) h in (
+        reads_along a some is.0 (front (reads_in a) (reads_in b) two),
+        reads_along b some is.1 (back (reads_in a) (reads_in b) two),
+        reads_along d some is.2 (back (reads_in a ++ reads_in b) (reads_in d) h),
       )
+  reads_along (literal op a m) some is h = reads_along a some is.1 h
+  reads_along (lookup t a) some is h = reads_along a some is.1 h
   reads_along (select a relation b x y) some is h =
       let three = front (reads_in a ++ reads_in b ++ reads_in x) (reads_in y) h in
       let two = front (reads_in a ++ reads_in b) (reads_in x) three in (
@@ -107,19 +106,18 @@ pub room_less : (f : Formula) (n m room more : ℕ) → m ≤ n → room ≤ mor
 room_less (number i) n m room more p q h = tt
 room_less (coordinate x) n m room more p q h = tt
 room_less (read g i j) n m room more p q h = tt
-room_less (neg a) n m room more p q h = room_less a n m room more p q h
+room_less (unary op a) n m room more p q h = room_less a n m room more p q h
 room_less (binary op a b) n m room more p q h =
     let least = h.1 in (room_less a n m room more p q h.0, omega arith, room_less b n m (room - n) (more - m) p (omega arith) h.2)
-room_less (literal op a i) n m room more p q h = room_less a n m room more p q h
-room_less (abs a) n m room more p q h = room_less a n m room more p q h
-room_less (lookup t a) n m room more p q h = room_less a n m room more p q h
-room_less (clamp a low high) n m room more p q h =
+room_less (ternary op a b c) n m room more p q h =
     let least = h.1 in let rest : room - (n + n) ≤ more - (m + m) = omega arith in (
       room_less a n m room more p q h.0,
       omega arith,
-      room_less low n m (room - (n + n)) (more - (m + m)) p rest h.2,
-      room_less high n m (room - (n + n)) (more - (m + m)) p rest h.3,
+      room_less b n m (room - (n + n)) (more - (m + m)) p rest h.2,
+      room_less c n m (room - (n + n)) (more - (m + m)) p rest h.3,
     )
+room_less (literal op a i) n m room more p q h = room_less a n m room more p q h
+room_less (lookup t a) n m room more p q h = room_less a n m room more p q h
 room_less (select a relation b x y) n m room more p q h =
     let least = h.1 in let rest : room - (n + n + n) ≤ more - (m + m + m) = omega arith in (
       room_less x n m room more p q h.0,

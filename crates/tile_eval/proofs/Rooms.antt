@@ -4,7 +4,7 @@ use Rattle.std.specs.Prelude.{Option, Some, None, All, slice_index_or}
 use Rattle.std.specs.Option.{ForSome}
 use Rattle.std.proofs.lemmas.List.Elements.{All-nil, All-cons, All-head, All-tail, All-map}
 use Rattle.job.specs.declared.stage.JobCase.{JobCase as KeptCase}
-use Rattle.job.specs.Formula.{Formula, number, coordinate, read, neg, binary, literal, abs, lookup, clamp, select, stencil}
+use Rattle.job.specs.Formula.{Formula, number, coordinate, read, unary, binary, ternary, literal, lookup, select, stencil}
 use Rattle.job.specs.Pipeline.{JobCase}
 use Rattle.job.specs.Views.{case_view, formula_view}
 use Rattle.job.proofs.Steps.{All-from_map}
@@ -45,12 +45,11 @@ abbrev pub room_of : Formula → ℕ → ℕ
 room_of (number m) n = 0
 room_of (coordinate x) n = 0
 room_of (read g i j) n = 0
-room_of (neg a) n = room_of a n
+room_of (unary op a) n = room_of a n
 room_of (binary op a b) n = max (room_of a n) (n * 1 + room_of b n)
+room_of (ternary op a b c) n = max (room_of a n) (n * 2 + max (room_of b n) (room_of c n))
 room_of (literal op a m) n = room_of a n
-room_of (abs a) n = room_of a n
 room_of (lookup t a) n = room_of a n
-room_of (clamp a low high) n = max (room_of a n) (n * 2 + max (room_of low n) (room_of high n))
 room_of (select a relation b x y) n = max (room_of x n) (n * 3 + max (max (room_of a n) (room_of b n)) (room_of y n))
 room_of (stencil g divisor kernel) n = n + 14
 
@@ -58,17 +57,16 @@ pub enough_room : (f : Formula) (n m : ℕ) → room_of f n ≤ m → HasRoom f 
 enough_room (number i) n m h = tt
 enough_room (coordinate x) n m h = tt
 enough_room (read g i j) n m h = tt
-enough_room (neg a) n m h = enough_room a n m h
+enough_room (unary op a) n m h = enough_room a n m h
 enough_room (binary op a b) n m h = (enough_room a n m (omega arith), omega arith, enough_room b n (m - n) (omega arith))
-enough_room (literal op a i) n m h = enough_room a n m h
-enough_room (abs a) n m h = enough_room a n m h
-enough_room (lookup t a) n m h = enough_room a n m h
-enough_room (clamp a low high) n m h = (
+enough_room (ternary op a b c) n m h = (
   enough_room a n m (omega arith),
   omega arith,
-  enough_room low n (m - (n + n)) (omega arith),
-  enough_room high n (m - (n + n)) (omega arith),
+  enough_room b n (m - (n + n)) (omega arith),
+  enough_room c n (m - (n + n)) (omega arith),
 )
+enough_room (literal op a i) n m h = enough_room a n m h
+enough_room (lookup t a) n m h = enough_room a n m h
 enough_room (select a relation b x y) n m h = (
   enough_room x n m (omega arith),
   omega arith,
@@ -82,14 +80,13 @@ pub least_room : (f : Formula) (n m : ℕ) → HasRoom f n m → room_of f n ≤
 least_room (number i) n m h = omega arith
 least_room (coordinate x) n m h = omega arith
 least_room (read g i j) n m h = omega arith
-least_room (neg a) n m h = least_room a n m h
+least_room (unary op a) n m h = least_room a n m h
 least_room (binary op a b) n m h =
     let fits = h.1 in omega (arith, least_room a n m h.0, least_room b n (m - n) h.2)
+least_room (ternary op a b c) n m h =
+    let fits = h.1 in omega (arith, least_room a n m h.0, least_room b n (m - (n + n)) h.2, least_room c n (m - (n + n)) h.3)
 least_room (literal op a i) n m h = least_room a n m h
-least_room (abs a) n m h = least_room a n m h
 least_room (lookup t a) n m h = least_room a n m h
-least_room (clamp a low high) n m h =
-    let fits = h.1 in omega (arith, least_room a n m h.0, least_room low n (m - (n + n)) h.2, least_room high n (m - (n + n)) h.3)
 least_room (select a relation b x y) n m h =
     let fits = h.1 in
     omega (

@@ -23,9 +23,9 @@ function_value env cases otherwise r c = option_map_or (λ f. formula_value env 
 abbrev pub AreBoxedAround : Area → Body → Type 0
 AreBoxedAround area body = (domain : Area) × IsSubarea area domain × AreBoxed domain body
 
--- has tells of a stage, a row and a column whether a sample is there. A function can be computed at each point of an area: the area lies
--- where domains do, the numbers of the text fit, the area lies in a domain in which the boxes of the cases are, and all that is read is
--- there
+-- has says of a stage, a row and a column whether a sample is available. A function is computable at each point of an area:
+-- the area lies where domains do, and in a domain that has the boxes of the cases; the numbers of the text fit, and all that
+-- is read is available
 pub record IsComputable (has : ℕ → ℤ → ℤ → Type 0) (area : Area) (cases : List JobCase) (otherwise : Option Formula) : Type 0 where
   pub rows : InDomainRange area.rows
   pub cols : InDomainRange area.cols

@@ -1,7 +1,7 @@
--- Numbers that may lie past those of 64 bits.
+-- Numbers that may exceed 64 bits.
 use Rattle.std.specs.Prelude.{ℕ, ◌≤◌, ◌^◌, Option, IfSome, IfNone}
 
--- the least number that is enough, or none where no number of 64 bits is
+-- the least number that is enough, or none if no number of 64 bits is
 pub record IsLeast (enough : ℕ → Type 0) (found : Option ℕ) : Type 0 where
   pub some : IfSome found enough
   pub least : IfSome found (λ n. (m : ℕ) → enough m → n ≤ m)

@@ -16,7 +16,7 @@ use crate::source_row::SourceRow;
 use job::Function;
 
 impl<S: RowSource> SourceRow<'_, S> {
-    /// The values of a function in this row and those below it, so many rows in all, row by row.
+    /// The values of a function in this row and those below it, `rows` rows in all, row by row.
     pub(crate) fn fill_rows(
         &self,
         function: &Function,

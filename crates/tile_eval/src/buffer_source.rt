@@ -1,5 +1,5 @@
 #![tactic(auto)]
-//! Stages whose values are known give their samples.
+//! Samples of stages whose values are known.
 
 ghost use Rattle.std.specs.Prelude.{◌≡◌, ◌≢◌, Some, slice_get, IfSome, IfNone};
 ghost use Rattle.tile_eval.specs.Buffer.{sample_in, IsKnownAt};

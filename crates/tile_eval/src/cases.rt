@@ -14,7 +14,7 @@ ghost use Rattle.row_kernels.specs.RowMask.{HoldsWhere};
 ghost use Rattle.row_kernels.specs.Rows.{EachPlace, at};
 ghost use Rattle.tile_eval.specs.Reading.{HasRoom};
 ghost use Rattle.tile_eval.specs.Cases.{InBox, function_value};
-ghost use Rattle.tile_eval.specs.inside.Cases.{IsReady, IsRoomy};
+ghost use Rattle.tile_eval.specs.inside.Cases.{IsReady, IsRoomy, AreReady};
 
 use crate::source::RowSource;
 use crate::source_row::SourceRow;
@@ -22,7 +22,7 @@ use domains::Area;
 use job::{Formula, JobCase};
 use row_kernels::{RowMask, RowSpan, fill, take_where, where_passed};
 
-// From where and up to where a row of points lies in an area.
+// The places of a row of points that lie in an area: the first one, and the end.
 fn overlap(area: &Area, points: &RowSpan) -> Option<(usize, usize)>
     requires { 0 < points.now.len }
     ensures some { IfSome result (λ p. (p.0 < p.1) × (p.1 ≤ points.now.len)) }
@@ -39,7 +39,7 @@ fn overlap(area: &Area, points: &RowSpan) -> Option<(usize, usize)>
     Some((points.gap(common.lo()), points.gap(common.hi()) + 1))
 }
 
-// Whether in each column the tests of the one hold or those of the other, by turns.
+// Whether in each column the tests of the one hold if those of the other do not.
 fn are_turned(first: RowMask, second: RowMask) -> bool
     ensures { result ≡ true → (xs ys : List Test) (r c : ℤ) → HoldsWhere first xs r
         → HoldsWhere second ys r → BoundsHold xs r c → BoundsHold ys r c
@@ -105,7 +105,7 @@ impl<S: RowSource> SourceRow<'_, S> {
         }
     }
 
-    // What holds where no case does: 0 if nothing is said.
+    // The values where no case holds: 0 if none are specified.
     fn elsewhere(&self, otherwise: &Option<Formula>, out: &mut [i32], temps: &mut [i32])
         requires some { 0 < length out.old }
         requires fits { length out.old ≡ self.now.points.len }
@@ -124,7 +124,7 @@ impl<S: RowSource> SourceRow<'_, S> {
         }
     }
 
-    // The part of a row where the tests of a case hold, if this is told at once: from which place on and up to which.
+    // The part of a row where the tests of a case hold, if this is known without testing each point: its first place and its end.
     fn held(&self, case: &JobCase) -> Option<(usize, usize)>
         requires some { 0 < self.now.points.len }
         requires ready { EachPlace self.now.points.len (λ k. IsReady (S.has self.now.source.now)
@@ -148,7 +148,7 @@ impl<S: RowSource> SourceRow<'_, S> {
         }
     }
 
-    // The part of a row where the tests of a case hold unless those of the case before it do, if this is told at once.
+    // The part of a row where a case's tests hold unless those of the case before it do, if known without testing each point.
     fn held_by_turns(&self, before: &JobCase, case: &JobCase) -> Option<(usize, usize)>
         requires some { 0 < self.now.points.len }
         requires before { EachPlace self.now.points.len (λ k. IsReady (S.has self.now.source.now)
@@ -229,14 +229,8 @@ impl<S: RowSource> SourceRow<'_, S> {
         requires fits { length out.old ≡ self.now.points.len }
         requires order { from ≤ to }
         requires most { to ≤ length out.old }
-        requires cases { All (λ p. EachPlace (length out.old) (λ k. IsReady
-            (S.has self.now.source.now) (case_view p) self.now.points.row
-            (self.now.points.col +ℤ pos k))
-            × IsRoomy (length out.old) (length temps.old) (case_view p)) cases.now }
-        requires other { ForSome (option_map formula_view otherwise.now)
-            (λ f. EachPlace (length out.old) (λ k. EachRead (S.has self.now.source.now) f
-            self.now.points.row (self.now.points.col +ℤ pos k))
-            × IsFormula f × HasRoom f (length out.old) (length temps.old)) }
+        requires ready { AreReady (S.has self.now.source.now) self.now.points.row
+            self.now.points.col (length out.old) (length temps.old) cases.now otherwise.now }
         ensures inside { EachPlace (length out.old) (λ k. from ≤ k → k < to → at out.new k
             ≡ function_value (S.samples self.now.source.now) (map case_view cases.now)
             (option_map formula_view otherwise.now) self.now.points.row
@@ -254,7 +248,7 @@ impl<S: RowSource> SourceRow<'_, S> {
         }
     }
 
-    // The values of a function at points where a case before its own does not hold.
+    // The values of a function at points where not all tests of the case before hold.
     #[cycle(by_cases)]
     fn behind_case(
         &self,
@@ -269,14 +263,8 @@ impl<S: RowSource> SourceRow<'_, S> {
         requires before { EachPlace (length out.old) (λ k. IsReady (S.has self.now.source.now)
             (case_view before.now) self.now.points.row (self.now.points.col +ℤ pos k)) }
         requires tests { All IsTest (case_view before.now).tests }
-        requires cases { All (λ p. EachPlace (length out.old) (λ k. IsReady
-            (S.has self.now.source.now) (case_view p) self.now.points.row
-            (self.now.points.col +ℤ pos k))
-            × IsRoomy (length out.old) (length temps.old) (case_view p)) cases.now }
-        requires other { ForSome (option_map formula_view otherwise.now)
-            (λ f. EachPlace (length out.old) (λ k. EachRead (S.has self.now.source.now) f
-            self.now.points.row (self.now.points.col +ℤ pos k))
-            × IsFormula f × HasRoom f (length out.old) (length temps.old)) }
+        requires ready { AreReady (S.has self.now.source.now) self.now.points.row
+            self.now.points.col (length out.old) (length temps.old) cases.now otherwise.now }
         ensures { EachPlace (length out.old) (λ k. all_passed (case_view before.now).tests
             self.now.points.row (self.now.points.col +ℤ pos k) ≡ false → at out.new k
             ≡ function_value (S.samples self.now.source.now) (map case_view cases.now)
@@ -293,7 +281,7 @@ impl<S: RowSource> SourceRow<'_, S> {
         self.by_cases(cases, otherwise, out, temps);
     }
 
-    /// The values of a function: what stands behind a case is not computed where all tests of the case hold, if this is told at once.
+    /// The values of a function. If a case holds on one interval of a row, later cases are evaluated only outside that interval.
     #[cycle(by_cases)]
     pub(crate) fn by_cases(
         &self,
@@ -304,14 +292,8 @@ impl<S: RowSource> SourceRow<'_, S> {
     )
         requires some { 0 < length out.old }
         requires fits { length out.old ≡ self.now.points.len }
-        requires cases { All (λ p. EachPlace (length out.old) (λ k. IsReady
-            (S.has self.now.source.now) (case_view p) self.now.points.row
-            (self.now.points.col +ℤ pos k))
-            × IsRoomy (length out.old) (length temps.old) (case_view p)) cases.now }
-        requires other { ForSome (option_map formula_view otherwise.now)
-            (λ f. EachPlace (length out.old) (λ k. EachRead (S.has self.now.source.now) f
-            self.now.points.row (self.now.points.col +ℤ pos k))
-            × IsFormula f × HasRoom f (length out.old) (length temps.old)) }
+        requires ready { AreReady (S.has self.now.source.now) self.now.points.row
+            self.now.points.col (length out.old) (length temps.old) cases.now otherwise.now }
         ensures { EachPlace (length out.old) (λ k. at out.new k
             ≡ function_value (S.samples self.now.source.now) (map case_view cases.now)
             (option_map formula_view otherwise.now) self.now.points.row

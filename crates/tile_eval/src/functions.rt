@@ -18,7 +18,7 @@ use job::Function;
 use row_kernels::RowSpan;
 use std::alloc::{AllocError, Global};
 
-/// Writes the values of a function on an area of its domain, row by row. What the room for the operands holds means nothing.
+/// Writes the values of a function on an area of its domain, row by row. The contents of the operands' buffer have no meaning.
 pub fn area_onto<S: RowSource>(
     source: &S,
     function: &Function,

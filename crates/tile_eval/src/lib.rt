@@ -1,4 +1,4 @@
-//! Values of jobs, a row of points at a time, whatever gives the samples that are read.
+//! Values of jobs, a row of points at a time, from any source of the samples that are read.
 #![tactic(auto)]
 
 mod areas;

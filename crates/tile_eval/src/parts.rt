@@ -1,5 +1,5 @@
 #![tactic(auto)]
-//! Parts of what is known of a stage.
+//! Parts of the known values of a stage.
 
 ghost use Rattle.std.specs.Prelude.{◌≡◌, ◌<◌, ◌+ℤ◌, pos, map, IfOk};
 ghost use Rattle.domains.specs.Area.{IsSubarea};

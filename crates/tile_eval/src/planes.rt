@@ -12,7 +12,7 @@ use netpbm::{Picture, Samples};
 use row_kernels::take_samples;
 use std::alloc::{AllocError, Global};
 
-// The samples as values.
+// The samples, converted to int32.
 fn widened(alloc: Global, samples: &Samples<'_>) -> Result<Vec<i32>, AllocError>
     ensures { IfOk result (λ values. (length values.items ≡ count_in samples.now)
         × EachPlace (count_in samples.now)

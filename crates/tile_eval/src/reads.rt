@@ -13,7 +13,7 @@ use crate::source_row::SourceRow;
 use domains::Index;
 use job::Formula;
 
-// Whether an index only adds, so that it takes columns side by side to columns side by side.
+// Whether an index only adds, so that it takes adjacent columns to adjacent columns.
 fn only_adds(index: &Index) -> bool
     ensures { IsTrue result → (index.now.mul ≡ pos 1) × (index.now.div ≡ pos 1) }
 {
@@ -40,7 +40,7 @@ impl<'a, S: RowSource> SourceRow<'a, S> {
         }
     }
 
-    // The samples at the columns of an index that only adds, where the source gives them.
+    // The samples at the columns of an index that only adds, if they can be borrowed from the source.
     fn shifted(&self, stage: usize, row: &Index, col: &Index) -> Option<&'a [i32]>
         requires mul { col.now.mul ≡ pos 1 }
         requires div { col.now.div ≡ pos 1 }
@@ -57,7 +57,7 @@ impl<'a, S: RowSource> SourceRow<'a, S> {
         self.source.borrow_row(stage, row, first, self.points.len)
     }
 
-    /// The values of a formula, where it is a read whose samples the source gives side by side.
+    /// The values of a formula, if it is a read whose samples can be borrowed from the source.
     pub(crate) fn given(&self, formula: &Formula) -> Option<&'a [i32]>
         requires { ReadsWithin (S.has self.now.source.now) (formula_view formula.now)
             self.now.points.row self.now.points.col self.now.points.len }

@@ -12,18 +12,18 @@ ghost use Rattle.row_kernels.specs.Terms.{term_at};
 ghost use Rattle.tile_eval.specs.Reading.{ReadsWithin, HasRoom};
 ghost use Rattle.tile_eval.specs.inside.Operators.{IsBinary};
 
-use crate::finishes::{after_operator, cut_between};
+use crate::finishes::{after_operator, for_ternary};
 use crate::source::RowSource;
 use crate::source_row::SourceRow;
-use domains::BinaryOp;
-use domains::arithmetic::wrapping_neg;
 use job::{Axis, Formula};
+use operators::BinaryOp;
 use row_kernels::{
-    Finish, Operand, RowSpan, Term, add_terms, combine, combine_literal, combine_scaled, count_up,
-    cut, fill, finish_row, keep_related, look_up, negate,
+    Finish, Operand, RowSpan, Term, add_terms, apply_ternary, apply_unary, combine,
+    combine_literal, combine_scaled, count_up, fill, finish_row, keep_related, look_up,
+    unary_number,
 };
 
-/// The number that a formula is all along a row of points, if it is one.
+/// The number that a formula is all along a row of points, if it is found to be constant there.
 pub fn number_along(formula: &Formula, points: &RowSpan) -> Option<i32>
     ensures { IfSome result (λ number. (env : Valuation) (c : ℤ)
         → formula_value env (formula_view formula.now) points.now.row c ≡ number) }
@@ -31,13 +31,13 @@ pub fn number_along(formula: &Formula, points: &RowSpan) -> Option<i32>
     match formula {
         Formula::Number(number) => Some(*number),
         Formula::Coordinate(Axis::Row) => Some(points.row),
-        Formula::Neg(a) => Some(wrapping_neg(number_along(a, points)?)),
+        Formula::Unary(op, a) => Some(unary_number(*op, number_along(a, points)?)),
         Formula::Lookup(table, a) => Some(table.entry(number_along(a, points)?)),
         _ => None,
     }
 }
 
-/// The values of a formula along a row of points: as they lie, where it is a read whose samples the source gives side by side, else
+/// The values of a formula along a row of points: borrowed from the source, if it is a read whose samples are adjacent, else
 /// computed into `own`.
 #[cycle(evaluate)]
 pub fn line_along<'a, S: RowSource>(
@@ -70,7 +70,7 @@ pub fn line_along<'a, S: RowSource>(
     }
 }
 
-// A formula as an operand along a row of points: a number, samples that the source gives, or else values that are computed into `own`.
+// A formula as an operand along a row of points: a number, samples borrowed from the source, or values computed into `own`.
 #[cycle(evaluate)]
 fn operand<'a, S: RowSource>(
     source: &'a S,
@@ -96,7 +96,7 @@ fn operand<'a, S: RowSource>(
     }
 }
 
-// A formula as the right operand, which is computed into the row itself unless the left one stands there.
+// A formula as the right operand, which is computed into the row itself unless the left one is there.
 #[cycle(evaluate)]
 fn beside<'a, S: RowSource>(
     source: &'a S,
@@ -133,7 +133,7 @@ fn beside<'a, S: RowSource>(
 }
 
 impl<'a, S: RowSource> SourceRow<'a, S> {
-    // A formula as an operand, where nothing is to be computed: a number, or samples that the source gives.
+    // A formula as an operand, if nothing is to be computed: a number, or samples borrowed from the source.
     fn at_hand(&self, formula: &Formula) -> Option<Operand<'a>>
         requires { ReadsWithin (S.has self.now.source.now) (formula_view formula.now)
             self.now.points.row self.now.points.col self.now.points.len }
@@ -150,7 +150,7 @@ impl<'a, S: RowSource> SourceRow<'a, S> {
         }
     }
 
-    // A formula as an operand of a sum, where nothing is to be computed but a product with a number.
+    // A formula as an addend, if nothing is to be computed but a product with a number.
     fn term(&self, formula: &Formula) -> Option<Term<'a>>
         requires { ReadsWithin (S.has self.now.source.now) (formula_view formula.now)
             self.now.points.row self.now.points.col self.now.points.len }
@@ -175,7 +175,7 @@ impl<'a, S: RowSource> SourceRow<'a, S> {
         })
     }
 
-    // A formula as an operand, which is computed into the row itself where it is not at hand.
+    // A formula as an operand, which is computed into the row itself if it is not available.
     #[cycle(evaluate)]
     fn placed(&self, formula: &Formula, out: &mut [i32], temps: &mut [i32]) -> Operand<'a>
         requires fits { length out.old ≡ self.now.points.len }
@@ -197,7 +197,7 @@ impl<'a, S: RowSource> SourceRow<'a, S> {
         }
     }
 
-    // Joins an operand with the values of the right one, which may be taken a number of times, and finishes what that gives.
+    // Joins an operand with the values of the right one, which may have a factor, and applies the epilogue.
     #[cycle(evaluate)]
     fn join(
         &self,
@@ -232,7 +232,7 @@ impl<'a, S: RowSource> SourceRow<'a, S> {
         combine(op, out, left, right, finish);
     }
 
-    // The right operand of a product as an operand, in the room of the product.
+    // The right operand of a product as an operand. Its own operands use `temps` after the first row.
     #[cycle(evaluate)]
     fn placed_in_rest(&self, formula: &Formula, out: &mut [i32], temps: &mut [i32]) -> Operand<'a>
         requires fits { length out.old ≡ self.now.points.len }
@@ -251,8 +251,8 @@ impl<'a, S: RowSource> SourceRow<'a, S> {
         self.placed(formula, out, rest)
     }
 
-    // Finishes what an operator gives: in the pass of the operator before it, where the left operand of a sum is a product with a
-    // number, or a sum whose right operand is at hand.
+    // Applies an operator and its epilogue. If the left operand of a sum is a product with a number, or a sum whose right
+    // operand is available, that is done in the pass of the operator before it.
     #[cycle(evaluate)]
     fn operate(&self, formula: &Formula, finish: Finish, out: &mut [i32], temps: &mut [i32])
         requires fits { length out.old ≡ self.now.points.len }
@@ -285,7 +285,7 @@ impl<'a, S: RowSource> SourceRow<'a, S> {
         self.join(*op, left, b, finish, out, temps);
     }
 
-    // What a finish makes of the values of a formula, in the pass of its last operator if that may be.
+    // What an epilogue makes of the values of a formula, in the pass of its last operator if possible.
     #[cycle(evaluate)]
     fn finished(&self, formula: &Formula, finish: Finish, out: &mut [i32], temps: &mut [i32])
         requires fits { length out.old ≡ self.now.points.len }
@@ -315,7 +315,7 @@ impl<'a, S: RowSource> SourceRow<'a, S> {
         finish_row(out, of, finish);
     }
 
-    /// The values of a formula, where reads take what the source gives.
+    /// The values of a formula, whose reads take what the source has.
     #[cycle(evaluate)]
     pub fn evaluate(&self, formula: &Formula, out: &mut [i32], temps: &mut [i32])
         requires fits { length out.old ≡ self.now.points.len }
@@ -332,11 +332,26 @@ impl<'a, S: RowSource> SourceRow<'a, S> {
             Formula::Coordinate(Axis::Row) => fill(out, self.points.row),
             Formula::Coordinate(Axis::Column) => count_up(out, self.points.col),
             Formula::Read(stage, i, j) => self.read(*stage, i, j, out),
-            Formula::Neg(a) => {
+            Formula::Unary(op, a) => {
+                if let Some(finish) = Finish::Nothing.after_unary(*op) {
+                    return self.finished(a, finish, out, temps);
+                }
                 let of = self.placed(a, out, temps);
-                negate(out, of);
+                apply_unary(*op, out, of);
             }
             Formula::Binary(_, _, _) => self.operate(formula, Finish::Nothing, out, temps),
+            Formula::Ternary(op, a, b, c) => {
+                if let Some(finish) = for_ternary(*op, b, c, &self.points) {
+                    return self.finished(a, finish, out, temps);
+                }
+                let first = self.placed(a, out, temps);
+                let n = out.len();
+                let (second, rest) = temps.split_at_mut(n);
+                let (third, rest) = rest.split_at_mut(n);
+                let second = operand(self.source, &self.points, b, second, rest);
+                let third = operand(self.source, &self.points, c, third, rest);
+                apply_ternary(*op, out, first, second, third);
+            }
             Formula::Literal(op, a, number) => {
                 if let Some(finish) = Finish::Nothing.after_literal(*op, *number) {
                     return self.finished(a, finish, out, temps);
@@ -344,22 +359,9 @@ impl<'a, S: RowSource> SourceRow<'a, S> {
                 let left = self.placed(a, out, temps);
                 combine_literal(*op, out, left, *number);
             }
-            Formula::Abs(a) => self.finished(a, Finish::Absolute, out, temps),
             Formula::Lookup(table, a) => {
                 let of = self.placed(a, out, temps);
                 look_up(out, of, table);
-            }
-            Formula::Clamp(a, low, high) => {
-                if let Some(finish) = cut_between(low, high, &self.points) {
-                    return self.finished(a, finish, out, temps);
-                }
-                let of = self.placed(a, out, temps);
-                let n = out.len();
-                let (least, rest) = temps.split_at_mut(n);
-                let (greatest, rest) = rest.split_at_mut(n);
-                let low = operand(self.source, &self.points, low, least, rest);
-                let high = operand(self.source, &self.points, high, greatest, rest);
-                cut(out, of, low, high);
             }
             Formula::Select(a, relation, b, first, second) => {
                 self.evaluate(first, out, temps);

@@ -10,7 +10,7 @@ use row_kernels::RowSpan;
 
 /// Gives the samples of stages.
 pub trait RowSource {
-    /// Of a stage, a row and a column: whether the sample is there.
+    /// Whether the sample of a stage in a row and a column is available.
     ghost has: { Self → ℕ → ℤ → ℤ → Type 0 };
     /// And the sample.
     ghost samples: { Self → ℕ → ℤ → ℤ → ℤ };
@@ -21,7 +21,7 @@ pub trait RowSource {
         ensures { EachPlace (length out.old)
             (λ k. at out.new k ≡ samples self.now stage row (first +ℤ pos k)) };
 
-    /// The samples of a stage along a row, from a column on, where they lie side by side in memory.
+    /// The samples of a stage along a row, from a column on, if they are adjacent in memory.
     fn borrow_row(&self, stage: usize, row: i32, first: i32, count: usize) -> Option<&[i32]>
         requires { EachPlace count (λ k. has self.now stage row (first +ℤ pos k)) }
         ensures { IfSome result (λ line. (length line.now ≡ count)

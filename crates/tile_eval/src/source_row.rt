@@ -1,10 +1,10 @@
 #![tactic(auto)]
-//! Rows of points beside what gives the samples there.
+//! Rows of points, with the source of the samples there.
 
 use crate::source::RowSource;
 use row_kernels::RowSpan;
 
-/// A row of points, and what gives the samples that are read there.
+/// A row of points, and the source of the samples that are read there.
 #[derive(Drop)]
 pub struct SourceRow<'a, S: RowSource> {
     pub source: &'a S,

@@ -1,5 +1,5 @@
 #![tactic(auto)]
-//! Buffer stages, each after those that it reads.
+//! Buffers stages, each after those that it reads.
 
 ghost use Rattle.std.specs.Prelude.{◌≡◌, ◌≤◌, map, replicate, length, All, None, IfOk, OnOk};
 ghost use Rattle.job.specs.Kept.{pipeline_in};
@@ -24,7 +24,7 @@ pub fn stage_of(read: &Read) -> usize
 }
 
 impl StageBuffers {
-    /// Of so many stages none is known.
+    /// `count` stages of which none is known.
     pub fn none(alloc: Global, count: usize) -> Result<StageBuffers, AllocError>
         ensures { IfOk result (λ known. known.buffers.items ≡ replicate count None) }
     {
@@ -35,7 +35,7 @@ impl StageBuffers {
         Ok(StageBuffers { buffers })
     }
 
-    /// Computes a stage whole, if it is not known, and before it what it reads; of an accumulator what it reads alone.
+    /// Computes a whole stage, if it is not known, after what it reads; for an accumulator only what it reads.
     #[cycle(learn)]
     pub(crate) fn learn(&mut self, alloc: Global, job: &Job, stage: usize) -> Result<(), AllocError>
         requires places { length self.old.buffers.items ≡ length (pipeline_in job.now).stages }

@@ -18,7 +18,7 @@ use row_kernels::{
     write_taps,
 };
 
-// Along rows of fewer points it takes longer to take a kernel apart than that spares.
+// Along rows of fewer points, splitting a kernel costs more time than it saves.
 const WIDE: usize = 128;
 
 // Whether a kernel has at least three rows and columns, and more than three of one of them.
@@ -47,7 +47,7 @@ impl<'a, S: RowSource> SourceRow<'a, S> {
         self.source.read_row(stage, row, col, line);
     }
 
-    // The samples under a row of a kernel, where the source gives them.
+    // The samples under a row of a kernel, if they can be borrowed from the source.
     fn borrowed_line(
         &self,
         stage: usize,
@@ -70,7 +70,7 @@ impl<'a, S: RowSource> SourceRow<'a, S> {
         self.source.borrow_row(stage, row, col, count)
     }
 
-    // The samples under a row of a kernel: as the source gives them, or else written to the room for them.
+    // The samples under a row of a kernel: borrowed from the source, or else written to the buffer for them.
     fn line_under<'b>(
         &'b self,
         stage: usize,
@@ -152,8 +152,8 @@ impl<'a, S: RowSource> SourceRow<'a, S> {
         }
     }
 
-    // The sums of a stencil whose kernel has three rows of three factors. Answers false, and writes nothing, if it has not, or if
-    // the source does not give all that it reads.
+    // The sums of a stencil whose kernel has three rows of three factors. Returns false, and writes nothing, if it has not, or if
+    // not all that it reads can be borrowed from the source.
     fn sums_of_square(&self, stage: usize, kernel: &Kernel, out: &mut [i32]) -> bool
         requires kernel { IsKernel kernel.now }
         requires reads { KernelWithin (S.has self.now.source.now stage) kernel.now
@@ -233,8 +233,8 @@ impl<'a, S: RowSource> SourceRow<'a, S> {
         }
     }
 
-    // The sums of a stencil, all rows of the kernel at once, if it is of one of these forms and the source gives all that it
-    // reads. Answers whether it is.
+    // The sums of a stencil, all rows of the kernel at once. Returns whether the kernel has one of these forms and all that it
+    // reads can be borrowed from the source.
     fn sums_at_once(&self, stage: usize, kernel: &Kernel, out: &mut [i32]) -> bool
         requires kernel { IsKernel kernel.now }
         requires reads { KernelWithin (S.has self.now.source.now stage) kernel.now
@@ -249,8 +249,8 @@ impl<'a, S: RowSource> SourceRow<'a, S> {
             || self.sums_of_five(stage, kernel, out)
     }
 
-    // Adds up the samples that lie one below another under a kernel, each times the factor of its row. Answers false if the source
-    // does not give all of them.
+    // Adds up the samples in each column under a kernel, each times the factor of its row. Returns false if not all of them can
+    // be borrowed from the source.
     fn sum_columns(&self, stage: usize, kernel: &Kernel, down: &[i32], sums: &mut [i32]) -> bool
         requires kernel { IsKernel kernel.now }
         requires down { length kernel.now ≡ length down.now }
@@ -272,8 +272,8 @@ impl<'a, S: RowSource> SourceRow<'a, S> {
         true
     }
 
-    // The sums of a stencil whose kernel is a product, first down and then along: n + m products for a kernel of n rows and m columns.
-    // Answers false, and writes no sums, if the source does not give all that it reads.
+    // The sums of a stencil whose kernel is separable, first down and then along: n + m products for n rows and m columns.
+    // Returns false, and writes no sums, if not all that it reads can be borrowed from the source.
     fn sums_down_and_along(
         &self,
         stage: usize,
@@ -302,7 +302,7 @@ impl<'a, S: RowSource> SourceRow<'a, S> {
         true
     }
 
-    // The sums of a stencil along a wide row, if its kernel has many factors and is a product, likewise.
+    // The sums of a stencil along a wide row, if its kernel has many factors and is separable, likewise.
     fn sums_of_separable(
         &self,
         stage: usize,

@@ -1,5 +1,5 @@
 #![tactic(auto)]
-//! Stages that are computed whole, without tiles and whatever a schedule says, and what they give of tiles.
+//! Stages that are computed whole, without tiles and independently of schedules, and their values on tiles.
 
 ghost use Rattle.std.specs.Prelude.{◌≡◌, ℤ, List, length, map, All, IfSome, IfNone, IfOk};
 ghost use Rattle.domains.specs.declared.area.Area.{Area};
@@ -45,7 +45,7 @@ impl<'a> TrueStages<'a> {
         self.job
     }
 
-    /// The values, whatever stage is asked for.
+    /// The values of all stages that are known.
     pub fn known(&self) -> &StageBuffers
         ensures known { result.now ≡ self.now.known }
         ensures right { AreTrue (pipeline_in self.now.job.now) result.now.buffers.items }
@@ -53,8 +53,8 @@ impl<'a> TrueStages<'a> {
         &self.known
     }
 
-    /// The values of a plane or a function on its whole domain, row by row, as a copy. There are none of an accumulator, nor where no
-    /// stage has this number.
+    /// The values of a plane or a function on its whole domain, row by row, as a copy. There are none of an accumulator, nor if
+    /// no stage has this number.
     ///
     /// # Errors
     ///
@@ -82,8 +82,8 @@ impl<'a> TrueStages<'a> {
         }
     }
 
-    /// The values of a function on its tile in this row and column of its grid, row by row, as a copy; none where it has no such tile,
-    /// or no function has this number.
+    /// The values of a function on its tile in this row and column of its grid, row by row, as a copy. There are none if it has
+    /// no such tile, or no function has this number.
     ///
     /// # Errors
     ///
@@ -111,7 +111,7 @@ impl<'a> TrueStages<'a> {
     }
 }
 
-/// The area of a function's tile in this row and column of its grid; none where it has no such tile, or no function has this number.
+/// The area of a function's tile in this row and column of its grid; none if there is no such tile, or no such function.
 pub fn function_tile(job: &Job, stage: usize, row: u32, col: u32) -> Option<Area>
     ensures some { IfSome result (IsFunctionTile (pipeline_in job.now) stage row col) }
     ensures none { IfNone result

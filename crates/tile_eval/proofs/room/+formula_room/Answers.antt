@@ -1,6 +1,6 @@
 use Rattle.std.proofs.Common.{rules, sym, subst}
 use Rattle.job.specs.declared.formula.Formula.{Formula as KeptFormula}
-use Rattle.job.specs.Formula.{binary, clamp, select}
+use Rattle.job.specs.Formula.{binary, ternary, select}
 use Rattle.job.specs.Views.{formula_view}
 use Rattle.tile_eval.specs.Counted.{IsLeast}
 use Rattle.tile_eval.specs.inside.Counted.{IsCounted}
@@ -19,19 +19,19 @@ returns-in-Binary t c =
     (counted_formula f c.args.n c.greater.result
     (c.greater.ensures _ _ left (c.with_rows-right.ensures _ right)))
 
-pub returns-in-Clamp : goal.returns-in-Clamp
-returns-in-Clamp t c =
-    let f = clamp (formula_view c.in-Clamp.a.value) (formula_view c.in-Clamp.low.value) (formula_view c.in-Clamp.high.value) in
-    let low : IsCounted c.formula_room-in-Clamp.result (room_of (formula_view c.in-Clamp.low.value) c.args.n) =
-    formula_counted (formula_view c.in-Clamp.low.value) c.args.n c.formula_room-in-Clamp.result (search rules) in
-    let high : IsCounted c.formula_room-in-Clamp-2.result (room_of (formula_view c.in-Clamp.high.value) c.args.n) =
-    formula_counted (formula_view c.in-Clamp.high.value) c.args.n c.formula_room-in-Clamp-2.result (search rules) in
-    let value : IsCounted c.formula_room-in-Clamp-3.result (room_of (formula_view c.in-Clamp.a.value) c.args.n) =
-    formula_counted (formula_view c.in-Clamp.a.value) c.args.n c.formula_room-in-Clamp-3.result (search rules) in
-    subst (λ (f : KeptFormula). IsLeast (HasRoom (formula_view f) c.args.n) c.greater-in-Clamp.result) (sym c.in-Clamp.is)
-    (counted_formula f c.args.n c.greater-in-Clamp.result
-    (c.greater-in-Clamp.ensures _ _ value
-    (c.with_rows.ensures _ (c.greater-bounds.ensures _ _ low high))))
+pub returns-in-Ternary : goal.returns-in-Ternary
+returns-in-Ternary t c =
+    let f = ternary c.in-Ternary.field-0 (formula_view c.in-Ternary.a.value) (formula_view c.in-Ternary.b.value) (formula_view c.in-Ternary.c.value) in
+    let second : IsCounted c.formula_room-in-Ternary.result (room_of (formula_view c.in-Ternary.b.value) c.args.n) =
+    formula_counted (formula_view c.in-Ternary.b.value) c.args.n c.formula_room-in-Ternary.result (search rules) in
+    let third : IsCounted c.formula_room-in-Ternary-2.result (room_of (formula_view c.in-Ternary.c.value) c.args.n) =
+    formula_counted (formula_view c.in-Ternary.c.value) c.args.n c.formula_room-in-Ternary-2.result (search rules) in
+    let first : IsCounted c.formula_room-in-Ternary-3.result (room_of (formula_view c.in-Ternary.a.value) c.args.n) =
+    formula_counted (formula_view c.in-Ternary.a.value) c.args.n c.formula_room-in-Ternary-3.result (search rules) in
+    subst (λ (f : KeptFormula). IsLeast (HasRoom (formula_view f) c.args.n) c.greater-in-Ternary.result) (sym c.in-Ternary.is)
+    (counted_formula f c.args.n c.greater-in-Ternary.result
+    (c.greater-in-Ternary.ensures _ _ first
+    (c.with_rows.ensures _ (c.greater-rest.ensures _ _ second third))))
 
 pub returns-in-Select : goal.returns-in-Select
 returns-in-Select t c =

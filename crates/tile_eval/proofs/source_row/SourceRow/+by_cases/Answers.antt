@@ -8,7 +8,7 @@ use Rattle.tile_eval.specs.Cases.{function_value}
 use Rattle.tile_eval.specs.Reading.{HasRoom}
 use Rattle.tile_eval.specs.inside.Cases.{IsReady, IsRoomy}
 use Rattle.tile_eval.proofs.Gathering.{room_less}
-use Rattle.tile_eval.proofs.Covering.{cut_len, part_cases, part_other, part_values, fewer_cases, cases_behind}
+use Rattle.tile_eval.proofs.Covering.{cut_len, part_ready, part_values, fewer_cases, ready_behind}
 use Rattle.tile_eval.proofs.source_row.SourceRow.+by_cases.Goals as goal
 
 pub by_cases_part-by_cases-requires : goal.by_cases_part-by_cases-requires
@@ -18,17 +18,12 @@ by_cases_part-by_cases-requires g t c κs within =
     let some : 0 < length (take (c.args.to - c.args.from) (drop c.args.from c.args.out.now)) = rw cut (omega arith) in
     let here : length c.args.cases.now * 2 + 1 ≡ t = c.decreases in
     let below : length c.args.cases.now * 2 < t = omega (arith, here) in
-    let cases =
-    part_cases (g.S.RowSource.has c.args.self.now.source.now) c.args.self.now.points.row c.args.self.now.points.col
+    let ready =
+    part_ready (g.S.RowSource.has c.args.self.now.source.now) c.args.self.now.points.row c.args.self.now.points.col
     c.part-points.result.row c.part-points.result.col
-    c.args.from c.args.to (length c.args.temps.now) c.args.out.now c.args.cases.now o c.requires.most c.part-points.ensures.row
-    c.part-points.ensures.col c.requires.cases in
-    let other =
-    part_other (g.S.RowSource.has c.args.self.now.source.now) c.args.self.now.points.row c.args.self.now.points.col
-    c.part-points.result.row c.part-points.result.col
-    c.args.from c.args.to (length c.args.temps.now) c.args.out.now (option_map formula_view c.args.otherwise.now) o c.requires.most
-    c.part-points.ensures.row c.part-points.ensures.col c.requires.other in
-    (below, (search rules, (some, (cut ∙ sym c.part-points.ensures.len, (cases, other)))))
+    c.args.from c.args.to (length c.args.temps.now) c.args.out.now c.args.cases.now c.args.otherwise.now o c.requires.most
+    c.part-points.ensures.row c.part-points.ensures.col c.requires.ready in
+    (below, (search rules, (some, (cut ∙ sym c.part-points.ensures.len, ready))))
 
 pub by_cases_part-returns-then-from-to-clause-inside : goal.by_cases_part-returns-then-from-to-clause-inside
 by_cases_part-returns-then-from-to-clause-inside g t c = λ k l low high.
@@ -44,10 +39,10 @@ by_cases-behind_case-requires g t c κs within =
     let here : length c.args.cases.now * 2 ≡ t = c.decreases in
     let fewer = fewer_cases c.args.cases.now c.in-len1-up.len_at_least in
     let below : length (take (length c.args.cases.now - 1) (drop 1 c.args.cases.now)) * 2 + 1 < t = omega (arith, here, fewer) in
-    let cases =
-    cases_behind (g.S.RowSource.has c.args.self.now.source.now) c.args.self.now.points.row c.args.self.now.points.col
-    (length c.args.out.now) (length c.args.temps.now) c.args.cases.now c.requires.cases in
-    (below, (search rules, (c.requires.some, (c.requires.fits, (search rules, (search rules, (cases, c.requires.other)))))))
+    let ready =
+    ready_behind (g.S.RowSource.has c.args.self.now.source.now) c.args.self.now.points.row c.args.self.now.points.col
+    (length c.args.out.now) (length c.args.temps.now) c.args.cases.now c.args.otherwise.now c.requires.ready in
+    (below, (search rules, (c.requires.some, (c.requires.fits, (search rules, (search rules, ready))))))
 
 pub by_cases-by_cases_part-requires-in-Some : goal.by_cases-by_cases_part-requires-in-Some
 by_cases-by_cases_part-requires-in-Some g t c κs within =
@@ -57,10 +52,10 @@ by_cases-by_cases_part-requires-in-Some g t c κs within =
     let out : length c.by_cases_part.new.out ≡ length c.args.out.now = c.by_cases_part.auto.out in
     let temps : length c.by_cases_part.new.temps ≡ length c.args.temps.now = c.by_cases_part.auto.temps in
     let most : c.in-Some.to ≤ length c.by_cases_part.new.out = omega (arith, out, c.requires.fits, c.in-Some.ensures.most.1) in
-    let cases =
-    cases_behind (g.S.RowSource.has c.args.self.now.source.now) c.args.self.now.points.row c.args.self.now.points.col
-    (length c.args.out.now) (length c.args.temps.now) c.args.cases.now c.requires.cases in
-    (below, (search rules, (out ∙ c.requires.fits, (most, (omega arith, (rw out (rw temps cases), rw out (rw temps c.requires.other)))))))
+    let ready =
+    ready_behind (g.S.RowSource.has c.args.self.now.source.now) c.args.self.now.points.row c.args.self.now.points.col
+    (length c.args.out.now) (length c.args.temps.now) c.args.cases.now c.args.otherwise.now c.requires.ready in
+    (below, (search rules, (out ∙ c.requires.fits, (most, (omega arith, rw out (rw temps ready))))))
 
 pub by_cases-evaluate_part-requires-clause-room : goal.by_cases-evaluate_part-requires-clause-room
 by_cases-evaluate_part-requires-clause-room g t c =
@@ -69,7 +64,7 @@ by_cases-evaluate_part-requires-clause-room g t c =
     c.by_cases_part-in-Some.auto.temps ∙ c.by_cases_part.auto.temps in
     let roomy : IsRoomy (length c.args.out.now) (length c.args.temps.now) (case_view c.case-item.result) =
     subst (λ (p : KeptCase). IsRoomy (length c.args.out.now) (length c.args.temps.now) (case_view p)) (sym c.case-item.is)
-    (c.requires.cases 0 c.case-item.result c.in-len1-up.len_at_least).1 in
+    (c.requires.ready.cases 0 c.case-item.result c.in-len1-up.len_at_least).1 in
     let same : length c.args.out.now ≤ length c.args.out.now = omega arith in
     let room : length c.args.temps.now - length c.args.out.now ≤ length c.args.temps.now = omega arith in
     rw out (rw temps (subst (λ (f : KeptFormula). HasRoom (formula_view f) (length c.args.out.now) (length c.args.temps.now))
@@ -84,10 +79,10 @@ behind_case-by_cases_part-requires-in-Some g t c κs within =
     let out : length c.by_cases_part.new.out ≡ length c.args.out.now = c.by_cases_part.auto.out in
     let temps : length c.by_cases_part.new.temps ≡ length c.args.temps.now = c.by_cases_part.auto.temps in
     let most : c.in-Some.to ≤ length c.by_cases_part.new.out = omega (arith, out, c.requires.fits, c.in-Some.ensures.most.1) in
-    let cases =
-    cases_behind (g.S.RowSource.has c.args.self.now.source.now) c.args.self.now.points.row c.args.self.now.points.col
-    (length c.args.out.now) (length c.args.temps.now) c.args.cases.now c.requires.cases in
-    (below, (search rules, (out ∙ c.requires.fits, (most, (omega arith, (rw out (rw temps cases), rw out (rw temps c.requires.other)))))))
+    let ready =
+    ready_behind (g.S.RowSource.has c.args.self.now.source.now) c.args.self.now.points.row c.args.self.now.points.col
+    (length c.args.out.now) (length c.args.temps.now) c.args.cases.now c.args.otherwise.now c.requires.ready in
+    (below, (search rules, (out ∙ c.requires.fits, (most, (omega arith, rw out (rw temps ready))))))
 
 pub behind_case-evaluate_part-requires-clause-room : goal.behind_case-evaluate_part-requires-clause-room
 behind_case-evaluate_part-requires-clause-room g t c =
@@ -96,7 +91,7 @@ behind_case-evaluate_part-requires-clause-room g t c =
     c.by_cases_part-in-Some.auto.temps ∙ c.by_cases_part.auto.temps in
     let roomy : IsRoomy (length c.args.out.now) (length c.args.temps.now) (case_view c.case-item.result) =
     subst (λ (p : KeptCase). IsRoomy (length c.args.out.now) (length c.args.temps.now) (case_view p)) (sym c.case-item.is)
-    (c.requires.cases 0 c.case-item.result c.in-len1-up.len_at_least).1 in
+    (c.requires.ready.cases 0 c.case-item.result c.in-len1-up.len_at_least).1 in
     let same : length c.args.out.now ≤ length c.args.out.now = omega arith in
     let room : length c.args.temps.now - length c.args.out.now ≤ length c.args.temps.now = omega arith in
     rw out (rw temps (subst (λ (f : KeptFormula). HasRoom (formula_view f) (length c.args.out.now) (length c.args.temps.now))
@@ -112,6 +107,6 @@ behind_case-evaluate_part-requires-clause-reads g t c = λ k l low high.
     (c.args.self.now.points.col +ℤ pos k) =
     subst (λ (p : KeptCase). IsReady (g.S.RowSource.has c.args.self.now.source.now) (case_view p) c.args.self.now.points.row
     (c.args.self.now.points.col +ℤ pos k)) (sym c.case-item.is)
-    ((c.requires.cases 0 c.case-item.result c.in-len1-up.len_at_least).0 k few) in
+    ((c.requires.ready.cases 0 c.case-item.result c.in-len1-up.len_at_least).0 k few) in
     subst (λ (f : KeptFormula). EachRead (g.S.RowSource.has c.args.self.now.source.now) (formula_view f) c.args.self.now.points.row
     (c.args.self.now.points.col +ℤ pos k)) (sym c.formula.ensures) (ready.reads (c.in-Some.ensures.inside k short low high))

@@ -13,8 +13,8 @@ use Rattle.tile_eval.specs.inside.Cases.{IsReady, IsRoomy}
 use Rattle.tile_eval.proofs.Grid.{rows_more, row_len, line_within, same_place}
 use Rattle.tile_eval.proofs.source_row.SourceRow.fill_rows.Goals as goal
 
-pub by_cases-requires-clause-cases : goal.by_cases-requires-clause-cases
-by_cases-requires-clause-cases g c =
+pub by_cases-requires-clause-ready : goal.by_cases-requires-clause-ready
+by_cases-requires-clause-ready g c =
     let lt : c.loop-i.i < c.args.rows = omega arith in
     let len : length c.loop-i.out ≡ c.args.rows * c.args.self.now.points.len = c.loop-i.auto.out ∙ c.requires.len in
     let whole : c.loop-i.i * c.args.self.now.points.len + c.args.self.now.points.len ≤ length c.loop-i.out =
@@ -39,25 +39,18 @@ by_cases-requires-clause-cases g c =
           (h.0 c.loop-i.i k lt l)),
       h.1,
     ) in
-    rw cut (rw temps (subst (All Q) (sym c.cases.ensures) (All-weaker P Q step c.args.function.now.cases.items c.requires.cases)))
-
-pub by_cases-requires-clause-other : goal.by_cases-requires-clause-other
-by_cases-requires-clause-other g c =
-    let lt : c.loop-i.i < c.args.rows = omega arith in
-    let len : length c.loop-i.out ≡ c.args.rows * c.args.self.now.points.len = c.loop-i.auto.out ∙ c.requires.len in
-    let whole : c.loop-i.i * c.args.self.now.points.len + c.args.self.now.points.len ≤ length c.loop-i.out =
-    line_within c.loop-i.i c.args.rows c.args.self.now.points.len (length c.loop-i.out) lt len in
-    let cut = row_len (c.loop-i.i * c.args.self.now.points.len) c.args.self.now.points.len c.loop-i.out whole in
-    let temps : length c.loop-i.temps ≡ length c.args.temps.now = search rules in
-    rw cut (rw temps (λ f is.
-    let other = c.requires.other f (sym (ap (option_map formula_view) c.otherwise.ensures) ∙ is) in (
-      (λ k l. same_place (EachRead (g.S.RowSource.has c.args.self.now.source.now) f) (c.args.self.now.points.row +ℤ pos c.loop-i.i)
-          c.args.self.now.points.col
-          c.below-points.result.row c.below-points.result.col k c.below-points.ensures.row c.below-points.ensures.col (other.0 c.loop-i.i
-          k lt l)),
-      other.1,
-      other.2,
-    )))
+    rw cut (rw temps (record {
+      cases = subst (All Q) (sym c.cases.ensures) (All-weaker P Q step c.args.function.now.cases.items c.requires.cases);
+      other = λ f is.
+          let other = c.requires.other f (sym (ap (option_map formula_view) c.otherwise.ensures) ∙ is) in (
+            (λ k l. same_place (EachRead (g.S.RowSource.has c.args.self.now.source.now) f) (c.args.self.now.points.row +ℤ pos c.loop-i.i)
+                c.args.self.now.points.col
+                c.below-points.result.row c.below-points.result.col k c.below-points.ensures.row c.below-points.ensures.col
+                (other.0 c.loop-i.i k lt l)),
+            other.1,
+            other.2,
+          );
+    }))
 
 pub loop-i-preserved : goal.loop-i-preserved
 loop-i-preserved g c =

@@ -1,6 +1,6 @@
 use Rattle.std.proofs.Common.{sym, subst, List}
 use Rattle.std.specs.Prelude.{All}
-use Rattle.operations.specs.declared.point_test.Test.{Test as KeptTest}
+use Rattle.operators.specs.declared.point_test.Test.{Test as KeptTest}
 use Rattle.job.specs.WellFormed.{IsTest}
 use Rattle.job.specs.Views.{test_view}
 use Rattle.job.proofs.Steps.{All-from_map}
