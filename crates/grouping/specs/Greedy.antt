@@ -1,5 +1,5 @@
--- The greedy grouping: functions are visited from the last to the first in dependence order, and each is inlined where all its
--- readers are computed in the tiles of one stage, that pays, and there is room.
+-- The greedy grouping visits functions from the last to the first in dependence order. A function is inlined if all its readers
+-- are computed in the tiles of one stage, inlining pays, and its boxes fit in scratch memory.
 use Rattle.std.specs.Prelude.{ℕ, ◌+◌, ◌*◌, ◌==◌, nat_le, Bool, true, ◌&&◌, not, if◌then◌else◌, Option, Some, None, List, [], ◌∷◌}
 use Rattle.std.specs.Prelude.{filter, length, slice_get, slice_set, slice_index_or}
 use Rattle.std.specs.List.{fold, list_any, list_all, range_with_len}
@@ -27,8 +27,8 @@ readers job g = filter (does_read job g) (backward job.stages)
 
 -- ---- groups
 
--- which functions are inlined, and the group of each stage: the stored stage in whose tiles it is computed. Planes, which have no
--- tiles, are their own
+-- which functions are inlined, and the group of each stage: the stored stage in whose tiles it is computed. Planes have no tiles,
+-- and are their own groups
 pub record Grouping : Type 0 where
   pub inlining : List Bool
   pub groups : List ℕ
@@ -55,13 +55,13 @@ with_inlined c g h = record { inlining = slice_set c.inlining g true; groups = s
 abbrev pub cost_or_zero : Pipeline → List Bool → ℕ → ℕ
 cost_or_zero job inlining g = option_map_or (λ n. n) (cost job inlining g) 0
 
--- with g inlined, h takes at most so many percent more points than both take apart
+-- with g inlined, h takes at most `percent` percent more points than g and h take apart
 abbrev pub pays : Pipeline → ℕ → List Bool → ℕ → ℕ → Bool
 pays job percent inlining g h =
     nat_le (100 * cost_or_zero job (slice_set inlining g true) h)
     ((100 + percent) * (cost_or_zero job inlining h + cost_or_zero job inlining g))
 
--- with g inlined, each tile of h has room in scratch memory
+-- with g inlined, each tile of h fits in scratch memory
 abbrev pub has_room : Pipeline → List Bool → ℕ → ℕ → Bool
 has_room job inlining g h = stage_fits job (slice_set inlining g true) h (slice_get job.stages h)
 
@@ -71,7 +71,8 @@ inlined_if job percent c g None = c
 inlined_if job percent c g (Some h) =
     if pays job percent c.inlining g h && has_room job c.inlining g h then with_inlined c g h else c
 
--- a function that is no output is inlined where its readers have one group, that pays, and the group's tiles have room
+-- a function that is no output is inlined if its readers have one group, that pays, and each tile of the group fits in scratch
+-- memory
 abbrev pub visited : Pipeline → ℕ → Grouping → ℕ → Grouping
 visited job percent c g =
     if is_function job g && not (is_output job g) then inlined_if job percent c g (common_group c (readers job g)) else c
@@ -79,6 +80,6 @@ visited job percent c g =
 abbrev pub greedy_grouping : Pipeline → ℕ → Grouping
 greedy_grouping job percent = fold (visited job percent) (initial_grouping job) (backward job.stages)
 
--- for each stage whether it is inlined when all have been visited
+-- for each stage, whether it is inlined after all have been visited
 unfoldable pub greedy_inlining : Pipeline → ℕ → List Bool
 greedy_inlining job percent = (greedy_grouping job percent).inlining

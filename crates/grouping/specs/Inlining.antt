@@ -1,5 +1,5 @@
--- A schedule as contracts see it: for each stage, whether it is inlined; what each stage costs; and whether each tile is
--- known to have room in scratch memory.
+-- A schedule as contracts see it: for each stage, whether it is inlined; what each stage costs; and whether each tile is known to
+-- fit in scratch memory.
 use Rattle.std.specs.Prelude.{ℕ, ◌≡◌, Bool, true, Option, List}
 use Rattle.job.specs.Pipeline.{Pipeline}
 use Rattle.tile_boxes.specs.Schedules.{IsSchedule, IsInlinedOutput, StoresOutputs, inlining_for}
@@ -13,13 +13,14 @@ pub record Inlining : Type 0 where
   pub costs : List (Option ℕ)
   pub fits : Bool
 
--- what it inlines makes a schedule of the job, and its costs are the job's. If it says so, each tile has room
+-- what it inlines makes a schedule of the job, and its costs are the job's. If `fits` holds, each tile fits in scratch memory
 pub record IsScheduleOf (job : Pipeline) (s : Inlining) : Type 0 where
   pub inlining : IsSchedule job s.inlining
   pub costs : s.costs ≡ costs_of job s.inlining
   pub fits : s.fits ≡ true → AllFitScratch job s.inlining
 
--- a schedule of the job by which each tile has room, and which inlines what was inlined before, and cheap functions as well
+-- a schedule of the job by which each tile fits in scratch memory. It inlines what was inlined before, and point-wise functions
+-- as well
 pub record InlinesMore (job : Pipeline) (before : List Bool) (s : Inlining) : Type 0 where
   pub schedule : IsScheduleOf job s
   pub fits : AllFitScratch job s.inlining
@@ -27,7 +28,7 @@ pub record InlinesMore (job : Pipeline) (before : List Bool) (s : Inlining) : Ty
 
 -- ---- faults
 
--- why what is asked for makes no schedule. Memory is refused only where no output is asked for
+-- why the request makes no schedule. Memory is refused only if no output is requested
 abbrev pub IsScheduleFault : Pipeline → List Bool → ScheduleFault → Type 0
 IsScheduleFault job asked (OutputInlined g) = IsInlinedOutput job (inlining_for job asked) g
 IsScheduleFault job asked Memory = StoresOutputs job (inlining_for job asked)

@@ -30,8 +30,8 @@ fn spot_of(grid: &Grid, row: u32, col: u32) -> Option<Spot>
 }
 
 impl Grouper {
-    /// The boxes of a function in the tiles of its group, where they follow from those in the first row and the first column
-    /// of tiles. The hulls are room to work in.
+    /// The boxes of a function in the tiles of its group, if they follow from those in the first row and the first column of
+    /// tiles. `hulls` is a working buffer.
     pub(crate) fn crossed_boxes(
         &self,
         alloc: Global,
@@ -62,7 +62,7 @@ impl Grouper {
         Ok(Some(Crossing { rows, cols }))
     }
 
-    // The rows of the boxes in the first tile of each row of tiles, where all readers are whole in each.
+    // The rows of the boxes in the first tile of each row of tiles, if all readers are whole in each of these tiles.
     fn rows_down(
         &self,
         alloc: Global,
@@ -91,7 +91,7 @@ impl Grouper {
         Ok(Some(rows))
     }
 
-    // The columns of the boxes in the first tile of each column of tiles, where all readers are whole in each.
+    // The columns of the boxes in the first tile of each column of tiles, if all readers are whole in each of these tiles.
     fn cols_along(
         &self,
         alloc: Global,
@@ -120,7 +120,7 @@ impl Grouper {
         Ok(Some(cols))
     }
 
-    // The box of the function in a tile of its group, where all readers are whole there.
+    // The box of the function in a tile of its group, if all readers are whole there.
     fn whole_box(
         &self,
         job: &Job,
@@ -145,7 +145,7 @@ impl Grouper {
         self.if_whole(job, candidate, &spot, &area)
     }
 
-    // Whether the regions of all readers lie across rows and columns of tiles.
+    // Whether the regions of all readers are separable into rows and columns of tiles.
     fn all_across(&self, candidate: &Candidate, grid: &Grid) -> bool
         ensures { result ≡ true → All (LiesAcross self.now.standings.items candidate.now.group grid.now)
             candidate.now.readers.items }

@@ -24,8 +24,8 @@ pub(crate) struct Spot {
     pub(crate) tile: Area,
 }
 
-/// The boxes of a function that are known of tiles in which all of its readers are whole; how many tiles a row has, and which is
-/// the first one of the row that is next.
+/// The known boxes of a function in tiles in which all of its readers are whole; how many tiles a row has; and the first tile of
+/// the row of the next tile.
 #[derive(Drop)]
 pub(crate) struct Wholes {
     boxes: Vec<Option<Area>>,
@@ -34,7 +34,7 @@ pub(crate) struct Wholes {
 }
 
 impl Wholes {
-    /// Nothing is known of the tiles of a stage yet, and there is room for so many.
+    /// Nothing is known of the tiles of a stage yet; there is capacity for `count` tiles.
     pub(crate) fn none(
         alloc: Global,
         job: &Job,
@@ -50,7 +50,7 @@ impl Wholes {
         })
     }
 
-    /// One tile more, with the box that is known of it, if one is.
+    /// Adds a tile, with its box if that is known.
     pub(crate) fn add(&mut self, known: Option<Area>) -> Result<(), AllocError>
         ensures { OnOk result (self.new.boxes.items ≡ self.old.boxes.items ++ known ∷ []) }
     {
@@ -70,8 +70,8 @@ impl Wholes {
 }
 
 impl Grouper {
-    /// The box of a function in a tile of its group, where it follows from those in the first tile of its row and in the first
-    /// one of its column.
+    /// The box of a function in a tile of its group, if it follows from those in the first tile of its row and in the first one
+    /// of its column.
     pub(crate) fn box_between(
         &self,
         job: &Job,
@@ -106,7 +106,7 @@ impl Grouper {
         }
     }
 
-    // Whether the region of each reader in a tile has its rows in common with that in one, and its columns with that in another.
+    // Whether in a tile the region of each reader has its rows in common with that in `left`, and its columns with that in `top`.
     fn are_between(&self, candidate: &Candidate, here: &Spot, left: &Spot, top: &Spot) -> bool
         ensures { result ≡ true → All
             (λ r. IsBetween (kept_region self.now.standings.items candidate.now.group here.now r)
@@ -157,7 +157,7 @@ impl Grouper {
         ))
     }
 
-    // The region of a stage in a tile of its group, as is kept.
+    // The region of a stage in a tile of its group, as it is kept.
     fn kept_region(&self, group: usize, spot: &Spot, number: usize) -> Option<Area>
         ensures { result ≡ kept_region self.now.standings.items group spot.now number }
     {

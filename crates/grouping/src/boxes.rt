@@ -9,13 +9,13 @@ use domains::{Area, Span};
 /// The boxes of an inlined function in the tiles of its group.
 #[derive(Drop)]
 pub(crate) enum Boxes {
-    /// That in each tile, row by row, if there is one.
+    /// The box in each tile, if there is one, row by row.
     Each(Vec<Option<Area>>),
-    /// The rows that the boxes in each row of tiles have, and the columns that those in each column of tiles have.
+    /// The rows of the boxes in each row of tiles, and the columns of those in each column of tiles.
     Crossed(Crossing),
 }
 
-/// The rows of each row of tiles and the columns of each column of tiles, which are crossed.
+/// The rows of each row of tiles and the columns of each column of tiles; the boxes are their product.
 #[derive(Drop)]
 pub(crate) struct Crossing {
     pub(crate) rows: Vec<Span>,
@@ -33,7 +33,7 @@ impl Boxes {
         }
     }
 
-    /// Whether they are kept by so many rows and columns of tiles.
+    /// Whether they are kept as a product of this many rows and columns of tiles.
     pub(crate) fn is_crossed(&self, rows: usize, cols: usize) -> bool
         ensures { result ≡ true → IsCrossed rows cols self.now }
     {
@@ -44,7 +44,7 @@ impl Boxes {
     }
 }
 
-// The area of this number, where each of these rows is crossed with each of these columns.
+// The area of this number in the product of these rows and these columns.
 fn area_at(rows: &[Span], cols: &[Span], place: usize) -> Option<Area>
     ensures { result ≡ slice_index_or (crossed rows.now cols.now) place None }
 {

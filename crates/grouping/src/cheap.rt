@@ -1,5 +1,5 @@
 #![tactic(auto)]
-//! Functions that take less to compute anew than to store and to read.
+//! Point-wise functions, which cost less to recompute than to store and to read.
 
 ghost use Rattle.std.specs.Prelude.{◌≡◌, ◌≤◌, ◌+◌, true, false, map, slice_get, IfOk, IfSome};
 ghost use Rattle.std.specs.List.{sum, list_all};
@@ -24,18 +24,18 @@ use job::{Body, Formula, Function, Job, JobCase, Read, Stage};
 use std::alloc::{AllocError, Global};
 use tile_boxes::{InlinedStages, in_order, is_function, reads_stored};
 
-/// The most operators and reads that the formulas of a cheap function have together.
+/// The most operators and reads that the formulas of a point-wise function have together.
 const MOST_STEPS: u32 = 8;
 
-/// The most functions that a cheap function is computed anew for.
+/// The most functions for which a point-wise function is recomputed.
 const MOST_READERS: usize = 3;
 
-/// The schedule that inlines cheap functions as well, if each tile then has room in scratch memory, else the same one. Stage by
-/// stage, from the first, it inlines a function that is stored, is no output, has at most eight operators and reads in all,
-/// and no stencil, and reads stored stages alone; two or three stored functions read it, and each of them at the point itself
-/// alone. So it is computed once for each of these, over the very points that they are computed over.
+/// The schedule that also inlines point-wise functions, if each tile then fits in scratch memory; else the same one. Stages are
+/// visited from the first on. A function is inlined if it is stored, is no output, and reads stored stages alone. It has at most
+/// eight operators and reads in all, and no stencil. Two or three stored functions read it, each at the point itself alone. So it
+/// is computed once for each of these, over exactly their points.
 ///
-/// What a job answers is the same: it does not depend on what is inlined.
+/// The answer of the job is the same: it does not depend on what is inlined.
 ///
 /// # Errors
 ///
@@ -53,7 +53,7 @@ pub fn with_cheap_inlined(
     schedule.or_better(alloc, job, inlining)
 }
 
-// What a schedule inlines, and cheap functions as well.
+// What a schedule inlines, and point-wise functions as well.
 #[tactic(auto, using(crate::proofs::CheapOnesAreAdded::adds_none))]
 fn more_inlined(
     alloc: Global,
@@ -75,7 +75,7 @@ fn more_inlined(
     Ok(inlining)
 }
 
-// Whether a stage is a cheap function that may be inlined, and then is computed once for each of those that read it.
+// Whether a stage is a point-wise function that may be inlined, and is then computed once for each of its readers.
 fn takes_less(
     alloc: Global,
     job: &Job,
@@ -120,7 +120,7 @@ fn has_few_steps(stage: &Stage) -> bool
     }
 }
 
-// How many steps a function takes fewer than a cheap one may, if it is cheap.
+// How many steps fewer a function takes than a point-wise one may take, if it is within that limit.
 fn steps_left(given: &Function) -> Option<u32>
     ensures { IfSome result (λ left. left
         + steps_of (function (map case_view given.now.cases.items)
@@ -133,7 +133,7 @@ fn steps_left(given: &Function) -> Option<u32>
     }
 }
 
-// How many steps of so many are left after those of these cases.
+// How many of `steps` steps are left after those of these cases.
 fn after_cases(cases: &[JobCase], steps: u32) -> Option<u32>
     ensures { IfSome result (λ left. left + sum (map steps_of_case (map case_view cases.now))
         ≡ steps) }
@@ -145,25 +145,25 @@ fn after_cases(cases: &[JobCase], steps: u32) -> Option<u32>
     Some(left)
 }
 
-// How many steps of so many are left after those of a formula: an operator is one, and a read is. A stencil takes too many.
+// How many of `steps` steps are left after those of a formula. An operator is one step, and so is a read. A stencil takes too
+// many.
 fn after(formula: &Formula, steps: u32) -> Option<u32>
     ensures { IfSome result (λ left. left + steps_in (formula_view formula.now) ≡ steps) }
 {
     match formula {
         Formula::Number(_) | Formula::Coordinate(_) => Some(steps),
         Formula::Read(_, _, _) => steps.checked_sub(1),
-        Formula::Neg(operand)
-        | Formula::Abs(operand)
+        Formula::Unary(_, operand)
         | Formula::Lookup(_, operand)
         | Formula::Literal(_, operand, _) => after(operand, steps.checked_sub(1)?),
         Formula::Binary(_, left, right) => {
             let rest = after(left, steps.checked_sub(1)?)?;
             after(right, rest)
         }
-        Formula::Clamp(value, least, greatest) => {
-            let rest = after(value, steps.checked_sub(1)?)?;
-            let rest = after(least, rest)?;
-            after(greatest, rest)
+        Formula::Ternary(_, first, second, third) => {
+            let rest = after(first, steps.checked_sub(1)?)?;
+            let rest = after(second, rest)?;
+            after(third, rest)
         }
         Formula::Select(left, _, right, then, otherwise) => {
             let rest = after(left, steps.checked_sub(1)?)?;
@@ -209,7 +209,7 @@ fn all_plain(stage: &Stage, number: usize) -> bool
     true
 }
 
-// Whether it is no read of the stage of this number, or one at the point itself.
+// Whether this is not a read of the stage of this number, or is one at the point itself.
 fn is_plain(read: &Read, number: usize) -> bool
     ensures { result ≡ is_plain number (read_view read.now) }
 {
@@ -219,7 +219,7 @@ fn is_plain(read: &Read, number: usize) -> bool
     }
 }
 
-// Whether an index gives each number itself.
+// Whether an index leaves each number as it is.
 fn is_same(index: &Index) -> bool
     ensures { result ≡ is_same index.now }
 {

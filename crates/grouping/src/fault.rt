@@ -7,10 +7,10 @@ use fault_rows::{Fault, FaultRow, fault_row};
 use std::alloc::AllocError;
 use thiserror::Error;
 
-/// Why a job has no schedule that inlines what is asked for.
+/// Why a job has no schedule that inlines what is requested.
 #[derive(Clone, Copy, Debug, PartialEq, Eq, Error)]
 pub enum ScheduleFault {
-    /// 1: the least output that is asked for. Outputs are stored.
+    /// 1: the least output that is requested. Outputs are stored.
     #[error("stage {0} is an output, and cannot be inlined")]
     OutputInlined(usize),
     /// 2: no memory was left.

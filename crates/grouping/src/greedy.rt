@@ -22,7 +22,7 @@ use job::Job;
 use std::alloc::{AllocError, Global};
 use tile_boxes::{InlinedStages, costs_of, in_order, is_function};
 
-/// What is chosen so far: which functions are inlined, the group of each stage, and how each stage stands.
+/// What is chosen so far: which functions are inlined, the group of each stage, and the status of each stage.
 #[derive(Drop)]
 pub(crate) struct Grouper {
     pub(crate) inlining: InlinedStages,
@@ -94,7 +94,7 @@ impl Grouper {
         })
     }
 
-    // Inlines a function where the rule says so.
+    // Inlines a function if the rule allows it.
     fn visit(
         &mut self,
         alloc: Global,
@@ -130,7 +130,7 @@ impl Grouper {
         self.try_inline(alloc, job, &candidate, percent)
     }
 
-    // Inlines the function if that pays and its group has room.
+    // Inlines the function if that pays and each tile of its group then fits in scratch memory.
     fn try_inline(
         &mut self,
         alloc: Global,
@@ -201,7 +201,7 @@ impl Grouper {
         Ok(costs)
     }
 
-    // What a stage costs, as is kept of it.
+    // What a stage costs, from what is kept of it.
     #[tactic(auto, using(crate::proofs::CostsAreKept::none_inlined, crate::proofs::CostsAreKept::none_without_tiles))]
     fn cost(&self, job: &Job, number: usize) -> Option<u64>
         requires stand { AllStand (pipeline_in job.now) (grouping_of self.now)
@@ -246,7 +246,7 @@ impl Grouper {
     }
 }
 
-// Whether the group takes few enough points with so many more.
+// Whether the group takes few enough points with `added` more.
 fn pays(own: u64, apart: u64, added: u64, percent: u32) -> bool
     requires { percent ≤ 10000 }
     ensures { result ≡ nat_le (100 * (own + added)) ((100 + percent) * (own + apart)) }
@@ -281,7 +281,7 @@ fn cost_at(costs: &[Option<u64>], number: usize) -> u64
     }
 }
 
-// Nothing is in the scratch memory of each tile of a stage.
+// For each tile of a stage 0 points in scratch memory.
 fn no_scratch(alloc: Global, job: &Job, number: usize) -> Result<Vec<u64>, AllocError>
     ensures { IfOk result (λ v. v.items ≡ map (λ a. 0) (areas_at (pipeline_in job.now) number)) }
 {

@@ -1,4 +1,5 @@
-//! What the definitions amount to, proved once for the crates above. A law is a function that does nothing: its clauses are the law.
+//! What the definitions amount to, proved once for the crates above. A law is a function that does nothing: its clauses are the
+//! law.
 
 ghost use Rattle.std.specs.Prelude.{◌≡◌, ◌<◌, ◌↔◌, ℕ, Bool, false, Some, None, List, [], length, slice_get, All, AllPairs, Contains};
 ghost use Rattle.domains.specs.Area.{IsArea, IsSubarea, point_count};
@@ -17,7 +18,9 @@ ghost use Rattle.tile_boxes.specs.Order.{ComesBefore, in_order};
 ghost use Rattle.tile_boxes.specs.Schedules.{all_stored, is_inlined};
 ghost use Rattle.tile_boxes.specs.Targets.{Target, target_over, IsTarget, IsListed, HasWhatItReads, box_by, box, region, boxes};
 
-/// The box of a stage is the hull of what the stages in the target demand of it, each over its own region, cut to its domain.
+/// The box of a stage is a bounding box, intersected with its domain. It bounds what the stages in the target demand of the
+/// stage, each over its own region.
+/// region.
 pub fn boxes_follow_the_rule()
     ensures { (t : Target) (g : ℕ) → IsJob t.job → box t g ≡ box_by t (box t) g }
 {}
@@ -37,7 +40,7 @@ pub fn dependence_order_has_each_stage()
         → All (λ x. ComesBefore stages (stage_read x) g) (reads_of s.body) }
 {}
 
-/// A hull is the least area that holds each of those that it is made of; there is one where these are any.
+/// A bounding box is the least area that contains each of those that it is made of; there is one if there are any.
 pub fn hulls_are_least()
     ensures some { (areas : List Area) (h : Area) → All IsArea areas → hull_of_all areas ≡ Some h
         → IsHullOfAll areas h }
@@ -51,7 +54,7 @@ pub fn tiles_are_targets()
         → IsTarget (target_over job inlining g (tile_area grid i j)) }
 {}
 
-/// Boxes, and the regions of all that is in a target, are areas that lie in the domains. What is listed are functions with
+/// Boxes, and the regions of all stages in a target, are areas that lie in the domains. The listed stages are functions with
 /// their boxes.
 pub fn boxes_lie_in_domains()
     ensures boxes { (t : Target) (g : ℕ) (s : Stage) (a : Area) → IsJob t.job
@@ -70,8 +73,8 @@ pub fn stored_stages_take_no_scratch()
         → points t ≡ point_count t.region }
 {}
 
-/// The greedy grouping has each stage in the group of a stored stage: the one from which a chain of reads leads to it through
-/// inlined functions alone. So groups follow chains on the way, too, when some stages have been visited.
+/// The greedy grouping has each stage in the group of a stored stage. From that stage a chain of reads leads to it through
+/// inlined functions alone. Groups follow chains also while only some stages have been visited.
 pub fn groups_follow_chains()
     ensures stored { (job : Pipeline) (percent x : ℕ) → IsJob job
         → is_inlined (greedy_inlining job percent) (group (greedy_grouping job percent) x)

@@ -12,7 +12,7 @@ use std::marker::Model;
 use tile_boxes::{InlinedStages, TargetWalk, costs_of, first_output_asked, in_order};
 
 /// Which functions are inlined, what the other functions and the accumulators cost, and whether each of their tiles is known to
-/// have room in scratch memory. Contracts see inlining and costs as lists.
+/// fit in scratch memory. Contracts see inlining and costs as lists.
 #[derive(Debug, Drop)]
 pub struct Schedule {
     inlining: InlinedStages,
@@ -55,12 +55,12 @@ impl Schedule {
         Ok(schedule)
     }
 
-    /// The schedule that inlines the functions that are asked for. `inlining` says of each stage whether it is asked for; for
-    /// planes and accumulators that counts as no.
+    /// The schedule that inlines the requested functions. `inlining` specifies for each stage whether it is requested; for planes
+    /// and accumulators that counts as no.
     ///
     /// # Errors
     ///
-    /// Names the least output that is asked for, also where no memory is left. Else fails only where memory is refused.
+    /// Names the least requested output, even if no memory is left. Otherwise fails only where memory is refused.
     pub fn of(alloc: Global, job: &Job, inlining: &[bool]) -> Result<Schedule, ScheduleFault>
         requires each { length inlining.now ≡ length (pipeline_in job.now).stages }
         ensures inlining { IfOk result (λ s. s.inlining
@@ -74,7 +74,7 @@ impl Schedule {
         }
     }
 
-    // The schedule that inlines the functions that are asked for, none of which is an output.
+    // The schedule that inlines the requested functions, none of which is an output.
     fn asked(alloc: Global, job: &Job, asked: &[bool]) -> Result<Schedule, AllocError>
         requires outputs { StoresOutputs (pipeline_in job.now)
             (inlining_for (pipeline_in job.now) asked.now) }
@@ -87,9 +87,9 @@ impl Schedule {
         Ok(schedule)
     }
 
-    /// The greedy schedule. Functions are visited from the last to the first in dependence order. One that is read, and is no
-    /// output, is inlined where one stored stage has all its readers in its tiles, has room there for its boxes in scratch
-    /// memory, and then takes at most `percent` percent more points than both take apart.
+    /// The greedy schedule. Functions are visited from the last to the first in dependence order. A function that is read, and is
+    /// no output, is inlined if one stored stage has all its readers in its tiles. Its boxes must fit in scratch memory there,
+    /// and the stage then takes at most `percent` percent more points than both take apart.
     ///
     /// # Errors
     ///
@@ -116,8 +116,8 @@ impl Schedule {
         &self.inlining
     }
 
-    /// The schedule that inlines cheap functions as well, if it then knows that each tile has room in scratch memory, else the
-    /// same one.
+    /// The schedule that also inlines point-wise functions, if it then knows that each tile fits in scratch memory; else the same
+    /// one.
     pub(crate) fn or_better(
         self,
         alloc: Global,
@@ -157,8 +157,8 @@ impl Schedule {
         self.inlining.inlined(stage)
     }
 
-    /// How many points the tiles of a stored function or of an accumulator take together, with those of what is inlined in
-    /// them; none of other stages.
+    /// How many points the tiles of a stored function or an accumulator take together, including what is inlined in them; none
+    /// for other stages.
     pub fn cost(&self, stage: usize) -> Option<u64>
         ensures { result ≡ slice_index_or self.now.costs stage None }
     {
@@ -168,7 +168,7 @@ impl Schedule {
         }
     }
 
-    /// Whether each tile of a stored function and of an accumulator is known to have room in scratch memory.
+    /// Whether each tile of a stored function and of an accumulator is known to fit in scratch memory.
     pub fn fits(&self) -> bool
         ensures { result ≡ self.now.fits }
     {
@@ -188,8 +188,8 @@ impl Schedule {
         }
     }
 
-    /// The functions of which a target needs something over a region of its domain, but the target itself, each with the
-    /// area that is needed; in dependence order.
+    /// The functions that a target needs over a region of its domain, except the target itself, in dependence order. Each has the
+    /// area that is needed.
     ///
     /// # Errors
     ///

@@ -1,5 +1,5 @@
 #![tactic(auto)]
-//! How a stage stands while the greedy rule goes on.
+//! The status of a stage while the greedy rule runs.
 
 ghost use Rattle.std.specs.Prelude.{◌≡◌, Some};
 ghost use Rattle.grouping.specs.inside.Trials.{kept_cost, kept_box, kept_scratch};
@@ -7,7 +7,7 @@ ghost use Rattle.grouping.specs.inside.Trials.{kept_cost, kept_box, kept_scratch
 use crate::boxes::Boxes;
 use domains::Area;
 
-/// How a stage stands.
+/// The status of a stage.
 #[derive(Drop)]
 pub(crate) enum Standing {
     /// Stored: how many points its tiles take together, and how many each of them has in scratch memory.

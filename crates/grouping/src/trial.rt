@@ -22,8 +22,8 @@ use job::Job;
 use std::alloc::{AllocError, Global};
 use tile_boxes::{MOST_SCRATCH, TargetWalk, areas_of_tiles, no_hulls};
 
-/// A function that may be inlined, the stages that read it, from the last in dependence order to the first, and the stored
-/// stage in whose tiles all these are computed.
+/// A function that may be inlined, and its readers, from the last in dependence order to the first. `group` is the stored stage
+/// in whose tiles all of these are computed.
 #[derive(Drop)]
 pub(crate) struct Candidate {
     pub(crate) number: usize,
@@ -41,7 +41,7 @@ pub(crate) struct Trial {
 }
 
 impl Trial {
-    /// Whether each tile has room in scratch memory.
+    /// Whether each tile fits in scratch memory.
     pub(crate) fn fits(&self) -> bool
         ensures { result ≡ list_all (λ n. nat_le n most_scratch) self.now.scratch.items }
     {
@@ -57,7 +57,7 @@ struct Taken {
 }
 
 impl Taken {
-    // One more tile, with so many points of its box, that has had so many in scratch memory.
+    // Adds a tile whose box has `points` points, and which had `before` points in scratch memory.
     fn add(&mut self, points: u64, before: u64) -> Result<(), AllocError>
         requires added { self.old.added + points < 2 ^ 64 }
         requires scratch { before + points < 2 ^ 64 }
@@ -71,7 +71,7 @@ impl Taken {
     }
 }
 
-/// The same of the tiles so far, one by one.
+/// The same of the tiles so far, with the box in each.
 #[derive(Drop)]
 struct Tried {
     boxes: Vec<Option<Area>>,
@@ -80,7 +80,7 @@ struct Tried {
 }
 
 impl Tried {
-    // None so far, and room for so many.
+    // No tiles so far, with capacity for `count` tiles.
     fn none(alloc: Global, count: usize) -> Result<Tried, AllocError>
         ensures boxes { IfOk result (λ t. t.boxes.items ≡ []) }
         ensures added { IfOk result (λ t. t.added ≡ 0) }
@@ -93,7 +93,7 @@ impl Tried {
         })
     }
 
-    // One more tile, that has had so many points in scratch memory.
+    // Adds a tile with this box, which had `before` points in scratch memory.
     fn add(&mut self, area: Option<Area>, before: u64) -> Result<(), AllocError>
         requires added { self.old.added + points_of_box area < 2 ^ 64 }
         requires scratch { before + points_of_box area < 2 ^ 64 }
@@ -144,7 +144,7 @@ impl Grouper {
         }
     }
 
-    // The boxes of the function, where those in the first row and the first column of tiles tell all.
+    // The boxes of the function, if those in the first row and the first column of tiles determine all.
     fn boxes_across(
         &self,
         alloc: Global,
@@ -220,7 +220,7 @@ impl Grouper {
         Ok(taken)
     }
 
-    // A row of tiles more, from this number on.
+    // Adds a row of tiles, from this number on.
     fn take_row(
         &self,
         job: &Job,
@@ -254,7 +254,7 @@ impl Grouper {
         Ok(())
     }
 
-    // The same over the tiles of its group. The hulls are room to work in.
+    // The same over the tiles of its group. `hulls` is a working buffer.
     fn trial_over(
         &self,
         alloc: Global,
@@ -286,7 +286,7 @@ impl Grouper {
         })
     }
 
-    // The box of the function in the tile that is next.
+    // The box of the function in the next tile.
     fn next_box(
         &self,
         job: &Job,

@@ -4,7 +4,7 @@ use Rattle.domains.specs.declared.area.Area.{Area}
 use Rattle.job.specs.Pipeline.{Stage, Pipeline}
 use Rattle.job.specs.Reads.{stage_read, reads_of}
 
--- a read of stage h stands in an expression of stage g
+-- an expression of stage g has a read of stage h
 pub record DoesRead (job : Pipeline) (g h : ℕ) : Type 0 where
   pub stage : Stage
   pub there : slice_get job.stages g ≡ Some stage

@@ -14,7 +14,7 @@ use Rattle.job.specs.Readers.{grid_at}
 use Rattle.tile_boxes.specs.Schedules.{is_inlined}
 use Rattle.tile_boxes.specs.Targets.{Target, is_boxed, box}
 
--- whether stage g is a function other than the target that is stored
+-- whether stage g is a stored function other than the target
 abbrev pub is_stored : Target → ℕ → Bool
 is_stored t g = is_boxed t g && not (is_inlined t.inlining g)
 
@@ -54,7 +54,7 @@ needed_keys program t = map (key_of program t.job) (needs t)
 
 -- ---- what is in it
 
--- a stored function has a box, and the tile has a point of it
+-- the tile has a point of the box of a stored function
 pub record IsNeeded (t : Target) (n : Tile) : Type 0 where
   pub grid : Grid
   pub there : grid_at t.job n.stage ≡ Some grid

@@ -1,4 +1,4 @@
--- Places: where a stage stands among the steps before the last.
+-- Places: the number of a stage among the steps before the last.
 use Rattle.std.specs.Prelude.{ℕ, suc, ◌<◌, ◌≡◌, ◌≢◌, Some, List, length, slice_get}
 use Rattle.domains.specs.declared.area.Area.{Area}
 

@@ -32,7 +32,7 @@ pub record IsLayout (t : Target) (l : Layout) : Type 0 where
   pub ranges : HaveRoom t l.ranges l.scratch
   pub inlining : l.inlining ≡ t.inlining
 
--- and its inner steps have no more points than may lie in scratch memory
+-- and its inner steps have no more points than scratch memory may have
 pub record IsFittingLayout (t : Target) (l : Layout) : Type 0 where
   pub layout : IsLayout t l
   pub fits : scratch t ≤ most_scratch
@@ -63,13 +63,13 @@ pub record IsFittingPlan (program : List ℕ) (t : Target) (p : Plan) : Type 0 w
   pub plan : IsPlan program t p
   pub fits : scratch t ≤ most_scratch
 
--- what is left of a plan without identities
+-- a plan without its identities
 abbrev pub layout_of : Plan → Layout
 layout_of p =
     record
     { needs = map key_tile p.needs; steps = p.steps; points = p.points; ranges = p.ranges; scratch = p.scratch; inlining = p.inlining }
 
--- why a target has no layout, and no plan. Memory may be refused at any
+-- why a target has neither a layout nor a plan. Memory may be refused for any
 abbrev pub IsTargetFault : Target → PlanFault → Type 0
 IsTargetFault t NoSuchTile = ⊥
 IsTargetFault t ScratchTooBig = most_scratch < scratch t

@@ -14,12 +14,12 @@ abbrev pub IsFree : Target → List (ℕ × ℕ) → ℕ → ℕ × ℕ → Type
 IsFree t ranges k a =
     (l : ℕ) (b : ℕ × ℕ) → l < k → slice_get ranges l ≡ Some b → LivesMeet t.job (steps t) l k → LieApart b a
 
--- all ranges lie in so much scratch memory
+-- all ranges lie in scratch memory of this size
 abbrev pub LieWithin : ℕ → List (ℕ × ℕ) → Type 0
 LieWithin size ranges = All (λ r. r.0 + r.1 ≤ size) ranges
 
--- each step has room for its points, and what is still to be read is not written over. A range starts at the least place where it
--- is free, and scratch memory is no larger than the ranges
+-- each range has the length of its step's points, and what is still to be read is not overwritten. A range starts at the least
+-- place where it is free, and scratch memory is no larger than the ranges
 pub record HaveRoom (t : Target) (ranges : List (ℕ × ℕ)) (size : ℕ) : Type 0 where
   pub lengths : map (λ r. r.1) ranges ≡ map (λ s. point_count s.1) (inner_steps t)
   pub apart : (k l : ℕ) (a b : ℕ × ℕ) → k < l → slice_get ranges k ≡ Some a → slice_get ranges l ≡ Some b

@@ -1,4 +1,4 @@
--- The tiles that are made of a job by a schedule, those from which its answer is put together, and those that lack room.
+-- The tiles that a job computes by a schedule, those that its answer consists of, and those that exceed scratch memory.
 use Rattle.std.specs.Prelude.{ℕ, ◌<◌, ◌≡◌, ◌⊎◌, Bool, true, false, ◌&&◌, ◌||◌, not, nat_lt, Option, List, map, filter, find}
 use Rattle.std.specs.List.{flat_map}
 use Rattle.std.specs.Option.{option_map_or}
@@ -16,7 +16,7 @@ use Rattle.tile_boxes.specs.Schedules.{is_inlined, is_function}
 use Rattle.tile_boxes.specs.Targets.{target_over}
 use Rattle.overlap_tiles.specs.Needs.{key_of, key_tile}
 
--- ---- the stages whose tiles are made
+-- ---- the stages whose tiles are computed
 
 -- a function that is not inlined
 abbrev pub is_stored_function : Pipeline → List Bool → ℕ → Bool
@@ -56,12 +56,12 @@ IsWorkedBefore job m n =
     ComesBefore job.stages m.stage n.stage
     ⊎ ((m.stage ≡ n.stage) × ((m.row < n.row) ⊎ ((m.row ≡ n.row) × (m.col < n.col))))
 
--- ---- room in scratch memory
+-- ---- the capacity of scratch memory
 
 abbrev pub has_tile : Grid → Tile → Bool
 has_tile grid t = nat_lt t.row (tile_rows grid) && nat_lt t.col (tile_cols grid)
 
--- whether a grid has the tile, and what is inlined into it has no room
+-- whether a grid has the tile, and what is inlined into it exceeds scratch memory
 abbrev pub lacks_room_in : Pipeline → List Bool → Tile → Grid → Bool
 lacks_room_in job inlining t grid =
     has_tile grid t && not (has_scratch (target_over job inlining t.stage (tile_area grid t.row t.col)))
@@ -69,6 +69,6 @@ lacks_room_in job inlining t grid =
 abbrev pub lacks_room : Pipeline → List Bool → Tile → Bool
 lacks_room job inlining t = option_map_or (lacks_room_in job inlining t) (grid_at job t.stage) false
 
--- the first of these keys whose tile does
+-- the first of these keys whose tile exceeds scratch memory
 abbrev pub first_without_room : Pipeline → List Bool → List Key → Option Key
 first_without_room job inlining keys = find (λ k. lacks_room job inlining (key_tile k)) keys

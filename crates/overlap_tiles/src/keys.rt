@@ -11,7 +11,7 @@ use identity::Key;
 use job::Job;
 use std::alloc::{AllocError, Global};
 
-/// The keys of these tiles. What the program is given is hashed at most once.
+/// The keys of these tiles. The job's input is hashed at most once.
 pub(crate) fn keys(alloc: Global, job: &Job, needs: &[Need]) -> Result<Vec<Key>, AllocError>
     requires { All (λ n. n.stage < 65536) needs.now }
     ensures { IfOk result (λ keys. keys.items

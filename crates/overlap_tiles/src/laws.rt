@@ -1,4 +1,4 @@
-//! What the definitions amount to, proved once for the crates above. A law is a function that does nothing: its clauses are the law.
+//! Laws of the definitions, proved once for the crates above. A law is a function that does nothing: its clauses are the law.
 
 ghost use Rattle.std.specs.Prelude.{◌≡◌, ◌↔◌, ◌<◌, ◌≤◌, ℕ, Some, slice_get, List, Bool, true, AllPairs, Contains};
 ghost use Rattle.domains.specs.Area.{IsArea, IsSubarea};
@@ -16,8 +16,8 @@ ghost use Rattle.overlap_tiles.specs.Lives.{IsReadAt, LivesMeet};
 ghost use Rattle.overlap_tiles.specs.Ranges.{LieApart, HaveRoom};
 ghost use Rattle.overlap_tiles.specs.Available.{ReadsAvailable};
 
-/// The list of what a target needs has exactly the tiles of stored functions that have a point of their function's box; they
-/// and their keys rise.
+/// The needs of a target are exactly the tiles of stored functions that have a point of their function's box. The tiles and their
+/// keys rise.
 pub fn needs_are_exact()
     ensures all { (t : Target) (n : Tile) → IsJob t.job → IsTarget t → Contains (needs t) n
         ↔ IsNeeded t n }
@@ -37,21 +37,21 @@ pub fn steps_lie_in_domains()
         → IsArea a × IsSubarea a s.domain }
 {}
 
-/// What a step reads is alive at each step from the one that computes it up to the one that reads it, so that the ranges of
-/// those between lie elsewhere.
+/// What a step reads is alive at each step from the one that computes it up to the one that reads it. So the ranges of the steps
+/// between are elsewhere.
 pub fn lives_last_to_the_reader()
     ensures { (job : Pipeline) (steps : List (ℕ × Area)) (k l m : ℕ) → k < l → l ≤ m
         → IsReadAt job steps k m → LivesMeet job steps k l }
 {}
 
-/// While a step is still to be read, no step between writes over its range.
+/// While a step is still to be read, no step between overwrites its range.
 pub fn what_is_read_is_not_written_over()
     ensures { (t : Target) (ranges : List (ℕ × ℕ)) (size k l m : ℕ) (a b : ℕ × ℕ)
         → HaveRoom t ranges size → k < l → l ≤ m → IsReadAt t.job (steps t) k m
         → slice_get ranges k ≡ Some a → slice_get ranges l ≡ Some b → LieApart a b }
 {}
 
-/// A target has one list of ranges with room, in scratch memory of one size.
+/// A target has exactly one list of ranges that satisfies `HaveRoom`, in scratch memory of one size.
 pub fn ranges_are_determined()
     ensures some { (t : Target) → (ranges : List (ℕ × ℕ)) × (size : ℕ) × HaveRoom t ranges size }
     ensures one { (t : Target) (xs : List (ℕ × ℕ)) (m : ℕ) (ys : List (ℕ × ℕ)) (n : ℕ)
@@ -67,7 +67,7 @@ pub fn work_is_exact()
         → AllPairs (IsWorkedBefore job) (work_tiles job inlining) }
 {}
 
-/// The tiles that lack room are those whose plan is refused for that.
+/// A tile exceeds scratch memory exactly where its plan has the fault `ScratchTooBig`.
 pub fn room_is_exact()
     ensures { (job : Pipeline) (inlining : List Bool) (t : Tile)
         → (lacks_room job inlining t ≡ true)

@@ -1,5 +1,5 @@
 #![tactic(auto)]
-//! The layout of a tile: what its plan says without identities.
+//! The layout of a tile: its plan without identities.
 
 ghost use Rattle.std.specs.Prelude.{◌≡◌, ◌≤◌, ◌++◌, ◌∷◌, [], map, IfOk, IfErr, IfSome, IfNone};
 ghost use Rattle.domains.specs.Area.{IsArea};
@@ -27,8 +27,8 @@ use job::Job;
 use std::alloc::{AllocError, Global};
 use std::marker::Model;
 
-/// What makes one tile, without identities: the stored tiles that it needs, what is computed in which order, and where each
-/// step but the last lies in scratch memory, by the schedule that it was made by. Nothing is hashed for it. Only `of` makes one.
+/// How one tile is computed, without identities: the stored tiles that it needs, what is computed in which order, and where each
+/// step but the last lies in scratch memory. It is made by one schedule. Nothing is hashed for it. Only `of` makes one.
 #[derive(Debug, Drop)]
 pub struct Layout<'a> {
     schedule: &'a Schedule,
@@ -121,7 +121,7 @@ impl<'a> Layout<'a> {
         Layout::over(alloc, job, schedule, target, &boxes)
     }
 
-    // The layout of a target whose boxes these are.
+    // The layout of a target that has these boxes.
     fn over(
         alloc: Global,
         job: &Job,
@@ -172,7 +172,7 @@ impl<'a> Layout<'a> {
         &self.steps
     }
 
-    /// How many points that is.
+    /// The number of points that are computed.
     pub(crate) fn points(&self) -> u64
         ensures { result ≡ self.now.points }
     {
@@ -187,14 +187,14 @@ impl<'a> Layout<'a> {
         &self.ranges
     }
 
-    /// How many points the scratch memory has.
+    /// The number of points of the scratch memory.
     pub fn scratch(&self) -> usize
         ensures { result ≡ self.now.scratch }
     {
         self.scratch
     }
 
-    /// The place of this stage among the steps but the last; none where it is not among them.
+    /// The place of this stage among the steps but the last; none if it is not one of them.
     pub fn place(&self, stage: usize) -> Option<usize>
         ensures some { IfSome result (IsPlaceOf self.now.steps stage) }
         ensures none { IfNone result (HasNoPlace self.now.steps stage) }
@@ -202,7 +202,7 @@ impl<'a> Layout<'a> {
         place_in(&self.places, stage)
     }
 
-    /// Whether the stage of this number is inlined by the schedule that it was made by.
+    /// Whether the stage of this number is inlined by the schedule of the layout.
     pub fn inlined(&self, stage: usize) -> bool
         ensures { result ≡ is_inlined self.now.inlining stage }
     {

@@ -22,7 +22,7 @@ fn stage_of(read: &Read) -> usize
     }
 }
 
-// The stage is read at this place.
+// Records that the stage is read at this place.
 fn put(lasts: &mut [usize], stage: usize, place: usize)
     ensures { lasts.new ≡ slice_set lasts.old stage place }
 {
@@ -31,7 +31,7 @@ fn put(lasts: &mut [usize], stage: usize, place: usize)
     }
 }
 
-// Each of these reads is made at this place.
+// Records that each of these reads is made at this place.
 fn mark_reads(lasts: &mut [usize], reads: &[Read], place: usize)
     ensures { lasts.new ≡ marked place lasts.old (map read_view reads.now) }
 {
@@ -40,7 +40,7 @@ fn mark_reads(lasts: &mut [usize], reads: &[Read], place: usize)
     }
 }
 
-/// Enters what a stage reads, whose step stands at this place, behind all steps that were entered before.
+/// Records what a stage reads whose step is at this place, after all steps that were recorded before.
 pub(crate) fn mark(lasts: &mut Vec<usize>, job: &Job, stage: usize, place: usize)
     ensures { lasts.new.items ≡ marked place lasts.old.items (reads_at (pipeline_in job.now) stage) }
 {

@@ -11,7 +11,7 @@ use crate::steps::Step;
 use job::Job;
 use std::alloc::{AllocError, Global};
 
-// The stage has this place.
+// Records that the stage has this place.
 fn put(places: &mut Vec<Option<usize>>, stage: usize, place: usize)
     ensures { places.new.items ≡ slice_set places.old.items stage (Some place) }
 {
@@ -20,7 +20,7 @@ fn put(places: &mut Vec<Option<usize>>, stage: usize, place: usize)
     }
 }
 
-/// The place of a stage by a table.
+/// The place of a stage in a table.
 pub(crate) fn place_in(places: &[Option<usize>], stage: usize) -> Option<usize>
     ensures { result ≡ slice_index_or places.now stage None }
 {
@@ -30,7 +30,7 @@ pub(crate) fn place_in(places: &[Option<usize>], stage: usize) -> Option<usize>
     }
 }
 
-/// A table by the numbers of stages: the place of each among these steps, before any target.
+/// A table by the numbers of stages: the place of each among these steps, which exclude the target.
 pub(crate) fn places(
     alloc: Global,
     job: &Job,

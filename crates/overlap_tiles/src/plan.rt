@@ -18,8 +18,8 @@ use job::Job;
 use std::alloc::Global;
 use std::marker::Model;
 
-/// What makes one tile: the stored tiles that it needs, what is computed in which order, and where each step but the last
-/// lies in scratch memory, by the schedule that it was made by. Only `of` makes one.
+/// How one tile is computed: the stored tiles that it needs, what is computed in which order, and where each step but the last
+/// lies in scratch memory. It is made by one schedule. Only `of` makes one.
 #[derive(Debug, Drop)]
 pub struct TilePlan<'a> {
     layout: Layout<'a>,
@@ -36,8 +36,8 @@ impl<'a> Model for TilePlan<'a> {
 }
 
 impl<'a> TilePlan<'a> {
-    /// The plan of the tile in this row and this column of a function's or accumulator's grid. Its keys name what the program
-    /// is given: where the job does not keep that identity (`Job::keep_input_id`), the picture is hashed for each plan.
+    /// The plan of the tile in this row and this column of a function's or accumulator's grid. Its keys contain the identity of
+    /// the input. If the job does not keep that identity (`Job::keep_input_id`), the picture is hashed for each plan.
     ///
     /// # Errors
     ///
@@ -62,7 +62,7 @@ impl<'a> TilePlan<'a> {
         Ok(TilePlan { layout, needs })
     }
 
-    /// The same without identities. The plan of a tile has the tile's layout.
+    /// The plan without identities, which is the layout of the same tile.
     pub fn layout(&self) -> &Layout<'a>
         ensures same { result.now ≡ layout_of self.now }
         ensures tile { (program : List ℕ) (job : Pipeline) (inlining : List Bool) (g i j : ℕ)
@@ -86,7 +86,7 @@ impl<'a> TilePlan<'a> {
         self.layout.steps()
     }
 
-    /// How many points that is.
+    /// The number of points that are computed.
     pub fn points(&self) -> u64
         ensures { result ≡ self.now.points }
     {
@@ -101,7 +101,7 @@ impl<'a> TilePlan<'a> {
         self.layout.ranges()
     }
 
-    /// How many points the scratch memory has.
+    /// The number of points of the scratch memory.
     pub fn scratch(&self) -> usize
         ensures { result ≡ self.now.scratch }
     {

@@ -21,7 +21,7 @@ pub struct Held {
     last: usize,
 }
 
-// The least start of so many places that meet no held range; these come in the order of their starts.
+// The least start at which `len` places meet no held range. The held ranges are in the order of their starts.
 fn first_gap(held: &[Held], len: usize) -> usize
     requires within { All (λ h. h.start + h.len ≤ most_scratch) held.now }
     requires few { len < 2 ^ 43 }
@@ -37,7 +37,7 @@ fn first_gap(held: &[Held], len: usize) -> usize
     start
 }
 
-// How many of the held ranges come before one with this start.
+// The number of held ranges that come before one with this start.
 fn place(held: &[Held], start: usize) -> usize
     ensures within { result ≤ length held.now }
     ensures put { (new : Range) → new.start ≡ start
@@ -51,7 +51,7 @@ fn place(held: &[Held], start: usize) -> usize
     held.len()
 }
 
-// The range is held too.
+// Adds a held range.
 fn hold(held: &mut Vec<Held>, range: Held) -> Result<(), AllocError>
     ensures { OnOk result (held.new.items ≡ with_held range held.old.items) }
 {
@@ -60,14 +60,14 @@ fn hold(held: &mut Vec<Held>, range: Held) -> Result<(), AllocError>
     Ok(())
 }
 
-// What is read no more from this place on is let go.
+// Frees the ranges that are not read at this place or later.
 fn let_go(held: &mut Vec<Held>, place: usize)
     ensures { held.new.items ≡ still_held place held.old.items }
 {
     held.retain(|range| place <= range.last);
 }
 
-// The start of the range of the step at this place, by how many points it has and by its last reader.
+// The start of the range of the step at this place, by its number of points and its last reader.
 fn lay(held: &mut Vec<Held>, place: usize, len: usize, last: usize) -> Result<usize, AllocError>
     requires within { All (λ h. h.start + h.len ≤ most_scratch) held.old.items }
     requires few { len < 2 ^ 43 }
@@ -81,15 +81,15 @@ fn lay(held: &mut Vec<Held>, place: usize, len: usize, last: usize) -> Result<us
     Ok(start)
 }
 
-// The last reader of a stage by a table.
+// The last reader of a stage in a table.
 fn last_of(lasts: &[usize], stage: usize) -> usize
     ensures { result ≡ slice_index_or lasts.now stage 0 }
 {
     lasts.get(stage).copied().unwrap_or(0)
 }
 
-/// A range for each step, by a table that has for each stage the place of its last reader: its start and its length. In their
-/// order each starts at the least place where it meets no range that is still to be read.
+/// A range for each step: its start and its length. A table has for each stage the place of its last reader. In the order of the
+/// steps each range starts at the least place where it meets no range that is still to be read.
 pub(crate) fn ranges(
     alloc: Global,
     steps: &[Step],
@@ -111,7 +111,7 @@ pub(crate) fn ranges(
     Ok(ranges)
 }
 
-/// The least scratch memory in which these ranges lie.
+/// The size of the least scratch memory that contains these ranges.
 pub(crate) fn size(ranges: &[(usize, usize)]) -> usize
     requires { LieWithin most_scratch ranges.now }
     ensures { result ≡ size_of ranges.now }

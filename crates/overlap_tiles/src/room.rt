@@ -1,5 +1,5 @@
 #![tactic(auto)]
-//! Which tiles lack room in scratch memory.
+//! Which tiles exceed the capacity of scratch memory.
 
 ghost use Rattle.std.specs.Prelude.{◌≡◌, IfOk};
 ghost use Rattle.job.specs.Kept.{pipeline_in};
@@ -37,7 +37,7 @@ pub fn lacks_room(
     Ok(points > MOST_SCRATCH)
 }
 
-/// The first of these keys whose tile lacks room.
+/// The first of these keys whose tile exceeds that capacity.
 ///
 /// # Errors
 ///

@@ -37,7 +37,7 @@ pub(crate) fn inner_steps(
     Ok(steps)
 }
 
-/// These steps, and at last the target.
+/// These steps, and the target as the last.
 pub(crate) fn with_target(steps: Vec<Step>, target: Step) -> Result<Vec<Step>, AllocError>
     ensures { IfOk result (λ all. all.items ≡ steps.items ++ target ∷ []) }
 {
@@ -46,7 +46,7 @@ pub(crate) fn with_target(steps: Vec<Step>, target: Step) -> Result<Vec<Step>, A
     Ok(all)
 }
 
-// An area has few enough points that many areas can be counted.
+// The points of an area are few enough that those of many areas can be added.
 #[tactic(auto, using(crate::proofs::PointsAreFew::few_points))]
 pub(crate) fn points(area: &Area) -> u64
     ensures number { result ≡ point_count area.now }
@@ -55,7 +55,7 @@ pub(crate) fn points(area: &Area) -> u64
     area.points()
 }
 
-/// How many points the areas of the steps have together; none where those are more than may lie in scratch memory.
+/// The points of the steps' areas together; none if they are more than scratch memory may have.
 pub(crate) fn scratch_points(steps: &[Step]) -> Option<u64>
     ensures number { IfSome result (λ n. n ≡ points_in (map step_view steps.now)) }
     ensures few { IfSome result (λ n. n ≤ most_scratch) }

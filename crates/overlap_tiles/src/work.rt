@@ -1,5 +1,5 @@
 #![tactic(auto)]
-//! The tiles that are made of a job by a schedule, and those from which its answer is put together, by their keys.
+//! The keys of the tiles that a job computes by a schedule, and of those that its answer consists of.
 
 ghost use Rattle.std.specs.Prelude.{◌≡◌, ◌++◌, map, filter, length, AllPairs, IfOk, OnOk};
 ghost use Rattle.std.specs.List.{flat_map, range_with_len};
@@ -17,8 +17,8 @@ use identity::Key;
 use job::{Job, StageKind};
 use std::alloc::{AllocError, Global};
 
-/// The keys of all tiles of the stored functions and of the accumulators: stage by stage in dependence order, and row by row.
-/// What the program is given is hashed at most once.
+/// The keys of all tiles of the stored functions and of the accumulators: stage by stage in dependence order, and row by row. The
+/// job's input is hashed at most once.
 ///
 /// # Errors
 ///
@@ -31,8 +31,8 @@ pub fn work_keys(alloc: Global, job: &Job, schedule: &Schedule) -> Result<Vec<Ke
     keys_of_stages(alloc, job, &stages)
 }
 
-/// The keys of the tiles from which the answer of a job is put together, which are those of its outputs and accumulators. They
-/// rise. What the program is given is hashed at most once.
+/// The keys of the tiles that the answer of a job consists of: those of its outputs and accumulators. They rise. The job's input
+/// is hashed at most once.
 ///
 /// # Errors
 ///
@@ -47,7 +47,7 @@ pub fn wanted_keys(alloc: Global, job: &Job) -> Result<Vec<Key>, AllocError>
     Ok(keys)
 }
 
-// Whether the tiles of a stage are made.
+// Whether the tiles of a stage are computed.
 fn is_made(job: &Job, schedule: &Schedule, stage: usize) -> bool
     ensures { result ≡ is_made (pipeline_in job.now) schedule.now.inlining stage }
 {
@@ -58,7 +58,7 @@ fn is_made(job: &Job, schedule: &Schedule, stage: usize) -> bool
     }
 }
 
-// The stages whose tiles are made, in dependence order.
+// The stages whose tiles are computed, in dependence order.
 fn made_stages(alloc: Global, job: &Job, schedule: &Schedule) -> Result<Vec<usize>, AllocError>
     ensures { IfOk result (λ made. made.items
         ≡ filter (is_made (pipeline_in job.now) schedule.now.inlining)
@@ -110,7 +110,7 @@ fn keys_of_stages(alloc: Global, job: &Job, stages: &[usize]) -> Result<Vec<Key>
     Ok(keys)
 }
 
-// Adds the keys of the tiles of a stage. The key that is passed names the program and what it is given.
+// Adds the keys of the tiles of a stage. The key that is passed has the identities of the program and of its input.
 fn add_stage(keys: &mut Vec<Key>, job: &Job, named: &Key, stage: usize) -> Result<(), AllocError>
     requires { Names (program_id_in job.now) (pipeline_in job.now) named.now }
     ensures { OnOk result (keys.new.items

@@ -8,7 +8,7 @@ use Rattle.domains.specs.Index.{Scale, IsIndex, index_at, image_of}
 use Rattle.domains.specs.Area.{HoldsPoint}
 use Rattle.domains.specs.declared.area.Area.{Area}
 use Rattle.domains.proofs.Indices.{index_rises}
-use Rattle.job.specs.Formula.{Formula, number, coordinate, read, neg, binary, literal, abs, lookup, clamp, select, stencil}
+use Rattle.job.specs.Formula.{Formula, number, coordinate, read, unary, binary, ternary, literal, lookup, select, stencil}
 use Rattle.job.specs.Values.{factors, under}
 use Rattle.job.specs.Reads.{Read, point, window, reads_in, EachTaken}
 use Rattle.job.specs.WellFormed.{IsKernel, IsFormula}
@@ -23,14 +23,13 @@ pub reads_are : (f : Formula) → IsFormula f → All IsRead (reads_in f)
 reads_are (number n) h = All-nil IsRead
 reads_are (coordinate x) h = All-nil IsRead
 reads_are (read g i j) h = All-cons IsRead (point g i j) [] h (All-nil IsRead)
-reads_are (neg a) h = reads_are a h
+reads_are (unary op a) h = reads_are a h
 reads_are (binary op a b) h = All-append IsRead (reads_in a) (reads_in b) (reads_are a h.0) (reads_are b h.1)
+reads_are (ternary op a b d) h =
+    All-append IsRead (reads_in a ++ reads_in b) (reads_in d)
+    (All-append IsRead (reads_in a) (reads_in b) (reads_are a h.0) (reads_are b h.1)) (reads_are d h.2)
 reads_are (literal op a n) h = reads_are a h.1
-reads_are (abs a) h = reads_are a h
 reads_are (lookup t a) h = reads_are a h.1
-reads_are (clamp a low high) h =
-    All-append IsRead (reads_in a ++ reads_in low) (reads_in high)
-    (All-append IsRead (reads_in a) (reads_in low) (reads_are a h.0) (reads_are low h.1)) (reads_are high h.2)
 reads_are (select a relation b first second) h =
     All-append IsRead (reads_in a ++ reads_in b ++ reads_in first) (reads_in second)
     (All-append IsRead (reads_in a ++ reads_in b) (reads_in first)

@@ -51,13 +51,13 @@ stage_cost job inlining g (Some s) = if has_tiles s.body && not (is_inlined inli
 abbrev pub cost : Pipeline → List Bool → ℕ → Option ℕ
 cost job inlining g = stage_cost job inlining g (slice_get job.stages g)
 
--- ---- room in scratch memory
+-- ---- capacity of scratch memory
 
--- what is inlined in a target has room
+-- what is inlined in a target fits in scratch memory
 abbrev pub has_scratch : Target → Bool
 has_scratch t = nat_le (scratch t) most_scratch
 
--- so it has in each tile of a stage that has a cost
+-- so it does in each tile of a stage that has a cost
 abbrev pub stage_fits : Pipeline → List Bool → ℕ → Option Stage → Bool
 stage_fits job inlining g None = true
 stage_fits job inlining g (Some s) =

@@ -22,7 +22,7 @@ pub record Demand : Type 0 where
 abbrev pub meet_of_areas : Area → Area → Option Area
 meet_of_areas a b = if_some (common_of a b)
 
--- so many numbers more on each side
+-- n more numbers on each side
 abbrev pub widened : ℕ → Ends → Ends
 widened n s = record { lo = s.lo -ℤ pos n; hi = s.hi +ℤ pos n }
 
@@ -33,7 +33,7 @@ image_under (point g i j) region = record { rows = image_of i region.rows; cols 
 image_under (window g kernel) region =
     record { rows = widened (length kernel / 2) region.rows; cols = widened (length (factors kernel 0) / 2) region.cols }
 
--- the hull of an area and of those before it, if there are any
+-- the bounding box of an area and of those before it, if there are any
 abbrev pub hull_with : Option Area → Area → Area
 hull_with None a = a
 hull_with (Some h) a = area_hull h a
@@ -41,7 +41,7 @@ hull_with (Some h) a = area_hull h a
 abbrev pub grown_by : Option Area → Area → Option Area
 grown_by h a = Some (hull_with h a)
 
--- the least area that holds all of these; none where there are none
+-- the bounding box of all of these; none if there are none
 abbrev pub hull_of_all : List Area → Option Area
 hull_of_all areas = fold grown_by None areas
 

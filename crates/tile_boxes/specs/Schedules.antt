@@ -1,4 +1,4 @@
--- Schedules. A schedule says of each stage whether it is inlined, that is computed anew inside each tile that needs it, or stored
+-- Schedules. A schedule specifies for each stage whether it is inlined, that is recomputed in each tile that needs it, or stored
 -- once.
 use Rattle.std.specs.Prelude.{ℕ, ◌<◌, ◌≡◌, Bool, true, false, ◌&&◌, List, map, length, slice_get, slice_index_or}
 use Rattle.std.specs.List.{range_with_len}
@@ -23,7 +23,7 @@ pub record IsSchedule (job : Pipeline) (inlining : List Bool) : Type 0 where
   pub functions : (g : ℕ) → is_inlined inlining g ≡ true → is_function job g ≡ true
   pub inner : (g : ℕ) → is_inlined inlining g ≡ true → is_output job g ≡ false
 
--- what is inlined where these are asked for: of them the functions alone
+-- what is inlined if these are requested: only the functions among them
 abbrev pub inlining_for : Pipeline → List Bool → List Bool
 inlining_for job asked = map (λ g. is_inlined asked g && is_function job g) (range_with_len 0 (length job.stages))
 

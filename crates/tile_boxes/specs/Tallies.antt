@@ -1,5 +1,5 @@
--- How the code adds up costs: the tiles of a stage as a list of areas, and over each of them the boxes stage by stage. What the
--- contracts of costs.rt cite; that it comes to the cost of Costs is proved.
+-- How the code adds up costs: the tiles of a stage as a list of areas, and over each of them the boxes stage by stage. The
+-- contracts of costs.rt cite this; that it equals the cost of Costs is proved.
 use Rattle.std.specs.Prelude.{ℕ, Bool, ◌&&◌, not, if◌then◌else◌, List, map, slice_get}
 use Rattle.std.specs.List.{sum, flat_map, range_with_len, list_all}
 use Rattle.std.specs.Option.{option_map_or}
@@ -14,11 +14,11 @@ use Rattle.tile_boxes.specs.Schedules.{is_inlined}
 use Rattle.tile_boxes.specs.Targets.{Target, target_over, is_boxed, box}
 use Rattle.tile_boxes.specs.Costs.{points, has_scratch, stage_fits}
 
--- the areas of the tiles in one row, of so many columns, and in all rows
+-- the areas of the tiles in one row, of cols columns, and in all rows
 abbrev pub row_areas : Grid → ℕ → ℕ → List Area
 row_areas g i cols = map (λ j. tile_area g i j) (range_with_len 0 cols)
 
--- the columns of the tiles in a row, so many, and the area of these rows and of some columns
+-- the columns of the tiles in a row, of which there are cols, and the area of these rows and of some columns
 abbrev pub columns_of : Grid → ℕ → List Ends
 columns_of g cols = map (λ j. (tile_area g 0 j).cols) (range_with_len 0 cols)
 
@@ -36,7 +36,7 @@ over t a = target_over t.job t.inlining t.stage a
 abbrev pub inner_points : Target → ℕ → ℕ
 inner_points t g = if is_inlined t.inlining g && is_boxed t g then option_map_or point_count (box t g) 0 else 0
 
--- the points over several regions, and whether there is room in scratch memory for each
+-- the points over several regions, and whether each of them fits in scratch memory
 abbrev pub points_over : Target → List Area → ℕ
 points_over t areas = sum (map (λ a. points (over t a)) areas)
 
@@ -49,10 +49,10 @@ all_have_scratch t areas = list_all (λ a. has_scratch (over t a)) areas
 abbrev pub over_domain : Pipeline → List Bool → ℕ → Stage → Target
 over_domain job inlining g s = target_over job inlining g s.domain
 
--- whether there is room for each tile of each of these stages that has a cost
+-- whether each tile of each of these stages that has a cost fits in scratch memory
 abbrev pub all_stages_fit : Pipeline → List Bool → List ℕ → Bool
 all_stages_fit job inlining gs = list_all (λ g. stage_fits job inlining g (slice_get job.stages g)) gs
 
--- whether none of what is read is inlined
+-- whether no stage that is read is inlined
 abbrev pub reads_stored : List Bool → List Read → Bool
 reads_stored inlining reads = list_all (λ x. not (is_inlined inlining (stage_read x))) reads

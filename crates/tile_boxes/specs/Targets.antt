@@ -1,4 +1,4 @@
--- Boxes. A target is a stage over a region of its domain; with it go the inlined functions that it needs, each over its box.
+-- Boxes. A target is a stage over a region of its domain. With it come the inlined functions that it needs, each over its box.
 use Rattle.std.specs.Prelude.{ℕ, zero, suc, ◌==◌, ℤ, ◌≡◌, Bool, true}
 use Rattle.std.specs.Prelude.{◌&&◌, not, if◌then◌else◌, Option, Some, None, List, [], ◌∷◌, slice_get}
 use Rattle.std.specs.List.{flat_map}
@@ -52,11 +52,11 @@ cut_to None hull = None
 cut_to (Some s) None = None
 cut_to (Some s) (Some hull) = meet_of_areas hull s.domain
 
--- the box of a stage by the boxes of those that read it: the hull of what is demanded of it, cut to its domain
+-- the box of a stage by the boxes of its readers: the bounding box of what is demanded of it, intersected with its domain
 abbrev pub box_by : Target → (ℕ → Option Area) → ℕ → Option Area
 box_by t boxes g = cut_to (slice_get t.job.stages g) (hull_of_all (areas_of g (all_demands_by t boxes)))
 
--- the boxes that so many steps of the rule give
+-- the boxes after so many steps of the rule
 abbrev pub box_within : Target → ℕ → ℕ → Option Area
 box_within t zero g = None
 box_within t (suc n) g = box_by t (box_within t n) g

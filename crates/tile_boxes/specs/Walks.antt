@@ -1,5 +1,5 @@
--- How the code finds boxes: one walk over the stages, each before those that it reads. It keeps for each stage the hull of what has
--- been demanded of it; that this gives the boxes of Targets is proved.
+-- How the code finds boxes: one walk over the stages, each before those that it reads. It keeps for each stage the bounding box
+-- of what has been demanded of it; that this gives the boxes of Targets is proved.
 use Rattle.std.specs.Prelude.{ℕ, Option, None, List, slice_get, slice_set, slice_index_or, if◌then◌else◌, [], map}
 use Rattle.std.specs.List.{fold}
 use Rattle.domains.specs.declared.area.Area.{Area}
@@ -19,7 +19,7 @@ pub record InDomainRanges (a : Area) : Type 0 where
 abbrev pub target_of : TargetWalk → Target
 target_of s = target_over (pipeline_in s.job.now) s.schedule.now s.stage s.region
 
--- a hull for each stage, and one more demand
+-- a bounding box for each stage, with one more demand
 abbrev pub demanded : List (Option Area) → Demand → List (Option Area)
 demanded hulls d = slice_set hulls d.stage (grown_by (slice_index_or hulls d.stage None) d.area)
 
@@ -30,17 +30,17 @@ demanded_all hulls demands = fold demanded hulls demands
 abbrev pub no_hulls : List Stage → List (Option Area)
 no_hulls stages = map (λ s. None) stages
 
--- a hull, cut to the domain
+-- a bounding box, intersected with the domain
 abbrev pub cut_hull : List Stage → List (Option Area) → ℕ → Option Area
 cut_hull stages hulls g = cut_to (slice_get stages g) (slice_index_or hulls g None)
 
--- what a stage demands comes in, then what the next one does
+-- what a stage demands is added, then what the next one does
 abbrev pub walked_one : Target → List (Option Area) → ℕ → List (Option Area)
 walked_one t hulls g = demanded_all hulls (demands_by t (cut_hull t.job.stages hulls) g)
 
 abbrev pub walked : Target → List (Option Area) → List ℕ → List (Option Area)
 walked t hulls gs = fold (walked_one t) hulls gs
 
--- a function other than the target, with its hull, cut to the domain
+-- a function other than the target, with its bounding box, intersected with the domain
 abbrev pub numbered_hull : Target → List (Option Area) → ℕ → List (ℕ × Area)
 numbered_hull t hulls g = if is_boxed t g then with_number g (cut_hull t.job.stages hulls g) else []

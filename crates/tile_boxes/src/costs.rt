@@ -74,7 +74,7 @@ pub fn areas_of_tiles(alloc: Global, grid: &Grid) -> Result<Vec<Area>, AllocErro
     Ok(areas)
 }
 
-/// How many points some tiles take together, and whether each has room in scratch memory.
+/// How many points some tiles take together, and whether each of them fits in scratch memory.
 #[derive(Clone, Copy)]
 pub(crate) struct Tally {
     pub points: u64,
@@ -82,7 +82,7 @@ pub(crate) struct Tally {
 }
 
 impl Tally {
-    // One more tile, with so many points in scratch memory and so many of its own.
+    // Adds one tile, with `scratch` points in scratch memory and `own` points of its own.
     fn with(self, scratch: u64, own: u64) -> Tally
         requires few { self.points + (scratch + own) < 2 ^ 64 }
         ensures points { result.points ≡ self.points + (scratch + own) }
@@ -138,7 +138,7 @@ impl TargetWalk<'_> {
         total
     }
 
-    /// The points of the boxes of what is inlined.
+    /// The points of the boxes of inlined functions.
     ///
     /// # Errors
     ///
@@ -152,7 +152,7 @@ impl TargetWalk<'_> {
         Ok(self.inner_sum(&hulls, order))
     }
 
-    // The points of the boxes of what is inlined; none of a stage that reads nothing of it.
+    // The points of the boxes of inlined functions; none for a stage that reads no inlined function.
     fn scratch_unless(
         &self,
         alloc: Global,
@@ -256,7 +256,7 @@ pub(crate) fn tally_of(
     Ok(Some(walk.tally(alloc, order, &areas, is_alone)?))
 }
 
-/// What the stages of a job cost, and whether each of their tiles has room in scratch memory.
+/// What the stages of a job cost, and whether each of their tiles fits in scratch memory.
 #[derive(Drop)]
 pub struct Survey {
     pub costs: Vec<Option<u64>>,

@@ -24,7 +24,7 @@ pub fn common(one: &Area, other: &Area) -> Option<Area>
     one.meet(other)
 }
 
-// The number so many below.
+// The number that is less by `by`.
 #[tactic(auto, using(std::proofs::lemmas::Int::ints))]
 fn below(v: i32, by: usize) -> i32
     requires few { by ≤ 7 }
@@ -35,7 +35,7 @@ fn below(v: i32, by: usize) -> i32
     v - by as i32
 }
 
-// The number so many above.
+// The number that is greater by `by`.
 #[tactic(auto, using(std::proofs::lemmas::Int::ints))]
 fn above(v: i32, by: usize) -> i32
     requires few { by ≤ 7 }
@@ -46,7 +46,7 @@ fn above(v: i32, by: usize) -> i32
     v + by as i32
 }
 
-// So many numbers more on each side.
+// A span with `by` more numbers on each side.
 fn widened(span: &Span, by: usize) -> Span
     requires near { InDomainRange span.now }
     requires few { by ≤ 7 }
@@ -92,7 +92,7 @@ fn image_of_kernel(kernel: &Kernel, region: &Area) -> Area
     }
 }
 
-// The hull of an area and of those before it.
+// The bounding box of an area and of those before it.
 fn grown(hull: &Option<Area>, area: Area) -> Option<Area>
     ensures { result ≡ grown_by hull.now area }
 {
@@ -122,8 +122,7 @@ fn demand_reads(hulls: &mut [Option<Area>], formula: &Formula, region: &Area)
         Formula::Read(stage, row, column) => {
             demand(hulls, *stage, image_of_point(row, column, region));
         }
-        Formula::Neg(operand)
-        | Formula::Abs(operand)
+        Formula::Unary(_, operand)
         | Formula::Lookup(_, operand)
         | Formula::Literal(_, operand, _) => {
             demand_reads(hulls, operand, region);
@@ -132,10 +131,10 @@ fn demand_reads(hulls: &mut [Option<Area>], formula: &Formula, region: &Area)
             demand_reads(hulls, left, region);
             demand_reads(hulls, right, region);
         }
-        Formula::Clamp(value, least, greatest) => {
-            demand_reads(hulls, value, region);
-            demand_reads(hulls, least, region);
-            demand_reads(hulls, greatest, region);
+        Formula::Ternary(_, first, second, third) => {
+            demand_reads(hulls, first, region);
+            demand_reads(hulls, second, region);
+            demand_reads(hulls, third, region);
         }
         Formula::Select(left, _, right, then, otherwise) => {
             demand_reads(hulls, left, region);
@@ -186,7 +185,7 @@ fn demand_other(hulls: &mut [Option<Area>], otherwise: &Option<Formula>, region:
     }
 }
 
-/// What a stage demands over a region comes in.
+/// Adds what a stage demands over a region.
 pub(crate) fn demand_all(hulls: &mut [Option<Area>], body: &Body, region: &Area)
     requires formulas { All IsFormula (formulas_of (body_view body.now)) }
     requires near { InDomainRanges region.now }

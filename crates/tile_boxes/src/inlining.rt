@@ -40,7 +40,7 @@ impl InlinedStages {
         Ok(InlinedStages { inlining })
     }
 
-    /// The stages that are asked for, but for planes and accumulators.
+    /// The requested stages, except for planes and accumulators.
     ///
     /// # Errors
     ///
@@ -63,7 +63,7 @@ impl InlinedStages {
         is_among_inlined(&self.inlining, stage)
     }
 
-    /// The same once more.
+    /// A copy.
     ///
     /// # Errors
     ///
@@ -91,7 +91,7 @@ impl InlinedStages {
     }
 }
 
-/// The least output that is asked for. No memory is taken.
+/// The least output that is requested. It allocates no memory.
 pub fn first_output_asked(job: &Job, asked: &[bool]) -> Option<usize>
     ensures some { IfSome result
         (IsInlinedOutput (pipeline_in job.now) (inlining_for (pipeline_in job.now) asked.now)) }

@@ -28,7 +28,7 @@ impl TargetWalk<'_> {
     ghost use Rattle.tile_boxes.specs.Walks.{InDomainRanges, target_of, demanded_all, no_hulls, cut_hull, walked_one};
     ghost use Rattle.tile_boxes.specs.Walks.{walked, numbered_hull};
 
-    /// The hull of what is demanded of a stage, cut to its domain.
+    /// The bounding box of what is demanded of a stage, intersected with its domain.
     pub fn box_of(&self, hulls: &[Option<Area>], number: usize) -> Option<Area>
         ensures is { result ≡ cut_hull (pipeline_in self.now.job.now).stages hulls.now number }
         ensures near { IfSome result InDomainRanges }
@@ -55,7 +55,7 @@ impl TargetWalk<'_> {
         }
     }
 
-    // What a stage in the target demands comes in.
+    // Adds what a stage in the target demands.
     fn visit(&self, hulls: &mut [Option<Area>], number: usize)
         requires target { IsTarget (target_of self.now) }
         ensures { hulls.new ≡ walked_one (target_of self.now) hulls.old number }
@@ -64,7 +64,7 @@ impl TargetWalk<'_> {
         self.demand(hulls, number, region);
     }
 
-    /// What a stage demands over a region, if it has one, comes in.
+    /// Adds what a stage demands over a region, if it has one.
     pub fn demand(&self, hulls: &mut [Option<Area>], number: usize, region: Option<Area>)
         requires near { IfSome region InDomainRanges }
         ensures { hulls.new
@@ -87,7 +87,7 @@ impl TargetWalk<'_> {
         }
     }
 
-    // The hulls of all that the stages in the target demand.
+    // The bounding boxes of all that the stages in the target demand.
     pub(crate) fn hulls(
         &self,
         alloc: Global,
@@ -122,7 +122,7 @@ impl TargetWalk<'_> {
         }
     }
 
-    // The functions but the target that have a box, with their boxes, in this order.
+    // The functions other than the target that have a box, with their boxes, in this order.
     fn listed(
         &self,
         alloc: Global,
@@ -141,7 +141,7 @@ impl TargetWalk<'_> {
         Ok(found)
     }
 
-    /// The functions but the target that have a box, with their boxes, in dependence order.
+    /// The functions other than the target that have a box, with their boxes, in dependence order.
     ///
     /// # Errors
     ///

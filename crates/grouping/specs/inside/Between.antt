@@ -1,6 +1,6 @@
--- How the code spares itself walks: the box of a function in a tile that has its rows in common with one tile, and its columns with
--- another, has its rows in common with the box in the one, and its columns with that in the other, where the cases of all readers
--- count in all three.
+-- How the code avoids walks. A tile has its rows in common with one tile, and its columns with another. If the cases of all
+-- readers count in all three, the box of a function there has the rows of its box in the one and the columns of its box in the
+-- other.
 use Rattle.std.specs.Prelude.{ℕ, ◌+◌, ◌*◌, ◌<◌, ◌≡◌, ◌==◌, Bool, true, is_some, if◌then◌else◌, Option, Some, None, List, length, slice_get, All}
 use Rattle.std.specs.List.{list_all}
 use Rattle.domains.specs.Span.{Ends}
@@ -30,7 +30,7 @@ meets_cases (plane n) region = true
 meets_cases (function cases otherwise) region = list_all (λ (p : JobCase). meets_box region p.box) cases
 meets_cases (accumulator fold bins value bin) region = true
 
--- a stage that is there has a region, and this meets all of its cases
+-- the stage exists and has a region, which meets all of its cases
 abbrev pub IsWhole : Option Stage → Option Area → Type 0
 IsWhole None o = ⊥
 IsWhole (Some s) None = ⊥
@@ -38,7 +38,7 @@ IsWhole (Some s) (Some region) = meets_cases s.body region ≡ true
 
 -- ---- regions
 
--- the region of stage r in a tile of stage h, as is kept
+-- the region of stage r in a tile of stage h, as it is kept
 abbrev pub kept_region : List Standing → ℕ → Spot → ℕ → Option Area
 kept_region standings h spot r = if r == h then Some spot.tile else kept_box (slice_get standings r) spot.place
 
@@ -51,7 +51,7 @@ IsBetween (Some a) (Some left) (Some top) = (a.rows ≡ left.rows) × (a.cols �
 
 -- ---- tiles
 
--- the tile of this number of a stage, as is kept
+-- the tile of stage h with this number has this area
 abbrev pub IsSpot : Pipeline → ℕ → Spot → Type 0
 IsSpot job h spot = slice_get (areas_at job h) spot.place ≡ Some spot.tile
 
@@ -60,7 +60,7 @@ pub record HasWhole (job : Pipeline) (c : Grouper) (k : Candidate) (spot : Spot)
   pub is : box (target_over job c.inlining k.group spot.tile) k.number ≡ Some area
   pub readers : All (λ r. IsWhole (slice_get job.stages r) (kept_region c.standings.items k.group spot r)) k.readers.items
 
--- what is known of tiles: where a box is kept of one, it is that
+-- what is known of tiles: if a box is kept for a tile, the function has it there, and all of its readers are whole there
 abbrev pub AreWhole : Pipeline → Grouper → Candidate → List (Option Area) → Type 0
 AreWhole job c k wholes =
     (spot : Spot) (area : Area) → IsSpot job k.group spot → slice_get wholes spot.place ≡ Some (Some area) → HasWhole job c k spot area
@@ -71,14 +71,15 @@ AreWhole job c k wholes =
 abbrev pub spot_of : Grid → ℕ → ℕ → Spot
 spot_of g i j = record { place = i * tile_cols g + j; tile = tile_area g i j }
 
--- the region of stage r in each tile has its rows in common with that in the first one of the row, and its columns with that in
--- the first one of the column
+-- the region of stage r is separable. In each tile its rows are those of its region in the first tile of the row, and its columns
+-- those in the first tile of the column
 abbrev pub LiesAcross : List Standing → ℕ → Grid → ℕ → Type 0
 LiesAcross standings h g r =
     (i j : ℕ) → HasTile g i j → IsBetween (kept_region standings h (spot_of g i j) r) (kept_region standings h (spot_of g i 0) r)
     (kept_region standings h (spot_of g 0 j) r)
 
--- in each of so many tiles the function has a box and all of its readers are whole; these are the rows, or the columns, of the boxes
+-- in each of these n tiles the function has a box and all of its readers are whole; sides are the rows, or the columns, of the
+-- boxes
 pub record AreSides (job : Pipeline) (c : Grouper) (k : Candidate) (spot : ℕ → Spot) (side : Area → Ends) (n : ℕ) (sides : List Ends)
     : Type 0 where
   pub count : length sides ≡ n

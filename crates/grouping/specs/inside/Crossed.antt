@@ -1,5 +1,5 @@
--- How the code keeps the boxes of an inlined function: one for each tile of its group, or rows for each row of tiles and columns for
--- each column of tiles.
+-- How the code keeps the boxes of an inlined function. It keeps one for each tile of its group, or the rows for each row of tiles
+-- and the columns for each column of tiles.
 use Rattle.std.specs.Prelude.{ℕ, ◌≡◌, Option, Some, List, map, length}
 use Rattle.std.specs.List.{flat_map}
 use Rattle.domains.specs.Span.{Ends}
@@ -8,7 +8,7 @@ use Rattle.tile_boxes.specs.Tallies.{area_of}
 use Rattle.grouping.specs.declared.boxes.Boxes.{Boxes}
 use Rattle.grouping.specs.declared.boxes.Boxes.TheVariants.{Each, Crossed}
 
--- the areas of these rows and these columns, row by row
+-- the product of these rows and these columns, row by row
 abbrev pub crossed : List Ends → List Ends → List (Option Area)
 crossed rows cols = flat_map (λ r. map (λ c. Some (area_of r c)) cols) rows
 
@@ -17,7 +17,7 @@ abbrev pub boxes_in : Boxes → List (Option Area)
 boxes_in (Each boxes) = boxes.items
 boxes_in (Crossed spans) = crossed spans.rows.items spans.cols.items
 
--- so many rows and columns of tiles are crossed
+-- the boxes are a product of n rows and m columns
 abbrev pub IsCrossed : ℕ → ℕ → Boxes → Type 0
 IsCrossed n m (Each boxes) = ⊥
 IsCrossed n m (Crossed spans) = (length spans.rows.items ≡ n) × (length spans.cols.items ≡ m)

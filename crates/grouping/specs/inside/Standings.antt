@@ -1,5 +1,5 @@
--- How the code keeps account while the greedy rule goes on: of a stored stage its cost and what each of its tiles has in scratch
--- memory, of an inlined function its box in each tile of its group.
+-- What the code keeps while the greedy rule runs: of a stored stage its cost and what each of its tiles has in scratch memory; of
+-- an inlined function its box in each tile of its group.
 use Rattle.std.specs.Prelude.{ℕ, ◌<◌, ◌≤◌, ◌≡◌, Bool, true, false, Option, Some, None, List, [], map, length, slice_get}
 use Rattle.std.specs.Option.{option_map_or}
 use Rattle.domains.specs.declared.area.Area.{Area}
@@ -30,8 +30,7 @@ boxes_by_tile job inlining h g = map (λ a. box (target_over job inlining h a) g
 
 -- ---- standings
 
--- a stored stage is its own group; n is what its tiles cost, and tiles is what each of them has in scratch memory, where there
--- is room for that
+-- a stored stage is its own group; n is what its tiles cost, and tiles is what each of them has in scratch memory, where it fits
 pub record StandsStored (job : Pipeline) (c : Grouping) (g n : ℕ) (tiles : List ℕ) : Type 0 where
   pub stored : is_inlined c.inlining g ≡ false
   pub own : group c g ≡ g
@@ -39,8 +38,8 @@ pub record StandsStored (job : Pipeline) (c : Grouping) (g n : ℕ) (tiles : Lis
   pub in_scratch : tiles ≡ scratch_by_tile job c.inlining g
   pub room : stage_fits job c.inlining g (slice_get job.stages g) ≡ true
 
--- the group of an inlined function is a stored stage of greater rank; tiles are the function's boxes in the group's tiles, and
--- over other stored stages it has none
+-- the group of an inlined function is a stored stage of greater rank; tiles are the function's boxes in the group's tiles. Over
+-- other stored stages it has no box
 pub record StandsInlined (job : Pipeline) (c : Grouping) (g : ℕ) (tiles : List (Option Area)) : Type 0 where
   pub inlined : is_inlined c.inlining g ≡ true
   pub at_group : is_inlined c.inlining (group c g) ≡ false
@@ -49,12 +48,12 @@ pub record StandsInlined (job : Pipeline) (c : Grouping) (g : ℕ) (tiles : List
   pub elsewhere : (h : ℕ) (a : Area) → is_inlined c.inlining h ≡ false → (h ≡ group c g → ⊥)
       → box (target_over job c.inlining h a) g ≡ None
 
--- a stage stands as what is kept of it says
+-- the status of a stage is the one that is kept of it
 abbrev pub Stands : Pipeline → Grouping → ℕ → Standing → Type 0
 Stands job c g (Stored points tiles) = StandsStored job c g points tiles.items
 Stands job c g (Inlined tiles) = StandsInlined job c g (boxes_in tiles)
 
--- each stage stands so
+-- each stage has the status that is kept of it
 pub record AllStand (job : Pipeline) (c : Grouping) (standings : List Standing) : Type 0 where
   pub inlining : length c.inlining ≡ length job.stages
   pub groups : length c.groups ≡ length job.stages

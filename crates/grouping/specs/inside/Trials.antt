@@ -1,4 +1,4 @@
--- How the code tries a function: its boxes in the tiles of the group of its readers, and what they add to cost and scratch memory.
+-- How the code tries a function: its boxes in the tiles of its readers' group, and what they add to cost and scratch memory.
 use Rattle.std.specs.Prelude.{ℕ, ◌+◌, ◌<◌, ◌≡◌, Bool, true, false, Option, Some, None, List, map, length, take, slice_get, slice_index_or}
 use Rattle.std.specs.List.{sum}
 use Rattle.std.specs.Option.{option_map_or}
@@ -58,7 +58,7 @@ pub record IsCandidate (job : Pipeline) (c : Grouping) (k : Candidate) : Type 0 
   pub read : k.readers.items ≡ readers job k.number
   pub shared : common_group c k.readers.items ≡ Some k.group
 
--- a walk over the tile of this number of a group, where all that is kept stands
+-- a walk over the tile of this number of a group, where each stage has the status that is kept of it
 pub record IsOverTile (c : Grouper) (place : ℕ) (w : TargetWalk) : Type 0 where
   pub target : IsTarget (target_of w)
   pub inlining : w.schedule.now ≡ c.inlining
@@ -81,7 +81,7 @@ pub record AreTaken (job : Pipeline) (inlining : List Bool) (h g n : ℕ) (t : T
   pub added : t.added ≡ sum (map points_of_box (take n (boxes_by_tile job inlining h g)))
   pub in_scratch : t.scratch.items ≡ take n (scratch_with job inlining h g)
 
--- from tile number n on the boxes have these rows, and one after the other these columns
+-- from tile number n on the boxes have these rows, and one after another these columns
 abbrev pub IsRowOfBoxes : Pipeline → List Bool → ℕ → ℕ → ℕ → Ends → List Ends → Type 0
 IsRowOfBoxes job inlining h g n rows cols =
     (j : ℕ) (c : Ends) → slice_get cols j ≡ Some c

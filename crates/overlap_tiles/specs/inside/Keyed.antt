@@ -1,4 +1,4 @@
--- The keys of tiles, as the code makes them from one that names the program, what it is given, and the stage.
+-- The keys of tiles, as the code makes them from one key that has the identities and the stage.
 use Rattle.std.specs.Prelude.{ℕ, ◌≡◌, List, map}
 use Rattle.std.specs.List.{range_with_len}
 use Rattle.identity.specs.declared.key.Key.{Key}
@@ -13,7 +13,7 @@ key_at k t = record { program = k.program; input = k.input; stage = k.stage; row
 abbrev pub row_keys : Key → ℕ → ℕ → List Key
 row_keys k n i = map (λ j. key_at k (i, j)) (range_with_len 0 n)
 
--- it names this program, and what it is given
+-- it has the identities of this program and of its input
 pub record Names (id : List ℕ) (job : Pipeline) (k : Key) : Type 0 where
   pub program : k.program ≡ id
   pub input : k.input ≡ input_id job

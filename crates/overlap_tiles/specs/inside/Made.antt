@@ -26,17 +26,17 @@ stage_needs job inlining boxes g = if is_inlined inlining g then [] else tiles_o
 
 -- ---- the last reader of each stage, in a table by their numbers
 
--- the step at place n makes these reads
+-- the table after the step at place n made these reads
 abbrev pub marked : ℕ → List ℕ → List Read → List ℕ
 marked n lasts [] = lasts
 marked n lasts (r ∷ rs) = marked n (slice_set lasts (stage_read r) n) rs
 
--- steps from place n on
+-- the table after steps from place n on
 abbrev pub marked_by : Pipeline → ℕ → List ℕ → List (ℕ × Area) → List ℕ
 marked_by job n lasts [] = lasts
 marked_by job n lasts (s ∷ ss) = marked_by job (suc n) (marked n lasts (reads_at job s.0)) ss
 
--- none is read yet
+-- the table before any read
 abbrev pub unread : Pipeline → List ℕ
 unread job = replicate (length job.stages) 0
 
@@ -46,25 +46,25 @@ last_readers job steps = marked_by job 0 (unread job) steps
 
 -- ---- ranges, the held ones in the order of their starts
 
--- those that are still read at place k or later
+-- the ranges that are still read at place k or later
 abbrev pub still_held : ℕ → List Held → List Held
 still_held k held = filter (λ h. nat_le k h.last) held
 
--- the least start, not below the given one, of so many places that meet no held range
+-- the least start, not below the given one, at which `len` places meet no held range
 abbrev pub first_gap : ℕ → ℕ → List Held → ℕ
 first_gap len start [] = start
 first_gap len start (h ∷ hs) = if nat_le (start + len) h.start then start else first_gap len (max start (h.start + h.len)) hs
 
--- one more range in its place
+-- one more range, inserted by its start
 abbrev pub with_held : Held → List Held → List Held
 with_held new [] = new ∷ []
 with_held new (h ∷ hs) = if nat_lt new.start h.start then new ∷ h ∷ hs else h ∷ with_held new hs
 
--- the range of the step at place k, by how many points it has and by its last reader
+-- the range of the step at place k, by its number of points and its last reader
 abbrev pub held_by : ℕ → List Held → ℕ × ℕ → Held
 held_by k held s = record { start = first_gap s.0 0 (still_held k held); len = s.0; last = s.1 }
 
--- what is held after it
+-- the held ranges after it
 abbrev pub held_after : ℕ → List Held → ℕ × ℕ → List Held
 held_after k held s = with_held (held_by k held s) (still_held k held)
 
@@ -73,7 +73,7 @@ abbrev pub laid : ℕ → List Held → List (ℕ × ℕ) → List Held
 laid k held [] = []
 laid k held (s ∷ ss) = held_by k held s ∷ laid (suc k) (held_after k held s) ss
 
--- what is laid of a step
+-- the points and the last reader of a step
 abbrev pub laid_of : List ℕ → ℕ × Area → ℕ × ℕ
 laid_of lasts s = (point_count s.1, slice_index_or lasts s.0 0)
 
@@ -84,7 +84,7 @@ range_of h = (h.start, h.len)
 abbrev pub ranges_by : List ℕ → List (ℕ × Area) → List (ℕ × ℕ)
 ranges_by lasts inner = map range_of (laid 0 [] (map (laid_of lasts) inner))
 
--- the least scratch memory in which ranges lie
+-- the size of the least scratch memory that contains the ranges
 abbrev pub size_of : List (ℕ × ℕ) → ℕ
 size_of ranges = greatest (map (λ r. r.0 + r.1) ranges)
 
