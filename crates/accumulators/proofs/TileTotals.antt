@@ -6,7 +6,7 @@ use Rattle.domains.specs.Span.{Ends}
 use Rattle.domains.specs.Tiles.{HasTile, tile_area}
 use Rattle.domains.specs.declared.area.Area.{Area}
 use Rattle.domains.specs.declared.grid.Grid.{Grid}
-use Rattle.domains.specs.declared.operators.Fold.{Fold}
+use Rattle.operators.specs.declared.operator.Fold.{Fold}
 use Rattle.job.specs.Answers.{grid_of, has_tiles}
 use Rattle.job.specs.Identity.{HasTileAt}
 use Rattle.job.specs.Pipeline.{Pipeline}

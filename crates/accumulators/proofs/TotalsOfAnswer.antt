@@ -9,7 +9,7 @@ use Rattle.domains.proofs.Spans.{length-numbers_from}
 use Rattle.domains.specs.Span.{Ends, len_of, numbers_of}
 use Rattle.domains.specs.Tiles.{tiles_of}
 use Rattle.domains.specs.declared.grid.Grid.{Grid}
-use Rattle.domains.specs.declared.operators.Fold.{Fold}
+use Rattle.operators.specs.declared.operator.Fold.{Fold}
 use Rattle.job.specs.Answers.{grid_of, has_tiles, is_accumulator}
 use Rattle.job.specs.Pipeline.{Body, plane, function, accumulator, Pipeline, Stage}
 use Rattle.job.specs.Readers.{fold_of, bins_of, stage_fold, stage_bins, stage_grid, grid_at}

@@ -12,7 +12,7 @@ use Rattle.tile_run.specs.declared.fault.RunFault.TheVariants.{ScratchTooBig, Me
 use Rattle.accumulators.specs.declared.answer.Answer.{Answer}
 use Rattle.accumulators.specs.declared.answer.Total.{Total}
 
--- a stage, its first bin, and what is in its bins from there on
+-- a stage, its first bin, and the values of its bins from there on
 pub record Gathered : Type 0 where
   pub stage : ℕ
   pub lo : ℤ
@@ -21,7 +21,7 @@ pub record Gathered : Type 0 where
 abbrev pub gathered : Total → Gathered
 gathered t = record { stage = t.stage; lo = t.lo; bins = t.bins.items }
 
--- what a stage gathered, if it is an accumulator
+-- the totals of a stage, if it is an accumulator
 abbrev pub body_gathered : Pipeline → ℕ → Body → List Gathered
 body_gathered job g (accumulator way bins value bin) = record { stage = g; lo = bins.lo; bins = totals job g } ∷ []
 body_gathered job g (plane n) = []
@@ -30,7 +30,7 @@ body_gathered job g (function cases otherwise) = []
 abbrev pub gathered_at : Pipeline → ℕ → List Gathered
 gathered_at job g = option_map_or (λ s. body_gathered job g s.body) (slice_get job.stages g) []
 
--- what all accumulators gathered, in the order of the stages
+-- the totals of all accumulators, in the order of the stages
 abbrev pub all_gathered : Pipeline → List Gathered
 all_gathered job = flat_map (gathered_at job) (range_with_len 0 (length job.stages))
 
@@ -41,12 +41,12 @@ pub record IsAnswer (job : Pipeline) (answer : Answer) : Type 0 where
 
 -- ---- why a job has no answer
 
--- the first tile without room: of stored functions, or, where all of these have room, of accumulators
+-- the first tile that does not fit into scratch memory: of stored functions, or if all of these fit, of accumulators
 abbrev pub first_lacking_room : Pipeline → List Bool → Option Tile
 first_lacking_room job inlining =
     option_or (first_too_big job inlining (is_stored_function job inlining)) (first_too_big job inlining (is_accumulator_at job))
 
--- a tile has no room, and none before it; memory may be refused at any
+-- the key is that of the first tile that does not fit into scratch memory; memory may be refused at any time
 abbrev pub IsEvaluationFault : List ℕ → Pipeline → List Bool → RunFault → Type 0
 IsEvaluationFault program job inlining (ScratchTooBig key) = option_map (key_of program job) (first_lacking_room job inlining) ≡ Some key
 IsEvaluationFault program job inlining Memory = Unit {0}

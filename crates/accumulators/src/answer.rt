@@ -21,7 +21,7 @@ use std::alloc::Global;
 use std::thread::Threads;
 use tile_run::{RunFault, Stored, Uses, Work, first_too_big, run_kept};
 
-/// What an accumulator gathered: its stage, its first bin, and what is in its bins from there on.
+/// The totals of an accumulator: its stage, its first bin, and the values of its bins from there on.
 #[derive(Debug, Drop)]
 pub struct Total {
     pub stage: usize,
@@ -36,13 +36,13 @@ pub struct Answer {
     pub totals: Vec<Total>,
 }
 
-/// The answer of a job, from the tiles of all stored functions. The picture is made row by row, and the totals are put together
-/// tile by tile as they are made, by several threads where the work is worth it.
+/// Computes the answer of a job from the tiles of all stored functions. The picture is made row by row. The totals are joined
+/// tile by tile as the tiles are made, by several threads where the work is worth it.
 ///
 /// # Errors
 ///
-/// Fails where a tile of an accumulator takes too much scratch memory, with the first by dependence order, row and column, before
-/// anything is computed; and where memory is refused.
+/// Fails before anything is computed if a tile of an accumulator takes too much scratch memory. The fault names the first such
+/// tile by dependence order, row and column. Fails also where memory is refused.
 pub fn answer_of(
     rt: &(impl Threads + Sync),
     alloc: Global,
@@ -74,15 +74,15 @@ pub fn answer_of(
     Ok(Answer { picture, totals })
 }
 
-/// The answer of a job. Of the stored functions those are made that an output or an accumulator needs, each after those that it
-/// reads, and each is kept only as long as it is read. An output that nothing else reads is put into the picture as its tiles are
-/// made, one row of them after the other. Several threads part the rows of tiles of a stage where the work is worth it.
+/// Computes the answer of a job. Only stored functions that an output or an accumulator needs are made, each after those that it
+/// reads. Each is freed after its last reader. An output that nothing else reads goes into the picture as its tiles are made, row
+/// by row. Several threads share the rows of tiles of a stage where the work is worth it.
 ///
 /// # Errors
 ///
-/// Fails where a tile of a stored function takes too much scratch memory, with the first by dependence order, row and column; where all
-/// of these have room, and a tile of an accumulator has not, with the first of these; both before anything is computed; and where
-/// memory is refused.
+/// Fails before anything is computed if a tile of a stored function takes too much scratch memory. The fault names the first such
+/// tile by dependence order, row and column. If all of these fit, it names the first tile of an accumulator that does not. Fails
+/// also where memory is refused.
 pub fn evaluate(
     rt: &(impl Threads + Sync),
     alloc: Global,

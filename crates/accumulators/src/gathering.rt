@@ -1,5 +1,5 @@
 #![tactic(auto)]
-//! Totals that are put together from partials, whoever made them.
+//! Totals that are accumulated from partials, wherever these were made.
 
 ghost use Rattle.std.specs.Prelude.{◌≡◌, ◌++◌, ◌∷◌, [], false, ℕ, ℤ, List, length, IfSome, IfNone, IfOk};
 ghost use Rattle.domains.specs.Span.{len_of};
@@ -12,13 +12,14 @@ ghost use Rattle.accumulators.specs.Gatherings.{HasTaken, gathered_from};
 
 use crate::answer::Total;
 use crate::running::Gathering;
-use domains::{Fold, Span};
+use domains::Span;
 use job::Job;
+use operators::Fold;
 use reductions::{join_into, starts};
 use std::alloc::{AllocError, Global};
 
 impl Gathering {
-    /// Begins with what the bins start from.
+    /// Begins with the initial values of the bins.
     pub(crate) fn begin(
         alloc: Global,
         stage: usize,
@@ -38,7 +39,8 @@ impl Gathering {
         })
     }
 
-    /// What an accumulator gathers before any partial came in: each bin has what it starts from. There is nothing of other stages.
+    /// The state of an accumulator before its first partial: each bin has its initial value. None if the stage is not an
+    /// accumulator.
     ///
     /// # Errors
     ///
@@ -55,7 +57,7 @@ impl Gathering {
         }
     }
 
-    /// Joins a partial to what came in before. Takes no memory.
+    /// Joins a partial to those that came in before. Allocates no memory.
     pub fn take(&mut self, partial: &[i64])
         requires { length partial.now ≡ len_of self.old.span }
         ensures stage { self.new.stage ≡ self.old.stage }
@@ -70,7 +72,7 @@ impl Gathering {
         join_into(self.op, &mut self.bins, partial);
     }
 
-    /// What was gathered.
+    /// The totals of all partials that came in.
     pub fn into_total(self) -> Total
         ensures total { gathered result
             ≡ record { stage = self.stage; lo = self.span.lo; bins = self.bins.items } }

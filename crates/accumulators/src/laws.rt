@@ -1,4 +1,5 @@
-//! What the definitions amount to, proved once for the crates above. A law is a function that does nothing: its clauses are the law.
+//! Consequences of the definitions, proved once for dependent crates. A law is a function that does nothing: its clauses are the
+//! law.
 
 ghost use Rattle.std.specs.Prelude.{◌≡◌, ℕ, ℤ, Bool, Option, Some, List, map, slice_get, IsPermutation};
 ghost use Rattle.domains.specs.Area.{HoldsPoint, IsArea};
@@ -24,13 +25,13 @@ pub fn partials_join()
         → joined_over job g (grid_of job s) tiles ≡ totals job g }
 {}
 
-/// Where what is given is true, the picture that it gives is the job's.
+/// If the supplied tiles are true, the picture that they give is the job's.
 pub fn true_tiles_give_the_image()
     ensures { (job : Pipeline) (given : KnownTiles) → IsJob job → AreTrue job given
         → GivesOutputs job given → given_image job given ≡ image job }
 {}
 
-/// The totals over the tiles of an accumulator, come in each once and in any order, are what it gathers.
+/// The totals over the tiles of an accumulator, each joined once and in any order, are the accumulator's totals.
 pub fn taken_partials_give_totals()
     ensures { (job : Pipeline) (g : ℕ) (s : Stage) (tiles : List (ℕ × ℕ)) → IsJob job
         → slice_get job.stages g ≡ Some s → IsPermutation (tiles_of (grid_of job s)) tiles
@@ -39,8 +40,8 @@ pub fn taken_partials_give_totals()
         ≡ gathered_at job g }
 {}
 
-/// Where what is given is true, what an accumulator gathers from it is what it gathers over the area: where all that it reads there is
-/// at hand, and so on with what is inlined.
+/// If the supplied tiles are true, the totals over an area that are computed from them are the accumulator's totals over that
+/// area. All that it reads there must be available, directly or through inlined functions whose reads are.
 pub fn true_tiles_give_totals()
     ensures { (job : Pipeline) (inlining : List Bool) (given : KnownTiles) (boxes : ℕ → Option Area)
         (g : ℕ) (s : Stage) (area : Area) → IsJob job → slice_get job.stages g ≡ Some s

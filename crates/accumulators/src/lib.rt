@@ -1,4 +1,4 @@
-//! The answer of a job: the picture of its output, and what its accumulators gather over all tiles.
+//! The answer of a job: the picture of its output, and the totals of its accumulators over all tiles.
 #![tactic(auto)]
 
 mod answer;

@@ -1,5 +1,5 @@
 #![tactic(auto)]
-//! The picture of a job, of which only those tiles are kept that something else reads.
+//! The picture of a job. Of its tiles, only those that something else reads are kept.
 
 ghost use Rattle.std.specs.Prelude.{◌≡◌, true, false, map, All, IfOk};
 ghost use Rattle.std.specs.Option.{ForSome};
@@ -21,7 +21,7 @@ use std::alloc::{AllocError, Global};
 use std::thread::Threads;
 use tile_run::{StageRun, Uses};
 
-/// A job whose output is made, and which of its stored functions anything reads.
+/// A job whose output is made, and which of its stored functions are read.
 #[derive(Clone, Copy)]
 pub(crate) struct Outputs<'a> {
     pub(crate) of: Computed<'a>,
@@ -93,7 +93,7 @@ impl Outputs<'_> {
         Ok(planes)
     }
 
-    // The plane of one: from its tiles, where these are kept for what reads them, or else as they are made.
+    // The plane of one function: from its tiles if these are kept for their readers, else from the tiles as they are made.
     fn plane(
         &self,
         rt: &(impl Threads + Sync),
@@ -118,7 +118,7 @@ impl Outputs<'_> {
         known.plane(alloc, stage, max)
     }
 
-    // That of a function that nothing else reads.
+    // The plane of a function that nothing else reads.
     fn streamed_plane(
         &self,
         rt: &(impl Threads + Sync),

@@ -1,11 +1,12 @@
-//! What an accumulator gathered so far.
+//! The totals of an accumulator so far.
 
 ghost use Rattle.std.specs.Prelude.{◌≡◌, length};
 ghost use Rattle.domains.specs.Span.{len_of};
 
-use domains::{Fold, Span};
+use domains::Span;
+use operators::Fold;
 
-/// What an accumulator gathered in its bins from the partials that came in so far.
+/// The bins of an accumulator, with all partials that came in so far.
 #[derive(Drop)]
 pub struct Gathering {
     pub(crate) stage: usize,

@@ -1,5 +1,5 @@
 #![tactic(auto)]
-//! The totals of a job, from tiles that are joined as they are made.
+//! The totals of a job, joined from tiles as these are made.
 
 ghost use Rattle.std.specs.Prelude.{◌≡◌, ◌<◌, ◌++◌, ◌∷◌, [], map, fold, All, IfOk, IfSome, IfNone, OnOk};
 ghost use Rattle.std.specs.List.{range_with_len};
@@ -25,10 +25,10 @@ use std::alloc::{AllocError, Global};
 use std::thread::Threads;
 use tile_run::{TileJob, least_rows};
 
-// How many points a row of tiles has for each bin, at least, where the rows are parted among threads.
+// Least number of points per bin in a row of tiles at which the rows are split among threads.
 const POINTS_OF_BIN: u64 = 16;
 
-/// An accumulator of a job, whose totals are put together.
+/// An accumulator of a job, whose totals are computed.
 #[derive(Clone, Copy)]
 pub(crate) struct Accumulation<'a> {
     of: Computed<'a>,
@@ -38,7 +38,7 @@ pub(crate) struct Accumulation<'a> {
 }
 
 impl Computed<'_> {
-    /// The totals of all accumulators, in the order of the stages, where each of their tiles has room in scratch memory.
+    /// The totals of all accumulators, in the order of the stages, if each of their tiles fits into scratch memory.
     #[tactic(auto, using(tile_boxes::proofs::Lists::flat_map_range_more))]
     pub(crate) fn totals(
         &self,
@@ -113,7 +113,7 @@ fn accumulator_at(job: &Job, stage: usize) -> Option<&Accumulator>
 }
 
 impl Accumulation<'_> {
-    // What it gathered over all tiles.
+    // Its totals over all tiles.
     fn total(
         &self,
         rt: &(impl Threads + Sync),
@@ -157,14 +157,14 @@ impl Accumulation<'_> {
         Ok(())
     }
 
-    // Whether a row of tiles has few points for each bin, so that to clear and to join bins for each row costs more than threads gain.
+    // Whether a row of tiles has few points per bin. Clearing and joining the bins of each row then costs more than threads gain.
     fn has_many_bins(&self) -> bool {
         let bins = u64::from(self.accumulator.bins().len());
         let rows = u64::from(self.grid.tile_rows());
         self.grid.area.points() < POINTS_OF_BIN.saturating_mul(bins).saturating_mul(rows)
     }
 
-    // The totals over each row of tiles, by several threads, each of which has so many rows at least.
+    // The totals over each row of tiles, by several threads. Each thread has at least a given number of rows.
     fn totals_of_rows(
         &self,
         rt: &(impl Threads + Sync),

@@ -1,10 +1,10 @@
-//! Memory in which totals are put together.
+//! Memory in which totals are computed.
 
 use reductions::RowsRoom;
 use std::alloc::Global;
 use tile_run::Scratch;
 
-/// Memory in which the totals over tiles are put together, kept from one to the next. What it holds means nothing between calls.
+/// Memory in which the totals over tiles are computed, reused from one to the next. Its content is unspecified between calls.
 #[derive(Drop)]
 pub(crate) struct TotalsRoom {
     pub(crate) scratch: Scratch,

@@ -8,7 +8,7 @@ use Rattle.domains.specs.Span.{Ends, numbers_of}
 use Rattle.domains.specs.Tiles.{IsGrid, tile_area, tiles_of}
 use Rattle.domains.specs.declared.area.Area.{Area}
 use Rattle.domains.specs.declared.grid.Grid.{Grid}
-use Rattle.domains.specs.declared.operators.Fold.{Fold}
+use Rattle.operators.specs.declared.operator.Fold.{Fold}
 use Rattle.job.specs.Answers.{grid_of}
 use Rattle.job.specs.Formula.{Formula}
 use Rattle.job.specs.Pipeline.{Body, plane, function, accumulator, Stage, Pipeline}

@@ -1,10 +1,10 @@
--- What an accumulator gathers over a tile from the numbers that are given, and how that is joined.
+-- What an accumulator accumulates over a tile from the supplied numbers, and how that is joined.
 use Rattle.std.specs.Prelude.{ℕ, ℤ, ◌≡◌, Bool, true, List, [], fold, slice_get}
 use Rattle.std.specs.Option.{option_map_or}
 use Rattle.domains.specs.Tiles.{tile_area}
 use Rattle.domains.specs.declared.area.Area.{Area}
 use Rattle.domains.specs.declared.grid.Grid.{Grid}
-use Rattle.domains.specs.declared.operators.Fold.{Fold}
+use Rattle.operators.specs.declared.operator.Fold.{Fold}
 use Rattle.job.specs.Pipeline.{Body, plane, function, accumulator, Pipeline}
 use Rattle.job.specs.Totals.{body_totals, totals_over}
 use Rattle.overlap_tiles.specs.Plans.{Plan, IsTileAt, IsTilePlan}
@@ -15,8 +15,8 @@ use Rattle.reductions.specs.Bins.{starts, joined_bins}
 
 -- ---- over a tile
 
--- the totals of accumulator g over an area, where reads of stored functions take the numbers that are given, and reads of inlined
--- functions their local values
+-- the totals of accumulator g over an area: reads of stored functions take the supplied numbers, and reads of inlined functions
+-- their local values
 abbrev pub local_totals : Pipeline → List Bool → KnownTiles → Area → ℕ → List ℤ
 local_totals job inlining given area g =
     option_map_or (λ s. body_totals (read_from job inlining given (local_value job inlining given)) area s.body) (slice_get job.stages g) []
@@ -25,7 +25,7 @@ local_totals job inlining given area g =
 abbrev pub AreLocalTotals : Pipeline → List Bool → KnownTiles → ℕ → ℕ → ℕ → List ℤ → Type 0
 AreLocalTotals job inlining given g i j bins = (area : Area) → IsTileAt job g i j area → bins ≡ local_totals job inlining given area g
 
--- bins are joined with what accumulator g gathers over its tile in row i and column j
+-- bins are joined with what accumulator g accumulates over its tile in row i and column j
 abbrev pub TookLocalTotals : Pipeline → List Bool → KnownTiles → ℕ → ℕ → ℕ → Fold → List ℤ → List ℤ → Type 0
 TookLocalTotals job inlining given g i j way old new =
     (area : Area) → IsTileAt job g i j area → new ≡ joined_bins way old (local_totals job inlining given area g)
@@ -45,7 +45,7 @@ pub record IsAccumulatorPlan (program : List ℕ) (job : Pipeline) (p : Plan) : 
 
 -- ---- joined
 
--- what the bins of a stage start from, and what they are once the totals over some tiles came in, one after the other
+-- what the bins of a stage start from, joined with the totals over some tiles one after the other
 abbrev pub body_joined : Pipeline → ℕ → Grid → List (ℕ × ℕ) → Body → List ℤ
 body_joined job g grid tiles (accumulator way bins value bin) =
     fold (λ xs t. joined_bins way xs (totals_over job (tile_area grid t.0 t.1) g)) (starts way bins) tiles

@@ -1,4 +1,4 @@
-//! What an accumulator gathers over one tile, from tiles that are given.
+//! What an accumulator accumulates over one tile, from supplied tiles.
 #![tactic(auto)]
 
 mod partials;

@@ -1,5 +1,5 @@
 #![tactic(auto)]
-//! What an accumulator gathers over a tile, from what is given.
+//! What an accumulator accumulates over a tile, from what is supplied.
 
 ghost use Rattle.std.specs.Prelude.{◌≡◌, ℕ, Bool, List, None, IfOk, IfErr, OnOk, OnErr};
 ghost use Rattle.job.specs.Kept.{pipeline_in, program_id_in};
@@ -21,8 +21,8 @@ use reductions::{RowsRoom, starts};
 use std::alloc::{AllocError, Global};
 use tile_sources::Known;
 
-// Joins to each bin what an accumulator gathers in it over the last step's area. All memory is grown before the first value is
-// computed.
+// Joins to each bin what an accumulator accumulates in it over the last step's area. All buffers are grown before the first value
+// is computed.
 fn gather_onto<K: Known>(
     alloc: Global,
     tile: &TileJob<'_, K>,
@@ -51,11 +51,11 @@ fn gather_onto<K: Known>(
     Ok(())
 }
 
-/// Joins to each bin what an accumulator gathers in it over its tile.
+/// Joins to each bin what an accumulator accumulates in it over its tile.
 ///
 /// # Errors
 ///
-/// Fails only where memory is refused, with the bins as they were.
+/// Fails only where memory is refused; then the bins are unchanged.
 pub fn tile_onto<K: Known>(
     alloc: Global,
     tile: &TileJob<'_, K>,
@@ -82,7 +82,7 @@ pub fn tile_onto<K: Known>(
     gather_onto(alloc, tile, step, accumulator, scratch, rows, bins)
 }
 
-// What an accumulator gathers over the last step's area.
+// What an accumulator accumulates over the last step's area.
 fn gather_tile<K: Known>(
     alloc: Global,
     tile: &TileJob<'_, K>,
@@ -113,7 +113,7 @@ fn gather_tile<K: Known>(
     Ok(bins)
 }
 
-// What the last step's stage gathers over its area; nothing if it is no accumulator.
+// What the last step's stage accumulates over its area; nothing if it is no accumulator.
 fn gather_step<K: Known>(
     alloc: Global,
     tile: &TileJob<'_, K>,
@@ -136,7 +136,7 @@ fn gather_step<K: Known>(
     }
 }
 
-/// What the tile's stage gathers in its bins, rising, if it is an accumulator.
+/// What the tile's stage accumulates in its bins, rising, if it is an accumulator.
 ///
 /// # Errors
 ///
@@ -159,12 +159,13 @@ pub(crate) fn tile_totals<K: Known>(
     gather_step(alloc, tile, step, scratch)
 }
 
-/// What an accumulator gathers in its bins over a tile, rising, by the tile's plan and from what is given, whatever that is. Where
-/// all that is given is true, it is what the job gathers there.
+/// What an accumulator accumulates in its bins over a tile, rising, by the tile's plan and from whatever is supplied. If all that
+/// is supplied is true, it is what the job accumulates there.
 ///
 /// # Errors
 ///
-/// Fails where a tile that the plan needs is not given, with the least, before memory is taken; and where memory is refused.
+/// Fails with the least tile that the plan needs and that is not supplied, before memory is allocated; and where memory is
+/// refused.
 pub fn partial<K: Known>(
     alloc: Global,
     job: &Job,

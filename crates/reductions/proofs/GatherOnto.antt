@@ -4,7 +4,7 @@ use Rattle.std.specs.Prelude.{map}
 use Rattle.std.proofs.lemmas.List.{length-map}
 use Rattle.domains.specs.Span.{len_of, numbers_of}
 use Rattle.domains.proofs.Spans.{length-numbers_from}
-use Rattle.domains.specs.declared.operators.Fold.{Fold}
+use Rattle.operators.specs.declared.operator.Fold.{Fold}
 use Rattle.job.specs.Totals.{start_of, total_of, joined}
 use Rattle.job.proofs.Joining.{total_of-append}
 use Rattle.job.proofs.TotalLaws.{map_same}

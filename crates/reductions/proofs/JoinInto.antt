@@ -1,7 +1,7 @@
 -- Bins that are joined place by place.
 use Rattle.std.proofs.Common.{arith, suc, ◌≡◌, ℤ, List, [], ◌∷◌, length, ap, ◌∙◌, refl}
 use Rattle.std.specs.Prelude.{map, fold}
-use Rattle.domains.specs.declared.operators.Fold.{Fold}
+use Rattle.operators.specs.declared.operator.Fold.{Fold}
 use Rattle.job.specs.Totals.{joined}
 use Rattle.tile_eval.specs.Rows.{EachPlace, at}
 use Rattle.reductions.specs.Bins.{joined_bins}

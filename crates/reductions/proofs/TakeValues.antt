@@ -14,7 +14,7 @@ use Rattle.domains.specs.Pairs.{pairs}
 use Rattle.domains.specs.Span.{Ends, Holds, IsSpan, len_of, numbers_from, numbers_of}
 use Rattle.domains.proofs.Lengths.{len_is}
 use Rattle.domains.proofs.Spans.{length-numbers_from}
-use Rattle.domains.specs.declared.operators.Fold.{Fold}
+use Rattle.operators.specs.declared.operator.Fold.{Fold}
 use Rattle.job.specs.Totals.{start_of, joined}
 use Rattle.tile_eval.specs.Rows.{EachPlace, at}
 use Rattle.reductions.specs.Bins.{starts}

@@ -12,7 +12,7 @@ use Rattle.domains.specs.Span.{numbers_of}
 use Rattle.domains.specs.Tiles.{IsGrid, part_of, tile_area, tile_rows, tile_cols, tiles_of}
 use Rattle.domains.specs.declared.grid.Grid.{Grid}
 use Rattle.domains.proofs.PairLists.{row_of}
-use Rattle.domains.specs.declared.operators.Fold.{Fold}
+use Rattle.operators.specs.declared.operator.Fold.{Fold}
 use Rattle.job.specs.Totals.{start_of, joined}
 use Rattle.reductions.proofs.TotalsInAnyOrder.{total_by_values, total_of-none, joined-exchange, starts_join, total_among}
 use Rattle.reductions.proofs.TotalsInAnyOrder.{total_among-append, total_of-permuted}

@@ -10,8 +10,8 @@ use Rattle.std.proofs.lemmas.List.{map-append}
 use Rattle.std.proofs.lemmas.List.Elements.{All-contains, filter-append}
 use Rattle.std.proofs.lemmas.List.Sorted.{IsPermutation-sym, Contains-permutation, sum_by-IsPermutation}
 use Rattle.domains.specs.Arithmetic.{wrapped_long}
-use Rattle.domains.specs.declared.operators.Fold.{Fold}
-use Rattle.domains.specs.declared.operators.Fold.TheVariants.{Sum, Min, Max}
+use Rattle.operators.specs.declared.operator.Fold.{Fold}
+use Rattle.operators.specs.declared.operator.Fold.TheVariants.{Sum, Min, Max}
 use Rattle.job.specs.Totals.{start_of, total_of, joined}
 use Rattle.job.proofs.Joining.{total_of-append}
 

@@ -1,10 +1,10 @@
--- What bins start from, and how bins are joined with bins.
+-- The start values of bins, and the join of bins with bins.
 use Rattle.std.specs.Prelude.{ℤ, List, map, zip}
 use Rattle.domains.specs.Span.{Ends, numbers_of}
-use Rattle.domains.specs.declared.operators.Fold.{Fold}
+use Rattle.operators.specs.declared.operator.Fold.{Fold}
 use Rattle.job.specs.Totals.{start_of, joined}
 
--- what each bin starts from
+-- the start value of each bin
 abbrev pub starts : Fold → Ends → List ℤ
 starts way bins = map (λ b. start_of way) (numbers_of bins)
 

@@ -1,4 +1,4 @@
--- Rows by which an accumulator gathers over an area, and which stage an accumulator is.
+-- Row buffers with which an accumulator accumulates over an area, and which stage an accumulator is.
 use Rattle.std.specs.Prelude.{ℕ, ◌≡◌, ◌≤◌, Some, length, slice_get}
 use Rattle.domains.specs.Span.{len_of}
 use Rattle.domains.specs.declared.area.Area.{Area}
@@ -8,7 +8,7 @@ use Rattle.job.specs.Views.{formula_view}
 use Rattle.reductions.specs.declared.rows_room.RowsRoom.{RowsRoom}
 use Rattle.reductions.specs.Accumulating.{HasRoomAlong}
 
--- there is room for a row of values, a row of their bins, and operands
+-- there is capacity for a row of values, a row of their bins, and operands
 pub record HasRowsOver (a : Accumulator) (area : Area) (rows : RowsRoom) : Type 0 where
   pub values : len_of area.cols ≤ length rows.values.items
   pub bins_of : len_of area.cols ≤ length rows.bins_of.items

@@ -1,4 +1,4 @@
--- What an accumulator gathers over a tile, by the values of the job.
+-- What an accumulator accumulates over a tile, by the values of the job.
 use Rattle.std.specs.Prelude.{ℕ, ℤ, ◌≡◌, true, Some, List, slice_get}
 use Rattle.domains.specs.Area.{IsArea, IsSubarea}
 use Rattle.domains.specs.declared.area.Area.{Area}

@@ -1,14 +1,15 @@
 #![tactic(auto)]
-//! What bins start from.
+//! The start values of bins.
 
 ghost use Rattle.std.specs.Prelude.{◌≡◌, IfOk};
 ghost use Rattle.job.specs.Totals.{start_of as start_by};
 ghost use Rattle.reductions.specs.Bins.{starts as starts_by};
 
-use domains::{Fold, Span};
+use domains::Span;
+use operators::Fold;
 use std::alloc::{AllocError, Global};
 
-// What a bin starts from, which it stays at where no point has this bin.
+// The start value of a bin, which it keeps if no point has this bin.
 fn start_of(op: Fold) -> i64
     ensures { result ≡ start_by op }
 {
@@ -19,7 +20,7 @@ fn start_of(op: Fold) -> i64
     }
 }
 
-/// What each of these bins starts from.
+/// The start value of each of these bins.
 ///
 /// # Errors
 ///

@@ -1,28 +1,28 @@
 #![tactic(auto)]
-//! Bins that take in values.
+//! Bins that accumulate values.
 
 ghost use Rattle.std.specs.Prelude.{◌≡◌, ◌≢◌, ◌<◌, ◌+ℤ◌, ℕ, ℤ, pos, length, replicate, IfSome, IfNone};
 ghost use Rattle.std.specs.Ordering.{int_eq};
-ghost use Rattle.domains.specs.declared.operators.Fold.TheVariants.{Sum};
+ghost use Rattle.operators.specs.declared.operator.Fold.TheVariants.{Sum};
 ghost use Rattle.tile_eval.specs.Rows.{EachPlace, at};
 ghost use Rattle.reductions.specs.inside.Gathering.{once_came, after_values, values_of_bin};
 
 use crate::join::joined;
-use domains::Fold;
+use operators::Fold;
 
-/// The place of a bin, if it is one of so many from `lo` on.
+/// The place of a bin, if it is one of `count` bins from `lo` on.
 #[inline]
 pub(crate) fn place_in(lo: i32, count: usize, bin: i32) -> Option<usize>
     requires { count < 4611686018427387904 }
     ensures some { IfSome result (λ place. (place < count) × (lo +ℤ pos place ≡ bin)) }
     ensures none { IfNone result ((place : ℕ) → place < count → lo +ℤ pos place ≢ bin) }
 {
-    // a bin below `lo` lies far above each place where it is read without a sign: one comparison tells of both ends
+    // a bin below `lo` gives a very large unsigned place, so that one comparison covers both ends
     let place = (i64::from(bin) - i64::from(lo)).cast_unsigned() as usize;
     if place < count { Some(place) } else { None }
 }
 
-/// Takes a value into the bin at a place, whatever the first bin is.
+/// Accumulates a value in the bin at a place, whatever the first bin is.
 #[inline]
 pub(crate) fn take_at(op: Fold, bins: &mut [i64], place: usize, value: i32)
     requires { place < length bins.old }
@@ -32,7 +32,7 @@ pub(crate) fn take_at(op: Fold, bins: &mut [i64], place: usize, value: i32)
     bins[place] = joined(op, bins[place], i64::from(value));
 }
 
-// Takes a value into its bin; a value whose bin is none of these, from `lo` on, changes nothing.
+// Accumulates a value in its bin; a value whose bin is none of these, from `lo` on, changes nothing.
 #[inline]
 fn take_value(op: Fold, lo: i32, bins: &mut [i64], value: i32, bin: i32)
     ensures { EachPlace (length bins.old) (λ j. at bins.new j
@@ -43,7 +43,7 @@ fn take_value(op: Fold, lo: i32, bins: &mut [i64], value: i32, bin: i32)
     }
 }
 
-// Takes a row of values into their bins by an operation.
+// Accumulates a row of values in their bins by an operation.
 #[inline]
 fn take_all(op: Fold, lo: i32, bins: &mut [i64], values: &[i32], bins_of: &[i32])
     requires { length bins_of.now ≡ length values.now }
@@ -56,14 +56,14 @@ fn take_all(op: Fold, lo: i32, bins: &mut [i64], values: &[i32], bins_of: &[i32]
     }
 }
 
-/// Takes a row of values into their bins, from `lo` on, where a second row tells the bin of each.
+/// Accumulates a row of values in their bins, from `lo` on. A second row has the bin of each value.
 pub(crate) fn take_values(op: Fold, lo: i32, bins: &mut [i64], values: &[i32], bins_of: &[i32])
     requires { length bins_of.now ≡ length values.now }
     ensures { EachPlace (length bins.old) (λ j. at bins.new j
         ≡ after_values op (at bins.old j)
         (values_of_bin values.now bins_of.now (lo +ℤ pos j))) }
 {
-    // each operation has a loop of its own, so that it is not chosen again at each point
+    // each operation has a loop of its own, so that it is not selected again at each point
     match op {
         Fold::Sum => take_all(Fold::Sum, lo, bins, values, bins_of),
         Fold::Min => take_all(Fold::Min, lo, bins, values, bins_of),

@@ -1,5 +1,5 @@
 #![tactic(auto)]
-//! What an accumulator gathers over an area, from whatever gives the samples that are read.
+//! What an accumulator accumulates over an area, from any source of the samples that are read.
 
 ghost use Rattle.std.specs.Prelude.{◌≡◌, ◌<◌, ◌+ℤ◌, ◌≤ℤ◌, ℤ, pos, length, IfOk};
 ghost use Rattle.domains.specs.Area.{HoldsPoint, points_of};
@@ -17,12 +17,13 @@ use crate::bins::{add_number, take_values};
 use crate::row_bins::place_along;
 use crate::rows_room::RowsRoom;
 use crate::side_by_side::{take_into_one, take_side_by_side};
-use domains::{Area, Fold};
+use domains::Area;
 use job::Accumulator;
+use operators::Fold;
 use std::alloc::{AllocError, Global};
 use tile_eval::{RowSource, RowSpan, SourceRow, line_along, number_along};
 
-// Takes a row of points into the bins.
+// Accumulates a row of points in the bins.
 fn gather_row<S: RowSource>(
     row: &SourceRow<'_, S>,
     accumulator: &Accumulator,
@@ -63,7 +64,7 @@ fn gather_row<S: RowSource>(
     }
 }
 
-/// Takes the points of an area into the bins, row by row.
+/// Accumulates the points of an area in the bins, row by row.
 pub(crate) fn gather_rows<S: RowSource>(
     source: &S,
     accumulator: &Accumulator,
@@ -92,7 +93,7 @@ pub(crate) fn gather_rows<S: RowSource>(
     }
 }
 
-/// What an accumulator gathers in its bins, rising, over an area where all that it reads is there.
+/// What an accumulator accumulates in its bins, rising, over an area where all its reads are available.
 ///
 /// # Errors
 ///

@@ -1,11 +1,11 @@
 #![tactic(auto)]
-//! Bins joined with bins.
+//! The join of bins with bins.
 
 ghost use Rattle.std.specs.Prelude.{◌≡◌, length, map, fold, All};
 ghost use Rattle.job.specs.Totals.{joined as joined_of};
 ghost use Rattle.reductions.specs.Bins.{joined_bins};
 
-use domains::Fold;
+use operators::Fold;
 
 /// Joins two numbers of one bin: sums wrap at 64 bits.
 #[tactic(auto, using(std::proofs::lemmas::Int::wraps))]
@@ -19,7 +19,7 @@ pub(crate) fn joined(op: Fold, first: i64, second: i64) -> i64
     }
 }
 
-// Joins each bin with the other of its place by an operation.
+// Joins each bin with the other bin of its place by an operation.
 #[inline]
 fn join_all(op: Fold, bins: &mut [i64], others: &[i64])
     requires { length others.now ≡ length bins.old }
@@ -30,7 +30,7 @@ fn join_all(op: Fold, bins: &mut [i64], others: &[i64])
     }
 }
 
-/// Joins each bin with the other of its place: sums wrap at 64 bits.
+/// Joins each bin with the other bin of its place: sums wrap at 64 bits.
 pub fn join_into(op: Fold, bins: &mut [i64], others: &[i64])
     requires { length others.now ≡ length bins.old }
     ensures { bins.new ≡ joined_bins op bins.old others.now }
@@ -42,7 +42,7 @@ pub fn join_into(op: Fold, bins: &mut [i64], others: &[i64])
     }
 }
 
-/// Joins each of these, one after the other.
+/// Joins each of these with the bins, one after the other.
 pub fn join_each(op: Fold, bins: &mut [i64], all: &[Vec<i64>])
     requires { All (λ others. length others.items ≡ length bins.old) all.now }
     ensures { bins.new ≡ fold (joined_bins op) bins.old (map (λ others. others.items) all.now) }

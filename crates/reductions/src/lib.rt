@@ -1,4 +1,4 @@
-//! What accumulators gather in their bins, without tiles: bins that take in values, bins that are joined, and totals of whole stages.
+//! What accumulators accumulate in their bins, without tiles: values, joins of bins, and totals of whole stages.
 #![tactic(auto)]
 
 mod bin_starts;

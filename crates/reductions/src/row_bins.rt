@@ -1,19 +1,20 @@
 #![tactic(auto)]
-//! The bins of a row of points, where they are known without a row of them.
+//! The bins of a row of points that are known without a row of bins.
 
 ghost use Rattle.std.specs.Prelude.{◌≡◌, ◌<◌, ◌≤◌, ◌+◌, ◌+ℤ◌, ◌≤ℤ◌, ◌≢◌, ℕ, pos, negsuc, IfSome, IfNone};
 ghost use Rattle.domains.specs.Span.{len_of};
-ghost use Rattle.operations.specs.declared.point_test.Axis.TheVariants.{Column};
+ghost use Rattle.operators.specs.declared.point_test.Axis.TheVariants.{Column};
 ghost use Rattle.job.specs.declared.formula.Formula.TheVariants.{Coordinate};
 ghost use Rattle.job.specs.Values.{Valuation, formula_value};
 ghost use Rattle.job.specs.Views.{formula_view};
 
 use crate::bins::place_in;
-use domains::{BinaryOp, LIMIT, Span};
+use domains::{LIMIT, Span};
 use job::{Axis, Formula};
+use operators::BinaryOp;
 use tile_eval::{RowSpan, number_along};
 
-// The number, if it lies where those of spans do.
+// The number, if it is in the range of the numbers of spans.
 fn within_limits(number: i32) -> Option<i32>
     ensures number { IfSome result (λ it. it ≡ number) }
     ensures least { IfSome result (λ it. negsuc 1048575 ≤ℤ it) }
@@ -27,8 +28,8 @@ fn within_limits(number: i32) -> Option<i32>
     }
 }
 
-// The number that a formula begins with along a row of points, if it rises by one from each point to the next: the column, or what
-// a number makes of it.
+// The first number of a formula along a row of points, if it rises by one from each point to the next: the column, or the column
+// with a number added or subtracted.
 fn first_along(formula: &Formula, points: &RowSpan) -> Option<i32>
     ensures least { IfSome result (λ first. negsuc 1048575 ≤ℤ first) }
     ensures most { IfSome result (λ first. first ≤ℤ pos 1048576) }
@@ -53,8 +54,8 @@ fn first_along(formula: &Formula, points: &RowSpan) -> Option<i32>
     }
 }
 
-/// The place of the first of the bins that a formula tells along a row of points, if they lie side by side and each is one of these.
-/// Columns are found wherever all are bins.
+/// The place of the first of the bins that a formula has along a row of points, if these are adjacent and each is one of `bins`.
+/// If the formula is the column and all columns are bins, the place is found.
 #[tactic(auto, using(std::proofs::lemmas::Int::ints))]
 pub(crate) fn place_along(formula: &Formula, points: &RowSpan, bins: &Span) -> Option<usize>
     ensures within { IfSome result (λ place. place + points.now.len ≤ len_of bins.now) }

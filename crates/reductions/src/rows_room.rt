@@ -1,5 +1,5 @@
 #![tactic(auto)]
-//! Rows that accumulators gather by, kept from one area to the next.
+//! Row buffers for accumulators, kept from one area to the next.
 
 ghost use Rattle.std.specs.Prelude.{◌≡◌, ◌≤◌, ℤ, vec_len, IfSome, OnOk};
 ghost use Rattle.domains.specs.Area.{HoldsPoint};
@@ -17,7 +17,7 @@ use job::Accumulator;
 use std::alloc::{AllocError, Global};
 use tile_eval::{RowSource, formula_room};
 
-// Room for the operands of both formulas at `n` points, if that many numbers can be counted.
+// The capacity for the operands of both formulas at `n` points, if it can be counted.
 fn room_along(accumulator: &Accumulator, n: usize) -> Option<usize>
     ensures { IfSome result (HasRoomAlong accumulator.now n) }
 {
@@ -26,7 +26,7 @@ fn room_along(accumulator: &Accumulator, n: usize) -> Option<usize>
     Some(value.max(bin))
 }
 
-// Grows a row to so many numbers, where it has fewer.
+// Grows a row to at least `size` numbers.
 fn grow(row: &mut Vec<i32>, size: usize) -> Result<(), AllocError>
     ensures { OnOk result (size ≤ vec_len row.new) }
 {
@@ -36,7 +36,7 @@ fn grow(row: &mut Vec<i32>, size: usize) -> Result<(), AllocError>
     Ok(())
 }
 
-/// Rows in which accumulators gather: of values, of the bins of these, and of operands. What they hold means nothing between calls.
+/// Row buffers for accumulators: values, the bins of these, and operands. Their content is unspecified between calls.
 #[derive(Drop)]
 pub struct RowsRoom {
     pub(crate) values: Vec<i32>,
@@ -56,7 +56,7 @@ impl RowsRoom {
         }
     }
 
-    /// Grows to what an accumulator needs for the rows of an area, where there is less.
+    /// Grows the buffers to what an accumulator needs for the rows of an area, where they are smaller.
     ///
     /// # Errors
     ///
@@ -72,7 +72,8 @@ impl RowsRoom {
         Ok(())
     }
 
-    /// Joins to each bin what the accumulator gathers in it over the area, where all that it reads is there. No memory is taken.
+    /// Joins to each bin what the accumulator accumulates in it over the area, where all its reads are available. No memory is
+    /// allocated.
     pub fn gather_onto<S: RowSource>(
         &mut self,
         source: &S,

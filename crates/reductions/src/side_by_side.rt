@@ -1,5 +1,5 @@
 #![tactic(auto)]
-//! Rows of values whose bins lie side by side, or are all one bin.
+//! Rows of values whose bins are adjacent, or are all one bin.
 
 ghost use Rattle.std.specs.Prelude.{◌≡◌, ◌<◌, ◌≤◌, ◌+◌, ◌+ℤ◌, ℤ, pos, length, replicate};
 ghost use Rattle.domains.specs.Span.{numbers_from};
@@ -8,9 +8,9 @@ ghost use Rattle.reductions.specs.inside.Gathering.{after_values, values_of_bin}
 
 use crate::bins::{place_in, take_at};
 use crate::join::joined;
-use domains::Fold;
+use operators::Fold;
 
-// Takes a row of values by an operation, each into the bin behind that of the one before.
+// Accumulates a row of values by an operation, each in the bin after that of the one before.
 #[inline]
 fn take_each(op: Fold, bins: &mut [i64], place: usize, values: &[i32])
     requires { place + length values.now ≤ length bins.old }
@@ -23,14 +23,15 @@ fn take_each(op: Fold, bins: &mut [i64], place: usize, values: &[i32])
     }
 }
 
-/// Takes a row of values into the bins from a place on, whatever the first bin is: each into the bin behind that of the one before.
+/// Accumulates a row of values in the bins from a place on, whatever the first bin is: each in the bin after that of the one
+/// before.
 pub(crate) fn take_side_by_side(op: Fold, bins: &mut [i64], place: usize, values: &[i32])
     requires { place + length values.now ≤ length bins.old }
     ensures { (lo : ℤ) → EachPlace (length bins.old) (λ j. at bins.new j
         ≡ after_values op (at bins.old j) (values_of_bin values.now
         (numbers_from (lo +ℤ pos place) (length values.now)) (lo +ℤ pos j))) }
 {
-    // each operation has a loop of its own, over numbers side by side
+    // each operation has a loop of its own, over adjacent numbers
     match op {
         Fold::Sum => take_each(Fold::Sum, bins, place, values),
         Fold::Min => take_each(Fold::Min, bins, place, values),
@@ -38,7 +39,7 @@ pub(crate) fn take_side_by_side(op: Fold, bins: &mut [i64], place: usize, values
     }
 }
 
-// What is in a bin once a row of values came, by an operation.
+// The content of a bin after it accumulated a row of values by an operation.
 #[inline]
 fn joined_all(op: Fold, total: i64, values: &[i32]) -> i64
     ensures { result ≡ after_values op total values.now }
@@ -50,7 +51,7 @@ fn joined_all(op: Fold, total: i64, values: &[i32]) -> i64
     so_far
 }
 
-// What is in a bin once a row of values came.
+// The content of a bin after it accumulated a row of values.
 fn with_row(op: Fold, total: i64, values: &[i32]) -> i64
     ensures { result ≡ after_values op total values.now }
 {
@@ -61,7 +62,7 @@ fn with_row(op: Fold, total: i64, values: &[i32]) -> i64
     }
 }
 
-/// Takes a row of values into one bin, if it is one of these, from `lo` on.
+/// Accumulates a row of values in one bin, if it is one of these, from `lo` on.
 pub(crate) fn take_into_one(op: Fold, lo: i32, bins: &mut [i64], values: &[i32], bin: i32)
     ensures { EachPlace (length bins.old) (λ j. at bins.new j
         ≡ after_values op (at bins.old j) (values_of_bin values.now

@@ -1,5 +1,5 @@
 #![tactic(auto)]
-//! What an accumulator gathers from stages that are computed whole, without tiles.
+//! What an accumulator accumulates from stages that are computed whole, without tiles.
 
 ghost use Rattle.std.specs.Prelude.{◌≡◌, ℤ, List, IfSome, IfNone, IfOk};
 ghost use Rattle.domains.specs.Area.{IsArea};
@@ -15,7 +15,7 @@ use job::{Body, Job};
 use std::alloc::{AllocError, Global};
 use tile_eval::TrueStages;
 
-// What a stage gathers over a part of its domain; nothing if it is no accumulator.
+// What a stage accumulates over a part of its domain; nothing if it is no accumulator.
 fn totals_on(
     alloc: Global,
     stages: &TrueStages<'_>,
@@ -52,8 +52,8 @@ pub fn accumulator_tile(job: &Job, stage: usize, row: u32, col: u32) -> Option<A
     }
 }
 
-/// What an accumulator gathers in its bins, rising, over all that it reduces: without tiles, each stage that it reads is computed
-/// whole before. There are no bins where no stage has this number, or another than an accumulator does.
+/// What an accumulator accumulates in its bins, rising, over all that it reduces. Each stage that it reads is computed whole
+/// first, without tiles. There are no bins if the stage of this number is no accumulator, or there is none.
 ///
 /// # Errors
 ///
@@ -68,8 +68,8 @@ pub fn whole(alloc: Global, job: &Job, stage: usize) -> Result<Vec<i64>, AllocEr
     totals_on(alloc, &stages, stage, &domain)
 }
 
-/// What an accumulator gathers in its bins, rising, over its tile in this row and column of its grid, from stages that were computed
-/// whole; none where it has no such tile, or no accumulator has this number.
+/// What an accumulator accumulates in its bins, rising, over its tile in this row and column of its grid. It reads stages that
+/// are computed whole. None if it has no such tile, or no accumulator has this number.
 ///
 /// # Errors
 ///

@@ -1,11 +1,11 @@
--- On the way to the answer of a job.
+-- Intermediate states on the way to the answer of a job.
 use Rattle.std.specs.Prelude.{ℕ, ℤ, ◌≡◌, true, Some, None, List, slice_get, map, fold}
 use Rattle.std.specs.List.{range_with_len}
 use Rattle.domains.specs.Span.{Ends}
 use Rattle.domains.specs.Tiles.{tile_area, tile_cols}
 use Rattle.domains.specs.declared.grid.Grid.{Grid}
 use Rattle.grouping.specs.Inlining.{IsScheduleOf}
-use Rattle.domains.specs.declared.operators.Fold.{Fold}
+use Rattle.operators.specs.declared.operator.Fold.{Fold}
 use Rattle.job.specs.Answers.{grid_of}
 use Rattle.job.specs.Formula.{Formula}
 use Rattle.job.specs.Kept.{pipeline_in}
@@ -21,7 +21,7 @@ use Rattle.reductions.specs.Bins.{joined_bins, starts}
 use Rattle.reductions.specs.Accumulating.{AreBins}
 use Rattle.reductions.specs.GatherRooms.{IsAccumulatorOf}
 
--- what the accumulators of the job need of its stored functions is there, with its values
+-- the tiles of stored functions that the accumulators of the job need are available, with the job's values
 pub record IsComputed (c : Computed) : Type 0 where
   pub scheduled : IsScheduleOf (pipeline_in c.job.now) c.schedule.now
   pub needs : (g : ℕ) → is_accumulator_at (pipeline_in c.job.now) g ≡ true
@@ -30,7 +30,7 @@ pub record IsComputed (c : Computed) : Type 0 where
 
 -- ---- totals
 
--- the tiles of all accumulators have room in scratch memory
+-- the tiles of all accumulators fit into scratch memory
 abbrev pub TotalsFit : Computed → Type 0
 TotalsFit c = first_too_big (pipeline_in c.job.now) c.schedule.now.inlining (is_accumulator_at (pipeline_in c.job.now)) ≡ None
 
@@ -43,24 +43,24 @@ pub record IsGathered (job : Pipeline) (g : ℕ) (way : Fold) (bins : Ends) (gri
   pub body : stage.body ≡ accumulator way bins value bin
   pub parted : grid ≡ grid_of job stage
 
--- an accumulator of a job whose stored functions are computed, and whose accumulators' tiles have room
+-- an accumulator of a job whose stored functions are computed, and whose accumulators' tiles fit into scratch memory
 pub record IsTally (t : Accumulation) : Type 0 where
   pub computed : IsComputed t.of
   pub fits : TotalsFit t.of
   pub own : IsAccumulatorOf (pipeline_in t.of.job.now) t.stage t.accumulator.now
   pub gathered : IsGathered (pipeline_in t.of.job.now) t.stage t.accumulator.now.fold t.accumulator.now.bins t.grid
 
--- what bins are once the totals over a tile came in
+-- the bins after the totals over a tile came in
 abbrev pub with_tile : Pipeline → ℕ → Fold → Grid → List ℤ → ℕ × ℕ → List ℤ
 with_tile job g way grid bins t = joined_bins way bins (totals_over job (tile_area grid t.0 t.1) g)
 
--- what is in the bins of an accumulator from their start on, once the totals over row i of the tiles came in
+-- the bins of an accumulator that began with their initial values, after the totals over row i of the tiles came in
 abbrev pub totals_of_row : Accumulation → ℕ → List ℤ
 totals_of_row t i =
     fold (with_tile (pipeline_in t.of.job.now) t.stage t.accumulator.now.fold t.grid) (starts t.accumulator.now.fold t.accumulator.now.bins)
     (map (λ j. (i, j)) (range_with_len 0 (tile_cols t.grid)))
 
--- bins that are these
+-- the bins are these totals
 pub record AreTotalsOfRow (t : Accumulation) (i : ℕ) (bins : List ℤ) : Type 0 where
   pub are : AreBins t.accumulator.now bins
   pub totals : bins ≡ totals_of_row t i

@@ -1,4 +1,4 @@
--- Planes of outputs, which are made of what is kept.
+-- Planes of outputs, made from kept tiles.
 use Rattle.std.specs.Prelude.{ℕ, ◌≡◌, Bool, true, None, List}
 use Rattle.grouping.specs.Inlining.{Inlining, IsScheduleOf}
 use Rattle.job.specs.Answers.{is_output}
@@ -15,7 +15,8 @@ pub record IsOutputStage (job : Pipeline) (inlining : List Bool) (g : ℕ) : Typ
   pub function : IsStoredFunction job inlining g stage
   pub output : is_output job g ≡ true
 
--- what is kept for the answer is given, with the values of the job, and the tiles of all stored functions have room
+-- the tiles kept for the answer are supplied, with the job's values, and the tiles of all stored functions fit into scratch
+-- memory
 pub record IsKept (job : Pipeline) (schedule : Inlining) (lasts : List Turn) (given : KnownTiles) : Type 0 where
   pub scheduled : IsScheduleOf job schedule
   pub read : HasLasts job schedule.inlining lasts

@@ -1,24 +1,24 @@
--- How bins take in points.
+-- How bins accumulate points.
 use Rattle.std.specs.Prelude.{ℕ, ℤ, pos, ◌+ℤ◌, ◌≡◌, Bool, if◌then◌else◌, List, map, filter, fold, length, zip}
 use Rattle.std.specs.Ordering.{int_eq}
 use Rattle.domains.specs.Span.{numbers_from}
-use Rattle.domains.specs.declared.operators.Fold.{Fold}
+use Rattle.operators.specs.declared.operator.Fold.{Fold}
 use Rattle.job.specs.Totals.{joined}
 use Rattle.tile_eval.specs.Rows.{EachPlace, at}
 
--- what is in a bin once a value came, if it is of this bin
+-- the content of a bin after a value, if the value is of this bin
 abbrev pub once_came : Fold → Bool → ℤ → ℤ → ℤ
 once_came way here total v = if here then joined way total v else total
 
--- what is in a bin once values came in, one after the other
+-- the content of a bin after values, accumulated one after the other
 abbrev pub after_values : Fold → ℤ → List ℤ → ℤ
 after_values way total vs = fold (joined way) total vs
 
--- those of a row of values that are of bin b, where a second row tells the bin of each
+-- those of a row of values that are of bin b, where a second row has the bin of each
 abbrev pub values_of_bin : List ℤ → List ℤ → ℤ → List ℤ
 values_of_bin values bins b = map (λ p. p.0) (filter (λ p. int_eq p.1 b) (zip values bins))
 
--- the values at some points that are of bin b, where value and bin tell them of each point
+-- the values at some points that are of bin b, where `value` and `bin` have the value and the bin of each point
 abbrev pub values_among : (ℤ → ℤ → ℤ) → (ℤ → ℤ → ℤ) → List (ℤ × ℤ) → ℤ → List ℤ
 values_among value bin points b = map (λ p. value p.0 p.1) (filter (λ p. int_eq (bin p.0 p.1) b) points)
 
@@ -26,7 +26,7 @@ values_among value bin points b = map (λ p. value p.0 p.1) (filter (λ p. int_e
 abbrev pub points_along : ℤ → ℤ → ℕ → List (ℤ × ℤ)
 points_along r c n = map (λ v. (r, v)) (numbers_from c n)
 
--- each bin, from lo on, took in its values at these points
+-- each bin, from lo on, accumulated its values at these points
 abbrev pub TookIn : Fold → (ℤ → ℤ → ℤ) → (ℤ → ℤ → ℤ) → ℤ → List (ℤ × ℤ) → List ℤ → List ℤ → Type 0
 TookIn way value bin lo points old new =
     EachPlace (length old) (λ j. at new j ≡ after_values way (at old j) (values_among value bin points (lo +ℤ pos j)))

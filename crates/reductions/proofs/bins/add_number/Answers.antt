@@ -2,7 +2,7 @@ use Rattle.std.proofs.Common.{rules, arith, ◌≡◌, ◌<◌, ◌+ℤ◌, pos,
 use Rattle.std.proofs.Common.{ℕ, ℤ, w32, to_z, of_z, FitsSigned, List, sym, ◌∙◌, add-one}
 use Rattle.std.proofs.lemmas.Int.{to_z-of_z}
 use Rattle.std.specs.Ordering.{int_eq}
-use Rattle.domains.specs.declared.operators.Fold.TheVariants.{Sum}
+use Rattle.operators.specs.declared.operator.Fold.TheVariants.{Sum}
 use Rattle.tile_eval.specs.Rows.{at}
 use Rattle.reductions.specs.inside.Gathering.{once_came}
 use Rattle.reductions.proofs.TakeValues.{one_more, at_same, same_long}

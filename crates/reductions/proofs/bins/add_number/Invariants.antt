@@ -1,5 +1,5 @@
 use Rattle.std.proofs.Common.{◌≡◌, ◌+ℤ◌, ℤ, List, pos, drop, length, replicate}
-use Rattle.domains.specs.declared.operators.Fold.TheVariants.{Sum}
+use Rattle.operators.specs.declared.operator.Fold.TheVariants.{Sum}
 use Rattle.tile_eval.specs.Rows.{EachPlace, at}
 use Rattle.reductions.specs.inside.Gathering.{after_values, values_of_bin}
 use Rattle.reductions.proofs.bins.add_number.Given as goal

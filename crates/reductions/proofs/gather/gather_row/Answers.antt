@@ -2,7 +2,7 @@ use Rattle.std.proofs.Common.{rules, arith, ℕ, ℤ, ◌≡◌, ◌<◌, ◌+�
 use Rattle.std.specs.Prelude.{map}
 use Rattle.std.proofs.lemmas.Int.{to_z-of_z}
 use Rattle.domains.specs.Span.{numbers_from}
-use Rattle.domains.specs.declared.operators.Fold.TheVariants.{Sum}
+use Rattle.operators.specs.declared.operator.Fold.TheVariants.{Sum}
 use Rattle.job.specs.declared.formula.Formula.{Formula as KeptFormula}
 use Rattle.job.specs.Reads.{EachRead}
 use Rattle.job.specs.Values.{Valuation, formula_value}
