@@ -13,10 +13,12 @@ use Rattle.std.specs.contracts.alloc.Global as Global
 use Rattle.std.specs.contracts.boxed.Box as Box
 use Rattle.std.specs.contracts.impls.GlobalAllocator.TheImpl.{ghosts}
 use Rattle.domains.specs.contracts.index.Index as Index
-use Rattle.domains.specs.contracts.operators.BinaryOp as BinaryOp
-use Rattle.domains.specs.contracts.operators.LiteralOp as LiteralOp
-use Rattle.domains.specs.contracts.operators.Relation as Relation
-use Rattle.operations.specs.contracts.point_test.Axis as Axis
+use Rattle.operators.specs.contracts.operator.BinaryOp as BinaryOp
+use Rattle.operators.specs.contracts.operator.LiteralOp as LiteralOp
+use Rattle.operators.specs.contracts.operator.Relation as Relation
+use Rattle.operators.specs.contracts.operator.TernaryOp as TernaryOp
+use Rattle.operators.specs.contracts.operator.UnaryOp as UnaryOp
+use Rattle.operators.specs.contracts.point_test.Axis as Axis
 use Rattle.tables.specs.contracts.entries.Entries as Entries
 use Rattle.tables.specs.contracts.table.Table as Table
 use Rattle.catalog.specs.contracts.catalog.Catalog as Catalog
@@ -70,8 +72,14 @@ u32_sync = search (sendable) depth 20
 usize_sync : IsSync usize-field.row
 usize_sync = search (sendable) depth 20
 
+unary_sync : IsSync UnaryOp.the_row
+unary_sync = search (sendable, owners.crosses) depth 40
+
 binary_sync : IsSync BinaryOp.the_row
 binary_sync = search (sendable, owners.crosses) depth 40
+
+ternary_sync : IsSync TernaryOp.the_row
+ternary_sync = search (sendable, owners.crosses) depth 40
 
 literal_sync : IsSync LiteralOp.the_row
 literal_sync = search (sendable, owners.crosses) depth 40
@@ -91,7 +99,7 @@ boxed R y = as_row_sync (row_field (Box.the_row R Global.the_row ghosts)) (owner
 layer_sync : (h : Knot.the_members → RattleType) → ((j : Knot.the_members) → IsSync (h j)) → IsSync (layer_row Knot.ring Knot.member-Formula h)
 layer_sync h all =
     let b = h Knot.member-Formula in let x = boxed b (all Knot.member-Formula) in
-    record { shared = (variants_sync (Knot.type-Formula b b b b b b b b b b b b b) ((held i32-field i32_sync, tt), ((declared Axis.the_field axis_sync, tt), ((held usize-field usize_sync, (declared Index.the_field index_sync, (declared Index.the_field index_sync, tt))), ((x, tt), ((declared BinaryOp.the_field binary_sync, (x, (x, tt))), ((declared LiteralOp.the_field literal_sync, (x, (held u32-field u32_sync, tt))), ((x, tt), ((declared Entries.the_field entries_sync, (x, tt)), ((x, (x, (x, tt))), ((x, (declared Relation.the_field relation_sync, (x, (x, (x, tt))))), ((held usize-field usize_sync, (held u32-field u32_sync, (held (Sequence.the_field (Sequence.the_row denote.Builtin.i32)) kernel_sync, tt))), tt)))))))))))).shared }
+    record { shared = (variants_sync (Knot.type-Formula b b b b b b b b b b b b) ((held i32-field i32_sync, tt), ((declared Axis.the_field axis_sync, tt), ((held usize-field usize_sync, (declared Index.the_field index_sync, (declared Index.the_field index_sync, tt))), ((declared UnaryOp.the_field unary_sync, (x, tt)), ((declared BinaryOp.the_field binary_sync, (x, (x, tt))), ((declared TernaryOp.the_field ternary_sync, (x, (x, (x, tt)))), ((declared LiteralOp.the_field literal_sync, (x, (held u32-field u32_sync, tt))), ((declared Entries.the_field entries_sync, (x, tt)), ((x, (declared Relation.the_field relation_sync, (x, (x, (x, tt))))), ((held usize-field usize_sync, (held u32-field u32_sync, (held (Sequence.the_field (Sequence.the_row denote.Builtin.i32)) kernel_sync, tt))), tt))))))))))).shared }
 
 step : (i : Knot.the_members) → Syncs Knot.ring i
 step Block.member-Formula = record { sync = layer_sync }
@@ -102,7 +110,7 @@ hole_sync = fix_sync Knot.ring step Knot.member-Formula
 pub formula_sync : IsSync Formula.the_row
 formula_sync =
     let x = owners.Box-sync Knot.hole-Formula hole_sync in
-    variants_sync Formula.enum ((as_row_sync i32-field i32_sync, tt), ((axis_sync, tt), ((as_row_sync usize-field usize_sync, (index_sync, (index_sync, tt))), ((x, tt), ((binary_sync, (x, (x, tt))), ((literal_sync, (x, (as_row_sync u32-field u32_sync, tt))), ((x, tt), ((entries_sync, (x, tt)), ((x, (x, (x, tt))), ((x, (relation_sync, (x, (x, (x, tt))))), ((as_row_sync usize-field usize_sync, (as_row_sync u32-field u32_sync, (kernel_sync, tt))), tt)))))))))))
+    variants_sync Formula.enum ((as_row_sync i32-field i32_sync, tt), ((axis_sync, tt), ((as_row_sync usize-field usize_sync, (index_sync, (index_sync, tt))), ((unary_sync, (x, tt)), ((binary_sync, (x, (x, tt))), ((ternary_sync, (x, (x, (x, tt)))), ((literal_sync, (x, (as_row_sync u32-field u32_sync, tt))), ((entries_sync, (x, tt)), ((x, (relation_sync, (x, (x, (x, tt))))), ((as_row_sync usize-field usize_sync, (as_row_sync u32-field u32_sync, (kernel_sync, tt))), tt))))))))))
 
 pub read_sync : IsSync Read.the_row
 read_sync = search (sendable, owners.crosses) depth 40

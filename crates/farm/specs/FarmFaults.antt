@@ -1,4 +1,4 @@
--- Numbers and printed names of the faults of a farm, and which is told at its end.
+-- Numbers and printed names of the faults of a farm, and which is reported at its end.
 use Rattle.std.specs.Prelude.{ℕ, Bool, true, false, List, Result, Ok, Err, codes}
 use Rattle.farm.specs.declared.fault.FarmFault.{FarmFault}
 use Rattle.farm.specs.declared.fault.FarmFault.TheVariants.{SpawnFailed, Memory, Close}
@@ -20,7 +20,7 @@ abbrev pub of_close : CloseFault → FarmFault
 of_close (closes.ReceiptMismatch number) = Close number
 of_close closes.Memory = Memory
 
--- what is told of the closing of all nodes: why one does not close, or else that some worker met an end of memory
+-- the result of closing all nodes: why one does not close, or else that some worker ran out of memory
 abbrev pub of_closing : {X : Type 0} → Bool → Result X FarmFault → Result X FarmFault
 of_closing memory (Err fault) = Err fault
 of_closing true (Ok closed) = Err Memory

@@ -6,7 +6,7 @@ use Rattle.catalog.specs.Entries.{Entry}
 use Rattle.fact_store.specs.Facts.{FactSet, nothing, join}
 use Rattle.held_facts.specs.HeldFacts.{HoldsTrueFacts}
 
--- a node's history is legal, and leaves true facts alone
+-- a node's history is legal, and leaves only true facts
 pub record IsSoundEnd (catalog : List Entry) (history : List Event) : Type 0 where
   pub legal : IsLegal history
   pub truth : HoldsTrueFacts catalog (replay history).held.facts

@@ -19,7 +19,7 @@ use named_catalogs::NamedCatalog;
 use std::alloc::{AllocError, Global};
 use std::vec;
 
-/// Closes each node with the receipts of its workers. Where all are closed, none of the workers met an end of memory.
+/// Closes each node with the receipts of its workers. If all are closed, none of the workers ran out of memory.
 ///
 /// # Errors
 ///
@@ -37,14 +37,14 @@ pub fn close_all<C: NamedCatalog>(
     tell_closing(memory, close_each(alloc, nodes, ends))
 }
 
-// Whether one of these workers met an end of memory.
+// Whether one of these workers ran out of memory.
 fn met_memory(ends: &[End]) -> bool
     ensures { result ≡ list_any (λ end. end.memory) ends.now }
 {
     ends.iter().any(|end| end.memory)
 }
 
-// What is told of the closing of all nodes, where some worker met an end of memory or none.
+// The result of closing all nodes, by whether some worker ran out of memory.
 fn tell_closing<T: Drop>(memory: bool, closing: Result<T, FarmFault>) -> Result<T, FarmFault>
     ensures told { result ≡ of_closing memory closing }
     ensures none { IfOk result (λ _. memory ≡ false) }
@@ -56,7 +56,7 @@ fn tell_closing<T: Drop>(memory: bool, closing: Result<T, FarmFault>) -> Result<
     Ok(closed)
 }
 
-// Closes each node with the receipts of its workers, whatever these met.
+// Closes each node with the receipts of its workers, whether or not these ran out of memory.
 fn close_each<C: NamedCatalog>(
     alloc: Global,
     nodes: Vec<Node<C>>,
@@ -109,7 +109,7 @@ fn close_one<C: NamedCatalog>(
     }
 }
 
-/// The facts of the keys that any of the nodes holds in the end. What is retired at a node keeps no fact of another one out.
+/// The facts of the keys that any of the nodes holds at the end. A retirement at one node excludes no fact of another.
 pub fn gather(alloc: Global, keys: &[Key], closed: &[Closed]) -> Result<HeldFacts, AllocError>
     ensures { IfOk result (λ held. held ≡ lent (all_held closed.now) keys.now) }
 {
@@ -121,7 +121,7 @@ pub fn gather(alloc: Global, keys: &[Key], closed: &[Closed]) -> Result<HeldFact
     Ok(all)
 }
 
-// The held facts of the keys. Of some of them nothing may be held.
+// The held facts of the keys. Of some keys nothing may be held.
 fn lent_of(alloc: Global, keys: &[Key], held: &HeldFacts) -> Result<HeldFacts, AllocError>
     ensures { IfOk result (λ found. found ≡ lent held.now keys.now) }
 {

@@ -33,13 +33,13 @@ use std::thread::Threads;
 pub struct Farm;
 
 impl Farm {
-    /// Runs a farm, and answers a job of a catalog by what its nodes hold in the end. The tiles of stored functions and accumulators
-    /// of which none of them holds anything are made by the caller's thread. Threads that were started are joined before it answers.
+    /// Runs a farm, and answers a job of a catalog from what its nodes hold at the end. The caller's thread makes the tiles of
+    /// stored functions and accumulators of which no node holds anything. Started threads are joined before it returns.
     ///
     /// # Errors
     ///
-    /// `SpawnFailed` only where a thread could not be started. `Close` where receipts do not match a node's history, before `Memory`
-    /// of a worker.
+    /// `SpawnFailed` only where a thread could not be started. `Close` where receipts do not match a node's history, before
+    /// `Memory` of a worker.
     pub fn run<G: Gate + Sync, R: Threads + Wait + Sync>(
         rt: &R,
         alloc: Global,

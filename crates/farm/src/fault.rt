@@ -11,10 +11,10 @@ use thiserror::Error;
 /// Why a farm has no answer.
 #[derive(Clone, Copy, Debug, PartialEq, Eq, Error)]
 pub enum FarmFault {
-    /// 1: a thread could not be started. What it holds only the start of a thread makes.
+    /// 1: a thread could not be started. Only the start of a thread makes what it holds.
     #[error("a thread could not be started")]
     SpawnFailed(Refusal),
-    /// 2: no memory was left.
+    /// 2: memory ran out.
     #[error("out of memory")]
     Memory,
     /// 3: the number of a receipt that does not match its node's history.

@@ -13,7 +13,7 @@ use std::alloc::{AllocError, Global};
 use std::sync::Wait;
 use tile_fact::{Fact, Update};
 
-/// A worker's seat with a receipt for each call that was recorded, and whether it met an end of memory.
+/// A worker's seat with a receipt for each call that was recorded, and whether it ran out of memory.
 #[derive(Drop)]
 pub struct End {
     pub seat: Seat,
@@ -44,7 +44,7 @@ pub enum Step {
     Restart,
 }
 
-/// A node and a seat at it. Each call makes room for its receipt first.
+/// A node and a seat at it. Each call first reserves capacity for its receipt.
 #[derive(Drop)]
 pub struct Hand<'a, C: NamedCatalog> {
     pub node: &'a LiveNode<C>,
@@ -74,7 +74,7 @@ impl<'a, C: NamedCatalog> Hand<'a, C> {
         Ok(())
     }
 
-    /// Takes a step that no parcel and no fact is part of.
+    /// Takes a step that involves no parcel and no fact.
     pub fn step<R: Wait>(&mut self, rt: &R, step: Step) -> Result<(), AllocError> {
         let End { seat, receipts, .. } = &mut self.end;
         receipts.reserve(1)?;

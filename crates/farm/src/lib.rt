@@ -1,5 +1,5 @@
-//! A farm: nodes, each with two workers in threads of their own, that make the tiles of a job together and tell one another what they
-//! have made.
+//! A farm: nodes, each with two workers in threads of their own. They make the tiles of a job together and send one another what
+//! they have made.
 #![tactic(auto)]
 
 mod closing;

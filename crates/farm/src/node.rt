@@ -35,7 +35,7 @@ impl<C: NamedCatalog> Node<C> {
     }
 }
 
-/// All nodes, and beside each the seats of its workers.
+/// All nodes, each with the seats of its workers.
 pub fn open_all<C: NamedCatalog>(
     alloc: Global,
     catalog: &Catalog,

@@ -2,7 +2,7 @@
 
 use std::thread::{JoinHandle, Scope};
 
-/// That the system refused to start a thread. Only [`start`] makes one, of what the toolchain's `spawn` hands back.
+/// The system refused to start a thread. Only [`start`] makes one, from what the toolchain's `spawn` hands back.
 #[derive(Clone, Copy, Debug, PartialEq, Eq)]
 pub struct Refusal {
     by_spawn: (),

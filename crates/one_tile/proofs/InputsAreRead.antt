@@ -4,7 +4,7 @@ use Rattle.std.specs.Prelude.{if◌then◌else◌, map}
 use Rattle.std.specs.Option.{option_map}
 use Rattle.domains.specs.Span.{Ends}
 use Rattle.domains.specs.Area.{HoldsPoint}
-use Rattle.domains.specs.declared.operators.Fold.{Fold}
+use Rattle.operators.specs.declared.operator.Fold.{Fold}
 use Rattle.domains.specs.declared.grid.Grid.{Grid}
 use Rattle.job.specs.declared.stage.Function.{Function as KeptFunction}
 use Rattle.job.specs.declared.stage.Body.{Body as KeptBody}

@@ -1,4 +1,4 @@
--- The value of a stage at a point by the numbers that are given of stored functions.
+-- The value of a stage at a point by the supplied numbers of stored functions.
 use Rattle.std.specs.Prelude.{ℕ, zero, suc, ◌≡◌, ℤ, pos, Bool, true, false, if◌then◌else◌, Option, Some, None, List, slice_get}
 use Rattle.domains.specs.Area.{HoldsPoint}
 use Rattle.job.specs.Pipeline.{Body, plane, function, accumulator, Stage, Pipeline, rank_of}
@@ -10,7 +10,7 @@ use Rattle.tile_sources.specs.KnownTiles.{KnownTiles, given_number, IsGivenAt}
 
 -- ---- what is read
 
--- of a plane the sample, of a stored function the number that is given, of an inlined function what inner gives
+-- of a plane the sample, of a stored function the supplied number, of an inlined function the value of `inner`
 abbrev pub body_given : Pipeline → List Bool → KnownTiles → Valuation → ℕ → Stage → Body → ℤ → ℤ → ℤ
 body_given job inlining given inner g s (plane n) r c = sample_at job.picture n r c
 body_given job inlining given inner g s (function cases otherwise) r c =
@@ -26,20 +26,20 @@ read_from job inlining given inner g r c = stage_given job inlining given inner 
 
 -- ---- local values
 
--- the local values of the stages whose ranks are below this number; of the others it says nothing
+-- the local values of the stages whose ranks are below this number; for the others it specifies nothing
 abbrev pub local_within : Pipeline → List Bool → KnownTiles → ℕ → Valuation
 local_within job inlining given zero g r c = pos 0
 local_within job inlining given (suc n) g r c =
     stage_value job (read_from job inlining given (local_within job inlining given n)) (slice_get job.stages g) r c
 
--- the value of stage g at a point of its domain, where reads of stored functions take the numbers that are given, and reads of
--- inlined functions their local values
+-- the value of stage g at a point of its domain: reads of stored functions take the supplied numbers, and reads of inlined
+-- functions their local values
 abbrev pub local_value : Pipeline → List Bool → KnownTiles → Valuation
 local_value job inlining given g r c = local_within job inlining given (suc (rank_of job.stages g)) g r c
 
--- ---- what is at hand
+-- ---- what is available
 
--- a point of a plane; of a stored function a point of a tile that is given; of an inlined function what Inner tells
+-- a point of a plane; of a stored function a point of a supplied tile; of an inlined function a point for which Inner holds
 abbrev pub FunctionAtHand : Bool → Type 0 → Type 0 → Type 0
 FunctionAtHand true inner stored = inner
 FunctionAtHand false inner stored = stored
@@ -59,7 +59,7 @@ IsAtHand job inlining given Inner g r c = StageAtHand job inlining given Inner g
 
 -- ---- points that are computed
 
--- a point of the domain of a stage, at which all that the stage reads is at hand
+-- a point of the domain of a stage, at which all that the stage reads is available
 pub record IsProvided (job : Pipeline) (inlining : List Bool) (given : KnownTiles) (Inner : ℕ → ℤ → ℤ → Type 0) (g : ℕ)
     (r c : ℤ) : Type 0 where
   pub stage : Stage
@@ -67,6 +67,6 @@ pub record IsProvided (job : Pipeline) (inlining : List Bool) (given : KnownTile
   pub inside : HoldsPoint stage.domain r c
   pub reads : BodyReads (IsAtHand job inlining given Inner) stage.body r c
 
--- at each point for which Inner holds all that is read is at hand
+-- at each point for which Inner holds all that is read is available
 abbrev pub IsClosed : Pipeline → List Bool → KnownTiles → (ℕ → ℤ → ℤ → Type 0) → Type 0
 IsClosed job inlining given Inner = (g : ℕ) (r c : ℤ) → Inner g r c → IsProvided job inlining given Inner g r c

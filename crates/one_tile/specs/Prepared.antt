@@ -1,4 +1,4 @@
--- What is at hand for a tile before it is computed.
+-- What is available for a tile before it is computed.
 use Rattle.std.specs.Prelude.{ℕ, suc, ℤ, ◌+◌, ◌-◌, ◌<◌, ◌≤◌, ◌≡◌, ◌⊎◌, Bool, Some, List, length, slice_get}
 use Rattle.domains.specs.Area.{HoldsPoint, point_count}
 use Rattle.domains.specs.declared.area.Area.{Area}
@@ -11,19 +11,19 @@ use Rattle.one_tile.specs.declared.boxes.Boxes.{Boxes}
 use Rattle.tile_sources.specs.KnownTiles.{KnownTiles}
 use Rattle.one_tile.specs.Local.{read_from, local_value, IsAtHand, IsProvided}
 
--- ---- scratch memory of which two parts are lent: what lies before a range, and what lies from its end on
+-- ---- scratch memory of which two parts are borrowed: what lies before a range, and what lies from its end on
 
--- so many places from a start on are lent
+-- `len` places from a start on are borrowed
 abbrev pub IsLent : Boxes → ℕ → ℕ → Type 0
 IsLent boxes start len =
     (start + len ≤ length boxes.before.now) ⊎ ((boxes.end ≤ start) × (start + len ≤ boxes.end + length boxes.behind.now))
 
--- the number at a place, if it is lent
+-- the number at a place, if it is borrowed
 abbrev pub IsNumberAt : Boxes → ℕ → ℤ → Type 0
 IsNumberAt boxes n number =
     (n < length boxes.before.now → at boxes.before.now n ≡ number) × (boxes.end ≤ n → at boxes.behind.now (n - boxes.end) ≡ number)
 
--- the numbers of an area, which stand from a start on, are lent, and this is the one at the point
+-- the numbers of an area, which are stored from a start on, are borrowed, and this is the one at the point
 pub record HasNumber (boxes : Boxes) (area : Area) (start : ℕ) (r c number : ℤ) : Type 0 where
   pub within : HoldsPoint area r c
   pub lent : IsLent boxes start (point_count area)
@@ -46,15 +46,15 @@ pub record IsBoxed (job : Pipeline) (l : Layout) (given : KnownTiles) (boxes : B
 
 -- ---- what a tile reads
 
--- of a plane the sample, of a stored function the number that is given, of an inlined function its local value
+-- of a plane the sample, of a stored function the supplied number, of an inlined function its local value
 abbrev pub input_at : Pipeline → List Bool → KnownTiles → Valuation
 input_at job inlining given = read_from job inlining given (local_value job inlining given)
 
--- whether it is at hand
+-- whether it is available
 abbrev pub IsInputAt : Pipeline → Layout → KnownTiles → Boxes → ℕ → ℤ → ℤ → Type 0
 IsInputAt job l given boxes = IsAtHand job l.inlining given (IsBoxed job l given boxes)
 
--- all that stage g reads at the points of an area, which lie in its domain, is at hand
+-- all that stage g reads at the points of an area, which lie in its domain, is available
 abbrev pub IsPrepared : Pipeline → Layout → KnownTiles → Boxes → ℕ → Area → Type 0
 IsPrepared job l given boxes g area =
     (r c : ℤ) → HoldsPoint area r c → IsProvided job l.inlining given (IsBoxed job l given boxes) g r c

@@ -1,4 +1,4 @@
--- What a tile is computed to from what is given.
+-- The result of a tile from what is supplied.
 use Rattle.std.specs.Prelude.{ℕ, ℤ, ◌≡◌, Bool, true, Option, Some, None, List, find, Contains}
 use Rattle.std.specs.Option.{is_none}
 use Rattle.domains.specs.declared.area.Area.{Area}
@@ -17,7 +17,7 @@ use Rattle.one_tile.specs.Local.{local_value}
 abbrev pub is_missing : KnownTiles → Key → Bool
 is_missing given key = is_none (given key.stage key.row key.col)
 
--- the first of these keys whose tile is not given. The needs of a plan are in the order of keys, so that it is the least
+-- the first of these keys whose tile is not supplied. The needs of a plan are in the order of keys, so that it is the least
 abbrev pub first_missing : KnownTiles → List Key → Option Key
 first_missing given needs = find (is_missing given) needs
 
@@ -52,6 +52,6 @@ pub record IsSomeLayout (job : Pipeline) (l : Layout) : Type 0 where
   pub col : ℕ
   pub layout : IsTileLayout job inlining stage row col l
 
--- each of these tiles is given
+-- each of these tiles is supplied
 abbrev pub NeedsGiven : KnownTiles → List Tile → Type 0
 NeedsGiven given needs = (n : Tile) → Contains needs n → (xs : List ℤ) × (given n.stage n.row n.col ≡ Some xs)

@@ -1,13 +1,13 @@
 #![tactic(auto)]
-//! Parts of scratch memory that are lent.
+//! Parts of scratch memory that are borrowed.
 
 ghost use Rattle.std.specs.Prelude.{◌≡◌, ◌≤◌, ◌+◌, length, IfSome, IfNone};
 ghost use Rattle.tile_eval.specs.Rows.{EachPlace, at};
 
 use tile_sources::{WidePlanes, part_of};
 
-/// What a step reads of scratch memory: the numbers before the range that it writes, and those from the range's end on; and what there
-/// is of planes.
+/// What a step reads of scratch memory: the numbers before the range that it writes, and those from the range's end on. Also the
+/// converted planes.
 #[derive(Clone, Copy)]
 pub struct Boxes<'a> {
     pub(crate) before: &'a [i32],
@@ -36,7 +36,7 @@ impl<'a> Boxes<'a> {
         }
     }
 
-    /// The numbers of so many places from a start on, if these are lent.
+    /// `len` numbers from a start on, if these are borrowed.
     pub(crate) fn lent(&self, start: usize, len: usize) -> Option<&'a [i32]>
         ensures count { IfSome result (λ part. length part.now ≡ len) }
         ensures numbers { IfSome result (λ part. EachPlace len (λ k. (number : ℤ)

@@ -1,4 +1,4 @@
-//! One tile of a job, computed from planes and from tiles that are given.
+//! One tile of a job, computed from planes and from supplied tiles.
 #![tactic(auto)]
 
 mod boxes;

@@ -1,5 +1,5 @@
 #![tactic(auto)]
-//! Memory in which tiles are computed.
+//! Buffers in which tiles are computed.
 
 ghost use Rattle.std.specs.Prelude.{◌≡◌, ◌≤◌, ◌++◌, ◌∷◌, [], ℤ, List, length, IfOk};
 ghost use Rattle.std.specs.Global.{Vec};
@@ -9,8 +9,8 @@ use std::alloc::{AllocError, Global};
 use std::mem;
 use tile_sources::WidePlanes;
 
-/// Memory in which tiles are computed, one after another: for boxes of inlined functions, for samples of planes, for operands, and
-/// vectors of earlier tiles. What it holds means nothing between calls.
+/// Buffers in which tiles are computed, one after another: for boxes of inlined functions, samples of planes and operands. Also
+/// the recycled vectors of earlier tiles. Their content is unspecified between calls.
 #[derive(Drop)]
 pub struct Scratch {
     pub(crate) boxes: scratch::Scratch,
@@ -20,7 +20,7 @@ pub struct Scratch {
     pub(crate) operands_of_steps: Vec<i32>,
 }
 
-/// Takes the vector out, grown to so many numbers where it has fewer. What it holds means nothing.
+/// Takes the vector out, grown to the requested length if it is shorter. Its content is unspecified.
 ///
 /// # Errors
 ///
@@ -51,7 +51,7 @@ impl Scratch {
         }
     }
 
-    /// The vector of an earlier tile, where one was taken back, or else a new one. What it holds means nothing.
+    /// The vector of an earlier tile, if one was recycled, or else a new one. Its content is unspecified.
     pub(crate) fn tile_room(&mut self, alloc: Global) -> Vec<i32>
         ensures none { self.old.tiles.items ≡ [] → result.items ≡ [] }
         ensures last { (before : List (Vec ℤ)) (last : Vec ℤ)
@@ -63,7 +63,7 @@ impl Scratch {
         }
     }
 
-    /// The vectors of as many earlier tiles as a row has, where so many were taken back, for a row that is made elsewhere.
+    /// A vector for each of `count` tiles of a row that is computed elsewhere: recycled ones first, then new ones.
     ///
     /// # Errors
     ///
@@ -76,21 +76,21 @@ impl Scratch {
         Ok(TileRow { tiles })
     }
 
-    /// Takes back the vectors of tiles that are needed no more, for those that are computed next.
+    /// Recycles the vectors of tiles that are no longer needed, instead of those that were recycled before.
     pub fn take_back(&mut self, row: TileRow)
         ensures { self.new.tiles.items ≡ row.tiles.items }
     {
         self.tiles = row.tiles;
     }
 
-    /// Takes back those of one more row of tiles, as far as there is memory to list them.
+    /// Recycles those of one more row of tiles, as far as there is memory to list them.
     pub fn take_back_too(&mut self, row: TileRow) {
         let mut vectors = row.tiles;
-        // (where they can't be listed, they are let go)
+        // (where they can't be listed, they are freed)
         let _ = self.tiles.append(&mut vectors);
     }
 
-    /// Takes back those of all tiles of a stage besides, as far as there is memory to list them.
+    /// Recycles those of all tiles of a stage as well, as far as there is memory to list them.
     pub fn take_stage_back(&mut self, tiles: Tiles) {
         let mut rows = tiles.rows;
         while let Some(row) = rows.pop() {

@@ -1,5 +1,5 @@
 #![tactic(auto)]
-//! Room for the operands of formulas.
+//! The capacity that the operands of formulas need.
 
 ghost use Rattle.std.specs.Prelude.{◌≡◌, map, length, IfSome};
 ghost use Rattle.job.specs.Kept.{pipeline_in};
@@ -11,7 +11,7 @@ use job::Job;
 use overlap_tiles::Step;
 use tile_eval::function_room;
 
-// Room for the operands of a step, if that many numbers can be counted; none is needed for what is no function.
+// The capacity for the operands of a step, if it can be counted; 0 for a stage that is no function.
 fn step_room(job: &Job, step: &Step) -> Option<usize>
     ensures { IfSome result (HasStepRoom (pipeline_in job.now) (step_view step.now)) }
 {
@@ -21,7 +21,7 @@ fn step_room(job: &Job, step: &Step) -> Option<usize>
     }
 }
 
-/// Room for the operands of each of these steps, if that many numbers can be counted.
+/// A capacity for the operands of each of these steps, if it can be counted.
 pub(crate) fn steps_room(job: &Job, steps: &[Step]) -> Option<usize>
     ensures { IfSome result (HasStepsRoom (pipeline_in job.now) (map step_view steps.now)) }
 {

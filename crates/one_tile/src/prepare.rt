@@ -1,5 +1,5 @@
 #![tactic(auto)]
-//! What is at hand for a tile, before it is computed.
+//! What is made available for a tile before it is computed.
 
 ghost use Rattle.std.specs.Prelude.{◌≡◌, ℕ, IfOk};
 ghost use Rattle.job.specs.Kept.{pipeline_in};
@@ -17,8 +17,8 @@ use std::mem;
 use tile_sources::{Known, WidePlanes, plane_areas};
 
 impl<K: Known> TileJob<'_, K> {
-    /// Computes the boxes of the inlined functions that the tile's layout names, so that all that the tile reads is at hand.
-    /// Samples that are read again and again are made numbers before. All memory is grown before the first value is computed.
+    /// Computes the boxes of the inlined functions that the tile's layout names, so that all reads of the tile are available.
+    /// Samples that are read often are converted to int32 first. All buffers are grown before the first value is computed.
     ///
     /// # Errors
     ///
@@ -44,7 +44,7 @@ impl<K: Known> TileJob<'_, K> {
         scratch.boxes.grow(self.layout.scratch())?;
         scratch.planes.grow(&areas)?;
         scratch.planes.take(self.job.picture(), &areas);
-        // the planes are read while the memory of the boxes is written
+        // the converted planes are read while the memory of the boxes is written
         let planes = mem::replace(&mut scratch.planes, WidePlanes::none(alloc));
         self.run_steps(&planes, &mut scratch.boxes, &mut operands[..room]);
         scratch.planes = planes;

@@ -1,5 +1,5 @@
 #![tactic(auto)]
-//! A tile of a function, from what is given.
+//! A tile of a function, from what is supplied.
 
 ghost use Rattle.std.specs.Prelude.{◌≡◌, ◌++◌, ◌∷◌, [], ℕ, List, Bool, None, map, IfOk, IfErr, IfSome, IfNone};
 ghost use Rattle.std.specs.Option.{option_map};
@@ -35,7 +35,7 @@ fn is_missing<K: Known>(known: &K, key: &Key) -> bool
         .is_none()
 }
 
-/// The first of these keys whose tile is not given.
+/// The first of these keys whose tile is not supplied.
 pub fn first_missing<K: Known>(needs: &[Key], known: &K) -> Option<Key>
     ensures { result ≡ first_missing (K.given known.now) needs.now }
 {
@@ -55,7 +55,7 @@ fn last_of(steps: &[Step]) -> Option<&Step>
 }
 
 impl<K: Known> TileJob<'_, K> {
-    // The values of a function over the last step's area. All memory is grown before the first value is computed.
+    // The values of a function over the last step's area. All buffers are grown before the first value is computed.
     fn target(
         &self,
         alloc: Global,
@@ -116,12 +116,13 @@ impl<K: Known> TileJob<'_, K> {
     }
 }
 
-/// The local values of a tile of a function, row by row, by its plan and from what is given, whatever that is. Where all that is
-/// given is true, they are the values of the job.
+/// The local values of a tile of a function, row by row, by its plan and from whatever is supplied. If all that is supplied is
+/// true, they are the values of the job.
 ///
 /// # Errors
 ///
-/// Fails where a tile that the plan needs is not given, with the least, before memory is taken; and where memory is refused.
+/// Fails with the least tile that the plan needs and that is not supplied, before memory is allocated; and where memory is
+/// refused.
 pub fn run_tile<K: Known>(
     alloc: Global,
     job: &Job,

@@ -38,8 +38,8 @@ pub(crate) fn function_of(job: &Job, number: usize) -> Option<&Function>
 }
 
 impl<K: Known> TileJob<'_, K> {
-    // Writes the values of a function over its box into the box's range, which starts there. The memory before the range and that
-    // behind it are lent meanwhile.
+    // Writes the values of a function over its box into the box's range, which starts at `start`. The memory before and after the
+    // range is borrowed meanwhile.
     fn write_box(
         &self,
         planes: &WidePlanes,
@@ -78,7 +78,7 @@ impl<K: Known> TileJob<'_, K> {
         inputs.values(step.stage, function, &step.area, part, temps);
     }
 
-    // Computes the step at this place in its range, where those before it that are still read are computed.
+    // Computes the step at this place into its range. Those steps before it that are still read are already computed.
     fn run_step(&self, place: usize, planes: &WidePlanes, scratch: &mut Scratch, temps: &mut [i32])
         requires layout { IsSomeLayout (pipeline_in self.now.job.now) self.now.layout.now }
         requires needs { NeedsGiven (K.given self.now.known.now) self.now.layout.now.needs }

@@ -11,7 +11,7 @@ use thiserror::Error;
 /// Why a tile is not computed.
 #[derive(Clone, Copy, Debug, PartialEq, Eq, Error)]
 pub enum EvalFault {
-    /// 1: the tile of this key is needed and not given; no lesser one is.
+    /// 1: the tile of this key is needed and not supplied; it is the least such key.
     #[error("a tile that is needed is not there")]
     Missing(Key),
     /// 2: no memory was left.

@@ -1,5 +1,5 @@
 #![tactic(auto)]
-//! What is at hand for a tile: planes, tiles that are given, and boxes of inlined functions.
+//! What is available for a tile: planes, supplied tiles, and boxes of inlined functions.
 
 ghost use Rattle.std.specs.Prelude.{◌≡◌, map, slice_get};
 ghost use Rattle.std.specs.Option.{option_map};
@@ -16,7 +16,7 @@ use overlap_tiles::Step;
 use tile_eval::{BufferView, RowSource, RowSpan, area_onto};
 use tile_sources::{Known, plane_gather, plane_row, plane_sample};
 
-/// What a tile reads: planes of its job, tiles that are given of functions that are stored, and boxes of functions that are inlined.
+/// What a tile reads: planes of its job, supplied tiles of stored functions, and boxes of inlined functions.
 #[derive(Drop)]
 pub struct TileInputs<'a, 'b, K: Known> {
     pub tile: TileJob<'a, K>,
@@ -52,7 +52,7 @@ impl<K: Known> TileInputs<'_, '_, K> {
     ghost use Rattle.one_tile.specs.Prepared.{IsBoxed, IsPrepared};
     ghost use Rattle.one_tile.specs.inside.Steps.{IsFunctionAt};
 
-    // The box of an inlined function, if it is lent.
+    // The box of an inlined function, if it is borrowed.
     fn boxed(&self, stage: usize) -> Option<BufferView<'_>>
         ensures some { IfSome result (λ view. (r c : ℤ)
             → IsBoxed (pipeline_in self.now.tile.job.now) self.now.tile.layout.now
@@ -87,8 +87,8 @@ impl<K: Known> TileInputs<'_, '_, K> {
         }
     }
 
-    /// Writes the values of a function over an area of its domain, row by row, where all that it reads there is at hand. What the
-    /// room for the operands holds means nothing.
+    /// Writes the values of a function over an area of its domain, row by row, where all its reads are available. The content of
+    /// the operand buffer is unspecified.
     pub(crate) fn values(
         &self,
         number: usize,

@@ -1,5 +1,5 @@
 #![tactic(auto)]
-//! What is asked for: a tile of a job, by its layout, from tiles that are given.
+//! What is requested: a tile of a job, by its layout, from supplied tiles.
 
 ghost use Rattle.std.specs.Prelude.{◌≡◌, Some, slice_get};
 ghost use Rattle.job.specs.Answers.{grid_of};
@@ -13,7 +13,7 @@ use overlap_tiles::Layout;
 use std::alloc::AllocError;
 use tile_sources::{Known, TilesOfStage};
 
-/// A tile of a job that is to be computed: its layout, and what gives the tiles that it needs.
+/// A tile of a job that is to be computed: its layout, and the supplier of the tiles that it needs.
 pub struct TileJob<'a, K: Known> {
     pub job: &'a Job,
     pub layout: &'a Layout<'a>,

@@ -2,7 +2,7 @@
 use Rattle.std.specs.Prelude.{ℕ, ℤ, ◌+◌, Option, List, map, length}
 use Rattle.std.specs.List.{sum}
 use Rattle.std.specs.Option.{option_map_or}
-use Rattle.job.specs.Formula.{Formula, number, coordinate, read, neg, binary, literal, abs, lookup, clamp, select, stencil}
+use Rattle.job.specs.Formula.{Formula, number, coordinate, read, unary, binary, ternary, literal, lookup, select, stencil}
 use Rattle.job.specs.Pipeline.{JobCase, Body, plane, function, accumulator}
 
 -- the factors of a kernel
@@ -14,12 +14,11 @@ abbrev pub work_in : Formula → ℕ
 work_in (number n) = 0
 work_in (coordinate x) = 0
 work_in (read g i j) = 1
-work_in (neg a) = work_in a + 1
+work_in (unary op a) = work_in a + 1
 work_in (binary op a b) = work_in a + work_in b + 1
+work_in (ternary op a b d) = work_in a + work_in b + work_in d + 1
 work_in (literal op a n) = work_in a + 1
-work_in (abs a) = work_in a + 1
 work_in (lookup t a) = work_in a + 1
-work_in (clamp a low high) = work_in a + work_in low + work_in high + 1
 work_in (select a relation b first second) = work_in a + work_in b + work_in first + work_in second + 1
 work_in (stencil g divisor kernel) = factors kernel
 

@@ -14,15 +14,15 @@ use Rattle.one_tile.specs.Runs.{NeedsGiven}
 use Rattle.tile_run.specs.Stored.{numbers_in, IsStoredFunction}
 use Rattle.one_tile.specs.declared.tile_rows.TileRow.{TileRow}
 
--- whatever the tiles of stage g need is given
+-- all that the tiles of stage g need is supplied
 abbrev pub GivesNeedsOf : Pipeline → List Bool → KnownTiles → ℕ → Type 0
 GivesNeedsOf job inlining given g = (i j : ℕ) (l : Layout) → IsTileLayout job inlining g i j l → NeedsGiven given l.needs
 
--- the tile has room in scratch memory
+-- the tile fits in scratch memory
 abbrev pub FitsAt : Pipeline → List Bool → ℕ → Grid → ℕ → ℕ → Type 0
 FitsAt job inlining g grid i j = scratch (record { job = job; inlining = inlining; stage = g; region = tile_area grid i j }) ≤ most_scratch
 
--- all is there that the tiles of stage g, a stored function with this grid, are made of, and it is true
+-- all from which the tiles of stage g, a stored function with this grid, are made is available, and it is true
 pub record IsStageReady (job : Pipeline) (inlining : List Bool) (given : KnownTiles) (g : ℕ) (grid : Grid) : Type 0 where
   pub stage : Stage
   pub function : IsStoredFunction job inlining g stage
@@ -45,6 +45,6 @@ tile_values job g grid i j = raster (tile_area grid i j) (value job g)
 abbrev pub row_values : Pipeline → ℕ → Grid → ℕ → ℕ → List (List ℤ)
 row_values job g grid i n = map (tile_values job g grid i) (range_with_len 0 n)
 
--- what one row of tiles of stage g gives
+-- what one row of tiles of stage g supplies
 abbrev pub lent_row : ℕ → ℕ → TileRow → KnownTiles
 lent_row g row tiles h i j = if (h == g) && (i == row) then numbers_in (Some tiles) j else None

@@ -34,11 +34,11 @@ pub record IsStoredFunction (job : Pipeline) (inlining : List Bool) (g : ℕ) (s
   pub function : is_function_body s.body ≡ true
   pub stored : is_inlined inlining g ≡ false
 
--- each tile of a stage is given, with its values
+-- each tile of a stage is supplied, with its values
 abbrev pub GivesTilesOf : Pipeline → KnownTiles → ℕ → Stage → Type 0
 GivesTilesOf job given g s =
     (i j : ℕ) → HasTile (grid_of job s) i j → given g i j ≡ Some (raster (tile_area (grid_of job s) i j) (value job g))
 
--- each tile of each stored function is
+-- so is each tile of each stored function
 abbrev pub GivesAllTiles : Pipeline → List Bool → KnownTiles → Type 0
 GivesAllTiles job inlining given = (g : ℕ) (s : Stage) → IsStoredFunction job inlining g s → GivesTilesOf job given g s

@@ -1,5 +1,5 @@
--- Which stored functions are needed for what a job answers, and how long. A run takes a turn for each rank, in which it makes the tiles
--- of that rank, and after them one in which it makes the answer.
+-- Which stored functions are needed for the answer of a job, and how long. A run has a phase for each rank, in which it makes the
+-- tiles of that rank. After them comes one in which it makes the answer.
 use Rattle.std.specs.Prelude.{ℕ, ◌<◌, ◌≤◌, ◌≡◌, ◌⊎◌, Bool, true, false, if◌then◌else◌, Some, List, length, slice_get, slice_index_or, All}
 use Rattle.job.specs.Answers.{is_output}
 use Rattle.job.specs.Pipeline.{Body, plane, function, accumulator, Stage, Pipeline}
@@ -10,7 +10,7 @@ use Rattle.tile_run.specs.Stored.{IsStoredFunction, GivesTilesOf}
 use Rattle.tile_run.specs.declared.turn.Turn.{Turn}
 use Rattle.tile_run.specs.declared.turn.Turn.TheVariants.{Never, Rank, Answer}
 
--- a turn is no later than another
+-- a phase is no later than another
 abbrev pub IsBy : Turn → Turn → Type 0
 IsBy Never u = Unit {0}
 IsBy (Rank r) Never = ⊥
@@ -20,7 +20,7 @@ IsBy Answer Never = ⊥
 IsBy Answer (Rank q) = ⊥
 IsBy Answer Answer = Unit {0}
 
--- ---- for each stage a turn by which it was read for the last time
+-- ---- for each stage a phase by which it was read for the last time
 
 abbrev pub last_of : List Turn → ℕ → Turn
 last_of lasts g = slice_index_or lasts g Never
@@ -34,7 +34,7 @@ is_read Answer = true
 abbrev pub is_used : List Turn → ℕ → Bool
 is_used lasts g = is_read (last_of lasts g)
 
--- a function that is used is made in the turn of its rank, and an output that nothing else reads with the answer
+-- a function that is used is made in the phase of its rank, and an output that nothing else reads with the answer
 abbrev pub function_turn : Pipeline → List Turn → ℕ → ℕ → Turn
 function_turn job lasts g rank = if is_used lasts g then Rank rank else (if is_output job g then Answer else Never)
 
@@ -43,28 +43,28 @@ body_turn job lasts g rank (plane n) = Never
 body_turn job lasts g rank (function cases otherwise) = function_turn job lasts g rank
 body_turn job lasts g rank (accumulator fold bins value bin) = Answer
 
--- the turn in which stage g reads for the last time; an inlined function is made anew in all that reads it
+-- the phase in which stage g reads for the last time; an inlined function is recomputed in all that reads it
 abbrev pub reads_turn : Pipeline → List Bool → List Turn → ℕ → Stage → Turn
 reads_turn job inlining lasts g s = if is_inlined inlining g then last_of lasts g else body_turn job lasts g s.rank s.body
 
--- what it reads is read in that turn or later
+-- what it reads is read in that phase or later
 abbrev pub HasReads : Pipeline → List Bool → List Turn → ℕ → Stage → Type 0
 HasReads job inlining lasts g s =
     All (λ x. stage_read x < length job.stages → IsBy (reads_turn job inlining lasts g s) (last_of lasts (stage_read x)))
     (reads_of s.body)
 
--- so it is with each stage
+-- this holds of each stage
 pub record HasLasts (job : Pipeline) (inlining : List Bool) (lasts : List Turn) : Type 0 where
   pub each : length lasts ≡ length job.stages
   pub reads : (g : ℕ) (s : Stage) → slice_get job.stages g ≡ Some s → HasReads job inlining lasts g s
 
--- ---- what is there in a turn
+-- ---- what is available in a phase
 
 -- a stage that is still to be read, or an output that is used: it is kept to the last
 abbrev pub IsKept : Pipeline → List Turn → Turn → ℕ → Type 0
 IsKept job lasts turn g = (IsBy turn (last_of lasts g)) ⊎ ((is_output job g ≡ true) × (is_used lasts g ≡ true))
 
--- the tiles of each used stored function of a rank below this one that is kept in this turn
+-- the tiles of each used stored function of a rank below this one that is kept in this phase
 pub record IsHeld (job : Pipeline) (inlining : List Bool) (lasts : List Turn) (rank : ℕ) (turn : Turn) (g : ℕ) (s : Stage) : Type 0
   where
     pub function : IsStoredFunction job inlining g s

@@ -1,4 +1,4 @@
--- Stages have the turns in which they are read in one way: any two proofs of `HasLasts` are equal.
+-- The phases in which stages are read are determined in one way: any two proofs of `HasLasts` are equal.
 use Rattle.std.specs.Prelude.{List, Bool}
 use Rattle.std.proofs.Props.{props}
 use Rattle.job.specs.Pipeline.{Pipeline}

@@ -18,12 +18,12 @@ abbrev pub wanted_by : Pipeline → List Bool → Work → ℕ → Bool
 wanted_by job inlining Functions = is_stored_function job inlining
 wanted_by job inlining Accumulators = is_accumulator_at job
 
--- ---- the first tile without room
+-- ---- the first tile that does not fit
 
 abbrev pub first_too_big : Pipeline → List Bool → (ℕ → Bool) → Option Tile
 first_too_big job inlining wants = find (lacks_room job inlining) (tiles_in_order job wants)
 
--- why a run has no answer: a tile has no room, and none before it; memory may be refused at any
+-- why a run has no answer: a tile does not fit in scratch memory, and each before it does; memory may be refused at any
 abbrev pub IsRunFault : List ℕ → Pipeline → List Bool → (ℕ → Bool) → RunFault → Type 0
 IsRunFault program job inlining wants (ScratchTooBig key) = option_map (key_of program job) (first_too_big job inlining wants) ≡ Some key
 IsRunFault program job inlining wants Memory = Unit {0}

@@ -11,8 +11,8 @@ use thiserror::Error;
 /// Why the tiles of a job are not made.
 #[derive(Clone, Copy, Debug, PartialEq, Eq, Error)]
 pub enum RunFault {
-    /// 1: the boxes of what is inlined into the tile of this key have more points together than `grouping::MOST_SCRATCH`; of no tile
-    /// before it do they.
+    /// 1: the boxes of the functions inlined into this key's tile have more points together than `grouping::MOST_SCRATCH`; those
+    /// of no tile before it have.
     #[error("a tile takes too much scratch memory")]
     ScratchTooBig(Key),
     /// 2: no memory was left.

@@ -1,4 +1,5 @@
-//! What the definitions amount to, proved once for the crates above. A law is a function that does nothing: its clauses are the law.
+//! Consequences of the definitions, proved once for the crates above. A law is a function that does nothing: its clauses are the
+//! law.
 
 ghost use Rattle.std.specs.Prelude.{◌≡◌, ◌⊎◌, ℕ, ℤ, Bool, true, Option, Some, List, slice_get, Contains};
 ghost use Rattle.domains.specs.declared.area.Area.{Area};
@@ -14,7 +15,7 @@ ghost use Rattle.tile_sources.specs.KnownTiles.{KnownTiles, AreTrue};
 ghost use Rattle.one_tile.specs.Local.{read_from, local_value, IsClosed};
 ghost use Rattle.one_tile.specs.Runs.{is_missing, first_missing};
 
-/// A local value is what its stage makes of what it reads: samples of planes, numbers that are given, and local values.
+/// A local value is what its stage makes of what it reads: samples of planes, supplied numbers, and local values.
 pub fn local_values_unroll()
     ensures { (job : Pipeline) (inlining : List Bool) (given : KnownTiles) (g : ℕ) (r c : ℤ)
         → IsRanked job.stages
@@ -23,8 +24,8 @@ pub fn local_values_unroll()
         (slice_get job.stages g) r c }
 {}
 
-/// Where what is given is true, local values are the values of the job: over boxes of stages at each point of which all that is read
-/// is at hand.
+/// If supplied tiles are true, local values are the values of the job: over boxes of stages at each point of which all reads
+/// are available.
 pub fn true_tiles_give_values()
     ensures { (job : Pipeline) (inlining : List Bool) (given : KnownTiles) (boxes : ℕ → Option Area)
         (g : ℕ) (r c : ℤ) → IsJob job → AreTrue job given
@@ -32,7 +33,7 @@ pub fn true_tiles_give_values()
         → local_value job inlining given g r c ≡ value job g r c }
 {}
 
-/// Of the tiles that a target needs, the first that is not given has the least key of those that are not.
+/// Of the tiles that a target needs, the first that is not supplied has the least key of those that are not.
 pub fn first_missing_is_least()
     ensures { (program : List ℕ) (t : Target) (given : KnownTiles) (key other : Key)
         → first_missing given (needed_keys program t) ≡ Some key

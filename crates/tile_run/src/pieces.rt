@@ -1,5 +1,5 @@
 #![tactic(auto)]
-//! How the rows of tiles of a stage are parted among threads.
+//! How the rows of tiles of a stage are partitioned among threads.
 
 ghost use Rattle.std.specs.Prelude.{◌≡◌, ◌<◌};
 ghost use Rattle.tile_run.specs.Pieces.{rows_worth_a_thread};
@@ -8,15 +8,15 @@ use crate::work_of_points::point_work;
 use grouping::Schedule;
 use job::Job;
 
-/// How many reads and operators, one after another, are worth a thread of their own: some 600 microseconds' worth. To start the thread takes some 50; the others are
-/// for what threads lose to each other where both touch pages for the first time.
+/// How many sequential reads and operators are worth a thread of their own: some 600 microseconds' worth. Starting the thread
+/// takes some 50; the others are for what threads lose to each other where both touch pages for the first time.
 const LEAST_WORK: u64 = 4_194_304;
 
 /// How many of these the layout of a tile is worth, whatever its points.
 pub const WORK_OF_TILE: u64 = 8_192;
 
-/// How many rows of tiles of a stage are worth a thread of their own. The work is guessed: its schedule says how many points its
-/// tiles take together, and each is taken for one of the stage's own.
+/// How many rows of tiles of a stage are worth a thread of their own. The work is estimated: the schedule specifies how many
+/// points its tiles have together, and each counts as one of the stage's own.
 pub fn least_rows(job: &Job, schedule: &Schedule, stage: usize) -> usize
     ensures { 0 < result }
 {
@@ -31,7 +31,7 @@ pub fn least_rows(job: &Job, schedule: &Schedule, stage: usize) -> usize
     }
 }
 
-// Of rows that take so much work together, how many are worth a thread of their own.
+// Of rows that are so much work together, how many are worth a thread of their own.
 fn rows_worth_a_thread(rows: u32, work: u64) -> usize
     requires { 0 < rows }
     ensures number { result ≡ rows_worth_a_thread rows work }

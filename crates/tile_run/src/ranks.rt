@@ -40,7 +40,7 @@ struct KeptRun<'a> {
 }
 
 impl Stored {
-    // Of so many stages none is stored.
+    // Of `count` stages none is stored.
     fn none(alloc: Global, count: usize) -> Result<Stored, AllocError>
         ensures length { IfOk result (λ stored. length stored.stages.items ≡ count) }
         ensures none { IfOk result
@@ -55,7 +55,8 @@ impl Stored {
         Ok(Stored { stages })
     }
 
-    // Lets the tiles go of all stages but outputs that nothing reads after the turn of this rank. Their vectors are for those to come.
+    // Recycles the tiles of all stages, except outputs, that nothing reads after the phase of this rank. Later tiles reuse their
+    // vectors.
     fn let_go(&mut self, alloc: Global, run: &KeptRun<'_>, rank: usize, scratch: &mut Scratch)
         requires { AreStored (pipeline_in run.now.job.now) run.now.schedule.now.inlining
             run.now.uses.now.lasts.items (rank + 1) (Rank rank) self.old.stages.items }
@@ -122,7 +123,8 @@ impl KeptRun<'_> {
         }
     }
 
-    // The turn of a rank: its tiles are made, where those of lower ranks are stored, and those are let go that nothing reads afterwards.
+    // The phase of a rank: its tiles are made from the stored ones of lower ranks, and those that nothing reads afterwards are
+    // recycled.
     fn take_turn(
         &self,
         rt: &(impl Threads + Sync),
@@ -169,9 +171,9 @@ impl KeptRun<'_> {
     }
 }
 
-/// The tiles of the stored functions of a job that are used, as far as they are kept to the end: those of a rank after those of lower
-/// ranks, and each only as long as what reads it is to be made. Several threads compute those of a function together, where there is
-/// work for more than one.
+/// The tiles of the stored functions of a job that are used, as far as they are kept to the end. Those of a rank are made after
+/// those of lower ranks. Each is kept only as long as what reads it is to be made. Several threads compute those of a function
+/// together, if there is work for more than one.
 ///
 /// # Errors
 ///
@@ -200,11 +202,11 @@ pub fn run_kept(
 }
 
 /// All tiles of the stored functions of a job: those of a rank after those of lower ranks. Several threads compute those of
-/// a function together, where there is work for more than one.
+/// a function together, if there is work for more than one.
 ///
 /// # Errors
 ///
-/// Fails where a tile takes too much scratch memory, with the first one and before any is made; and where memory is refused.
+/// Fails if a tile takes too much scratch memory, with the first one and before any is made; and if memory is refused.
 pub fn run_all(
     rt: &(impl Threads + Sync),
     alloc: Global,

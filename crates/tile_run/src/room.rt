@@ -1,5 +1,5 @@
 #![tactic(auto)]
-//! Whether the tiles that a run makes have room in scratch memory.
+//! Whether the tiles that a run makes fit in scratch memory.
 
 ghost use Rattle.std.specs.Prelude.{◌≡◌, ◌<◌, Some, filter, find, All, IfOk};
 ghost use Rattle.std.specs.List.{flat_map};
@@ -165,7 +165,7 @@ fn first_among(
 }
 
 /// The key of the first tile, in dependence order and row by row, that takes more scratch memory than `grouping::MOST_SCRATCH`
-/// points. Where the schedule is known to fit, nothing is looked through.
+/// points. If the schedule is known to fit, nothing is searched.
 ///
 /// # Errors
 ///

@@ -22,7 +22,8 @@ use rayon::prelude::*;
 use std::alloc::{AllocError, Global};
 use std::thread::Threads;
 
-/// A stored function of a job, whose tiles are to be made, with its number and its grid, and with what is stored of those that it reads.
+/// A stored function of a job, whose tiles are to be made: its number, its grid, and what is stored of the functions that it
+/// reads.
 #[derive(Clone, Copy)]
 pub struct StageRun<'a> {
     pub job: &'a Job,
@@ -98,7 +99,7 @@ impl StageRun<'_> {
         Ok(TileRow { tiles })
     }
 
-    /// Those of all rows: several rows to a thread, where there is work for more than one thread.
+    /// Those of all rows: several rows to a thread, if there is work for more than one thread.
     ///
     /// # Errors
     ///
@@ -151,7 +152,7 @@ impl StageRun<'_> {
         Ok(works)
     }
 
-    // Those of all rows, of which a thread has as many as this or more, and scratch memory of its own.
+    // Those of all rows: each thread has at least this many, and scratch memory of its own.
     fn tiles_side_by_side(
         &self,
         rt: &(impl Threads + Sync),

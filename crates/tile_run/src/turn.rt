@@ -1,15 +1,15 @@
 #![tactic(auto)]
-//! The turns of a run.
+//! The phases of a run.
 
-/// When a stage is read for the last time, in a run that takes a turn for each rank, in which it makes the tiles of that rank, and after
-/// them one in which it makes the answer.
+/// When a stage is read for the last time. A run has a phase for each rank, in which it makes the tiles of that rank. After them
+/// comes one in which it makes the answer.
 #[derive(Clone, Copy, Debug, PartialEq, Eq)]
 pub enum Turn {
     /// Nothing that is made reads the stage.
     Never,
-    /// In the turn of this rank.
+    /// In the phase of this rank.
     Rank(usize),
-    /// In the turn in which the answer is made.
+    /// In the phase in which the answer is made.
     Answer,
 }
 
@@ -17,7 +17,7 @@ impl Turn {
     ghost use Rattle.std.specs.Prelude.{◌≡◌};
     ghost use Rattle.tile_run.specs.inside.Lasting.{later, is_over};
 
-    /// The later of two turns.
+    /// The later of two phases.
     pub(crate) fn later(self, other: Turn) -> Turn
         ensures { result ≡ later self other }
     {

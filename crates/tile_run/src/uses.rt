@@ -1,5 +1,5 @@
 #![tactic(auto)]
-//! Which stored functions are needed for what a job answers, and how long.
+//! Which stored functions are needed for the answer of a job, and how long.
 
 ghost use Rattle.std.specs.Prelude.{◌≡◌, ◌+◌, ◌<◌, ℕ, Bool, List, length, map, IfOk};
 ghost use Rattle.job.specs.Kept.{pipeline_in};
@@ -15,13 +15,13 @@ use job::{Job, Read, Stage, StageKind};
 use std::alloc::{AllocError, Global};
 use tile_eval::stage_of;
 
-/// For each stage of a job the turn in which it is read for the last time.
+/// For each stage of a job the phase in which it is read for the last time.
 #[derive(Drop)]
 pub struct Uses {
     pub(crate) lasts: Vec<Turn>,
 }
 
-// A stage is read in this turn.
+// Records that a stage is read in this phase.
 fn read_in(lasts: &mut [Turn], stage: usize, turn: Turn)
     ensures { lasts.new ≡ read_in turn lasts.old stage }
 {
@@ -30,7 +30,7 @@ fn read_in(lasts: &mut [Turn], stage: usize, turn: Turn)
     }
 }
 
-// And so are all of these.
+// Records that all of these are read in this phase.
 fn all_read_in(lasts: &mut [Turn], reads: &[Read], turn: Turn)
     ensures { lasts.new ≡ all_read_in turn lasts.old (map read_view reads.now) }
 {
@@ -56,7 +56,7 @@ impl Uses {
         })
     }
 
-    /// What is needed for the answer of a job, and how long, where these functions are inlined. What neither an output nor an
+    /// What is needed for the answer of a job, and how long, if these functions are inlined. What neither an output nor an
     /// accumulator needs is never read.
     ///
     /// # Errors
@@ -94,7 +94,7 @@ impl Uses {
         }
     }
 
-    // The turn in which a stage reads for the last time.
+    // The phase in which a stage reads for the last time.
     fn reads_turn(&self, job: &Job, schedule: &Schedule, number: usize, stage: &Stage) -> Turn
         ensures { result ≡ reads_turn (pipeline_in job.now) schedule.now.inlining
             self.now.lasts.items number (stage_view stage.now) }
@@ -110,7 +110,7 @@ impl Uses {
         }
     }
 
-    // A stage reads what it reads.
+    // Records the reads of a stage.
     fn add_reads(&mut self, job: &Job, schedule: &Schedule, number: usize)
         ensures { self.new.lasts.items
             ≡ with_reads (pipeline_in job.now) schedule.now.inlining self.old.lasts.items number }
@@ -121,7 +121,7 @@ impl Uses {
         }
     }
 
-    // And so do all stages of a rank, once those of greater ranks have.
+    // Records the reads of all stages of a rank, after those of greater ranks.
     fn add_rank(&mut self, job: &Job, schedule: &Schedule, rank: usize)
         requires { HasLastsFrom (pipeline_in job.now) schedule.now.inlining (rank + 1)
             self.old.lasts.items }

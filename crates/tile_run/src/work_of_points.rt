@@ -9,7 +9,7 @@ ghost use Rattle.tile_run.specs.PointWork.{work_in, work_of_case, work_of_other,
 
 use job::{Body, Factors, Formula, JobCase, Stage};
 
-/// How much work a point of a stage is: what its formulas have of reads, operators and factors of kernels, and one that it is written.
+/// How much work a point of a stage is: the reads, operators and kernel factors of its formulas, and one for writing it.
 pub fn point_work(stage: &Stage) -> u64
     ensures { result ≡ min (work_of (stage_view stage.now).body + 1) (2 ^ 64 - 1) }
 {
@@ -53,8 +53,7 @@ fn work_in(formula: &Formula) -> u64
     match formula {
         Formula::Number(_) | Formula::Coordinate(_) => 0,
         Formula::Read(_, _, _) => 1,
-        Formula::Neg(operand)
-        | Formula::Abs(operand)
+        Formula::Unary(_, operand)
         | Formula::Lookup(_, operand)
         | Formula::Literal(_, operand, _) => work_in(operand).saturating_add(1),
         Formula::Binary(_, left, right) => {
@@ -62,9 +61,9 @@ fn work_in(formula: &Formula) -> u64
                 .saturating_add(work_in(right))
                 .saturating_add(1)
         }
-        Formula::Clamp(value, least, greatest) => work_in(value)
-            .saturating_add(work_in(least))
-            .saturating_add(work_in(greatest))
+        Formula::Ternary(_, first, second, third) => work_in(first)
+            .saturating_add(work_in(second))
+            .saturating_add(work_in(third))
             .saturating_add(1),
         Formula::Select(left, _, right, then, otherwise) => work_in(left)
             .saturating_add(work_in(right))

@@ -1,4 +1,4 @@
--- Samples of planes that were made numbers for a tile.
+-- Samples of planes that were converted for a tile.
 use Rattle.std.specs.Prelude.{ℕ, zero, suc, ℤ, ◌≡◌, Option, Some, None}
 use Rattle.domains.specs.Area.{HoldsPoint}
 use Rattle.domains.specs.declared.area.Area.{Area}
@@ -15,7 +15,7 @@ IsWide picture n wide =
     (area : Area) → wide.area ≡ Some area → (r c : ℤ) → HoldsPoint area r c
     → at wide.samples.items (place_of area r c) ≡ sample_at picture n r c
 
--- what there is of plane n
+-- the converted samples of plane n
 abbrev pub wide_plane : WidePlanes → ℕ → Option WidePlane
 wide_plane planes zero = Some planes.first
 wide_plane planes (suc zero) = Some planes.second

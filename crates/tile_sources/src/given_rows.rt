@@ -1,5 +1,5 @@
 #![tactic(auto)]
-//! Rows of stages whose tiles are given.
+//! Rows of stages whose tiles are supplied.
 
 ghost use Rattle.std.specs.Prelude.{◌≡◌, ◌≤◌, ◌<◌, ◌+ℤ◌, pos, length};
 ghost use Rattle.job.specs.Kept.{pipeline_in};
@@ -11,8 +11,8 @@ use crate::tiles_of_stage::TilesOfStage;
 use domains::Grid;
 use job::Job;
 
-/// The numbers that are given of a stage along a row of its domain, from a column on, whatever they are: as far as the tile goes in
-/// which the first point lies, but at most so many.
+/// The numbers that are supplied of a stage along a row of its domain, from a column on, whatever they are. They end with the
+/// tile in which the first point lies, and are at most `most`.
 pub fn lend_given_row<'a, K: Known>(
     known: &'a K,
     job: &Job,

@@ -4,7 +4,7 @@
 ghost use Rattle.std.specs.Prelude.{◌≡◌, ◌≤◌, ◌<◌, ◌+◌, length, IfSome, IfNone};
 ghost use Rattle.tile_eval.specs.Rows.{EachPlace, at};
 
-/// So many numbers from a place on, if there are so many.
+/// `len` numbers from a place on, if there are so many.
 pub fn part_of(numbers: &[i32], start: usize, len: usize) -> Option<&[i32]>
     ensures count { IfSome result (λ part. length part.now ≡ len) }
     ensures numbers { IfSome result

@@ -1,12 +1,12 @@
 #![tactic(auto)]
-//! Over which areas a tile reads planes again and again. No value depends on what is found here: it only tells which samples are made
-//! numbers once for the tile, and not anew at each read.
+//! Over which areas a tile reads planes repeatedly. No value depends on what is found here: it only determines which samples are
+//! converted once for the tile, and not again at each read.
 
 use domains::{Area, Index, Span};
 use job::{Body, Formula, Function, Job, JobCase, Kernel};
 use overlap_tiles::Step;
 
-/// Of each plane the area over which its samples are made numbers for a tile, if that is worth its while.
+/// Of each plane the area over which its samples are converted for a tile, if that pays off.
 #[derive(Clone, Copy)]
 pub struct PlaneAreas {
     pub first: Option<Area>,
@@ -29,7 +29,7 @@ impl PlaneReads {
         }
     }
 
-    // So many samples more, over this area.
+    // Adds `samples` samples, over this area.
     fn with(&self, samples: u64, area: Area) -> PlaneReads {
         let area = match self.area {
             Some(own) => own.hull(&area),
@@ -41,8 +41,8 @@ impl PlaneReads {
         }
     }
 
-    // The area, if it has no more points than this, and its samples are read twice or more in the mean, as by a kernel of three rows,
-    // whose samples lie in a somewhat larger area than its points.
+    // The area, if it has no more points than this, and its samples are read twice or more on average. A kernel of three rows
+    // does so: its samples lie in a somewhat larger area than its points.
     fn wide_area(&self, most: u64) -> Option<Area> {
         let area = self.area?;
         if area.points() <= most.min(self.samples / 2) {
@@ -68,7 +68,7 @@ fn image_of_point(row: &Index, col: &Index, region: &Area) -> Option<Area> {
     Some(Area { rows, cols })
 }
 
-// So many numbers more on each side.
+// A span with `by` more numbers on each side.
 fn widened(span: &Span, by: usize) -> Option<Span> {
     let by = by.min(7) as i32;
     Span::new(span.lo() - by, span.hi() + by)
@@ -82,7 +82,7 @@ fn image_of_kernel(kernel: &Kernel, region: &Area) -> Option<Area> {
     Some(Area { rows, cols })
 }
 
-// Reads of a stage come in, if it is a plane: of so many samples, over this area of its domain.
+// Adds reads of a stage, if it is a plane: of `samples` samples, over this area of its domain.
 fn add_reads(job: &Job, reads: &mut [PlaneReads], stage: usize, samples: u64, area: Option<Area>) {
     let (Some(found), Some(area)) = (job.stage(stage), area) else {
         return;
@@ -95,7 +95,7 @@ fn add_reads(job: &Job, reads: &mut [PlaneReads], stage: usize, samples: u64, ar
     }
 }
 
-// The reads of a formula over a region come in. One that takes columns that do not lie side by side stays out.
+// Adds the reads of a formula over a region. One that takes columns that are not adjacent is left out.
 fn add_formula(job: &Job, reads: &mut [PlaneReads], formula: &Formula, region: &Area) {
     match formula {
         Formula::Number(_) | Formula::Coordinate(_) => {}
@@ -105,17 +105,17 @@ fn add_formula(job: &Job, reads: &mut [PlaneReads], formula: &Formula, region: &
                 add_reads(job, reads, *stage, region.points(), area);
             }
         }
-        Formula::Neg(a) | Formula::Abs(a) | Formula::Lookup(_, a) | Formula::Literal(_, a, _) => {
+        Formula::Unary(_, a) | Formula::Lookup(_, a) | Formula::Literal(_, a, _) => {
             add_formula(job, reads, a, region);
         }
         Formula::Binary(_, a, b) => {
             add_formula(job, reads, a, region);
             add_formula(job, reads, b, region);
         }
-        Formula::Clamp(a, low, high) => {
+        Formula::Ternary(_, a, b, c) => {
             add_formula(job, reads, a, region);
-            add_formula(job, reads, low, region);
-            add_formula(job, reads, high, region);
+            add_formula(job, reads, b, region);
+            add_formula(job, reads, c, region);
         }
         Formula::Select(a, _, b, first, second) => {
             add_formula(job, reads, a, region);
@@ -149,7 +149,7 @@ fn add_function(job: &Job, reads: &mut [PlaneReads], function: &Function, region
     }
 }
 
-// The reads of a step come in.
+// Adds the reads of a step.
 fn add_step(job: &Job, reads: &mut [PlaneReads], step: &Step) {
     let Some(found) = job.stage(step.stage) else {
         return;
@@ -164,8 +164,8 @@ fn add_step(job: &Job, reads: &mut [PlaneReads], step: &Step) {
     }
 }
 
-/// Of each plane the area over which these steps read its samples, if they read them again and again, row by row, and it has no more
-/// points than four times the largest step.
+/// Of each plane the area over which these steps read its samples. There is one if they read them repeatedly, row by row,
+/// and it has no more points than four times the largest step.
 pub fn plane_areas(job: &Job, steps: &[Step]) -> PlaneAreas {
     let mut reads = [PlaneReads::none(); 3];
     let mut largest = 0;

@@ -1,5 +1,5 @@
 #![tactic(auto)]
-//! Rows and points of tiles that are given.
+//! Rows and points of supplied tiles.
 
 ghost use Rattle.std.specs.Prelude.{◌≡◌, ◌≤◌, ◌<◌, ◌+ℤ◌, ◌≤ℤ◌, pos, length, IfSome, IfNone};
 ghost use Rattle.domains.specs.Area.{HoldsPoint, IsArea};
@@ -14,7 +14,7 @@ use crate::known::Known;
 use domains::{Grid, Index, Span};
 use row_kernels::{BufferView, RowSpan, number_after};
 
-/// The tiles of one stage that are given.
+/// The supplied tiles of one stage.
 #[derive(Drop)]
 pub struct TilesOfStage<'a, K: Known> {
     pub known: &'a K,
@@ -24,7 +24,7 @@ pub struct TilesOfStage<'a, K: Known> {
     ghost whole: { HasWholeTiles (K.given known.now) stage grid },
 }
 
-// How many numbers of a span there are from this one on, but at most so many.
+// How many numbers of a span there are from this one on, but at most `most`.
 #[tactic(auto, using(std::proofs::lemmas::Int::ints))]
 fn reach(span: &Span, first: i32, most: usize) -> usize
     requires held { Holds span.now first }
@@ -36,8 +36,8 @@ fn reach(span: &Span, first: i32, most: usize) -> usize
     most.min((span.hi() - first) as usize + 1)
 }
 
-// How many of some points, from the first on, an index takes into a span. An index never falls: it takes the columns between two
-// that it takes into the span there too, so the last is found by halving.
+// How many of some points, from the first on, an index takes into a span. An index never falls: between two columns that it
+// takes into the span it takes all columns there, so the last is found by binary search.
 fn taken(span: &Span, col: &Index, points: &RowSpan) -> usize
     requires held { Holds span.now (index_at col.now points.now.col) }
     requires some { 0 < points.now.len }
@@ -59,7 +59,7 @@ fn taken(span: &Span, col: &Index, points: &RowSpan) -> usize
     held
 }
 
-// So many numbers of a block along a row, from a column on, if its columns go so far.
+// `count` numbers of a block along a row, from a column on, if its columns go so far.
 fn slice_of<'a>(block: &BufferView<'a>, row: i32, first: i32, count: usize) -> Option<&'a [i32]>
     requires { HoldsPoint block.now.area row first }
     ensures count { IfSome result (λ line. length line.now ≡ count) }
@@ -75,7 +75,7 @@ fn slice_of<'a>(block: &BufferView<'a>, row: i32, first: i32, count: usize) -> O
 }
 
 impl<'a, K: Known> TilesOfStage<'a, K> {
-    // The tile in which a point lies, if it is given.
+    // The tile in which a point lies, if it is supplied.
     fn block(&self, row: i32, col: i32) -> Option<BufferView<'a>>
         ensures some { IfSome result
             (IsTileAbout (K.given self.now.known.now) self.now.stage self.now.grid row col) }
@@ -88,7 +88,7 @@ impl<'a, K: Known> TilesOfStage<'a, K> {
         Some(BufferView::new(area, numbers))
     }
 
-    /// The numbers along a row, from a column on, as far as the tile of the first of them goes, but at most so many.
+    /// The numbers along a row, from a column on, to the end of the tile of the first of them, but at most `most`.
     pub fn lend_part(&self, row: i32, first: i32, most: usize) -> &'a [i32]
         requires some { 0 < most }
         requires there { EachPlace most (λ k. IsGivenAt (K.given self.now.known.now) self.now.stage
@@ -105,7 +105,7 @@ impl<'a, K: Known> TilesOfStage<'a, K> {
         }
     }
 
-    // Writes the numbers along a row as far as the tile of its first point goes, and tells how many these are.
+    // Writes the numbers along a row to the end of the tile of its first point, and returns how many these are.
     fn part(&self, row: i32, first: i32, out: &mut [i32]) -> usize
         requires some { 0 < length out.old }
         requires there { EachPlace (length out.old) (λ k. IsGivenAt (K.given self.now.known.now)
@@ -135,7 +135,7 @@ impl<'a, K: Known> TilesOfStage<'a, K> {
         }
     }
 
-    // Writes the numbers along a row, at the columns that an index takes, as far as the tile of the first of them goes, and tells
+    // Writes the numbers along a row, at the columns that an index takes, to the end of the tile of the first of them. Returns
     // how many these are.
     fn pick_part(&self, row: i32, col: &Index, points: &RowSpan, out: &mut [i32]) -> usize
         requires some { 0 < length out.old }
@@ -173,7 +173,7 @@ impl<'a, K: Known> TilesOfStage<'a, K> {
         }
     }
 
-    /// The numbers along a row, from a column on, where one tile has them all.
+    /// The numbers along a row, from a column on, if one tile has them all.
     pub fn borrow_row(&self, row: i32, first: i32, count: usize) -> Option<&'a [i32]>
         requires { EachPlace count (λ k. IsGivenAt (K.given self.now.known.now) self.now.stage
             self.now.grid row (first +ℤ pos k)) }

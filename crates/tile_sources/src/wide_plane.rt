@@ -1,5 +1,5 @@
 #![tactic(auto)]
-//! Samples of a plane that were made numbers for a tile.
+//! Samples of a plane that were converted for a tile.
 
 ghost use Rattle.std.specs.Prelude.{◌≡◌, ◌≤◌, ◌<◌, ◌+ℤ◌, ℕ, ℤ, pos, length, IfSome, IsTrue};
 ghost use Rattle.domains.specs.Area.{HoldsPoint, IsSubarea, point_count};
@@ -19,7 +19,7 @@ use row_kernels::number_after;
 use std::alloc::{AllocError, Global};
 use tile_eval::BufferView;
 
-/// The samples of a plane over an area as numbers, row by row, if an area is named. The memory goes from tile to tile.
+/// The samples of a plane over an area as int32, row by row, if an area is named. The memory is reused from tile to tile.
 #[derive(Drop)]
 pub(crate) struct WidePlane {
     area: Option<Area>,
@@ -55,7 +55,7 @@ fn has_area(picture: &Picture, plane: usize, area: &Area) -> bool
     }
 }
 
-// Writes the samples of a plane over an area of the picture, row by row, from the first number on.
+// Converts the samples of a plane over an area of the picture, row by row, from the first number on.
 fn widen_area(picture: &Picture, plane: usize, area: &Area, out: &mut [i32])
     requires plane { plane < length picture.now.planes }
     requires area { IsSubarea area.now (picture_area picture.now) }
@@ -81,7 +81,7 @@ impl WidePlane {
         }
     }
 
-    /// Grows to as many numbers as an area has points, where there are fewer.
+    /// Grows to as many numbers as an area has points, if there are fewer.
     ///
     /// # Errors
     ///
@@ -96,7 +96,7 @@ impl WidePlane {
         Ok(())
     }
 
-    /// Takes the samples of a plane over an area, where the picture has it and memory was grown for them; else none.
+    /// Converts the samples of a plane over an area, if the picture has it and memory was grown for them; else none.
     pub(crate) fn take(&mut self, picture: &Picture, plane: usize, area: &Option<Area>)
         ensures { IsWide picture.now plane self.new }
     {
@@ -110,7 +110,7 @@ impl WidePlane {
         }
     }
 
-    /// So many samples along a row, from a column on, if the area has them.
+    /// `count` samples along a row, from a column on, if the area has them.
     pub(crate) fn row(&self, row: i32, first: i32, count: usize) -> Option<&[i32]>
         ensures count { IfSome result (λ line. length line.now ≡ count) }
         ensures samples { (picture : Image) (n : ℕ) → IsWide picture n self.now

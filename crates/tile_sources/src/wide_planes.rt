@@ -1,5 +1,5 @@
 #![tactic(auto)]
-//! Samples of the planes of a picture that were made numbers for a tile.
+//! Samples of the planes of a picture that were converted for a tile.
 
 ghost use Rattle.std.specs.Prelude.{◌≡◌, ◌+ℤ◌, pos, length, IfSome};
 ghost use Rattle.std.specs.Option.{option_map};
@@ -13,7 +13,7 @@ use crate::wide_plane::WidePlane;
 use netpbm::Picture;
 use std::alloc::{AllocError, Global};
 
-/// The samples of each plane of a picture over its area as numbers.
+/// The samples of each plane of a picture over its area as int32.
 #[derive(Drop)]
 pub struct WidePlanes {
     first: WidePlane,
@@ -31,7 +31,7 @@ impl WidePlanes {
         }
     }
 
-    /// Grows to what the samples over these areas take.
+    /// Grows to the memory that the samples over these areas need.
     ///
     /// # Errors
     ///
@@ -42,7 +42,7 @@ impl WidePlanes {
         self.third.grow(&areas.third)
     }
 
-    /// Takes the samples of each plane over its area, where the picture has it and memory was grown for them.
+    /// Converts the samples of each plane over its area, if the picture has it and memory was grown for them.
     pub fn take(&mut self, picture: &Picture, areas: &PlaneAreas)
         ensures { AreWide picture.now self.new }
     {
@@ -51,7 +51,7 @@ impl WidePlanes {
         self.third.take(picture, 2, &areas.third);
     }
 
-    // What there is of a plane.
+    // The converted samples of a plane.
     fn plane(&self, plane: usize) -> Option<&WidePlane>
         ensures { option_map (λ wide. wide.now) result ≡ wide_plane self.now plane }
     {
@@ -63,7 +63,7 @@ impl WidePlanes {
         }
     }
 
-    /// So many samples of a plane along a row, from a column on, if they were made numbers.
+    /// `count` samples of a plane along a row, from a column on, if they were converted.
     pub fn row(&self, plane: usize, row: i32, first: i32, count: usize) -> Option<&[i32]>
         ensures count { IfSome result (λ line. length line.now ≡ count) }
         ensures samples { (picture : Image) → AreWide picture self.now

@@ -1,4 +1,4 @@
--- What is computed of an inlined function, or of a tile, from what is at hand.
+-- What is computed of an inlined function, or of a tile, from what is available.
 use Rattle.std.specs.Prelude.{ℕ, ℤ, ◌+◌, ◌-◌, ◌<◌, ◌≤◌, ◌≡◌, Bool, Option, Some, List, length, slice_get, All}
 use Rattle.domains.specs.Area.{HoldsPoint, point_count}
 use Rattle.domains.specs.Span.{len_of}
@@ -21,7 +21,7 @@ pub record IsFunctionAt (job : Pipeline) (g : ℕ) (cases : List JobCase) (other
   pub there : slice_get job.stages g ≡ Some stage
   pub body : stage.body ≡ function cases otherwise
 
--- all that stage g reads at the points of an area is at hand, where Inner tells what is at hand of inlined functions
+-- all that stage g reads at the points of an area is available, where Inner says which points of inlined functions are available
 abbrev pub IsReadyOver : Pipeline → List Bool → KnownTiles → (ℕ → ℤ → ℤ → Type 0) → ℕ → Area → Type 0
 IsReadyOver job inlining given Inner g area = (r c : ℤ) → HoldsPoint area r c → IsProvided job inlining given Inner g r c
 
@@ -39,30 +39,30 @@ IsComputed job l given memory p =
     (g : ℕ) (area : Area) (range : ℕ × ℕ) → slice_get l.steps p ≡ Some (g, area) → slice_get l.ranges p ≡ Some range
     → (r c : ℤ) → HoldsPoint area r c → at memory (range.0 + place_of area r c) ≡ local_value job l.inlining given g r c
 
--- so it is with each step before place m that a step from there on reads
+-- this holds of each step before place m that a step from there on reads
 abbrev pub AreComputed : Pipeline → Layout → KnownTiles → List ℤ → ℕ → Type 0
 AreComputed job l given memory m = (p n : ℕ) → p < m → m ≤ n → IsReadAt job l.steps p n → IsComputed job l given memory p
 
--- so much is room for the operands of a step
+-- this capacity suffices for the operands of a step
 abbrev pub HasStepRoom : Pipeline → ℕ × Area → ℕ → Type 0
 HasStepRoom job step room =
     (cases : List JobCase) (otherwise : Option Formula) → IsFunctionAt job step.0 cases otherwise
     → HasFunctionRoom (len_of step.1.cols) room cases otherwise
 
--- and of each of these steps
+-- and for those of each of these steps
 abbrev pub HasStepsRoom : Pipeline → List (ℕ × Area) → ℕ → Type 0
 HasStepsRoom job steps room = All (λ step. HasStepRoom job step room) steps
 
 -- ---- a step that writes its range
 
--- the memory before a range that starts there, and the memory behind it, are lent
+-- the memory before a range that starts there, and the memory after it, are borrowed
 pub record AreLent (memory : List ℤ) (boxes : Boxes) (start : ℕ) : Type 0 where
   pub before_len : length boxes.before.now ≡ start
   pub before : (n : ℕ) → n < start → at boxes.before.now n ≡ at memory n
   pub behind_len : boxes.end + length boxes.behind.now ≡ length memory
   pub behind : (n : ℕ) → boxes.end ≤ n → n < length memory → at boxes.behind.now (n - boxes.end) ≡ at memory n
 
--- all that stage g reads over an area is at hand once the memory on either side of the area's range is lent
+-- all that stage g reads over an area is available once the memory on either side of the area's range is borrowed
 abbrev pub IsPreparedBeside : Pipeline → Layout → KnownTiles → List ℤ → ℕ → ℕ → Area → Type 0
 IsPreparedBeside job l given memory start g area =
     (boxes : Boxes) → AreLent memory boxes start → boxes.end ≡ start + point_count area → IsPrepared job l given boxes g area

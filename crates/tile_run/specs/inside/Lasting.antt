@@ -7,7 +7,7 @@ use Rattle.tile_run.specs.Uses.{last_of, reads_turn, HasReads}
 use Rattle.tile_run.specs.declared.turn.Turn.{Turn}
 use Rattle.tile_run.specs.declared.turn.Turn.TheVariants.{Never, Rank, Answer}
 
--- the later of two turns
+-- the later of two phases
 abbrev pub later : Turn → Turn → Turn
 later Never u = u
 later (Rank r) Never = Rank r
@@ -21,7 +21,7 @@ is_over Never rank = true
 is_over (Rank r) rank = nat_le r rank
 is_over Answer rank = false
 
--- stage g is read in this turn
+-- stage g is read in this phase
 abbrev pub read_in : Turn → List Turn → ℕ → List Turn
 read_in turn lasts g = slice_set lasts g (later (last_of lasts g) turn)
 
@@ -35,7 +35,7 @@ abbrev pub with_reads : Pipeline → List Bool → List Turn → ℕ → List Tu
 with_reads job inlining lasts g =
     option_map_or (λ s. all_read_in (reads_turn job inlining lasts g s) lasts (reads_of s.body)) (slice_get job.stages g) lasts
 
--- so it is with the stages of this rank or a greater one
+-- this holds of the stages of this rank or a greater one
 pub record HasLastsFrom (job : Pipeline) (inlining : List Bool) (rank : ℕ) (lasts : List Turn) : Type 0 where
   pub each : length lasts ≡ length job.stages
   pub reads : (g : ℕ) (s : Stage) → slice_get job.stages g ≡ Some s → rank ≤ s.rank → HasReads job inlining lasts g s

@@ -1,4 +1,4 @@
--- Tiles among which the first without room is looked for.
+-- Tiles among which the first that does not fit is searched.
 use Rattle.std.specs.Prelude.{ℕ, List, map}
 use Rattle.std.specs.List.{range_with_len}
 use Rattle.domains.specs.Tiles.{tile_cols}

@@ -22,14 +22,14 @@ pub record AreTilesOf (job : Pipeline) (inlining : List Bool) (lasts : List Turn
   pub all :
       (s : Stage) → IsStoredFunction job inlining g s → is_used lasts g ≡ true → GivesTilesOf job (λ h. tile_numbers (Some tiles)) g s
 
--- what is stored is true, and all tiles of the stored functions of lower ranks that are kept in a turn are there
+-- what is stored is true, and all tiles of the stored functions of lower ranks that are kept in a phase are there
 pub record AreStored (job : Pipeline) (inlining : List Bool) (lasts : List Turn) (rank : ℕ) (turn : Turn)
     (stages : List Tiles) : Type 0 where
   pub length : length stages ≡ length job.stages
   pub right : AreTrue job (stored_tiles stages)
   pub held : GivesHeld job inlining lasts rank turn (stored_tiles stages)
 
--- each tile of a stored function has room in scratch memory
+-- each tile of a stored function fits in scratch memory
 abbrev pub StoredFit : Pipeline → List Bool → Type 0
 StoredFit job inlining = (g : ℕ) (s : Stage) → IsStoredFunction job inlining g s → (i j : ℕ) → HasTile (grid_of job s) i j
     → FitsAt job inlining g (grid_of job s) i j

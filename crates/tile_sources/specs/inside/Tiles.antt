@@ -1,4 +1,4 @@
--- One tile that is given.
+-- One supplied tile.
 use Rattle.std.specs.Prelude.{ℕ, ℤ, ◌≡◌, Some}
 use Rattle.domains.specs.Area.{HoldsPoint}
 use Rattle.domains.specs.Tiles.{tile_area, tile_at}
