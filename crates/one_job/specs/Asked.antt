@@ -1,4 +1,4 @@
--- Which functions of a job are inlined where the options of a command ask for it.
+-- Which functions of a job are inlined by the options of a command.
 use Rattle.std.specs.Prelude.{ℕ, ◌==◌, Bool, not, ◌||◌, if◌then◌else◌, List}
 use Rattle.job.specs.Pipeline.{Pipeline}
 use Rattle.grouping.specs.Greedy.{greedy_inlining}
@@ -8,6 +8,6 @@ use Rattle.tile_boxes.specs.Schedules.{all_stored}
 abbrev pub inlining_asked : Bool → ℕ → Pipeline → List Bool
 inlining_asked stored percent job = if stored then all_stored job else greedy_inlining job percent
 
--- whether another schedule is asked for than the usual one: all stored, or functions inlined for another percentage than 40
+-- whether another schedule than the usual one is requested: all stored, or functions inlined for another percentage than 40
 abbrev pub is_unusual : Bool → ℕ → Bool
 is_unusual stored percent = stored || not (percent == 40)
