@@ -2,3 +2,4 @@ pub mod Fitting
 pub mod Ranging
 pub mod Replying
 pub mod Telling
+pub mod Retiled

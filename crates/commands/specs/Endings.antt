@@ -1,4 +1,4 @@
--- How a run of the program ends: what the words ask for, and what was written.
+-- How a run of the program ends: what the words request, and what was written.
 use Rattle.std.specs.Prelude.{◌≡◌, ◌⊎◌, ℕ, List, Option, codes}
 use Rattle.std.specs.declared.alloc.Global.{Global}
 use Rattle.std.specs.declared.string.String.{String}
@@ -13,7 +13,7 @@ use Rattle.inputs.specs.declared.lines.FarmLine.{FarmLine}
 use Rattle.commands.specs.Sayings.{refusing_by, saying_by}
 use Rattle.fact_commands.specs.declared.found.Found.{Found}
 
--- ---- words that ask for nothing
+-- ---- words that request nothing
 
 -- the line of every command line that is refused
 abbrev pub usage_line : List ℕ
@@ -22,21 +22,21 @@ usage_line = codes "usage: tilefarm COMMAND [OPTIONS] [NAME=VALUE]...\n"
 abbrev pub AskForNothing : List (String Global) → Type 0
 AskForNothing words = (request : Request) → ¬ IsRequestOf words request
 
--- ---- words that ask for something
+-- ---- words that request something
 
 -- they are `merge` alone, or the first is a task's and none is `--`
 abbrev pub NamesCommand : List (String Global) → Type 0
 NamesCommand words = AskForMerge words ⊎ NamesTask words
 
--- they ask for a request of which this holds
+-- they make a request of which this holds
 abbrev pub AskFor : List (String Global) → (Request → Type 0) → Type 0
 AskFor words Holds = (request : Request) × IsRequestOf words request × Holds request
 
--- the command was run on the request's own parameters and options, and the writer took all that it says where it finds this
+-- the command was run with the request's own parameters and options, and the writer took all of its output for this finding
 abbrev pub HasSaid : Found → Request → Option (List ℕ) → Option (List ℕ) → Option (List ℕ) → Type 0
 HasSaid found request input old new = AppendsSaid (saying_by request) input found old new
 
--- the writer failed, and took a part of it
+-- the writer failed, and took a part of the output
 abbrev pub HasSaidPart : Request → Option (List ℕ) → Option (List ℕ) → Option (List ℕ) → Type 0
 HasSaidPart request input old new = AppendsPartSaid (saying_by request) input old new
 
@@ -47,7 +47,7 @@ pub record HasTold (status : ℕ) (request : Request) (input old new : Option (L
   pub first : IsFirstFault (refusing_by request) input fault
   pub line : Puts (line_of fault) old new before after
 
--- the farm of the request gave no answer, where the input gave no cause to refuse it, and the line of that alone was written
+-- the farm of the request gave no answer for an input without a fault of its own, and only the line of that was written
 pub record HasFarmFailed (request : Request) (input old new : Option (List ℕ)) (before after : ℕ) : Type 0 where
   pub fault : FarmLine
   pub first : IsFirstFault (refusing_by request) input (Farm fault)

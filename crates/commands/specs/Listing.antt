@@ -1,4 +1,4 @@
--- What `check` tells in bytes: which program it is, what this is given, and a line for each stage.
+-- The output of `check` in bytes: the identities of the program and of its input, and a line for each stage.
 use Rattle.std.specs.Prelude.{◌≡◌, ℕ, List, [], ◌∷◌, ◌++◌, codes, length, slice_get}
 use Rattle.std.specs.Fmt.{decimal, signed_decimal}
 use Rattle.std.specs.List.{flat_map, range_with_len}
@@ -47,10 +47,10 @@ stage_lines job = flat_map (stage_line_at job) (range_with_len 0 (length job.sta
 abbrev pub identity_line : List ℕ → List ℕ → List ℕ
 identity_line word id = word ++ 32 ∷ encode_lower id ++ 10 ∷ []
 
--- the identity of the program of this canonical text, that of what it is given, and the stages in order
+-- the identity of the program of this canonical text, that of its input, and the stages in order
 abbrev pub check_bytes : List ℕ → Pipeline → List ℕ
 check_bytes text job = identity_line (codes "program") (sha256 text) ++ identity_line (codes "input") (input_id job) ++ stage_lines job
 
--- what `check` says of a program and its job
+-- the output of `check` for a program and its job
 abbrev pub SaysCheck : List Declaration → Pipeline → List ℕ → Type 0
 SaysCheck tree job bytes = bytes ≡ check_bytes (canonical tree) job

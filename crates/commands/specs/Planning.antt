@@ -1,4 +1,4 @@
--- What `plan` tells in bytes: of each function and accumulator whether it is stored, and what it then costs.
+-- The output of `plan` in bytes: whether each function and accumulator is stored, and what it then costs.
 use Rattle.std.specs.Prelude.{◌≡◌, ℕ, Bool, if◌then◌else◌, Option, Some, None, List, [], ◌∷◌, ◌++◌, codes, length, slice_get}
 use Rattle.std.specs.Fmt.{decimal}
 use Rattle.std.specs.List.{flat_map, range_with_len}
@@ -31,12 +31,12 @@ plan_line_at job inlining g = option_map_or (stage_plan job inlining g) (slice_g
 abbrev pub plan_bytes : Pipeline → List Bool → List ℕ
 plan_bytes job inlining = flat_map (plan_line_at job inlining) (range_with_len 0 (length job.stages))
 
--- the bytes tell these inlining, which are a schedule of the job by which each tile has room in scratch memory
+-- the bytes report this inlining, a schedule of the job under which each tile fits into scratch memory
 pub record IsPlan (job : Pipeline) (inlining : List Bool) (bytes : List ℕ) : Type 0 where
   pub schedule : IsSchedule job inlining
   pub fits : AllFitScratch job inlining
   pub tells : bytes ≡ plan_bytes job inlining
 
--- what `plan` says of a job: the schedule that is asked for
+-- the output of `plan` for a job: the requested schedule
 abbrev pub SaysPlan : Bool → ℕ → List Declaration → Pipeline → List ℕ → Type 0
 SaysPlan stored percent tree job bytes = IsPlan job (inlining_asked stored percent job) bytes

@@ -1,4 +1,4 @@
--- What each command says, and what it refuses an input with.
+-- The output of each command, and the faults with which it refuses an input.
 use Rattle.std.specs.Prelude.{◌≡◌, List}
 use Rattle.command_line.specs.declared.options.Options.{Options}
 use Rattle.command_line.specs.declared.tasks.Task.{Task}

@@ -1,2 +1,2 @@
--- What inner contracts and proofs cite, and no public one: how the code goes about it.
+-- Definitions that inner contracts and proofs cite, and no public one does: how the code works.
 pub mod Questions

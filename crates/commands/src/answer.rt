@@ -5,26 +5,20 @@ ghost use Rattle.accumulators.specs.Answers.{IsAnswer};
 ghost use Rattle.grouping.specs.Inlining.{IsScheduleOf};
 ghost use Rattle.tile_boxes.specs.Costs.{AllFitScratch};
 ghost use Rattle.job.specs.Kept.{pipeline_in};
+ghost use Rattle.one_job.specs.Evaluation.{IsEvaluationSchedule};
 ghost use Rattle.tile_run.specs.declared.fault.RunFault.TheVariants.{Memory};
 ghost use Rattle.results.specs.Replies.{reply_bytes};
 ghost use Rattle.results.specs.Results.{result_bytes};
 
 use accumulators::Answer;
 use command_line::Options;
-use domains::TileSides;
 use grouping::Schedule;
 use job::Job;
-use one_job::schedule_to_evaluate;
+use one_job::{Evaluation, plan_evaluation};
 use results::{Reply, reply_of};
-use std::alloc::AllocError;
+use std::alloc::{AllocError, Global};
 use std::thread::Threads;
 use tile_run::RunFault;
-
-/// How many rows and columns tiles have where nothing else is asked for.
-const USUAL_SIDE: u32 = 64;
-
-/// How many columns they have instead where a job is evaluated: long rows take fewer steps for each point.
-const LONG_ROW: u32 = 1024;
 
 /// The result of a job: the picture of its output, if it has one, and a line for each of its accumulators.
 pub fn evaluate(
@@ -34,29 +28,23 @@ pub fn evaluate(
 ) -> Result<Reply, AllocError>
     ensures { IfOk result (λ reply. reply_bytes reply ≡ result_bytes (pipeline_in job)) }
 {
-    let job = with_long_rows(job);
-    let schedule = schedule_to_evaluate(rt.alloc(), &job, options)?;
-    let Ok(answer) = answer(rt, &job, &schedule) else {
+    let planned = plan_same_result(rt.alloc(), job, options)?;
+    let Ok(answer) = answer(rt, &planned.job, &planned.schedule) else {
         return Err(AllocError);
     };
-    reply_of(rt.alloc(), &job, answer)
+    reply_of(rt.alloc(), &planned.job, answer)
 }
 
-/// The job with long tiles where it has the usual ones. Its result is the same.
-fn with_long_rows(job: Job) -> Job
-    ensures { result_bytes (pipeline_in result) ≡ result_bytes (pipeline_in job) }
+/// The evaluation of a job. With other tiles the result is the same.
+fn plan_same_result(alloc: Global, job: Job, options: &Options) -> Result<Evaluation, AllocError>
+    ensures same { IfOk result (λ e. result_bytes (pipeline_in e.job) ≡ result_bytes (pipeline_in job)) }
+    ensures schedule { IfOk result (λ e. IsEvaluationSchedule options.now.stored options.now.percent
+        (pipeline_in e.job) e.schedule) }
 {
-    let sides = job.sides();
-    if sides.height() != USUAL_SIDE || sides.width() != USUAL_SIDE {
-        return job;
-    }
-    match TileSides::new(USUAL_SIDE, LONG_ROW) {
-        Some(long) => job.with_wider_tiles(long),
-        None => job,
-    }
+    plan_evaluation(alloc, job, options)
 }
 
-/// The answer of a job by a schedule of which each tile has room in scratch memory.
+/// The answer of a job by a schedule under which each tile fits into scratch memory.
 fn answer(
     rt: &(impl AllocGlobal + Threads + Sync),
     job: &Job,

@@ -25,25 +25,25 @@ use world_commands::world_stream;
 /// The line of every command line that is refused.
 const USAGE: &[u8] = b"usage: tilefarm COMMAND [OPTIONS] [NAME=VALUE]...\n";
 
-/// Runs the command that the words name, and answers the status that the program is to end with: 0 done, 1 usage or
-/// parameters, 2 unreadable input, 3 refused program, 4 input, output or the farm failed, 5 memory, 6 a false fact was found. A fault
-/// is told in one line on the writer, which takes no memory. `words` is without the program's own name.
+/// Runs the command that the words name, and returns the exit status of the program. It is 0 done, 1 usage or parameters, 2
+/// unreadable input, 3 refused program, 4 input, output or the farm failed, 5 memory, 6 a false fact was found. A fault is
+/// reported in one line on the writer, without allocating memory. `words` is without the program's own name.
 pub fn run_command<H: AllocGlobal + Threads + Wait + Sync, R: Source, W: Sink>(
     rt: &H,
     words: &[String],
     reader: &mut R,
     writer: &mut W,
 ) -> u8
-    // The command that the words ask for was run with the options and the parameters that they give, and the writer took
-    // all that it says, which is of no fact that it is false.
+    // The requested command was run with the options and the parameters of the words. The writer took all of its output, which
+    // reports no fact as false.
     ensures done { result ≡ 0 → (W.failures writer.new ≡ W.failures writer.old)
         × AskFor words.now (λ request. HasSaid NoFalse request (R.remaining reader.old)
         (W.contents writer.old) (W.contents writer.new)) }
-    // The same, and it says of a fact that it is false.
+    // The same, and the output reports a fact as false.
     ensures found { result ≡ 6 → (W.failures writer.new ≡ W.failures writer.old)
         × AskFor words.now (λ request. HasSaid AFalse request (R.remaining reader.old)
         (W.contents writer.old) (W.contents writer.new)) }
-    // The words ask for nothing, and nothing is read; or the first fault is one of the parameters that they give.
+    // The words request nothing, and nothing is read; or the first fault is one of the parameters that they give.
     ensures usage { result ≡ 1 →
         (AskForNothing words.now × (R.remaining reader.new ≡ R.remaining reader.old)
         × Puts usage_line (W.contents writer.old) (W.contents writer.new)
@@ -59,7 +59,8 @@ pub fn run_command<H: AllocGlobal + Threads + Wait + Sync, R: Source, W: Sink>(
         AskFor words.now (λ request. HasTold 3 request (R.remaining reader.old)
         (W.contents writer.old) (W.contents writer.new)
         (W.failures writer.old) (W.failures writer.new)) }
-    // The reader failed, which is told, or the writer failed, which is not, or the farm of the request gave no answer, which is told.
+    // The reader failed, or the farm of the request gave no answer; both are reported. Or the writer failed, which is not
+    // reported.
     ensures failed { result ≡ 4 →
         ((R.failures reader.new ≡ one_more (R.failures reader.old))
         × Puts (line_of Read) (W.contents writer.old) (W.contents writer.new)
@@ -90,7 +91,7 @@ pub fn run_command<H: AllocGlobal + Threads + Wait + Sync, R: Source, W: Sink>(
     }
 }
 
-/// Runs the command that is asked for, and answers its status.
+/// Runs the requested command, and returns its status.
 fn run_request<H: AllocGlobal + Threads + Wait + Sync, R: Source, W: Sink>(
     rt: &H,
     request: &Request,
@@ -138,7 +139,7 @@ fn run_request<H: AllocGlobal + Threads + Wait + Sync, R: Source, W: Sink>(
     }
 }
 
-/// Runs the command that is asked for.
+/// Runs the requested command.
 fn perform<H: AllocGlobal + Threads + Wait + Sync, R: Source, W: Sink>(
     rt: &H,
     request: &Request,

@@ -1,10 +1,10 @@
-//! What is asked of a job alone.
+//! Questions about a job alone.
 
 ghost use Rattle.std.specs.Prelude.{◌≡◌};
 
 use command_line::Options;
 
-/// What is asked of a job alone.
+/// A question about a job alone.
 #[derive(Clone, Copy, Debug, PartialEq, Eq)]
 pub enum Question {
     /// What its result is.
@@ -16,7 +16,7 @@ pub enum Question {
 }
 
 impl Question {
-    /// The question, asked of the job with these values of its parameters.
+    /// The question, about the job with these values of its parameters.
     pub fn with<'a>(self, options: &'a Options, parameters: &'a [(String, i32)]) -> Asked<'a>
         ensures question { result.question ≡ self }
         ensures options { result.options.now ≡ options.now }
@@ -30,7 +30,7 @@ impl Question {
     }
 }
 
-/// A question with what its answer goes by.
+/// A question, with the options and parameters on which its answer depends.
 #[derive(Clone, Copy, Debug)]
 pub struct Asked<'a> {
     pub question: Question,

@@ -11,7 +11,7 @@ use domains::{Area, Span};
 use job::{Body, Job, Stage};
 use std::alloc::{AllocError, Global};
 
-/// A line for the program's identity, one for that of what it is given, and one for each stage.
+/// A line for the program's identity, one for that of its input, and one for each stage.
 pub fn check_lines(alloc: Global, job: &Job) -> Result<Vec<u8>, AllocError>
     ensures { IfOk result
         (λ lines. lines.items ≡ check_bytes (program_text_in job.now) (pipeline_in job.now)) }

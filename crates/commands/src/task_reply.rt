@@ -1,4 +1,4 @@
-//! What is to be written of a job.
+//! What is to be written about a job.
 
 ghost use Rattle.std.specs.Prelude.{◌≡◌, IfOk, List};
 ghost use Rattle.job.specs.Kept.{pipeline_in, program_text_in};
@@ -20,7 +20,7 @@ use results::Reply;
 use std::alloc::{AllocError, Global};
 use std::thread::Threads;
 
-/// What is said of the job where this is asked.
+/// The reply to a question about the job.
 pub fn task_reply(
     rt: &(impl AllocGlobal + Threads + Sync),
     asked: &Asked<'_>,
@@ -39,7 +39,7 @@ pub fn task_reply(
     }
 }
 
-/// The lines of the schedule that the options ask for.
+/// The lines of the schedule that the options request.
 fn planned_lines(alloc: Global, options: &Options, job: &Job) -> Result<Vec<u8>, AllocError>
     ensures { let job = pipeline_in job.now in
         IfOk result (λ lines. IsPlan job (inlining_asked options.now.stored options.now.percent job)

@@ -17,8 +17,8 @@ use results::{Reply, write_reply};
 use std::thread::Threads;
 use streams::{Sink, Source};
 
-/// Reads a program and a picture, and writes a line for the identity of the program, one for the identity of what it is given,
-/// and one for each stage: its number, kind and name, its rows and columns, and how many tiles it has.
+/// Reads a program and a picture. Writes a line for the identity of the program, one for the identity of its input, and one for
+/// each stage. The line of a stage has its number, kind and name, its rows and columns, and how many tiles it has.
 ///
 /// The input is the program's text, a line `%%` and the picture. `parameters` gives values of the program's parameters.
 pub fn check_stream<H: AllocGlobal + Threads + Sync, R: Source, W: Sink>(
@@ -28,12 +28,12 @@ pub fn check_stream<H: AllocGlobal + Threads + Sync, R: Source, W: Sink>(
     reader: &mut R,
     writer: &mut W,
 ) -> Result<(), StreamFault>
-    // At `Ok` the writer took all lines, and where it failed a part of them. Any other fault has written
-    // nothing, and is the first fault of the input and the parameters.
+    // At `Ok` the writer took all lines; if it failed, a part of them. At any other fault nothing is written, and the fault is
+    // the first of the input and the parameters.
     ensures written { Writes (saying_of_job SaysCheck parameters.now options.now.sides)
         (refusing_job parameters.now options.now.sides) (R.remaining reader.old)
         result (W.contents writer.old) (W.contents writer.new) }
-    // A fault of the reader or the writer is answered where it failed, and nowhere else.
+    // A fault of the reader or the writer is returned exactly if it failed.
     ensures read { CountsRead result (R.failures reader.old) (R.failures reader.new) }
     ensures write { CountsWritten result (W.failures writer.old) (W.failures writer.new) }
 {
@@ -41,8 +41,8 @@ pub fn check_stream<H: AllocGlobal + Threads + Sync, R: Source, W: Sink>(
     task_stream(rt, &asked, reader, writer)
 }
 
-/// Reads a program and a picture, and writes the result of running the program on the picture: the picture that it puts out, if
-/// it has an output, and behind it a line for each of its accumulators.
+/// Reads a program and a picture, and writes the result of running the program on the picture. It is the picture of the output,
+/// if there is one, and after it a line for each accumulator.
 ///
 /// The input is the program's text, a line `%%` and the picture. `parameters` gives values of the program's parameters.
 pub fn eval_stream<H: AllocGlobal + Threads + Sync, R: Source, W: Sink>(
@@ -52,12 +52,12 @@ pub fn eval_stream<H: AllocGlobal + Threads + Sync, R: Source, W: Sink>(
     reader: &mut R,
     writer: &mut W,
 ) -> Result<(), StreamFault>
-    // At `Ok` the writer took the bytes of the result, and where it failed a part of them. Any other fault has written
-    // nothing, and is the first fault of the input and the parameters.
+    // At `Ok` the writer took the bytes of the result; if it failed, a part of them. At any other fault nothing is written, and
+    // the fault is the first of the input and the parameters.
     ensures written { Writes (saying_of_job SaysResult parameters.now options.now.sides)
         (refusing_job parameters.now options.now.sides) (R.remaining reader.old)
         result (W.contents writer.old) (W.contents writer.new) }
-    // A fault of the reader or the writer is answered where it failed, and nowhere else.
+    // A fault of the reader or the writer is returned exactly if it failed.
     ensures read { CountsRead result (R.failures reader.old) (R.failures reader.new) }
     ensures write { CountsWritten result (W.failures writer.old) (W.failures writer.new) }
 {
@@ -65,8 +65,8 @@ pub fn eval_stream<H: AllocGlobal + Threads + Sync, R: Source, W: Sink>(
     task_stream(rt, &asked, reader, writer)
 }
 
-/// Reads a program and a picture, and writes a line for each function and each accumulator: that it is inlined, or that it is
-/// stored and how many points are computed for its tiles.
+/// Reads a program and a picture, and writes a line for each function and each accumulator. It says that it is inlined, or that
+/// it is stored and how many points are computed for its tiles.
 ///
 /// The input is the program's text, a line `%%` and the picture. `parameters` gives values of the program's parameters.
 pub fn plan_stream<H: AllocGlobal + Threads + Sync, R: Source, W: Sink>(
@@ -76,12 +76,12 @@ pub fn plan_stream<H: AllocGlobal + Threads + Sync, R: Source, W: Sink>(
     reader: &mut R,
     writer: &mut W,
 ) -> Result<(), StreamFault>
-    // At `Ok` the writer took all lines, and where it failed a part of them. Any other fault has written
-    // nothing, and is the first fault of the input and the parameters.
+    // At `Ok` the writer took all lines; if it failed, a part of them. At any other fault nothing is written, and the fault is
+    // the first of the input and the parameters.
     ensures written { Writes (saying_of_job (SaysPlan options.now.stored options.now.percent)
         parameters.now options.now.sides) (refusing_job parameters.now options.now.sides)
         (R.remaining reader.old) result (W.contents writer.old) (W.contents writer.new) }
-    // A fault of the reader or the writer is answered where it failed, and nowhere else.
+    // A fault of the reader or the writer is returned exactly if it failed.
     ensures read { CountsRead result (R.failures reader.old) (R.failures reader.new) }
     ensures write { CountsWritten result (W.failures writer.old) (W.failures writer.new) }
 {
@@ -89,7 +89,7 @@ pub fn plan_stream<H: AllocGlobal + Threads + Sync, R: Source, W: Sink>(
     task_stream(rt, &asked, reader, writer)
 }
 
-/// Reads the input, and writes what is said of its job where this is asked. All is computed before the first byte is written.
+/// Reads the input, and writes the reply to a question about its job. All is computed before the first byte is written.
 fn task_stream<H: AllocGlobal + Threads + Sync, R: Source, W: Sink>(
     rt: &H,
     asked: &Asked<'_>,
@@ -109,7 +109,7 @@ fn task_stream<H: AllocGlobal + Threads + Sync, R: Source, W: Sink>(
     Ok(write_reply(&reply, writer)?)
 }
 
-/// What is said of the job of the input where this is asked.
+/// The reply to a question about the job of the input.
 fn input_reply<H: AllocGlobal + Threads + Sync>(
     rt: &H,
     asked: &Asked<'_>,

@@ -1,4 +1,4 @@
--- What is asked of a job alone, and how an answer without facts is told.
+-- Questions about a job alone, and how a result without facts is reported.
 use Rattle.std.specs.Prelude.{ℕ, Bool, Result, Ok, Err}
 use Rattle.inputs.specs.Outcomes.{JobSaying}
 use Rattle.inputs.specs.declared.faults.StreamFault.{StreamFault}
@@ -10,7 +10,7 @@ use Rattle.fact_commands.specs.declared.found.Found.TheVariants.{NoFalse}
 use Rattle.commands.specs.declared.question.Question.{Question}
 use Rattle.commands.specs.declared.question.Question.TheVariants as questions
 
--- what is said where this is asked, where all functions are to be stored or not, and by this percentage
+-- the reply to a question, where all functions are to be stored or not, and by this percentage
 abbrev pub saying_of : Question → Bool → ℕ → JobSaying
 saying_of questions.Answer stored percent = SaysResult
 saying_of questions.Stages stored percent = SaysCheck
