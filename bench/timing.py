@@ -1,6 +1,7 @@
 """Runs tilefarm and the C programs on the same pictures as whole processes, in turn, and compares what they write."""
 import argparse
 import glob
+import math
 import os
 import random
 import statistics
@@ -12,6 +13,8 @@ from typing import NamedTuple
 
 TOP = os.path.dirname(os.path.dirname(os.path.abspath(__file__)))
 PROGRAM = f"{TOP}/crates/tilefarm/out/tilefarm"
+# Where files are in memory, if the system has a place for that.
+MEMORY = "/dev/shm" if os.path.isdir("/dev/shm") else tempfile.gettempdir()
 
 
 class Pipeline(NamedTuple):
@@ -88,7 +91,9 @@ class Command:
             sys.exit(f"{' '.join(self.words)}: status {status}")
 
     def milliseconds(self):
-        """The time of one run: start, input, work, output."""
+        """The time of one run: start, input, work, output. To free an old result takes time too, so that is done before."""
+        if os.path.exists(self.result):
+            os.remove(self.result)
         start = time.perf_counter()
         self.run()
         return (time.perf_counter() - start) * 1000
@@ -100,6 +105,14 @@ class Command:
         return int(content(note).split()[-1]) * 1024 / 1e6
 
 
+def compiled(made, known, *flags):
+    """The C programs of a suite as one program, by flags beside those that the command line names."""
+    sources = sorted(glob.glob(f"{TOP}/{known.suite.sources}"))
+    kept = ["-DNUMBERS"] * known.numbers
+    subprocess.run(["gcc", "-O3", f"-march={known.march}", *kept, *flags, "-o", made, *sources], check=True)
+    return made
+
+
 class Bench:
     """A folder with the C program, built where no other is named, and random pictures of so many rows and columns."""
 
@@ -107,9 +120,7 @@ class Bench:
         self.room, self.suite, self.program, self.rows, self.cols = room, known.suite, known.program, rows, cols
         self.native, self.held = known.c or f"{room}/pipelines", None
         if not known.c:
-            sources = sorted(glob.glob(f"{TOP}/{self.suite.sources}"))
-            kept = ["-DNUMBERS"] * known.numbers
-            subprocess.run(["gcc", "-O3", f"-march={known.march}", *kept, "-o", self.native, *sources], check=True)
+            compiled(self.native, known)
 
     def sides(self, name):
         """The rows and columns of a pipeline's picture, of which its parameters are a whole part."""
@@ -141,13 +152,18 @@ class Bench:
         return Command([self.program, "eval", *options, *self.parameters(name)], source, f"{self.room}/tilefarm.result")
 
 
-def times(commands, rounds):
-    """The milliseconds of each command in each round, all run in turn; each must write what the first writes."""
-    found = [[] for _ in commands]
+def times(commands, rounds, seconds=math.inf):
+    """The milliseconds of each command in each round, all run in turn; each must write what the first writes. One that has taken so many
+    seconds in two rounds or more is left out of the others."""
+    found, wanted = [[] for _ in commands], None
     for _ in range(rounds):
         for command, own in zip(commands, found):
+            if len(own) > 1 and sum(own) > 1000 * seconds:
+                continue
             own.append(command.milliseconds())
-            if content(command.result) != content(commands[0].result):
+            written = content(command.result)
+            wanted = wanted or written
+            if written != wanted:
                 sys.exit(f"{' '.join(command.words)} writes another result than {' '.join(commands[0].words)}")
     return found
 
@@ -189,7 +205,6 @@ def parsed(words):
 
 def benches(known):
     """A bench for each size of picture, in memory where the system has a place for files there, behind words for the size."""
-    place = "/dev/shm" if os.path.isdir("/dev/shm") else None
     for rows, cols in known.side:
-        with tempfile.TemporaryDirectory(dir=place) as room:
+        with tempfile.TemporaryDirectory(dir=MEMORY) as room:
             yield f"{rows} by {cols}", Bench(room, known, rows, cols)

@@ -1,5 +1,5 @@
-//! Makes a true fact of each tile of each function of a job, and has all of them judged at once, so many times; prints how many are
-//! called true, and the milliseconds of each round.
+//! Makes a true fact of each tile of each function of a job, and judges all of them at once, in several rounds. Prints how many
+//! are judged true, and the milliseconds of each round.
 
 use crate::true_facts::all_facts;
 use anyhow::{Context, Result, bail};
@@ -41,7 +41,7 @@ fn round(
     Ok(())
 }
 
-/// Judges the facts of a program and a picture, in tiles of this side, so many times.
+/// Judges the facts of a program and a picture, in tiles of this side, in several rounds.
 pub fn measure(
     rt: &(impl AllocGlobal + Clock + Files + Print + Eprint),
     words: &[String],

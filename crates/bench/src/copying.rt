@@ -1,4 +1,4 @@
-//! Reads a raw picture and writes it back, so many times; prints the milliseconds of each round.
+//! Reads a raw picture and writes it back, in several rounds. Prints the milliseconds of each round.
 
 use anyhow::{Result, bail};
 use netpbm::{read, write_raw};
@@ -22,7 +22,7 @@ fn round(rt: &(impl AllocGlobal + Clock + Files + Print + Eprint), path: &str) -
     Ok(())
 }
 
-/// Copies the picture of a file so many times.
+/// Copies the picture of a file in several rounds.
 pub fn measure(
     rt: &(impl AllocGlobal + Clock + Files + Print + Eprint),
     words: &[String],

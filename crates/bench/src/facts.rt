@@ -1,4 +1,4 @@
-//! Facts to be taken.
+//! The facts that a store is timed with.
 
 use crate::order::Order;
 use identity::{InputId, Key, ProgramId};
@@ -25,7 +25,7 @@ fn fact(alloc: Global, place: u32) -> Result<Option<Fact>, AllocError> {
     Ok(Fact::new(key(place), Body::Tile(numbers)).ok())
 }
 
-/// So many facts in this order.
+/// `count` facts in this order.
 pub fn facts(alloc: Global, order: Order, count: u32) -> Result<Vec<Fact>, AllocError> {
     let mut all = Vec::new(alloc);
     for before in 0..count {

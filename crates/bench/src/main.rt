@@ -1,4 +1,4 @@
-//! A program to be timed, by its first word: `copy`, `audit`, `store`, `run`. Nothing of it has a definition.
+//! A program to be timed, by its first word: `copy`, `audit`, `store`, `run`. It has no specification.
 #![tactic(auto)]
 
 mod auditing;

@@ -1,6 +1,6 @@
-//! Orders in which facts come.
+//! The orders in which facts come.
 
-/// In which order of their keys so many facts come.
+/// The order of their keys in which facts come.
 #[derive(Clone, Copy, Debug)]
 pub enum Order {
     Rising,
@@ -20,7 +20,7 @@ impl Order {
         }
     }
 
-    /// The place, by keys, of the fact that comes after so many others. Where the count is a power of two, each place comes once.
+    /// The place, by keys, of the fact that comes after `before` others. If `count` is a power of two, each place comes once.
     pub fn place(self, before: u32, count: u32) -> u32 {
         match self {
             Order::Rising => before,

@@ -1,5 +1,5 @@
-//! Computes all tiles of the stored functions of a job, by the schedule and in the tiles that `eval` takes, and keeps them; prints how
-//! many points that takes, and for how long it runs.
+//! Computes all tiles of the stored functions of a job, and keeps them. Prints how many points are computed, and the running
+//! time. The tiles have 64 rows and 1,024 columns, and the schedule is chosen as for `eval`.
 
 use anyhow::{Context, Result, bail};
 use domains::TileSides;
@@ -13,7 +13,7 @@ use std::time::Instant;
 use streams::Metered;
 use tile_run::run_all;
 
-/// For how many percent more points a function is inlined.
+/// The greatest increase of points, in percent, for which a function is inlined.
 const PERCENT: u32 = 40;
 
 // The parameter that a word of the form NAME=VALUE gives.
@@ -30,12 +30,11 @@ fn read_job(
 ) -> Result<Job> {
     let mut source = Metered::new(File::open(rt, path)?);
     let input = read_input(rt.alloc(), &mut source)?;
-    let usual = TileSides::new(64, 64).context("sides of tiles")?;
-    let wide = TileSides::new(64, 1024).context("sides of tiles")?;
-    Ok(job_of(rt.alloc(), usual, parameters, input)?.with_wider_tiles(wide))
+    let sides = TileSides::new(64, 1024).context("sides of tiles")?;
+    Ok(job_of(rt.alloc(), sides, parameters, input)?)
 }
 
-// How many points a schedule has computed for functions.
+// How many points are computed for functions under a schedule.
 fn points(job: &Job, schedule: &Schedule) -> u64 {
     let mut points = 0u64;
     for stage in 0..job.stages().len() {

@@ -1,5 +1,5 @@
-//! Takes so many facts into a state over a store, merges them into another state in sixteen parts, writes their file and makes so many
-//! copies; prints how many facts are held and how long their file is, and how many milliseconds each took.
+//! Takes facts into a state over a store, merges them into another state in sixteen parts, writes their file and makes copies.
+//! Prints how many facts are held, the length of their file, and the milliseconds of each step.
 
 use crate::facts::facts;
 use crate::order::Order;
@@ -43,7 +43,7 @@ fn merged<S: FactStore>(alloc: Global, parts: &[NodeState<S>]) -> Result<NodeSta
     Ok(state)
 }
 
-// So many copies of a state.
+// `count` copies of a state.
 fn copies<S: FactStore>(
     alloc: Global,
     state: &NodeState<S>,
@@ -82,7 +82,7 @@ fn measure_store<S: FactStore>(
     Ok(())
 }
 
-/// Times a store, with so many facts in an order, and makes so many copies.
+/// Times a store, with a number of facts in an order, and with a number of copies.
 pub fn measure(rt: &(impl AllocGlobal + Clock + Print + Eprint), words: &[String]) -> Result<()> {
     let [store, order, count, copies] = words else {
         bail!("store STORE ORDER COUNT COPIES");
