@@ -18,7 +18,7 @@ numbers_of (Some kept) i j = numbers_in (slice_get kept.rows.items i) j
 abbrev pub kept_tiles : List StageRows → KnownTiles
 kept_tiles stages g i j = numbers_of (slice_get stages g) i j
 
--- a tile is given
+-- a tile is supplied
 abbrev pub is_given : KnownTiles → Tile → Bool
 is_given given t = is_some (given t.stage t.row t.col)
 
@@ -31,13 +31,13 @@ GivesNothing given = (g i j : ℕ) → given g i j ≡ None
 
 -- ---- changes
 
--- a tile that is kept after was kept before, or it is of row i
+-- a tile that is kept afterwards was kept before, or is of row i
 abbrev pub IsFromRow : StageRows → StageRows → ℕ → TileRow → Type 0
 IsFromRow before after i row =
     (k j : ℕ) (xs : List ℤ) → numbers_of (Some after) k j ≡ Some xs
     → (numbers_of (Some before) k j ≡ Some xs) ⊎ ((k ≡ i) × (numbers_in (Some row) j ≡ Some xs))
 
--- a tile that is given after was given before, or it is of row i of stage g
+-- a tile that is supplied afterwards was supplied before, or is of row i of stage g
 abbrev pub IsFrom : KnownTiles → KnownTiles → ℕ → ℕ → TileRow → Type 0
 IsFrom before after g i row =
     (h k j : ℕ) (xs : List ℤ) → after h k j ≡ Some xs

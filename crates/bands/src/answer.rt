@@ -20,21 +20,22 @@ use std::alloc::{AllocError, Global};
 use std::thread::Threads;
 use tile_run::{RunFault, Uses, WORK_OF_TILE, Work, first_too_big, least_rows, point_work};
 
-/// How much work, in reads and operators, several threads are worth in all: some three milliseconds of it.
+/// Least work in all, in reads and operators, at which several threads pay off: about three milliseconds.
 const WORK_WORTH_THREADS: u64 = 16_777_216;
 
-/// How much work each sample of the picture is then: less is done sooner than strips are joined.
+/// Least work per output sample at which several threads pay off. Less is done sooner than strips are joined.
 const WORK_WORTH_JOINING: u64 = 12;
 
-/// The answer of a job, as `accumulators::evaluate` gives it, and under the same clauses. Where the job has no accumulator, and no output
-/// is read by another stage, it is made band by band: a row of tiles of each output, once those rows of the other functions are made
-/// that it needs; and each row is kept only as long as it is read. Where there is work for several threads, each has a strip of the rows.
+/// The answer of a job, as of `accumulators::evaluate`, and under the same clauses. It is made band by band if the job has no
+/// accumulator, and no other stage reads an output. A band is a row of tiles of each output, made after those rows of other
+/// functions that it needs. Each row is freed after its last reader. Where there is work for several threads, each makes a strip
+/// of the rows.
 ///
 /// # Errors
 ///
-/// Fails where a tile of a stored function takes too much scratch memory, with the first by dependence order, row and column; where all
-/// of these have room, and a tile of an accumulator has not, with the first of these; both before anything is computed; and where
-/// memory is refused.
+/// Fails before anything is computed if a tile of a stored function takes too much scratch memory. The fault names the first such
+/// tile by dependence order, row and column. If all of these fit, it names the first tile of an accumulator that does not. Fails
+/// also where memory is refused.
 pub fn evaluate(
     rt: &(impl Threads + Sync),
     alloc: Global,
@@ -74,19 +75,19 @@ fn rows_for_each(rt: &impl Threads, job: &Job) -> u32 {
     }
 }
 
-// Whether one thread answers as soon as several: where there is one processor, where no stage has rows of tiles for two threads, and
-// where there is little work, in all or for each sample.
+// Whether one thread answers as soon as several: there is one processor, or no stage has rows of tiles for two threads. The same
+// holds where there is little work, in all or per sample.
 fn is_for_one(rt: &impl Threads, job: &Job, schedule: &Schedule) -> bool {
     current_num_threads(rt) == 1 || are_small(job, schedule) || is_little(job, schedule)
 }
 
-// Whether the work that a job takes is little, by a guess.
+// Whether the work of a job is little, by an estimate.
 fn is_little(job: &Job, schedule: &Schedule) -> bool {
     let work = work_of_all(job, schedule);
     work < WORK_WORTH_THREADS || work < samples_of_all(job).saturating_mul(WORK_WORTH_JOINING)
 }
 
-// How much work the tiles of all stages are: the schedule says how many points they take together, and each is taken for one of the
+// The work of the tiles of all stages. The schedule gives the number of points that they take together; each counts as one of the
 // stage's own.
 fn work_of_all(job: &Job, schedule: &Schedule) -> u64 {
     let mut work = 0u64;
@@ -96,7 +97,7 @@ fn work_of_all(job: &Job, schedule: &Schedule) -> u64 {
     work
 }
 
-// That of the tiles of a stage.
+// The work of the tiles of a stage.
 fn work_of_stage(job: &Job, schedule: &Schedule, stage: usize) -> u64 {
     match (job.stage(stage), job.grid(stage), schedule.cost(stage)) {
         (Some(found), Some(grid), Some(points)) => points
@@ -127,7 +128,7 @@ fn are_small(job: &Job, schedule: &Schedule) -> bool {
     true
 }
 
-// Whether a stage has rows of tiles for one thread alone.
+// Whether a stage has rows of tiles for one thread only.
 fn is_small(job: &Job, schedule: &Schedule, stage: usize) -> bool {
     match job.grid(stage) {
         Some(grid) => {
@@ -138,8 +139,8 @@ fn is_small(job: &Job, schedule: &Schedule, stage: usize) -> bool {
     }
 }
 
-/// The answer of a job by this thread alone, band by band. There is none where the job has an accumulator, where another stage reads an output,
-/// where a tile takes too much scratch memory, and where a row would be needed once it has gone.
+/// The answer of a job by this thread alone, band by band. None if the job has an accumulator, or another stage reads an output.
+/// None also if a tile takes too much scratch memory, or a row is needed after it was freed.
 ///
 /// # Errors
 ///
@@ -169,7 +170,7 @@ pub fn evaluate_in_bands(
     Ok(Some(answer_with(alloc, picture)))
 }
 
-/// The same in strips of `len` rows of tiles of each output, each strip by a thread of its own, which makes what it reads for itself.
+/// The same in strips of `len` rows of tiles of each output. A thread of its own makes each strip, and all that the strip reads.
 ///
 /// # Errors
 ///
@@ -212,7 +213,8 @@ fn answer_with(alloc: Global, picture: Picture) -> Answer
     }
 }
 
-// Whether a job may be answered row by row: it has no accumulator, nothing reads an output, and each tile has room.
+// Whether a job may be answered row by row: it has no accumulator, nothing reads an output, and each tile fits into scratch
+// memory.
 fn goes_by_rows(alloc: Global, job: &Job, schedule: &Schedule) -> Result<bool, AllocError>
     requires schedule { IsScheduleOf (pipeline_in job.now) schedule.now }
     ensures none { IfOk result (λ goes. goes ≡ true → all_gathered (pipeline_in job.now) ≡ []) }

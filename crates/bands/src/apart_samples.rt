@@ -15,7 +15,7 @@ pub(crate) struct ApartSamples {
 }
 
 impl ApartSamples {
-    /// No samples yet, and room for so many.
+    /// No samples yet, with capacity for a given number.
     ///
     /// # Errors
     ///

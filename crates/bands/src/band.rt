@@ -83,7 +83,7 @@ impl<'a> Band<'a> {
         run.row(alloc, stage, row, scratch)
     }
 
-    // Makes a row of tiles and keeps it, and answers whether it could.
+    // Makes a row of tiles and keeps it, and returns whether it could.
     fn make_row(
         &mut self,
         alloc: Global,
@@ -100,7 +100,7 @@ impl<'a> Band<'a> {
         Ok(true)
     }
 
-    // Makes rows of tiles and keeps them, and answers whether it could.
+    // Makes rows of tiles and keeps them, and returns whether it could.
     fn make_rows(
         &mut self,
         alloc: Global,
@@ -118,7 +118,7 @@ impl<'a> Band<'a> {
         Ok(true)
     }
 
-    // Makes the rows of a stage that are wanted, and answers whether it could.
+    // Makes the wanted rows of a stage, and returns whether it could.
     fn make_stage(
         &mut self,
         alloc: Global,
@@ -136,7 +136,7 @@ impl<'a> Band<'a> {
         Ok(is_made)
     }
 
-    /// Makes all rows that are wanted, after those that they read, and answers whether it could.
+    /// Makes all wanted rows, after those that they read, and returns whether it could.
     ///
     /// # Errors
     ///
@@ -158,7 +158,7 @@ impl<'a> Band<'a> {
         Ok(true)
     }
 
-    // Lets rows of tiles go, whose memory serves those that are made next.
+    // Frees rows of tiles. Their memory is recycled for those that are made next.
     fn let_go(&mut self, alloc: Global, stage: usize, rows: RowRange, scratch: &mut Scratch)
         ensures { self.new.job ≡ self.old.job }
     {
@@ -167,7 +167,7 @@ impl<'a> Band<'a> {
         }
     }
 
-    /// Lets all rows of tiles go that are read no more.
+    /// Frees all rows of tiles that are read no more.
     ///
     /// # Errors
     ///

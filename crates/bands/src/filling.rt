@@ -37,7 +37,7 @@ pub(crate) fn strips_of<'a>(
     Ok(Some(strips))
 }
 
-/// Makes these rows of outputs, whatever was made of other functions before, and answers whether it could.
+/// Makes these rows of outputs, whatever was made of other functions before, and returns whether it could.
 ///
 /// # Errors
 ///
@@ -63,7 +63,7 @@ pub(crate) fn fill(
     Ok(true)
 }
 
-// Adds a row of tiles to each of these outputs, and answers whether it could.
+// Adds a row of tiles to each of these outputs, and returns whether it could.
 fn fill_row(
     alloc: Global,
     band: &mut Band<'_>,
@@ -102,14 +102,14 @@ fn want_row(
     Ok(())
 }
 
-// A row of tiles of each of these outputs is made.
+// Records that a row of tiles of each of these outputs is made.
 fn pass_row(windows: &mut Windows, strips: &[Strip<'_>], row: u32) {
     for strip in strips {
         windows.made(strip.stage(), row.saturating_add(1));
     }
 }
 
-// Makes a row of tiles of each of these outputs and adds it, and answers whether it could.
+// Makes a row of tiles of each of these outputs and adds it, and returns whether it could.
 fn add_row(
     alloc: Global,
     band: &Band<'_>,
@@ -128,7 +128,7 @@ fn add_row(
     Ok(true)
 }
 
-// Makes a row of tiles of an output and adds it, and answers whether it could.
+// Makes a row of tiles of an output and adds it, and returns whether it could.
 fn add_to(
     alloc: Global,
     band: &Band<'_>,

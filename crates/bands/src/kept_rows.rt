@@ -8,7 +8,7 @@ use std::alloc::{AllocError, Global};
 use std::mem;
 use tile_run::{Known, TileRow};
 
-/// The rows of tiles of one stage, from the first. Those that were let go, and those that are not made, have no tiles.
+/// The rows of tiles of one stage, from the first. Rows that were freed, and rows that are not made yet, have no tiles.
 #[derive(Drop)]
 pub(crate) struct StageRows {
     pub(crate) rows: Vec<TileRow>,
@@ -46,7 +46,7 @@ impl StageRows {
     ghost use Rattle.std.specs.Prelude.{IfOk};
     ghost use Rattle.bands.specs.Kept.{IsFromRow, HasNoTiles};
 
-    // None of so many rows is made.
+    // `count` rows, none of which is made.
     fn none(alloc: Global, count: u32) -> Result<StageRows, AllocError>
         ensures { IfOk result HasNoTiles }
     {
@@ -57,7 +57,7 @@ impl StageRows {
         Ok(StageRows { rows })
     }
 
-    // Puts tiles in the place of a row's, and gives those that were there. Where there is no such row, they are given back.
+    // Replaces the tiles of a row, and returns the former ones. If there is no such row, the new tiles are returned.
     fn replace(&mut self, row: u32, tiles: TileRow) -> TileRow
         ensures { IsFromRow self.old self.new row tiles }
     {
@@ -85,8 +85,7 @@ impl KeptRows {
         Ok(KeptRows { stages })
     }
 
-    /// Puts tiles in the place of those of a stage's row, and gives those that were there. Where there is no such row, they are
-    /// given back.
+    /// Replaces the tiles of a stage's row, and returns the former ones. If there is no such row, the new tiles are returned.
     pub(crate) fn replace(&mut self, stage: usize, row: u32, tiles: TileRow) -> TileRow
         ensures { IsFrom (kept_tiles self.old.stages.items) (kept_tiles self.new.stages.items)
             stage row tiles }

@@ -1,4 +1,4 @@
-//! The answer of a job, band by band: of each stored function only those rows of tiles are in memory that are still to be read.
+//! The answer of a job, band by band: only rows of tiles that are still to be read are in memory of each stored function.
 #![tactic(auto)]
 
 mod answer;

@@ -68,7 +68,7 @@ pub(crate) fn picture_in_strips(
     }
 }
 
-// That of the output, of which these are strips, if they have all rows.
+// The picture of the output from its strips, if they have all rows.
 fn picture_of(
     alloc: Global,
     job: &Job,

@@ -24,7 +24,7 @@ impl RowRange {
         }
     }
 
-    /// All rows, of which there are so many.
+    /// All of `count` rows.
     pub(crate) fn all(count: u32) -> RowRange {
         RowRange {
             first: 0,
@@ -32,7 +32,7 @@ impl RowRange {
         }
     }
 
-    /// The part with this number of all rows, of which there are `count`, where they are parted into parts of `len` rows.
+    /// The part with this number of `count` rows, which are split into parts of `len` rows.
     pub(crate) fn part(count: u32, len: u32, number: u32) -> RowRange {
         let first = number.saturating_mul(len).min(count);
         RowRange {
@@ -52,7 +52,7 @@ impl RowRange {
         })
     }
 
-    /// All rows from the first to the last of these or of others.
+    /// The least range that has both these rows and others.
     pub(crate) fn hull(self, other: RowRange) -> RowRange {
         RowRange {
             first: self.first.min(other.first),
@@ -60,7 +60,7 @@ impl RowRange {
         }
     }
 
-    /// Those that come no earlier than this one, if there are any.
+    /// The rows that come no earlier than this one, if there are any.
     pub(crate) fn from(self, row: u32) -> Option<RowRange> {
         let first = self.first.max(row);
         if first < self.end {

@@ -19,7 +19,7 @@ use pictures::{KnownTiles, Sheet, area_of_row};
 use std::alloc::{AllocError, Global};
 use tile_run::{LentRow, TileRow};
 
-/// Rows of tiles of an output of a job that follow one another, as far as they are made.
+/// Consecutive rows of tiles of an output of a job, as far as they are made.
 #[derive(Drop)]
 pub(crate) struct Strip<'a> {
     job: &'a Job,
@@ -28,7 +28,7 @@ pub(crate) struct Strip<'a> {
     max: u16,
     // Its first row of tiles.
     first: u32,
-    // The first behind it that is not made; none where one could not be added.
+    // The first row after it that is not made; none if one could not be added.
     next: Option<u32>,
     sheet: StripSheet,
     ghost own: { grid_at (pipeline_in job.now) stage ≡ Some grid },
@@ -38,8 +38,8 @@ pub(crate) struct Strip<'a> {
 }
 
 impl<'a> Strip<'a> {
-    /// None of these rows of this output is made. There is none where no stage that has tiles has this number, and where it has fewer
-    /// rows.
+    /// A strip of these rows of this output, none of which is made. None if no stage with tiles has this number, or if it has
+    /// fewer rows.
     ///
     /// # Errors
     ///
@@ -78,7 +78,7 @@ impl<'a> Strip<'a> {
         self.stage
     }
 
-    /// Adds the next row of tiles, if the output has one more, and answers whether this was that row.
+    /// Adds the next row of tiles, if the output has one more, and returns whether this was that row.
     ///
     /// # Errors
     ///
@@ -109,7 +109,7 @@ impl<'a> Strip<'a> {
         Ok(true)
     }
 
-    /// Adds the rows of another strip, if it is of the same output and begins where this one ends, and answers whether it does.
+    /// Adds the rows of another strip, if it is of the same output and begins where this one ends, and returns whether it does.
     ///
     /// # Errors
     ///
@@ -148,7 +148,7 @@ impl<'a> Strip<'a> {
     }
 }
 
-// Room for the samples of rows of tiles: of the first rows in the plane itself, which will have those of all others too.
+// Capacity for the samples of rows of tiles. The first rows are in the plane itself, with capacity for all other rows too.
 fn sheet_for(alloc: Global, grid: &Grid, max: u16, rows: RowRange) -> Result<StripSheet, AllocError>
     ensures greatest { IfOk result (λ sheet. greatest_on sheet ≡ max) }
     ensures none { IfOk result (λ sheet. samples_on sheet ≡ []) }

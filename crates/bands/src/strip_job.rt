@@ -1,5 +1,5 @@
 #![tactic(auto)]
-//! An output, made in strips: by one thread, or by several, each of which goes row by row by itself.
+//! An output, made in strips: by one thread, or by several, each of which makes its own rows one by one.
 
 ghost use Rattle.std.specs.Prelude.{◌≡◌, ◌<◌, IfOk, IfSome, OnOk};
 ghost use Rattle.job.specs.Kept.{pipeline_in};
@@ -27,7 +27,7 @@ pub(crate) struct StripJob<'a> {
 }
 
 impl<'a> StripJob<'a> {
-    /// Those of an output.
+    /// The functions of an output.
     pub(crate) fn new(job: &'a Job, schedule: &'a Schedule, output: &'a Output) -> StripJob<'a>
         requires { IsOutput (pipeline_in job.now) (output_view output.now) }
         ensures { result.job.now ≡ job.now }
@@ -123,7 +123,7 @@ impl<'a> StripJob<'a> {
             .collect::<Result<Vec<_>, AllocError>>(rt, alloc)?
     }
 
-    // The strips of all rows, if each part is made, and begins where the one before it ends.
+    // The strips of all rows, if each part is made and begins where the one before it ends.
     fn joined(
         &self,
         parts: Vec<Option<Vec<Strip<'a>>>>,
@@ -148,7 +148,7 @@ impl<'a> StripJob<'a> {
         Ok(Some(strips))
     }
 
-    // Adds to each of these strips the one of the same function behind it, and answers whether it could.
+    // Adds to each of these strips the next one of the same function, and returns whether it could.
     fn join(&self, strips: &mut [Strip<'_>], behind: Vec<Strip<'_>>) -> Result<bool, AllocError>
         requires strips { AreOf self.now.job.now strips.old }
         requires behind { AreOf self.now.job.now behind.items }

@@ -18,7 +18,7 @@ pub(crate) enum StripSheet {
 }
 
 impl StripSheet {
-    /// No samples yet, and room for so many: in a plane.
+    /// No samples yet, with capacity for `count`, in a plane.
     ///
     /// # Errors
     ///
@@ -30,7 +30,7 @@ impl StripSheet {
         Ok(StripSheet::Plane(OpenPlane::with_capacity(alloc, max, count)?))
     }
 
-    /// The same apart from a plane.
+    /// The same, apart from a plane.
     ///
     /// # Errors
     ///
@@ -42,11 +42,11 @@ impl StripSheet {
         Ok(StripSheet::Apart(ApartSamples::with_capacity(alloc, max, count)?))
     }
 
-    /// Adds samples that are apart from a plane, and answers whether they are.
+    /// Adds samples that are apart from a plane, and returns whether they are.
     ///
     /// # Errors
     ///
-    /// Fails only where memory is refused. A front of the samples may have been added then.
+    /// Fails only where memory is refused. The first of the samples may have been added then.
     pub(crate) fn append(&mut self, behind: StripSheet) -> Result<bool, AllocError>
         requires { greatest_on behind ≡ greatest_on self.old }
         ensures greatest { greatest_on self.new ≡ greatest_on self.old }

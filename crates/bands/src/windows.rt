@@ -1,6 +1,6 @@
 #![tactic(auto)]
-//! Which rows of tiles are kept, and which are made next. No clause tells: what a tile needs is looked for before it is made, and
-//! where it is not there, nothing is made of it.
+//! Which rows of tiles are kept, and which are made next. No clause specifies this: what a tile needs is looked up before it is
+//! made. If some of it is missing, the tile is not made.
 
 use crate::row_range::RowRange;
 use grouping::{Schedule, in_order};
@@ -45,7 +45,7 @@ impl Window {
         self.wanted?.from(self.next)
     }
 
-    // The rows before this one are made.
+    // Records that the rows before this one are made.
     fn made(&mut self, end: u32) {
         self.next = self.next.max(end);
         self.wanted = None;
@@ -104,7 +104,7 @@ impl Windows {
         self.windows.get(stage)?.missing()
     }
 
-    /// The rows of a stage before this one are made.
+    /// Records that the rows of a stage before this one are made.
     pub(crate) fn made(&mut self, stage: usize, end: u32) {
         if stage < self.windows.len() {
             self.windows[stage].made(end);
@@ -140,7 +140,7 @@ impl Windows {
         Ok(())
     }
 
-    /// Wants all that is read, at one or more removes, by the rows that are wanted.
+    /// Wants all that the wanted rows read, directly or indirectly.
     pub(crate) fn want_all(
         &mut self,
         alloc: Global,
@@ -157,7 +157,7 @@ impl Windows {
         Ok(())
     }
 
-    // For each stage the first row that what is still to be made may read.
+    // For each stage, the first row that the rows still to be made may read.
     fn floors(&self, alloc: Global) -> Result<Vec<u32>, AllocError> {
         let mut floors = Vec::with_capacity(alloc, self.windows.len())?;
         for window in &self.windows {
@@ -171,7 +171,7 @@ impl Windows {
         Ok(floors)
     }
 
-    /// The rows of a stage that are read no more, of which one is let go after the other.
+    /// The rows of each stage that are read no more, to be freed one after the other.
     pub(crate) fn pass(&mut self, alloc: Global) -> Result<Vec<(usize, RowRange)>, AllocError> {
         let floors = self.floors(alloc)?;
         let mut past = Vec::new(alloc);
@@ -192,7 +192,7 @@ impl Windows {
     }
 }
 
-// No floor is above what is read.
+// Lowers the floors, so that none is above what is read.
 fn lower(floors: &mut [u32], reads: &[(usize, u32)]) {
     for (stage, first) in reads {
         if *stage < floors.len() {

@@ -1,4 +1,4 @@
--- What a book keeps, and what recording is.
+-- What a book keeps, and what it means to record an event.
 use Rattle.std.specs.Prelude.{◌≡◌, List, [], ◌∷◌, ◌++◌, length}
 use Rattle.catalog.specs.Entries.{Entry, IsCatalog}
 use Rattle.held_facts.specs.HeldFacts.{HoldsTrueFacts}
@@ -15,7 +15,7 @@ pub record IsBook (catalog : List Entry) (held kept : State) (history : List Eve
   pub true_held : HoldsTrueFacts catalog held.facts
   pub true_kept : HoldsTrueFacts catalog kept.facts
 
--- the event is appended to the history, and the receipt tells it at its number
+-- the event is appended to the history, and the receipt has it with its number
 pub record IsRecorded (old new : List Event) (event : Event) (receipt : Receipt) : Type 0 where
   pub appended : new ≡ old ++ event ∷ []
   pub number : receipt.number ≡ length old

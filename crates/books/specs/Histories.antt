@@ -29,7 +29,7 @@ replay_from n (e ∷ history) = replay_from (after n e) history
 abbrev pub replay : List Event → Node
 replay history = replay_from new_node history
 
--- keys are lent where a fact of each is held, and with them all retired jobs are told
+-- keys are lent if a fact of each is held, and all retired jobs are reported with them
 abbrev pub MayFollow : Node → Event → Type 0
 MayFollow n (Lent keys retired) = AreHeld n.held.facts keys × (retired ≡ retired_in n.held)
 MayFollow n (Took updates) = Unit {0}
@@ -40,6 +40,6 @@ abbrev pub IsLegalFrom : Node → List Event → Type 0
 IsLegalFrom n [] = Unit {0}
 IsLegalFrom n (e ∷ history) = MayFollow n e × IsLegalFrom (after n e) history
 
--- each event may stand where it does
+-- each event is allowed where it is
 abbrev pub IsLegal : List Event → Type 0
 IsLegal history = IsLegalFrom new_node history

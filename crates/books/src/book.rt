@@ -22,8 +22,8 @@ use std::alloc::{AllocError, AllocFailed, Global};
 use std::marker::{Model, PhantomData};
 use tile_fact::Update;
 
-/// What one node holds and what it keeps, over any store, with the history of all that happened to it. Contracts see the history: what
-/// is held and kept is what it leaves, it is legal, and each fact that is held or kept is true of the catalog that the type names.
+/// What one node holds and keeps, over any store, with the history of all that happened to it. Contracts see the history: it is
+/// legal, and what is held and kept is what it leaves. Each fact held or kept is true of the catalog that the type names.
 #[derive(Drop)]
 pub struct NodeBook<C: NamedCatalog, S: FactStore = TableFacts> {
     alloc: Global,
@@ -46,12 +46,12 @@ impl<C: NamedCatalog, S: FactStore> Model for NodeBook<C, S> {
 }
 
 impl<C: NamedCatalog, S: FactStore> NodeBook<C, S> {
-    /// A node that holds and keeps nothing, and to which nothing happened yet. No memory is taken.
+    /// A node that holds and keeps nothing, and to which nothing happened yet. No memory is allocated.
     pub fn new(alloc: Global, catalog: &Catalog) -> NodeBook<C, S>
         requires { catalog.now ≡ C.catalog }
         ensures { result ≡ [] }
     {
-        // What each catalog is `job` tells, whichever it is asked for.
+        // `job` ensures what holds of each catalog, whichever index is requested.
         let _ = catalog.job(0);
         NodeBook {
             alloc,
@@ -86,8 +86,8 @@ impl<C: NamedCatalog, S: FactStore> NodeBook<C, S> {
         &self.history
     }
 
-    /// Lends the facts of the keys, which may stand in any order and more than once, gives the identities of all retired jobs with
-    /// them, and records it.
+    /// Lends the facts of the keys, returns the identities of all retired jobs with them, and records this. The keys may be in
+    /// any order and may repeat.
     ///
     /// # Errors
     ///
@@ -118,7 +118,7 @@ impl<C: NamedCatalog, S: FactStore> NodeBook<C, S> {
         })
     }
 
-    /// Takes updates into what is held, and records it. Where memory is refused they come back, and all is as before.
+    /// Takes updates into what is held, and records this. If memory is refused, they are handed back and nothing changes.
     pub fn take(&mut self, updates: Vec<Update>) -> Result<Receipt, AllocFailed<Vec<Update>>>
         requires { AreTrue C.catalog updates.items }
         ensures recorded { IfOk result (IsRecorded self.old self.new (Took updates.items)) }
@@ -134,7 +134,7 @@ impl<C: NamedCatalog, S: FactStore> NodeBook<C, S> {
         }
     }
 
-    // Takes copies of updates, and gives the number of the event.
+    // Takes copies of updates, and returns the number of the event.
     fn take_copies(&mut self, updates: &[Update]) -> Result<u64, AllocError>
         requires { AreTrue C.catalog updates.now }
         ensures recorded { OnOk result (self.new ≡ self.old ++ Took updates.now ∷ []) }
@@ -182,7 +182,7 @@ impl<C: NamedCatalog, S: FactStore> NodeBook<C, S> {
         })
     }
 
-    /// What is held in the end, and all events.
+    /// What is held at the end, and all events.
     pub fn into_parts(self) -> (NodeState<S>, Vec<Event>)
         ensures stands { result.0 ≡ (replay self).held }
         ensures truth { HoldsTrueFacts C.catalog result.0.facts }

@@ -9,7 +9,7 @@ use std::alloc::{AllocError, Global};
 use tile_fact::Update;
 use updates::copies_of;
 
-/// Keys, in the order in which they were asked for.
+/// Keys, in the order in which they were requested.
 pub type Keys = Sequence<Key>;
 
 /// The identities of retired jobs, rising.
@@ -34,11 +34,11 @@ pub(crate) fn updates_of(alloc: Global, updates: &[Update]) -> Result<Updates, A
     Ok(Updates::new(copies_of(alloc, updates)?))
 }
 
-/// What happened to a node, as its history tells it.
+/// What happened to a node, as its history records it.
 #[derive(Debug, Drop)]
 pub enum Event {
-    /// The facts of these keys were lent, and with them the identities of all jobs that were retired there. What is held and kept
-    /// stays as it is.
+    /// The facts of these keys were lent, with the identities of all jobs that were retired there. What is held and kept does not
+    /// change.
     Lent(Keys, Retired),
     /// These updates were taken into what is held.
     Took(Updates),

@@ -1,4 +1,4 @@
-//! What a call that is recorded answers.
+//! The result of a recorded call.
 
 use crate::event::Event;
 use identity::Ids;

@@ -1,4 +1,4 @@
-//! What a node answers of the partials that it holds, and what it misses before.
+//! What a node answers from the partials that it holds, and what it lacks before.
 
 use crate::checks::{holds, tells};
 use crate::jobs::{ONE_TO_NINE, REMAINDERS, job_of};

@@ -1,10 +1,11 @@
-//! What is found beside what was wanted. Each is proved once here, where an assertion is proved again in each test that makes it.
+//! Comparisons of results with what is expected. Each is proved once here; an assertion is proved again in each test that makes
+//! it.
 
 use std::alloc::Global;
 use std::fmt::Debug;
 use std::test::Fail;
 
-/// Fails where what is told is not what was wanted.
+/// Fails if the text is not the expected one.
 pub fn says(told: &str, wanted: &str) -> Result<(), Fail> {
     if told == wanted {
         return Ok(());
@@ -12,12 +13,12 @@ pub fn says(told: &str, wanted: &str) -> Result<(), Fail> {
     Err(Fail::new(format_args!("{told:?}, and not {wanted:?}")))
 }
 
-/// Fails where a value, as it is printed to find faults, is not what was wanted.
+/// Fails if the `Debug` form of a value is not the expected text.
 pub fn tells<T: Debug>(alloc: Global, value: &T, wanted: &str) -> Result<(), Fail> {
     says(&format!(in alloc; "{value:?}")?, wanted)
 }
 
-/// Fails where this does not hold, or where nothing was found of which to say so.
+/// Fails if this does not hold, or if no result was found of which it could hold.
 pub fn holds(found: Option<bool>, what: &str) -> Result<(), Fail> {
     if found == Some(true) {
         return Ok(());

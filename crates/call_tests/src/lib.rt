@@ -1,4 +1,4 @@
-//! Public calls, each made once where a proof shows that it is given what it requires. Worked rows, histories and comparisons stand in
+//! Public calls, each made once with a proof that its requirements hold. Worked rows, histories and comparisons are in
 //! `tests/native`, which are run and not proved.
 #![tactic(auto)]
 

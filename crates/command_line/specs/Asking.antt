@@ -1,4 +1,4 @@
--- What the words of a command line ask for.
+-- What the words of a command line request.
 use Rattle.std.specs.Prelude.{◌≡◌, ◌≤◌, ℤ, Bool, false, Some, List, [], ◌∷◌, codes, map, option_map, unwrap_or, string_bytes}
 use Rattle.std.specs.List.{list_any}
 use Rattle.std.specs.Str.{bytes_eq}
@@ -26,7 +26,7 @@ Given = String Global × ℤ
 
 -- ---- options
 
--- how a command is run, by the options that were given, and where one was not as usual: tiles of 64 rows and columns, 40 percent
+-- how a command is run, by its options; usual are tiles of 64 rows and columns, and 40 percent
 pub record AreOptions (rows : List Row) (options : Options) : Type 0 where
   pub height : IsChosen (first_of (codes "rows") rows) 64 options.sides.height
   pub width : IsChosen (first_of (codes "cols") rows) 64 options.sides.width
@@ -35,13 +35,13 @@ pub record AreOptions (rows : List Row) (options : Options) : Type 0 where
   pub most : options.percent ≤ 10000
   pub stored : options.stored ≡ is_true (first_of (codes "stored") rows)
 
--- how often a farm makes each fault, by the options that were given; where one was not never
+-- how often a farm makes each fault, by its options; usually never
 pub record AreFaults (rows : List Row) (faults : Faults) : Type 0 where
   pub lose : IsChosen (first_of (codes "lose") rows) 0 faults.lose
   pub repeat : IsChosen (first_of (codes "repeat") rows) 0 faults.repeat
   pub restart : IsChosen (first_of (codes "restart") rows) 0 faults.restart
 
--- how a farm runs, by the options that were given, and where one was not as usual: two nodes, 1000 turns, room for eight parcels
+-- how a farm runs, by its options; usual are two nodes, 1000 turns, and a capacity of eight parcels
 pub record AreFarmOptions (rows : List Row) (farm : FarmSetup) : Type 0 where
   pub nodes : IsChosen (first_of (codes "nodes") rows) 2 farm.nodes
   pub turns : IsChosen (first_of (codes "turns") rows) 1000 farm.turns
@@ -49,8 +49,7 @@ pub record AreFarmOptions (rows : List Row) (farm : FarmSetup) : Type 0 where
   pub size : IsWithin farm.nodes farm.turns farm.capacity
   pub faults : AreFaults rows farm.faults
 
--- what a task has of its own, by the options that were given: a farm how it runs, and a world its number of nodes, where none was given
--- two; other tasks have nothing
+-- the settings of a task by its options: how a farm runs, and the number of nodes of a world, usually two; other tasks have none
 abbrev pub HasOwn : List Row → Task → Type 0
 HasOwn rows (Run farm) = AreFarmOptions rows farm
 HasOwn rows (World nodes) = IsChosen (first_of (codes "nodes") rows) 2 nodes × IsNodeCount nodes

@@ -1,4 +1,4 @@
--- What the program can be asked to do with a program and a picture, and the words that ask for it.
+-- The tasks on a program and a picture, and the words that request them.
 use Rattle.std.specs.Prelude.{◌≡◌, ℕ, Some, List, codes, slice_get, string_bytes}
 use Rattle.std.specs.declared.alloc.Global.{Global}
 use Rattle.std.specs.declared.string.String.{String}

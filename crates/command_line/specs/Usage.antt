@@ -1,5 +1,5 @@
--- What the usage text tells: the commands that take options and values of parameters, and which. How such a command line is read
--- is told by clap's definitions. `merge`, which takes no words, is none of them.
+-- The usage text: the commands that take options and values of parameters, and which ones they take. Clap's definitions specify
+-- how such a command line is read. `merge`, which takes no words, is not among the commands.
 use Rattle.std.specs.Prelude.{Some, true, codes}
 use Rattle.clap.specs.Words.{App, Rule, Shape, Text, new_app, new_rule, with_rule, with_subcommand}
 use Rattle.clap.specs.Simple.{on_top}
@@ -14,7 +14,7 @@ number_option name = record (new_rule name) { long = Some name; action = Some Se
 abbrev pub flag_option : Text → Rule
 flag_option name = record (new_rule name) { long = Some name; action = Some SetTrue }
 
--- the words that are no options, as many as there are
+-- the words that are not options, any number of them
 abbrev pub parameter_words : Rule
 parameter_words = record (new_rule (codes "NAME=VALUE")) {
   action = Some Append;

@@ -20,16 +20,16 @@ pub record SpellsValue (text : List ℕ) (z : ℤ) : Type 0 where
   pub value : z ≡ signed_digits_value 10 text
   pub fits : SFits w32 z
 
--- the number of an option: what it was given spells it, else it is the usual one
+-- the number of an option: its value spells it, or it is the usual one if the option is absent
 abbrev pub IsChosen : Option (List ℕ) → ℕ → ℕ → Type 0
 IsChosen None usual n = n ≡ usual
 IsChosen (Some text) usual n = SpellsNumber text n
 
--- a flag stands for the word `true` where it is given
+-- a flag that is given has the value `true`
 abbrev pub is_true : Option (List ℕ) → Bool
 is_true given = option_map_or (λ t. bytes_eq t (codes "true")) given false
 
--- `NAME=VALUE`: the name is all that stands before the first `=`
+-- `NAME=VALUE`: the name is all that comes before the first `=`
 pub record SpellsParameter (word name : List ℕ) (z : ℤ) : Type 0 where
   pub equals : position_or_len (λ b. b == 61) word < length word
   pub front : name ≡ before_first (λ b. b == 61) word

@@ -1,4 +1,4 @@
-//! The command line: what its words ask for, how it is to be done, and the values that are given to parameters.
+//! The command line: what its words request, with which options, and the values of parameters.
 #![tactic(auto)]
 
 mod nodes;

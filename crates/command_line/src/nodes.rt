@@ -5,7 +5,7 @@ ghost use Rattle.command_line.specs.Nodes.{IsNodeCount};
 
 use std::marker::Model;
 
-/// The most nodes of a world.
+/// The greatest number of nodes of a world.
 pub const MOST_NODES: u32 = 16;
 
 /// A number of nodes from 1 to 16.
@@ -28,7 +28,7 @@ impl Model for NodeCount {
 }
 
 impl NodeCount {
-    /// So many nodes; none at 0 and above 16.
+    /// A number of nodes; none at 0 and above 16.
     pub fn new(count: u32) -> Option<NodeCount>
         ensures some { IfSome result (λ n. n ≡ count) }
         ensures within { IfSome result IsNodeCount }

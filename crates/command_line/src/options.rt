@@ -27,7 +27,7 @@ impl Model for Percent {
 }
 
 impl Percent {
-    /// So many percent; none above 10,000.
+    /// A percentage; none above 10,000.
     pub fn new(percent: u32) -> Option<Percent>
         ensures some { IfSome result (λ p. p ≡ percent) }
         ensures within { IfSome result (λ p. p ≤ 10000) }
@@ -52,7 +52,7 @@ impl Percent {
 /// How a command is run.
 #[derive(Clone, Copy, Debug, PartialEq, Eq)]
 pub struct Options {
-    /// The sides of the tiles that stages are parted into.
+    /// The sides of the tiles into which stages are partitioned.
     pub sides: TileSides,
     /// How many percent more points may be computed where a function is inlined.
     pub percent: Percent,

@@ -1,4 +1,4 @@
-//! What the program can be asked to do with a program and a picture.
+//! The tasks on a program and a picture.
 
 ghost use Rattle.std.specs.Prelude.{IfNone, IfSome};
 ghost use Rattle.command_line.specs.Tasks.{AsksFor};
@@ -7,24 +7,24 @@ ghost use Rattle.command_line.specs.declared.tasks.Task.{Task as TaskType};
 use crate::nodes::NodeCount;
 use farm_setup::FarmSetup;
 
-/// What the program is asked to do with a program and a picture.
+/// A task on a program and a picture.
 #[derive(Clone, Copy, Debug)]
 pub enum Task {
     /// To run a program on a picture.
     Eval,
-    /// To tell a program, what it is given, and its stages.
+    /// To report the identities of a program and of its input, and its stages.
     Check,
-    /// To tell which functions are stored, and what that costs.
+    /// To report which functions are stored, and what that costs.
     Plan,
     /// To run a program on a picture by a farm.
     Run(FarmSetup),
     /// To judge the facts of fact files.
     Audit,
-    /// To tell what so many nodes hold after a script.
+    /// To report what this many nodes hold after a script.
     World(NodeCount),
 }
 
-/// What the first word asks for; a farm and a world are as usual.
+/// The task that the first word requests; a farm and a world have the usual settings.
 pub fn task_of(words: &[String]) -> Option<Task>
     ensures some { IfSome result (AsksFor words.now) }
     ensures none { IfNone result ((task : TaskType) → ¬ AsksFor words.now task) }

@@ -1,4 +1,4 @@
-//! The command line as the usage text tells it: the commands that take words, and what each takes.
+//! The command line as the usage text specifies it: the commands that take words, and what each takes.
 
 ghost use Rattle.std.specs.Prelude.{◌≡◌, IfOk, false};
 ghost use Rattle.clap.specs.Words.{app_of, rule_of};
@@ -8,7 +8,7 @@ ghost use Rattle.command_line.specs.Usage.{command_app, flag_option, number_opti
 use clap::{Arg, ArgAction, Command};
 use std::alloc::{AllocError, Global};
 
-/// The program's commands but `merge`, which takes no words. Of help there is the usage line alone, so clap adds none.
+/// The program's commands except `merge`, which takes no words. The only help is the usage line, so clap adds none.
 pub fn usage<'a>(alloc: Global) -> Result<Command<'a>, AllocError>
     ensures { IfOk result (λ c. app_of c ≡ usage) }
 {
@@ -77,7 +77,7 @@ fn flag<'a>(alloc: Global, name: &'a str) -> Arg<'a>
     Arg::new(alloc, name).long(name).action(ArgAction::SetTrue)
 }
 
-/// The words that are no options, as many as there are.
+/// The words that are not options, any number of them.
 fn parameters<'a>(alloc: Global) -> Arg<'a>
     ensures rule { rule_of result ≡ parameter_words }
     ensures local { result.global ≡ false }

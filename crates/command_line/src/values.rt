@@ -3,7 +3,7 @@
 ghost use Rattle.std.specs.Prelude.{◌≡◌, ℕ, ℤ, IfSome, IfNone, option_map};
 ghost use Rattle.command_line.specs.Values.{IsChosen, SpellsParameter, SpellsValue, is_true};
 
-/// The number that an option was given, in digits alone and within 32 bits, or the usual one where it was given none.
+/// The value of an option, in digits alone and within 32 bits, or the usual one if the option is absent.
 pub fn number_of(given: Option<&str>, usual: u32) -> Option<u32>
     ensures some { IfSome result (IsChosen (option_map (λ t. t.now) given.entry) usual) }
     ensures none { IfNone result
@@ -16,7 +16,7 @@ pub fn number_of(given: Option<&str>, usual: u32) -> Option<u32>
     }
 }
 
-/// Whether a flag was given, which then stands for the word `true`.
+/// Whether a flag was given: its value is then the word `true`.
 pub fn is_true(given: Option<&str>) -> bool
     ensures { result ≡ is_true (option_map (λ t. t.now) given.entry) }
 {
@@ -38,7 +38,7 @@ fn value(text: &str) -> Option<i32>
     }
 }
 
-/// The name and the value of a parameter: the name is all that stands before the first `=`.
+/// The name and the value of a parameter: the name is all that comes before the first `=`.
 pub fn parameter(word: &str) -> Option<(&str, i32)>
     ensures some { IfSome result (λ p. SpellsParameter word.now p.0.now p.1) }
     ensures none { IfNone result ((name : _) (z : ℤ) → ¬ SpellsParameter word.now name z) }

@@ -1,4 +1,4 @@
-//! What the words of the command line ask for.
+//! What the words of the command line request.
 
 ghost use Rattle.std.specs.Prelude.{◌≡◌, ◌≢◌, ◌↔◌, IsTrue, IfOk, IfErr, IfSome, IfNone, List, ℕ, map};
 ghost use Rattle.std.specs.List.{list_any};
@@ -37,7 +37,7 @@ pub enum Request {
     Job(JobRequest),
 }
 
-/// What is to be done with a program and a picture, and how, and the parameters that are given, in order.
+/// What is to be done with a program and a picture, and how, and the values of parameters, in order.
 #[derive(Drop)]
 pub struct JobRequest {
     pub task: Task,
@@ -79,12 +79,12 @@ impl From<Error> for Refusal {
     }
 }
 
-/// What the words, without the program's own name, ask for. They are refused as usage only where they ask for nothing.
+/// What the words, without the program's own name, request. They are refused as usage only if they request nothing.
 pub fn request_of(alloc: Global, words: &[String]) -> Result<Request, Refusal>
     ensures asked { IfOk result (IsRequestOf words.now) }
     ensures usage { IfErr result (λ refusal. refusal ≡ refusals.Usage
         → (request : RequestType) → ¬ IsRequestOf words.now request) }
-    // Where the words name no task nothing grows, and memory never stands in the place of usage.
+    // If the words name no task, nothing grows, and memory is never reported instead of usage.
     ensures memory { IfErr result (λ refusal. refusal ≡ refusals.Memory → NamesTask words.now) }
 {
     if is_merge(words) {
@@ -104,7 +104,7 @@ fn is_merge(words: &[String]) -> bool
     }
 }
 
-/// What the words ask to be done with a program and a picture.
+/// What the words request for a program and a picture.
 fn job_request_of(alloc: Global, words: &[String]) -> Result<JobRequest, Refusal>
     ensures asked { IfOk result (IsJobRequestOf words.now) }
     ensures usage { IfErr result (λ refusal. refusal ≡ refusals.Usage
@@ -134,7 +134,7 @@ fn job_request_of(alloc: Global, words: &[String]) -> Result<JobRequest, Refusal
     })
 }
 
-/// Whether a word is `--`, which ends the options of other programs and is none of this one's.
+/// Whether a word is `--`, which ends the options of other programs; this program has none.
 fn has_separator(words: &[String]) -> bool
     ensures { result ≡ list_any is_separator words.now }
 {
@@ -146,7 +146,7 @@ fn has_separator(words: &[String]) -> bool
     false
 }
 
-/// The task that is named; a farm and a world are as the options say that are given.
+/// The named task; a farm and a world have the settings that the options give.
 fn with_own(named: Task, given: &ArgMatches) -> Option<Task>
     ensures same { IfSome result (λ task. word_of task ≡ word_of named) }
     ensures own { IfSome result (HasOwn (rows_of (found_of given.now))) }
@@ -160,7 +160,7 @@ fn with_own(named: Task, given: &ArgMatches) -> Option<Task>
     }
 }
 
-/// How the farm is to run; what is not given is as usual.
+/// How the farm is to run; absent options have their usual values.
 fn farm_of(given: &ArgMatches) -> Option<FarmSetup>
     ensures some { IfSome result (AreFarmOptions (rows_of (found_of given.now))) }
     ensures none { IfNone result ((farm : FarmSetupType)
@@ -174,7 +174,7 @@ fn farm_of(given: &ArgMatches) -> Option<FarmSetup>
     FarmSetup::new(nodes, turns, capacity, faults_of(given)?)
 }
 
-/// How often the farm is to make faults; what is not given is as usual.
+/// How often the farm is to make faults; absent options have their usual values.
 fn faults_of(given: &ArgMatches) -> Option<Faults>
     ensures some { IfSome result (AreFaults (rows_of (found_of given.now))) }
     ensures none { IfNone result ((faults : FaultsType)
@@ -188,7 +188,7 @@ fn faults_of(given: &ArgMatches) -> Option<Faults>
     })
 }
 
-/// How many nodes the world is to have; what is not given is as usual.
+/// How many nodes the world is to have; usual if the option is absent.
 fn nodes_of(given: &ArgMatches) -> Option<NodeCount>
     ensures some { IfSome result (λ nodes. HasOwn (rows_of (found_of given.now)) (World nodes)) }
     ensures none { IfNone result ((nodes : ℕ)
@@ -197,7 +197,7 @@ fn nodes_of(given: &ArgMatches) -> Option<NodeCount>
     NodeCount::new(number_in(given, "nodes", u32::from(NodeCount::usual().get()))?)
 }
 
-/// How the command is to be run; what is not given is as usual.
+/// How the command is to be run; absent options have their usual values.
 fn options_of(given: &ArgMatches) -> Option<Options>
     ensures some { IfSome result (AreOptions (rows_of (found_of given.now))) }
     ensures none { IfNone result ((options : OptionsType)
@@ -231,7 +231,7 @@ fn flag_in(given: &ArgMatches, name: &str) -> bool
     is_true(given.get_str(name))
 }
 
-/// The values that parameters are given.
+/// The values of parameters.
 fn parameters_of(alloc: Global, given: &ArgMatches) -> Result<Vec<(String, i32)>, Refusal>
     ensures some { IfOk result
         (λ parameters. AreParametersIn (rows_of (found_of given.now)) parameters.items) }
@@ -244,7 +244,7 @@ fn parameters_of(alloc: Global, given: &ArgMatches) -> Result<Vec<(String, i32)>
     }
 }
 
-/// The values that the words give to parameters, one each.
+/// The values of parameters, one for each word.
 fn parameters_among(alloc: Global, words: &[&str]) -> Result<Vec<(String, i32)>, Refusal>
     ensures some { IfOk result
         (λ parameters. AreParameters (map (λ w. w.now) words.now) parameters.items) }

@@ -34,6 +34,6 @@ abbrev pub BodyFits : Pipeline → Key → Body → Type 0
 BodyFits job key (Tile samples) = IsTileShape job key.stage key.row key.col samples
 BodyFits job key (Partial bins) = IsPartialShape job key.stage key.row key.col bins
 
--- the stage and the tile are there, and the kind and the count of the numbers are theirs
+-- the stage and the tile exist, and the kind and the count of the numbers are theirs
 abbrev pub FitsJob : Fact → Pipeline → Type 0
 FitsJob fact job = BodyFits job fact.key fact.body

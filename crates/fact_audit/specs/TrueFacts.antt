@@ -9,8 +9,8 @@ use Rattle.tile_fact.specs.declared.body.Body.{Body}
 use Rattle.tile_fact.specs.declared.body.Body.TheVariants.{Tile, Partial}
 use Rattle.tile_fact.specs.declared.fact.Fact.{Fact}
 
--- the numbers of a tile are the values of the function there, row by row, and those of a partial are what the accumulator gathers
--- in its bins over the tile. The stage and the tile are there
+-- the numbers of a tile are the values of the function there, row by row; those of a partial are the accumulator's bins over the
+-- tile. The stage and the tile exist
 abbrev pub BodyIsTrue : Pipeline → Key → Body → Type 0
 BodyIsTrue job key (Tile samples) = IsTrueTile job key.stage key.row key.col samples
 BodyIsTrue job key (Partial bins) = IsTruePartial job key.stage key.row key.col bins

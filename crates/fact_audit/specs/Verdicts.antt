@@ -1,4 +1,4 @@
--- What is said of a fact.
+-- Verdicts on facts.
 use Rattle.std.specs.Prelude.{ℕ, ◌≡◌, List, Some, length, slice_get}
 use Rattle.catalog.specs.Entries.{Entry, StandsAt, ids_in, ids_of}
 use Rattle.identity.specs.declared.key.Key.{Key}
@@ -13,7 +13,7 @@ use Rattle.tile_fact.specs.declared.fact.Fact.{Fact}
 abbrev pub HasEntry : List Entry → Key → Entry → Type 0
 HasEntry catalog key entry = (i : ℕ) × (slice_get catalog i ≡ Some entry) × (ids_of entry ≡ ids_in key)
 
--- of a job that has the identities
+-- by a job that has the identities
 abbrev pub IsJobVerdict : Pipeline → Fact → Verdict → Type 0
 IsJobVerdict job fact Foreign = ⊥
 IsJobVerdict job fact Misshapen = ¬ (FitsJob fact job)
@@ -23,7 +23,7 @@ IsJobVerdict job fact False = FitsJob fact job × ¬ (IsTrueOf fact job)
 abbrev pub IsVerdict : List Entry → Fact → Verdict → Type 0
 -- no job has the identities
 IsVerdict catalog fact Foreign = (i : ℕ) → ¬ (StandsAt catalog (ids_in fact.key) i)
--- the job has no such stage or tile, or the kind or the count is another
+-- the job has no such stage or tile, or the kind or the count differs
 IsVerdict catalog fact Misshapen = HasJob catalog fact.key (λ job. ¬ (FitsJob fact job))
 IsVerdict catalog fact True = IsTrueFact catalog fact
 IsVerdict catalog fact False = HasJob catalog fact.key (FitsJob fact) × ¬ (IsTrueFact catalog fact)

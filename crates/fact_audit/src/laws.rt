@@ -1,4 +1,4 @@
-//! What the definitions amount to. A law is a function whose clauses are the law.
+//! Consequences of the definitions. A law is a function whose clauses are the law.
 
 ghost use Rattle.std.specs.Prelude.{◌≡◌, List};
 ghost use Rattle.catalog.specs.Entries.{Entry, IsCatalog};
@@ -20,7 +20,7 @@ pub fn true_facts_fit()
     ensures { (job : Pipeline) (fact : Fact) → IsTrueOf fact job → FitsJob fact job }
 {}
 
-/// No fact has two verdicts. So a true one is said to be true, one of no job to be foreign, and one that does not fit to be misshapen.
+/// No fact has two verdicts. So a true fact is judged true, one of no job foreign, and one that does not fit misshapen.
 pub fn one_verdict()
     ensures { (catalog : List Entry) (fact : Fact) (v w : Verdict) → IsCatalog catalog
         → IsVerdict catalog fact v → IsVerdict catalog fact w → v ≡ w }

@@ -14,9 +14,9 @@ use std::alloc::{AllocError, Global};
 use tile_eval::TrueStages;
 use tile_fact::Fact;
 
-/// Judges facts by the jobs of a catalog: a verdict for each, in their order, which is that of [`audit`](crate::audit). Of each job the
-/// stages that facts name, and what these read, are computed whole, each once, and all are kept until the last verdict. For a fact
-/// of no job nothing is computed.
+/// Judges facts by the jobs of a catalog: for each in order, the verdict of [`audit`](crate::audit). The stages of each job that
+/// facts name, and what these read, are computed whole, each once. All are kept until the last verdict. For a fact of no job
+/// nothing is computed.
 ///
 /// # Errors
 ///
@@ -36,7 +36,7 @@ pub fn audit_all(
     Ok(verdicts)
 }
 
-// What is said of a fact, for which all is computed.
+// The verdict on a fact, for which all is computed.
 fn verdict_among(
     alloc: Global,
     catalog: &Catalog,

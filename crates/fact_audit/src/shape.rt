@@ -12,8 +12,8 @@ use reductions::accumulator_tile;
 use tile_eval::function_tile;
 use tile_fact::{Body, Fact};
 
-/// Whether the job has the tile that the key names, whatever its identities, and the kind and the count of the numbers are those of
-/// the tile. No memory is taken.
+/// Whether the job has the tile that the key names, and the kind and the count of the numbers are the tile's. The identities in
+/// the key are ignored. No memory is allocated.
 pub fn shape_ok(job: &Job, fact: &Fact) -> bool
     ensures { IsTrue result ↔ FitsJob fact.now (pipeline_in job.now) }
 {

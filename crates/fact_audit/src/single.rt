@@ -14,7 +14,7 @@ use std::alloc::{AllocError, Global};
 use tile_eval::TrueStages;
 use tile_fact::Fact;
 
-/// Judges a fact by the jobs of a catalog. The stage that the fact names is computed whole, and before it what it reads.
+/// Judges a fact by the jobs of a catalog. The stage that the fact names is computed whole, after what it reads.
 ///
 /// # Errors
 ///
@@ -32,7 +32,7 @@ pub fn audit(alloc: Global, catalog: &Catalog, fact: &Fact) -> Result<Verdict, A
     verdict_by(alloc, &stages, fact)
 }
 
-/// The job whose identities the key names. Nothing is hashed, and no memory is taken.
+/// The job whose identities the key names. Nothing is hashed, and no memory is allocated.
 pub fn job_of<'a>(catalog: &'a Catalog, key: &Key) -> Option<&'a Job>
     ensures some { IfSome result (λ job. HasEntry catalog.now key.now (entry_of job.now)) }
     ensures none { IfNone result ((i : ℕ) → ¬ (StandsAt catalog.now (ids_in key.now) i)) }

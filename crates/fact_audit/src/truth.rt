@@ -14,7 +14,7 @@ use std::alloc::{AllocError, Global};
 use tile_eval::TrueStages;
 use tile_fact::{Body, Fact};
 
-/// What is said of a fact by its job, whose stages were computed whole.
+/// The verdict on a fact by its job, whose stages were computed whole.
 ///
 /// # Errors
 ///

@@ -5,10 +5,10 @@
 pub enum Verdict {
     /// No job of the catalog has the identities of the key.
     Foreign,
-    /// The job has no such stage or tile, or the kind or the count of the numbers is another.
+    /// The job has no such stage or tile, or the kind or the count of the numbers differs.
     Misshapen,
     /// The numbers are those of the tile.
     True,
-    /// One of the numbers is another.
+    /// One of the numbers differs.
     False,
 }

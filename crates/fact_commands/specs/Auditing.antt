@@ -1,4 +1,4 @@
--- What `audit` says: of each fact of the fact files that it is given, whether it is true of the job beside them, and which jobs they
+-- The output of `audit`: whether each fact of the supplied fact files is true of the job beside them, and which jobs the files
 -- retire.
 use Rattle.std.specs.Prelude.{◌≡◌, ℕ, List}
 use Rattle.fact_audit.specs.Verdicts.{AreVerdicts}
@@ -11,8 +11,8 @@ use Rattle.tile_fact.specs.declared.fact.Fact.{Fact}
 use Rattle.fact_commands.specs.Verdicts.{IsFound, audit_lines}
 use Rattle.fact_commands.specs.declared.found.Found.{Found}
 
--- the lines of the verdicts on the facts by the job of this program, of which one is that a fact is false, or none is; and those of
--- the retired jobs
+-- the lines of the verdicts on the facts by the job of this program, and those of the retired jobs; `found` is whether a verdict
+-- is that a fact is false
 pub record SaysVerdicts (tree : List Declaration) (job : Pipeline) (retired : List Ids) (facts : List Fact) (found : Found)
     (bytes : List ℕ) : Type 0 where
   pub verdicts : List Verdict

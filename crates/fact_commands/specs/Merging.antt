@@ -1,4 +1,4 @@
--- What `merge` says: the file of what the fact files that it is given hold together.
+-- The output of `merge`: the file of the join of the supplied fact files.
 use Rattle.std.specs.Prelude.{◌≡◌, ℕ, List}
 use Rattle.fact_lines.specs.Texts.{IsJoin}
 use Rattle.fact_lines.specs.Written.{written}
@@ -6,7 +6,7 @@ use Rattle.identity.specs.declared.job_ids.Ids.{Ids}
 use Rattle.inputs.specs.Outcomes.{Saying}
 use Rattle.tile_fact.specs.declared.fact.Fact.{Fact}
 
--- the line of what they hold together
+-- the line of their join
 pub record IsJoinLine (input bytes : List ℕ) : Type 0 where
   pub retired : List Ids
   pub facts : List Fact

@@ -1,4 +1,4 @@
--- What `audit` tells in bytes: of each fact what is said of it, which jobs are retired, and whether a fact is false.
+-- The output of `audit` in bytes: the verdict on each fact, which jobs are retired, and whether a fact is false.
 use Rattle.std.specs.Prelude.{ℕ, List, [], ◌∷◌, ◌++◌, Contains, codes}
 use Rattle.std.specs.Fmt.{decimal}
 use Rattle.std.specs.List.{flat_map, zip}
@@ -23,7 +23,7 @@ verdict_word False = codes "False"
 abbrev pub place_text : Key → List ℕ
 place_text key = 32 ∷ decimal key.stage ++ 32 ∷ decimal key.row ++ 32 ∷ decimal key.col ++ 10 ∷ []
 
--- what is said of a fact, and its stage, row and column
+-- the verdict on a fact, and its stage, row and column
 abbrev pub verdict_line : Fact × Verdict → List ℕ
 verdict_line judged = verdict_word judged.1 ++ place_text judged.0.key
 
@@ -33,7 +33,7 @@ verdict_lines facts verdicts = flat_map verdict_line (zip facts verdicts)
 
 -- ---- lines of retired jobs
 
--- `Retired`, the two identities in small hexadecimal digits, and LF
+-- `Retired`, the two identities in lower-case hexadecimal digits, and LF
 abbrev pub retired_line : Ids → List ℕ
 retired_line ids = codes "Retired " ++ encode_lower ids.program ++ 32 ∷ encode_lower ids.input ++ 10 ∷ []
 

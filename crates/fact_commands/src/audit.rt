@@ -1,4 +1,4 @@
-//! What is said of the facts of an input, and which jobs are retired.
+//! The verdicts on the facts of an input, and which jobs are retired.
 
 ghost use Rattle.std.specs.Prelude.{◌≡◌, IfOk, IfErr, length};
 ghost use Rattle.inputs.specs.Faults.{IsAuditFault};
@@ -16,7 +16,7 @@ use one_job::catalog_of;
 use std::alloc::Global;
 use tile_fact::Fact;
 
-/// Facts, what is said of each, in their order, whether one of them is false, and the retired jobs.
+/// Facts, the verdict on each, in their order, whether one of them is false, and the retired jobs.
 #[derive(Debug, Drop)]
 pub struct Judged {
     pub facts: Vec<Fact>,
@@ -25,7 +25,7 @@ pub struct Judged {
     pub retired: Vec<Ids>,
 }
 
-/// Judges the facts of an input by its job, but for those of jobs that it retires. The input and the job are let go.
+/// Judges the facts of an input by its job, except those of jobs that it retires. The input and the job are freed.
 pub fn judge(
     alloc: Global,
     options: &Options,

@@ -1,4 +1,4 @@
-//! What is said of facts, and which jobs are retired, as lines.
+//! The verdicts on facts, and which jobs are retired, as lines.
 
 ghost use Rattle.std.specs.Io.KnownBytes.{Appends};
 ghost use Rattle.std.specs.List.{flat_map, zip};
@@ -15,8 +15,8 @@ use streams::{Sink, WriteFailed};
 use tile_fact::Fact;
 use write_buffer::WriteBuffer;
 
-/// Writes a line for each fact: what is said of it, its stage, its row and its column; and behind them a line for each retired job. No
-/// memory is taken: the lines go through a buffer of fixed size.
+/// Writes a line for each fact: the verdict, its stage, its row and its column. After them it writes a line for each retired job.
+/// No memory is allocated: the lines go through a buffer of fixed size.
 pub fn write_audit<W: Sink>(
     facts: &[Fact],
     verdicts: &[Verdict],
@@ -76,7 +76,7 @@ fn put_job<W: Sink>(buffer: &mut WriteBuffer, writer: &mut W, job: &Ids) -> Resu
     buffer.put_parts(writer, &[b"Retired ", &program, b" ", &input, b"\n"])
 }
 
-// Two small hexadecimal digits for each byte.
+// Two lower-case hexadecimal digits for each byte.
 fn digits_of(bytes: &[u8; 32]) -> [u8; 64]
     ensures { result ≡ encode_lower bytes.now }
 {

@@ -10,12 +10,13 @@ use command_line::Options;
 use inputs::{StreamFault, read_input};
 use streams::{Sink, Source};
 
-/// Reads a program, fact files and a picture, and writes a line for each fact of the files, rising: what is said of it, its stage,
-/// its row and its column. Facts of jobs that a file retires are left out, and each retired job has a line behind the facts. The answer
-/// tells whether a fact is false.
+/// Reads a program, fact files and a picture. Writes a line for each fact of the files, rising: the verdict, its stage, its row
+/// and its column. Facts of jobs that a file retires are left out, and each retired job has a line after the facts. The result is
+/// whether a fact is false.
 ///
-/// The input is the program's text, a line `%%`, the files, a line for each, a line `%%` and the picture. `parameters` gives values
-/// of the program's parameters. All is judged before the first byte is written, and the lines go out through a buffer of fixed size.
+/// The input is the program's text, a line `%%`, the files, a line for each, a line `%%` and the picture. `parameters` gives
+/// values of the program's parameters. All is judged before the first byte is written, and the lines go out through a buffer of
+/// fixed size.
 pub fn audit_stream<H: AllocGlobal, R: Source, W: Sink>(
     rt: &H,
     options: &Options,
@@ -23,12 +24,13 @@ pub fn audit_stream<H: AllocGlobal, R: Source, W: Sink>(
     reader: &mut R,
     writer: &mut W,
 ) -> Result<Found, StreamFault>
-    // At `Ok` the writer took all lines, of which one is of a false fact exactly where the answer says so, and where it failed a
-    // part of such lines. Any other fault has written nothing, and is the first fault of the input and the parameters.
+    // At `Ok` the writer took all lines, one of which is of a false fact exactly if the result says so. If the writer failed, it
+    // took a part of such lines. At any other fault nothing is written, and the fault is the first of the input and the
+    // parameters.
     ensures written { Writes (saying_of_audit SaysVerdicts parameters.now options.now.sides)
         (refusing_audit parameters.now options.now.sides) (R.remaining reader.old)
         result (W.contents writer.old) (W.contents writer.new) }
-    // A fault of the reader or the writer is answered where it failed, and nowhere else.
+    // A fault of the reader or the writer is returned exactly if it failed.
     ensures read { CountsRead result (R.failures reader.old) (R.failures reader.new) }
     ensures write { CountsWritten result (W.failures writer.old) (W.failures writer.new) }
 {

@@ -12,9 +12,9 @@ use inputs::{StreamFault, contents_of, read_input};
 use std::alloc::Global;
 use streams::{Sink, Source};
 
-/// Reads fact files, a line for each, and writes the file of what they hold together: the retired jobs, and the facts of other jobs,
-/// each once, rising, in small hexadecimal digits and LF. Nothing is judged, and no program is needed. The digits go out through a
-/// buffer of fixed size.
+/// Reads fact files, a line for each, and writes the file of their join. It has the retired jobs, and the facts of other jobs,
+/// each once and rising, in lower-case hexadecimal digits and LF. Nothing is judged, and no program is needed. The digits go out
+/// through a buffer of fixed size.
 ///
 /// Where the files have more than 4,294,967,295 facts or retired jobs, which no file counts, memory is refused.
 pub fn merge_stream<H: AllocGlobal, R: Source, W: Sink>(
@@ -22,11 +22,11 @@ pub fn merge_stream<H: AllocGlobal, R: Source, W: Sink>(
     reader: &mut R,
     writer: &mut W,
 ) -> Result<(), StreamFault>
-    // At `Ok` the writer took the whole line, and where it failed a part of it. Any other fault has written nothing, and is the
-    // first bad line.
+    // At `Ok` the writer took the whole line; if it failed, a part of it. At any other fault nothing is written, and the fault is
+    // the first bad line.
     ensures written { Writes saying_join refusing_merge (R.remaining reader.old)
         result (W.contents writer.old) (W.contents writer.new) }
-    // A fault of the reader or the writer is answered where it failed, and nowhere else.
+    // A fault of the reader or the writer is returned exactly if it failed.
     ensures read { CountsRead result (R.failures reader.old) (R.failures reader.new) }
     ensures write { CountsWritten result (W.failures writer.old) (W.failures writer.new) }
 {
@@ -35,7 +35,7 @@ pub fn merge_stream<H: AllocGlobal, R: Source, W: Sink>(
     Ok(write_line(&contents.retired, &contents.facts, counts, writer)?)
 }
 
-/// What the files hold together, and how much of it there is. The input is let go.
+/// The join of the files, and its counts. The input is freed.
 fn counted_join(alloc: Global, input: Vec<u8>) -> Result<(Contents, Counts), StreamFault>
     ensures join { IfOk result
         (λ counted. IsJoin input.items counted.0.retired.items counted.0.facts.items) }

@@ -18,7 +18,7 @@ pub record AreDigits (line : List ℕ) : Type 0 where
   pub bytes : List ℕ
   pub digits : IsDigitsOf line bytes
 
--- digits of bytes that are no file, with the first fault of these, which is never memory
+-- digits of bytes that are not a file, with their first fault, which is never memory
 pub record IsBadFile (line : List ℕ) (fault : FactFault) : Type 0 where
   pub digits : AreDigits line
   pub first : IsFileFault digits.bytes fault

@@ -8,7 +8,7 @@ use Rattle.tile_fact.specs.declared.fact.Fact.{Fact}
 use Rattle.tile_fact.specs.FactFile.{IsFactFile}
 use Rattle.tile_fact.specs.Order.{Rises, IdsRise}
 
--- what stands before the first line feed, between each two, and behind the last
+-- what comes before the first line feed, between each two, and after the last
 abbrev pub lines : List ℕ → List (List ℕ)
 lines text = slice_split (λ byte. byte == 10) text
 
@@ -26,7 +26,7 @@ pub record IsFileLine (line : List ℕ) (retired : List Ids) (facts : List Fact)
 abbrev pub IsGoodLine : List ℕ → Type 0
 IsGoodLine line = (line ≡ []) ⊎ ((retired : List Ids) × (facts : List Fact) × IsFileLine line retired facts)
 
--- a file of the lines has this in that part of it
+-- a file on one of the lines has x in this part of it
 pub record IsOnLines {X : Type 0} (part : List Ids → List Fact → List X) (all : List (List ℕ)) (x : X) : Type 0 where
   pub line : List ℕ
   pub retired : List Ids
@@ -43,8 +43,8 @@ AreRetiredOn all ids = IsOnLines (λ retired facts. retired) all ids
 abbrev pub IsFactOn : List (List ℕ) → Fact → Type 0
 IsFactOn all fact = IsOnLines (λ retired facts. facts) all fact
 
--- all lines are good; these are the retired jobs of all files, and the facts of all files but for those of retired jobs, both
--- rising, each once
+-- all lines are good. These are the retired jobs of all files, and the facts of all files except those of retired jobs; both
+-- rise, each once
 pub record IsJoin (text : List ℕ) (retired : List Ids) (facts : List Fact) : Type 0 where
   pub good : All IsGoodLine (lines text)
   pub ids_rise : IdsRise retired

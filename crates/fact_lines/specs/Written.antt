@@ -6,11 +6,11 @@ use Rattle.tile_fact.specs.declared.fact.Fact.{Fact}
 use Rattle.tile_fact.specs.FactFile.{fact_file}
 use Rattle.fact_lines.specs.declared.writing.Counts.{Counts}
 
--- their file in small hexadecimal digits, and a line feed
+-- their file in lower-case hexadecimal digits, and a line feed
 abbrev pub written : List Ids → List Fact → List ℕ
 written retired facts = encode_lower (fact_file retired facts) ++ 10 ∷ []
 
--- so many there are
+-- the counts are those of the lists
 pub record AreCounts (counts : Counts) (retired : List Ids) (facts : List Fact) : Type 0 where
   pub of_retired : counts.retired ≡ length retired
   pub of_facts : counts.facts ≡ length facts

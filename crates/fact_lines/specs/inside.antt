@@ -1,3 +1,3 @@
--- What clauses of inner functions cite, and no public clause does.
+-- Definitions that clauses of inner functions cite, and no public clause does.
 pub mod Gathering
 pub mod Labels

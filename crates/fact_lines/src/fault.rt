@@ -9,14 +9,14 @@ use tile_fact::FactFault;
 /// The first fault of a text, by the number of its line. Lines are counted from 1, empty ones too.
 #[derive(Clone, Copy, Debug, PartialEq, Eq, Error)]
 pub enum LinesFault {
-    /// The line is not empty and is no hexadecimal digits, two for each byte.
+    /// The line is not empty, and is not hexadecimal digits, two for each byte.
     #[error("line {line}: bad hex")]
     BadHex { line: usize },
     /// The line is the digits of bytes that are no fact file: their first fault, with its offset in these bytes. It is
     /// never [`FactFault::Memory`].
     #[error("line {line}: {fault}")]
     BadFile { line: usize, fault: FactFault },
-    /// There is no memory for a line of digits, before which each line is empty or a fact file, or for what they hold.
+    /// There is no memory for a line of digits, where each line before it is empty or a fact file, or for what they hold.
     #[error("out of memory")]
     Memory,
 }

@@ -1,4 +1,4 @@
-//! The digits in front of the facts.
+//! The digits before the facts.
 
 ghost use Rattle.hex.specs.Hex.{encode_lower};
 ghost use Rattle.std.specs.List.{flat_map};

@@ -16,11 +16,11 @@ use identity::Ids;
 use std::alloc::Global;
 use tile_fact::Fact;
 
-/// The retired jobs of all fact files of the text and their facts of other jobs, both rising, each once, or the first fault of the
-/// text.
+/// The retired jobs of all fact files of the text and their facts of other jobs, both rising, each once. Otherwise the first
+/// fault of the text.
 ///
-/// Each line, which LF or the end of the text ends, is one file in hexadecimal digits of either case, or empty and passed
-/// over. A text of no file has neither. A line's bad digits are found without any memory.
+/// Each line ends with LF or at the end of the text. It is one file in hexadecimal digits of either case, or empty and skipped. A
+/// text of no file has neither. A line's bad digits are found without any memory.
 pub fn join_of(alloc: Global, text: &[u8]) -> Result<Contents, LinesFault>
     // The lists are what the text's files hold together.
     ensures found { IfOk result (λ contents. IsJoin text.now contents.retired.items contents.facts.items) }
@@ -38,7 +38,7 @@ pub fn join_of(alloc: Global, text: &[u8]) -> Result<Contents, LinesFault>
     Ok(Contents { retired, facts })
 }
 
-// The retired jobs and the facts of all files in the order in which they stand.
+// The retired jobs and the facts of all files in the order of the text.
 fn read_files(alloc: Global, text: &[u8]) -> Result<Contents, LinesFault>
     ensures found { IfOk result
         (λ contents. Gathers (lines text.now) contents.retired.items contents.facts.items) }
@@ -56,7 +56,7 @@ fn read_files(alloc: Global, text: &[u8]) -> Result<Contents, LinesFault>
     Ok(contents)
 }
 
-// Takes the facts of these jobs, which rise, out of the list.
+// Removes the facts of these jobs, which rise, from the list.
 fn leave_out(jobs: &[Ids], facts: &mut Vec<Fact>)
     ensures { IsStrictlySortedBy ids_cmp jobs.now
         → facts.new.items ≡ filter (λ fact. not (is_retired jobs.now fact)) facts.old.items }
@@ -64,7 +64,7 @@ fn leave_out(jobs: &[Ids], facts: &mut Vec<Fact>)
     facts.retain(|fact| !is_among(jobs, fact));
 }
 
-// Whether the fact is of one of these jobs, where they rise.
+// Whether the fact is of one of these jobs, if they rise.
 fn is_among(jobs: &[Ids], fact: &Fact) -> bool
     ensures { IsStrictlySortedBy ids_cmp jobs.now → result ≡ is_retired jobs.now fact.now }
 {

@@ -10,8 +10,7 @@ use crate::fault::LinesFault;
 use std::alloc::Global;
 use tile_fact::{FactFault, FactFile, decode};
 
-/// Adds what a line holds, which is of this number: the retired jobs and the facts of the file that it is, or nothing where it is
-/// empty.
+/// Adds what the line of this number holds: the retired jobs and the facts of its file, or nothing if it is empty.
 pub fn add_line(
     alloc: Global,
     number: usize,
@@ -31,7 +30,7 @@ pub fn add_line(
     Ok(())
 }
 
-// The file that a line is.
+// The file of a line.
 fn read_line(alloc: Global, number: usize, line: &[u8]) -> Result<FactFile, LinesFault>
     requires { 0 < length line.now }
     ensures found { IfOk result (λ file. IsFileLine line.now file.retired file.facts) }
@@ -50,7 +49,7 @@ fn read_line(alloc: Global, number: usize, line: &[u8]) -> Result<FactFile, Line
     }
 }
 
-// How the fault of a file is told, which is the line of this number.
+// How a fault of the file on the line of this number is reported.
 fn told(number: usize, fault: FactFault) -> LinesFault
     ensures { result ≡ told number fault }
 {

@@ -59,7 +59,7 @@ fn put_record<W: Sink>(
     }
 }
 
-// What stands before the numbers.
+// What comes before the numbers.
 fn put_label<W: Sink>(
     buffer: &mut WriteBuffer,
     writer: &mut W,

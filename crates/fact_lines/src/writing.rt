@@ -22,7 +22,7 @@ pub struct Counts {
     pub facts: u32,
 }
 
-/// How many there are, if a fact file can count them: none past 4,294,967,295 of either.
+/// How many there are, if a fact file can count them: none if there are more than 4,294,967,295 of either.
 pub fn counts_of(retired: &[Ids], facts: &[Fact]) -> Option<Counts>
     ensures { MatchOption result ((2 ^ 32 ≤ length retired.now) ⊎ (2 ^ 32 ≤ length facts.now))
         (λ counts. AreCounts counts retired.now facts.now) }
@@ -32,8 +32,8 @@ pub fn counts_of(retired: &[Ids], facts: &[Fact]) -> Option<Counts>
     Some(Counts { retired, facts })
 }
 
-/// Writes the file of the retired jobs and the facts in small hexadecimal digits, and LF. No memory is taken: the digits go
-/// through a buffer of fixed size.
+/// Writes the file of the retired jobs and the facts in lower-case hexadecimal digits, and LF. No memory is allocated: the digits
+/// go through a buffer of fixed size.
 pub fn write_line<W: Sink>(
     retired: &[Ids],
     facts: &[Fact],
@@ -52,7 +52,7 @@ pub fn write_line<W: Sink>(
     buffer.flush(writer)
 }
 
-/// Puts the same behind what waits to be written.
+/// Puts the same after what waits to be written.
 pub fn put_line<W: Sink>(
     buffer: &mut WriteBuffer,
     writer: &mut W,

@@ -1,4 +1,5 @@
--- Finite sets of facts. A set is told by its facts in their order, each once, so that sets of the same facts are one value.
+-- Finite sets of facts. A set is represented by its facts in their order, each once, so that sets of the same facts are one
+-- value.
 use Rattle.std.specs.Coded.{Coded, code_by, coded×, coded⊎, coded_list, coded_ℕ, coded_ℤ}
 use base.Stored.{coded_unit}
 use Rattle.std.specs.FinMap as map

@@ -1,4 +1,4 @@
-//! What the definitions amount to, proved once for the crates above. A law is a function whose clauses are the law.
+//! Consequences of the definitions, proved once for dependent crates. A law is a function whose clauses are the law.
 
 ghost use Rattle.fact_store.specs.Facts.{FactSet, nothing, holds, facts_in, with_fact, join, IsSubset, lacked, facts_of, names_one, without};
 ghost use Rattle.identity.specs.declared.job_ids.Ids.{Ids};
@@ -8,7 +8,7 @@ ghost use Rattle.std.specs.Prelude.{◌≡◌, ◌↔◌, ◌⊎◌, ◌+◌, �
 ghost use Rattle.tile_fact.specs.declared.fact.Fact.{Fact};
 ghost use Rattle.tile_fact.specs.Order.{Rises};
 
-/// Sets of the same facts are one. The empty set has no fact, with one more fact a set has this and those that it had, and
+/// Sets of the same facts are equal. The empty set has no fact. A set with one more fact has this one and those that it had, and
 /// a join has the facts of both.
 pub fn sets_are_their_facts()
     ensures same { (s t : FactSet) →
@@ -22,7 +22,7 @@ pub fn sets_are_their_facts()
     ensures rise { (s : FactSet) → Rises (facts_in s) }
 {}
 
-/// The facts of a key are those of the set that have it, and what a set lacks of another one is what the other alone has.
+/// The facts of a key are those of the set that have it, and what a set lacks of another is what only the other has.
 pub fn parts_of_sets()
     ensures of_key { (s : FactSet) (key : Key) (f : Fact) →
         Contains (facts_of s key) f ↔ ((holds s f ≡ true) × (f.key ≡ key)) }
@@ -49,8 +49,8 @@ pub fn order_is_forgotten()
     ensures through { (s t : FactSet) (f : Fact) → join s (with_fact t f) ≡ with_fact (join s t) f }
 {}
 
-/// Of what a merge adds, the facts of jobs that either side has retired are left out. Those are the other's facts of jobs that are
-/// retired here.
+/// Of what a merge adds, the facts of jobs that either side has retired are left out. Those are the other's facts of jobs that
+/// are retired here.
 pub fn merges_count_new_facts()
     ensures { (old other : FactSet) (ours theirs : List Ids)
         → ((f : Fact) → holds old f ≡ true → names_one ours f.key ≡ false)

@@ -14,7 +14,7 @@ pub trait FactStore: Drop + Sized {
     /// The facts that it has.
     ghost content: { Self → FactSet };
 
-    /// A store of no facts. No memory is taken.
+    /// A store of no facts. No memory is allocated.
     fn empty(alloc: Global) -> Self
         ensures { content result ≡ nothing };
 
@@ -22,8 +22,8 @@ pub trait FactStore: Drop + Sized {
     fn copy(&self) -> Result<Self, AllocError>
         ensures { IfOk result (λ copy. content copy ≡ content self.now) };
 
-    /// Adds a fact, and tells whether it is new. Where memory runs out for a new fact it is handed back, and the store is
-    /// as it was.
+    /// Adds a fact, and returns whether it is new. If memory runs out for a new fact, it is handed back, and the store is
+    /// unchanged.
     fn add(&mut self, fact: Fact) -> Result<bool, AllocFailed<Fact>>
         ensures added { OnOk result (content self.new ≡ with_fact (content self.old) fact) }
         ensures new { IfOk result (λ new. new ≡ not (holds (content self.old) fact)) }
@@ -31,7 +31,7 @@ pub trait FactStore: Drop + Sized {
         ensures only_new { IfErr result (λ _. holds (content self.old) fact ≡ false) }
         ensures unchanged { OnErr result (content self.new ≡ content self.old) };
 
-    /// Adds the facts of another store, and tells how many of them are new. Where memory runs out the store is as it was.
+    /// Adds the facts of another store, and returns how many of them are new. If memory runs out, the store is unchanged.
     fn join(&mut self, other: &Self) -> Result<usize, AllocError>
         ensures joined { OnOk result
             (content self.new ≡ join (content self.old) (content other.now)) }
@@ -40,7 +40,7 @@ pub trait FactStore: Drop + Sized {
         ensures few { IfOk result (λ count. count < 2 ^ 63) }
         ensures unchanged { OnErr result (content self.new ≡ content self.old) };
 
-    /// Takes out the facts of the tiles of these jobs. No memory is taken.
+    /// Removes the facts of the tiles of these jobs. No memory is allocated.
     fn remove(&mut self, jobs: &[Ids])
         ensures { content self.new ≡ without (content self.old) jobs.now };
 
@@ -48,7 +48,7 @@ pub trait FactStore: Drop + Sized {
     fn count(&self, key: &Key) -> usize
         ensures { result ≡ length (facts_of (content self.now) key.now) };
 
-    /// The fact of a key that has so many facts of the key below it.
+    /// The fact of a key that has exactly `n` facts of the key below it.
     fn nth(&self, key: &Key, n: usize) -> Option<&Fact>
         ensures { option_copied result ≡ slice_get (facts_of (content self.now) key.now) n };
 

@@ -51,7 +51,7 @@ impl Clone for Table {
 }
 
 impl Table {
-    // Copies of facts, with that of another one at a place.
+    // Copies of facts, with a copy of another one at a place.
     fn with_copy(
         alloc: Global,
         facts: &[Fact],
@@ -75,8 +75,8 @@ impl Table {
     }
 }
 
-/// Facts in tables, one for each key that has any, in the order of the keys. To find a key takes a time as the logarithm of
-/// how many there are. To add a fact makes the table of its key anew, and moves no other one. A copy shares the facts of each key.
+/// Facts in tables, one for each key that has any, in the order of the keys. Finding a key takes time logarithmic in the number
+/// of keys. Adding a fact makes the table of its key again, and moves no other one. A copy shares the facts of each key.
 #[derive(Drop)]
 pub struct TableFacts {
     alloc: Global,
@@ -101,7 +101,7 @@ impl FactStore for TableFacts {
         })
     }
 
-    // What is kept is a copy, so that the fact itself is at hand where memory runs out.
+    // A copy is stored, so that the fact itself is available if memory runs out.
     fn add(&mut self, fact: Fact) -> Result<bool, AllocFailed<Fact>> {
         match self.add_copy(&fact) {
             Ok(former) => Ok(former.is_some()),
@@ -109,7 +109,7 @@ impl FactStore for TableFacts {
         }
     }
 
-    // The facts of the other store are added in their order. Where memory runs out, what was added is taken out again.
+    // The facts of the other store are added in their order. If memory runs out, what was added is removed again.
     fn join(&mut self, other: &TableFacts) -> Result<usize, AllocError> {
         let mut undo = Vec::new(self.alloc);
         match self.add_tables(&other.tables, &mut undo) {
@@ -173,7 +173,7 @@ impl TableFacts {
         }
     }
 
-    // Adds a copy of a fact, and tells what stood at its key before; nothing where the fact is there already.
+    // Adds a copy of a fact, and returns the former entry of its key; none if the fact is there already.
     fn add_copy(&mut self, fact: &Fact) -> Result<Option<(Key, Option<Table>)>, AllocError>
         ensures added { OnOk result
             (set_in self.new.tables.entries ≡ with_fact (set_in self.old.tables.entries) fact.now) }
@@ -196,7 +196,7 @@ impl TableFacts {
         Ok(Some((*fact.key(), former)))
     }
 
-    // Adds a copy of a fact, and tells whether it is new. What stood at its key before is noted.
+    // Adds a copy of a fact, and returns whether it is new. The former entry of its key is noted.
     fn note_copy(
         &mut self,
         fact: &Fact,
@@ -219,7 +219,7 @@ impl TableFacts {
         }
     }
 
-    // Adds copies of facts, and tells how many are new. Where memory runs out some are added.
+    // Adds copies of facts, and returns how many are new. If memory runs out, some are added.
     fn add_copies(
         &mut self,
         facts: &[Fact],
@@ -240,7 +240,8 @@ impl TableFacts {
         Ok(new)
     }
 
-    // Adds copies of the facts of tables, and tells how many are new. Facts that are too many to be counted would not fit into memory.
+    // Adds copies of the facts of tables, and returns how many are new. Facts that are too many to count would not fit into
+    // memory.
     fn add_tables(
         &mut self,
         tables: &BTreeMap<Key, Table>,
@@ -267,7 +268,7 @@ impl TableFacts {
     }
 }
 
-// Puts back what stood at a key.
+// Restores the former entry of a key.
 fn undo_one(tables: &mut BTreeMap<Key, Table>, key: &Key, former: Option<Table>)
     ensures { tables.new.entries ≡ undo_one (key.now, former) tables.old.entries }
 {

@@ -10,7 +10,7 @@ use Rattle.tile_boxes.specs.Costs.{AllFitScratch}
 use Rattle.identity.specs.declared.key.Key.{Key}
 use Rattle.fact_store.specs.Facts.{FactSet}
 
--- the catalog has a job of this number, and the schedule is one of it by which each tile has room in scratch memory
+-- the catalog has a job of this number, and the schedule is one of it under which each tile fits into scratch memory
 pub record IsPlanned (catalog : List Entry) (job : ℕ) (s : Inlining) : Type 0 where
   pub entry : Entry
   pub there : slice_get catalog job ≡ Some entry

@@ -1,2 +1,2 @@
--- What clauses of inner functions cite, and no public clause does.
+-- Definitions that clauses of inner functions cite, and no public clause does.
 pub mod Missing

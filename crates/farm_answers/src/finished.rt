@@ -1,4 +1,4 @@
-//! From what is held to the answer of a job.
+//! From held facts to the answer of a job.
 
 ghost use Rattle.std.specs.Option.{ForSome};
 ghost use Rattle.std.specs.Prelude.{◌≡◌, IfOk, length};
@@ -20,8 +20,8 @@ pub struct Finished {
     pub made: u32,
 }
 
-/// The answer of a job where all that is held is true. The tiles of stored functions and accumulators of which nothing is
-/// held are made, in dependence order. More than 4,294,967,295 of them are answered as if memory ran out.
+/// The answer of a job if all that is held is true. Tiles of stored functions and accumulators of which nothing is held are made,
+/// in dependence order. More than 4,294,967,295 of them are reported as if memory ran out.
 ///
 /// # Errors
 ///

@@ -1,4 +1,4 @@
-//! The answer of a job from true facts: the tiles that are missing are made, and the answer is put together from all of them.
+//! The answer of a job from true facts: missing tiles are made, and the answer is composed from all of them.
 #![tactic(auto)]
 
 mod finished;

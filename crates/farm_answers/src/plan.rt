@@ -39,7 +39,7 @@ impl Plan<'_> {
         Ok(keys)
     }
 
-    /// Makes the tiles of these keys one after another, which are all that is missing of the job's work, and adds their facts.
+    /// Makes the tiles of these keys one after another, and adds their facts. They are all that is missing of the job's work.
     pub fn make_all(&self, held: HeldFacts, keys: &[Key]) -> Result<HeldFacts, AllocError>
         requires { IsLeft self.now.catalog.now (entry_of self.now.job.now)
             self.now.schedule.now.inlining held keys.now }
@@ -54,7 +54,7 @@ impl Plan<'_> {
         Ok(held)
     }
 
-    /// The fact of a key that nothing but memory keeps from being made.
+    /// The fact of a key, which is made unless memory is refused.
     fn make(&self, held: &HeldFacts, key: &Key) -> Result<Fact, AllocError>
         requires { CanMake self.now.catalog.now held.now self.now.schedule.now.inlining key.now }
         ensures key { IfOk result (λ fact. fact.key ≡ key.now) }
@@ -67,7 +67,7 @@ impl Plan<'_> {
         }
     }
 
-    /// The answer of the job where all that is held is true, and all that the answer is put together from is held.
+    /// The answer of the job, if all that is held is true, and all that the answer is composed from is held.
     pub fn answer(&self, held: &HeldFacts) -> Result<Answer, AllocError>
         requires { HoldsAnswerOf self.now.catalog.now held.now (entry_of self.now.job.now) }
         ensures answer { IfOk result (IsAnswer (pipeline_in self.now.job.now)) }

@@ -1,4 +1,4 @@
--- Which fault of `run` is told: the first one of its input, or else the farm's.
+-- Which fault of `run` is reported: the first one of its input, or else the farm's.
 use Rattle.std.specs.Prelude.{ℕ, List}
 use Rattle.domains.specs.Sides.{Sides}
 use Rattle.farm.specs.declared.fault.FarmFault.{FarmFault}
@@ -13,7 +13,7 @@ use Rattle.inputs.specs.declared.lines.FarmLine.TheVariants.{SpawnFailed, Close}
 use Rattle.job.specs.Pipeline.{Pipeline}
 use Rattle.pipe_tree.specs.Tree.{Declaration}
 
--- how a farm's faults are told
+-- how a farm's faults are reported
 abbrev pub told_farm : FarmFault → StreamFault
 told_farm (farms.SpawnFailed refusal) = Farm SpawnFailed
 told_farm farms.Memory = Memory
@@ -31,7 +31,7 @@ pub record HasJob (input : List ℕ) (given : List Given) (sides : Sides) : Type
   pub job : Pipeline
   pub of_input : IsInputJob input given sides tree job
 
--- The first fault of an input of two sections; a farm's is told only where the input has a job, and so no fault of its own.
+-- The first fault of an input of two sections; a farm's is reported only if the input has a job, and so no fault of its own.
 abbrev pub IsRunFault : List ℕ → List Given → Sides → StreamFault → Type 0
 IsRunFault input given sides (Farm line) = HasJob input given sides
 IsRunFault input given sides fault = IsFaultOf input given sides fault

@@ -31,7 +31,7 @@ pub struct FarmRun {
     pub by_caller: u32,
 }
 
-/// The result of a job, which a farm of so many nodes computes by the schedule that the options ask for.
+/// The result of a job, which a farm computes by the schedule that the options request.
 pub fn farmed<H: AllocGlobal + Threads + Wait + Sync>(
     rt: &H,
     setup: &FarmSetup,
@@ -54,7 +54,7 @@ pub fn farmed<H: AllocGlobal + Threads + Wait + Sync>(
     }
 }
 
-/// The result of the job that a catalog has alone.
+/// The result of the only job of a catalog.
 fn farmed_in<H: AllocGlobal + Threads + Wait + Sync>(
     rt: &H,
     setup: &FarmSetup,

@@ -15,12 +15,12 @@ use std::sync::Wait;
 use std::thread::Threads;
 use streams::{Sink, Source};
 
-/// Reads a program and a picture, runs the program on the picture by a farm of nodes, and writes the result: the picture that the program
-/// puts out, if it has an output, and behind it a line for each of its accumulators. It is what one thread computes, however many nodes
+/// Reads a program and a picture, runs the program on the picture by a farm of nodes, and writes the result. It is the picture of
+/// the output, if there is one, and after it a line for each accumulator. It is what one thread computes, however many nodes
 /// there are and whatever they lose, repeat and forget.
 ///
-/// The input is the program's text, a line `%%` and the picture. `parameters` gives values of the program's parameters. All is computed
-/// before the first byte is written.
+/// The input is the program's text, a line `%%` and the picture. `parameters` gives values of the program's parameters. All is
+/// computed before the first byte is written.
 pub fn run_stream<H: AllocGlobal + Threads + Wait + Sync, R: Source, W: Sink>(
     rt: &H,
     setup: &FarmSetup,
@@ -29,12 +29,12 @@ pub fn run_stream<H: AllocGlobal + Threads + Wait + Sync, R: Source, W: Sink>(
     reader: &mut R,
     writer: &mut W,
 ) -> Result<(), StreamFault>
-    // At `Ok` the writer took the bytes of the result, and where it failed a part of them. Any other fault has written nothing, and is
-    // the first fault of the input and the parameters, or the farm's own, which is told only of an input that has a job.
+    // At `Ok` the writer took the bytes of the result; if it failed, a part of them. At any other fault nothing is written. The
+    // fault is the first of the input and the parameters, or the farm's own, which is reported only for an input that has a job.
     ensures written { Writes (saying_of_job SaysResult parameters.now options.now.sides)
         (refusing_run parameters.now options.now.sides) (R.remaining reader.old)
         result (W.contents writer.old) (W.contents writer.new) }
-    // A fault of the reader or the writer is answered where it failed, and nowhere else.
+    // A fault of the reader or the writer is returned exactly if it failed.
     ensures read { CountsRead result (R.failures reader.old) (R.failures reader.new) }
     ensures write { CountsWritten result (W.failures writer.old) (W.failures writer.new) }
 {
@@ -43,7 +43,7 @@ pub fn run_stream<H: AllocGlobal + Threads + Wait + Sync, R: Source, W: Sink>(
     Ok(write_reply(&farmed.reply, writer)?)
 }
 
-/// Runs the farm of `run_stream` on what was read, and tells what it left.
+/// Runs the farm of `run_stream` on what was read, and returns what it left.
 pub fn run_input<H: AllocGlobal + Threads + Wait + Sync>(
     rt: &H,
     setup: &FarmSetup,

@@ -1,4 +1,4 @@
-//! How a farm's faults are told.
+//! How a farm's faults are reported.
 
 ghost use Rattle.std.specs.Prelude.{◌≡◌};
 ghost use Rattle.farm_commands.specs.RunFaults.{told_farm};

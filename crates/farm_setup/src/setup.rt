@@ -3,16 +3,16 @@
 ghost use Rattle.std.specs.Prelude.{◌≡◌, IfNone, IfSome};
 ghost use Rattle.farm_setup.specs.Setups.{IsWithin};
 
-/// The most nodes of a farm.
+/// The greatest number of nodes of a farm.
 pub const MOST_NODES: u8 = 8;
 
-/// The most turns of a worker.
+/// The greatest number of turns of a worker.
 pub const MOST_TURNS: u32 = 65_536;
 
-/// The most parcels for which a mailbox has room.
+/// The greatest capacity of a mailbox, in parcels.
 pub const MOST_PARCELS: u32 = 1_024;
 
-/// The faults that a farm makes on purpose, each of them never where its number is 0.
+/// The faults that a farm makes on purpose. A fault whose number is 0 is never made.
 #[derive(Clone, Copy, Debug, PartialEq, Eq)]
 pub struct Faults {
     /// Of the parcels that a worker would send, each one of this many is lost.
@@ -23,8 +23,8 @@ pub struct Faults {
     pub restart: u32,
 }
 
-/// How many nodes a farm has, how many turns each worker goes through, for how many parcels a mailbox has room, and which faults are
-/// made: 1 to 8 nodes, at most 65,536 turns, and room for 1 to 1,024 parcels.
+/// How many nodes a farm has, how many turns each worker goes through, the capacity of a mailbox in parcels, and which faults are
+/// made. There are 1 to 8 nodes, at most 65,536 turns, and a capacity of 1 to 1,024 parcels.
 #[derive(Clone, Copy, Debug)]
 pub struct FarmSetup {
     pub nodes: u8,
@@ -35,7 +35,7 @@ pub struct FarmSetup {
 }
 
 impl FarmSetup {
-    /// A farm of so many nodes, if all numbers are within their limits. No memory is taken.
+    /// A farm with this number of nodes, if all numbers are within their limits. No memory is allocated.
     pub fn new(nodes: u8, turns: u32, capacity: u32, faults: Faults) -> Option<FarmSetup>
         ensures nodes { IfSome result (λ setup. setup.nodes ≡ nodes) }
         ensures turns { IfSome result (λ setup. setup.turns ≡ turns) }
@@ -58,7 +58,7 @@ impl FarmSetup {
         })
     }
 
-    /// Two nodes, 1,000 turns, room for eight parcels, and no faults.
+    /// Two nodes, 1,000 turns, a capacity of eight parcels, and no faults.
     pub fn usual() -> FarmSetup
         ensures nodes { result.nodes ≡ 2 }
         ensures turns { result.turns ≡ 1000 }

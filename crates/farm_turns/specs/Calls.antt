@@ -1,4 +1,4 @@
--- What a worker of a farm calls, each call with what it was given and what it was answered. A log has its oldest call first.
+-- The calls of a worker of a farm, each with its arguments and its result. A log has its oldest call first.
 use Rattle.std.specs.Prelude.{ℕ, Bool, Option, List, [], ◌∷◌, ◌++◌}
 use Rattle.identity.specs.declared.key.Key.{Key}
 use Rattle.tile_fact.specs.declared.fact.Fact.{Fact}
@@ -26,9 +26,9 @@ pub data Call : Type 0 where
   Lent : (keys : List Key) (facts : Option (List Fact)) → Call
   -- the tile of a key is computed from facts, if it can be
   Computed : (key : Key) (facts : List Fact) (made : Option Fact) → Call
-  -- a worker tells that it has made a fact
+  -- a worker reports that it has made a fact
   Made : (worker turn : ℕ) (fact : Fact) → Call
-  -- a parcel with the fact is put into a node's mailbox, with the node that it comes from. Where there was no room it is dropped
+  -- a parcel with the fact is put into a node's mailbox, with the node that it comes from. If the mailbox is full, it is dropped
   Put : (node from : ℕ) (fact : Fact) → Call
   -- a lease is given back
   Released : (time worker : ℕ) (key : Key) → Call
@@ -42,6 +42,6 @@ found needs_of key known = Found_known key
 found needs_of key waiting = Found_waiting key
 found needs_of key (open_by plan) = Found_open key (needs_of plan)
 
--- the call is the next one: where the calls before may be these, they may be these and this one
+-- the call is the next one: if the old place may have a log, the new one may have it with the call at its end
 abbrev pub Calls : {S : Type 0} → (S → List Call → Type 0) → S → S → Call → Type 0
 Calls has_log old new call = (log : List Call) → has_log old log → has_log new (log ++ call ∷ [])

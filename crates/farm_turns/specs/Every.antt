@@ -1,7 +1,7 @@
--- Each one of so many.
+-- One of every n.
 use Rattle.std.specs.Prelude.{ℕ, Bool, ◌+◌, nat_eq, nat_lt, if◌then◌else◌}
 
--- whether the next one is told, where so many passed since the last that was. Where the period is 0, none is
+-- whether the next one is selected, where so many passed since the last that was. If the period is 0, none is
 abbrev pub is_told : ℕ → ℕ → Bool
 is_told period passed = nat_eq (passed + 1) period
 

@@ -1,4 +1,4 @@
--- Where a worker stands.
+-- How far a worker has come.
 use Rattle.std.specs.Prelude.{◌≡◌, ◌+◌, ℕ, List}
 use Rattle.farm_turns.specs.Calls.{Call}
 use Rattle.farm_turns.specs.Turns.{Going, Told, CanBeTold, after_turn}

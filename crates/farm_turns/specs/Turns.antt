@@ -1,4 +1,4 @@
--- What a worker does in a turn, step by step, as a log of its calls. What it is answered decides how it goes on.
+-- What a worker does in a turn, step by step, as a log of its calls. The results of its calls decide how it goes on.
 use Rattle.std.specs.Prelude.{◌≡◌, ◌≤◌, ◌+◌, ◌%◌, ℕ, zero, suc, Bool, true, false, ◌&&◌, nat_eq, nat_lt, if◌then◌else◌, Some, None, List, [], ◌∷◌, ◌++◌, length, map, drop, fold}
 use Rattle.identity.specs.declared.key.Key.{Key}
 use Rattle.tile_fact.specs.declared.fact.Fact.{Fact}
@@ -12,12 +12,13 @@ use Rattle.farm_turns.specs.declared.rules.Rules.{Rules}
 abbrev pub lease : ℕ
 lease = 16
 
--- the turns in which a node keeps what it holds are the multiples of it
+-- the turns in which a node keeps what it holds are the multiples of this
 abbrev pub keeping : ℕ
 keeping = 4
 
--- how far a worker has come: its calls so far, how many parcels it received since one was given twice, how many it would have sent since
--- one was lost, how many keys at the front it passes over, as they are known for good, and whether this number may grow
+-- how far a worker has come: its calls so far; how many parcels it received since one was given twice; how many it would have
+-- sent since one was lost; how many keys at the front it passes over, as they are known for good; and whether this number may
+-- grow
 pub record Going : Type 0 where
   pub log : List Call
   pub repeated : ℕ
@@ -30,7 +31,7 @@ and_then g call = record g { log = g.log ++ call ∷ [] }
 
 -- ---- what is received
 
--- the node takes the updates of a parcel; it takes each one of `repeat` twice
+-- the node takes the updates of a parcel; it takes one of every `repeat` parcels twice
 abbrev pub given : Rules → Going → List Update → Going
 given rules g updates =
     let once = and_then g (Took updates) in
@@ -41,7 +42,7 @@ given rules g updates =
 abbrev pub with_parcel : Rules → Going → List Update → Going
 with_parcel rules g updates = given rules (and_then g (Received rules.home updates)) updates
 
--- where fewer parcels come than the mailbox has room for, it was found empty
+-- if fewer parcels come than the capacity of the mailbox, it was found empty
 abbrev pub received : Rules → Going → List (List Update) → Going
 received rules g parcels =
     let all = fold (with_parcel rules) g parcels in
@@ -49,7 +50,7 @@ received rules g parcels =
 
 -- ---- which key is picked
 
--- why a key is not picked: it is known, its tile is to wait, or it can be made from these, and another worker has leased it
+-- why a key is not picked: it is known; its tile is to wait; or it can be made from these but another worker has leased it
 pub data Why : Type 0 where
   Is_known : Why
   Waits : Why
@@ -82,7 +83,7 @@ walked rules turn g passed = fold (λ before p. with_passed rules turn before p.
 
 -- ---- what is made and sent
 
--- each node but the worker's own is sent a parcel with the fact, but that each one of `lose` is lost
+-- each node but the worker's own is sent a parcel with the fact, except that one of every `lose` is lost
 abbrev pub sent_to : Rules → Fact → Going → ℕ → Going
 sent_to rules fact g node =
     if nat_eq node rules.home then g else
@@ -95,7 +96,7 @@ abbrev pub sent_below : Rules → Fact → Going → ℕ → Going
 sent_below rules fact g zero = g
 sent_below rules fact g (suc node) = sent_to rules fact (sent_below rules fact g node) node
 
--- what comes of a key that is leased: its needs are held no more, or its tile is not made from their facts, or this fact is
+-- the outcome of a leased key: its needs are no longer held, or its tile is not made from their facts, or this fact is made
 pub data Making : Type 0 where
   Needs_gone : Making
   Nothing_made : (facts : List Fact) → Making
@@ -145,7 +146,7 @@ restarted rules turn g =
 
 -- ---- a turn
 
--- what a worker is answered in a turn: the updates of the parcels that it receives, and what it finds to do
+-- the results of a worker's calls in a turn: the updates of the parcels that it receives, and what it finds to do
 pub record Told : Type 0 where
   pub parcels : List (List Update)
   pub finding : Finding
@@ -157,7 +158,7 @@ abbrev pub after_turn : Rules → ℕ → Going → Told → Going
 after_turn rules turn g told =
     restarted rules turn (kept turn (worked rules turn (after_receiving rules turn g told) told.finding))
 
--- it may be told this
+-- these results are possible
 pub record CanBeTold (rules : Rules) (turn : ℕ) (g : Going) (told : Told) : Type 0 where
   pub room : length told.parcels ≤ rules.setup.capacity
   pub in_order : IsFinding rules (after_receiving rules turn g told) told.finding

@@ -5,12 +5,12 @@ use crate::every::Every;
 /// What a worker counts from turn to turn.
 #[derive(Debug, Drop)]
 pub struct Counts {
-    /// Tells which parcels are given to the node twice.
+    /// Selects the parcels that are given to the node twice.
     pub repeated: Every,
-    /// Tells which parcels are lost.
+    /// Selects the parcels that are lost.
     pub lost: Every,
-    /// So many of the first work keys are known for good, as no node of the farm restarts; else none.
+    /// How many of the first work keys are known for good, where no node of the farm restarts; otherwise 0.
     pub settled: usize,
-    /// No node restarts, and all keys so far of this look are known.
+    /// No node restarts, and all keys of this look so far are known.
     pub settling: bool,
 }

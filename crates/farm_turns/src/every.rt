@@ -1,9 +1,9 @@
-//! Each one of so many.
+//! One of every n.
 
 ghost use Rattle.std.specs.Prelude.{◌≡◌, ◌<◌, max};
 ghost use Rattle.farm_turns.specs.Every.{is_told, passed_after};
 
-/// Counts, and tells each one of so many; none where this is 0.
+/// Counts, and selects one of every `period`; none if this is 0.
 #[derive(Debug, Drop)]
 pub struct Every {
     period: u32,
@@ -12,7 +12,7 @@ pub struct Every {
 }
 
 impl Every {
-    /// One of so many is to be told, of which none was counted yet.
+    /// Selects one of every `period`, and has counted none yet.
     pub fn new(period: u32) -> Every
         ensures period { result.period ≡ period }
         ensures passed { result.passed ≡ 0 }
@@ -20,7 +20,7 @@ impl Every {
         Every { period, passed: 0 }
     }
 
-    /// Counts one more, and tells whether it is the last of so many.
+    /// Counts one more, and returns whether it is selected, as the last of `period`.
     pub fn is_next(&mut self) -> bool
         ensures told { result ≡ is_told self.old.period self.old.passed }
         ensures passed { self.new.passed ≡ passed_after self.old.period self.old.passed }

@@ -1,4 +1,4 @@
-//! What a worker of a farm does in a turn, whatever it is that takes its calls.
+//! What a worker of a farm does in a turn, over any place that takes its calls.
 #![tactic(auto)]
 
 mod counts;

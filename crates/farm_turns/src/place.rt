@@ -5,9 +5,9 @@ use identity::Key;
 use std::alloc::AllocError;
 use tile_fact::{Fact, Update};
 
-/// What takes the calls of a worker: its node, the mailboxes of all nodes, the desk, the gate, and what computes a tile. Contracts see a
-/// log of the calls. A place that keeps no log of its own says of a log only what it knows; a worker that goes by this trait has made all
-/// calls of the log, and no other ones. What is refused memory fails, and is in no log.
+/// What takes the calls of a worker: its node, the mailboxes of all nodes, the desk, the gate, and what computes a tile.
+/// Contracts see a log of the calls. A place that keeps no log of its own states only what it knows of a log. A worker that uses
+/// this trait alone has made all calls of the log, and no other ones. A call that is refused memory fails, and is in no log.
 pub trait Place {
     ghost use Rattle.farm_turns.specs.Calls.{Call, Calls, Entered, Received, Found_empty, Took, Looked, Claimed, Lent, Computed, Made, Put, Released, Kept, Restarted, found};
     ghost use Rattle.identity.specs.declared.key.Key.{Key as KeyOf};
@@ -65,12 +65,12 @@ pub trait Place {
     fn look(&mut self) -> Result<Self::Held, AllocError>
         ensures { OnOk result (Calls has_log self.old self.new Looked) };
 
-    /// How a key stands by a copy.
+    /// The standing of a key by a copy.
     fn find(&mut self, held: &Self::Held, key: &Key) -> Result<Standing<Self::Plan>, AllocError>
         ensures { IfOk result (λ standing.
             Calls has_log self.old self.new (found needs_of key.now standing)) };
 
-    /// Whether a key is leased to a worker from now on, for so long.
+    /// Whether a key is leased to a worker from now on, for `ttl`.
     fn claim(&mut self, time: u64, worker: u8, key: &Key, ttl: u64) -> Result<bool, AllocError>
         ensures { IfOk result (λ leased.
             Calls has_log self.old self.new (Claimed time worker key.now ttl leased)) };
@@ -94,7 +94,8 @@ pub trait Place {
     fn made(&mut self, worker: u8, turn: u32, fact: &Fact)
         ensures { Calls has_log self.old self.new (Made worker turn fact.now) };
 
-    /// Puts a parcel from a node with a copy of the fact into another node's mailbox. Where there is no room for it, it is dropped.
+    /// Puts a parcel from a node with a copy of the fact into another node's mailbox. If the mailbox is full, the parcel is
+    /// dropped.
     fn put(&mut self, node: u8, from: u8, fact: &Fact) -> Result<(), AllocError>
         requires { is_true fact.now }
         ensures { OnOk result (Calls has_log self.old self.new (Put node from fact.now)) };

@@ -1,9 +1,9 @@
-//! What a worker goes by.
+//! What a worker uses in its turns.
 
 use farm_setup::FarmSetup;
 use identity::Key;
 
-/// What a worker goes by in all its turns.
+/// What a worker uses in all its turns.
 #[derive(Clone, Copy, Debug)]
 pub struct Rules<'a> {
     /// Its number among all workers.

@@ -218,8 +218,8 @@ impl<'a, P: Place> Shift<'a, P> {
         Ok(Some(plan))
     }
 
-    // Makes the tile of a key from what its node lends, and gives its fact to the node and to all others. Nothing is made where the
-    // other worker has restarted the node, so that it holds the needs no more.
+    // Makes the tile of a key from what its node lends, and gives its fact to the node and to all others. Nothing is made if the
+    // other worker has restarted the node, so that it no longer holds the needs.
     fn make(&mut self, turn: u32, key: &Key, plan: &P::Plan) -> Result<(), AllocError>
         ensures rules { self.new.rules ≡ self.old.rules }
         ensures made { OnOk result ((g : Going) → IsAt P.has_log self.old.place self.old.counts g

@@ -1,12 +1,12 @@
-//! How a key stands at a node.
+//! The standing of a key at a node.
 
-/// What is to be done of a key, by a copy of what a node holds.
+/// What is to be done with a key, by a copy of what a node holds.
 #[derive(Debug, Drop)]
 pub enum Standing<P> {
-    /// Nothing: something is held of it.
+    /// Nothing: a fact of it is held.
     Known,
     /// Its tile is to wait: something that it needs is not held, or there is no such tile.
     Waiting,
-    /// Its tile can be made so.
+    /// Its tile can be made by this plan.
     Open(P),
 }

@@ -8,7 +8,7 @@ use Rattle.held_facts.specs.declared.make_fault.MakeFault.TheVariants.{Memory}
 use Rattle.identity.specs.declared.key.Key.{Key}
 use Rattle.tile_fact.specs.declared.fact.Fact.{Fact}
 
--- what holds these facts alone does not make it, and not as memory is refused
+-- from these facts alone it is not made, and not because memory is refused
 pub record IsNotMade (catalog : List Entry) (facts : List Fact) (inlining : List Bool) (key : Key) : Type 0 where
   pub fault : MakeFault
   pub reason : IsMakeFault catalog (fold with_fact nothing facts) inlining key fault

@@ -1,9 +1,9 @@
-//! What the workers of a farm pass.
+//! The gate that the workers of a farm pass.
 
 use tile_fact::Fact;
 
-/// What each worker of a farm calls as it goes: a place to watch a farm from, or to let its workers wait for one another. No lock of the
-/// farm is held at a call.
+/// What each worker of a farm calls as it goes: a point to watch a farm from, or to make its workers wait for one another. No
+/// lock of the farm is held at a call.
 pub trait Gate {
     /// A worker enters a turn. Workers count from 0, turns from 1.
     fn enter(&self, worker: u8, turn: u32);

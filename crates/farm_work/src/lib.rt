@@ -1,4 +1,4 @@
-//! What the workers of a farm go by: what they make and from what, and what they pass.
+//! The work of a farm: what its workers make and from what, and the gate that they pass.
 #![tactic(auto)]
 
 mod gate;

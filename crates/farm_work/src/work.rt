@@ -21,8 +21,8 @@ use std::alloc::{AllocError, Global};
 use std::marker::PhantomData;
 use tile_fact::Fact;
 
-/// A job of the catalog that the type names, a schedule of it, and the keys of its stored functions' and its accumulators' tiles in
-/// dependence order.
+/// A job of the catalog that the type names, a schedule of it, and the keys of its stored functions' and its accumulators' tiles
+/// in dependence order.
 #[derive(Drop)]
 pub struct Work<'a, C: NamedCatalog> {
     pub catalog: &'a Catalog,
@@ -52,7 +52,7 @@ impl<'a, C: NamedCatalog> Work<'a, C> {
         }
     }
 
-    /// How a tile is made of which nothing is held, where something is held of all that it needs.
+    /// How a tile is made of which nothing is held, if something is held of all that it needs.
     pub fn open_plan(
         &self,
         alloc: Global,
@@ -78,7 +78,7 @@ impl<'a, C: NamedCatalog> Work<'a, C> {
         Ok(Some(plan))
     }
 
-    // How a tile is made, if there is such a tile and it has room.
+    // How a tile is made, if there is such a tile and it fits into scratch memory.
     fn plan(&self, alloc: Global, key: &Key) -> Result<Option<TilePlan<'a>>, AllocError>
         ensures { IfOk result (λ found. IfSome found (IsTilePlan
             (program_id_in self.now.job.now) (pipeline_in self.now.job.now)
@@ -92,8 +92,8 @@ impl<'a, C: NamedCatalog> Work<'a, C> {
         }
     }
 
-    /// The fact of a tile, made from true facts, if these are all that it needs. It is true too. There is none only where these facts
-    /// make none.
+    /// The fact of a tile, made from true facts, if these are all that it needs. The fact is true too. It is none only if these
+    /// facts make none.
     pub fn make(&self, alloc: Global, facts: &[Fact], key: &Key) -> Result<Option<Fact>, AllocError>
         requires { All (IsTrueFact C.catalog) facts.now }
         ensures is_true { IfOk result (λ made. IfSome made (IsTrueFact C.catalog)) }
@@ -124,7 +124,7 @@ fn lacks_any(held: &HeldFacts, keys: &[Key]) -> bool
     keys.iter().any(|key| lacks(held, key))
 }
 
-// These facts as what is held, all of which is true where they are.
+// These facts as held facts, all of which are true if these are.
 fn held_of(alloc: Global, facts: &[Fact]) -> Result<HeldFacts, AllocError>
     ensures these { IfOk result (λ held. held ≡ fold with_fact nothing facts.now) }
     ensures is_true { (catalog : List Entry) → All (IsTrueFact catalog) facts.now

@@ -53,7 +53,7 @@ macro_rules! fault_row {
     };
 }
 
-/// The place of a fault, which it holds alone, or that it has none.
+/// The place of a fault, if it has one. A fault that has a place holds nothing else.
 ///
 /// `fault_place!(fault, PicFault { BadSize | BadMax } else Memory)` is `Some` of what a `BadSize` or a `BadMax` holds.
 #[macro_export]

@@ -1,4 +1,5 @@
--- The events that let a node hold all tiles of a job: for each tile of which it holds nothing a making, and the delivery of what was made.
+-- The events that let a node hold all tiles of a job. For each tile of which it holds nothing there is a making, and the delivery
+-- of what was made.
 use Rattle.std.specs.Prelude.{◌≡◌, ℕ, suc, Bool, Some, None, List, [], ◌∷◌, filter, length, slice_get}
 use Rattle.std.specs.List.{Contains}
 use Rattle.catalog.specs.Entries.{Entry, ids_of}
@@ -13,7 +14,7 @@ use Rattle.gossip_core.specs.Histories.{IsRefused}
 use Rattle.gossip_core.specs.Networks.{Network}
 use Rattle.gossip_core.specs.Steps.{Accepts, Work, held}
 
--- ---- what is asked
+-- ---- what is requested
 
 -- job j is this one, and node n inlines these of its stages
 pub record IsPlanned (u : Work) (n j : ℕ) (entry : Entry) (inlining : List Bool) : Type 0 where

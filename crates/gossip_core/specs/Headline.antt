@@ -1,5 +1,6 @@
--- The headline: after any list of makings, retirements, sendings, deliveries in any order with losses and repeats, merges, keeps and restarts, refused
--- events among them, all of this holds of the world that it leads to. `accepted` has the accepted events, the newest first.
+-- The headline: all of this holds of the world that any list of events leads to, refused events among them. The events are
+-- makings, retirements, sendings, merges, keeps, restarts, and deliveries in any order with losses and repeats. `accepted` has
+-- the accepted events, the newest first.
 use Rattle.std.specs.List.{Contains}
 use Rattle.std.specs.Prelude.{◌≡◌, ◌≢◌, ℕ, ◌↔◌, List, true, false}
 use Rattle.accumulators.specs.Answers.{IsAnswer}
@@ -44,8 +45,8 @@ pub record AnswersExactly (s : State) (entry : Entry) : Type 0 where
   pub answer : (answer : Answer)
       → IsHeldAnswer s (ids_of entry).program entry.pipeline answer
       ↔ ((retires s (ids_of entry) ≡ false) × AreHeld s.facts (wanted entry) × IsAnswer entry.pipeline answer)
-  -- Its fault tells that the job is retired, or names the least wanted tile that is lacked. Where none is lacked memory alone is refused.
-  -- No tile is disputed or misshapen
+  -- Its fault reports that the job is retired, or names the least wanted tile that is lacked. If none is lacked, only memory is
+  -- refused. No tile is disputed or misshapen
   pub fault : (fault : AnswerFault) → IsAnswerFault s (ids_of entry).program entry.pipeline fault ↔ IsFaultOfTrueState s entry fault
 
 pub record Headline (u : Work) (w : Network) (accepted : List Event) : Type 0 where

@@ -14,7 +14,7 @@ start size = record { nodes = replicate size no_states; messages = [] }
 abbrev pub IsRefused : Work → Network → Event → Type 0
 IsRefused u w e = (fault : StepFault) × (fault ≢ Memory) × IsStepFault u w e fault
 
--- an event is accepted, and stands then among those that were, or it is refused and changes nothing
+-- an event is accepted, and is then among the accepted ones, or it is refused and changes nothing
 abbrev pub Goes : Work → Network → Event → Network → List Event → List Event → Type 0
 Goes u old e new earlier accepted =
     (Accepts u old e new × (accepted ≡ e ∷ earlier)) ⊎ (IsRefused u old e × (new ≡ old) × (accepted ≡ earlier))

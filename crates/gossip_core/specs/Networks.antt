@@ -7,7 +7,7 @@ pub record NodeStates : Type 0 where
   pub held : State
   pub kept : State
 
--- the node that it is for, and what it tells
+-- the node that it is for, and the state that it carries
 pub record Sent : Type 0 where
   pub to : ℕ
   pub state : State

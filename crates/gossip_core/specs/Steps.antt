@@ -1,5 +1,5 @@
--- What each event does to the nodes and the messages of a world, and why it is refused. An event is refused by the first of its faults,
--- and then changes nothing.
+-- What each event does to the nodes and the messages of a world, and why it is refused. An event is refused by the first of its
+-- faults, and then changes nothing.
 use Rattle.std.specs.List.{All, Any}
 use Rattle.std.specs.Prelude.{◌≡◌, ◌≢◌, ℕ, ◌<◌, ◌≤◌, Bool, Option, None, Some, List, [], ◌∷◌, ◌++◌, length, slice_get, slice_set, unwrap_or}
 use Rattle.std.specs.Option.{option_map_or}
@@ -53,7 +53,7 @@ held w n = (states_at w.nodes n).held
 abbrev pub kept : Network → ℕ → State
 kept w n = (states_at w.nodes n).kept
 
--- what message k tells
+-- the state that message k carries
 abbrev pub state_at : List Sent → ℕ → State
 state_at messages k = option_map_or (λ m. m.state) (slice_get messages k) nothing
 
@@ -95,7 +95,7 @@ Does u w (Make n key) new = (fact : Fact) × Makes u w n key fact × (new ≡ wi
 Does u w (Retire n ids) new = new ≡ with_message w n (of_retirement ids)
 -- all held facts of the keys are sent, and all retirements
 Does u w (Send n m keys) new = AreHeld (held w n).facts keys × (new ≡ with_message w m (lent (held w n) keys))
--- what a message to the node tells is joined to what it holds
+-- the state of a message to the node is joined to what it holds
 Does u w (Deliver n k) new = (m : Sent) × (slice_get w.messages k ≡ Some m) × (m.to ≡ n) × (new ≡ with_held w n (join (held w n) m.state))
 Does u w (Merge a b) new = new ≡ with_held w a (join (held w a) (held w b))
 Does u w (Keep n) new = new ≡ with_kept w n (held w n)
@@ -128,7 +128,7 @@ abbrev pub CannotMake : Work → Network → ℕ → Key → MakeFault → Type 
 CannotMake u w n key makes.Foreign = (i : ℕ) → ¬ (StandsAt u.jobs (ids_in key) i)
 CannotMake u w n key fault = (inlining : List Bool) × IsScheduleFor u n key inlining × IsMakeFault u.jobs (held w n) inlining key fault
 
--- the message is there
+-- the message exists
 abbrev pub HasMessage : Network → Event → Type 0
 HasMessage w (Deliver n k) = k < length w.messages
 HasMessage w _ = Unit {0}
@@ -142,12 +142,12 @@ abbrev pub MakesNothing : Work → Network → Event → MakeFault → Type 0
 MakesNothing u w (Make n key) fault = CannotMake u w n key fault × (fault ≢ makes.Memory)
 MakesNothing u w _ fault = ⊥
 
--- the least key that is asked for and not held
+-- the least key that is requested and not held
 abbrev pub AsksInVain : Network → Event → Key → Type 0
 AsksInVain w (Send n m keys) key = IsLeastNotHeld (held w n).facts keys key
 AsksInVain w _ key = ⊥
 
--- The first fault of an event. Memory is refused only where the nodes are there, and the message, which is for the node.
+-- The first fault of an event. Memory is refused only if the nodes and the message exist, and the message is for the node.
 abbrev pub IsStepFault : Work → Network → Event → StepFault → Type 0
 IsStepFault u w e faults.NoSuchNode = Any (λ n. length w.nodes ≤ n) (nodes_of e)
 IsStepFault u w e faults.NoSuchMessage = HasNodes w e × ¬ HasMessage w e

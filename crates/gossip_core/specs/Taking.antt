@@ -1,5 +1,5 @@
--- Which updates came to a node, said of the list of accepted events by its parts and of what messages tell, and what these updates leave.
--- There is no state in it but those of messages. A list has its newest event first.
+-- Which updates came to a node, and what these updates leave. It is stated by the parts of the list of accepted events and by
+-- messages. It has no state but those of messages. A list has its newest event first.
 use Rattle.std.specs.Prelude.{◌≡◌, ◌≢◌, ◌⊎◌, ℕ, List, [], ◌∷◌, ◌++◌}
 use Rattle.tile_fact.specs.declared.update.Update.{Update}
 use Rattle.states.specs.Updates.{IsLeftBy, Leave, Shows}
@@ -51,7 +51,7 @@ IsTakenAtKeep messages h n s = IsLeftBy (λ update. CameAtKeep messages update h
 
 -- ---- the same by its parts: which states come together in what node n took
 
--- what a message tells that came after the last restart
+-- the state of a message that came after the last restart
 pub record IsDelivered (messages : List Sent) (h : List Event) (n : ℕ) (part : State) : Type 0 where
   pub later : List Event
   pub before : List Event

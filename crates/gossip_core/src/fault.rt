@@ -11,7 +11,7 @@ use thiserror::Error;
 /// The first fault of an event, in this order.
 #[derive(Clone, Copy, Debug, PartialEq, Eq, Error)]
 pub enum StepFault {
-    /// 1: a node is not there.
+    /// 1: a node does not exist.
     #[error("no such node")]
     NoSuchNode,
     /// 2: the message was never sent.
@@ -26,7 +26,7 @@ pub enum StepFault {
     /// 5: the least of the keys of which the node holds nothing.
     #[error("no fact of a key is held")]
     NotHeld(Key),
-    /// 6: there is no memory for what the event asks.
+    /// 6: there is no memory for what the event requests.
     #[error("out of memory")]
     Memory,
 }

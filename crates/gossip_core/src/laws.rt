@@ -1,4 +1,4 @@
-//! What the definitions amount to, proved once for the crates above. A law is a function whose clauses are the law.
+//! Consequences of the definitions, proved once for dependent crates. A law is a function whose clauses are the law.
 
 ghost use Rattle.std.specs.Prelude.{◌≡◌, ℕ, ◌<◌, ◌↔◌, Bool, None, List, ◌∷◌, false, length};
 ghost use Rattle.catalog.specs.Entries.{AreJobs, Entry, IsCatalog, ids_of};
@@ -20,8 +20,9 @@ ghost use Rattle.overlap_tiles.specs.Work.{first_without_room, wanted_keys, work
 ghost use Rattle.tile_fact.specs.declared.fact.Fact.{Fact};
 ghost use Rattle.tile_fact.specs.declared.update.Update.{Update};
 
-/// Whatever list of events leads to a world, refused ones among them, each node holds just what it took, and keeps just what it had
-/// taken at its last keep: what the updates leave that came to it, of which retirements take the facts of their jobs away.
+/// This holds for any list of events that leads to a world, refused ones included. Each node holds just what it took, and keeps
+/// just what it had taken at its last keep. This is what the updates leave that came to it, where retirements remove the facts of
+/// their jobs.
 pub fn nodes_hold_what_they_took()
     ensures held { (u : Work) (size : ℕ) (h accepted : List Event) (w : Network)
         → Leads u size h accepted w → (n : ℕ) → IsTaken w.messages accepted n (held w n) }
@@ -29,8 +30,9 @@ pub fn nodes_hold_what_they_took()
         → Leads u size h accepted w → (n : ℕ) → IsTakenAtKeep w.messages accepted n (kept w n) }
 {}
 
-/// What a node holds is the join of all that came together in it: of the messages that were delivered to it after its last restart, of what
-/// nodes had taken that were merged in after that, and of what it had taken itself at its last keep before that.
+/// What a node holds is the join of all that came together in it. The parts are the messages that were delivered to it after its
+/// last restart, and what nodes had taken that were merged in after that. The last part is what it had taken itself at its last
+/// keep before that restart.
 pub fn what_is_taken_is_the_join_of_its_parts()
     ensures { (u : Work) (size : ℕ) (h accepted : List Event) (w : Network)
         → Leads u size h accepted w
@@ -45,8 +47,8 @@ pub fn equal_takings_are_equal_states()
         → held w n ≡ held w m }
 {}
 
-/// After a merge a node holds the least state that has what both held before, and the other node holds what it held, unless it is
-/// the same one.
+/// After a merge a node holds the least state that has what both held before. The other node holds what it held, unless it is the
+/// same one.
 pub fn merges_are_least()
     ensures first { (u : Work) (w new : Network) (a b : ℕ) → Accepts u w (Merge a b) new
         → IsBelow (held w a) (held new a) }
@@ -58,14 +60,14 @@ pub fn merges_are_least()
         → ¬ (a ≡ n) → held new n ≡ held w n }
 {}
 
-/// What is made of a tile is true, where all is true that is held of the tiles that it needs.
+/// What is made of a tile is true, if all held facts of the tiles that it needs are true.
 pub fn made_facts_are_true()
     ensures { (jobs : List Entry) (s : FactSet) (inlining : List Bool) (fact : Fact)
         → IsCatalog jobs → AreJobs jobs → AreNeedsTrue jobs s inlining fact.key
         → IsMade jobs s inlining fact → IsTrueFact jobs fact }
 {}
 
-/// In a world of true facts an event that is accepted brings true facts alone.
+/// In a world of true facts an accepted event brings only true facts.
 pub fn accepted_events_keep_truth()
     ensures { (u : Work) (w new : Network) (e : Event) → IsCatalog u.jobs → AreJobs u.jobs
         → AllTrue u.jobs w → Accepts u w e new → AllTrue u.jobs new }
@@ -77,9 +79,10 @@ pub fn worlds_hold_true_facts()
         → AreJobs u.jobs → Leads u size h accepted w → AllTrue u.jobs w }
 {}
 
-/// In a world of true facts, the events that make each tile of a job's stored functions and accumulators of which a node holds nothing,
-/// and deliver it, are none of them refused, where the node has not retired the job and each of these tiles has room. Then the node holds all of these tiles, and where its
-/// schedule stores the outputs, all tiles that the job's answer is put together from.
+/// In a world of true facts, a node may lack some tiles of a job's stored functions and accumulators. The events that make and
+/// deliver these tiles are not refused, if the node has not retired the job and each tile fits into scratch memory. Then the node
+/// holds all tiles of the job's stored functions and accumulators. If its schedule stores the outputs, it holds all tiles that
+/// the job's answer is composed from.
 pub fn finishing_events_give_all()
     ensures accepted { (u : Work) (w : Network) (n j : ℕ) (entry : Entry) (inlining : List Bool)
         → IsCatalog u.jobs → AreJobs u.jobs → AllTrue u.jobs w
@@ -104,7 +107,8 @@ pub fn finishing_events_give_all()
         (wanted_keys (ids_of entry).program entry.pipeline) }
 {}
 
-/// The headline: all that `Headline` says holds of each world to which events lead from nodes that hold nothing, over a catalog of jobs.
+/// The headline: all that `Headline` says holds of each world to which events lead from nodes that hold nothing, over a catalog
+/// of jobs.
 pub fn headline()
     ensures { (u : Work) (size : ℕ) (h accepted : List Event) (w : Network) → IsCatalog u.jobs
         → AreJobs u.jobs → Leads u size h accepted w → Headline u w accepted }

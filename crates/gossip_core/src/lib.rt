@@ -1,4 +1,4 @@
-//! What events do to the nodes of a world, and what they amount to, by definitions and laws alone. `worlds` runs them.
+//! What events do to the nodes of a world, and what follows from it, by definitions and laws alone. `worlds` runs them.
 #![tactic(auto)]
 
 mod done;

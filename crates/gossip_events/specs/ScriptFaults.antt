@@ -7,22 +7,22 @@ use Rattle.gossip_events.specs.declared.fault.ScriptFault.{ScriptFault}
 use Rattle.gossip_events.specs.declared.fault.ScriptFault.TheVariants.{BadLine, NoSuchJob, TooManyEvents, Memory}
 use Rattle.gossip_events.specs.declared.order.Order.{Order}
 
--- the line asks for nothing, whatever jobs there are
+-- the line requests nothing, whatever jobs there are
 abbrev pub IsBadLine : List ℕ → Type 0
 IsBadLine line = (order : Order) → ¬ SpellsOrder (words line) order
 
--- it asks for something, and the catalog lacks a job that it names
+-- it requests something, and the catalog lacks a job that it names
 abbrev pub LacksJob : List Entry → List ℕ → Type 0
 LacksJob jobs line = (order : Order) × SpellsOrder (words line) order × ((event : Event) → ¬ IsAsked jobs order event)
 
--- what is wrong with a line that is to tell an event, and has this number and so many events before it
+-- the fault of a line that should specify an event, with this number and this count of events before it
 abbrev pub IsLineFault : List Entry → ℕ → ℕ → List ℕ → ScriptFault → Type 0
 IsLineFault jobs number count line (BadLine at) = (count < most_events) × (at ≡ number) × IsBadLine line
 IsLineFault jobs number count line (NoSuchJob at) = (count < most_events) × (at ≡ number) × LacksJob jobs line
 IsLineFault jobs number count line TooManyEvents = count ≡ most_events
 IsLineFault jobs number count line Memory = count < most_events
 
--- a line that is at fault, while those before it tell events; lines are counted from 1
+-- a line at fault, while those before it specify events; lines are counted from 1
 pub record IsScriptFault (jobs : List Entry) (text : List ℕ) (fault : ScriptFault) : Type 0 where
   pub before : List (List ℕ)
   pub line : List ℕ

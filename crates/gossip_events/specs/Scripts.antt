@@ -1,5 +1,5 @@
--- Scripts: texts that tell events, a line for each. Words are parted by one blank. Nodes, messages and the tiles of jobs are named by
--- numbers. Empty lines, and lines that begin with `#`, tell nothing.
+-- Scripts: texts that specify events, one line for each. Words are separated by one blank. Nodes, messages and the tiles of jobs
+-- are named by numbers. Empty lines, and lines that begin with `#`, specify nothing.
 use Rattle.std.specs.List.{slice_split}
 use Rattle.std.specs.Prelude.{◌≡◌, ℕ, ◌<◌, ◌^◌, ◌==◌, ◌≤◌, Bool, true, not, Some, List, [], ◌∷◌, codes, filter, length, slice_get}
 use Rattle.std.specs.Str.Parse.{IsNumeral, digits_value}
@@ -16,20 +16,20 @@ use Rattle.gossip_events.specs.declared.verb.Verb.TheVariants as verbs
 
 -- ---- lines and words
 
--- what stands before the first line feed, between each two, and after the last
+-- the parts before the first line feed, between each two, and after the last
 abbrev pub lines : List ℕ → List (List ℕ)
 lines text = slice_split (λ byte. byte == 10) text
 
--- nothing, or what begins with `#`
+-- an empty line, or one that begins with `#`
 abbrev pub is_passed_over : List ℕ → Bool
 is_passed_over [] = true
 is_passed_over (byte ∷ line) = byte == 35
 
--- the lines that tell events
+-- the lines that specify events
 abbrev pub event_lines : List (List ℕ) → List (List ℕ)
 event_lines all = filter (λ line. not (is_passed_over line)) all
 
--- what stands before the first blank, between each two, and after the last
+-- the parts before the first blank, between each two, and after the last
 abbrev pub words : List ℕ → List (List ℕ)
 words line = slice_split (λ byte. byte == 32) line
 
@@ -64,7 +64,7 @@ SpellPlaces (word ∷ words) (place ∷ places) = SpellsPlace word place × Spel
 SpellPlaces [] (place ∷ places) = ⊥
 SpellPlaces (word ∷ words) [] = ⊥
 
--- ---- what a line asks for
+-- ---- what a line requests
 
 abbrev pub verb_word : Verb → List ℕ
 verb_word verbs.Make = codes "make"
@@ -79,7 +79,7 @@ abbrev pub IsLoneNode : List (List ℕ) → ℕ → Type 0
 IsLoneNode (word ∷ []) n = SpellsNode word n
 IsLoneNode _ n = ⊥
 
--- two words of which these hold
+-- two words: P holds of the first, and Q of the second
 abbrev pub AreTwo : List (List ℕ) → (List ℕ → Type 0) → (List ℕ → Type 0) → Type 0
 AreTwo (first ∷ second ∷ []) P Q = P first × Q second
 AreTwo _ P Q = ⊥
@@ -97,7 +97,8 @@ FollowPlain verbs.Keep rest (events.Keep node) = IsLoneNode rest node
 FollowPlain verbs.Restart rest (events.Restart node) = IsLoneNode rest node
 FollowPlain _ rest _ = ⊥
 
--- the words that follow a verb: `make N KEY`, `retire N JOB`, `send N M KEY..`, or those of an event that names neither a job nor a tile
+-- the words that follow a verb: `make N KEY`, `retire N JOB`, `send N M KEY..`, or those of an event that names neither a job nor
+-- a tile
 abbrev pub FollowVerb : Verb → List (List ℕ) → Order → Type 0
 FollowVerb verbs.Make rest (Make node place) = AreTwo rest (λ w. SpellsNode w node) (λ w. SpellsPlace w place)
 FollowVerb verbs.Retire rest (Retire node job) = AreTwo rest (λ w. SpellsNode w node) (λ w. SpellsNumber w job)
@@ -132,14 +133,14 @@ AreKeysOf jobs (place ∷ places) (key ∷ keys) = IsKeyOf jobs place key × Are
 AreKeysOf jobs [] (key ∷ keys) = ⊥
 AreKeysOf jobs (place ∷ places) [] = ⊥
 
--- the event that is asked for, with the keys of its tiles or the identities of its job
+-- the event that is requested, with the keys of its tiles or the identities of its job
 abbrev pub IsAsked : List Entry → Order → Event → Type 0
 IsAsked jobs (Make node place) event = (key : Key) × IsKeyOf jobs place key × (event ≡ events.Make node key)
 IsAsked jobs (Retire node job) event = (ids : Ids) × AreIdsAt jobs job ids × (event ≡ events.Retire node ids)
 IsAsked jobs (Send node to places) event = (keys : List Key) × AreKeysOf jobs places keys × (event ≡ events.Send node to keys)
 IsAsked jobs (Plain told) event = event ≡ told
 
--- the line asks for the event
+-- the line specifies the event
 abbrev pub TellsEvent : List Entry → List ℕ → Event → Type 0
 TellsEvent jobs line event = (order : Order) × SpellsOrder (words line) order × IsAsked jobs order event
 
@@ -156,7 +157,7 @@ TellEvents jobs (line ∷ lines) [] = ⊥
 abbrev pub most_events : ℕ
 most_events = 65536
 
--- the events that some lines tell, in order
+-- the events that these lines specify, in order
 pub record AreEvents (jobs : List Entry) (all : List (List ℕ)) (events : List Event) : Type 0 where
   pub told : TellEvents jobs (event_lines all) events
   pub few : length events ≤ most_events

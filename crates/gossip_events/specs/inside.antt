@@ -1,2 +1,2 @@
--- What clauses of inner functions cite, and no public clause does.
+-- Definitions that only clauses of inner functions cite.
 pub mod Adding

@@ -3,7 +3,7 @@
 use identity::{Ids, Key};
 use sequences::Sequence;
 
-/// Keys in the order in which they were named, some of them more than once perhaps.
+/// Keys in the order in which they were named, possibly with repetitions.
 pub type Keys = Sequence<Key>;
 
 /// What can happen to the nodes of a world. Nodes are counted from 0, and so are messages, in the order in which they were sent.

@@ -6,13 +6,13 @@ use fault_rows::{Fault, FaultRow, fault_row};
 use std::alloc::AllocError;
 use thiserror::Error;
 
-/// The first fault of a text. Lines are counted from 1, those that are passed over too.
+/// The first fault of a text. Lines are counted from 1, including those that are passed over.
 #[derive(Clone, Copy, Debug, PartialEq, Eq, Error)]
 pub enum ScriptFault {
-    /// 1: the line tells no event, whatever jobs there are.
+    /// 1: the line specifies no event, whatever jobs there are.
     #[error("line {line} tells no event")]
     BadLine { line: usize },
-    /// 2: the line names a job that is not there.
+    /// 2: the line names a job that the catalog lacks.
     #[error("line {line} names a job that is not there")]
     NoSuchJob { line: usize },
     /// 3: there are more than 65,536 lines of events.

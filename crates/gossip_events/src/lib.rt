@@ -1,4 +1,4 @@
-//! What can happen to the nodes of a world, and scripts that tell it line by line.
+//! The events of the nodes of a world, and scripts that specify them line by line.
 #![tactic(auto)]
 
 mod event;

@@ -20,7 +20,7 @@ use std::alloc::{AllocError, Global};
 /// The most events of a script.
 pub const MOST_EVENTS: usize = 65_536;
 
-/// Adds the event that the line of this number tells, unless it is passed over.
+/// Adds the event that the line of this number specifies, unless the line is passed over.
 pub fn add_line(
     alloc: Global,
     jobs: &Catalog,
@@ -52,7 +52,7 @@ pub fn add_line(
     }
 }
 
-// Whether the line tells nothing.
+// Whether the line is passed over.
 fn is_passed_over(line: &[u8]) -> bool
     ensures { result ≡ is_passed_over line.now }
 {
@@ -62,7 +62,7 @@ fn is_passed_over(line: &[u8]) -> bool
     }
 }
 
-/// Why a line tells no event.
+/// Why a line specifies no event.
 #[derive(Clone, Copy, Debug, PartialEq, Eq)]
 pub enum LineFault {
     Bad,
@@ -81,7 +81,7 @@ impl From<OrderFault> for LineFault {
     }
 }
 
-// The event that the line tells.
+// The event that the line specifies.
 fn event_on(alloc: Global, jobs: &Catalog, line: &[u8]) -> Result<Event, LineFault>
     ensures some { IfOk result (TellsEvent jobs.now line.now) }
     ensures bad { IfErr result (λ fault. fault ≡ faults.Bad → IsBadLine line.now) }
@@ -95,7 +95,7 @@ fn event_on(alloc: Global, jobs: &Catalog, line: &[u8]) -> Result<Event, LineFau
     }
 }
 
-// What the line asks for.
+// What the line requests.
 fn order_on(alloc: Global, line: &[u8]) -> Result<Order, OrderFault>
     ensures some { IfOk result (SpellsOrder (words line.now)) }
     ensures none { IfErr result (λ fault. fault ≡ NoOrder

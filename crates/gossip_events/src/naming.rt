@@ -1,4 +1,4 @@
-//! The events that are asked for, with the keys of their tiles.
+//! The events that are requested, with the keys of their tiles.
 
 ghost use Rattle.std.specs.Prelude.{IfNone, IfOk, IfSome, List};
 ghost use Rattle.gossip_events.specs.Scripts.{AreIdsAt, AreKeysOf, IsAsked, IsKeyOf};
@@ -13,7 +13,7 @@ use catalog::{Catalog, ids_of};
 use identity::{Ids, Key};
 use std::alloc::{AllocError, Global};
 
-/// The event that is asked for, if its jobs are there.
+/// The event that is requested, if the catalog has its jobs.
 ///
 /// # Errors
 ///
@@ -40,7 +40,7 @@ pub fn event_of(alloc: Global, jobs: &Catalog, order: Order) -> Result<Option<Ev
     }
 }
 
-// The keys of the tiles, one each, if their jobs are there.
+// The keys of the tiles, one each, if the catalog has their jobs.
 fn keys_of(alloc: Global, jobs: &Catalog, places: &[Place]) -> Result<Option<Keys>, AllocError>
     ensures some { IfOk result (λ found. IfSome found (AreKeysOf jobs.now places.now)) }
     ensures none { IfOk result (λ found. IfNone found
@@ -56,7 +56,7 @@ fn keys_of(alloc: Global, jobs: &Catalog, places: &[Place]) -> Result<Option<Key
     Ok(Some(Keys::new(keys)))
 }
 
-// The key of the tile, if its job is there.
+// The key of the tile, if the catalog has its job.
 fn key_of(jobs: &Catalog, place: &Place) -> Option<Key>
     ensures some { IfSome result (IsKeyOf jobs.now place.now) }
     ensures none { IfNone result ((key : KeyType) → ¬ IsKeyOf jobs.now place.now key) }

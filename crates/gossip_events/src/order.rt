@@ -1,4 +1,4 @@
-//! What lines ask for, before jobs are looked up.
+//! What lines request, before jobs are looked up.
 
 ghost use Rattle.std.specs.Prelude.{◌≡◌};
 
@@ -6,7 +6,7 @@ use crate::event::Event;
 use crate::places::{Place, Places};
 use std::alloc::AllocError;
 
-/// What a line asks for: an event whose job or tiles are named by the numbers of jobs, or one that names neither.
+/// What a line requests: an event that names its job or its tiles by numbers of jobs, or one that names neither.
 #[derive(Debug, Drop)]
 pub enum Order {
     Make { node: u8, place: Place },
@@ -15,7 +15,7 @@ pub enum Order {
     Plain(Event),
 }
 
-/// Why a line asks for nothing.
+/// Why a line requests nothing.
 #[derive(Clone, Copy, Debug, PartialEq, Eq)]
 pub enum OrderFault {
     NoOrder,

@@ -1,4 +1,4 @@
-//! Words that ask for something.
+//! Words that request an event.
 
 ghost use Rattle.std.specs.Prelude.{◌≡◌, IfErr, IfNone, IfOk, IfSome, ℕ, map};
 ghost use Rattle.gossip_events.specs.Scripts.{AreTwo, FollowPlain, FollowVerb, IsLoneNode, SpellsNode, SpellsNumber, SpellsOrder};
@@ -14,7 +14,7 @@ use crate::verb::{Verb, verb_of};
 use crate::words::{node, number};
 use std::alloc::Global;
 
-/// What the words of a line ask for.
+/// What the words of a line request.
 pub fn order_of(alloc: Global, words: &[&[u8]]) -> Result<Order, OrderFault>
     ensures some { IfOk result (SpellsOrder (map (λ w. w.now) words.now)) }
     ensures none { IfErr result (λ fault. fault ≡ NoOrder
@@ -29,7 +29,7 @@ pub fn order_of(alloc: Global, words: &[&[u8]]) -> Result<Order, OrderFault>
     }
 }
 
-// What the words after the verb ask for.
+// What the words after the verb request.
 fn order_by(alloc: Global, verb: Verb, words: &[&[u8]]) -> Result<Order, OrderFault>
     ensures some { IfOk result (FollowVerb verb (map (λ w. w.now) words.now)) }
     ensures none { IfErr result (λ fault. fault ≡ NoOrder
@@ -95,7 +95,7 @@ fn send(alloc: Global, words: &[&[u8]]) -> Result<Order, OrderFault>
     })
 }
 
-// The event that the words after a verb that names neither a job nor a tile tell: `deliver N K`, `merge A B`, `keep N` or `restart N`.
+// The event of the words after a verb that names neither a job nor a tile: `deliver N K`, `merge A B`, `keep N` or `restart N`.
 fn plain(verb: Verb, words: &[&[u8]]) -> Option<Event>
     ensures some { IfSome result (FollowPlain verb (map (λ w. w.now) words.now)) }
     ensures none { IfNone result ((event : EventType)

@@ -4,7 +4,7 @@ ghost use Rattle.std.specs.Prelude.{IfNone, IfSome, ◌≡◌};
 ghost use Rattle.gossip_events.specs.Scripts.{verb_word};
 ghost use Rattle.gossip_events.specs.declared.verb.Verb.{Verb as VerbType};
 
-/// What kind of event a line tells.
+/// The kind of event that a line specifies.
 #[derive(Clone, Copy, Debug, PartialEq, Eq)]
 pub enum Verb {
     Make,
@@ -16,7 +16,7 @@ pub enum Verb {
     Restart,
 }
 
-/// The verb that a word is.
+/// The verb that a word spells.
 pub fn verb_of(word: &[u8]) -> Option<Verb>
     ensures some { IfSome result (λ verb. word.now ≡ verb_word verb) }
     ensures none { IfNone result ((verb : VerbType) → ¬ (word.now ≡ verb_word verb)) }

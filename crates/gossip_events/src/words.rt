@@ -6,14 +6,14 @@ ghost use Rattle.gossip_events.specs.Scripts.{SpellsNode, SpellsNumber, SpellsSt
 
 use std::alloc::{AllocError, Global};
 
-/// The words of a line, between which stands one blank each.
+/// The words of a line, separated by single blanks.
 pub fn words_of<'a>(alloc: Global, line: &'a [u8]) -> Result<Vec<&'a [u8]>, AllocError>
     ensures { IfOk result (λ found. map (λ w. w.now) found.items ≡ words line.now) }
 {
     line.split(|byte| *byte == b' ').collect(alloc)
 }
 
-/// The parts of a word, between which stands one colon each.
+/// The parts of a word, separated by single colons.
 pub fn parts_of<'a>(alloc: Global, word: &'a [u8]) -> Result<Vec<&'a [u8]>, AllocError>
     ensures { IfOk result
         (λ found. map (λ p. p.now) found.items ≡ slice_split (λ b. b == 58) word.now) }

@@ -31,11 +31,11 @@ known_of s key = counted (length (facts_of s key))
 abbrev pub IsNotHeld : FactSet → Key → Type 0
 IsNotHeld s key = facts_of s key ≡ []
 
--- of each key that is asked for some fact is held
+-- some fact of each requested key is held
 abbrev pub AreHeld : FactSet → List Key → Type 0
 AreHeld s keys = (key : Key) → Contains keys key → ¬ IsNotHeld s key
 
--- the least of the keys that are asked for and not held
+-- the least requested key that is not held
 pub record IsLeastNotHeld (s : FactSet) (keys : List Key) (key : Key) : Type 0 where
   pub asked : Contains keys key
   pub not_held : IsNotHeld s key

@@ -1,4 +1,4 @@
--- What a node holds: a finite set of facts, true or not. All that is said of held facts is said in the words of this file.
+-- What a node holds: a finite set of facts, true or not. Every statement about held facts uses the definitions of this file.
 use Rattle.std.specs.FinMap as map
 use Rattle.std.specs.List.{list_any}
 use Rattle.std.specs.Prelude.{Bool, List}

@@ -1,6 +1,6 @@
--- What a state answers for a job: the wanted keys that it lacks; the picture and the totals by the numbers that it holds, whatever these
--- are; and why there are none. Wanted are the keys of all tiles of outputs and accumulators. A job is told by the identity of its
--- program and its pipeline.
+-- What a state answers for a job: the wanted keys that it lacks; the picture and the totals, or why there are none. They come
+-- from the numbers that it holds, whatever these are. Wanted are the keys of all tiles of outputs and accumulators. A job is
+-- specified by the identity of its program and by its pipeline.
 use Rattle.std.specs.List.{Contains, flat_map, range_with_len}
 use Rattle.std.specs.Option.{option_and_then}
 use Rattle.std.specs.Prelude.{◌≡◌, ℕ, ℤ, ◌==◌, Bool, List, [], ◌∷◌, map, filter, length, slice_get}
@@ -57,7 +57,7 @@ IsAnswerFault s program job (fault.Missing key) = IsFirstUnready s program job k
 IsAnswerFault s program job (fault.Disputed key) = IsFirstUnready s program job key × IsDisputed s key
 IsAnswerFault s program job (fault.Misshapen key) = IsFirstUnready s program job key × IsMisshapen s job key
 IsAnswerFault s program job fault.Memory = AllAreReady s program job
--- held facts tell of no retired job
+-- held facts do not report that a job is retired
 IsAnswerFault s program job fault.Retired = ⊥
 
 -- ---- the numbers that are held
@@ -83,13 +83,13 @@ partials_of s key = flat_map (λ fact. bins_in fact.body) (facts_of s key)
 abbrev pub held_partials : FactSet → List ℕ → Pipeline → ℕ → List (List ℤ)
 held_partials s program job g = flat_map (λ t. partials_of s (key_of program job t)) (tiles job g)
 
--- what the accumulators gather from them, bin by bin, in the order of the stages
+-- what the accumulators accumulate from them, bin by bin, in the order of the stages
 abbrev pub held_totals : FactSet → List ℕ → Pipeline → List Gathered
 held_totals s program job = flat_map (λ g. gathered_from job g (held_partials s program job g)) (range_with_len 0 (length job.stages))
 
 -- ---- the answer
 
--- the picture has the numbers held, each cut to 0 and the greatest sample, and the totals are gathered from all partials held
+-- the picture has the held numbers, each clamped to 0 and the greatest sample; the totals are accumulated from all held partials
 pub record IsHeldAnswer (s : FactSet) (program : List ℕ) (job : Pipeline) (answer : Answer) : Type 0 where
   pub ready : AllAreReady s program job
   pub picture : answer.picture ≡ given_image job (held_tiles s program job)

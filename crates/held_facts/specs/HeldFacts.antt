@@ -1,4 +1,5 @@
--- What is held of a key: one fact that has the kind and the count of its tile, or one that has not; and states in which all facts are true.
+-- What is held of a key: one fact, that has the kind and the count of its tile, or has not. And states in which all facts are
+-- true.
 use Rattle.std.specs.Prelude.{◌≡◌, ℤ, true, Option, Some, None, List, [], ◌∷◌}
 use Rattle.catalog.specs.Entries.{Entry}
 use Rattle.fact_audit.specs.Shapes.{FitsJob}

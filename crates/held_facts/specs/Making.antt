@@ -28,7 +28,7 @@ pub use Rattle.held_facts.specs.HeldFacts.{IsMisshapen, IsReady, samples_in}
 use Rattle.held_facts.specs.Answers.{known_of}
 use Rattle.held_facts.specs.declared.answers.Known.TheVariants.{Nothing, Disputed}
 
--- ---- the tile that is asked for
+-- ---- the requested tile
 
 -- the key's tile is one of a function or an accumulator of the job, and P holds of it as a target
 pub record HasTarget (job : Pipeline) (inlining : List Bool) (key : Key) (P : Target → Type 0) : Type 0 where
@@ -50,25 +50,25 @@ needs_for key t = needed_keys key.program t
 abbrev pub is_of_tile : ℕ → ℕ → ℕ → Fact → Bool
 is_of_tile g i j f = f.key.stage == g && (f.key.row == i && f.key.col == j)
 
--- the tiles that facts of one job tell, each by the first fact of it
+-- the tiles that facts of one job supply, each by the first fact of it
 abbrev pub tiles_in : List Fact → KnownTiles
 tiles_in facts g i j = option_and_then (λ f. samples_in f.body) (find (is_of_tile g i j) facts)
 
--- those that the held facts of these keys tell
+-- those that the held facts of these keys supply
 abbrev pub needed_tiles : FactSet → List Key → KnownTiles
 needed_tiles s needs = tiles_in (flat_map (facts_of s) needs)
 
 -- ---- what is made
 
--- the numbers are those of the tile, where reads of stored functions take the numbers that are given, and reads of inlined
--- functions their local values: of a function its local values, row by row, of an accumulator its local totals
+-- the numbers are those of the tile: of a function its local values, row by row, of an accumulator its local totals. Reads of
+-- stored functions take the supplied numbers, and reads of inlined functions their local values
 abbrev pub IsLocalBody : Target → KnownTiles → Body → Type 0
 IsLocalBody t given (Tile samples) =
     (is_function t.job t.stage ≡ true) × (samples ≡ raster t.region (local_value t.job t.inlining given t.stage))
 IsLocalBody t given (Partial bins) =
     (is_accumulator_at t.job t.stage ≡ true) × (bins ≡ local_totals t.job t.inlining given t.region t.stage)
 
--- the body is that of the target over what is held of its needs, all of which are ready; and what is inlined has room
+-- the body is that of the target over what is held of its needs, all of which are ready. What is inlined fits in scratch memory
 pub record IsMadeOf (s : FactSet) (needs : List Key) (t : Target) (body : Body) : Type 0 where
   pub room : scratch t ≤ most_scratch
   pub ready : (need : Key) → Contains needs need → IsReady s t.job need
@@ -85,7 +85,7 @@ AreNeedsTrue catalog s inlining key =
 
 -- ---- why nothing is made
 
--- of the needs this is the least that is not ready, for a reason; and what is inlined has room
+-- the least of the needs that is not ready, for a reason; and what is inlined fits in scratch memory
 pub record IsFirstUnready (s : FactSet) (needs : List Key) (t : Target) (need : Key) (Reason : Type 0) : Type 0 where
   pub room : scratch t ≤ most_scratch
   pub needed : Contains needs need
@@ -106,5 +106,5 @@ IsMakeFault catalog s inlining key (fault.NeedMisshapen need) =
     HasTargetIn catalog inlining key (λ t. IsFirstUnready s (needs_for key t) t need (IsMisshapen s t.job need))
 -- memory may be refused wherever there is such a tile
 IsMakeFault catalog s inlining key fault.Memory = HasTargetIn catalog inlining key (λ t. Unit {0})
--- held facts tell of no retired job
+-- held facts do not report that a job is retired
 IsMakeFault catalog s inlining key fault.Retired = ⊥

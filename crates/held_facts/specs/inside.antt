@@ -1,4 +1,4 @@
--- What clauses of inner functions cite, and no public clause does.
+-- Definitions that only clauses of inner functions cite.
 pub mod Searching
 pub mod Judging
 pub mod Gathering

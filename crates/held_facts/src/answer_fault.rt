@@ -22,7 +22,7 @@ pub enum AnswerFault {
     /// 4: no wanted key has a fault, and no memory was left for the answer.
     #[error("out of memory")]
     Memory,
-    /// 5: the job is retired, of which held facts alone say nothing.
+    /// 5: the job is retired, which held facts alone do not report.
     #[error("the job is retired")]
     Retired,
 }

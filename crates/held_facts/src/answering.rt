@@ -15,14 +15,14 @@ use job::Job;
 use pictures::image_of;
 
 impl<S: FactStore> HeldFacts<S> {
-    /// The answer of a job by the facts that are held of its outputs and accumulators, true or not: the picture of the numbers, each
-    /// cut to 0 and the greatest sample, and in each bin of an accumulator what its partials have there, joined. What the program is
-    /// given is hashed at most once.
+    /// The answer of a job from the facts that are held of its outputs and accumulators, true or not. The picture has the
+    /// numbers, each clamped to 0 and the greatest sample. Each bin of an accumulator has what its partials have there, joined.
+    /// The program's input is hashed at most once.
     ///
     /// # Errors
     ///
-    /// Fails at the least wanted key of which not exactly one fact is held, or one that does not fit the tile, before memory is taken;
-    /// and where memory is refused.
+    /// Fails at the least wanted key of which not exactly one fact is held, or one that does not fit the tile. This is found
+    /// before memory is taken. Also fails where memory is refused.
     pub fn answer(&self, job: &Job) -> Result<Answer, AnswerFault>
         ensures answer { IfOk result
             (IsHeldAnswer self.now (program_id_in job.now) (pipeline_in job.now)) }

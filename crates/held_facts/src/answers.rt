@@ -13,7 +13,7 @@ pub enum Taken {
     New,
     /// The fact was held already.
     Already,
-    /// The fact's job is retired, of which held facts alone say nothing.
+    /// The fact's job is retired, which held facts alone do not report.
     Retired,
 }
 
@@ -26,7 +26,7 @@ pub enum Known {
     One,
     /// Two or more are, of which at most one can be true.
     Disputed,
-    /// The key's job is retired, of which held facts alone say nothing.
+    /// The key's job is retired, which held facts alone do not report.
     Retired,
 }
 

@@ -52,8 +52,8 @@ impl<S: FactStore> HeldFacts<S> {
         })
     }
 
-    /// Adds a fact, and tells whether it was new. Where memory runs out for a new fact it is handed back, and what is held is as it
-    /// was.
+    /// Adds a fact, and reports whether it was new. If memory runs out for a new fact, it is handed back and what is held is
+    /// unchanged.
     pub fn take(&mut self, fact: Fact) -> Result<Taken, AllocFailed<Fact>>
         ensures added { OnOk result (self.new ≡ with_fact self.old fact) }
         ensures new { IfOk result (λ taken. taken ≡ taken_of self.old fact) }
@@ -68,7 +68,7 @@ impl<S: FactStore> HeldFacts<S> {
         }
     }
 
-    /// Adds other facts, and tells how many of them are new. Where memory runs out what is held is as it was.
+    /// Adds other facts, and reports how many of them are new. If memory runs out, what is held is unchanged.
     pub fn merge(&mut self, other: &HeldFacts<S>) -> Result<usize, AllocError>
         ensures joined { OnOk result (self.new ≡ join self.old other.now) }
         ensures new { IfOk result (λ count. count ≡ length (lacked self.old self.new)) }
@@ -78,7 +78,7 @@ impl<S: FactStore> HeldFacts<S> {
         self.store.join(&other.store)
     }
 
-    /// Takes out the facts of the tiles of these jobs. No memory is taken.
+    /// Removes the facts of the tiles of these jobs. No memory is taken.
     pub fn remove(&mut self, jobs: &[Ids])
         ensures { self.new ≡ without self.old jobs.now }
     {
@@ -105,7 +105,7 @@ impl<S: FactStore> HeldFacts<S> {
         self.store.count(key)
     }
 
-    /// The held fact of the key that has so many held facts of the key below it.
+    /// The held fact of the key with exactly `n` held facts of the key below it.
     pub fn nth(&self, key: &Key, n: usize) -> Option<&Fact>
         ensures { option_copied result ≡ slice_get (facts_of self.now key.now) n }
     {
@@ -139,7 +139,7 @@ impl<S: FactStore> HeldFacts<S> {
         Ok(facts)
     }
 
-    /// How many facts are of tiles of these jobs. Facts that are too many to be counted are answered as if memory ran out.
+    /// How many facts are of tiles of these jobs. If they are too many to be counted, this fails as if memory ran out.
     pub fn count_of(&self, jobs: &[Ids]) -> Result<usize, AllocError>
         ensures { IfOk result
             (λ count. count ≡ length (filter (λ f. names_one jobs.now f.key) (facts_in self.now))) }

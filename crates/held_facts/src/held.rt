@@ -14,7 +14,7 @@ use job::Job;
 use tile_fact::{Body, Fact};
 use tile_run::Known;
 
-/// What a node holds, beside a job, whose identities are found once.
+/// What a node holds, together with a job, whose identities are found once.
 #[derive(Drop)]
 pub(crate) struct Held<'a, S: FactStore> {
     pub(crate) state: &'a HeldFacts<S>,

@@ -1,4 +1,4 @@
-//! Tiles that held facts tell.
+//! Tiles that held facts supply.
 
 ghost use Rattle.held_facts.specs.Making.{is_of_tile};
 ghost use Rattle.held_facts.specs.inside.Holding.{TilesRise, is_before_tile};
@@ -8,8 +8,8 @@ ghost use Rattle.std.specs.Prelude.{◌≡◌, find, slice_get};
 use tile_fact::{Body, Fact};
 use tile_run::Known;
 
-/// Facts of tiles of one job, in the order of their tiles, each of which is given to whoever asks for its tile. They are looked up
-/// among themselves alone, and share their numbers with the state that holds them.
+/// Facts of tiles of one job, in the order of their tiles, each of which is returned when its tile is requested. Look-ups search
+/// these facts alone. They share their numbers with the state that holds them.
 #[derive(Drop)]
 pub(crate) struct HeldTiles {
     pub(crate) facts: Vec<Fact>,
@@ -30,7 +30,7 @@ impl Known for HeldTiles {
     }
 }
 
-// The fact of this tile, if it is there.
+// The fact of this tile, if there is one.
 fn fact_of(facts: &[Fact], stage: usize, row: u32, col: u32) -> Option<&Fact>
     requires { TilesRise facts.now }
     ensures { option_copied result ≡ find (is_of_tile stage row col) facts.now }

@@ -1,4 +1,4 @@
-//! Totals that are put together from the partials that a node holds.
+//! Totals that are assembled from the partials that a node holds.
 
 ghost use Rattle.accumulators.specs.Answers.{gathered};
 ghost use Rattle.accumulators.specs.Gatherings.{gathered_from};
@@ -18,7 +18,7 @@ use std::alloc::{AllocError, Global};
 use tile_fact::Body;
 
 impl<S: FactStore> Held<'_, S> {
-    /// What the accumulators gather from the partials that are held, in the order of the stages.
+    /// What the accumulators accumulate from the partials that are held, in the order of the stages.
     ///
     /// # Errors
     ///
@@ -38,7 +38,7 @@ impl<S: FactStore> Held<'_, S> {
         Ok(totals)
     }
 
-    // Adds what a stage gathers, if it is an accumulator.
+    // Adds what a stage accumulates, if it is an accumulator.
     fn push_total(
         &self,
         totals: &mut Vec<Total>,
@@ -60,7 +60,7 @@ impl<S: FactStore> Held<'_, S> {
         Ok(())
     }
 
-    // Takes in the partials of all tiles of a stage.
+    // Accumulates the partials of all tiles of a stage.
     fn take_stage(&self, stage: usize, gathering: &mut Gathering)
         requires span { stage_bins (slice_get (pipeline_in self.now.job.now).stages stage)
             ≡ Some gathering.old.span }
@@ -95,7 +95,7 @@ impl<S: FactStore> Held<'_, S> {
         }
     }
 
-    // The bins of the partial that is held of a key, if it is one's.
+    // The bins of the one fact that is held of a key, if it is a partial.
     fn bins(&self, key: &Key) -> Option<&[i64]>
         requires { IsReady self.now.state.now (pipeline_in self.now.job.now) key.now }
         ensures some { IfSome result

@@ -1,4 +1,4 @@
-//! Whether all tiles are ready that the answer of a job takes.
+//! Whether all tiles that the answer of a job takes are ready.
 
 ghost use Rattle.job.specs.Kept.{pipeline_in, program_id_in};
 ghost use Rattle.held_facts.specs.Answers.{known_of};

@@ -12,14 +12,14 @@ ghost use Rattle.std.specs.List.{Contains};
 ghost use Rattle.std.specs.Prelude.{◌≡◌, ◌↔◌, true, List};
 ghost use Rattle.tile_fact.specs.declared.fact.Fact.{Fact};
 
-/// What is lent is held and of one of the keys, and all that is so is lent.
+/// What is lent is held and of one of the keys, and all such facts are lent.
 pub fn lent_facts_are_held()
     ensures lent { (s : FactSet) (keys : List Key) (f : Fact) →
         (holds (lent s keys) f ≡ true) ↔ ((holds s f ≡ true) × Contains keys f.key) }
 {}
 
-/// Where all that is held is true of the jobs of a catalog, what is answered for one of them is its image and its totals. If there is
-/// no answer, then nothing is held of the least wanted key that is not ready, or all are held and there was no memory.
+/// If all held facts are true of the jobs of a catalog, the answer for one of these jobs is its image and its totals. If there is
+/// no answer, nothing is held of the least wanted key that is not ready, or all are held and memory was refused.
 pub fn true_states_answer_the_job()
     ensures answer { (catalog : List Entry) (entry : Entry) (s : FactSet) (answer : Answer)
         → IsCatalog catalog → Contains catalog entry → IsJob entry.pipeline

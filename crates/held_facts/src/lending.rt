@@ -15,8 +15,8 @@ use std::alloc::AllocError;
 use tile_fact::Fact;
 
 impl<S: FactStore> HeldFacts<S> {
-    /// All held facts of the keys, each once, rising; or the least key of which nothing is held. Keys may stand in any order and
-    /// more than once.
+    /// All held facts of the keys, each once, rising; or the least key of which nothing is held. Keys may be in any order and
+    /// repeated.
     pub fn lend(&self, keys: &[Key]) -> Result<Vec<Fact>, LendFault>
         ensures lent { IfOk result (λ facts. facts.items ≡ facts_in (lent self.now keys.now)) }
         ensures held { IfOk result (λ _. AreHeld self.now keys.now) }
@@ -26,7 +26,7 @@ impl<S: FactStore> HeldFacts<S> {
         Ok(state.facts()?)
     }
 
-    /// The state that holds just what [`lend`](HeldFacts::lend) answers.
+    /// The state that holds exactly what [`lend`](HeldFacts::lend) answers.
     pub fn lend_state(&self, keys: &[Key]) -> Result<HeldFacts<S>, LendFault>
         ensures lent { IfOk result (λ state. state ≡ lent self.now keys.now) }
         ensures held { IfOk result (λ _. AreHeld self.now keys.now) }

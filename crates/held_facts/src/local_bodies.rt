@@ -20,7 +20,7 @@ use std::alloc::{AllocError, Global};
 use tile_fact::{Bins, Body, Samples};
 use tile_run::{Scratch, run_tile};
 
-/// The body of the fact of this key, by its tile's plan, from facts that tell each tile that the plan needs.
+/// The body of the fact of this key, by its tile's plan, from facts that supply each tile that the plan needs.
 ///
 /// # Errors
 ///
@@ -44,7 +44,7 @@ pub(crate) fn local_body(
         → IfOk result (BodyIsTrue (pipeline_in job.now) key.now) }
     ensures within { IfOk result IsWithin }
 {
-    // No need is missing, so that only memory can be.
+    // No need is missing, so the fault can only be that memory is.
     let mut scratch = Scratch::new(alloc);
     match job.kind(usize::from(key.stage)) {
         Some(StageKind::Function) => {

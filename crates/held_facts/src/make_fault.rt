@@ -32,7 +32,7 @@ pub enum MakeFault {
     /// 7: no memory was left.
     #[error("out of memory")]
     Memory,
-    /// 8: the job is retired, of which held facts alone say nothing.
+    /// 8: the job is retired, which held facts alone do not report.
     #[error("the job is retired")]
     Retired,
 }

@@ -1,4 +1,4 @@
-//! Facts that a node makes of what it holds.
+//! Facts that a node makes from what it holds.
 
 ghost use Rattle.std.specs.List.{flat_map};
 ghost use Rattle.std.specs.Prelude.{◌≡◌, ◌∷◌, [], IfOk, IfErr};
@@ -25,9 +25,9 @@ use std::alloc::AllocError;
 use tile_fact::Fact;
 
 impl<S: FactStore> HeldFacts<S> {
-    /// The fact of the key, made from held facts of the tiles that its tile needs by the schedule, which is to be one of the key's job.
-    /// Where these facts are true, so is the fact. Each of them is looked up once, before anything is computed, and the state stays
-    /// as it is.
+    /// The fact of the key, made from held facts of the tiles that its tile needs by the schedule, which should be one of the
+    /// key's job. If these facts are true, so is the fact. Each of them is looked up once, before anything is computed, and the
+    /// state is unchanged.
     ///
     /// # Errors
     ///
@@ -54,7 +54,7 @@ impl<S: FactStore> HeldFacts<S> {
         }
     }
 
-    // The held facts of the needs, in their order, if of each one is held that fits its tile.
+    // The held facts of the needs, in their order, if one that fits its tile is held of each.
     fn needed_facts(&self, job: &Job, needs: &[Key]) -> Result<Vec<Fact>, MakeFault>
         ensures facts { IfOk result
             (λ facts. facts.items ≡ flat_map (facts_of self.now) needs.now) }

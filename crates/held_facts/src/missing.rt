@@ -13,7 +13,7 @@ use overlap_tiles::wanted_keys;
 use std::alloc::AllocError;
 
 impl<S: FactStore> HeldFacts<S> {
-    /// The keys of the tiles of the job's outputs and accumulators of which nothing is held, rising. What the program is given is
+    /// The keys of the tiles of the job's outputs and accumulators of which nothing is held, rising. The program's input is
     /// hashed at most once.
     ///
     /// # Errors

@@ -66,7 +66,7 @@ impl IdList {
         is_among(&self.ids, ids)
     }
 
-    /// Adds a job's identities. Where memory runs out the list is as it was.
+    /// Adds a job's identities. If memory runs out, the list is unchanged.
     pub fn add(&mut self, ids: &Ids) -> Result<(), AllocError>
         ensures added { OnOk result (self.new ≡ with_ids self.old ids.now) }
         ensures unchanged { OnErr result (self.new ≡ self.old) }
@@ -102,7 +102,7 @@ impl IdList {
     }
 }
 
-// Whether the identities stand in the list.
+// Whether the identities are in the list.
 fn is_among(list: &[Ids], ids: &Ids) -> bool
     ensures { result ≡ list_any (eq_by_cmp ids_cmp ids.now) list.now }
 {

@@ -1,4 +1,4 @@
-//! Identities, which are digests of SHA-256. What is digested is the affair of the crates that make them.
+//! Identities, which are SHA-256 digests. What is digested is defined in the crates that make them.
 
 ghost use Rattle.std.specs.Prelude.{◌≡◌, ◌<◌, Some};
 ghost use Rattle.std.specs.Fmt.{WritesOnOk};
@@ -24,7 +24,7 @@ impl Model for ProgramId {
 }
 
 impl ProgramId {
-    /// The identity that these bytes are.
+    /// The identity that has these bytes.
     pub fn new(bytes: [u8; 32]) -> ProgramId
         ensures { result ≡ bytes }
     {
@@ -48,7 +48,7 @@ impl fmt::Display for ProgramId {
     }
 }
 
-/// The identity of what a program is given: the SHA-256 digest of the sides of the tiles, the parameters and the picture.
+/// The identity of a program's input: the SHA-256 digest of the sides of the tiles, the parameters, the tables and the picture.
 #[derive(Clone, Copy, Debug, PartialEq, Eq, PartialOrd, Ord, Hash)]
 pub struct InputId {
     bytes: [u8; 32],
@@ -65,7 +65,7 @@ impl Model for InputId {
 }
 
 impl InputId {
-    /// The identity that these bytes are.
+    /// The identity that has these bytes.
     pub fn new(bytes: [u8; 32]) -> InputId
         ensures { result ≡ bytes }
     {

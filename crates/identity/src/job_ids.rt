@@ -7,7 +7,7 @@ ghost use Rattle.identity.specs.Keys.{ids_in};
 use crate::ids::{InputId, ProgramId};
 use crate::key::Key;
 
-/// The identities of a program and of what it is given: those of a job. They are in the order of their fields.
+/// The identities of a program and of its input: those of a job. They are in the order of their fields.
 #[derive(Clone, Copy, Debug, PartialEq, Eq, PartialOrd, Ord, Hash)]
 pub struct Ids {
     pub program: ProgramId,

@@ -7,7 +7,7 @@ ghost use Rattle.identity.specs.Keys.{key_cmp};
 use crate::key::Key;
 use std::cmp::Ordering;
 
-/// Keys are in the order of their fields, which is a total one, and equal keys are one.
+/// Keys are in the order of their fields, which is total. Keys that compare as equal are equal.
 pub fn order_of_keys(a: &Key, b: &Key) -> Ordering
     ensures fields { result ≡ key_cmp a.now b.now }
     ensures total { IsTotalOrder key_cmp }

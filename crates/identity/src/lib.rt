@@ -1,4 +1,4 @@
-//! The identities of programs and of what they are given, and the keys of tiles.
+//! The identities of programs and of their inputs, and the keys of tiles.
 #![tactic(auto)]
 
 mod ids;

@@ -1,4 +1,4 @@
--- The line that tells a fault, in bytes. Items, cases and reads are counted from 0.
+-- The line that reports a fault, in bytes. Items, cases and reads are counted from 0.
 use Rattle.std.specs.Prelude.{ℕ, ℤ, Option, Some, List, [], ◌∷◌, ◌++◌, codes, string_bytes, unwrap_or}
 use Rattle.std.specs.Fmt.{decimal, signed_decimal}
 use Rattle.std.specs.List.{flat_map}
@@ -75,7 +75,7 @@ check_head fault = head (codes "check") (check_number fault) (check_name fault)
 abbrev pub fault_text : CheckFault → List ℕ
 fault_text fault = check_head fault ++ item_text fault
 
--- a cycle is told by the names of its stages
+-- a cycle is reported by the names of its stages
 abbrev pub cycle_text : List (List ℕ) → List ℕ
 cycle_text names = check_head (checks.Cycle []) ++ flat_map name_text names
 
@@ -113,7 +113,7 @@ place_text case read axis = codes " case " ++ decimal case ++ codes " read " ++ 
 abbrev pub ends_text : ℤ → ℤ → List ℕ
 ends_text least greatest = codes " least " ++ signed_decimal least ++ codes " greatest " ++ signed_decimal greatest
 
--- where a read leaves what it reads, and its least and greatest index
+-- where a read leaves the domain of what it reads, and its least and greatest index
 abbrev pub read_text : BindFault → List ℕ
 read_text (binding.Bounds (bounds.OutOfBounds stage case read axis least greatest)) = place_text case read axis ++ ends_text least greatest
 read_text fault = []

@@ -1,4 +1,4 @@
--- Which fault of an input is told: each only where none of those before it is.
+-- Which fault of an input is reported: each only if none of those before it is.
 use Rattle.std.specs.Prelude.{◌≡◌, ◌≢◌, ℕ, Option, None, List, length, slice_get, filter_map}
 use Rattle.std.specs.Option.{option_map}
 use Rattle.domains.specs.Sides.{Sides}
@@ -47,7 +47,7 @@ name_at declared n = option_map (λ (d : Symbol). d.name) (slice_get declared n)
 abbrev pub names_of : List Symbol → List ℕ → List (List ℕ)
 names_of stages numbers = filter_map (name_at stages) numbers
 
--- the fault of a program, told by the names of its stages
+-- the fault of a program, reported by the names of its stages
 abbrev pub IsCheckLine : List Declaration → CheckLine → Type 0
 IsCheckLine tree (check_lines.Cycle names) =
     (cycle : List ℕ) × IsProgramFault tree (checks.Cycle cycle) × (names ≡ names_of (stages_of tree) cycle)
@@ -76,8 +76,8 @@ blamed params tables stages binding.OutputShapes = None
 blamed params tables stages (binding.TooManyTiles n) = name_at stages n
 blamed params tables stages binding.Memory = None
 
--- the first fault of a program at the values that are given, of its tables, a picture and the sides of tiles, told by the name that
--- it blames
+-- the first fault of a program at the supplied values, of its tables, a picture and the sides of tiles. It is reported by the
+-- name that it blames
 pub record IsBindLine (tree : List Declaration) (tables : List Table) (given : List Given) (source : Image) (sides : Sides)
     (line : BindLine) : Type 0 where
   pub chosen : List Setting
@@ -90,7 +90,7 @@ pub record IsBindLine (tree : List Declaration) (tables : List Table) (given : L
 
 -- ---- the steps
 
--- behind a line for each table that the program declares stands a picture with this fault
+-- a picture with this fault, after a line for each table that the program declares
 pub record IsFaultBehind (last : List ℕ) (tree : List Declaration) (fault : PicFault) : Type 0 where
   pub tables : List Table
   pub each : length tables ≡ length (tables_of tree)
@@ -107,7 +107,7 @@ IsSpellingFault text last (Picture fault) =
 IsSpellingFault text last Memory = Unit {0}
 IsSpellingFault text last _ = ⊥
 
--- the first fault of a program, its tables and a picture, of the parameters that are given and of the sides of tiles; memory may run
+-- the first fault of a program, its tables and a picture, of the supplied parameters and of the sides of tiles. Memory may run
 -- out for any
 abbrev pub IsJobFault : List Declaration → List Table → Image → List Given → Sides → StreamFault → Type 0
 IsJobFault tree tables source given sides (Check line) = IsCheckLine tree line
@@ -142,8 +142,8 @@ IsFaultOf input given sides (Bind line) =
 IsFaultOf input given sides Memory = Unit {0}
 IsFaultOf input given sides _ = ⊥
 
--- The first fault of the program, its tables, the picture and the job of an input of three sections, of which the middle one is not looked at;
--- memory may run out for any.
+-- The first fault of the program, its tables, the picture and the job of an input of three sections. The middle section is not
+-- looked at. Memory may run out for any.
 abbrev pub IsFaultAround : List ℕ → List Given → Sides → StreamFault → Type 0
 IsFaultAround input given sides NoSeparator = LacksSeparator input
 IsFaultAround input given sides (Program fault) =
@@ -164,7 +164,7 @@ IsFaultAround input given sides (Bind line) =
 IsFaultAround input given sides Memory = Unit {0}
 IsFaultAround input given sides _ = ⊥
 
--- the first bad line of the middle section, where the program and the picture have a job at the values that are given
+-- the first bad line of the middle section, where the program and the picture have a job at the supplied values
 pub record IsAuditFactsFault (input : List ℕ) (given : List Given) (sides : Sides) (fault : LinesFault) : Type 0 where
   pub tree : List Declaration
   pub job : Pipeline
@@ -172,8 +172,8 @@ pub record IsAuditFactsFault (input : List ℕ) (given : List Given) (sides : Si
   pub around : IsInputAround input given sides tree job text
   pub bad : IsFactsFault text fault
 
--- the first fault of an input of three sections, of which the middle one is fact files: a bad line waits for the program, the
--- picture and the job
+-- the first fault of an input of three sections, the middle one of which is fact files. A bad line comes after all faults of the
+-- program, the picture and the job
 abbrev pub IsAuditFault : List ℕ → List Given → Sides → StreamFault → Type 0
 IsAuditFault input given sides (Facts fault) = IsAuditFactsFault input given sides fault
 IsAuditFault input given sides fault = IsFaultAround input given sides fault

@@ -1,4 +1,4 @@
--- The values that a program's parameters are given, in order.
+-- The values that are supplied for a program's parameters, in order.
 use Rattle.std.specs.Prelude.{◌≡◌, ℕ, ℤ, Some, None, List, [], ◌∷◌, map, take, slice_get, string_bytes}
 use Rattle.std.specs.declared.alloc.Global.{Global}
 use Rattle.std.specs.declared.string.String.{String}
@@ -11,11 +11,11 @@ use Rattle.pipe_bounds.specs.Settings.{SetsOne, IsSet, place_in}
 use Rattle.pipe_bounds.specs.Unset.{unset}
 use Rattle.inputs.specs.declared.lines.ParamLine.{ParamLine}
 
--- a parameter's name and the value that it is given
+-- a parameter's name and the value that is supplied for it
 abbrev pub Given : Type 0
 Given = String Global × ℤ
 
--- the pairs were given one after the other, and each set its parameter
+-- the pairs were supplied one after another, and each set its parameter
 abbrev pub AreGiven : List Setting → List Given → List Setting → Type 0
 AreGiven old [] new = new ≡ old
 AreGiven old ((name, value) ∷ more) new = (next : List Setting) × SetsOne old next (string_bytes name) value × AreGiven next more new
@@ -24,14 +24,14 @@ AreGiven old ((name, value) ∷ more) new = (next : List Setting) × SetsOne old
 abbrev pub unset_of : List Declaration → List Setting
 unset_of tree = map unset (params_of tree)
 
--- ---- values that are given in vain
+-- ---- values that are rejected
 
--- why no value is given under this name
+-- why a value under this name is rejected
 abbrev pub IsNotSettable : List Setting → List ℕ → ParamFault → Type 0
 IsNotSettable ss name NoSuchParam = place_in ss name ≡ None
 IsNotSettable ss name SetTwice = IsSet ss name
 
--- the first pair that is refused, told by its name
+-- the first pair that is rejected, reported by its name
 pub record IsFirstRefused (ss : List Setting) (given : List Given) (line : ParamLine) : Type 0 where
   pub n : ℕ
   pub pair : Given

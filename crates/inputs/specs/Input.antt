@@ -52,7 +52,7 @@ pub record IsInputInThree (input : List ℕ) (tree : List Declaration) (middle :
 
 -- ---- the program
 
--- each name stands for what its place wants, there is a result, and no stage leads back to itself
+-- each name denotes what its place requires, there is a result, and no stage leads back to itself
 pub record MeansSomething (tree : List Declaration) : Type 0 where
   pub named : IsNamed tree
   pub result : list_any is_result tree ≡ true
@@ -61,13 +61,13 @@ pub record MeansSomething (tree : List Declaration) : Type 0 where
 
 -- ---- the job
 
--- a program with the ranks of its stages, the values that its parameters are given, and its tables
+-- a program with the ranks of its stages, the values of its parameters, and its tables
 abbrev pub program_at : List Declaration → List ℕ → List Setting → List Table → Program
 program_at tree ranks chosen tables = record { stages = stages_of tree; ranks = ranks; settings = chosen; tables = tables }
 
--- The program of this tree means something. All values that are given have a parameter of their own. The job is what the program
--- says at these values and with these tables, with the other values taken from the picture's sides, and nothing is amiss: all is in
--- bounds, and the tables, the picture, the sides of the output's functions and the numbers of tiles fit.
+-- The program of this tree is well-formed. Each supplied value has a parameter of its own. The job is what the program specifies
+-- at these values and with these tables; other values are taken from the picture's sides. All is in bounds, and the tables, the
+-- picture, the sides of the output's functions and the numbers of tiles fit.
 pub record IsJobAt (tree : List Declaration) (tables : List Table) (source : Image) (given : List Given) (sides : Sides)
     (job : Pipeline) : Type 0 where
   pub means : MeansSomething tree
@@ -91,9 +91,9 @@ pub record IsReadJob (input : List ℕ) (given : List Given) (sides : Sides) (jo
   pub of_input : IsInputJob input given sides tree (pipeline_in job)
   pub text : program_text_in job ≡ canonical tree
 
--- ---- the job, and what stands between the program and the picture
+-- ---- the job, and the section between the program and the picture
 
--- the input is a program of this tree, a middle section, the lines of tables and a picture, and the job is that of the program, the
+-- the input is a program of this tree, a middle section, the lines of tables and a picture. The job is that of the program, the
 -- tables and the picture
 pub record IsInputAround (input : List ℕ) (given : List Given) (sides : Sides) (tree : List Declaration) (job : Pipeline)
     (middle : List ℕ) : Type 0 where
@@ -110,7 +110,7 @@ pub record IsReadAround (input : List ℕ) (given : List Given) (sides : Sides) 
 
 -- ---- the job and the facts that are to be judged by it
 
--- the middle section is fact files: the jobs are those that they retire, and the facts are all others' of all files
+-- the middle section is fact files. `retired` are the jobs that they retire, and `facts` those of all other jobs in all files
 pub record IsInputAudit (input : List ℕ) (given : List Given) (sides : Sides) (tree : List Declaration) (job : Pipeline)
     (retired : List Ids) (facts : List Fact) : Type 0 where
   pub lines : List ℕ

@@ -1,4 +1,4 @@
--- What a command has read and written where it ends.
+-- What a command has read and written when it ends.
 use Rattle.std.specs.Prelude.{◌≡◌, ℕ, ◌<◌, ◌≤◌, List, length, Option, Result, Ok, Err, IfSome}
 use Rattle.std.specs.Io.KnownBytes.{Appends}
 use Rattle.domains.specs.Sides.{Sides}
@@ -21,14 +21,14 @@ use Rattle.inputs.specs.declared.faults.StreamFault.TheVariants.{Bind, Facts, Sc
 abbrev pub most_input : ℕ
 most_input = 536870912
 
--- what reading is refused with
+-- the faults of reading
 abbrev pub IsOfReader : Option (List ℕ) → StreamFault → Type 0
 IsOfReader known Read = Unit {0}
 IsOfReader known TooLong = IfSome known (λ input. most_input < length input)
 IsOfReader known Memory = Unit {0}
 IsOfReader known _ = ⊥
 
--- This is said of an input that is not too long: where the reader's bytes are known, of these.
+-- This holds of an input that is not too long. If the reader's bytes are known, they are the input.
 pub record IsOfInput (known : Option (List ℕ)) (Holds : List ℕ → Type 0) : Type 0 where
   pub input : List ℕ
   pub all : IfSome known (λ bytes. input ≡ bytes)
@@ -66,20 +66,19 @@ IsFirstFault Refuses known TooLong = IfSome known (λ input. most_input < length
 IsFirstFault Refuses known Memory = Unit {0}
 IsFirstFault Refuses known fault = IsOfInput known (λ input. Refuses input fault)
 
--- what was written: all that the command says; where the writer failed a part of it; else nothing, and the fault is the first
--- one
+-- what was written: all that the command says; a part of it if the writer failed; else nothing, and the fault is the first one
 abbrev pub Writes : {Answer : Type 0} → Saying Answer → Refusing → Option (List ℕ) → Result Answer StreamFault → Option (List ℕ)
     → Option (List ℕ) → Type 0
 Writes Says Refuses known (Ok answer) old new = AppendsSaid Says known answer old new
 Writes Says Refuses known (Err Write) old new = AppendsPartSaid Says known old new
 Writes Says Refuses known (Err fault) old new = (new ≡ old) × IsFirstFault Refuses known fault
 
--- one call of the reader failed at `Read`, and none at any other answer
+-- for `Read` one call of the reader failed, and for any other answer none
 abbrev pub CountsRead : {X : Type 0} → Result X StreamFault → ℕ → ℕ → Type 0
 CountsRead (Err Read) old new = new ≡ one_more old
 CountsRead _ old new = new ≡ old
 
--- one call of the writer failed at `Write`, and none at any other answer
+-- for `Write` one call of the writer failed, and for any other answer none
 abbrev pub CountsWritten : {X : Type 0} → Result X StreamFault → ℕ → ℕ → Type 0
 CountsWritten (Err Write) old new = new ≡ one_more old
 CountsWritten _ old new = new ≡ old
@@ -111,8 +110,7 @@ refusing_job given sides input fault = IsFaultOf input given sides fault
 abbrev pub AuditSaying : Type 0 → Type 1
 AuditSaying Answer = List Declaration → Pipeline → List Ids → List Fact → Answer → List ℕ → Type 0
 
--- the bytes are what a command says of the program, of the job, and of the retired jobs and the facts of an input, where it answers
--- this
+-- the bytes are what a command says of the program, the job, the retired jobs and the facts of an input, where it answers this
 pub record IsSaidOfAudit {Answer : Type 0} (Says : AuditSaying Answer) (given : List Given) (sides : Sides) (answer : Answer)
     (input bytes : List ℕ) : Type 0 where
   pub tree : List Declaration

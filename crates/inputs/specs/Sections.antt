@@ -1,5 +1,5 @@
--- The sections of the input, parted by lines that are exactly the separator: the first one, and where there are three sections the
--- first one behind it.
+-- The sections of the input, split at lines that are exactly the separator: the first one, and for three sections also the first
+-- one after it.
 use Rattle.std.specs.Prelude.{◌≡◌, ◌⊎◌, ℕ, ◌+◌, ◌-◌, ◌<◌, ◌==◌, ◌||◌}
 use Rattle.std.specs.Prelude.{◌&&◌, Bool, IsTrue, List, [], ◌∷◌, length, take, drop, slice_index, nat_eq}
 use Rattle.std.specs.List.{starts_with}
@@ -16,7 +16,7 @@ begins_line input at = (at == 0) || (slice_index input (at - 1) == 10)
 abbrev pub separates : List ℕ → ℕ → Bool
 separates input at = begins_line input at && starts_with nat_eq (drop at input) separator
 
--- the first separator stands at this offset
+-- the first separator is at this offset
 pub record IsFirstSeparator (input : List ℕ) (at : ℕ) : Type 0 where
   pub here : IsTrue (separates input at)
   pub within : at < length input
@@ -28,7 +28,7 @@ HasNoSeparator input = (k : ℕ) → k < length input → ¬ IsTrue (separates i
 
 -- ---- two sections
 
--- the first separator line parts what stands before it from the rest, whatever this holds
+-- the first separator line splits what is before it from the rest, whatever this holds
 pub record IsParted (input text rest : List ℕ) : Type 0 where
   pub at : ℕ
   pub first : IsFirstSeparator input at
@@ -37,12 +37,13 @@ pub record IsParted (input text rest : List ℕ) : Type 0 where
 
 -- ---- three sections
 
--- the first separator line and the first one behind it part three sections, of which the last is the rest, whatever it holds
+-- the first separator line and the first one after it split the input into three sections. The last is the rest, whatever it
+-- holds
 pub record IsPartedInThree (input text middle rest : List ℕ) : Type 0 where
   pub behind : List ℕ
   pub first : IsParted input text behind
   pub second : IsParted behind middle rest
 
--- no line is a separator, or none behind the first one
+-- no line is a separator, or none after the first one
 abbrev pub LacksSeparator : List ℕ → Type 0
 LacksSeparator input = HasNoSeparator input ⊎ ((text behind : List ℕ) × IsParted input text behind × HasNoSeparator behind)

@@ -1,4 +1,4 @@
--- What becomes of bytes that are to be written: the writer takes all of them, or it fails and took a part.
+-- What happens to bytes that should be written: the writer takes all of them, or it fails after it took a part.
 use Rattle.std.specs.Prelude.{◌≡◌, ◌⊎◌, ℕ, List, Option, Result, Ok, Err}
 use Rattle.std.specs.Io.KnownBytes.{Appends}
 use Rattle.streams.specs.Streams.{AppendsPart, one_more}
@@ -18,6 +18,6 @@ abbrev pub Takes : {X E : Type 0} → Result X E → List ℕ → Option (List �
 Takes (Ok _) bytes old new before after = TakesAll bytes old new before after
 Takes (Err _) bytes old new before after = TakesPart bytes old new before after
 
--- the same where the answer is let go
+-- the same if the answer is discarded
 abbrev pub Puts : List ℕ → Option (List ℕ) → Option (List ℕ) → ℕ → ℕ → Type 0
 Puts bytes old new before after = TakesAll bytes old new before after ⊎ TakesPart bytes old new before after

@@ -1,4 +1,4 @@
--- How the faults of the steps are told: a refusal of memory is `Memory`, whichever step it comes from.
+-- How the faults of the steps are reported: a refusal of memory is `Memory`, whichever step it comes from.
 use Rattle.netpbm.specs.declared.fault.PicFault.{PicFault}
 use Rattle.netpbm.specs.declared.fault.PicFault.TheVariants as pictures
 use Rattle.pipe_tree.specs.declared.fault.ParseFault.{ParseFault}

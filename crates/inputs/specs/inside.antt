@@ -1,2 +1,2 @@
--- What inner contracts and proofs cite, and no public one: how the code goes about it.
+-- How the code works: definitions that only inner contracts and proofs cite.
 pub mod Steps

@@ -1,4 +1,4 @@
-//! Programs that mean something, and what others are refused with.
+//! Well-formed programs, and the faults of others.
 
 ghost use Rattle.std.specs.Prelude.{◌≡◌, IfOk, IfErr};
 ghost use Rattle.pipe_tree.specs.Tree.{declarations};
@@ -15,7 +15,7 @@ use pipe_tokens::Name;
 use pipe_tree::{Item, Tree};
 use std::alloc::{AllocError, Global};
 
-/// The program that the tree is, if it means something; else its first fault.
+/// The program of the tree, if it is well-formed; else its first fault.
 pub fn accept(alloc: Global, tree: Tree) -> Result<Checked, StreamFault>
     ensures ok { IfOk result (IsCheckedOf tree) }
     ensures fault { IfErr result (IsRefusal (content tree)) }
@@ -26,7 +26,7 @@ pub fn accept(alloc: Global, tree: Tree) -> Result<Checked, StreamFault>
     }
 }
 
-/// How the fault of a program is told.
+/// How the fault of a program is reported.
 fn refusal(alloc: Global, items: &[Item], fault: CheckFault) -> StreamFault
     requires { IsFault (declarations items.now) fault }
     ensures { IsRefusal (declarations items.now) result }

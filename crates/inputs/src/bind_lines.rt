@@ -1,4 +1,4 @@
-//! The lines of programs and pictures that make no job.
+//! The lines for programs and pictures that make no job.
 
 ghost use Rattle.std.specs.Prelude.{◌≡◌, ◌++◌};
 ghost use Rattle.inputs.specs.FaultLines.{axis_word, bind_head, bind_text, blamed_text, ends_text, place_text, read_text};
@@ -43,7 +43,7 @@ fn write_blamed<W: Sink>(writer: &mut W, blamed: &Option<Name>) -> Result<(), Wr
     }
 }
 
-/// Where a read leaves what it reads, and its least and greatest index.
+/// Where a read leaves the domain of what it reads, and its least and greatest index.
 fn write_read<W: Sink>(writer: &mut W, fault: BindFault) -> Result<(), WriteFailed>
     ensures { Takes result (read_text fault) (W.contents writer.old) (W.contents writer.new)
         (W.failures writer.old) (W.failures writer.new) }

@@ -1,4 +1,4 @@
-//! How programs that do not fit their tables and their pictures are told.
+//! How faults of programs that do not fit their tables and their pictures are reported.
 
 ghost use Rattle.std.specs.Prelude.{◌≡◌};
 ghost use Rattle.pipe_checks.specs.Checking.{params_in, tables_in, stages_in};
@@ -13,7 +13,7 @@ use pipe_bounds::BoundFault;
 use pipe_checks::Checked;
 use pipe_tokens::Name;
 
-/// How a program that does not fit its tables or its picture is told.
+/// How the fault of a program that does not fit its tables or its picture is reported.
 pub fn told(checked: &Checked, fault: BindFault) -> StreamFault
     ensures { TellsBind (params_in checked.now) (tables_in checked.now) (stages_in checked.now)
         fault result }

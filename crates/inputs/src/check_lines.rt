@@ -1,4 +1,4 @@
-//! The lines of programs that mean nothing.
+//! The lines for ill-formed programs.
 
 ghost use Rattle.std.specs.List.{flat_map};
 ghost use Rattle.inputs.specs.FaultLines.{check_head, check_text, cycle_text, fault_text, item_text, name_text};

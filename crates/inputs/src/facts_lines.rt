@@ -1,4 +1,4 @@
-//! The lines of texts that are not of fact files.
+//! The lines for texts that are not of fact files.
 
 ghost use Rattle.inputs.specs.FaultLines.{bad_file_text, bad_hex_text, facts_text, file_fault_text};
 ghost use Rattle.inputs.specs.Taking.{Takes};

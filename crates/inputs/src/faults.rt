@@ -9,7 +9,7 @@ use std::alloc::AllocError;
 use streams::WriteFailed;
 use thiserror::Error;
 
-/// Why a command gave no result. `write_line` writes the line that tells it.
+/// Why a command gave no result. `write_line` writes the line that reports it.
 #[derive(Debug, Drop, Error)]
 pub enum StreamFault {
     /// The reader failed.
@@ -24,16 +24,16 @@ pub enum StreamFault {
     /// The first section is no program.
     #[error("the first section is no program: {0}")]
     Program(ParseFault),
-    /// A line at the head of the last section is not there, or is no table's. Lines are counted from 1.
+    /// A line at the head of the last section is missing, or is no table's. Lines are counted from 1.
     #[error("line {0} of the last section is no table")]
     Tables(usize),
-    /// The last section is no picture behind its tables.
+    /// The last section is no picture after its tables.
     #[error("the last section is no picture: {0}")]
     Picture(PicFault),
-    /// The program means nothing.
+    /// The program is ill-formed.
     #[error("the program means nothing")]
     Check(CheckLine),
-    /// A parameter was given in vain.
+    /// A parameter was rejected.
     #[error("a parameter was given in vain")]
     Param(ParamLine),
     /// The program and the picture make no job.

@@ -1,4 +1,4 @@
-//! From the bytes of an input to its job and its facts, or to the fault that is told of it in one line.
+//! From the bytes of an input to its job and its facts, or to its fault, which is reported in one line.
 #![tactic(auto)]
 
 mod accepted;

@@ -1,4 +1,4 @@
-//! Faults of a program as they are told: by the names of its parameters and stages where the libraries have numbers.
+//! Faults of a program as they are reported: by the names of its parameters and stages where the libraries have numbers.
 
 use binding::BindFault;
 use pipe_bounds::ParamFault;
@@ -38,11 +38,11 @@ pub enum FarmLine {
     Close,
 }
 
-/// A parameter that was given in vain.
+/// A parameter that was rejected.
 #[derive(Debug, Drop)]
 pub struct ParamLine {
     pub fault: ParamFault,
-    /// The name as it was given.
+    /// The name as it was supplied.
     pub name: String,
 }
 

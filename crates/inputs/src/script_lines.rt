@@ -1,4 +1,4 @@
-//! The lines of texts that are no scripts.
+//! The lines for texts that are no scripts.
 
 ghost use Rattle.inputs.specs.FaultLines.{at_line_text, script_head, script_text};
 ghost use Rattle.inputs.specs.Taking.{Takes};
@@ -24,7 +24,7 @@ fn write_script_head<W: Sink>(writer: &mut W, fault: ScriptFault) -> Result<(), 
     write_head(writer, b"script", fault.number(), fault.name())
 }
 
-/// The number of the line that is at fault, if one alone is.
+/// The number of the line that is at fault, if a single one is.
 fn write_at_line<W: Sink>(writer: &mut W, fault: ScriptFault) -> Result<(), WriteFailed>
     ensures { Takes result (at_line_text fault) (W.contents writer.old) (W.contents writer.new)
         (W.failures writer.old) (W.failures writer.new) }

@@ -1,4 +1,4 @@
-//! The values that the parameters of a program are given.
+//! The values that are supplied for the parameters of a program.
 
 ghost use Rattle.std.specs.Prelude.{◌≡◌, map, string_bytes, IfOk, IfErr, OnOk};
 ghost use Rattle.pipe_checks.specs.Checking.{params_in};
@@ -12,7 +12,7 @@ use pipe_bounds::{ParamFault, Params};
 use pipe_checks::Checked;
 use std::alloc::Global;
 
-/// The parameters with the values that are given.
+/// The parameters with the supplied values.
 pub fn choose(
     alloc: Global,
     checked: &Checked,
@@ -26,7 +26,7 @@ pub fn choose(
     Ok(params)
 }
 
-/// Gives the parameters their values in order, up to the first that is refused.
+/// Sets the parameters to their values in order, up to the first that is rejected.
 fn give(alloc: Global, params: &mut Params, given: &[(String, i32)]) -> Result<(), StreamFault>
     ensures ok { OnOk result (AreGiven params.old given.now params.new) }
     ensures fault { IfErr result (IsParamRefusal params.old given.now) }

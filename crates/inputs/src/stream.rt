@@ -50,8 +50,8 @@ pub fn read_input<R: Source>(alloc: Global, reader: &mut R) -> Result<Vec<u8>, S
     }
 }
 
-/// The job of the program, its tables and the picture that the input spells. The job of a raw picture keeps the input's bytes; where the picture
-/// is spelled in digits they are let go once it is read.
+/// The job of the program, its tables and the picture that the input spells. The job of a raw picture keeps the input's bytes. If
+/// the picture is spelled in digits, they are freed once it is read.
 pub fn job_of(
     alloc: Global,
     sides: TileSides,
@@ -67,8 +67,8 @@ pub fn job_of(
     job_at(alloc, sides, given, tree, tables, picture)
 }
 
-/// The job of the program, its tables and the picture that an input of three sections spells, and the section between them, of which nothing is
-/// judged.
+/// The job of the program, its tables and the picture that an input of three sections spells; and the section between them, which
+/// is not judged.
 pub fn job_and_middle<'a>(
     alloc: Global,
     sides: TileSides,
@@ -89,8 +89,8 @@ pub fn job_and_middle<'a>(
     Ok((job, middle))
 }
 
-/// The job of the program, its tables and the picture that the input spells, and what the fact files between them hold together. A
-/// bad line is told only where the program and the picture have a job.
+/// The job of the program, its tables and the picture that the input spells, and what the fact files between them hold together.
+/// A bad line is reported only if the program and the picture have a job.
 pub fn audit_of(
     alloc: Global,
     sides: TileSides,
@@ -108,7 +108,7 @@ pub fn audit_of(
     Ok((job, contents))
 }
 
-/// What the fact files that the input is hold together.
+/// What the fact files of which the input consists hold together.
 pub fn contents_of(alloc: Global, input: Vec<u8>) -> Result<Contents, StreamFault>
     ensures join { IfOk result
         (λ contents. IsJoin input.items contents.retired.items contents.facts.items) }
@@ -129,7 +129,7 @@ fn read_all(alloc: Global, input: Vec<u8>) -> Result<(Tree, Vec<Table>, Picture)
     Ok((tree, tables, picture))
 }
 
-/// The program that the first section is, its tables, and where the spelling of the picture starts.
+/// The program of the first section, its tables, and where the spelling of the picture starts.
 fn head_of(alloc: Global, input: &[u8]) -> Result<(Tree, Vec<Table>, usize), StreamFault>
     ensures ok { IfOk result
         (λ read. IsHeadBefore input.now (content read.0) read.1.items read.2) }
@@ -141,7 +141,7 @@ fn head_of(alloc: Global, input: &[u8]) -> Result<(Tree, Vec<Table>, usize), Str
     Ok((tree, tables, start + length))
 }
 
-/// The program that the first section is, and where the last section starts.
+/// The program of the first section, and where the last section starts.
 fn program_of(alloc: Global, input: &[u8]) -> Result<(Tree, usize), StreamFault>
     ensures ok { IfOk result (λ read. IsProgramBefore input.now (content read.0) read.1) }
     ensures fault { (given : List Given) (sides : Sides)
@@ -170,7 +170,7 @@ fn read_spelled(
     Ok((tree, tables, picture))
 }
 
-/// The job of a program, its tables and a picture at the values that are given.
+/// The job of a program, its tables and a picture at the supplied values.
 fn job_at(
     alloc: Global,
     sides: TileSides,

@@ -11,8 +11,7 @@ use pipe_tree::Item;
 use std::alloc::{AllocError, Global};
 use tables::{Table, TableFault};
 
-/// The tables that stand at the head of a section, a line for each that the items declare, and where what stands behind them
-/// starts.
+/// The tables at the head of a section, a line for each that the items declare, and where what follows them starts.
 pub fn read_tables(
     alloc: Global,
     items: &[Item],
@@ -45,8 +44,8 @@ fn read_lines(
     Ok((tables, start))
 }
 
-/// The table of the line that a section begins with, and where what stands behind the line starts. A refusal tells the line by
-/// this number.
+/// The table of the line that a section begins with, and where what follows the line starts. A fault reports the line by this
+/// number.
 fn first_table(alloc: Global, section: &[u8], line: usize) -> Result<(Table, usize), StreamFault>
     ensures ok { IfOk result (λ read. BeginsWithTable section.now read.0 read.1) }
     ensures fault { IfErr result (IsLineRefusal section.now line) }
@@ -61,7 +60,7 @@ fn first_table(alloc: Global, section: &[u8], line: usize) -> Result<(Table, usi
     }
 }
 
-/// Where the line feed stands that ends the first line.
+/// The offset of the line feed that ends the first line.
 fn line_end(section: &[u8]) -> Option<usize>
     ensures { result ≡ position (λ byte. byte == 10) section.now }
 {

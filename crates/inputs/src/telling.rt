@@ -1,4 +1,4 @@
-//! The lines that tell faults, which take no memory.
+//! The lines that report faults. Writing them takes no memory.
 
 ghost use Rattle.std.specs.Prelude.{◌++◌, ◌∷◌, [], string_bytes};
 ghost use Rattle.inputs.specs.FaultLines.{farm_text, head_at, line_of, name_text, param_head, param_text, text_of};
@@ -15,7 +15,7 @@ use fault_rows::Fault;
 use pipe_bounds::ParamFault;
 use streams::{Sink, WriteFailed};
 
-/// Writes the line that tells the fault; a fault of the writer has none.
+/// Writes the line that reports the fault; a fault of the writer has none.
 pub fn write_line<W: Sink>(fault: &StreamFault, writer: &mut W) -> Result<(), WriteFailed>
     ensures { Takes result (line_of fault.now) (W.contents writer.old) (W.contents writer.new)
         (W.failures writer.old) (W.failures writer.new) }
@@ -74,7 +74,7 @@ fn write_fault<W: Sink>(fault: &StreamFault, writer: &mut W) -> Result<(), Write
     }
 }
 
-/// The same, and where the fault stands.
+/// The same, and where the fault is.
 fn write_place<W: Sink>(
     writer: &mut W,
     kind: &[u8],
@@ -108,7 +108,7 @@ fn write_param<W: Sink>(writer: &mut W, line: &ParamLine) -> Result<(), WriteFai
     write_given(writer, &line.name)
 }
 
-/// A name as it was given, behind a blank.
+/// A name as it was supplied, after a blank.
 fn write_given<W: Sink>(writer: &mut W, name: &String) -> Result<(), WriteFailed>
     ensures { Takes result (name_text (string_bytes name.now))
         (W.contents writer.old) (W.contents writer.new)

@@ -1,4 +1,4 @@
-//! Texts into a writer, without memory.
+//! Writing texts into a writer, without memory.
 
 ghost use Rattle.std.specs.Fmt.{decimal, signed_decimal};
 ghost use Rattle.std.specs.List.{flat_map};
@@ -18,7 +18,7 @@ pub fn write_text<W: Sink>(writer: &mut W, text: &[u8]) -> Result<(), WriteFaile
     write_whole(writer, text)
 }
 
-/// Writes the texts, one behind the other.
+/// Writes the texts, one after another.
 pub fn write_texts<W: Sink>(writer: &mut W, texts: &[&[u8]]) -> Result<(), WriteFailed>
     ensures { Takes result (flat_map (λ t. t.now) texts.now)
         (W.contents writer.old) (W.contents writer.new)
@@ -54,7 +54,7 @@ pub fn write_head<W: Sink>(
     )
 }
 
-/// Where a fault stands; 0 for one that has no place.
+/// Where a fault is; 0 for one that has no place.
 pub fn write_offset<W: Sink>(writer: &mut W, offset: Option<usize>) -> Result<(), WriteFailed>
     ensures { Takes result (offset_text offset) (W.contents writer.old) (W.contents writer.new)
         (W.failures writer.old) (W.failures writer.new) }
@@ -62,7 +62,7 @@ pub fn write_offset<W: Sink>(writer: &mut W, offset: Option<usize>) -> Result<()
     write_count(writer, b" at ", offset.unwrap_or(0))
 }
 
-/// The words, and a number that is counted behind them.
+/// The words, followed by a count.
 pub fn write_count<W: Sink>(writer: &mut W, words: &[u8], count: usize) -> Result<(), WriteFailed>
     ensures { Takes result (words.now ++ decimal count)
         (W.contents writer.old) (W.contents writer.new)
@@ -72,7 +72,7 @@ pub fn write_count<W: Sink>(writer: &mut W, words: &[u8], count: usize) -> Resul
     write_texts(writer, &[words, digits.format(count).as_bytes()])
 }
 
-/// The words, and an integer behind them.
+/// The words, followed by an integer.
 pub fn write_integer<W: Sink>(writer: &mut W, words: &[u8], value: i32) -> Result<(), WriteFailed>
     ensures { Takes result (words.now ++ signed_decimal value)
         (W.contents writer.old) (W.contents writer.new)
@@ -83,7 +83,7 @@ pub fn write_integer<W: Sink>(writer: &mut W, words: &[u8], value: i32) -> Resul
     write_texts(writer, &[words, digits])
 }
 
-/// A name behind a blank.
+/// A name after a blank.
 pub fn write_name<W: Sink>(writer: &mut W, name: &Name) -> Result<(), WriteFailed>
     ensures { Takes result (name_text name.now) (W.contents writer.old) (W.contents writer.new)
         (W.failures writer.old) (W.failures writer.new) }

@@ -11,7 +11,7 @@ pub record Book : Type 0 where
   pub time : ℕ
   pub history : List Entry
 
--- the desk stands for the history, which has room for an entry of each lease that the desk keeps
+-- the desk stands for the history, which has capacity for an entry of each lease that the desk keeps
 pub record IsBook (desk : Desk) (history : Vec Entry) : Type 0 where
   pub stands : StandsFor desk history.items desk.clock
   pub room : vec_len history + kept_by desk ≤ vec_capacity history

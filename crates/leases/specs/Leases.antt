@@ -27,8 +27,8 @@ ends q (Renewed key lease) = same key q
 ends q (Held key node time) = false
 ends q (Released key node time) = same key q
 
--- when a lease of q ends that was to last until then, by the entries after it: with the next renewal or release of q, if
--- that is sooner
+-- when a lease of q that was to last until `until` ends: with the next renewal or release of q in the later entries, if that is
+-- sooner
 abbrev pub end_of : Key → ℕ → List Entry → ℕ
 end_of q until [] = until
 end_of q until (e ∷ later) = if ends q e then min until (time_of e) else end_of q until later

@@ -11,11 +11,11 @@ use Rattle.leases.specs.declared.entry.Entry.{Entry}
 use Rattle.leases.specs.declared.entry.Entry.TheVariants as entry
 use Rattle.leases.specs.Leases.{in_force}
 
--- when a lease ends that is claimed at a time for so long: times have 64 bits
+-- when a lease ends that is claimed at `time` for `ttl`: times have 64 bits
 abbrev pub until_of : ℕ → ℕ → ℕ
 until_of time ttl = min (time + ttl) 18446744073709551615
 
--- what a claim is answered where that lease of the key is in force, or none
+-- the answer to a claim when that lease of the key is in force, or none
 abbrev pub claim_by : Option Lease → ℕ → ℕ → ℕ → Claim
 claim_by None time node ttl = claim.Granted (until_of time ttl)
 claim_by (Some lease) time node ttl =
@@ -25,7 +25,7 @@ claim_by (Some lease) time node ttl =
 abbrev pub claim_answer : List Entry → ℕ → ℕ → Key → ℕ → Claim
 claim_answer h time node key ttl = claim_by (in_force key time h) time node ttl
 
--- what a release is answered
+-- the answer to a release
 abbrev pub release_by : Option Lease → ℕ → Release
 release_by None node = release.NotHolder
 release_by (Some lease) node = if lease.node == node then release.Released else release.NotHolder
@@ -56,20 +56,19 @@ abbrev pub release_entry : ℕ → ℕ → Key → Release → Option Entry
 release_entry time node key release.Released = Some (entry.Released key node time)
 release_entry time node key release.NotHolder = None
 
--- the history with what is recorded of one call more
+-- the history with what is recorded of one more call
 abbrev pub recorded : List Entry → Option Entry → List Entry
 recorded h None = h
 recorded h (Some e) = h ++ e ∷ []
 
--- the time after a claim; one without memory counts for nothing
+-- the time after a claim; one without memory has no effect
 abbrev pub time_after : ℕ → ℕ → Claim → ℕ
 time_after time now (claim.Granted until) = max time now
 time_after time now (claim.Renewed until) = max time now
 time_after time now (claim.Held by until) = max time now
 time_after time now claim.Memory = time
 
--- the entries are of calls at times that never fall, each as the rules answer after those before it, and the time is not
--- before them
+-- the entries are of calls at times that never fall, each as the rules answer after those before it. The time is not before them
 pub data IsLegal : List Entry → ℕ → Type 0 where
   empty : IsLegal [] 0
   later : (h : List Entry) (time now : ℕ) → IsLegal h time → time ≤ now → IsLegal h now

@@ -1,27 +1,27 @@
-//! What calls are answered.
+//! Answers to calls.
 
 ghost use Rattle.std.specs.Prelude.{◌≡◌};
 
 use crate::entry::{Entry, Lease};
 use identity::Key;
 
-/// What a claim is answered.
+/// The answer to a claim.
 #[derive(Clone, Copy, Debug, PartialEq, Eq)]
 pub enum Claim {
-    /// No lease of the key was in force; the node's lasts until then.
+    /// No lease of the key was in force; the node's lease lasts until then.
     Granted { until: u64 },
     /// The node's own lease was in force; it has a new one, which lasts until then.
     Renewed { until: u64 },
     /// Another node's lease is in force until then.
     Held { by: u8, until: u64 },
-    /// There was no memory for it. The claim counts for nothing.
+    /// There was no memory for it. The claim has no effect.
     Memory,
 }
 
 impl Claim {
     ghost use Rattle.leases.specs.Rules.{claim_by, lease_of, claim_entry};
 
-    // How the rules answer a node's claim where that lease is in force.
+    // How the rules answer a node's claim when that lease is in force.
     pub(crate) fn by_rules(in_force: Option<Lease>, time: u64, node: u8, ttl: u64) -> Claim
         ensures { result ≡ claim_by in_force time node ttl }
     {
@@ -36,7 +36,7 @@ impl Claim {
         }
     }
 
-    // The lease that a node is given by it.
+    // The lease that a node gets by it.
     pub(crate) fn lease(self, time: u64, node: u8) -> Option<Lease>
         ensures { result ≡ lease_of time node self }
     {
@@ -71,7 +71,7 @@ impl Claim {
     }
 }
 
-/// What a release is answered.
+/// The answer to a release.
 #[derive(Clone, Copy, Debug, PartialEq, Eq)]
 pub enum Release {
     /// The node's lease was in force, and is over.
@@ -83,7 +83,7 @@ pub enum Release {
 impl Release {
     ghost use Rattle.leases.specs.Rules.{release_by, release_entry};
 
-    // How the rules answer a node's release where that lease is in force.
+    // How the rules answer a node's release when that lease is in force.
     pub(crate) fn by_rules(in_force: Option<Lease>, node: u8) -> Release
         ensures { result ≡ release_by in_force node }
     {

@@ -10,8 +10,8 @@ use identity::Key;
 use std::alloc::Global;
 use std::marker::Model;
 
-/// A desk with the history of its calls. The desk always stands for the history, which is of the calls of this book alone: so no
-/// key ever has two holders at one time. A claim makes the room for the release that may follow.
+/// A desk with the history of its calls. The desk always stands for the history, which is of the calls of this book alone. So no
+/// key ever has two holders at one time. A claim reserves capacity for the release that may follow.
 #[derive(Drop)]
 pub struct DeskBook {
     desk: Desk,
@@ -58,7 +58,7 @@ impl DeskBook {
         &self.desk
     }
 
-    /// Claims a key for a node, as `Desk::claim` does, and records it. With `Memory` all is as before.
+    /// Claims a key for a node, as `Desk::claim` does, and records it. With `Memory` nothing changes.
     pub fn claim(&mut self, now: u64, node: u8, key: Key, ttl: u64) -> Claim
         ensures answer { result ≢ Claim.Memory
             → result ≡ claim_answer self.old.history (max self.old.time now) node key ttl }
@@ -94,7 +94,7 @@ impl DeskBook {
         release
     }
 
-    /// The node whose lease of a key is in force. The question moves the time, and is not recorded.
+    /// The node whose lease of a key is in force. The call moves the time, and is not recorded.
     pub fn holder(&mut self, now: u64, key: &Key) -> Option<u8>
         ensures answer { result ≡ holder_of self.old.history (max self.old.time now) key.now }
         ensures history { self.new.history ≡ self.old.history }

@@ -12,7 +12,7 @@ use std::alloc::Global;
 use std::collections::BTreeMap;
 
 /// Leases by a clock. The time of a call is the greatest `now` of all calls so far, its own included; a claim that is answered
-/// `Memory` counts for nothing.
+/// `Memory` has no effect.
 #[derive(Drop)]
 pub struct Desk {
     clock: u64,
@@ -47,8 +47,8 @@ impl Desk {
         }
     }
 
-    /// Claims a key for a node, for `ttl` from the time of the call on, at most until the greatest number of 64 bits. A claim
-    /// by the node that has the key renews its lease. With `Memory` the desk stands as before, at its time; it comes in place of
+    /// Claims a key for a node, for `ttl` from the time of the call on, at most until the greatest number of 64 bits. A claim by
+    /// the node that has the key renews its lease. With `Memory` the desk and its time are unchanged; it is answered instead of
     /// `Granted` alone.
     pub fn claim(&mut self, now: u64, node: u8, key: Key, ttl: u64) -> Claim
         ensures answer { (h : List Entry) (t : ℕ) → StandsFor self.old h t → result ≢ Claim.Memory
@@ -89,7 +89,7 @@ impl Desk {
         release
     }
 
-    /// The node whose lease of a key is in force. The question moves the time.
+    /// The node whose lease of a key is in force. The call moves the time.
     pub fn holder(&mut self, now: u64, key: &Key) -> Option<u8>
         ensures answer { (h : List Entry) (t : ℕ) → StandsFor self.old h t
             → result ≡ holder_of h (max t now) key.now }

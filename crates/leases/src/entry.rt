@@ -2,10 +2,10 @@
 
 use identity::Key;
 
-/// What a node is given of a key. Times are numbers of 64 bits, of whatever unit the callers count in.
+/// A node's lease of a key. Times are numbers of 64 bits, of whatever unit the callers count in.
 #[derive(Clone, Copy, Debug, PartialEq, Eq)]
 pub struct Lease {
-    /// Who has it.
+    /// The node that has it.
     pub node: u8,
     /// When it begins.
     pub from: u64,

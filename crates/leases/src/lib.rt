@@ -1,4 +1,4 @@
-//! Leases of keys: for each key one holder at a time, by a clock that the callers bring.
+//! Leases of keys: for each key one holder at a time, by a clock that the callers supply.
 #![tactic(auto)]
 
 mod answer;

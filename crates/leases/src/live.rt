@@ -6,8 +6,8 @@ use identity::Key;
 use std::alloc::Global;
 use std::sync::{Mutex, Wait};
 
-/// A desk with its record, which threads share. Calls take turns under a lock, which keeps what the type of a record says:
-/// that the desk stands for its history. Which call comes before which is not said.
+/// A desk with its record, which threads share. Calls take turns under a lock, which preserves what the type of a record
+/// promises: that the desk stands for its history. The order of calls is not specified.
 #[derive(Drop)]
 pub struct LiveDesk {
     book: Mutex<DeskBook>,
@@ -31,7 +31,7 @@ impl LiveDesk {
         self.book.lock(rt).release(now, node, key)
     }
 
-    /// The node whose lease of a key is in force, as `DeskBook::holder` tells it.
+    /// The node whose lease of a key is in force, as `DeskBook::holder` reports it.
     pub fn holder<R: Wait>(&self, rt: &R, now: u64, key: &Key) -> Option<u8> {
         self.book.lock(rt).holder(now, key)
     }

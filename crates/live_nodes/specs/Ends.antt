@@ -11,14 +11,14 @@ use Rattle.books.specs.declared.receipt.Receipt.{Receipt}
 use Rattle.receipts.specs.Accounts.{IsCloseFault}
 use Rattle.receipts.specs.declared.fault.CloseFault.{CloseFault}
 
--- a seat's count, and the receipts beside it
+-- a seat's count, and its receipts
 abbrev pub End : Type 0
 End = ℕ × Vec Receipt
 
 abbrev pub receipts_of : List End → List (List Receipt)
 receipts_of ends = map (λ end. end.1.items) ends
 
--- beside each seat stand as many receipts as it counts calls
+-- each seat has as many receipts as it counts calls
 abbrev pub HaveAllReceipts : List End → Type 0
 HaveAllReceipts ends = All (λ end. length end.1.items ≡ end.0) ends
 
@@ -26,9 +26,9 @@ HaveAllReceipts ends = All (λ end. length end.1.items ≡ end.0) ends
 abbrev pub calls_of : List End → ℕ
 calls_of ends = sum_by (λ end. end.0) ends
 
--- ---- what is said where a lock hides the history
+-- ---- what holds where a lock hides the history
 
--- a key of which nothing is held is one that was asked for
+-- a key of which nothing is held is one that was requested
 abbrev pub IsAsked : List Key → LendFault → Type 0
 IsAsked keys (NotHeld key) = Contains keys key
 IsAsked keys Memory = Unit {0}

@@ -15,8 +15,8 @@ use receipts::{CloseFault, match_receipts};
 use std::alloc::Global;
 use std::marker::Model;
 
-/// A node at its end: what it holds, and all that happened to it. Contracts see the history, which is legal and leaves what is held.
-/// Only the end of a node makes one.
+/// A node at its end: what it holds, and all that happened to it. Contracts see the history, which is legal and leads to what is
+/// held. Only the end of a node makes one.
 #[derive(Drop)]
 pub struct Closed<S: FactStore = TableFacts> {
     state: NodeState<S>,
@@ -52,12 +52,12 @@ impl<S: FactStore> Closed<S> {
     }
 }
 
-/// Ends a node whose history the receipts account for. Where they do not, all comes back.
+/// Ends a node whose history the receipts account for. If they do not, everything is returned.
 ///
 /// # Errors
 ///
-/// Fails at the first receipt, list after list, that does not fit, then at the least number that is on no receipt; and where memory is
-/// refused.
+/// Fails at the first receipt, list after list, that does not fit; then at the least number that is on no receipt. Also fails
+/// where memory is refused.
 pub fn close_book<C: NamedCatalog, S: FactStore>(
     alloc: Global,
     book: NodeBook<C, S>,

@@ -1,4 +1,4 @@
-//! A node that threads share, under a lock, with a seat for each caller; and how it closes over its receipts.
+//! A node that threads share, under a lock, with a seat for each caller; at its end its history is checked against the receipts.
 #![tactic(auto)]
 
 mod closed;

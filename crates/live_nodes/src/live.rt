@@ -21,9 +21,9 @@ use std::alloc::{AllocError, AllocFailed, Global};
 use std::sync::{Mutex, Wait};
 use tile_fact::Update;
 
-/// A node that threads share: a book under a lock. Each thread calls it with a seat of its own, and is answered a receipt for each call
-/// that is recorded. A call tells nothing of what other threads do; that calls of all threads are one history, `close` finds by the
-/// receipts.
+/// A node that threads share: a book under a lock. Each thread calls it with a seat of its own, and gets a receipt for each call
+/// that is recorded. A call reports nothing of what other threads do. From the receipts `close` finds that the calls of all
+/// threads are one history.
 #[derive(Drop)]
 pub struct LiveNode<C: NamedCatalog> {
     alloc: Global,
@@ -31,7 +31,7 @@ pub struct LiveNode<C: NamedCatalog> {
 }
 
 impl<C: NamedCatalog> LiveNode<C> {
-    /// A node that holds and keeps nothing, with so many seats.
+    /// A node that holds and keeps nothing, with this number of seats.
     pub fn open(
         alloc: Global,
         catalog: &Catalog,
@@ -56,7 +56,8 @@ impl<C: NamedCatalog> LiveNode<C> {
         self.book.lock(rt).held().copy()
     }
 
-    /// Lends the facts of the keys, as `NodeBook::lend` does: the one true fact of each, rising, and the identities of retired jobs.
+    /// Lends the facts of the keys, as `NodeBook::lend` does: the one true fact of each, rising, and the identities of retired
+    /// jobs.
     ///
     /// # Errors
     ///
@@ -76,7 +77,8 @@ impl<C: NamedCatalog> LiveNode<C> {
         Ok(loan)
     }
 
-    /// Takes updates into what is held, as `NodeBook::take` does. Where memory is refused they come back, and nothing is recorded.
+    /// Takes updates into what is held, as `NodeBook::take` does. If memory is refused, they are returned and nothing is
+    /// recorded.
     pub fn take<R: Wait>(
         &self,
         rt: &R,
@@ -121,13 +123,13 @@ impl<C: NamedCatalog> LiveNode<C> {
         Ok(receipt)
     }
 
-    /// Ends the node, where the receipts account for its history: each event has one receipt, at its number, and each seat's list rises.
-    /// Where they do not, the node comes back with the seats and the receipts.
+    /// Ends the node, if the receipts account for its history: each event has one receipt, at its number, and each seat's list
+    /// rises. If they do not, the node is returned with the seats and the receipts.
     ///
     /// # Errors
     ///
-    /// Fails at the first receipt, seat after seat, that does not fit, then at the least number that is on no receipt; and where memory
-    /// is refused.
+    /// Fails at the first receipt, seat after seat, that does not fit; then at the least number that is on no receipt. Also fails
+    /// where memory is refused.
     pub fn close(
         self,
         ends: Vec<(Seat, Vec<Receipt>)>,

@@ -8,7 +8,7 @@ use std::marker::Model;
 /// A caller's place at a node, which counts the caller's recorded calls. Contracts alone see the count.
 #[derive(Drop)]
 pub struct Seat {
-    // One unit for each call: they take no memory, and there is always room for one more.
+    // One unit for each call: they take no memory, and there is always capacity for one more.
     pub(crate) calls: Vec<()>,
 }
 

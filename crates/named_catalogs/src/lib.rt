@@ -1,12 +1,12 @@
 //! Names of catalogs, for contracts alone.
 //!
-//! What runs holds a catalog; what a lock or a mailbox keeps has a type alone. So a type may name a catalog, and a struct that has
-//! such a type as its parameter may promise that its facts are true in the catalog that this names.
+//! Running code holds a catalog; what a lock or a mailbox keeps has only a type. So a type may name a catalog. A struct with such
+//! a type as its parameter may promise that its facts are true in the named catalog.
 #![tactic(auto)]
 
 use std::marker::Brand;
 
-/// A type that names a catalog. It has no calls: a function that is given a catalog asks that it is the one that is named.
+/// A type that names a catalog. It has no calls: a function that takes a catalog requires that it is the named one.
 pub trait NamedCatalog {
     ghost use Rattle.std.specs.Prelude.{List};
     ghost use Rattle.catalog.specs.Entries.{Entry};

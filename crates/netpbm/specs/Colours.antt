@@ -1,4 +1,4 @@
--- Samples of several planes in turn.
+-- Interleaved samples of several planes.
 use Rattle.std.specs.Prelude.{ℕ, zero, suc, ◌==◌, if◌then◌else◌, List, [], ◌∷◌}
 
 -- a red, a green and a blue sample for each pixel
@@ -18,11 +18,11 @@ pick zero red green blue = red
 pick (suc zero) red green blue = green
 pick (suc (suc colour)) red green blue = blue
 
--- the samples of one colour, where three stand in turn
+-- the samples of one colour, where those of three are interleaved
 abbrev pub thirds : ℕ → List ℕ → List ℕ
 thirds colour (red ∷ green ∷ blue ∷ samples) = pick colour red green blue ∷ thirds colour samples
 thirds colour samples = []
 
--- the planes of so many colours, 1 or 3
+-- the planes of this number of colours, 1 or 3
 abbrev pub separated : ℕ → List ℕ → List (List ℕ)
 separated colours samples = if colours == 1 then samples ∷ [] else thirds 0 samples ∷ thirds 1 samples ∷ thirds 2 samples ∷ []

@@ -33,7 +33,7 @@ pub data CutFiller : List ℕ → Type 0 where
   ended : (filler : List ℕ) → Filler filler → CutFiller filler
   open_comment : (filler body : List ℕ) → Filler filler → list_all is_comment_byte body ≡ true → CutFiller (filler ++ 35 ∷ body)
 
--- the bytes end in a gap or in its place; behind the greatest sample nothing may stand but its one white byte
+-- the bytes end in a gap or in its place; nothing may follow the greatest sample but its one white byte
 pub record EndsInHeader (bytes : List ℕ) : Type 0 where
   pub coding : Coding
   pub colours : ℕ
@@ -45,7 +45,7 @@ pub record EndsInHeader (bytes : List ℕ) : Type 0 where
   pub filler_is : CutFiller filler
   pub behind_max : length numbers ≡ 3 → filler ≡ []
 
--- behind a gap, or in its place, stands a byte that goes on with nothing
+-- after a gap, or in its place, is a byte that continues nothing
 pub record HasBadHeaderByte (bytes : List ℕ) (at : ℕ) : Type 0 where
   pub coding : Coding
   pub colours : ℕ
@@ -60,10 +60,10 @@ pub record HasBadHeaderByte (bytes : List ℕ) (at : ℕ) : Type 0 where
   pub filler_is : Filler filler
   pub behind_max : length numbers ≡ 3 → filler ≡ []
   pub stands_not : begins_filler byte ≡ false
-  -- a digit would begin a number behind a gap, or go on with one
+  -- a digit would begin a number after a gap, or continue one
   pub digit_only_behind_magic : is_ascii_digit byte ≡ true → (filler ≡ []) × (numbers ≡ [])
 
--- behind so many numbers stands one, taken whole, that is out of its range
+-- after `before` numbers is one, taken whole, that is out of its range
 pub record HasBadField (limit : ℕ) (bytes : List ℕ) (at before : ℕ) : Type 0 where
   pub coding : Coding
   pub colours : ℕ
@@ -82,7 +82,7 @@ pub record HasBadField (limit : ℕ) (bytes : List ℕ) (at before : ℕ) : Type
   pub taken_whole : NoDigit rest
   pub out_of_range : ¬ InRange limit number
 
--- directly behind the greatest sample stands a `#`
+-- a `#` is directly after the greatest sample
 pub record HasCommentBehindMax (bytes : List ℕ) (at : ℕ) : Type 0 where
   pub coding : Coding
   pub colours : ℕ
@@ -106,7 +106,7 @@ abbrev pub LeavesWhole : Coding → List ℕ → List ℕ → Type 0
 LeavesWhole Plain samples rest = 0 < length samples → NoDigit rest
 LeavesWhole Raw samples rest = Unit {0}
 
--- a whole header, and the first samples behind it, none above the greatest
+-- a whole header, and the first samples after it, none above the greatest
 pub record HasSamples (bytes : List ℕ) (coding : Coding) (max count : ℕ) (samples : List ℕ) (at : ℕ) (rest : List ℕ) : Type 0 where
   pub colours : ℕ
   pub cols : ℕ
@@ -139,7 +139,7 @@ pub record EndsInRaster (bytes : List ℕ) : Type 0 where
   pub few : length samples < count
   pub cut : IsNoSample coding max rest
 
--- in a plain raster stands a byte that is neither white nor a digit, where a sample is to come
+-- a plain raster has a byte that is neither white nor a digit, where a sample should be
 pub record HasBadRasterByte (bytes : List ℕ) (at : ℕ) : Type 0 where
   pub max : ℕ
   pub count : ℕ
@@ -176,7 +176,7 @@ pub record HasBigSample (bytes : List ℕ) (at : ℕ) : Type 0 where
   pub place : at ≡ before + length white
   pub big : max < sample
 
--- what may stand behind the raster
+-- what may follow the raster
 abbrev pub IsBehind : Coding → List ℕ → ℕ → Type 0
 IsBehind Plain white byte = IsWhite white × (is_white byte ≡ false)
 IsBehind Raw white byte = white ≡ []

@@ -20,7 +20,7 @@ pub record IsNumber (digits : List ℕ) (n : ℕ) : Type 0 where
   pub numeral : IsNumeral 10 digits
   pub value : n ≡ digits_value 10 digits
 
--- white space and comments, in any mix. A comment begins with `#` and ends with the first CR or LF behind it
+-- white space and comments, in any mix. A comment begins with `#` and ends with the first CR or LF after it
 pub data Filler : List ℕ → Type 0 where
   nothing : Filler []
   white : (byte : ℕ) (filler : List ℕ) → is_white byte ≡ true → Filler filler → Filler (byte ∷ filler)
@@ -32,12 +32,12 @@ pub record IsGap (bytes : List ℕ) : Type 0 where
   pub some : 0 < length bytes
   pub filler : Filler bytes
 
--- numbers, each behind a gap
+-- numbers, each after a gap
 abbrev pub IsFields : List ℕ → List ℕ → Type 0
 IsFields [] bytes = bytes ≡ []
 IsFields (n ∷ ns) bytes = (gap digits rest : List ℕ) × (bytes ≡ gap ++ (digits ++ rest)) × IsGap gap × IsNumber digits n × IsFields ns rest
 
--- no digit stands first
+-- the first byte is no digit
 abbrev pub NoDigit : List ℕ → Type 0
 NoDigit [] = Unit {0}
 NoDigit (byte ∷ bytes) = is_ascii_digit byte ≡ false
@@ -45,14 +45,14 @@ NoDigit (byte ∷ bytes) = is_ascii_digit byte ≡ false
 abbrev pub IsWhite : List ℕ → Type 0
 IsWhite bytes = list_all is_white bytes ≡ true
 
--- numbers, each behind white space or none; no digit stands directly behind one, so white space parts two of them
+-- numbers, each after white space or none; no digit follows one directly, so white space separates two of them
 abbrev pub IsSamples : List ℕ → List ℕ → Type 0
 IsSamples [] bytes = bytes ≡ []
 IsSamples (n ∷ ns) bytes =
     (white digits rest : List ℕ) × (bytes ≡ white ++ (digits ++ rest)) × IsWhite white × IsNumber digits n × NoDigit rest
     × IsSamples ns rest
 
--- behind a plain raster white space may stand, and nothing behind a raw one
+-- white space may follow a plain raster, and nothing a raw one
 abbrev pub IsRaster : Coding → ℕ → List ℕ → List ℕ → Type 0
 IsRaster Plain max samples bytes = (front white : List ℕ) × (bytes ≡ front ++ white) × IsSamples samples front × IsWhite white
 IsRaster Raw max samples bytes = bytes ≡ raw_raster max samples

@@ -16,12 +16,12 @@ pub record InRange (limit n : ℕ) : Type 0 where
   pub least : 1 ≤ n
   pub most : n ≤ limit
 
--- so many samples, none of them above the greatest
+-- `area` samples, none of them above the greatest
 pub record IsPlane (area max : ℕ) (plane : List ℕ) : Type 0 where
   pub whole : length plane ≡ area
   pub bounded : All (λ sample. sample ≤ max) plane
 
--- what a picture may have beside its samples
+-- what a picture may have besides its samples
 pub record AreSizes (rows cols max colours : ℕ) : Type 0 where
   pub high : InRange 4096 rows
   pub wide : InRange 4096 cols

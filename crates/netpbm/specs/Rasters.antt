@@ -12,13 +12,13 @@ use Rattle.netpbm.specs.Raw.{width_of, decoded}
 abbrev pub bytes_of : KeptRaster → List ℕ
 bytes_of raster = drop raster.start raster.bytes.items
 
--- the planes of a raster whose samples are at most so great
+-- the planes of a raster whose samples are at most `max`
 abbrev pub planes_of : ℕ → Raster → List (List ℕ)
 planes_of max (Planes planes) = samples_of planes.items
 planes_of max (Made planes) = made_samples planes.items
 planes_of max (Kept raster) = separated raster.colours (decoded max (bytes_of raster))
 
--- a raster that is kept has all its bytes, and none behind them
+-- a raster that is kept has all its bytes, and none after them
 pub record IsKept (area max : ℕ) (raster : KeptRaster) : Type 0 where
   pub place : raster.start ≤ length raster.bytes.items
   pub colours : (raster.colours ≡ 1) ⊎ (raster.colours ≡ 3)

@@ -1,4 +1,4 @@
--- Rasters of one byte or two a sample.
+-- Rasters with one byte or two per sample.
 use Rattle.std.specs.Prelude.{ℕ, ◌+◌, ◌*◌, ◌/◌, ◌%◌, nat_lt, if◌then◌else◌, List, [], ◌∷◌}
 use Rattle.std.specs.List.{flat_map, position_or_len}
 

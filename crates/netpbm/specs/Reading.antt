@@ -1,4 +1,4 @@
--- What the steps of the reader answer: a value and the place behind it, or the fault at a place.
+-- What the steps of the reader answer: a value and the place after it, or the fault at a place.
 use Rattle.std.specs.Prelude.{ℕ, zero, suc, ◌+◌, ◌*◌, min, nat_lt, false, not, ◌==◌, ◌&&◌, ◌||◌, if◌then◌else◌, List, [], ◌∷◌}
 use Rattle.std.specs.Prelude.{length, take, drop, slice_index, Result, Ok, Err}
 use Rattle.std.specs.Str.Parse.{digits_value}
@@ -20,7 +20,7 @@ abbrev pub ◌>>=◌ : {A B : Type 0} → Result A PicFault → (A → Result B 
 (Ok x) >>= f = f x
 (Err e) >>= f = Err e
 
--- what is wrong where a number should stand: what stands there is none, or the bytes are cut
+-- what is wrong where a number should be: there is none, or the bytes are cut
 abbrev pub stop : PicFault → List ℕ → ℕ → PicFault
 stop cut bytes at = if nat_lt at (length bytes) then BadNumber at else cut
 
@@ -92,7 +92,7 @@ sample_read bytes at max =
     else (if nat_lt max value then Err (SampleTooBig start)
     else Ok (value, start + digits_len rest))
 
--- so many samples, and the place behind them
+-- this many samples, and the place after them
 unfoldable pub samples_read : ℕ → List ℕ → ℕ → ℕ → Result (List ℕ × ℕ) PicFault
 samples_read zero bytes at max = Ok ([], at)
 samples_read (suc count) bytes at max = do
@@ -129,7 +129,7 @@ abbrev pub raster_read : Coding → List ℕ → ℕ → ℕ → ℕ → Result 
 raster_read Plain bytes start max count = plain_read bytes start max count
 raster_read Raw bytes start max count = raw_read bytes start max count
 
--- the planes that a header tells, of a raster of this coding
+-- the planes that a header specifies, of a raster of this coding
 abbrev pub planes_read : Coding → List ℕ → Header → Result (List (List ℕ)) PicFault
 planes_read coding bytes h = do
   samples ← raster_read coding bytes h.end h.max (h.colours * (h.rows * h.cols))

@@ -1,11 +1,11 @@
-//! Red, green and blue samples in turn.
+//! Interleaved red, green and blue samples.
 ghost use Rattle.std.specs.Prelude.{◌≡◌, ◌≤◌, ◌*◌, ◌/◌, ◌++◌, [], ◌∷◌, length, take, IfOk, OnOk};
 ghost use Rattle.netpbm.specs.Colours.{woven, thirds, separated};
 ghost use Rattle.netpbm.specs.Planes.{samples_of};
 
 use std::alloc::{AllocError, Global};
 
-/// The planes of samples that stand in turn: as many as there are colours, 1 or 3.
+/// The planes of interleaved samples: as many as there are colours, 1 or 3.
 pub fn planes_of(
     alloc: Global,
     samples: Vec<u16>,
@@ -21,7 +21,7 @@ pub fn planes_of(
     Ok(planes)
 }
 
-// The planes of samples of three colours.
+// The planes of interleaved samples of three colours.
 fn three_planes(alloc: Global, samples: &[u16]) -> Result<Vec<Vec<u16>>, AllocError>
     ensures { IfOk result (λ planes. samples_of planes.items ≡ separated 3 samples.now) }
 {
@@ -36,7 +36,7 @@ fn three_planes(alloc: Global, samples: &[u16]) -> Result<Vec<Vec<u16>>, AllocEr
     apart.into_planes(alloc)
 }
 
-/// How many pixels are taken apart at a time: few enough that their samples stay in the cache.
+/// How many pixels are separated at a time: few enough that their samples stay in the cache.
 pub const PIECE: usize = 4096;
 
 /// A red, a green and a blue plane that grow.
@@ -48,7 +48,7 @@ pub struct Apart {
 }
 
 impl Apart {
-    /// Empty planes with room for so many samples each.
+    /// Empty planes with capacity for `area` samples each.
     pub fn with_capacity(alloc: Global, area: usize) -> Result<Apart, AllocError>
         ensures red { IfOk result (λ apart. apart.red.items ≡ []) }
         ensures green { IfOk result (λ apart. apart.green.items ≡ []) }
@@ -61,7 +61,7 @@ impl Apart {
         })
     }
 
-    /// Adds a red, a green and a blue sample in turn to their planes.
+    /// Adds interleaved red, green and blue samples to their planes.
     pub fn add(&mut self, samples: &[u16]) -> Result<(), AllocError>
         requires { length samples.now ≤ 12288 }
         ensures red { OnOk result
@@ -95,7 +95,7 @@ impl Apart {
     }
 }
 
-// Puts the red, the green and the blue ones of samples that stand in turn into the fronts of three buffers.
+// Puts the red, the green and the blue ones of interleaved samples into the fronts of three buffers.
 #[tactic(auto, using(crate::proofs::Rasters::gathered))]
 fn part(red: &mut [u16], green: &mut [u16], blue: &mut [u16], samples: &[u16])
     requires red { length samples.now ≤ 3 * length red.old }
@@ -112,7 +112,7 @@ fn part(red: &mut [u16], green: &mut [u16], blue: &mut [u16], samples: &[u16])
     }
 }
 
-/// Puts the samples of three planes in turn into the front of `out`.
+/// Puts the samples of three planes, interleaved, into the front of `out`.
 #[tactic(auto, using(crate::proofs::Rasters::weaved))]
 pub fn weave(out: &mut [u16], red: &[u16], green: &[u16], blue: &[u16])
     requires green { length green.now ≡ length red.now }

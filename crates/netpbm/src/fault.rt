@@ -6,13 +6,13 @@ use thiserror::Error;
 /// The first fault of the bytes from the left, with its offset from the first byte.
 #[derive(Clone, Copy, Debug, PartialEq, Eq, Error)]
 pub enum PicFault {
-    /// 1: the bytes do not begin with `P2`, `P3`, `P5` or `P6`: the first byte that is another.
+    /// 1: the bytes do not begin with `P2`, `P3`, `P5` or `P6`: the first byte that differs.
     #[error("another format, at {0}")]
     OtherFormat(usize),
-    /// 2: the bytes end before the one behind the greatest sample: their number.
+    /// 2: the bytes end before the one after the greatest sample: their number.
     #[error("the header is cut at {0}")]
     HeaderCut(usize),
-    /// 3: a byte of the header or of a plain raster that cannot stand there.
+    /// 3: a byte of the header or of a plain raster that cannot be there.
     #[error("bad number at {0}")]
     BadNumber(usize),
     /// 4: a width or a height that is not from 1 to 4096: its first digit.
@@ -21,7 +21,7 @@ pub enum PicFault {
     /// 5: a greatest sample that is not from 1 to 65535: its first digit.
     #[error("bad greatest sample at {0}")]
     BadMax(usize),
-    /// 6: a comment directly behind the greatest sample: its `#`.
+    /// 6: a comment directly after the greatest sample: its `#`.
     #[error("a comment directly behind the greatest sample, at {0}")]
     CommentBehindDigit(usize),
     /// 7: the bytes end before the last sample is whole: their number.
@@ -30,7 +30,7 @@ pub enum PicFault {
     /// 8: a sample above the greatest: its first byte.
     #[error("a sample is too big at {0}")]
     SampleTooBig(usize),
-    /// 9: a byte behind a raw raster, or one that is no white space behind a plain one.
+    /// 9: a byte after a raw raster, or one that is no white space after a plain one.
     #[error("bytes behind the raster, at {0}")]
     TrailingBytes(usize),
     /// 10: the bytes are a picture, and there is no memory for it.

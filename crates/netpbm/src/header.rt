@@ -1,4 +1,4 @@
-//! What stands in front of the raster.
+//! What precedes the raster.
 ghost use Rattle.std.specs.Prelude.{◌≡◌, ◌≤◌, ◌⊎◌, length, IfOk};
 ghost use Rattle.netpbm.specs.Image.{InRange};
 ghost use Rattle.netpbm.specs.Reading.{magic_read, number_read, size_read, max_read, white_read, header_read};
@@ -16,7 +16,7 @@ pub enum Coding {
     Raw,
 }
 
-/// What a header says, and where the raster begins.
+/// What a header specifies, and where the raster begins.
 #[derive(Clone, Copy, Debug)]
 pub struct Header {
     pub coding: Coding,
@@ -87,7 +87,7 @@ struct Number {
     end: usize,
 }
 
-// The gap at a place, and the number behind it.
+// The gap at a place, and the number after it.
 #[tactic(auto, unfolding(crate::specs::Reading::number_read))]
 fn number_at(bytes: &[u8], at: usize) -> Result<Number, PicFault>
     requires { at ≤ length bytes.now }
@@ -102,7 +102,7 @@ fn number_at(bytes: &[u8], at: usize) -> Result<Number, PicFault>
     Err(stop_at(bytes, start, PicFault::HeaderCut(start)))
 }
 
-// A gap and a side behind it, and where its digits end.
+// A gap and a side after it, and where its digits end.
 #[tactic(auto, unfolding(crate::specs::Reading::size_read))]
 fn size_at(bytes: &[u8], at: usize) -> Result<(u32, usize), PicFault>
     requires { at ≤ length bytes.now }
@@ -117,7 +117,7 @@ fn size_at(bytes: &[u8], at: usize) -> Result<(u32, usize), PicFault>
     Ok((number.value, number.end))
 }
 
-// A gap and a greatest sample behind it, and where its digits end.
+// A gap and a greatest sample after it, and where its digits end.
 #[tactic(auto, unfolding(crate::specs::Reading::max_read))]
 fn max_at(bytes: &[u8], at: usize) -> Result<(u16, usize), PicFault>
     requires { at ≤ length bytes.now }
@@ -132,7 +132,7 @@ fn max_at(bytes: &[u8], at: usize) -> Result<(u16, usize), PicFault>
     Ok((number.value as u16, number.end))
 }
 
-// The place behind the one white byte that stands behind the greatest sample.
+// The place after the one white byte that follows the greatest sample.
 #[tactic(auto, unfolding(crate::specs::Reading::white_read))]
 fn white_at(bytes: &[u8], at: usize) -> Result<usize, PicFault>
     requires { at ≤ length bytes.now }

@@ -31,7 +31,7 @@ impl Model for Plane {
 }
 
 impl Plane {
-    /// No samples yet, and room for so many; none will be above `max`.
+    /// No samples yet, with capacity for `count`; none will be above `max`.
     ///
     /// # Errors
     ///
@@ -45,11 +45,11 @@ impl Plane {
         })
     }
 
-    /// Adds samples behind those that there are.
+    /// Adds samples after those that there are.
     ///
     /// # Errors
     ///
-    /// Fails only where memory is refused. A front of the samples may have been added then.
+    /// Fails only where memory is refused. Some of the first samples may have been added then.
     pub fn extend_from_slice(&mut self, samples: &[u16]) -> Result<(), AllocError>
         requires { All (λ sample. sample ≤ self.old.max) samples.now }
         ensures max { self.new.max ≡ self.old.max }
@@ -72,7 +72,7 @@ impl Plane {
         count_of(&self.samples)
     }
 
-    // Whether no sample is above `max`. Where none may be, none is looked at.
+    // Whether no sample is above `max`. If none can be, none is looked at.
     pub(crate) fn is_bounded(&self, max: u16) -> bool
         ensures { IsTrue result ↔ All (λ sample. sample ≤ max) self.now.samples }
     {
@@ -83,7 +83,7 @@ impl Plane {
     }
 }
 
-// Whether a plane has so many samples, none above `max`.
+// Whether a plane has `area` samples, none above `max`.
 pub(crate) fn is_made_plane(area: usize, max: u16, plane: &Plane) -> bool
     ensures { IsTrue result ↔ IsPlane area max plane.now.samples }
 {

@@ -8,7 +8,7 @@ use crate::raw_raster::narrow;
 use plane_samples::{Samples, SpacedBytes};
 use std::alloc::{AllocError, Global};
 
-// How many samples are narrowed at a time.
+// How many samples are converted to bytes at a time.
 const PIECE: usize = 512;
 
 /// The samples of a plane that grows.
@@ -18,7 +18,7 @@ pub enum MadeSamples {
     Words(Vec<u16>),
 }
 
-/// None yet, and room for so many, none of them above `max`.
+/// None yet, with capacity for `count`, none of them above `max`.
 pub fn no_samples(alloc: Global, max: u16, count: usize) -> Result<MadeSamples, AllocError>
     ensures none { IfOk result (λ samples. list_of samples ≡ []) }
     ensures holds { IfOk result (λ samples. Holds max samples) }
@@ -30,7 +30,7 @@ pub fn no_samples(alloc: Global, max: u16, count: usize) -> Result<MadeSamples, 
     }
 }
 
-/// Adds samples, or some of the first of them where memory runs out.
+/// Adds samples, or some of the first of them if memory runs out.
 pub fn add_samples(made: &mut MadeSamples, max: u16, samples: &[u16]) -> Result<(), AllocError>
     requires holds { Holds max made.old }
     requires bounded { All (λ sample. sample ≤ max) samples.now }

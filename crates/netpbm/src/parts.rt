@@ -5,7 +5,7 @@ ghost use Rattle.plane_samples.specs.declared.samples.Samples.TheVariants.{Bytes
 
 use plane_samples::{Samples, SpacedBytes};
 
-/// The samples from one place up to another: as they lie where they are words, else put into `room`.
+/// A view of the samples from one place up to another: in place if they are words, else copied into the buffer `room`.
 pub fn lend_part<'a>(
     room: &'a mut [u16],
     samples: &Samples<'a>,
@@ -40,7 +40,7 @@ fn copy_each(out: &mut [u16], samples: &Samples<'_>, start: usize, end: usize)
     }
 }
 
-/// The samples as bytes, where each is a byte and they lie one behind the other.
+/// The samples as bytes, if each is a byte and they are contiguous.
 pub fn whole_bytes<'a>(samples: &Samples<'a>) -> Option<&'a [u8]>
     ensures { IfSome result
         (λ bytes. (list : List ℕ) → IsSamples samples.now list → bytes.now ≡ list) }

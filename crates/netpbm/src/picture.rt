@@ -45,8 +45,8 @@ impl Model for Picture {
 }
 
 impl Picture {
-    /// A picture of these planes, or the planes back where a side, the greatest sample, the number
-    /// of planes, a plane's length or a sample is wrong.
+    /// A picture of these planes, or the planes back if a side, the greatest sample, the number of planes, a plane's length or a
+    /// sample is wrong.
     pub fn of(
         rows: u32,
         cols: u32,
@@ -177,7 +177,7 @@ impl Picture {
         self.rows as usize * self.cols as usize
     }
 
-    // The raster that is written, where it lies in memory as it stands.
+    // The raster that is written, if it lies in memory in this form.
     pub(crate) fn written(&self) -> Option<&[u8]>
         ensures { IfSome result
             (λ bytes. bytes.now ≡ raw_raster self.now.max (interleaved self.now.planes)) }
@@ -205,7 +205,7 @@ impl Picture {
     }
 }
 
-// The bytes of a grey plane, where they are what is written of it.
+// The bytes of a grey plane, if they are what is written of it.
 fn written_bytes(planes: &[Plane], max: u16) -> Option<&[u8]>
     ensures { IfSome result
         (λ bytes. bytes.now ≡ raw_raster max (interleaved (made_samples planes.now))) }
@@ -235,7 +235,7 @@ fn is_made_image(rows: u32, cols: u32, max: u16, planes: &[Plane]) -> bool
         && are_made_planes(rows as usize * cols as usize, max, planes)
 }
 
-// Whether a picture may have such sides, such a greatest sample and so many planes.
+// Whether a picture may have these sides, this greatest sample and this number of planes.
 fn are_sizes(rows: u32, cols: u32, max: u16, colours: usize) -> bool
     ensures { IsTrue result ↔ AreSizes rows cols max colours }
 {
@@ -254,14 +254,14 @@ fn are_sizes(rows: u32, cols: u32, max: u16, colours: usize) -> bool
     }
 }
 
-// Whether a picture may have a side so long.
+// Whether a picture may have a side of this length.
 fn is_side(side: u32) -> bool
     ensures { IsTrue result ↔ InRange 4096 side }
 {
     0 < side && side <= LONGEST_SIDE
 }
 
-// Whether each plane has so many samples, none above `max`.
+// Whether each plane has `area` samples, none above `max`.
 fn are_planes(area: usize, max: u16, planes: &[Vec<u16>]) -> bool
     ensures { IsTrue result ↔ All (λ plane. IsPlane area max plane.items) planes.now }
 {
@@ -275,14 +275,14 @@ fn are_made_planes(area: usize, max: u16, planes: &[Plane]) -> bool
     planes.iter().all(|plane| is_made_plane(area, max, plane))
 }
 
-// Whether a plane has so many samples, none above `max`.
+// Whether a plane has `area` samples, none above `max`.
 fn is_plane(area: usize, max: u16, plane: &Vec<u16>) -> bool
     ensures { IsTrue result ↔ IsPlane area max plane.now.items }
 {
     plane.len() == area && is_bounded(max, plane.as_slice())
 }
 
-/// Whether no sample is above `max`. It goes to the end, in a loop that is compiled to few steps.
+/// Whether no sample is above `max`. It always goes to the end, in a loop that is compiled to few steps.
 pub fn is_bounded(max: u16, samples: &[u16]) -> bool
     ensures { IsTrue result ↔ All (λ sample. sample ≤ max) samples.now }
 {

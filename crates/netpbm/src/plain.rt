@@ -7,7 +7,7 @@ use crate::fault::PicFault;
 use crate::text::{digits_at, stop_at, white_end};
 use std::alloc::Global;
 
-/// Reads a plain raster that begins at a place and has so many samples.
+/// Reads a plain raster of `count` samples that begins at `start`.
 pub fn read_plain(
     alloc: Global,
     bytes: &[u8],
@@ -27,7 +27,7 @@ pub fn read_plain(
     }
 }
 
-// The samples, in the room that was made for them.
+// The samples, in the buffer that was allocated for them.
 fn plain_samples(
     room: Vec<u16>,
     bytes: &[u8],
@@ -51,7 +51,7 @@ fn plain_samples(
     Ok(samples)
 }
 
-// Finds the fault of a plain raster, with no memory.
+// Finds the fault of a plain raster, without memory.
 fn check_plain(bytes: &[u8], start: usize, max: u16, count: usize) -> Result<(), PicFault>
     requires { start ≤ length bytes.now }
     ensures { Checks result (plain_read bytes.now start max count) }
@@ -64,7 +64,7 @@ fn check_plain(bytes: &[u8], start: usize, max: u16, count: usize) -> Result<(),
     end_at(bytes, at)
 }
 
-// White space, the sample behind it, and where its digits end.
+// White space, the sample after it, and where its digits end.
 #[tactic(auto, unfolding(crate::specs::Reading::sample_read))]
 fn sample_at(bytes: &[u8], at: usize, max: u16) -> Result<(u16, usize), PicFault>
     requires { at ≤ length bytes.now }
@@ -82,7 +82,7 @@ fn sample_at(bytes: &[u8], at: usize, max: u16) -> Result<(u16, usize), PicFault
     Ok((value as u16, end))
 }
 
-// Only white space may stand behind the last sample.
+// Only white space may follow the last sample.
 #[tactic(auto, unfolding(crate::specs::Reading::end_read))]
 fn end_at(bytes: &[u8], at: usize) -> Result<(), PicFault>
     requires { at ≤ length bytes.now }

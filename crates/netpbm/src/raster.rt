@@ -16,7 +16,7 @@ pub enum Raster {
     Kept(KeptRaster),
 }
 
-/// A raw raster behind the other bytes that it was read with.
+/// A raw raster after the other bytes that it was read with.
 #[derive(Debug, Drop)]
 pub struct KeptRaster {
     pub bytes: Vec<u8>,
@@ -25,7 +25,7 @@ pub struct KeptRaster {
     pub colours: usize,
 }
 
-/// The samples of a plane of a raw raster with so many in each.
+/// The samples of a plane of a raw raster with `area` samples in each.
 pub fn samples_in(raster: &[u8], max: u16, colours: usize, area: usize, plane: usize) -> Samples<'_>
     requires whole { length raster.now ≡ (colours * area) * width_of max }
     requires colours { (colours ≡ 1) ⊎ (colours ≡ 3) }
@@ -72,7 +72,7 @@ fn pairs_in(raster: &[u8], colours: usize, area: usize, plane: usize) -> SpacedP
     }
 }
 
-/// What is written of the planes of a raw raster with so many samples in each: the raster as it stands.
+/// What is written of the planes of a raw raster with `area` samples in each: the raster itself.
 pub fn as_written(raster: &[u8], max: u16, colours: usize, area: usize) -> &[u8]
     requires whole { length raster.now ≡ (colours * area) * width_of max }
     requires colours { (colours ≡ 1) ⊎ (colours ≡ 3) }

@@ -17,7 +17,7 @@ pub fn is_bounded_raster(raster: &[u8], max: u16) -> bool
     }
 }
 
-/// Whether no bytes spell a sample above `max`. Where it is so, no sample needs to be looked at.
+/// Whether no bytes spell a sample above `max`. If so, no sample needs to be looked at.
 pub fn takes_any_bytes(max: u16) -> bool
     ensures { OnTrue result ((bytes : List ℕ) → All (λ byte. byte ≤ 255) bytes
         → All (λ sample. sample ≤ max) (decoded max bytes)) }
@@ -28,7 +28,7 @@ pub fn takes_any_bytes(max: u16) -> bool
     max == 65535
 }
 
-// Whether no byte is above `max`. It goes to the end, in a loop that is compiled to few steps.
+// Whether no byte is above `max`. It always goes to the end, in a loop that is compiled to few steps.
 fn are_bytes_bounded(raster: &[u8], max: u16) -> bool
     ensures { OnTrue result (All (λ byte. byte ≤ max) raster.now) }
 {
@@ -41,7 +41,7 @@ fn are_bytes_bounded(raster: &[u8], max: u16) -> bool
     u16::from(greatest) <= max
 }
 
-// Whether no pair of bytes is above `max`. It goes to the end, in a loop that is compiled to few steps.
+// Whether no pair of bytes is above `max`. It always goes to the end, in a loop that is compiled to few steps.
 fn are_pairs_bounded(raster: &[u8], max: u16) -> bool
     ensures { OnTrue result (All (λ sample. sample ≤ max) (pairs raster.now)) }
 {

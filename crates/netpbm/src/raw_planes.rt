@@ -1,4 +1,4 @@
-//! Raw rasters, decoded piece by piece into the planes that they are of.
+//! Raw rasters, decoded piece by piece into their planes.
 ghost use Rattle.std.specs.Prelude.{◌≡◌, ◌≤◌, ◌-◌, ◌*◌, ◌⊎◌, ◌↔◌, length, take, slice_range, All, IsTrue, IfSome};
 ghost use Rattle.netpbm.specs.Colours.{separated};
 ghost use Rattle.netpbm.specs.Planes.{samples_of};
@@ -10,7 +10,7 @@ use crate::raw_bounds::takes_any_bytes;
 use crate::raw_raster::decode;
 use std::alloc::Global;
 
-/// The planes of a raw raster of so many pixels; none where a sample is above `max` or memory runs out.
+/// The planes of a raw raster of `area` pixels; none if a sample is above `max` or memory runs out.
 pub fn raw_planes(
     alloc: Global,
     raster: &[u8],
@@ -66,7 +66,7 @@ fn grey_samples(alloc: Global, raster: &[u8], max: u16, area: usize) -> Option<V
     Some(grey)
 }
 
-// The red, the green and the blue plane of a raster in which their samples stand in turn.
+// The red, the green and the blue plane of a raster of interleaved samples.
 #[tactic(auto, using(crate::proofs::RawReads::decoded_short))]
 fn coloured_planes(alloc: Global, raster: &[u8], max: u16, area: usize) -> Option<Vec<Vec<u16>>>
     requires { length (decoded max raster.now) ≡ 3 * area }
@@ -89,7 +89,7 @@ fn coloured_planes(alloc: Global, raster: &[u8], max: u16, area: usize) -> Optio
     apart.into_planes(alloc).ok()
 }
 
-// Decodes the samples from one place up to another, and says whether none is above `max`.
+// Decodes the samples from one place up to another, and returns whether none is above `max`.
 fn decode_bounded(out: &mut [u16], raster: &[u8], max: u16, start: usize, end: usize) -> bool
     requires order { start ≤ end }
     requires within { end ≤ length (decoded max raster.now) }

@@ -1,4 +1,4 @@
-//! Rasters of one byte or two a sample.
+//! Rasters with one byte or two per sample.
 ghost use Rattle.std.specs.Prelude.{◌≡◌, ◌≤◌, ◌<◌, ◌-◌, ◌*◌, ◌/◌, length, take, drop, slice_range, All, Ok, Err, IfSome, IfNone, MatchResult, OnOk};
 ghost use Rattle.std.specs.List.{flat_map};
 ghost use Rattle.netpbm.specs.Raw.{width_of, two_bytes, raw_raster, pairs, decoded, first_big};
@@ -13,7 +13,7 @@ pub fn sample_width(max: u16) -> usize
     if max < 256 { 1 } else { 2 }
 }
 
-/// Finds the fault of a raw raster that begins at a place and has so many samples.
+/// Finds the fault of a raw raster of `count` samples that begins at `start`.
 pub fn check_raw(bytes: &[u8], start: usize, max: u16, count: usize) -> Result<(), PicFault>
     requires place { start ≤ length bytes.now }
     requires count { count ≤ 50331648 }
@@ -36,7 +36,7 @@ pub fn check_raw(bytes: &[u8], start: usize, max: u16, count: usize) -> Result<(
     Ok(())
 }
 
-// The bytes of so many samples, or of fewer where no more are whole.
+// The bytes of `count` samples, or of fewer if no more are whole.
 fn whole_part(raster: &[u8], max: u16, count: usize) -> &[u8]
     ensures samples { decoded max result.now ≡ take count (decoded max raster.now) }
     ensures within { length result.now ≤ length raster.now }
@@ -124,7 +124,7 @@ fn join(out: &mut [u16], bytes: &[u8])
     }
 }
 
-/// Puts the samples in one byte or two into the front of `out`, and says how many bytes they are.
+/// Puts the samples in one byte or two into the front of `out`, and returns how many bytes they are.
 pub fn put_samples(out: &mut [u8], samples: &[u16], max: u16) -> usize
     requires room { width_of max * length samples.now ≤ length out.old }
     requires bounded { All (λ sample. sample ≤ max) samples.now }

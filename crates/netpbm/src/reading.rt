@@ -35,8 +35,8 @@ pub fn read(alloc: Global, bytes: &[u8]) -> Result<Picture, PicFault>
     read_picture(alloc, bytes)
 }
 
-/// Reads like `read` what the input spells from a place on, and keeps the input's bytes where they are raw, so that no sample is
-/// copied.
+/// Reads like `read` what the input spells from `start` on. If the raster is raw, the input's bytes are kept, so that no sample
+/// is copied.
 pub fn read_owned(alloc: Global, input: Vec<u8>, start: usize) -> Result<Picture, PicFault>
     requires { start ≤ length input.items }
     // What is read is spelled so.
@@ -52,7 +52,7 @@ pub fn read_owned(alloc: Global, input: Vec<u8>, start: usize) -> Result<Picture
     read_input(alloc, input, start)
 }
 
-// Each of some bytes is below 256, which is known of a slice alone. Nothing runs.
+// Each byte is below 256, which is known of a slice alone. No code runs.
 fn are_bytes(bytes: &[u8])
     ensures { (k : ℕ) → slice_index bytes.now k < 256 }
 {}
@@ -91,8 +91,8 @@ fn keep_raw(input: Vec<u8>, start: usize, header: &Header) -> Result<Picture, Pi
     Ok(Picture::from_raster(header.rows, header.cols, header.max, raster))
 }
 
-// Finds the fault of a raw raster. A whole one without fault is looked at once, and not at all where its bytes spell no sample
-// above the greatest.
+// Finds the fault of a raw raster. A whole one without fault is looked at once, or not at all if its bytes spell no sample above
+// the greatest.
 fn check_raster(bytes: &[u8], header: &Header) -> Result<(), PicFault>
     requires place { header.now.end ≤ length bytes.now }
     requires rows { InRange 4096 header.now.rows }
@@ -157,7 +157,7 @@ fn read_plain_planes(
     }
 }
 
-// The planes of a raster whose samples are written in bytes. Only where they cannot be had, their fault is looked for.
+// The planes of a raster whose samples are written in bytes. Their fault is looked for only if they cannot be had.
 fn read_raw_planes(alloc: Global, bytes: &[u8], header: &Header) -> Result<Vec<Vec<u16>>, PicFault>
     requires place { header.now.end ≤ length bytes.now }
     requires rows { InRange 4096 header.now.rows }

@@ -7,7 +7,7 @@ ghost use Rattle.netpbm.specs.Reading.{stop};
 
 use crate::fault::PicFault;
 
-/// The least number that no picture has. Greater ones are read as it.
+/// The least number that no picture has. Greater numbers are read as this one.
 pub const TOO_BIG: u32 = 65536;
 
 /// Whether a byte is a blank, TAB, CR or LF.
@@ -45,14 +45,14 @@ pub fn gap_end(bytes: &[u8], start: usize) -> usize
     at
 }
 
-// Whether a byte goes on with white space and comments: in a comment each byte does.
+// Whether a byte continues white space and comments: in a comment each byte does.
 fn goes_on(in_comment: bool, byte: u8) -> bool
     ensures { result ≡ may_stand in_comment byte }
 {
     in_comment || is_white(byte) || byte == b'#'
 }
 
-// Whether a comment is open behind a byte that goes on so.
+// Whether a comment is open after a byte that continues white space and comments.
 fn stays_open(in_comment: bool, byte: u8) -> bool
     ensures { result ≡ is_open_behind in_comment byte }
 {
@@ -80,7 +80,7 @@ pub fn digits_at(bytes: &[u8], start: usize) -> (u32, usize)
     (value, at)
 }
 
-/// The fault where a number should stand: what stands there is none, or the bytes are cut.
+/// The fault where a number should be: there is none, or the bytes are cut.
 pub fn stop_at(bytes: &[u8], at: usize, cut: PicFault) -> PicFault
     ensures { result ≡ stop cut bytes.now at }
 {

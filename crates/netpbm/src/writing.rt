@@ -16,7 +16,7 @@ use sha2::Digest;
 use std::alloc::{AllocError, Global};
 use streams::{Sink, WriteFailed, write_whole};
 
-// How many bytes a header has at most.
+// The most bytes of a header.
 const LONGEST_HEADER: usize = 32;
 
 // How many pixels are written at a time.
@@ -46,7 +46,7 @@ fn add_raster(bytes: &mut Vec<u8>, picture: &Picture) -> Result<(), AllocError>
     }
 }
 
-// Adds the raster of a picture, pixels for pixels.
+// Adds the raster of a picture, some pixels at a time.
 fn add_pixels(bytes: &mut Vec<u8>, picture: &Picture) -> Result<(), AllocError>
     ensures { OnOk result (bytes.new.items
         ≡ bytes.old.items ++ raw_raster picture.now.max (interleaved picture.now.planes)) }
@@ -90,7 +90,7 @@ fn write_raster<W: Sink>(writer: &mut W, picture: &Picture) -> Result<(), WriteF
     }
 }
 
-// Writes the raster of a picture, pixels for pixels.
+// Writes the raster of a picture, some pixels at a time.
 fn write_pixels<W: Sink>(writer: &mut W, picture: &Picture) -> Result<(), WriteFailed>
     ensures ok { OnOk result (Appends (W.contents writer.old) (W.contents writer.new)
         (raw_raster picture.now.max (interleaved picture.now.planes))) }
@@ -131,7 +131,7 @@ fn hash_raster<D: Digest>(hasher: &mut D, picture: &Picture)
     }
 }
 
-// Adds the raster of a picture to the message that a hasher holds, pixels for pixels.
+// Adds the raster of a picture to the message that a hasher holds, some pixels at a time.
 fn hash_pixels<D: Digest>(hasher: &mut D, picture: &Picture)
     ensures { (message : List ℕ) → D.holds hasher.old message → D.holds hasher.new
         (message ++ raw_raster picture.now.max (interleaved picture.now.planes)) }
@@ -153,8 +153,8 @@ fn raster_len(picture: &Picture) -> usize
     picture.plane_count() * (picture.area() * sample_width(picture.max()))
 }
 
-// Puts the bytes of the pixels from `start` on, of as many as are written at a time, into the front of `out`. Says where these pixels
-// end, and how many bytes they are.
+// Puts the bytes of the pixels from `start` on, of as many as are written at a time, into the front of `out`. Returns where these
+// pixels end, and how many bytes they are.
 fn put_next(out: &mut [u8], picture: &Picture, start: usize) -> (usize, usize)
     requires before { start < picture.now.rows * picture.now.cols }
     requires room { 98304 ≤ length out.old }
@@ -169,7 +169,7 @@ fn put_next(out: &mut [u8], picture: &Picture, start: usize) -> (usize, usize)
     (end, len)
 }
 
-// Puts the bytes of these pixels into the front of `out`, and says how many they are.
+// Puts the bytes of these pixels into the front of `out`, and returns how many they are.
 fn put_pixels(out: &mut [u8], picture: &Picture, start: usize, end: usize) -> usize
     requires image { IsImage picture.now }
     requires order { start ≤ end }
@@ -214,7 +214,7 @@ fn byte_planes(picture: &Picture) -> Option<(&[u8], &[u8], &[u8])>
     Some((red, green, blue))
 }
 
-// The samples of these pixels of a plane, which may be put into `room`.
+// The samples of these pixels of a plane, which may be copied into the buffer `room`.
 fn part_of<'a>(
     room: &'a mut [u16],
     picture: &'a Picture,
@@ -233,7 +233,7 @@ fn part_of<'a>(
     lend_part(room, &picture.samples(plane), start, end)
 }
 
-// Puts the bytes of red, green and blue samples in turn into the front of `out`, and says how many they are.
+// Puts the bytes of interleaved red, green and blue samples into the front of `out`, and returns how many they are.
 fn put_colours(out: &mut [u8], red: &[u16], green: &[u16], blue: &[u16], max: u16) -> usize
     requires few { length red.now ≤ 16384 }
     requires green { length green.now ≡ length red.now }
@@ -250,7 +250,7 @@ fn put_colours(out: &mut [u8], red: &[u16], green: &[u16], blue: &[u16], max: u1
     put_samples(out, &in_turn[..3 * red.len()], max)
 }
 
-// Puts the header into the front of `out`, and says how many bytes it has.
+// Puts the header into the front of `out`, and returns how many bytes it has.
 #[tactic(auto, using(crate::proofs::Decimals::short_decimal))]
 fn put_header(out: &mut [u8], picture: &Picture) -> usize
     requires { 32 ≤ length out.old }
@@ -273,7 +273,7 @@ fn put_header(out: &mut [u8], picture: &Picture) -> usize
     put_byte(out, at, b'\n')
 }
 
-// Puts a byte at a place of `out`, and says where the next one goes.
+// Puts a byte at a place of `out`, and returns where the next one goes.
 fn put_byte(out: &mut [u8], at: usize, byte: u8) -> usize
     requires { at < length out.old }
     ensures end { result ≡ at + 1 }
@@ -283,7 +283,7 @@ fn put_byte(out: &mut [u8], at: usize, byte: u8) -> usize
     at + 1
 }
 
-// Puts the digits of a number at a place of `out`, and says where they end.
+// Puts the digits of a number at a place of `out`, and returns where they end.
 #[tactic(auto, using(crate::proofs::Decimals::more_digits))]
 fn put_number(out: &mut [u8], start: usize, number: u32) -> usize
     requires { start + length (decimal number) ≤ length out.old }

@@ -1,4 +1,4 @@
--- A history of a node beside events of a world: which of them do to one node of the world what the history did to the node.
+-- Events of a world that do to one of its nodes what a history did to a node.
 use Rattle.std.specs.Prelude.{◌≡◌, ℕ, List, [], ◌∷◌, Some, slice_get, slice_set}
 use Rattle.books.specs.Histories.{Node}
 use Rattle.books.specs.Updates.{state_of}
@@ -14,7 +14,7 @@ use Rattle.tile_fact.specs.declared.update.Update.{Update}
 abbrev pub node_in : Network → ℕ → Node
 node_in w n = record { held = held w n; kept = kept w n }
 
--- the world with this in place of node n
+-- the world with this state of node n
 abbrev pub with_node : Network → ℕ → Node → Network
 with_node w n node = record w { nodes = slice_set w.nodes n (record { held = node.held; kept = node.kept }) }
 
@@ -23,16 +23,16 @@ abbrev pub Runs : Work → Network → List Step → Network → Type 0
 Runs u w [] new = new ≡ w
 Runs u w (e ∷ events) new = (next : Network) × Accepts u w e next × Runs u next events new
 
--- the events with the newest first, behind which stand those before them
+-- the events with the newest first, followed by those before them
 abbrev pub newest_first : List Step → List Step → List Step
 newest_first [] before = before
 newest_first (e ∷ events) before = newest_first events (e ∷ before)
 
--- message k is for node n, and says these updates
+-- message k is for node n, and has these updates
 abbrev pub Brings : List Sent → ℕ → ℕ → List Update → Type 0
 Brings messages n k updates = slice_get messages k ≡ Some (record { to = n; state = state_of updates })
 
--- what was taken came by a message, whoever sent it; what was lent is no event, but what another one reads
+-- what was taken came by a message from any sender. Lending is no event of the world
 abbrev pub Plays : List Sent → ℕ → List Event → List Step → Type 0
 Plays messages n [] events = events ≡ []
 Plays messages n (Lent keys retired ∷ history) events = Plays messages n history events

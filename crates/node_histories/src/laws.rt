@@ -1,4 +1,4 @@
-//! What the definitions amount to. A law is a function whose clauses are the law.
+//! Laws of the definitions. A law is a function whose clauses are the law.
 
 ghost use Rattle.books.specs.Histories.{replay, replay_from};
 ghost use Rattle.books.specs.declared.event.Event.{Event};
@@ -9,8 +9,9 @@ ghost use Rattle.gossip_events.specs.declared.event.Event.{Event as Step};
 ghost use Rattle.node_histories.specs.Playing.{Plays, Runs, newest_first, node_in, with_node};
 ghost use Rattle.std.specs.Prelude.{◌≡◌, ◌<◌, ℕ, [], List, length};
 
-/// The replay of a history is what deliveries, keeps and restarts do to one node of a world: such events are accepted, they leave the
-/// node as the replay does, and change nothing else. For each history there are messages and events that do to a node what it did.
+/// The replay of a history is what its deliveries, keeps and restarts do to one node of a world. A world accepts these events.
+/// They leave the node as the replay does, and change nothing else. For each history there are messages and events that do the
+/// same to a node.
 pub fn histories_replay_in_worlds()
     ensures runs { (u : Work) (w : Network) (n : ℕ) (h : List Event) (events : List Step)
         → n < length w.nodes → Plays w.messages n h events
@@ -22,8 +23,7 @@ pub fn histories_replay_in_worlds()
         → (messages : List Sent) × (events : List Step) × Plays messages n h events }
 {}
 
-/// So what a history leaves held is what the node took by those events, and what it leaves kept is what the node had taken at its last
-/// keep.
+/// After a history a node holds what it took by those events. It keeps what it had taken at its last keep.
 pub fn histories_leave_what_was_taken()
     ensures held { (messages : List Sent) (n : ℕ) (h : List Event) (events : List Step)
         → Plays messages n h events

@@ -1,4 +1,4 @@
-//! Histories of nodes beside events of worlds: a node that runs is a node of a world, whose events came from anybody.
+//! Histories of nodes and events of worlds: a running node is a node of a world whose messages may come from any sender.
 #![tactic(auto)]
 
 pub mod laws;

@@ -1,4 +1,4 @@
--- What a state answers for a job, and why there is no answer. A job is told by the identity of its program and its pipeline.
+-- What a state answers for a job, and why there is no answer. A job is identified by its program's identity and its pipeline.
 use Rattle.std.specs.Prelude.{◌≡◌, ℕ, List, true, false}
 use Rattle.accumulators.specs.declared.answer.Answer.{Answer}
 use Rattle.identity.specs.declared.job_ids.Ids.{Ids}

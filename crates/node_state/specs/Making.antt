@@ -1,4 +1,4 @@
--- What a node makes of a tile from what it holds, and why it makes nothing.
+-- What a node makes of a tile from the facts that it holds, and why it makes nothing.
 use Rattle.std.specs.Prelude.{◌≡◌, Bool, List, true, false}
 use Rattle.catalog.specs.Entries.{Entry}
 use Rattle.fact_audit.specs.TrueFacts.{HasJob}
@@ -11,11 +11,11 @@ use Rattle.held_facts.specs.declared.make_fault.MakeFault.{MakeFault}
 use Rattle.held_facts.specs.declared.make_fault.MakeFault.TheVariants as fault
 use Rattle.node_state.specs.States.{State, retires}
 
--- the fact's job is not retired, and the fact is made of the held facts
+-- the fact's job is not retired, and the fact is made from the held facts
 abbrev pub IsMade : List Entry → State → List Bool → Fact → Type 0
 IsMade catalog s inlining fact = (retires s (ids_in fact.key) ≡ false) × held.IsMade catalog s.facts inlining fact
 
--- a key that names no job or no tile of it has the fault of that, then one of a retired job; for all others it is that of the held facts
+-- a key of no job or of no tile has that fault first, then that of a retired job; all other faults are those of the held facts
 abbrev pub IsMakeFault : List Entry → State → List Bool → Key → MakeFault → Type 0
 IsMakeFault catalog s inlining key fault.Foreign = held.IsMakeFault catalog s.facts inlining key fault.Foreign
 IsMakeFault catalog s inlining key fault.NoSuchTile = held.IsMakeFault catalog s.facts inlining key fault.NoSuchTile

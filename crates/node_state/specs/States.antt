@@ -1,5 +1,5 @@
--- The state of a node: the facts that it holds, true or not, and the identities of the jobs that it knows to be retired, of which it
--- holds no fact.
+-- The state of a node: the facts that it holds, true or not, and the identities of the jobs that it knows to be retired. It holds
+-- no fact of a retired job.
 use Rattle.std.specs.Coded.{Coded, code_by, coded×}
 use Rattle.std.specs.Prelude.{◌+◌, ℕ, List, length, refl}
 use Rattle.identity.specs.declared.job_ids.Ids.{Ids}

@@ -1,4 +1,4 @@
-//! What a node answers for a job, and what it lacks for that.
+//! What a node answers for a job, and which facts it lacks for that.
 
 ghost use Rattle.held_facts.specs.HeldAnswers.{missing_keys};
 ghost use Rattle.job.specs.Kept.{pipeline_in, program_id_in};
@@ -18,8 +18,8 @@ use job::Job;
 use std::alloc::AllocError;
 
 impl<S: FactStore> NodeState<S> {
-    /// The keys of the tiles of the job's outputs and accumulators of which nothing is held, rising: all, if the job is retired.
-    /// What the program is given is hashed at most once.
+    /// The keys of the tiles of the job's outputs and accumulators of which no fact is held, rising: all of them, if the job is
+    /// retired. The job's input is hashed at most once.
     ///
     /// # Errors
     ///
@@ -32,13 +32,14 @@ impl<S: FactStore> NodeState<S> {
         self.held.missing(job)
     }
 
-    /// The answer of a job by the facts that are held of its outputs and accumulators, true or not: the picture of the numbers, each
-    /// cut to 0 and the greatest sample, and in each bin of an accumulator what its partials have there, joined.
+    /// The answer of a job by the held facts of its outputs and accumulators, whether these are true or not. The picture has
+    /// their numbers, each clamped to 0 and the greatest sample. Each bin of an accumulator has its partials' numbers there,
+    /// joined.
     ///
     /// # Errors
     ///
-    /// Fails where the job is retired; at the least wanted key of which not exactly one fact is held, or one that does not fit the
-    /// tile, before memory is taken; and where memory is refused.
+    /// Fails where the job is retired. Fails at the least wanted key of which not exactly one fact is held, or one that does not
+    /// fit the tile, before memory is allocated. Fails where memory is refused.
     pub fn answer(&self, job: &Job) -> Result<Answer, AnswerFault>
         ensures answer { IfOk result
             (IsHeldAnswer self.now (program_id_in job.now) (pipeline_in job.now)) }

@@ -11,8 +11,8 @@ use identity::Key;
 use tile_fact::Fact;
 
 impl<S: FactStore> NodeState<S> {
-    /// All held facts of the keys, each once, rising; or the least key of which nothing is held, as of a retired job. Keys may stand
-    /// in any order and more than once.
+    /// All held facts of the keys, each once, rising. Else the least key of which no fact is held, as of a retired job. Keys may
+    /// be in any order and may be repeated.
     pub fn lend(&self, keys: &[Key]) -> Result<Vec<Fact>, LendFault>
         ensures lent { IfOk result (λ facts. facts.items ≡ facts_in (lent self.now keys.now)) }
         ensures held { IfOk result (λ _. AreHeld self.now.facts keys.now) }
@@ -21,7 +21,7 @@ impl<S: FactStore> NodeState<S> {
         self.held.lend(keys)
     }
 
-    /// The state of the facts that [`lend`](NodeState::lend) answers and of all retired jobs.
+    /// The state of the facts that [`lend`](NodeState::lend) returns and of all retired jobs.
     pub fn lend_state(&self, keys: &[Key]) -> Result<NodeState<S>, LendFault>
         ensures lent { IfOk result (λ state. state ≡ lent self.now keys.now) }
         ensures held { IfOk result (λ _. AreHeld self.now.facts keys.now) }

@@ -1,4 +1,4 @@
-//! Facts that a node makes of what it holds.
+//! Facts that a node makes from the facts that it holds.
 
 ghost use Rattle.fact_audit.specs.TrueFacts.{IsTrueFact};
 ghost use Rattle.held_facts.specs.Making.{AreNeedsTrue};
@@ -20,8 +20,8 @@ use job::Job;
 use tile_fact::Fact;
 
 impl<S: FactStore> NodeState<S> {
-    /// The fact of the key, made from held facts of the tiles that its tile needs by the schedule, which is to be one of the key's job.
-    /// Where these facts are true, so is the fact. The state stays as it is.
+    /// The fact of the key, made from held facts of the tiles that its tile needs by the schedule, which must be one of the key's
+    /// job. If these facts are true, so is the result. The state does not change.
     ///
     /// # Errors
     ///

@@ -14,8 +14,8 @@ use std::alloc::{AllocError, AllocFailed, Global};
 use std::marker::Model;
 use tile_fact::{Fact, encode};
 
-/// What a node knows: facts, each once, true or not, and which jobs are retired. Of these it holds no fact. A state takes its memory
-/// from the allocator that it is made with.
+/// What a node knows: facts, each once, true or not, and which jobs are retired. It holds no fact of a retired job. A state
+/// allocates its memory from the allocator that it is made with.
 #[derive(Drop)]
 pub struct NodeState<S: FactStore = TableFacts> {
     pub(crate) alloc: Global,
@@ -36,7 +36,7 @@ impl<S: FactStore> Model for NodeState<S> {
 }
 
 impl<S: FactStore> NodeState<S> {
-    /// The state that holds no fact and knows of no retired job. No memory is taken.
+    /// The state that holds no fact and knows of no retired job. No memory is allocated.
     pub fn new(alloc: Global) -> NodeState<S>
         ensures { result ≡ nothing }
     {
@@ -68,7 +68,7 @@ impl<S: FactStore> NodeState<S> {
         &self.held
     }
 
-    /// The identities of the jobs that are retired, rising. No memory is taken.
+    /// The identities of the jobs that are retired, rising. No memory is allocated.
     pub fn retired(&self) -> &[Ids]
         ensures ids { result.now ≡ retired_in self.now }
         ensures state { IsState self.now }
@@ -84,8 +84,8 @@ impl<S: FactStore> NodeState<S> {
         self.retired.has(ids)
     }
 
-    /// Adds a fact, unless its job is retired, and tells whether it was new. Where memory runs out for a new fact it is handed
-    /// back, and the state is as it was.
+    /// Adds a fact, unless its job is retired, and reports whether it was new. Where memory runs out for a new fact it is handed
+    /// back, and the state is unchanged.
     pub fn take(&mut self, fact: Fact) -> Result<Taken, AllocFailed<Fact>>
         ensures added { OnOk result (self.new ≡ with_fact self.old fact) }
         ensures new { IfOk result (λ taken. taken ≡ taken_of self.old fact) }
@@ -100,7 +100,8 @@ impl<S: FactStore> NodeState<S> {
         self.held.take(fact)
     }
 
-    /// Retires a job, whose facts are held no longer, and tells whether it was new. Where memory runs out the state is as it was.
+    /// Retires a job, drops the job's facts, and reports whether the retirement was new. Where memory runs out the state is
+    /// unchanged.
     pub fn retire(&mut self, ids: &Ids) -> Result<Taken, AllocError>
         ensures retired { OnOk result (self.new ≡ with_retired self.old ids.now) }
         ensures new { IfOk result (λ taken. taken ≡ retired_of self.old ids.now) }
@@ -115,8 +116,8 @@ impl<S: FactStore> NodeState<S> {
         Ok(Taken::New)
     }
 
-    /// Adds what another state knows, and tells how many facts and retirements of the new state the old one lacked. Where memory
-    /// runs out the state is as it was.
+    /// Adds what another state knows, and reports how many facts and retirements of the new state the old one lacked. Where
+    /// memory runs out the state is unchanged.
     pub fn merge(&mut self, other: &NodeState<S>) -> Result<usize, AllocError>
         ensures joined { OnOk result (self.new ≡ join self.old other.now) }
         ensures new { IfOk result (λ count. count ≡ count_lacked self.old self.new) }
@@ -131,7 +132,7 @@ impl<S: FactStore> NodeState<S> {
         Ok(new - again + more)
     }
 
-    /// How many facts of the key are held: none, one or several; or that its job is retired. No memory is taken.
+    /// How many facts of the key are held: none, one or several; or that its job is retired. No memory is allocated.
     pub fn knows(&self, key: &Key) -> Known
         ensures { result ≡ known_of self.now key.now }
     {
@@ -142,7 +143,8 @@ impl<S: FactStore> NodeState<S> {
         }
     }
 
-    /// The fact file of the state. More than 4,294,967,295 facts or retired jobs have none, and are answered as if memory ran out.
+    /// The fact file of the state. For more than 4,294,967,295 facts or retired jobs there is none: the result is the same as if
+    /// memory ran out.
     pub fn export(&self) -> Result<Vec<u8>, AllocError>
         ensures file { IfOk result
             (λ bytes. bytes.items ≡ fact_file (retired_in self.now) (facts_in self.now)) }

@@ -3,7 +3,7 @@ use Rattle.std.specs.Prelude.{ℕ, ◌≡◌, ◌+◌, ◌*◌, ◌<◌, List, l
 use Rattle.plane_samples.specs.declared.samples.Samples.{Samples}
 use Rattle.plane_samples.specs.declared.samples.Samples.TheVariants.{Words, Bytes, Pairs}
 
--- how many they are
+-- the number of samples
 abbrev pub count_in : Samples → ℕ
 count_in (Words words) = length words.now
 count_in (Bytes spaced) = spaced.count

@@ -31,7 +31,7 @@ impl Samples<'_> {
     ghost use Rattle.std.specs.Prelude.{◌≡◌, ◌<◌};
     ghost use Rattle.plane_samples.specs.Samples.{count_in, sample_in};
 
-    /// How many they are.
+    /// The number of samples.
     pub fn count(&self) -> usize
         ensures { result ≡ count_in self.now }
     {

@@ -12,14 +12,14 @@ moves puts takes = record { puts = puts; takes = takes }
 abbrev pub IsTrueParcel : List Entry → Parcel → Type 0
 IsTrueParcel catalog parcel = AreTrue catalog parcel.updates.items
 
--- the mailbox has true parcels alone, whatever was put and taken by which pass
+-- the mailbox has only true parcels, whatever was put and taken by which pass
 abbrev pub HasTrueParcels : List Entry → List Parcel → List Moves → Type 0
 HasTrueParcels catalog parcels passes = All (IsTrueParcel catalog) parcels
 
--- the parcel is put, behind all that was put before, and nothing is taken
+-- the parcel is put, after all that was put before, and nothing is taken
 abbrev pub Puts : Moves → Parcel → Moves → Type 0
 Puts before parcel after = after ≡ moves (before.puts ++ parcel ∷ []) before.takes
 
--- the parcel, which has true updates, is taken, behind all that was taken before, and nothing is put
+-- the parcel, which has true updates, is taken, after all that was taken before, and nothing is put
 abbrev pub Takes : List Entry → Moves → Parcel → Moves → Type 0
 Takes catalog before parcel after = (after ≡ moves before.puts (before.takes ++ parcel ∷ [])) × IsTrueParcel catalog parcel

@@ -1,4 +1,4 @@
-//! Mailboxes for updates, which threads share. Only parcels of true updates are put into one, so each that is taken out has true updates.
+//! Mailboxes for updates, which threads share. Only parcels of true updates are put in, so only such parcels are taken out.
 #![tactic(auto)]
 
 mod line;

@@ -1,4 +1,4 @@
-//! A mailbox and a pass of it.
+//! A mailbox with a pass for it.
 
 ghost use Rattle.std.specs.Prelude.{◌≡◌, ◌++◌, ◌∷◌, [], IfErr, IfNone, IfSome, OnOk};
 ghost use Rattle.crossbeam_queue.specs.Passes.{IsPassOf, view};
@@ -9,7 +9,7 @@ use crate::post::{Pass, Post};
 use named_catalogs::NamedCatalog;
 use std::sync::Wait;
 
-/// One thread's way to a mailbox: the mailbox, and a pass that is one of it.
+/// One thread's way to a mailbox: the mailbox, and a pass for it.
 #[derive(Drop)]
 pub struct Line<'a, C: NamedCatalog> {
     post: &'a Post<C>,
@@ -18,7 +18,7 @@ pub struct Line<'a, C: NamedCatalog> {
 }
 
 impl<'a, C: NamedCatalog> Line<'a, C> {
-    /// A way to this mailbox, by a new pass. No memory is taken.
+    /// A way to this mailbox, by a new pass. No memory is allocated.
     pub fn to(post: &'a Post<C>) -> Line<'a, C>
         ensures { view result.pass.seat ≡ moves [] [] }
     {

@@ -10,7 +10,7 @@ pub struct Parcel {
     pub updates: Vec<Update>,
 }
 
-/// What was put and taken by one pass, in order. Contracts alone speak of it: no value of it is made.
+/// What was put and taken by one pass, in order. It is used in contracts only: no value of it is made.
 pub struct Moves {
     pub puts: LinkedList<Parcel>,
     pub takes: LinkedList<Parcel>,

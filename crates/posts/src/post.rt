@@ -15,14 +15,14 @@ use std::sync::Wait;
 
 type Queue<C> = RuledArrayQueue<Parcel, Moves, TrueParcels<C>>;
 
-/// A mailbox that threads share, which has room for so many parcels. All updates in it are true in the catalog that its type names.
+/// A mailbox of bounded capacity that threads share. All updates in it are true in the catalog that its type names.
 #[derive(Drop)]
 pub struct Post<C: NamedCatalog> {
     pub queue: Queue<C>,
 }
 
-/// The right of one thread to put parcels into a mailbox and to take them out. Contracts see what was put and taken by it. It has no
-/// bytes.
+/// The right of one thread to put parcels into a mailbox and to take them out. Contracts see what was put and taken by it. It has
+/// no bytes.
 #[derive(Drop)]
 pub struct Pass<C: NamedCatalog> {
     pub seat: crossbeam_queue::Pass<Parcel, Moves>,
@@ -30,7 +30,7 @@ pub struct Pass<C: NamedCatalog> {
 }
 
 impl<C: NamedCatalog> Post<C> {
-    /// An empty mailbox with room for so many parcels, and so many passes for it, by which nothing was put or taken.
+    /// An empty mailbox of this capacity, and the requested number of passes for it, by which nothing was put or taken.
     ///
     /// # Errors
     ///
@@ -55,7 +55,7 @@ impl<C: NamedCatalog> Post<C> {
         Ok((post, passes))
     }
 
-    // So many passes more.
+    // `count` more passes.
     fn passes(&self, alloc: Global, count: u32) -> Result<Vec<Pass<C>>, AllocError>
         ensures count { IfOk result (λ all. length all.items ≡ count) }
         ensures fresh { IfOk result (λ all. All
@@ -70,7 +70,7 @@ impl<C: NamedCatalog> Post<C> {
         Ok(all)
     }
 
-    /// One pass more, by which nothing was put or taken. No memory is taken.
+    /// One more pass, by which nothing was put or taken. No memory is allocated.
     pub fn pass(&self) -> Pass<C>
         ensures { IsPassOf self.now.queue result.seat × (view result.seat ≡ moves [] []) }
     {
@@ -80,7 +80,8 @@ impl<C: NamedCatalog> Post<C> {
         }
     }
 
-    /// Puts a parcel of true updates in. It is handed back where the mailbox was full at some moment of the call. No memory is taken.
+    /// Puts a parcel of true updates in. It is handed back where the mailbox was full at some moment of the call. No memory is
+    /// allocated.
     pub fn put<R: Wait>(&self, rt: &R, pass: &mut Pass<C>, parcel: Parcel) -> Result<(), Parcel>
         requires pass { IsPassOf self.now.queue pass.old.seat }
         requires is_true { IsTrueParcel C.catalog parcel }
@@ -94,8 +95,8 @@ impl<C: NamedCatalog> Post<C> {
             .push_as::<TrueParcels<C>, R>(rt, &mut pass.seat, parcel)
     }
 
-    /// Takes a parcel out, whose updates are true. There is none where the mailbox was empty at some moment of the call. No memory is
-    /// taken.
+    /// Takes a parcel out, whose updates are true. There is none where the mailbox was empty at some moment of the call. No
+    /// memory is allocated.
     pub fn take<R: Wait>(&self, rt: &R, pass: &mut Pass<C>) -> Option<Parcel>
         requires pass { IsPassOf self.now.queue pass.old.seat }
         ensures pass { IsPassOf self.now.queue pass.new.seat }

@@ -5,7 +5,7 @@ use crossbeam_queue::protocol::{Lesson, Outcome, Protocol};
 use named_catalogs::NamedCatalog;
 use std::marker::PhantomData;
 
-/// The parcels in a mailbox have true updates alone. It is also what a put tells its pass: that the parcel is put.
+/// The parcels in a mailbox have only true updates. It is also what a put records on its pass: that the parcel is put.
 pub struct TrueParcels<C> {
     of: PhantomData<C>,
 }
@@ -29,7 +29,7 @@ impl<C: NamedCatalog> Lesson<Parcel, Moves> for TrueParcels<C> {
     ghost fact = { λ v items. Unit {0} };
 }
 
-/// What a take tells its pass: that the parcel is taken, and that its updates are true.
+/// What a take records on its pass: that the parcel is taken, and that its updates are true.
 pub struct Taking<C> {
     of: PhantomData<C>,
 }

@@ -1,4 +1,4 @@
--- When receipts account for a history. They come in lists, one of each caller.
+-- When receipts account for a history. They come in lists, one for each caller.
 use Rattle.std.specs.List.{AllPairs}
 use Rattle.std.specs.Prelude.{◌≡◌, ℕ, ◌<◌, ◌≤◌, ◌==◌, ◌⊎◌, if◌then◌else◌, List, [], ◌∷◌, ◌++◌, All, Some, length, slice_get, sum_by}
 use Rattle.books.specs.declared.event.Event.{Event}
@@ -20,7 +20,7 @@ times k receipts = sum_by (λ r. if r.number == k then 1 else 0) receipts
 abbrev pub times_all : ℕ → List (List Receipt) → ℕ
 times_all k lists = sum_by (times k) lists
 
--- each receipt has the history's event at its number, each list rises, and no number stands twice
+-- each receipt has the history's event at its number, each list rises, and no number occurs twice
 pub record AreFit (history : List Event) (lists : List (List Receipt)) : Type 0 where
   pub shown : All (All (IsShown history)) lists
   pub rising : All (AllPairs IsBefore) lists
@@ -33,8 +33,8 @@ pub record AccountFor (history : List Event) (lists : List (List Receipt)) : Typ
 
 -- ---- why they do not
 
--- list after list, the first receipt with which they do not fit: the history has another event there, or none, an earlier receipt has
--- its number, or it is not above the one before it in its list
+-- list after list, the first receipt that does not fit: the history has another event at its number, or none; an earlier receipt
+-- has its number; or its number is not above the one before it in its list
 pub record IsFirstUnfit (history : List Event) (lists : List (List Receipt)) (n : ℕ) : Type 0 where
   pub earlier : List (List Receipt)
   pub before : List Receipt

@@ -1,4 +1,4 @@
-//! Receipts beside a history.
+//! Comparison of receipts with a history.
 
 ghost use Rattle.books.specs.declared.receipt.Receipt.{Receipt as ReceiptType};
 ghost use Rattle.receipts.specs.Accounts.{AccountFor, IsCloseFault, IsFirstUnfit, IsShown};
@@ -12,13 +12,13 @@ use crate::same::is_same;
 use books::{Event, Receipt};
 use std::alloc::Global;
 
-/// Whether receipts account for a history: each list rises, each receipt has the history's event at its number, and each event has one
-/// receipt. Beside each list stands whose it is, which is not asked for.
+/// Whether receipts account for a history: each list rises, each receipt has the history's event at its number, and each event
+/// has one receipt. Each list comes with its owner, which is not used.
 ///
 /// # Errors
 ///
-/// Fails at the first receipt, list after list, that does not fit; then at the least number that is on no receipt; and where memory is
-/// refused.
+/// Fails at the first receipt, list after list, that does not fit. Else fails at the least number that is on no receipt. Fails
+/// where memory is refused.
 pub fn match_receipts<T>(
     alloc: Global,
     history: &[Event],
@@ -40,7 +40,7 @@ pub fn match_receipts<T>(
     }
 }
 
-// Marks the numbers of one list more, or gives that of the first receipt that does not fit.
+// Marks the numbers of one more list, or returns the number of the first receipt that does not fit.
 fn match_list(history: &[Event], receipts: &[Receipt], seen: &mut [bool]) -> Result<(), u64>
     requires { length seen.old ≡ length history.now }
     ensures seen { (earlier : List (List ReceiptType)) → AreSeen history.now earlier seen.old

@@ -1,4 +1,4 @@
-//! Whether two events are one.
+//! Whether two events are equal.
 
 ghost use Rattle.std.specs.Prelude.{◌≡◌, ◌↔◌, IsTrue};
 
@@ -8,7 +8,7 @@ use identity::{Ids, Key};
 use tile_fact::Update;
 use tile_fact::laws::order_of_facts;
 
-/// Things of which it can be told whether two are one.
+/// Values that can be compared for equality.
 trait Same {
     fn is_one(&self, other: &Self) -> bool
         ensures { IsTrue result ↔ (self.now ≡ other.now) };

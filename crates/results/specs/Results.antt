@@ -20,7 +20,7 @@ bin_text n = 32 ∷ signed_decimal n
 abbrev pub ends_text : Ends → List ℕ
 ends_text ends = 32 ∷ [] ++ signed_decimal ends.lo ++ 46 ∷ 46 ∷ [] ++ signed_decimal ends.hi ++ 58 ∷ []
 
--- the name, the first and the last bin, what is in each bin, LF
+-- the name, the first and the last bin, the value of each bin, LF
 abbrev pub total_line : List ℕ → Ends → List ℤ → List ℕ
 total_line name ends bins = name ++ ends_text ends ++ flat_map bin_text bins ++ 10 ∷ []
 
@@ -39,10 +39,10 @@ total_lines job = flat_map (line_at job) (range_with_len 0 (length job.stages))
 
 -- ---- the result
 
--- the raw spelling of the picture, if the job has an output, and the lines behind it
+-- the raw spelling of the picture, if the job has an output, then the lines of its accumulators
 abbrev pub result_bytes : Pipeline → List ℕ
 result_bytes job = option_map_or spelling (image job) [] ++ total_lines job
 
--- what `eval` and `run` say of a job
+-- what `eval` and `run` report of a job
 abbrev pub SaysResult : List Declaration → Pipeline → List ℕ → Type 0
 SaysResult tree job bytes = bytes ≡ result_bytes job

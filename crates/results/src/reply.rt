@@ -9,7 +9,7 @@ ghost use Rattle.results.specs.Replies.{reply_bytes};
 use netpbm::{Picture, write_raw};
 use streams::{Sink, WriteFailed, write_whole};
 
-/// A picture, if there is one, and lines behind it.
+/// A picture, if there is one, and lines after it.
 #[derive(Debug, Drop)]
 pub struct Reply {
     pub picture: Option<Picture>,
@@ -31,7 +31,7 @@ impl Reply {
     }
 }
 
-/// Writes the raw spelling of the picture, if there is one, and the lines behind it. It takes no memory.
+/// Writes the raw spelling of the picture, if there is one, then the lines. It allocates no memory.
 pub fn write_reply<W: Sink>(reply: &Reply, writer: &mut W) -> Result<(), WriteFailed>
     ensures { Takes result (reply_bytes reply.now) (W.contents writer.old) (W.contents writer.new)
         (W.failures writer.old) (W.failures writer.new) }

@@ -12,7 +12,7 @@ use accumulators::Answer;
 use job::Job;
 use std::alloc::{AllocError, Global};
 
-/// The result of a job that answers this: the picture of its output, if it has one, and a line for each of its accumulators.
+/// The result of a job with this answer: the picture of its output, if it has one, and a line for each of its accumulators.
 pub fn reply_of(alloc: Global, job: &Job, answer: Answer) -> Result<Reply, AllocError>
     requires { IsAnswer (pipeline_in job.now) answer }
     ensures { IfOk result (λ reply. reply_bytes reply ≡ result_bytes (pipeline_in job.now)) }

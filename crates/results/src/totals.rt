@@ -36,7 +36,7 @@ fn put_total(alloc: Global, lines: &mut Vec<u8>, job: &Job, total: &Total) -> Re
     }
 }
 
-/// The name, the first and the last bin, and what is in each.
+/// The name, the first and the last bin, and the value of each bin.
 fn put_line(
     alloc: Global,
     lines: &mut Vec<u8>,
@@ -64,7 +64,7 @@ fn put_ends(alloc: Global, lines: &mut Vec<u8>, span: &Span) -> Result<(), Alloc
     lines.extend_from_slice(text.as_bytes())
 }
 
-/// Each number behind a blank.
+/// Each number after a blank.
 fn put_bins(alloc: Global, lines: &mut Vec<u8>, bins: &[i64]) -> Result<(), AllocError>
     ensures { OnOk result (lines.new.items ≡ lines.old.items ++ flat_map bin_text bins.now) }
 {

@@ -1,4 +1,4 @@
-//! Scratch memory: one vector, of which a range is lent to be written while what lies before it and behind it is lent to be read.
+//! Scratch memory: a range of one vector is borrowed for writing, while the numbers before and after it are borrowed for reading.
 #![tactic(auto)]
 
 mod numbers;

@@ -1,4 +1,4 @@
-//! A `Vec`'s numbers, lent in three parts.
+//! A `Vec`'s numbers, borrowed in three parts.
 
 ghost use Rattle.std.specs.Prelude.{◌≡◌, ◌≤◌, ◌-◌, vec_len, take, drop};
 ghost use Rattle.std.specs.Borrow.{sem};
@@ -14,7 +14,7 @@ fn numbers(all: &mut Vec<i32>) -> &mut [i32]
     all.as_mut_slice()
 }
 
-/// The numbers of a `Vec` before a range, in it and behind it.
+/// The numbers of a `Vec` before a range, in it and after it.
 pub fn vec_parts(all: &mut Vec<i32>, start: usize, end: usize) -> (&[i32], &mut [i32], &[i32])
     requires ordered { start ≤ end }
     requires inside { end ≤ vec_len all.old }

@@ -1,4 +1,4 @@
-//! A buffer's numbers, lent in three parts.
+//! A buffer's numbers, borrowed in three parts.
 
 ghost use Rattle.std.specs.Prelude.{◌≡◌, ◌≤◌, ◌-◌, length, take, drop};
 ghost use Rattle.std.specs.Borrow.{sem};
@@ -6,7 +6,7 @@ ghost use Rattle.scratch.specs.Parts.{LendsPart};
 
 use std::slice;
 
-/// The numbers before a range, in it and behind it.
+/// The numbers before a range, in it and after it.
 pub fn parts(all: &mut [i32], start: usize, end: usize) -> (&[i32], &mut [i32], &[i32])
     requires ordered { start ≤ end }
     requires inside { end ≤ length all.old }

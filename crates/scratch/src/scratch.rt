@@ -8,7 +8,7 @@ use crate::numbers::vec_parts;
 use std::alloc::{AllocError, Global};
 use std::ops::Range;
 
-/// Memory in which boxes of inlined functions are computed, each in its range. What it holds means nothing between calls.
+/// Memory in which boxes of inlined functions are computed, each in its range. Its contents have no meaning between calls.
 #[derive(Drop)]
 pub struct Scratch {
     numbers: Vec<i32>,
@@ -24,7 +24,7 @@ impl Scratch {
         }
     }
 
-    /// Grows to so many numbers, where it has fewer.
+    /// Grows to `size` numbers, if it has fewer.
     ///
     /// # Errors
     ///
@@ -45,8 +45,8 @@ impl Scratch {
         &self.numbers
     }
 
-    /// The numbers before a range, in it and behind it, borrowed at once. Afterwards only the range may differ, and it holds what was
-    /// written into it. No memory is taken.
+    /// The numbers before a range, in it and after it, borrowed together. Afterwards only the range may differ, and it holds what
+    /// was written into it. It allocates no memory.
     pub fn parts(&mut self, range: Range<usize>) -> (&[i32], &mut [i32], &[i32])
         requires ordered { range.start ≤ range.end }
         requires inside { range.end ≤ length (numbers_of self.old) }

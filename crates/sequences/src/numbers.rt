@@ -28,7 +28,7 @@ impl<T> Model for Numbers<T> {
 }
 
 impl<T: Drop> Numbers<T> {
-    /// These numbers. Spare room of the `Vec` is kept.
+    /// These numbers. Spare capacity of the `Vec` is kept.
     pub fn new(items: Vec<T>) -> Result<Self, AllocError>
         ensures { IfOk result (λ numbers. numbers ≡ items.items) }
     {
@@ -46,7 +46,7 @@ impl<T> Numbers<T> {
     }
 }
 
-/// A copy shares the numbers and takes no memory. It fails only where too many copies live to be counted.
+/// A copy shares the numbers and allocates no memory. It fails only if there are too many copies to count.
 impl<T: Drop> Clone for Numbers<T> {
     ghost is_clone = { λ it copy. copy ≡ it };
 

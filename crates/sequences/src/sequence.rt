@@ -6,7 +6,7 @@ use std::alloc::AllocError;
 use std::fmt;
 use std::marker::Model;
 
-/// Values in order. Contracts see the list of them, and not how they are kept.
+/// Values in order. Contracts see the list of them, and not how they are stored.
 #[derive(Drop)]
 pub struct Sequence<T> {
     items: Vec<T>,

@@ -1,5 +1,5 @@
--- Finite sets of the identities of jobs. A set is told by its identities in their order, each once, so that sets of the same ones are one
--- value.
+-- Finite sets of the identities of jobs. A set is represented by its identities in their order, each once. So sets of the same
+-- identities are equal.
 use Rattle.std.specs.FinMap as map
 use Rattle.std.specs.Prelude.{Bool, List, [], ◌∷◌}
 use Rattle.identity.specs.declared.job_ids.Ids.{Ids}
@@ -21,7 +21,7 @@ with_ids s i = map.insert s i tt
 unfoldable pub ids_in_set : IdSet → List Ids
 ids_in_set s = map.keys s
 
--- the set with these identities too
+-- the set with these identities added
 unfoldable pub with_all : IdSet → List Ids → IdSet
 with_all s [] = s
 with_all s (i ∷ is) = with_ids (with_all s is) i

@@ -1,4 +1,4 @@
-//! What the definitions amount to. A law is a function whose clauses are the law.
+//! Consequences of the definitions. A law is a function whose clauses are the law.
 
 ghost use Rattle.std.specs.Prelude.{◌≡◌};
 ghost use Rattle.states.specs.States.{IsBelow, IsState, State, join, nothing};

@@ -1,4 +1,4 @@
-//! Readers and writers that count their failed calls, and all bytes of the one and into the other.
+//! Readers and writers that count their failed calls; reading all bytes, and writing all bytes.
 #![tactic(auto)]
 
 mod stream;

@@ -9,14 +9,14 @@ use std::io::{Read, Write};
 
 /// Where bytes come from: std's `read`, with a count of the calls that failed.
 pub trait Source {
-    // The bytes that reads will give from here on, where they are known.
+    // The bytes that reads will give from here on, if they are known.
     ghost remaining: { Self → Option (List ℕ) };
 
     // How many calls have failed so far, in 64 bits.
     ghost failures: { Self → ℕ };
 
-    /// Moves up to `buf.len()` bytes into the front of `buf`, and says how many. It is none only
-    /// at the end, or where `buf` is empty. A call that fails moves nothing and adds one to the count.
+    /// Moves up to `buf.len()` bytes into the front of `buf`, and returns how many. It returns 0 only at the end,
+    /// or if `buf` is empty. A call that fails moves nothing and adds one to the count.
     fn read(&mut self, buf: &mut [u8]) -> io::Result<usize>
         ensures bound { ReadsAtMost result buf.new }
         ensures bytes { ReadConsumes (remaining self.old) (remaining self.new) result buf.new }
@@ -25,22 +25,22 @@ pub trait Source {
 
 /// Where bytes go: std's `write`, with a count of the calls that failed or took nothing.
 pub trait Sink {
-    // The bytes that were written so far, where they are known.
+    // The bytes that were written so far, if they are known.
     ghost contents: { Self → Option (List ℕ) };
 
-    // How many calls have failed so far, in 64 bits. A call that takes none of some bytes has failed.
+    // How many calls have failed so far, in 64 bits. A call that takes no byte of a non-empty buffer has failed.
     ghost failures: { Self → ℕ };
 
-    /// Takes bytes from the front of `buf`, and says how many. A call that fails takes nothing. It
-    /// adds one to the count, and so does one that answers 0 where `buf` is not empty.
+    /// Takes bytes from the front of `buf`, and returns how many. A call that fails takes nothing and adds one to the count.
+    /// So does a call that returns 0 although `buf` is not empty.
     fn write(&mut self, buf: &[u8]) -> io::Result<usize>
         ensures bound { WritesAtMost result buf.now }
         ensures bytes { WriteAppends (contents self.old) (contents self.new) result buf.now }
         ensures counted { CountsWrite result buf.now (failures self.old) (failures self.new) };
 }
 
-/// A reader or writer of std with its count of failed calls, from 0. The count has 64 bits: behind
-/// its greatest value it goes on at 0, so that one failed call always shows.
+/// A reader or writer of std with its count of failed calls, from 0. The count has 64 bits: after
+/// its greatest value it continues at 0, so that one failed call always shows.
 #[derive(Debug, Drop)]
 pub struct Metered<T> {
     pub inner: T,

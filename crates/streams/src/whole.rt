@@ -24,10 +24,10 @@ pub enum SourceFault {
 #[error("the writer failed")]
 pub struct WriteFailed;
 
-// How many bytes one call asks for at most.
+// How many bytes one call requests at most.
 const PIECE: usize = 65536;
 
-/// Reads to the end, if that comes behind at most `limit` bytes.
+/// Reads to the end, if it comes after at most `limit` bytes.
 pub fn read_whole<R: Source>(
     alloc: Global,
     reader: &mut R,

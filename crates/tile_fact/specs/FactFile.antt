@@ -1,4 +1,4 @@
--- Which bytes are the file of which facts and retired jobs. The most significant byte of a number goes first.
+-- Which bytes are the file of which facts and retired jobs. The most significant byte of a number comes first.
 use Rattle.std.specs.Int.{Width, w16, w32, w64, cast_unsigned, to_be_bytes}
 use Rattle.std.specs.Int.RustNames.{FitsSigned}
 use Rattle.std.specs.List.{flat_map, list_any, AllByRecursion}
@@ -41,7 +41,7 @@ fact_record fact = key_bytes fact.key ++ body_bytes fact.body
 abbrev pub ids_bytes : Ids → List ℕ
 ids_bytes ids = ids.program ++ ids.input
 
--- the magic, and where jobs are retired their number and their identities
+-- the magic, and if jobs are retired their number and their identities
 abbrev pub head_of : List Ids → List ℕ
 head_of [] = magic
 head_of (ids ∷ more) = retired_magic ++ (to_be_bytes w32 (length (ids ∷ more)) ++ flat_map ids_bytes (ids ∷ more))

@@ -1,4 +1,4 @@
--- Why bytes are no fact file: the first fault from the left, and its place.
+-- Why bytes are not a fact file: the first fault from the left, and its place.
 use Rattle.std.specs.Int.{w32, to_be_bytes}
 use Rattle.std.specs.List.{flat_map, AllByRecursion}
 use Rattle.std.specs.Prelude.{◌≡◌, ◌≢◌, ℕ, ◌+◌, ◌*◌, ◌<◌, ◌≤◌, ◌^◌, ◌⊎◌, true, List, [], ◌∷◌, ◌++◌, length, take, slice_index}
@@ -15,7 +15,7 @@ use Rattle.tile_fact.specs.Order.{Rises, IdsRise}
 
 -- ---- the head
 
--- the first byte that is another than that of both magics, which have the first three in common
+-- the first byte that differs from that of both magics, which have the first three in common
 pub record HasBadMagic (bytes : List ℕ) (at : ℕ) : Type 0 where
   pub in_magic : at < 4
   pub in_bytes : at < length bytes
@@ -23,7 +23,7 @@ pub record HasBadMagic (bytes : List ℕ) (at : ℕ) : Type 0 where
   pub differs : slice_index bytes at ≢ slice_index magic at
   pub differs_too : slice_index bytes at ≢ slice_index retired_magic at
 
--- the bytes end before a magic or the count behind it is whole
+-- the bytes end before a magic or the count after it is complete
 pub record EndsInHead (bytes : List ℕ) : Type 0 where
   pub short : length bytes < 8
   pub front : (take 4 bytes ≡ take (length bytes) magic) ⊎ (take 4 bytes ≡ take (length bytes) retired_magic)
@@ -39,7 +39,7 @@ pub record HasIds (bytes : List ℕ) (count : ℕ) (ids : List Ids) (at : ℕ) (
   pub whole : bytes ≡ retired_magic ++ (to_be_bytes w32 count ++ (flat_map ids_bytes ids ++ rest))
   pub place : at + length rest ≡ length bytes
 
--- the bytes end before the two identities of a job, which have 64 bytes, or the count of facts behind them all are whole
+-- the bytes end before the two identities of a job, which have 64 bytes, or the count of facts after them all are complete
 pub record EndsInIds (bytes : List ℕ) : Type 0 where
   pub count : ℕ
   pub ids : List Ids
@@ -67,7 +67,8 @@ pub record HasNoIds (bytes : List ℕ) (at : ℕ) : Type 0 where
 
 -- ---- the records
 
--- the head with its count, records of the first facts, which rise and are of no retired job, and the rest, which begins at this place
+-- the head with its count; records of the first facts, which rise and are of no retired job; and the rest, which begins at this
+-- place
 pub record HasRecords (bytes : List ℕ) (retired : List Ids) (count : ℕ) (facts : List Fact) (at : ℕ) (rest : List ℕ) : Type 0 where
   pub ids : AreIds retired
   pub count_fits : count < 2 ^ 32
@@ -85,14 +86,14 @@ pub record AwaitsRecord (bytes : List ℕ) (at : ℕ) (rest : List ℕ) : Type 0
   pub has : HasRecords bytes retired count facts at rest
   pub few : length facts < count
 
--- the length behind the kind is cut, or it may stand and too few bytes are behind it for so many numbers
+-- the length after the kind is cut; or it is allowed, and too few bytes for so many numbers follow it
 abbrev pub IsCutBody : Kind → List ℕ → Type 0
 IsCutBody kind body =
     (length body < 4)
     ⊎ ((len : ℕ) × (numbers : List ℕ) × (body ≡ to_be_bytes w32 len ++ numbers) × (len ≤ most kind)
     × (length numbers < len * bytes_each kind))
 
--- the key has 74 bytes; it is cut, or no kind is behind it, or what is behind the kind is cut
+-- the key has 74 bytes; it is cut, or no kind follows it, or what follows the kind is cut
 abbrev pub IsCutRecord : List ℕ → Type 0
 IsCutRecord rest =
     (length rest ≤ 74)
@@ -104,7 +105,7 @@ pub record EndsInRecord (bytes : List ℕ) : Type 0 where
   pub awaits : AwaitsRecord bytes start rest
   pub cut : IsCutRecord rest
 
--- the byte behind the key is no kind
+-- the byte after the key is no kind
 pub record HasBadKind (bytes : List ℕ) (at : ℕ) : Type 0 where
   pub start : ℕ
   pub key : List ℕ
@@ -115,7 +116,7 @@ pub record HasBadKind (bytes : List ℕ) (at : ℕ) : Type 0 where
   pub no_kind : 1 < byte
   pub place : at ≡ start + 74
 
--- the length behind the kind is above the greatest
+-- the length after the kind is above the greatest
 pub record HasLongRecord (bytes : List ℕ) (at : ℕ) : Type 0 where
   pub start : ℕ
   pub key : List ℕ
@@ -153,7 +154,7 @@ pub record HasRetiredRecord (bytes : List ℕ) (at : ℕ) : Type 0 where
   pub high : Rises (facts ++ fact ∷ [])
   pub is_of : is_retired retired fact ≡ true
 
--- all records are there, and bytes behind them
+-- all records are there, and bytes after them
 pub record HasTrailingBytes (bytes : List ℕ) (at : ℕ) : Type 0 where
   pub retired : List Ids
   pub count : ℕ

@@ -1,4 +1,4 @@
--- What the reader's functions answer, where memory may run out.
+-- What the reader's functions return, where memory may run out.
 use Rattle.std.specs.Prelude.{◌≡◌, ◌⊎◌, Result, Ok, Err}
 use Rattle.tile_fact.specs.declared.fault.FactFault.{FactFault}
 use Rattle.tile_fact.specs.declared.fault.FactFault.TheVariants.{Memory}

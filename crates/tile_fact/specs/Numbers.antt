@@ -1,4 +1,4 @@
--- What the bytes of a file say of the identities of jobs, and those of a record of the kind, the key and the numbers.
+-- The identities of jobs, from the bytes of a file; and the kind, the key and the numbers, from the bytes of a record.
 use Rattle.std.specs.Int.{Width, w16, w32, w64, byte_len, cast_signed, from_be_bytes}
 use Rattle.std.specs.Prelude.{ℕ, zero, suc, ℤ, ◌/◌, List, [], ◌∷◌, length, take, drop}
 use Rattle.identity.specs.declared.job_ids.Ids.{Ids}
@@ -31,7 +31,7 @@ most OfPartial = 4096
 abbrev pub pair_in : List ℕ → Ids
 pair_in bytes = record { program = take 32 bytes; input = take 32 (drop 32 bytes) }
 
--- so many of them, one behind the other
+-- so many of them, one after the other
 unfoldable pub first_pairs : ℕ → List ℕ → List Ids
 first_pairs zero bytes = []
 first_pairs (suc count) bytes = pair_in (take 64 bytes) ∷ first_pairs count (drop 64 bytes)
@@ -49,7 +49,7 @@ key_in bytes = record {
 abbrev pub number_in : Width → List ℕ → ℤ
 number_in w bytes = cast_signed w (from_be_bytes w (take (byte_len w) bytes))
 
--- so many numbers, one behind the other
+-- so many numbers, one after the other
 unfoldable pub first_numbers : Width → ℕ → List ℕ → List ℤ
 first_numbers w zero bytes = []
 first_numbers w (suc count) bytes = number_in w bytes ∷ first_numbers w count (drop (byte_len w) bytes)

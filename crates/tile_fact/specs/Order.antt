@@ -10,7 +10,7 @@ use Rattle.tile_fact.specs.declared.body.Body.{Body}
 use Rattle.tile_fact.specs.declared.fact.Fact.{Fact}
 use Rattle.tile_fact.specs.Bodies.{kind, numbers}
 
--- a tile before a partial, and then by the first number that differs, where a list that ends stands before one that goes on
+-- a tile before a partial, and then by the first number that differs; a list that ends comes before one that continues
 abbrev pub body_cmp : Body → Body → Ordering
 body_cmp = then_cmp (on kind nat_cmp) (on numbers (slice_cmp int_cmp))
 

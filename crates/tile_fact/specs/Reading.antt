@@ -1,5 +1,5 @@
--- What the steps of the reader answer: a value and the bytes behind it, or the fault. All the bytes are `total` in number, and
--- the place of a byte is what is left of them in front of it.
+-- What the steps of the reader return: a value and the bytes after it, or the fault. There are `total` bytes in all, and
+-- the place of a byte is the number of those before it.
 use Rattle.std.specs.Int.{w32, from_be_bytes}
 use Rattle.std.specs.declared.cmp.Ordering.{Ordering}
 use Rattle.std.specs.Ordering.{is_lt}
@@ -26,7 +26,7 @@ abbrev pub ◌>>=◌ : {A B : Type 0} → Result A FactFault → (A → Result B
 
 -- ---- parts
 
--- the wanted bytes, of which the first stands at this place
+-- the wanted bytes, of which the first is at this place
 unfoldable pub magic_read : ℕ → List ℕ → List ℕ → Result (List ℕ) FactFault
 magic_read at [] bytes = Ok bytes
 magic_read at (wanted ∷ more) [] = Err (Cut at)
@@ -40,7 +40,7 @@ count_read total bytes = do
   part ← part_read total 4 bytes
   Ok (from_be_bytes w32 part.0, part.1)
 
--- ---- one behind the other
+-- ---- one after the other
 
 -- so many things; what each step reads depends on the thing before it, if there is one
 unfoldable pub list_read : {X : Type 0} → (Option X → List ℕ → Result (X × List ℕ) FactFault) → ℕ → Option X → List ℕ
@@ -58,7 +58,7 @@ is_above cmp (Some last) x = is_lt (cmp last x)
 
 -- ---- the head
 
--- the byte behind `PTF`
+-- the byte after `PTF`
 unfoldable pub version_read : List ℕ → Result (Version × List ℕ) FactFault
 version_read [] = Err (Cut 3)
 version_read (byte ∷ bytes) =
@@ -77,7 +77,7 @@ retired_read total OfBoth bytes = do
   count ← count_read total bytes
   if count.0 == 0 then Err (NothingRetired 4) else list_read (pair_read total) count.0 None count.1
 
--- the retired jobs, the count of facts and the bytes behind it
+-- the retired jobs, the count of facts and the bytes after it
 unfoldable pub head_read : List ℕ → Result (List Ids × ℕ × List ℕ) FactFault
 head_read bytes = do
   front ← magic_read 0 (codes "PTF") bytes
@@ -94,7 +94,7 @@ kind_read total (zero ∷ bytes) = Ok (OfTile, bytes)
 kind_read total (suc zero ∷ bytes) = Ok (OfPartial, bytes)
 kind_read total (suc (suc byte) ∷ bytes) = Err (BadKind (total - length (suc (suc byte) ∷ bytes)))
 
--- a number of numbers that may stand behind the kind
+-- a number of numbers that is allowed after the kind
 unfoldable pub length_read : ℕ → Kind → List ℕ → Result (ℕ × List ℕ) FactFault
 length_read total kind bytes = do
   len ← count_read total bytes
@@ -118,11 +118,11 @@ fact_read total retired last bytes = do
 
 -- ---- the whole
 
--- nothing behind the records
+-- nothing after the records
 unfoldable pub end_read : ℕ → List Fact → List ℕ → Result (List Fact) FactFault
 end_read total facts bytes = if length bytes == 0 then Ok facts else Err (TrailingBytes (total - length bytes))
 
--- so many records, and nothing behind them
+-- so many records, and nothing after them
 unfoldable pub body_read : ℕ → List Ids → ℕ → List ℕ → Result (List Fact) FactFault
 body_read total retired count bytes = do
   records ← list_read (fact_read total retired) count None bytes

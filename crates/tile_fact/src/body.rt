@@ -1,11 +1,11 @@
-//! What a fact says of its tile.
+//! What a fact asserts of its tile.
 
 ghost use Rattle.std.specs.Prelude.{◌↔◌, IsTrue};
 
 use crate::fact::{MOST_BINS, MOST_SAMPLES};
 use crate::numbers::{Bins, Samples};
 
-/// The numbers of a tile, of one kind. A tile stands before a partial, and bodies of one kind are in the order of their numbers.
+/// The numbers of a tile, of one kind. A tile comes before a partial, and bodies of one kind are in the order of their numbers.
 #[derive(Clone, Debug, Drop, PartialEq, Eq, PartialOrd, Ord)]
 pub enum Body {
     /// The values of a function on its tile, row by row.
@@ -17,7 +17,7 @@ pub enum Body {
 impl Body {
     ghost use Rattle.tile_fact.specs.Bodies.{IsWithin};
 
-    /// Whether a fact may have so many numbers.
+    /// Whether a fact may have as many numbers as this.
     pub fn is_within(&self) -> bool
         ensures { IsTrue result ↔ IsWithin self.now }
     {

@@ -1,4 +1,4 @@
-//! A fact: a key, and the numbers that are said to be those of its tile.
+//! A fact: a key, and the numbers that it asserts of its tile.
 
 ghost use Rattle.std.specs.Prelude.{◌≡◌, IfOk, IfErr};
 
@@ -12,8 +12,8 @@ pub const MOST_SAMPLES: usize = 1_048_576;
 /// The most bins that the body of a fact may have.
 pub const MOST_BINS: usize = 4_096;
 
-/// A key, and the numbers that are said to be those of its tile; whether they are is another matter. Facts are in the order
-/// of key, kind and numbers. None has more numbers than a fact file can hold.
+/// A key, and the numbers that it asserts of its tile; they need not be true. Facts are in the order of key, kind and numbers.
+/// None has more numbers than a fact file can hold.
 #[derive(Clone, Debug, Drop, PartialEq, Eq, PartialOrd, Ord)]
 pub struct Fact {
     key: Key,
@@ -37,8 +37,8 @@ impl Model for Fact {
 impl Fact {
     ghost use Rattle.tile_fact.specs.Bodies.{IsWithin};
 
-    /// The fact of this key and this body. Both are handed back where the body has more numbers than a fact may have:
-    /// [`MOST_SAMPLES`] of a tile, [`MOST_BINS`] of a partial. No memory is taken.
+    /// The fact of this key and this body. Both are handed back if the body has more numbers than a fact may have:
+    /// [`MOST_SAMPLES`] of a tile, [`MOST_BINS`] of a partial. It allocates no memory.
     pub fn new(key: Key, body: Body) -> Result<Fact, (Key, Body)>
         ensures made { IfOk result (λ fact. fact ≡ record { key = key; body = body }) }
         ensures within { IfOk result (λ _. IsWithin body) }

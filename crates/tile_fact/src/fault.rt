@@ -1,4 +1,4 @@
-//! Why bytes are no fact file.
+//! Why bytes are not a fact file.
 
 ghost use Rattle.std.specs.Prelude.{◌≡◌};
 
@@ -9,13 +9,13 @@ use thiserror::Error;
 /// The first fault of the bytes from the left, with its offset from the first byte.
 #[derive(Clone, Copy, Debug, PartialEq, Eq, Error)]
 pub enum FactFault {
-    /// 1: the bytes begin with neither `PTF1` nor `PTF2`: the first byte that is another than that of both.
+    /// 1: the bytes begin with neither `PTF1` nor `PTF2`: the first byte that differs from that of both.
     #[error("bad magic at {0}")]
     BadMagic(usize),
-    /// 2: the bytes end before the magic, a count, or counted identities or a counted record are whole: their number.
+    /// 2: the bytes end before the magic, a count, or counted identities or a counted record are complete: their number.
     #[error("cut at {0}")]
     Cut(usize),
-    /// 3: whole identities or a whole record that are not above those before: their first byte.
+    /// 3: whole identities or a whole record that are not above those before them: their first byte.
     #[error("the order does not rise at {0}")]
     NotRising(usize),
     /// 4: a kind that is neither 0 nor 1: its byte.
@@ -24,7 +24,7 @@ pub enum FactFault {
     /// 5: more numbers than a fact may have: the first byte of their length.
     #[error("too many numbers at {0}")]
     TooLong(usize),
-    /// 6: a byte behind the last record: the first one.
+    /// 6: a byte after the last record: the first one.
     #[error("bytes behind the last record, at {0}")]
     TrailingBytes(usize),
     /// 7: the bytes are a fact file, and there is no memory for it.

@@ -35,8 +35,8 @@ pub struct FactFile {
     pub facts: Facts,
 }
 
-/// The retired jobs and the facts whose file the bytes are, or the first fault of the bytes from the left. A fault is found without
-/// any memory.
+/// The retired jobs and the facts whose file the bytes are, or the first fault of the bytes from the left. A fault is found
+/// without allocating memory.
 pub fn decode(alloc: Global, bytes: &[u8]) -> Result<FactFile, FactFault>
     // The bytes are the file of what is read.
     ensures found { IfOk result (λ file. IsFactFile bytes.now file.retired file.facts) }
@@ -83,7 +83,7 @@ fn check_records(
     let mut last: Option<Record> = None;
     let mut rest = bytes;
     for _ in 0..count {
-        // A `?` on a key beside a reference gets no proof.
+        // No proof is found for a `?` on a key beside a reference.
         let (record, behind) = match read_record(total, rest) {
             Ok(read) => read,
             Err(fault) => return Err(fault),
@@ -133,7 +133,7 @@ fn facts_of(
     let mut facts = Vec::with_capacity(alloc, count as usize)?;
     let mut rest = bytes;
     for _ in 0..count {
-        // A `?` on a key beside a reference gets no proof.
+        // No proof is found for a `?` on a key beside a reference.
         let (record, behind) = match read_record(total, rest) {
             Ok(read) => read,
             Err(fault) => return Err(fault),

@@ -1,4 +1,4 @@
-//! What stands in front of the records of a fact file.
+//! What precedes the records of a fact file.
 
 ghost use Rattle.std.specs.Prelude.{◌≡◌, ◌≤◌, length, codes, IfOk};
 ghost use Rattle.tile_fact.specs.Gives.{Gives};
@@ -14,7 +14,7 @@ use crate::version::Version;
 // What the magics of both versions begin with.
 const MAGIC_FRONT: [u8; 3] = *b"PTF";
 
-/// The retired jobs, how many records there are, and the bytes behind their count.
+/// The retired jobs, how many records there are, and the bytes after their count.
 #[derive(Clone, Copy)]
 pub struct Head<'a> {
     pub retired: Listing<'a>,
@@ -41,7 +41,7 @@ pub fn read_head(bytes: &[u8]) -> Result<Head<'_>, FactFault>
     })
 }
 
-// The bytes behind what both magics begin with.
+// The bytes after what both magics begin with.
 #[tactic(auto, unfolding(crate::specs::Reading::magic_read))]
 fn read_magic(bytes: &[u8]) -> Result<&[u8], FactFault>
     ensures read { Gives (λ x. x.now) result (magic_read 0 (codes "PTF") bytes.now) }
@@ -58,7 +58,7 @@ fn read_magic(bytes: &[u8]) -> Result<&[u8], FactFault>
     Ok(&bytes[MAGIC_FRONT.len()..])
 }
 
-// The version that the magic's last byte tells, and the bytes behind it.
+// The version that the magic's last byte specifies, and the bytes after it.
 #[tactic(auto, unfolding(crate::specs::Reading::version_read))]
 fn read_version(bytes: &[u8]) -> Result<(Version, &[u8]), FactFault>
     ensures read { Gives (λ x. (x.0, x.1.now)) result (version_read bytes.now) }
@@ -72,7 +72,7 @@ fn read_version(bytes: &[u8]) -> Result<(Version, &[u8]), FactFault>
     }
 }
 
-// The retired jobs that a file of this version has, and the bytes behind them.
+// The retired jobs that a file of this version has, and the bytes after them.
 #[tactic(auto, unfolding(crate::specs::Reading::retired_read))]
 fn read_retired(
     total: usize,

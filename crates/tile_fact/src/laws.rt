@@ -1,4 +1,4 @@
-//! What the definitions amount to, proved once for the crates above. A law is a function whose clauses are the law.
+//! Consequences of the definitions, proved once for the crates above. A law is a function whose clauses are the law.
 
 ghost use Rattle.std.specs.Cmp.{IsTotalOrder};
 ghost use Rattle.std.specs.Int.{w32, w64};
@@ -24,14 +24,14 @@ pub fn order_of_facts(a: &Fact, b: &Fact) -> Ordering
     a.cmp(b)
 }
 
-/// No bytes are the files of other retired jobs or other facts.
+/// Bytes are the file of at most one list of retired jobs and one list of facts.
 pub fn one_list()
     ensures { (bytes : List ℕ) (jobs others : List Ids) (facts other_facts : List Fact)
         → IsFactFile bytes jobs facts → IsFactFile bytes others other_facts
         → (jobs ≡ others) × (facts ≡ other_facts) }
 {}
 
-/// Retired jobs and facts of others that rise have a file, and no other bytes are it; and no other jobs or facts have that file.
+/// Rising retired jobs and rising facts of other jobs have exactly one file, and no other jobs or facts have that file.
 pub fn one_spelling()
     ensures spelled { (jobs : List Ids) (facts : List Fact) → AreContents jobs facts
         → IsFactFile (fact_file jobs facts) jobs facts }
@@ -43,8 +43,8 @@ pub fn one_spelling()
         → (jobs ≡ others) × (facts ≡ other_facts) }
 {}
 
-/// Each fact can stand in a file: what it is made of fits its fields, and it has no more numbers than a fact may have. It is a law
-/// for proofs: the call looks at each number and changes nothing.
+/// Each fact can be written to a file: what it consists of fits its fields, and it has no more numbers than a fact may have. It
+/// is a law for proofs: the call looks at each number and changes nothing.
 pub fn fits_its_record(fact: &Fact)
     ensures { IsFact fact.now }
 {
@@ -55,7 +55,7 @@ pub fn fits_its_record(fact: &Fact)
     }
 }
 
-/// The identities of each job can stand in a file: they are digests. It is a law for proofs.
+/// The identities of each job can be written to a file: they are digests. It is a law for proofs.
 pub fn fit_their_places(ids: &Ids)
     ensures { IsIds ids.now }
 {

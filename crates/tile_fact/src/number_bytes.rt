@@ -9,7 +9,7 @@ ghost use Rattle.tile_fact.specs.Numbers.{number_in, numbers_in};
 use std::alloc::{AllocError, Global};
 use std::cmp::Ordering;
 
-// The sample in front, and the bytes behind it.
+// The sample in front, and the bytes after it.
 fn split_sample(bytes: &[u8]) -> (i32, &[u8])
     requires { 4 ≤ length bytes.now }
     ensures sample { result.0 ≡ number_in w32 bytes.now }
@@ -59,7 +59,7 @@ pub fn compare_samples(a: &[u8], b: &[u8]) -> Ordering
     }
 }
 
-// The bin in front, and the bytes behind it.
+// The bin in front, and the bytes after it.
 fn split_bin(bytes: &[u8]) -> (i64, &[u8])
     requires { 8 ≤ length bytes.now }
     ensures bin { result.0 ≡ number_in w64 bytes.now }

@@ -1,4 +1,4 @@
-//! Records of a fact file, where they stand in its bytes.
+//! Records of a fact file, at their places in its bytes.
 
 ghost use Rattle.std.specs.Prelude.{◌≡◌, ◌≤◌, ◌+◌, length, take, drop, IfOk};
 ghost use Rattle.std.specs.Int.{w32, from_be_bytes};
@@ -18,7 +18,7 @@ use identity::{InputId, Key, ProgramId};
 use std::alloc::{AllocError, Global};
 use std::cmp::Ordering;
 
-/// What a record says before its numbers.
+/// What a record has before its numbers.
 #[derive(Clone, Copy)]
 pub struct Label {
     pub key: Key,
@@ -82,7 +82,7 @@ fn compare_numbers(a_kind: Kind, a: &[u8], b_kind: Kind, b: &[u8]) -> Ordering
     }
 }
 
-/// The record in front of the bytes, which are the last of `total`, and the bytes behind it.
+/// The record in front of the bytes, which are the last of `total`, and the bytes after it.
 #[tactic(auto, unfolding(crate::specs::Reading::record_read))]
 pub fn read_record(total: usize, bytes: &[u8]) -> Result<(Record<'_>, &[u8]), FactFault>
     requires { length bytes.now ≤ total }
@@ -100,7 +100,7 @@ pub fn read_record(total: usize, bytes: &[u8]) -> Result<(Record<'_>, &[u8]), Fa
     Ok((Record { label, numbers }, behind))
 }
 
-// So many bytes, and those behind them.
+// `len` bytes, and those after them.
 #[tactic(auto, unfolding(crate::specs::Reading::part_read))]
 fn read_part(total: usize, len: usize, bytes: &[u8]) -> Result<(&[u8], &[u8]), FactFault>
     ensures { Gives (λ x. (x.0.now, x.1.now)) result (part_read total len bytes.now) }
@@ -111,7 +111,7 @@ fn read_part(total: usize, len: usize, bytes: &[u8]) -> Result<(&[u8], &[u8]), F
     Ok(bytes.split_at(len))
 }
 
-/// A count in four bytes, and the bytes behind it.
+/// A count in four bytes, and the bytes after it.
 #[tactic(auto, unfolding(crate::specs::Reading::count_read))]
 pub fn read_count(total: usize, bytes: &[u8]) -> Result<(u32, &[u8]), FactFault>
     ensures read { Gives (λ x. (x.0, x.1.now)) result (count_read total bytes.now) }
@@ -135,7 +135,7 @@ fn key_of(bytes: &[u8]) -> Key
     }
 }
 
-/// The digest that stands at this place.
+/// The digest at this place.
 pub fn digest_at(bytes: &[u8], at: usize) -> [u8; 32]
     requires { at + 32 ≤ length bytes.now }
     ensures { result ≡ take 32 (drop at bytes.now) }

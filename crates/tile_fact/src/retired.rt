@@ -1,4 +1,4 @@
-//! Retired jobs, where their identities stand in the bytes of a fact file.
+//! Retired jobs, at the places of their identities in the bytes of a fact file.
 
 ghost use Rattle.std.specs.List.{list_any};
 ghost use Rattle.std.specs.Ordering.{eq_by_cmp};
@@ -15,7 +15,8 @@ use identity::{Ids, InputId, ProgramId};
 use std::alloc::{AllocError, Global};
 use std::cmp::Ordering;
 
-/// The identities of retired jobs, which rise, as bytes: so many, one behind the other, and perhaps others behind them.
+/// The identities of retired jobs, which rise, as bytes: `count` of them, one after the other, and perhaps other bytes after
+/// them.
 #[derive(Clone, Copy)]
 pub struct Listing<'a> {
     pub count: u32,
@@ -23,7 +24,7 @@ pub struct Listing<'a> {
 }
 
 impl<'a> Listing<'a> {
-    /// Whether the job is one of them. They rise, so each look halves what is left.
+    /// Whether the job is one of them. They rise, so each step of the search halves what is left.
     pub fn names(&self, job: &Ids) -> bool
         requires { IsListing self.now.count self.now.bytes.now }
         ensures { result ≡ list_any (eq_by_cmp ids_cmp job.now)
@@ -62,7 +63,7 @@ impl<'a> Listing<'a> {
     }
 }
 
-/// Finds the first fault of so many identities, if there is one: else the bytes behind them.
+/// Finds the first fault of `count` identities, if there is one; otherwise the bytes after them.
 pub fn check_pairs(total: usize, count: u32, bytes: &[u8]) -> Result<&[u8], FactFault>
     requires { length bytes.now ≤ total }
     ensures read { Gives (λ behind. (first_pairs count bytes.now, behind.now)) result
@@ -96,7 +97,7 @@ fn is_above(last: &Option<Ids>, next: &Ids) -> bool
     }
 }
 
-// The bytes behind so many identities.
+// The bytes after `count` identities.
 fn skip(bytes: &[u8], count: usize) -> &[u8]
     requires { count * 64 ≤ length bytes.now }
     ensures { result.now ≡ drop (64 * count) bytes.now }
@@ -105,7 +106,7 @@ fn skip(bytes: &[u8], count: usize) -> &[u8]
     behind
 }
 
-// The identities in front of the bytes, and the bytes behind them.
+// The identities in front of the bytes, and the bytes after them.
 fn split_pair(bytes: &[u8]) -> (Ids, &[u8])
     requires { 64 ≤ length bytes.now }
     ensures pair { result.0 ≡ pair_in (take 64 bytes.now) }

@@ -1,9 +1,9 @@
-//! What a node is told.
+//! Updates of what a node knows.
 
 use crate::fact::Fact;
 use identity::Ids;
 
-/// A fact, or the retirement of a job: who knows of it holds no fact of that job.
+/// A fact, or the retirement of a job: a node that knows of it holds no fact of that job.
 #[derive(Clone, Debug, Drop, PartialEq, Eq)]
 pub enum Update {
     /// The numbers of a tile.

@@ -5,6 +5,6 @@
 pub enum Version {
     /// `PTF1`: facts.
     OfFacts,
-    /// `PTF2`: retired jobs, of which there is one at least, and facts.
+    /// `PTF2`: retired jobs, at least one, and facts.
     OfBoth,
 }

@@ -11,7 +11,7 @@ use crate::fact::Fact;
 use identity::{Ids, Key};
 use std::alloc::{AllocError, Global};
 
-/// The file of these retired jobs and these facts, the one spelling that they have: `PTF1` where no job is retired, else `PTF2`.
+/// The file of these retired jobs and these facts, which is their only spelling: `PTF1` if no job is retired, else `PTF2`.
 pub fn encode(alloc: Global, retired: &[Ids], facts: &[Fact]) -> Result<Vec<u8>, AllocError>
     requires ids_count { length retired.now < 2 ^ 32 }
     requires ids_rise { IdsRise retired.now }
@@ -29,7 +29,7 @@ pub fn encode(alloc: Global, retired: &[Ids], facts: &[Fact]) -> Result<Vec<u8>,
     Ok(bytes)
 }
 
-// The magic, and the retired jobs where there are any.
+// The magic, and the retired jobs if there are any.
 fn put_head(bytes: &mut Vec<u8>, retired: &[Ids]) -> Result<(), AllocError>
     requires { length retired.now < 2 ^ 32 }
     ensures { OnOk result (bytes.new.items ≡ bytes.old.items ++ head_of retired.now) }

@@ -14,7 +14,7 @@ fn main(rt: HostRuntime) -> ExitCode {
             Err(_) => return out_of_memory(&rt),
         },
         Err(error) if error.kind() == ErrorKind::OutOfMemory => return out_of_memory(&rt),
-        // Words that are no text are refused like no words.
+        // Words that are not text are rejected as if there were no words.
         Err(_) => Vec::new(alloc),
     };
     let mut reader = Metered::new(rt.stdin());

@@ -1,4 +1,4 @@
--- Which fault of an input of three sections is told, of which the middle one is a script.
+-- Which fault is reported of an input of three sections, of which the middle one is a script.
 use Rattle.std.specs.Prelude.{◌≢◌, ℕ, List}
 use Rattle.domains.specs.Sides.{Sides}
 use Rattle.gossip_events.specs.ScriptFaults.{IsScriptFault}
@@ -14,7 +14,7 @@ use Rattle.job.specs.Pipeline.{Pipeline}
 use Rattle.one_job.specs.Alone.{catalog_of}
 use Rattle.pipe_tree.specs.Tree.{Declaration}
 
--- the first faulty line of the script, where the program and the picture have a job at the values that are given
+-- the first faulty line of the script, if the program and the picture have a job at the values that are given
 pub record IsWorldScriptFault (input : List ℕ) (given : List Given) (sides : Sides) (fault : ScriptFault) : Type 0 where
   pub tree : List Declaration
   pub job : Pipeline
@@ -23,7 +23,7 @@ pub record IsWorldScriptFault (input : List ℕ) (given : List Given) (sides : S
   pub faulty : IsScriptFault (catalog_of tree job) script fault
   pub told : fault ≢ scripts.Memory
 
--- the first fault: a faulty line waits for the program, the picture and the job; memory may run out for any
+-- the first fault: a faulty line comes after those of the program, the picture and the job; memory may run out for any
 abbrev pub IsWorldFault : List ℕ → List Given → Sides → StreamFault → Type 0
 IsWorldFault input given sides (Script fault) = IsWorldScriptFault input given sides fault
 IsWorldFault input given sides fault = IsFaultAround input given sides fault

@@ -11,8 +11,8 @@ use Rattle.job.specs.WellFormed.{IsJob}
 use Rattle.one_job.specs.Alone.{catalog_of}
 use Rattle.pipe_tree.specs.Tree.{Declaration}
 
--- the input is a program of this tree, a script and a picture; the job is the program's and the picture's, and the script tells the
--- events by the catalog that has this job alone
+-- the input is a program of this tree, a script and a picture; the job is the program's and the picture's, and the script
+-- specifies the events by the catalog that has this job alone
 pub record IsInputWorld (input : List ℕ) (given : List Given) (sides : Sides) (tree : List Declaration) (job : Pipeline)
     (events : List Event) : Type 0 where
   pub script : List ℕ

@@ -1,4 +1,4 @@
--- What `world` tells in bytes: how many events it went through, how many of these were refused, and what each node holds.
+-- What `world` reports in bytes: how many events it processed, how many of these were refused, and what each node holds.
 use Rattle.std.specs.Prelude.{ℕ, List, [], ◌∷◌, ◌++◌, codes}
 use Rattle.std.specs.Fmt.{decimal}
 use Rattle.std.specs.List.{flat_map, range_with_len}

@@ -1,4 +1,4 @@
--- What `world` says: to which world the events of the script lead, from so many nodes that hold nothing.
+-- What `world` reports: to which world the events of the script lead, from so many nodes that hold nothing.
 use Rattle.std.specs.Prelude.{◌≡◌, ℕ, ◌+◌, Bool, List, length, map, replicate, reverse}
 use Rattle.catalog.specs.Entries.{Entry}
 use Rattle.command_line.specs.declared.options.Options.{Options}
@@ -24,8 +24,8 @@ inlinings stored percent jobs = map (λ entry. inlining_asked stored percent ent
 abbrev pub work_of : ℕ → Bool → ℕ → List Entry → Work
 work_of size stored percent jobs = record { jobs = jobs; schedules = replicate size (inlinings stored percent jobs) }
 
--- All events were gone through, and led from nodes that hold nothing to this world. Those that were not accepted were refused. The bytes
--- tell of the world.
+-- All events were processed, and led from nodes that hold nothing to this world. Those that were not accepted were refused. The
+-- bytes report the world.
 pub record IsOutcome (u : Work) (size : ℕ) (events : List Event) (bytes : List ℕ) : Type 0 where
   pub accepted : List Event
   pub world : Network
@@ -34,7 +34,7 @@ pub record IsOutcome (u : Work) (size : ℕ) (events : List Event) (bytes : List
   pub count : length accepted + refused ≡ length events
   pub says : bytes ≡ world_lines (length events) refused size world
 
--- the bytes are what is said of the job and the events of an input, by the schedule that the options ask for
+-- the bytes are what is reported of the job and the events of an input, by the schedule that the options request
 pub record IsSaidOfWorld (size : ℕ) (options : Options) (given : List Given) (input bytes : List ℕ) : Type 0 where
   pub tree : List Declaration
   pub job : Pipeline

@@ -1,2 +1,2 @@
--- What inner contracts and proofs cite, and no public one: how the code goes about it.
+-- Definitions of the implementation, which inner contracts and proofs cite and public contracts do not.
 pub mod Outcomes

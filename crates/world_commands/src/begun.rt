@@ -10,7 +10,7 @@ use one_job::schedule_of;
 use std::alloc::{AllocError, Global};
 use worlds::{NodeSchedules, World, WorldFault};
 
-/// So many nodes that hold nothing, with the jobs of a catalog, by the schedules that the options ask for.
+/// So many nodes that hold nothing, with the jobs of a catalog, by the schedules that the options request.
 pub fn begin(
     alloc: Global,
     nodes: NodeCount,

@@ -21,7 +21,7 @@ pub struct NodeContents {
 }
 
 impl NodeContents {
-    /// What the state of a node has. More jobs or facts than a file can count are answered as if memory ran out.
+    /// What the state of a node has. If a file cannot count so many jobs or facts, it fails as if memory ran out.
     pub fn of(alloc: Global, node: u8, state: &NodeState) -> Result<NodeContents, AllocError>
         ensures node { IfOk result (λ contents. contents.node ≡ node) }
         ensures retired { IfOk result (λ contents. contents.retired.items ≡ retired_in state.now) }

@@ -1,4 +1,4 @@
-//! The command `world`: the world of an input's script, and the lines that tell what its nodes hold.
+//! The command `world`: the world of an input's script, and the lines that report what its nodes hold.
 #![tactic(auto)]
 
 mod begun;

@@ -24,7 +24,7 @@ pub struct Outcome {
     pub nodes: Vec<NodeContents>,
 }
 
-/// What becomes of so many nodes by the script of an input. The input is let go.
+/// What becomes of so many nodes by the script of an input. The input is freed.
 pub fn outcome_of(
     alloc: Global,
     nodes: NodeCount,
@@ -41,7 +41,7 @@ pub fn outcome_of(
     Ok(outcome_after(alloc, nodes, world, &events)?)
 }
 
-/// What becomes of a world of so many nodes that hold nothing by the events.
+/// What becomes by the events of a world of so many nodes that hold nothing.
 fn outcome_after(
     alloc: Global,
     nodes: NodeCount,

@@ -13,8 +13,8 @@ use itoa::Buffer;
 use streams::{Sink, WriteFailed};
 use write_buffer::WriteBuffer;
 
-/// Writes how many events there were and how many were refused, and a line for each node. No memory is taken: the lines go through a
-/// buffer of fixed size.
+/// Writes how many events there were and how many were refused, and a line for each node. It allocates no memory: the lines go
+/// through a buffer of fixed size.
 pub fn write_outcome<W: Sink>(outcome: &Outcome, writer: &mut W) -> Result<(), WriteFailed>
     ensures { Takes result (outcome_lines outcome.now)
         (W.contents writer.old) (W.contents writer.new)

@@ -10,13 +10,13 @@ use command_line::{NodeCount, Options};
 use inputs::{StreamFault, read_input};
 use streams::{Sink, Source};
 
-/// Reads a program, a script and a picture, goes through the events of the script from so many nodes that hold nothing, and writes how
-/// many events there were and how many of these were refused, and for each node the file of the retired jobs and the facts that it
-/// then holds.
+/// Reads a program, a script and a picture, and processes the events of the script from so many nodes that hold nothing. It
+/// writes how many events there were and how many of these were refused. For each node it writes the file of the retired
+/// jobs and the facts that it then holds.
 ///
-/// The input is the program's text, a line `%%`, the script, a line `%%` and the picture. `parameters` gives values of the program's
-/// parameters. Each node has the schedule that the options ask for. All that takes memory is done before the first byte is written, and
-/// the digits go out through a buffer of fixed size.
+/// The input is the program's text, a line `%%`, the script, a line `%%` and the picture. `parameters` gives values of the
+/// program's parameters. Each node has the schedule that the options request. All that allocates memory is done before the first
+/// byte is written, and the digits are written through a buffer of fixed size.
 pub fn world_stream<H: AllocGlobal, R: Source, W: Sink>(
     rt: &H,
     nodes: NodeCount,
@@ -25,12 +25,12 @@ pub fn world_stream<H: AllocGlobal, R: Source, W: Sink>(
     reader: &mut R,
     writer: &mut W,
 ) -> Result<(), StreamFault>
-    // At `Ok` the writer took all lines, and where it failed a part of them. Any other fault has written nothing, and is the first
+    // At `Ok` the writer took all lines, and if it failed, a part of them. Any other fault has written nothing, and is the first
     // fault of the input and the parameters.
     ensures written { Writes (saying_of_world nodes options.now parameters.now)
         (refusing_world parameters.now options.now.sides) (R.remaining reader.old)
         result (W.contents writer.old) (W.contents writer.new) }
-    // A fault of the reader or the writer is answered where it failed, and nowhere else.
+    // A fault of the reader or the writer is reported if it failed, and only then.
     ensures read { CountsRead result (R.failures reader.old) (R.failures reader.new) }
     ensures write { CountsWritten result (W.failures writer.old) (W.failures writer.new) }
 {

@@ -11,8 +11,8 @@ use inputs::{StreamFault, job_and_middle};
 use one_job::catalog_of;
 use std::alloc::Global;
 
-/// The job of the program and the picture that the input spells, as a catalog that has it alone, and the events of the script between
-/// them. A faulty line is told only where the program and the picture have a job. The input is let go.
+/// The job of the program and the picture that the input spells, as a catalog that has it alone, and the events of the script
+/// between them. A faulty line is reported only if the program and the picture have a job. The input is freed.
 pub fn world_of(
     alloc: Global,
     options: &Options,

@@ -12,9 +12,9 @@ use Rattle.worlds.specs.Worlds.{WorldView}
 use Rattle.worlds.specs.declared.fault.FinishFault.{FinishFault}
 use Rattle.worlds.specs.declared.fault.FinishFault.TheVariants.{NoSuchNode, NoSuchJob, Retired, ScratchTooBig, Memory}
 
--- A making and a delivery for each tile that node n lacks of job j, which it has not retired, in the order in which they can be made. None of them is refused if they
--- come next, and then n holds all tiles of stored functions and accumulators; and where its schedule stores the outputs, all that
--- the answer is put together from.
+-- A making and a delivery for each tile that node n lacks of job j, which it has not retired. They are in the order in which
+-- they can be made. If they come next, none is refused, and then n holds all tiles of stored functions and accumulators. If
+-- its schedule stores the outputs, n also holds all from which the answer is assembled.
 pub record Finishes (w : WorldView) (n j : ℕ) (events : List Event) : Type 0 where
   pub entry : Entry
   pub inlining : List Bool
@@ -31,7 +31,7 @@ pub record IsRetiredAt (w : WorldView) (n j : ℕ) (is : Bool) : Type 0 where
   pub there : slice_get w.work.jobs j ≡ Some entry
   pub retired : retires (held w.network n) (ids_of entry) ≡ is
 
--- the job is not retired, and the tile of this key is the first of those that are lacked that takes too much scratch memory
+-- the job is not retired, and among the tiles that are lacked this key's is the first that takes too much scratch memory
 pub record LacksRoom (w : WorldView) (n j : ℕ) (key : Key) : Type 0 where
   pub entry : Entry
   pub inlining : List Bool
@@ -39,7 +39,7 @@ pub record LacksRoom (w : WorldView) (n j : ℕ) (key : Key) : Type 0 where
   pub live : retires (held w.network n) (ids_of entry) ≡ false
   pub first : first_without_room entry.pipeline inlining (lacked_work (held w.network n).facts entry inlining) ≡ Some key
 
--- memory is refused only where the node and the job are there, and the node has not retired it
+-- memory is refused only if the node and the job exist, and the node has not retired it
 abbrev pub IsFinishFault : WorldView → ℕ → ℕ → FinishFault → Type 0
 IsFinishFault w n j NoSuchNode = length w.network.nodes ≤ n
 IsFinishFault w n j NoSuchJob = (n < length w.network.nodes) × (length w.work.jobs ≤ j)

@@ -1,5 +1,5 @@
--- What a world is: jobs with a schedule of each node for each of them, and nodes with their messages, in which every fact is true. And why
--- there is none, and how far a run of events goes.
+-- What a world is: jobs with a schedule of each node for each of them, and nodes with their messages, in which every fact is
+-- true. Why there is none, and how far a run of events goes.
 use Rattle.std.specs.Prelude.{◌≡◌, ℕ, ◌+◌, ◌≤◌, Bool, Some, List, ◌++◌, length, reverse, slice_get}
 use Rattle.catalog.specs.Entries.{AreJobs, IsCatalog}
 use Rattle.gossip_core.specs.Histories.{Leads}
@@ -23,7 +23,7 @@ pub record WorldView : Type 0 where
 abbrev pub HasSchedules : Work → Type 0
 HasSchedules u = (n : ℕ) (schedules : List (List Bool)) → slice_get u.schedules n ≡ Some schedules → length schedules ≡ length u.jobs
 
--- the jobs are apart and well formed, and each node has its schedules
+-- the jobs are distinct and well formed, and each node has its schedules
 pub record IsPlannedWork (u : Work) : Type 0 where
   pub apart : IsCatalog u.jobs
   pub jobs : AreJobs u.jobs
@@ -43,15 +43,15 @@ pub record IsCounted (u : Work) : Type 0 where
   pub most : length u.schedules ≤ 16
   pub each : HasSchedules u
 
--- memory is refused only where the counts are good
+-- memory is refused only if the counts are good
 abbrev pub IsRefusedWorld : Work → WorldFault → Type 0
 IsRefusedWorld u BadCount = ¬ (IsCounted u)
 IsRefusedWorld u Memory = IsCounted u
 
 -- ---- runs
 
--- Some events led to the world from which a run went on, some of them accepted. These and the events that it went through lead to the
--- world now; and so many of the latter were refused.
+-- Some events led to the world from which a run went on, some of them accepted. These and the events that it processed lead to
+-- the world now; `refused` of the latter were refused.
 pub record RunsOn (w : WorldView) (size : ℕ) (h accepted events : List Event) (refused : ℕ) : Type 0 where
   pub later : List Event
   pub leads : Leads w.work size (reverse events ++ h) later w.network

@@ -18,13 +18,13 @@ pub enum WorldFault {
     Memory,
 }
 
-/// Why no events are told that finish a job.
+/// Why there are no events that finish a job.
 #[derive(Clone, Copy, Debug, PartialEq, Eq, Error)]
 pub enum FinishFault {
-    /// 1: the node is not there.
+    /// 1: the node does not exist.
     #[error("no such node")]
     NoSuchNode,
-    /// 2: the job is not there.
+    /// 2: the job does not exist.
     #[error("no such job")]
     NoSuchJob,
     /// 3: the first of the tiles to be made that takes too much scratch memory.

@@ -24,14 +24,14 @@ use overlap_tiles::{first_without_room, work_keys};
 use std::alloc::{AllocError, Global};
 
 impl<S: FactStore> World<S> {
-    /// Events after which node n holds all tiles of the stored functions and accumulators of a job: for each of these tiles of which it
-    /// holds nothing a making, and the delivery of what was made, in the order in which they can be made. If they come next, none of
-    /// them is refused, unless memory is; whatever was lost or restarted before.
+    /// Events after which node n holds all tiles of the stored functions and accumulators of a job. For each of these tiles of
+    /// which it holds nothing there are a making and the delivery of what was made. They are in the order in which they can be
+    /// made. If they come next, none of them is refused, unless memory is; whatever was lost or restarted before.
     ///
     /// # Errors
     ///
-    /// The first of `NoSuchNode`, `NoSuchJob`, `Retired` and `ScratchTooBig`, which is told of the tiles of which nothing is held. Memory
-    /// may be refused wherever there are the node and the job, which it has not retired.
+    /// The first of `NoSuchNode`, `NoSuchJob`, `Retired` and `ScratchTooBig`, which is about the tiles of which nothing is held.
+    /// Memory may be refused if the node and the job exist and the node has not retired the job.
     pub fn finish(&self, n: u8, job: usize) -> Result<Vec<Event>, FinishFault>
         ensures finishes { IfOk result (λ events. Finishes self.now n job events.items) }
         ensures fault { IfErr result (IsFinishFault self.now n job) }
@@ -79,7 +79,7 @@ struct Planned<'a, S: FactStore> {
     schedule: &'a Schedule,
 }
 
-// The keys of the work tiles of which nothing is held, if each of these has room.
+// The keys of the work tiles of which nothing is held, if each of these fits in scratch memory.
 fn makable_keys<S: FactStore>(
     alloc: Global,
     planned: &Planned<'_, S>,
@@ -113,7 +113,7 @@ fn lacked_keys<S: FactStore>(
     Ok(keys)
 }
 
-// A making of each key by the node, and its delivery, where so many messages were sent before.
+// A making of each key by the node, and its delivery, if `sent` messages were sent before.
 fn making_events(alloc: Global, n: u8, sent: usize, keys: &[Key]) -> Result<Vec<Event>, AllocError>
     ensures { IfOk result (λ events. events.items ≡ makings n sent keys.now) }
 {

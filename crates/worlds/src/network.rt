@@ -38,7 +38,7 @@ impl<S: FactStore> Model for Network<S> {
 }
 
 impl<S: FactStore> Network<S> {
-    /// So many nodes that hold nothing, and no message.
+    /// `size` nodes that hold nothing, and no message.
     pub fn new(alloc: Global, size: usize) -> Result<Network<S>, AllocError>
         ensures { IfOk result (λ w. w ≡ start size) }
     {
@@ -224,7 +224,7 @@ impl<S: FactStore> Network<S> {
     }
 }
 
-// How a node that makes nothing refuses to.
+// The fault of a step whose node cannot make the fact.
 fn refusal_of(fault: MakeFault) -> StepFault
     ensures { result ≡ refusal_of fault }
 {

@@ -47,7 +47,7 @@ impl PlannedJobs {
         ensures same { result ≡ record { jobs = catalog; schedules = schedules.items } }
         ensures good { IsPlannedWork result }
     {
-        // What each catalog is `job` tells, whichever it is asked for.
+        // The contract of `job` specifies what each catalog is, for any index.
         let _ = catalog.job(0);
         PlannedJobs { catalog, schedules }
     }

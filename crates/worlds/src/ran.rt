@@ -3,10 +3,10 @@
 /// How far a run went.
 #[derive(Clone, Copy, Debug, PartialEq, Eq)]
 pub struct Ran {
-    /// How many events it went through, refused ones among them.
+    /// How many events it processed, including refused ones.
     pub done: usize,
     /// How many of these were refused.
     pub refused: usize,
-    /// Whether it stopped since memory was refused.
+    /// Whether it stopped because memory was refused.
     pub memory: bool,
 }

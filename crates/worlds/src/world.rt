@@ -29,8 +29,8 @@ use std::marker::Model;
 /// The most nodes of a world.
 const MOST_NODES: usize = 16;
 
-/// Nodes that make tiles of jobs, each by its own schedules, and retire jobs, send, merge, keep and restart. All facts that they hold and keep, and all
-/// that were sent, are true. Only events change it.
+/// Nodes that make tiles of jobs, each by its own schedules, and retire jobs, send, merge, keep and restart. All facts that they
+/// hold and keep, and all that were sent, are true. Only events change it.
 #[derive(Drop)]
 pub struct World<S: FactStore = TableFacts> {
     pub(crate) alloc: Global,
@@ -54,13 +54,13 @@ impl<S: FactStore> Model for World<S> {
 }
 
 impl<S: FactStore> World<S> {
-    /// A world of so many nodes as there are lists of schedules, which hold nothing. Where there is none, the jobs and the schedules come
-    /// back.
+    /// A world of as many nodes as there are lists of schedules; the nodes hold nothing. On error the jobs and the schedules are
+    /// handed back.
     ///
     /// # Errors
     ///
-    /// Fails where there are not 1 to 16 nodes, where a node has more or fewer schedules than there are jobs, and then where memory
-    /// is refused.
+    /// Fails if there are not 1 to 16 nodes, or if a node has more or fewer schedules than there are jobs. After that it fails
+    /// if memory is refused.
     pub fn new(
         alloc: Global,
         catalog: Catalog,
@@ -93,7 +93,7 @@ impl<S: FactStore> World<S> {
     ///
     /// # Errors
     ///
-    /// Fails by the first fault of the event.
+    /// Fails with the first fault of the event.
     pub fn step(&mut self, event: &Event) -> Result<Done, StepFault>
         ensures done { OnOk result
             (Accepts self.old.work self.old.network event.now self.new.network) }
@@ -109,7 +109,7 @@ impl<S: FactStore> World<S> {
         self.network.step(&self.jobs, event)
     }
 
-    /// Goes through the events in order. Refused ones are counted and passed over, but where memory is refused it stops.
+    /// Processes the events in order. Refused ones are counted and skipped, but if memory is refused it stops.
     pub fn run(&mut self, events: &[Event]) -> Ran
         ensures led { (size : ℕ) (h accepted : List EventType)
             → Leads self.old.work size h accepted self.old.network
@@ -150,7 +150,7 @@ impl<S: FactStore> World<S> {
         }
     }
 
-    /// What node n holds, if it is there. No memory is taken.
+    /// What node n holds, if it exists. It allocates no memory.
     pub fn node(&self, n: u8) -> Option<&NodeState<S>>
         ensures held { option_map (λ s. s.now) result
             ≡ option_map (λ q. q.held) (slice_get self.now.network.nodes n) }
@@ -165,7 +165,7 @@ impl<S: FactStore> World<S> {
         }
     }
 
-    /// What node n keeps, if it is there. No memory is taken.
+    /// What node n keeps, if it exists. It allocates no memory.
     pub fn kept(&self, n: u8) -> Option<&NodeState<S>>
         ensures kept { option_map (λ s. s.now) result
             ≡ option_map (λ q. q.kept) (slice_get self.now.network.nodes n) }
@@ -180,11 +180,11 @@ impl<S: FactStore> World<S> {
         }
     }
 
-    /// The events that the lines of a text tell of the jobs of the world.
+    /// The events that the lines of a text specify for the jobs of the world.
     ///
     /// # Errors
     ///
-    /// Fails by the first fault of the text, as [`script_of`] does.
+    /// Fails with the first fault of the text, as [`script_of`] does.
     pub fn script(&self, text: &[u8]) -> Result<Vec<Event>, ScriptFault>
         ensures events { IfOk result
             (λ events. AreEvents self.now.work.jobs (lines text.now) events.items) }

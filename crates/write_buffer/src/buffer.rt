@@ -17,8 +17,8 @@ const ROOM: usize = 4096;
 
 const DIGITS: &[u8; 16] = b"0123456789abcdef";
 
-/// Bytes that wait to be written, which is done where more have no room. It takes no memory. Once the writer has failed, the
-/// buffer is of no more use.
+/// Bytes that wait to be written. They are written when there is no room for more. It allocates no memory. Once the writer has
+/// failed, the buffer is of no further use.
 #[derive(Debug, Drop)]
 pub struct WriteBuffer {
     bytes: ArrayVec<u8, ROOM>,
@@ -42,7 +42,7 @@ impl WriteBuffer {
         }
     }
 
-    /// Puts bytes behind those that wait.
+    /// Puts bytes after those that wait.
     pub fn put<W: Sink>(&mut self, writer: &mut W, bytes: &[u8]) -> Result<(), WriteFailed>
         ensures { Puts result bytes.now self.old self.new
             (W.contents writer.old) (W.contents writer.new)
@@ -54,7 +54,7 @@ impl WriteBuffer {
         self.pass(writer, bytes)
     }
 
-    // Writes all bytes that wait, and lets these wait in their place, or writes them too where there is no room for all of them.
+    // Writes all bytes that wait, and lets these wait instead; or writes these too, if there is no room for all of them.
     fn pass<W: Sink>(&mut self, writer: &mut W, bytes: &[u8]) -> Result<(), WriteFailed>
         ensures { Puts result bytes.now self.old self.new
             (W.contents writer.old) (W.contents writer.new)
@@ -67,7 +67,7 @@ impl WriteBuffer {
         write_whole(writer, bytes)
     }
 
-    /// Puts the parts, one behind the other.
+    /// Puts the parts, one after the other.
     pub fn put_parts<W: Sink>(&mut self, writer: &mut W, parts: &[&[u8]]) -> Result<(), WriteFailed>
         ensures { Puts result (flat_map (λ part. part.now) parts.now) self.old self.new
             (W.contents writer.old) (W.contents writer.new)
@@ -79,7 +79,7 @@ impl WriteBuffer {
         Ok(())
     }
 
-    /// Puts two small hexadecimal digits for each of the bytes.
+    /// Puts two lower-case hexadecimal digits for each of the bytes.
     pub fn put_hex<W: Sink>(&mut self, writer: &mut W, bytes: &[u8]) -> Result<(), WriteFailed>
         ensures { Puts result (encode_lower bytes.now) self.old self.new
             (W.contents writer.old) (W.contents writer.new)
@@ -91,7 +91,7 @@ impl WriteBuffer {
         Ok(())
     }
 
-    /// Puts two small hexadecimal digits for each byte of the parts, one behind the other.
+    /// Puts two lower-case hexadecimal digits for each byte of the parts, one after the other.
     pub fn put_hex_parts<W: Sink>(
         &mut self,
         writer: &mut W,
@@ -131,7 +131,7 @@ impl WriteBuffer {
     }
 }
 
-// The small hexadecimal digits of a byte.
+// The lower-case hexadecimal digits of a byte.
 fn digits_of(byte: u8) -> [u8; 2]
     ensures { result ≡ encode_lower (byte ∷ []) }
 {

@@ -11,23 +11,23 @@ use Rattle.tile_fact.specs.declared.fact.Fact.{Fact}
 abbrev pub AreNamed : Ids → List Fact → List ℕ → Type 0
 AreNamed ids facts stages = (k : ℕ) (fact : Fact) → slice_get facts k ≡ Some fact → ids ≡ ids_in fact.key → Contains stages fact.key.stage
 
--- what serves for a fact of this job is known
+-- all that is needed to judge a fact of this job is computed
 abbrev pub IsServedFor : TrueStages → Fact → Type 0
 IsServedFor stages fact = IsServed (pipeline_in stages.job.now) stages.known.buffers.items fact.key.stage
 
--- the stages are of this job, and serve for the facts that name it
+-- the stages are of this job, and suffice to judge the facts that name it
 pub record AreStagesFor (facts : List Fact) (entry : Entry) (stages : TrueStages) : Type 0 where
   pub job : entry_of stages.job.now ≡ entry
   pub served : (k : ℕ) (fact : Fact) → slice_get facts k ≡ Some fact → ids_of entry ≡ ids_in fact.key → IsServedFor stages fact
 
--- at this place stands the job of the fact, and its stages, which serve for it
+-- the job of the fact is at this place, and so are its stages, which suffice to judge it
 pub record HasStagesFor (catalog : List Entry) (known : List TrueStages) (fact : Fact) (i : ℕ) : Type 0 where
   pub stages : TrueStages
   pub there : slice_get known i ≡ Some stages
   pub job : slice_get catalog i ≡ Some (entry_of stages.job.now)
   pub served : IsServedFor stages fact
 
--- wherever the job of the fact stands, the stages that serve for it are known
+-- wherever the job of the fact is, the stages that suffice to judge it are computed
 abbrev pub IsReady : List Entry → List TrueStages → Fact → Type 0
 IsReady catalog known fact = (i : ℕ) → StandsAt catalog (ids_in fact.key) i → HasStagesFor catalog known fact i
 

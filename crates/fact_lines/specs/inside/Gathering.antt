@@ -9,7 +9,7 @@ use Rattle.fact_lines.specs.declared.fault.LinesFault.{LinesFault}
 use Rattle.fact_lines.specs.declared.fault.LinesFault.TheVariants.{BadFile, Memory}
 use Rattle.fact_lines.specs.Texts.{IsFileLine, IsGoodLine, AreRetiredOn, IsFactOn}
 
--- the jobs and the facts with those of a line: none of an empty one, else those of the file that it is
+-- the jobs and the facts with those of a line added: none of an empty one, else those of its file
 abbrev pub Adds : List ℕ → List Ids → List Fact → List Ids → List Fact → Type 0
 Adds line jobs facts new_jobs new_facts =
     ((line ≡ []) × (new_jobs ≡ jobs) × (new_facts ≡ facts))
@@ -22,7 +22,7 @@ pub record Gathers (all : List (List ℕ)) (jobs : List Ids) (facts : List Fact)
   pub same_ids : (ids : Ids) → Contains jobs ids ↔ AreRetiredOn all ids
   pub same : (fact : Fact) → Contains facts fact ↔ IsFactOn all fact
 
--- how the fault of a file is told, which is the line of this number
+-- how a fault of the file on the line of this number is reported
 abbrev pub told : ℕ → FactFault → LinesFault
 told number files.Memory = Memory
 told number fault = BadFile number fault

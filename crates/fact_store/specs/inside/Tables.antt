@@ -1,4 +1,4 @@
--- Tables of facts, one for each key that has any, and the sets that they stand for.
+-- Tables of facts, one for each key that has any, and the sets that they represent.
 use Rattle.std.specs.BTreeMap.{is_at}
 use Rattle.std.specs.List.{list_all}
 use Rattle.std.specs.Map.{lookup, remove_entry, set_value}
@@ -47,16 +47,16 @@ is_filled (x ∷ xs) = true
 abbrev pub is_table : Key → List Fact → Bool
 is_table key xs = all_of key xs && (rises xs && is_filled xs)
 
--- whether each key is below all behind it, and each has its table
+-- whether each key is below all after it, and each has its table
 abbrev pub stand : Tables → Bool
 stand [] = true
 stand (e ∷ es) = key_below e.0 es && (is_table e.0 e.1 && stand es)
 
--- what stood at a key before a change, if anything did
+-- the former entry of a key before a change, if it had one
 abbrev pub Former : Type 0
 Former = Key × Option (List Fact)
 
--- the tables with what stood at a key put back
+-- the tables with the former entry of a key restored
 abbrev pub undo_one : Former → Tables → Tables
 undo_one (key, None) es = remove_entry (is_at (key_cmp key)) es
 undo_one (key, Some xs) es = set_value (is_at (key_cmp key)) es xs

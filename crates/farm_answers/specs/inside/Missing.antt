@@ -17,13 +17,13 @@ use Rattle.overlap_tiles.specs.Work.{IsWork, IsWorkedBefore, lacks_room, wanted_
 abbrev pub key_in : Entry → Tile → Key
 key_in entry t = key_of (ids_of entry).program entry.pipeline t
 
--- all that is held is true, and nothing but memory keeps the fact of the key from being made
+-- all that is held is true, and the fact of the key is made unless memory is refused
 pub record CanMake (catalog : List Entry) (s : FactSet) (inlining : List Bool) (key : Key) : Type 0 where
   pub truth : HoldsTrueFacts catalog s
   pub none : (fault : MakeFault) → fault ≢ makes.Memory → ¬ (IsMakeFault catalog s inlining key fault)
 
--- The job is one of the catalog, each tile of its work has room, and all that is held is true. These are tiles of its work, in dependence
--- order, all those of which nothing is held among them
+-- The job is one of the catalog, each tile of its work fits into scratch memory, and all that is held is true. These are tiles of
+-- its work, in dependence order, among them all those of which nothing is held
 pub record LeavesTiles (catalog : List Entry) (entry : Entry) (inlining : List Bool) (s : FactSet) (tiles : List Tile) : Type 0 where
   pub apart : IsCatalog catalog
   pub good : IsJob entry.pipeline
@@ -40,7 +40,7 @@ abbrev pub IsLeft : List Entry → Entry → List Bool → FactSet → List Key 
 IsLeft catalog entry inlining s keys =
     (tiles : List Tile) × (keys ≡ map (key_in entry) tiles) × LeavesTiles catalog entry inlining s tiles
 
--- all that is held is true, and all tiles from which the answer is put together are held
+-- all that is held is true, and all tiles from which the answer is composed are held
 pub record HoldsAnswerOf (catalog : List Entry) (s : FactSet) (entry : Entry) : Type 0 where
   pub apart : IsCatalog catalog
   pub good : IsJob entry.pipeline

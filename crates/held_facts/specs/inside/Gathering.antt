@@ -1,4 +1,4 @@
--- The partials that are held of a stage, row by row, and what came in of them.
+-- The partials that are held of a stage, row by row, and what was accumulated of them.
 use Rattle.std.specs.List.{flat_map, range_with_len}
 use Rattle.std.specs.Prelude.{◌≡◌, ◌++◌, ℕ, ℤ, List}
 use Rattle.accumulators.specs.Gatherings.{HasTaken}
@@ -12,7 +12,7 @@ use Rattle.held_facts.specs.inside.Judging.{tile_key}
 abbrev pub row_partials : FactSet → List ℕ → Pipeline → ℕ → ℕ → ℕ → List (List ℤ)
 row_partials s program job g n i = flat_map (λ j. partials_of s (tile_key program job g i j)) (range_with_len 0 n)
 
--- besides what came in before of stage g these partials came in
+-- after what was taken before, these partials of stage g were taken
 pub record CameIn (job : Pipeline) (g : ℕ) (xs : List (List ℤ)) (before now : Gathering) : Type 0 where
   pub span : now.span ≡ before.span
   pub taken : (partials : List (List ℤ)) → HasTaken job g partials before → HasTaken job g (partials ++ xs) now

@@ -17,7 +17,7 @@ use Rattle.held_facts.specs.declared.answer_fault.AnswerFault.TheVariants as fau
 abbrev pub tile_key : List ℕ → Pipeline → ℕ → ℕ → ℕ → Key
 tile_key program job g i j = key_of program job (record { stage = g; row = i; col = j })
 
--- the fault names the key, and tells what is wrong with it
+-- the fault names the key, and is what is wrong with it
 abbrev pub IsFaultAt : FactSet → Pipeline → Key → AnswerFault → Type 0
 IsFaultAt s job key (fault.Missing other) = (other ≡ key) × IsNotHeld s key
 IsFaultAt s job key (fault.Disputed other) = (other ≡ key) × IsDisputed s key

@@ -1,4 +1,4 @@
--- The line of what an accumulator gathered.
+-- The line of what an accumulator accumulated.
 use Rattle.std.specs.Prelude.{ℕ, List, [], slice_get}
 use Rattle.std.specs.Option.{option_map_or}
 use Rattle.accumulators.specs.Answers.{Gathered}

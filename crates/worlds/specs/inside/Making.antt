@@ -1,4 +1,4 @@
--- What a node makes from a state, by its own schedule, and what it can't make.
+-- What a node makes from a state, by its own schedule, and what it cannot make.
 use Rattle.std.specs.Prelude.{◌≡◌, ℕ, Bool, Some, List}
 use Rattle.catalog.specs.Entries.{Entry, StandsAt, ids_in}
 use Rattle.identity.specs.declared.key.Key.{Key}
@@ -28,12 +28,12 @@ abbrev pub CannotBeMade : Work → ℕ → State → Key → MakeFault → Type 
 CannotBeMade u n s key makes.Foreign = (i : ℕ) → ¬ (StandsAt u.jobs (ids_in key) i)
 CannotBeMade u n s key fault = (inlining : List Bool) × IsScheduleFor u n key inlining × IsMakeFault u.jobs s inlining key fault
 
--- how that is told
+-- how that is reported
 abbrev pub refusal_of : MakeFault → StepFault
 refusal_of makes.Memory = faults.Memory
 refusal_of fault = faults.Make fault
 
--- the first of the tiles that are lacked that has no room
+-- the first of the lacked tiles that does not fit in scratch memory
 abbrev pub IsRoomFault : FactSet → Entry → List Bool → FinishFault → Type 0
 IsRoomFault s entry inlining (finish.ScratchTooBig key) = first_without_room entry.pipeline inlining (lacked_work s entry inlining)
     ≡ Some key
