@@ -1,1 +1,1 @@
-"""Random programs and pictures, what is done to their texts, and what must hold of the program's answers."""
+"""Random programs, pictures, fact files and scripts, what is done to their texts, and what must hold of the program's answers."""

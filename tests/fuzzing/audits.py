@@ -2,10 +2,13 @@
 retire jobs."""
 import re
 from random import Random
+from typing import Iterable
+
+from reference.facts import Content, Fact, Ids, content_of, joined, merged, mixed
+from reference.values import Meaning, Point
+from reference.words import wrapped
 
 from .answers import Answer, Program, demand
-from .facts import Content, Fact, Ids, content_of, merged, split, text_of
-from .values import Meaning, Point, wrapped
 
 SEPARATOR = b"%%\n"
 LAST = 2**32 - 1
@@ -89,12 +92,12 @@ def audited(program: Program, text: bytes, picture: bytes, words: tuple[str, ...
     wanted, more = judge.answer(content_of(files)), random.choice([(), ("--stored",), ("--percent", "300")])
     answer = program.call(text + SEPARATOR + files + SEPARATOR + picture, "audit", *words, *more)
     demand(answer == wanted, f"audit: {answer.shown()} in place of {wanted.shown()}")
-    bad = damaged(files, random)
+    bad = mutated(files, random)
     if b"%%" not in bad:
         status, line = merged(bad)
         wanted = Answer(status, line) if status else judge.answer(content_of(bad))
         answer = program.call(text + SEPARATOR + bad + b"\n" + SEPARATOR + picture, "audit", *words)
-        demand(answer == wanted, f"audit of damaged files: {answer.shown()} in place of {wanted.shown()}")
+        demand(answer == wanted, f"audit of mutated files: {answer.shown()} in place of {wanted.shown()}")
 
 
 def merging(program: Program, text: bytes) -> None:
@@ -104,13 +107,13 @@ def merging(program: Program, text: bytes) -> None:
 
 
 def merged_at_random(program: Program, random: Random) -> None:
-    """Facts of no job in random files, some of which retire their jobs, and what damage makes of these."""
+    """Facts of no job in random files, some of which retire their jobs, and mutations of these."""
     ids = [bytes(32), bytes(31) + b"\1", random.randbytes(32)]
     facts = [some_fact(ids, random) for _ in range(random.randint(0, 6))]
     retired = {some_ids(ids, random) for _ in range(random.choice([0, 0, 1, 1, 2, 3, 9]))}
     text = text_of(split(sorted(set(facts)), random, retired), random)
     merging(program, text)
-    merging(program, damaged(text, random))
+    merging(program, mutated(text, random))
 
 
 def some_fact(ids: list[bytes], random: Random) -> Fact:
@@ -125,7 +128,30 @@ def some_ids(ids: list[bytes], random: Random) -> Ids:
     return random.choice(ids), random.choice(ids)
 
 
-def damaged(text: bytes, random: Random) -> bytes:
+def split(facts: list[Fact], random: Random, retired: Iterable[Ids] = ()) -> list[Content]:
+    """The facts in files: in each a random part of them, in some of these all that the others have, and each fact in one at least. Each job
+    that is retired is so in one at least too, which has no fact of it: so some facts may be in none."""
+    files = [[it for it in facts if random.random() < 0.5] for _ in range(random.randint(0, 3))]
+    last = [it for it in facts if random.random() < 0.3 or not any(it in file for file in files)]
+    files.append(last)
+    random.shuffle(files)
+    jobs: list[set[Ids]] = [set() for _ in files]
+    for ids in retired:
+        for at in random.choices(range(len(files)), k=2):
+            jobs[at].add(ids)
+    return [joined([Content(sorted(ids), it)]) for ids, it in zip(jobs, files)]
+
+
+def text_of(files: list[Content], random: Random) -> bytes:
+    """A text of these files in random letters and with empty lines."""
+    lines = []
+    for content in files:
+        digits = content.file().hex()
+        lines += [""] * random.choice([0, 0, 0, 1, 2]) + [random.choice([str, str.upper, mixed])(digits)]
+    return "\n".join(lines).encode() + random.choice([b"", b"\n", b"\n", b"\n\n"])
+
+
+def mutated(text: bytes, random: Random) -> bytes:
     """The text with a byte or two changed, cut, repeated or put in."""
     part = bytearray(text)
     for _ in range(random.choice([1, 1, 2])):

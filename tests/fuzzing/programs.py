@@ -2,8 +2,11 @@
 from dataclasses import dataclass, field
 from random import Random
 
-from .pictures import Picture
-from .tables import Table, declared, random_table
+from reference.pictures import Picture
+from reference.tables import Table, declared
+from reference.words import CALLS
+
+from .pictures import random_table
 
 SHIFT = 4096
 OPERATORS = ["sum", "min", "max"]
@@ -131,12 +134,10 @@ class Writer:
             return ["(", *inner(), ")", *self.random.choice([("/", "3"), ("%", "7"), ("<<", "2"), (">>", "1"), ("/", "16")])]
         if choice == 4:
             return ["(", "-", *inner(), ")"]
-        if choice == 5:
-            return [self.random.choice(["min", "max"]), "(", *inner(), ",", *inner(), ")"]
-        if choice == 6:
-            return ["abs", "(", *inner(), ")"]
-        if choice == 7:
-            return ["clamp", "(", *parted([inner(), inner(), inner()]), ")"]
+        if choice <= 7:
+            operands = {5: 2, 6: 1, 7: 3}[choice]
+            word = self.random.choice([word for word, call in CALLS.items() if call.operands == operands])
+            return [word, "(", *parted([inner() for _ in range(operands)]), ")"]
         test = [*inner(), self.random.choice(["<=", ">=", "=="]), *inner()]
         return ["select", "(", *parted([test, inner(), inner()]), ")"]
 

@@ -3,12 +3,15 @@ import re
 from dataclasses import dataclass
 from random import Random
 
+from reference.pictures import Picture
+from reference.values import Meaning
+
 from .answers import CHECKED, PLANNED, Answer, Program, demand
 from .audits import audited, merged_at_random
-from .pictures import Picture, picture
+from .pictures import random_picture
+from .pictures import spelled as picture_spelled
 from .programs import Writer, spelled, spelled_otherwise
 from .scripts import another_script, worlded
-from .values import Meaning
 
 SEPARATOR = b"%%\n"
 FARMS = {"--nodes": (1, 2, 3, 8), "--turns": (0, 1, 3, 20), "--capacity": (1, 2, 8, 1024), "--lose": (0, 1, 2, 7), "--repeat": (0, 1, 3),
@@ -39,15 +42,15 @@ def some_farm(random: Random) -> list[str]:
 
 def judged(program: Program, random: Random) -> str:
     """Makes a case and demands all that must hold of it. Says how it ended."""
-    taken = picture(random)
+    taken = random_picture(random)
     written = Writer(random, taken).program()
     taken = taken.with_tables(written.tables)
     words = tuple(written.values if random.random() < 0.9 else [it for it in written.values if it[0] == "p"])
-    case = Case(spelled(written.tokens), taken.lines() + taken.spelled(random), words)
+    case = Case(spelled(written.tokens), taken.lines() + picture_spelled(taken, random), words)
     answer = of_one_case(program, case, taken, random)
     another_spelling(program, case, written.tokens, taken, random)
     for _ in range(3):
-        damaged(program, case, random)
+        mutated(program, case, random)
     merged_at_random(program, random)
     if answer.is_refusal:
         told = program.call(SEPARATOR.join([case.text, another_script(random), case.picture]), "world", *case.words)
@@ -133,7 +136,7 @@ def another_spelling(program: Program, case: Case, tokens: list[str], taken: Pic
             demand(first == second, f"{command} of another spelling of the text: {second.shown()} in place of {first.shown()}")
 
 
-def damaged(program: Program, case: Case, random: Random) -> None:
+def mutated(program: Program, case: Case, random: Random) -> None:
     """A text or a picture with a few bytes changed, cut, repeated or moved is refused by all commands in the same words, or by none."""
     parts = [case.text, case.picture]
     which = random.random() < 0.4

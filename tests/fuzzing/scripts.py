@@ -1,11 +1,12 @@
 """Random scripts over the tiles of a job, and what `world` must answer to them."""
 from random import Random
 
+from reference.schedules import Schedule
+from reference.texts import identities
+from reference.values import Meaning
+from reference.worlds import MOST_NODE, MOST_NUMBER, MOST_STAGE, SEPARATOR, Event, Job, Refused, Tile, World, after
+
 from .answers import Answer, Program, demand
-from .schedules import Schedule
-from .texts import identities
-from .values import Meaning
-from .worlds import MOST_NODE, MOST_NUMBER, MOST_STAGE, SEPARATOR, Event, Job, Refused, Tile, World, after
 
 VERBS = ["make"] * 6 + ["deliver"] * 6 + ["send"] * 3 + ["merge", "keep", "restart"]
 # words that are no numbers, or no numbers of what they should be
@@ -110,7 +111,7 @@ def digits(number: int, random: Random) -> str:
     return random.choice(["", "", "", "", "", "0", "000"]) + str(number)
 
 
-def damaged(lines: list[str], random: Random) -> list[str]:
+def mutated(lines: list[str], random: Random) -> list[str]:
     """The lines with a bad one among them, or with a line changed, which is bad then most often."""
     at, choice = random.randrange(len(lines) + 1), random.randrange(5)
     if choice <= 1 or not lines:
@@ -150,7 +151,7 @@ def worlded(program: Program, text: bytes, picture: bytes, words: tuple[str, ...
     nodes = random.choice([1, 2, 2, 2, 3, 16])
     options += ["--nodes", str(nodes)] if nodes != 2 or random.random() < 0.3 else []
     lines = spelled(Writer(job, nodes, random).events(random.choice([0, 3, 20, 60, 200])), random)
-    for told in (text_of(lines), text_of(damaged(lines, random))):
+    for told in (text_of(lines), text_of(mutated(lines, random))):
         if b"\n%%\n" not in b"\n" + told:
             wanted = Answer(*after(job, nodes, told))
             answer = program.call(SEPARATOR.join([text, told, picture]), "world", *options, *words)

@@ -1,4 +1,4 @@
-"""The calls that may be refused memory, each with what it is given: a word of the program, the call, and what it is given."""
+"""The calls that allocate: of each a word of the program, the call, and its arguments."""
 from typing import NamedTuple
 
 
@@ -8,7 +8,7 @@ class Call(NamedTuple):
     given: str
 
 
-# Faults that are found without memory, so that nothing can be refused there.
+# Faults that are found without memory, so that no allocation can fail there.
 REFUSED_WITHOUT = ("read_cut", "of_output", "plan_nowhere", "run_tile_missing", "decode_cut", "lend_missing", "command_usage")
 # Calls that take none: these, and one that has room.
 WITHOUT_MEMORY = (*REFUSED_WITHOUT, "retire_second")
@@ -16,7 +16,7 @@ WITHOUT_MEMORY = (*REFUSED_WITHOUT, "retire_second")
 # Those that are answered a fault with ample memory.
 FAULTS = (*REFUSED_WITHOUT, "read_big", "table_cut", "check_cycle", "bounds_left", "make_missing")
 
-# Threads take memory of the system's library, in an order that no program sets: so many growths are tried there.
+# Threads take memory of the system's library, in an order that no program sets: so many allocations are tried there.
 FARMS = ("farm", "run_stream")
 MOST_OF_FARMS = 400
 

@@ -1,4 +1,4 @@
-"""The program of the tests that are compiled without proofs, and of the calls that may be refused memory: one build for both.
+"""The program of the tests that are compiled without proofs, and of the calls whose allocations fail: one build for both.
 
 Its sources are src/*.rattle: where they stand, the toolchain takes them for no crate. It stands on those libraries of crates.txt that they
 name. The program is kept in out/native, beside the sum of all that it was made of, and built anew where that differs.
@@ -91,7 +91,7 @@ def program() -> str:
     """The program, built if what is kept is not of these files."""
     os.makedirs(os.path.dirname(KEPT), exist_ok=True)
     with open(f"{KEPT}.lock", "w", encoding="utf-8") as turn:
-        # (the tests and the calls with memory refused may begin side by side, and share one build)
+        # (the tests and the calls whose allocations fail may begin side by side, and share one build)
         fcntl.flock(turn, fcntl.LOCK_EX)
         return kept_or_built()
 

@@ -1,1 +1,0 @@
-"""Judges wrong bodies: many edits of a crate by one check of one copy. See docs/GATE.md."""
