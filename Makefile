@@ -1,6 +1,6 @@
-.PHONY: build cases check demo edits fuzz help mutants quick test tools
+.PHONY: build cases check demo fuzz help mutants quick test tools
 program := crates/tilefarm/out/tilefarm
-# The same program for processors with AVX2: where this machine's has that, and "make build" left it behind the other one.
+# The same program for processors with AVX2: where this machine's has that, and "make build" made it after the other one.
 wide = $(shell grep -qw avx2 /proc/cpuinfo && [ $(program).x86-64-v3 -nt $(program) ] && echo $(program).x86-64-v3)
 
 # Lists the goals: each with the comment above it.
@@ -15,30 +15,27 @@ demo:
 	@echo '(run without proofs, by rt try; "make test" checks the proofs and leaves the proved program in'
 	@echo ' crates/tilefarm/out/tilefarm)'
 
-# The gate: every proof, every test, every stored run, the conformance cases, the examples, and wrong bodies for 45 minutes of
+# The gate: every proof, every test, every stored run, the conformance cases, the examples, and mutants for 45 minutes of
 # processor time.
 test:
 	@tests/gate
 
-# Every wrong body, however long that takes: before a release. Libraries that changed are proved first.
+# The mutants of the crates that are named, over kept work: make mutants domains netpbm. Without a name all of them, from nothing,
+# however long that takes: before a release. Libraries that changed are proved first.
 mutants:
-	@tests/run_edits
+	@tests/run_mutants $(if $(NAME),--kept $(NAME))
 
-# What changed, over kept work; and each wrong body that no longer applies.
+# What changed, over kept work; and each mutant that no longer applies.
 check:
-	@rt all check; status=$$?; tests/run_edits --read && exit $$status
+	@rt all check; status=$$?; tests/run_mutants --read && exit $$status
 
-# The wrong bodies of the crates that are named, over kept work: make edits domains netpbm. All of them where none is named.
-edits:
-	@tests/run_edits --kept $(NAME)
-
-# The words behind `edits` name crates, and are no goals of their own.
-ifeq (edits,$(firstword $(MAKECMDGOALS)))
+# The words after `mutants` name crates, and are no goals of their own.
+ifneq (,$(filter mutants,$(firstword $(MAKECMDGOALS))))
 NAME := $(wordlist 2,$(words $(MAKECMDGOALS)),$(MAKECMDGOALS))
 $(eval $(if $(NAME),$(NAME):;@:))
 endif
 
-# The proved program, over kept work, as fast as the machine allows, without any wrong body or test; and one for processors with
+# The proved program, over kept work, as fast as the machine allows, without any mutant or test; and one for processors with
 # AVX2, where this machine's has that.
 build:
 	@tests/build
@@ -47,15 +44,15 @@ build:
 quick:
 	@tests/quick
 
-# The conformance cases, on the programs that stand built.
+# The conformance cases, on the built programs.
 cases: | $(program)
 	@tests/run_cases $(program) $(wide)
 
-# Random jobs on the program that stands built, from a seed on: make fuzz CASES=5000 SEED=7.
+# Random jobs on the built program, from a seed on: make fuzz CASES=5000 SEED=7.
 fuzz: | $(program)
 	@tests/fuzz $(program) $(if $(CASES),--cases $(CASES)) $(if $(SEED),--seed $(SEED))
 
-# What stands round the program, on the one that stands built: tf, the pages, the errors' texts, the guide and the gallery.
+# What is around the program, on the built one: tf, the pages, the errors' texts, the guide and the gallery.
 tools: | $(program)
 	@tests/test_pages && tools/make_usage --check && tests/test_tf && tests/test_play && tests/test_errors && tests/test_guide && docs/gallery/make --check
 

@@ -26,5 +26,5 @@ def main() -> int:
     # (a part of a test has the test's name, and its own behind that)
     failed = len({re.split(r" [\[(]", case.id())[0] for case, _ in [*result.failures, *result.errors]})
     lost = not result.testsRun
-    print(f"{result.testsRun - failed} passed, {failed + lost} failed")
+    print(f"{max(0, result.testsRun - failed)} passed, {failed + lost} failed")
     return 1 if failed or lost else 0

@@ -26,28 +26,30 @@ class Entry(NamedTuple):
 
 FORMAT = Entry(
     "format", ("tests/test_format",), TEXT,
-    "Each crate's text is as `rt fmt` writes it, without which it is not proved; told at once",
+    "Each crate's text is as `rt fmt` writes it, without which it is not proved; reported at once",
 )
 PROVE = Entry(
     "proofs", ("rt", "ci"), TEXT,
     "Each crate meets its contracts, and its tests are safe and pass. Each program, built by two compilers, writes what its stored run "
-    "has. The wrong bodies in `crates/NAME/must-fail` are refused, each by a check of its own",
+    "has. The mutants in `crates/NAME/must-fail` are refused, each by a check of its own",
     "rt ci",
 )
-BODIES = Entry(
-    "wrong bodies", ("tests/run_edits", "--as-built"), PROOFS,
-    "Each edit of `tests/edits/NAME` that its budget has room for is refused: the contracts tell it from the body that stands there. "
-    "`tests/gate --all-bodies` has no budget",
-    "make edits NAME",
+MUTANTS = Entry(
+    "mutants", ("tests/run_mutants", "--as-built"), PROOFS,
+    "Each mutant of `tests/mutants/NAME` that its budget allows is refused: the contracts distinguish it from the function as it is. "
+    "`tests/gate --all-mutants` has no budget",
+    "make mutants NAME",
 )
 
 CHECKS = tuple(Entry(*it) for it in (
-    ("tests of the runner", ("tests/test_run_edits.py",), TEXT,
-     "A harmless edit is told as not refused, alone, beside wrong ones and in a caller of one; what a budget leaves is counted and named"),
+    ("tests of the runner", ("tests/test_run_mutants.py",), TEXT,
+     "An equivalent mutant is reported as not refused, alone, beside others and in a caller of one. What a budget leaves is counted and named"),
     ("tests of the gate", ("tests/test_gate.py",), TEXT,
-     "What fails in a step is counted, and hides no other step; what the clock leaves is told by name, and the budget is handed on"),
+     "What fails in a step is counted, and hides no other step. What the clock leaves is reported by name, and the budget is passed on"),
+    ("tests of kept proofs", ("tests/test_prove.py",), TEXT,
+     "Kept proofs are not taken where a text, a library below or a kept file has changed, nor with `--anew`. What was refused is never kept"),
     ("tests of the tests without proofs", ("tests/test_native",), TEXT,
-     "A test that fails or is ended by a signal is told by name with what it says, and hides no other"),
+     "A test that fails or is ended by a signal is reported by name with its output, and hides no other"),
     ("libraries that are listed", ("tests/test_cites",), TEXT,
      "Each library that `crates.txt` lists for a crate is named by a file of it: a check reads all that is listed"),
     ("pages", ("tests/test_pages",), TEXT,
@@ -57,27 +59,27 @@ CHECKS = tuple(Entry(*it) for it in (
     ("conformance cases", ("tests/run_cases", *PROGRAMS), PROOFS,
      "Both programs answer each stored input, as the examples, with the very bytes and the very exit status; that of Rattle's own compiler, "
      "whose frames are larger, with a stack of 32 MiB"),
-    ("memory refused", ("tests/refusals", BUILT), PROOFS,
-     "With each growth of memory refused in turn, one a run, each kind of answer is what it is with ample memory, or `memory` with its "
-     "status and nothing else; a farm may tell too that a thread could not be started"),
+    ("out of memory", ("tests/oom", BUILT), PROOFS,
+     "Each allocation fails in turn, one a run. Each kind of answer is what it is with ample memory, or `memory` with its status and "
+     "nothing else. A farm may also report that a thread could not be started"),
     ("the program without proofs", ("tests/test_quick",), TEXT,
      "`make quick` makes a program, which answers the examples as they are stored, and says what it is"),
     ("tests without proofs", ("tests/native/run",), TEXT,
      "Worked rows, histories, edges and comparisons of all crates, and threads that meet: compiled without proofs, with a test at each "
      "place where a proof would be owed, each in a process of its own"),
-    ("memory refused to each call", ("tests/native/sweep",), TEXT,
-     "Each call of [this table](REFUSED_GROWTHS.md) is made on a worked example with each growth refused in turn: it answers what it does with ample "
-     "memory, or `Memory`, and then what it works on is as it was, what it was given has come back, and the same call succeeds. What "
-     "these call is refused memory within them"),
-    ("damaged pictures, fact files and scripts", ("tests/damage", BUILT), PROOFS,
-     "Pictures of each format that are cut at each byte, or have one byte changed to each of the 255 others, are answered as a reader "
-     "that was written apart answers them: the fault with its offset, or the identity of the input. So is a fact file of two facts: the "
-     "fault with its offset, or the file again. So are texts of fact files that are cut at each byte, or have one changed to another "
-     "digit or to what is none: the fault with its line and offset, or the union, or the verdicts. So are scripts that are cut at each "
-     "byte, or have one changed, left out or twice: the first faulty line, or what the nodes of a world hold"),
-    ("reads and writes that stop", ("tests/stops", BUILT), PROOFS,
-     "With a writer that fails behind so many bytes, each number of them in turn, just these bytes stand, and the status is the "
-     "fault's; with a reader that does, `input failed` stands alone. A call that is interrupted is a failed one, and is not made again. "
+    ("out of memory in each call", ("tests/native/sweep",), TEXT,
+     "Each call of [this table](OOM.md) is made on a worked example, where each allocation fails in turn. It answers what it does with "
+     "ample memory, or `Memory`. Then its object is unchanged, its arguments are handed back, and the same call succeeds. Allocations of "
+     "its callees fail within it"),
+    ("mutations of pictures, fact files and scripts", ("tests/mutations", BUILT), PROOFS,
+     "Pictures of each format, cut at each byte or with one byte changed to each of the 255 others, are answered as the reference reader "
+     "answers them. The answer is the fault with its offset, or the identity of the input. A fact file of two facts gives the "
+     "fault with its offset, or the file again. Texts of fact files are cut at each byte, or have a digit changed to another or to what is "
+     "none. They give the fault with its line and offset, the union, or the verdicts. Scripts are cut at each byte, or have a byte changed, "
+     "dropped or repeated. They give the first faulty line, or what the nodes of a world hold"),
+    ("I/O faults", ("tests/io_faults", BUILT), PROOFS,
+     "With a writer that fails after so many bytes, each number of them in turn, exactly these bytes are written, and the status is the "
+     "fault's. With such a reader the answer is `input failed` alone. A call that is interrupted has failed, and is not made again. "
      "Few bytes a call change nothing. All commands, inputs that are accepted and inputs that are refused"),
     ("results of the examples", ("examples/expected",), PROOFS,
      "The examples' results are those that plain sums give"),
@@ -90,7 +92,7 @@ CHECKS = tuple(Entry(*it) for it in (
      "draws"),
     ("jobs in parts", ("tests/test_parts", BUILT), PROOFS,
      "What is cut into parts, run and joined is byte for byte what one run writes: each stored program and three hundred random ones, over small "
-     "pictures; refusals have the same words. Pictures that no run takes have the values that an evaluator says that was written apart"),
+     "pictures; refusals have the same words. Pictures that no run takes have the values of the reference evaluator"),
     ("engines of tf", ("tests/test_cluster", BUILT), PROOFS,
      "With a scheduler and three workers as processes, one of which is killed, lies or has another program, the picture is what `eval` "
      "writes, or what is wrong is named. By Dask where it is installed, and always by a stand-in with the same calls"),
@@ -105,28 +107,27 @@ CHECKS = tuple(Entry(*it) for it in (
      "What the pages' commands are shown to write is what they write"),
     ("gallery", ("docs/gallery/make", "--check", BUILT), PROOFS,
      "Its pictures, graphs and page are what is made now"),
-    ("limits, each at its value and one past", ("tests/edges", BUILT), ALONE,
-     "A job at each limit of texts, pictures, literals, domains and tiles is accepted, and means what an evaluator says that was "
-     "written apart; one past it has the limit's own refusal: by `eval`, `check` and `world`. So have values of options, scripts of "
-     "65,536 events, facts of the most numbers and a tile that takes all scratch memory. `audit` and `merge` take a file with a fact "
-     "of each verdict. Farms that lose all, repeat all and restart in each turn write the result. Each prefix of a text is refused by "
-     "name, or accepted as its canonical text is. With less and less room for memory each command answers as usual, or `memory` and "
-     "nothing else; a farm may tell that a thread could not be started, and where the whole address space is limited, the system ends "
-     "a process by a signal when its stack cannot grow, which passes there alone"),
-    ("one processor and several", ("tests/threads", BUILT), ALONE,
-     "All cases are answered alike on one, two and four processors, as far as there are so many, a dozen of them a hundred times; "
-     "4,096 tiles of one point are computed by several threads, and a small picture by one. `run` starts two threads for each node, and "
-     "goes through the turns and restarts and by the schedule that it is told"),
+    ("limits, each at its value and one past", ("tests/limits", BUILT), ALONE,
+     "A job at each limit of texts, pictures, literals, domains and tiles is accepted, with the reference evaluator's values. A job one "
+     "past it has the limit's own refusal: by `eval`, `check` and `world`. So have values of options, scripts of 65,536 events, facts of "
+     "the most numbers and a tile that takes all scratch memory. `audit` and `merge` take a file with a fact of each verdict. Farms that "
+     "lose all, repeat all and restart in each turn write the result. Each prefix of a text is refused by name, or accepted as its "
+     "canonical text is. With less and less memory each command answers as usual, or `memory` and nothing else. A farm may also report "
+     "that a thread could not be started. Where the address space is limited, the system may end a process whose stack cannot grow"),
+    ("one processor and several", ("tests/cpu_counts", BUILT), ALONE,
+     "All cases are answered alike on one, two and four processors, as far as there are so many, a dozen of them a hundred times. "
+     "4,096 tiles of one point are computed by several threads, and a small picture by one. `run` starts two threads for each node. Its "
+     "turns, restarts and schedule are those of its options"),
     ("random jobs", ("tests/fuzz", BUILT), ALONE,
-     "Refusals of random and of damaged programs and pictures have their line and their status, `check`, `plan` and `eval` refuse the "
-     "same in the same words, and a result is the same under every schedule, every tile sides and every spelling, and by every farm. "
-     "Random facts in random files, in any order and with repeats, are merged into their union, and audited as an evaluator that was "
-     "written apart judges them. Random scripts, with messages that are lost, late or repeated, leave the nodes of a world with the "
-     "facts that a model tells which was written apart too; it also tells the lines of `plan` and the identities of `check`"),
+     "Refusals of random and of mutated programs and pictures have their line and their status. `check`, `plan` and `eval` refuse the "
+     "same in the same words. A result is the same under every schedule, every tile sides and every spelling, and by every farm. "
+     "Random facts in random files, in any order and with repeats, are merged into their union, and audited as the reference evaluator "
+     "judges them. Random scripts, with messages that are lost, late or repeated, leave the nodes of a world as the reference model does. "
+     "The lines of `plan` and the identities of `check` are the reference model's too"),
 ))
 
 # In the order in which they are begun.
-STEPS = (FORMAT, PROVE, *CHECKS, BODIES)
+STEPS = (FORMAT, PROVE, *CHECKS, MUTANTS)
 
 
 def table() -> list[str]:

@@ -17,6 +17,7 @@ import counted_tests
 import gate_table
 
 PROVES = """#!/bin/sh
+# ci [--anew]
 echo "rt ci: $*"
 [ -e crates/small/out ] && echo "rt: older work" && exit 1
 mkdir -p crates/small/out
@@ -26,17 +27,18 @@ mkdir -p crates/tilefarm/out
 echo program > crates/tilefarm/out/tilefarm
 echo "3 passed, 0 failed"
 """
-REFUSES = "#!/bin/sh\necho 'the reason'\necho 'rt: small NOT PROVED'\necho '1 passed, 1 failed'\nexit 1\n"
-SLEEPS = "#!/bin/sh\necho begun\nsleep 60\necho '9 passed, 0 failed'\n"
+REFUSES = "#!/bin/sh\n# ci [--anew]\necho 'the reason'\necho 'rt: small NOT PROVED'\necho '1 passed, 1 failed'\nexit 1\n"
+SLEEPS = "#!/bin/sh\n# ci [--anew]\necho begun\nsleep 60\necho '9 passed, 0 failed'\n"
 JUDGES = """echo "words: $*"
-echo "edits: small: 1 of 1 refused, 2 checks, 61.0 s of processor, 30.4 s by the clock, 1 kept"
+echo "mutants: small: 1 of 1 refused, 2 checks, 61.0 s of processor, 30.4 s by the clock, 1 kept"
 echo "3 passed, 0 failed"
 """
-JUDGES_SOME = JUDGES.replace('echo "3 passed', 'echo "edits: small/other: SKIPPED"\necho "2 passed').replace("0 failed", "0 failed, 1 skipped")
+JUDGES_SOME = JUDGES.replace('echo "3 passed', 'echo "mutants: small/other: SKIPPED"\necho "2 passed').replace("0 failed", "0 failed, 1 skipped")
 STUBS = {
     **{it.command[0]: "echo '1 passed, 0 failed'" for it in (gate_table.FORMAT, *gate_table.CHECKS)},
-    "tests/run_edits": JUDGES,
-    "tests/test_run_edits.py": "echo '5 passed, 0 failed'",
+    "tests/prove": "exit 1",
+    "tests/run_mutants": JUDGES,
+    "tests/test_run_mutants.py": "echo '5 passed, 0 failed'",
     "tests/run_cases": "cat \"$1\"\necho '6 passed, 1 failed'\nexit 1",
     "examples/expected": "exit 0",
     "examples/show": "echo 'a difference'\nexit 3",
@@ -87,7 +89,7 @@ class Gate(unittest.TestCase):
         write(f"{self.top}/crates/small/src/lib.rt", "changed")
         status, lines = self.gate(PROVES)
         self.assertEqual(status, 1)
-        # 3 of the proofs, 3 wrong bodies
+        # 3 of the proofs, 3 mutants
         self.assertEqual(lines[-1], f"{PASSED + 6} passed, 2 failed")
         self.assertIn("gate: HEAD is judged, and not these changes, which are not committed:", lines)
         self.assertIn(" M crates/small/src/lib.rt", lines)
@@ -106,28 +108,34 @@ class Gate(unittest.TestCase):
         head = lines.index("== gate: page of the examples: what failed")
         self.assertEqual(lines[head + 1], "a difference")
 
-    def test_wrong_bodies_come_last_in_an_order_of_the_commit(self):
+    def test_mutants_come_last_in_an_order_of_the_commit(self):
         _, lines = self.gate(PROVES)
         head = subprocess.run(["git", "rev-parse", "HEAD"], cwd=self.top, capture_output=True, text=True).stdout.strip()
-        words = f"words: --as-built --order {head} --left {os.path.realpath(self.top)}/out/bodies_not_judged"
+        words = f"words: --as-built --order {head} --left {os.path.realpath(self.top)}/out/mutants_not_judged"
         self.assertIn(f"{words} --budget 45", lines)
         begun = [it for it in lines if it.startswith("== gate: ") and "/" in it]
-        self.assertTrue(begun[-1].startswith("== gate: wrong bodies: "))
+        self.assertTrue(begun[-1].startswith("== gate: mutants: "))
 
-    def test_the_budget_of_wrong_bodies_is_handed_on(self):
-        for words, budget in {("--bodies", "7.5"): ["--budget", "7.5"], ("--bodies", "0"): ["--budget", "0"], ("--all-bodies",): []}.items():
+    def test_the_budget_of_mutants_is_handed_on(self):
+        for words, budget in {("--mutants", "7.5"): ["--budget", "7.5"], ("--mutants", "0"): ["--budget", "0"], ("--all-mutants",): []}.items():
             with self.subTest(words):
                 _, lines = self.gate(PROVES, *words)
                 told = next(it for it in lines if it.startswith("words: ")).split()
                 self.assertEqual(told[told.index("--budget") :] if "--budget" in told else [], budget)
 
     def test_a_budget_and_none_are_not_asked_for_together(self):
-        self.assertEqual(self.gate(PROVES, "--bodies", "5", "--all-bodies")[0], 2)
+        self.assertEqual(self.gate(PROVES, "--mutants", "5", "--all-mutants")[0], 2)
 
     def test_all_is_done_anew_where_that_is_asked_for(self):
         _, lines = self.gate(PROVES, "--anew")
         self.assertIn("rt ci: ci --anew", lines)
         self.assertEqual([" --anew" in it for it in lines if it.startswith("words: ")], [True])
+
+    def test_proofs_are_kept_for_a_toolchain_that_keeps_none(self):
+        self.replace("tests/prove", PROVES.removeprefix("#!/bin/sh\n").replace("echo", "echo 'prove: small kept'; echo", 1))
+        _, lines = self.gate("#!/bin/sh\nexit 1\n", "--anew")
+        self.assertIn("rt ci: --anew", lines)
+        self.assertIn("gate: 0 of 1 proofs of crates and of tests were made anew, 1 by earlier runs here", lines)
 
     def test_without_the_proofs_nothing_stands_on_them(self):
         status, lines = self.gate(REFUSES)
@@ -140,13 +148,13 @@ class Gate(unittest.TestCase):
         self.assertTrue(any(it.startswith("gate: not tried, since a proof failed: conformance cases, ") for it in lines))
         self.assertFalse(os.path.exists(f"{self.top}/crates/tilefarm/out"))
 
-    def test_wrong_bodies_that_the_clock_leaves_are_counted_and_fail_nothing(self):
-        self.replace("tests/run_edits", JUDGES_SOME)
+    def test_mutants_that_the_clock_leaves_are_counted_and_fail_nothing(self):
+        self.replace("tests/run_mutants", JUDGES_SOME)
         self.replace("tests/run_cases", "echo '7 passed, 0 failed'")
         self.replace("examples/show", "exit 0")
         status, lines = self.gate(PROVES, "--minutes", "10")
         self.assertEqual((status, lines[-1]), (0, f"{PASSED + 7} passed, 0 failed, 1 skipped"))
-        self.assertIn("edits: small/other: SKIPPED", lines)
+        self.assertIn("mutants: small/other: SKIPPED", lines)
         self.assertTrue(any(it.startswith("words: ") and " --until " in it for it in lines))
 
     def test_proofs_that_the_clock_ends_have_failed(self):
@@ -157,7 +165,7 @@ class Gate(unittest.TestCase):
         self.assertNotIn("9 passed, 0 failed", lines)
 
     def test_a_test_that_the_clock_leaves_no_time_for_has_failed(self):
-        self.replace("tests/edges", "sleep 60")
+        self.replace("tests/limits", "sleep 60")
         status, lines = self.gate(PROVES, "--minutes", "0.25")
         self.assertEqual(status, 1)
         self.assertIn("limits, each at its value and one past: ended by the gate's clock: FAILED", lines)
@@ -179,7 +187,7 @@ class Gate(unittest.TestCase):
 
 LOG = """\
 > == gate: crate by crate, in minutes and seconds (proofs run side by side)
-> crate  proof  its tests  wrong bodies refused  checks  processor  clock
+> crate  proof  its tests  mutants refused  checks  processor  clock
 > low    0:59
 > next   1:30   0:20
 > above  5:00              7 of 7                2       1:01       0:30
@@ -205,7 +213,8 @@ class Page(unittest.TestCase):
             ])
 
     def test_a_log_without_the_table_is_refused(self):
-        for log in ("", LOG.replace("gate: proofs: ", "gate: others: "), LOG.split("> low")[0]):
+        kept = "gate: 1 of 74 proofs of crates and of tests were made anew, 73 by earlier runs here\n"
+        for log in ("", LOG.replace("gate: proofs: ", "gate: others: "), LOG.split("> low")[0], LOG + kept):
             with self.assertRaises(SystemExit):
                 self.page.times(log)
 
