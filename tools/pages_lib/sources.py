@@ -1,4 +1,4 @@
-"""Scans the crates: their public functions with the names of their clauses, their definitions, their proof folders and their edits.
+"""Scans the crates: their public functions with the names of their clauses, their definitions, their proof folders and their mutants.
 
 It relies on the form that `rt fmt` gives a source: an item's head, its clauses and its closing brace have one indentation.
 """
@@ -39,7 +39,7 @@ class Definition(NamedTuple):
     line: int
 
 
-class Edit(NamedTuple):
+class Mutant(NamedTuple):
     """A mutant: its name, and the functions whose bodies it changes."""
 
     name: str
@@ -128,7 +128,7 @@ def functions_of(crate: str) -> tuple[Function, ...]:
     return tuple(it._replace(is_public=seen(it)) for it in found)
 
 
-# definitions, proofs and edits
+# definitions, proofs and mutants
 
 
 @functools.lru_cache(maxsize=None)
@@ -151,12 +151,12 @@ def proofs_of(function: Function) -> list[str]:
 
 
 @functools.lru_cache(maxsize=None)
-def edits_of(crate: str) -> tuple[Edit, ...]:
+def mutants_of(crate: str) -> tuple[Mutant, ...]:
     """The mutants of a crate."""
-    return tuple(edit_in(crate, it) for folder in (f"tests/edits/{crate}", f"crates/{crate}/must-fail") for it in files_below(folder, ".edit"))
+    return tuple(mutant_in(crate, it) for folder in (f"tests/mutants/{crate}", f"crates/{crate}/must-fail") for it in files_below(folder, ".edit"))
 
 
-def edit_in(crate: str, path: str) -> Edit:
+def mutant_in(crate: str, path: str) -> Mutant:
     """A mutant, with the functions around the texts that it changes, or the one that it names."""
     functions, file, only = set(), "", ""
     for word, said in PAIR.findall(text_of(path)):
@@ -168,7 +168,7 @@ def edit_in(crate: str, path: str) -> Edit:
             functions |= {it.name for it in functions_of(crate) if it.path == file and holds(it, said)}
     if only:
         functions = {it.name for it in functions_of(crate) if f"::{only}".endswith(f"::{it.name}") or f"::{it.name}".endswith(f"::{only}")}
-    return Edit(os.path.basename(path).removesuffix(".edit"), frozenset(functions))
+    return Mutant(os.path.basename(path).removesuffix(".edit"), frozenset(functions))
 
 
 def holds(function: Function, said: str) -> bool:

@@ -12,8 +12,8 @@ HEAD = """# Theorems
 Which contract promises what. This page is made by `tools/make_theorems` from the rows of `docs/theorems.toml` and a scan of `crates/`: change these, and
 not the page. A contract is a function with the names of its clauses, or without any where its one clause has no name. A law is a function without
 a body, whose clauses are the law. `Type`, N functions, is each public function of the type, with all of its clauses.
-A definition stands on the line that its link leads to. The check finds a proof by itself where no folder has it. A mutant is a
-wrong body in `tests/edits`, which the contract refuses ([how](GATE.md)); a test stands in `tests/native`, for what no contract refuses.
+A definition stands on the line that its link leads to. The check finds a proof by itself where no folder has it. A mutant is
+in `tests/mutants`, and the contract refuses it ([how](GATE.md)); a test is in `tests/native`, for what no contract refuses.
 [PROOFS.md](PROOFS.md) says what the promises come to together.
 """
 SHOWN = 3
@@ -89,7 +89,7 @@ def mutants_of(row: Row) -> list[str]:
     """The mutants of the functions of a row, and those that it names, each with its crate."""
     names = {(it.crate, it.name) for contract in row.contracts for it in functions_of(contract)}
     crates = dict.fromkeys(it.crate for it in row.contracts)
-    found = [f"{crate}/{it.name}" for crate in crates for it in sources.edits_of(crate) if any((crate, name) in names for name in it.functions)]
+    found = [f"{crate}/{it.name}" for crate in crates for it in sources.mutants_of(crate) if any((crate, name) in names for name in it.functions)]
     return [*row.mutants, *(it for it in found if it not in row.mutants)]
 
 
@@ -114,7 +114,7 @@ def faults_of_row(row: Row) -> Iterator[str]:
             yield from (f"{contract.crate}: {contract.function} has no clause {it}" for it in contract.clauses if it not in known)
     for mutant in row.mutants:
         crate, _, name = mutant.partition("/")
-        if name not in (it.name for it in sources.edits_of(crate)):
+        if name not in (it.name for it in sources.mutants_of(crate)):
             yield f"no mutant has the name {mutant}"
     for test in row.tests:
         if f"fn {test.partition('::')[2]}(" not in text_of_tests():

@@ -2,8 +2,7 @@
 from typing import NamedTuple
 
 from .near import near
-from .parser import CALLS
-from .tokens import Token
+from .tokens import CALLS, Token
 
 ITEMS = ("param", "image", "table", "func", "accum", "output")
 WORDS = (*CALLS, "stencil")

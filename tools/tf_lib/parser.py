@@ -5,11 +5,9 @@ The text is trusted to be a program: `tilefarm` judges it. Where it is none, `Un
 from typing import Callable
 
 from .program import Affine, Case, Interval, Item, Kernel, Number, Program, Read, Span, Use
-from .tokens import Token, Unreadable, tokens
+from .tokens import CALLS, Token, Unreadable, tokens
 
 MOST = 2147483647
-# the words of expressions that take parentheses, and how many expressions stand behind the first (of select behind the condition)
-CALLS = {"min": 1, "max": 1, "abs": 0, "clamp": 2, "select": 2}
 
 
 def program_of(data: bytes) -> Program:

@@ -6,7 +6,9 @@ from .text import shown
 
 TOKEN = re.compile(rb"(?P<gap>[ \t\r\n]+|#[^\n]*)|(?P<name>[A-Za-z][A-Za-z0-9_]*)|(?P<number>[0-9]+)"
                    rb"|(?P<mark><<|>>|<=|>=|==|\.\.|[()\[\]{},;:+\-*/%])")
-RESERVED = frozenset("param image func in case else accum over sum min max at output and abs clamp select stencil table".split())
+# the words of expressions that take parentheses, and how many expressions stand behind the first (of select behind the condition)
+CALLS = {"min": 1, "max": 1, "abs": 0, "clamp": 2, "select": 2}
+RESERVED = frozenset([*"param image func in case else accum over sum at output and stencil table".split(), *CALLS])
 
 
 class Token(NamedTuple):
