@@ -27,7 +27,7 @@ mutants:
 
 # What changed, over kept work; and each mutant that no longer applies.
 check:
-	@rt all check; status=$$?; tests/run_mutants --read && exit $$status
+	@tests/rt all check; status=$$?; tests/run_mutants --read && exit $$status
 
 # The words after `mutants` name crates, and are no goals of their own.
 ifneq (,$(filter mutants,$(firstword $(MAKECMDGOALS))))
