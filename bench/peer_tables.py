@@ -1,4 +1,4 @@
-"""The tables of bench/peers, of what it measured, and their place in docs/PERFORMANCE.md."""
+"""The tables of bench/peers, of what it measured, and their places in docs/PERFORMANCE.md and README.md."""
 import os
 import re
 import statistics
@@ -7,9 +7,11 @@ import sys
 
 from timing import PROGRAM, TOP, content
 
-PAGE = f"{TOP}/docs/PERFORMANCE.md"
+PAGE, FIRST_PAGE = f"{TOP}/docs/PERFORMANCE.md", f"{TOP}/README.md"
 MARKS = "<!-- bench/peers --write: from here -->", "<!-- to here -->"
 OTHERS, OURS = ("C", "Halide", "vips", "ImageMagick"), ("AVX2", "portable")
+# The pipelines of the first page.
+FEW = ("blur", "unsharp", "sobel", "harris", "camera")
 
 
 def output_of(*words):
@@ -132,11 +134,24 @@ def tables(found):
     return "\n\n".join(parts)
 
 
-def write(tables):
+def short(found):
+    """The table of the first page: few pipelines, on the largest pictures and the fewest threads."""
+    least = min((-run["rows"] * run["cols"], run["threads"]) for run in found["runs"])
+    runs = [run for run in found["runs"] if (-run["rows"] * run["cols"], run["threads"]) == least]
+    ours, rows = present(runs, OURS)[0], []
+    for label in (ours, *present(runs, OTHERS)):
+        by_pipeline = {run["pipeline"]: run["milliseconds"].get(label) for run in runs}
+        ratio, count = mean(runs, "milliseconds", label, ours)
+        name, beside = ("`tilefarm`", "1") if label == ours else (label, f"{float(ratio):.3g} (of {count})")
+        rows.append([name, *(number(by_pipeline.get(it)) for it in FEW), beside])
+    return table(["", *FEW, "Mean ratio"], rows)
+
+
+def write(path, tables):
     """Puts the tables between the marks of the page."""
-    page = content(PAGE).decode()
+    page = content(path).decode()
     if any(page.count(mark) != 1 for mark in MARKS):
-        sys.exit(f"{PAGE} has not each of these lines once: {MARKS}")
+        sys.exit(f"{path} has not each of these lines once: {MARKS}")
     before, rest = page.split(MARKS[0])
-    with open(PAGE, "w") as file:
+    with open(path, "w") as file:
         file.write(f"{before}{MARKS[0]}\n\n{tables}\n\n{MARKS[1]}{rest.split(MARKS[1])[1]}")
