@@ -3,6 +3,7 @@ pub mod Operands
 pub mod Added
 pub mod Finishes
 pub mod Terms
+pub mod Differences
 pub mod Places
 pub mod Columns
 pub mod RowMask

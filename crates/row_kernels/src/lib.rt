@@ -3,6 +3,7 @@
 
 mod buffer_view;
 mod changes;
+mod differences;
 mod divided_columns;
 mod finish;
 mod finishes;
@@ -30,6 +31,9 @@ mod term;
 mod values;
 
 pub use buffer_view::BufferView;
+pub use differences::{
+    ClampedDifference, add_difference, add_four_differences, add_two_differences, write_difference,
+};
 pub use finish::Finish;
 pub use finishes::finish_row;
 pub use gathering::gather_along;
