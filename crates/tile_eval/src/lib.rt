@@ -5,6 +5,7 @@ mod areas;
 mod buffer_source;
 mod buffers;
 mod cases;
+mod differences;
 mod finishes;
 mod functions;
 mod parts;

@@ -20,7 +20,7 @@ use operators::BinaryOp;
 use row_kernels::{
     Finish, Operand, RowSpan, Term, add_terms, apply_ternary, apply_unary, combine,
     combine_literal, combine_scaled, count_up, fill, finish_row, keep_related, look_up,
-    unary_number,
+    unary_number, write_difference,
 };
 
 /// The number that a formula is all along a row of points, if it is found to be constant there.
@@ -175,9 +175,9 @@ impl<'a, S: RowSource> SourceRow<'a, S> {
         })
     }
 
-    // A formula as an operand, which is computed into the row itself if it is not available.
+    /// A formula as an operand, which is computed into the row itself if it is not available.
     #[cycle(evaluate)]
-    fn placed(&self, formula: &Formula, out: &mut [i32], temps: &mut [i32]) -> Operand<'a>
+    pub(crate) fn placed(&self, formula: &Formula, out: &mut [i32], temps: &mut [i32]) -> Operand<'a>
         requires fits { length out.old ≡ self.now.points.len }
         requires formula { IsFormula (formula_view formula.now) }
         requires reads { ReadsWithin (S.has self.now.source.now) (formula_view formula.now)
@@ -268,6 +268,12 @@ impl<'a, S: RowSource> SourceRow<'a, S> {
         let Formula::Binary(op, a, b) = formula else {
             return;
         };
+        if let Some(it) = self.difference(formula) {
+            return write_difference(out, it, finish);
+        }
+        if self.add_differences(formula, finish, out, temps) {
+            return;
+        }
         if let (BinaryOp::Add, Formula::Binary(BinaryOp::Mul, factor, of)) = (*op, &**a) {
             if let Some(factor) = number_along(factor, &self.points) {
                 let left = self.placed_in_rest(of, out, temps);

@@ -1,0 +1,112 @@
+#![tactic(auto)]
+//! Sums that end in clamped differences of rows that the source lends: several of them are added in one pass.
+
+ghost use Rattle.std.specs.Prelude.{◌≡◌, ◌+ℤ◌, ◌*ℤ◌, ℤ, pos, length, IfSome, IsTrue};
+ghost use Rattle.domains.specs.Arithmetic.{wrapped};
+ghost use Rattle.job.specs.Values.{formula_value};
+ghost use Rattle.job.specs.WellFormed.{IsFormula};
+ghost use Rattle.job.specs.Views.{formula_view};
+ghost use Rattle.row_kernels.specs.Differences.{difference_at, HasLines};
+ghost use Rattle.row_kernels.specs.Finishes.{finish_value};
+ghost use Rattle.row_kernels.specs.Rows.{EachPlace, at};
+ghost use Rattle.tile_eval.specs.Reading.{ReadsWithin, HasRoom};
+
+use crate::rows::number_along;
+use crate::source::RowSource;
+use crate::source_row::SourceRow;
+use job::Formula;
+use operators::{BinaryOp, TernaryOp};
+use row_kernels::{
+    ClampedDifference, Finish, add_difference, add_four_differences, add_two_differences,
+};
+
+impl<'a, S: RowSource> SourceRow<'a, S> {
+    // A clamped difference of two reads, times a factor, if nothing else is to be computed.
+    fn scaled_difference(&self, factor: i32, formula: &Formula) -> Option<ClampedDifference<'a>>
+        requires { ReadsWithin (S.has self.now.source.now) (formula_view formula.now)
+            self.now.points.row self.now.points.col self.now.points.len }
+        ensures lines { IfSome result (HasLines self.now.points.len) }
+        ensures values { IfSome result (λ it. EachPlace self.now.points.len (λ k. difference_at it k
+            ≡ wrapped (factor *ℤ formula_value (S.samples self.now.source.now)
+            (formula_view formula.now) self.now.points.row (self.now.points.col +ℤ pos k)))) }
+    {
+        let Formula::Ternary(TernaryOp::Clamp, of, low, high) = formula else {
+            return None;
+        };
+        let Formula::Binary(BinaryOp::Sub, left, right) = &**of else {
+            return None;
+        };
+        Some(ClampedDifference {
+            factor,
+            left: self.given(left)?,
+            right: self.given(right)?,
+            low: number_along(low, &self.points)?,
+            high: number_along(high, &self.points)?,
+        })
+    }
+
+    /// A formula as a clamped difference of two reads times a factor, if nothing else is to be computed.
+    pub(crate) fn difference(&self, formula: &Formula) -> Option<ClampedDifference<'a>>
+        requires { ReadsWithin (S.has self.now.source.now) (formula_view formula.now)
+            self.now.points.row self.now.points.col self.now.points.len }
+        ensures lines { IfSome result (HasLines self.now.points.len) }
+        ensures values { IfSome result (λ it. EachPlace self.now.points.len (λ k. difference_at it k
+            ≡ formula_value (S.samples self.now.source.now) (formula_view formula.now)
+            self.now.points.row (self.now.points.col +ℤ pos k))) }
+    {
+        match formula {
+            Formula::Binary(BinaryOp::Mul, factor, of) => {
+                self.scaled_difference(number_along(factor, &self.points)?, of)
+            }
+            _ => None,
+        }
+    }
+
+    /// Whether a formula is a sum that ends in clamped differences. If it is, writes what an epilogue makes of its values: the
+    /// last four or two differences are added in one pass.
+    #[cycle(evaluate)]
+    pub(crate) fn add_differences(
+        &self,
+        formula: &Formula,
+        finish: Finish,
+        out: &mut [i32],
+        temps: &mut [i32],
+    ) -> bool
+        requires fits { length out.old ≡ self.now.points.len }
+        requires formula { IsFormula (formula_view formula.now) }
+        requires reads { ReadsWithin (S.has self.now.source.now) (formula_view formula.now)
+            self.now.points.row self.now.points.col (length out.old) }
+        requires room { HasRoom (formula_view formula.now) (length out.old) (length temps.old) }
+        ensures { IsTrue result → EachPlace (length out.old) (λ k. at out.new k
+            ≡ finish_value finish (formula_value (S.samples self.now.source.now)
+            (formula_view formula.now) self.now.points.row (self.now.points.col +ℤ pos k))) }
+    {
+        let Formula::Binary(BinaryOp::Add, front, fifth) = formula else {
+            return false;
+        };
+        let Some(fifth) = self.difference(fifth) else {
+            return false;
+        };
+        if let Formula::Binary(BinaryOp::Add, front, fourth) = &**front {
+            if let Some(fourth) = self.difference(fourth) {
+                if let Formula::Binary(BinaryOp::Add, front, third) = &**front {
+                    if let Formula::Binary(BinaryOp::Add, first, second) = &**front {
+                        if let (Some(second), Some(third)) =
+                            (self.difference(second), self.difference(third))
+                        {
+                            let first = self.placed(first, out, temps);
+                            add_four_differences(out, first, second, third, fourth, fifth, finish);
+                            return true;
+                        }
+                    }
+                }
+                let first = self.placed(front, out, temps);
+                add_two_differences(out, first, fourth, fifth, finish);
+                return true;
+            }
+        }
+        let first = self.placed(front, out, temps);
+        add_difference(out, first, fifth, finish);
+        true
+    }
+}
