@@ -29,6 +29,9 @@ impl<'a, S: RowSource> SourceRow<'a, S> {
         ensures values { IfSome result (λ it. EachPlace self.now.points.len (λ k. difference_at it k
             ≡ wrapped (factor *ℤ formula_value (S.samples self.now.source.now)
             (formula_view formula.now) self.now.points.row (self.now.points.col +ℤ pos k)))) }
+        ensures once { factor ≡ pos 1 → IfSome result (λ it. EachPlace self.now.points.len
+            (λ k. difference_at it k ≡ formula_value (S.samples self.now.source.now)
+            (formula_view formula.now) self.now.points.row (self.now.points.col +ℤ pos k))) }
     {
         let Formula::Ternary(TernaryOp::Clamp, of, low, high) = formula else {
             return None;
@@ -58,7 +61,7 @@ impl<'a, S: RowSource> SourceRow<'a, S> {
             Formula::Binary(BinaryOp::Mul, factor, of) => {
                 self.scaled_difference(number_along(factor, &self.points)?, of)
             }
-            _ => None,
+            _ => self.scaled_difference(1, formula),
         }
     }
 
@@ -91,9 +94,10 @@ impl<'a, S: RowSource> SourceRow<'a, S> {
             if let Some(fourth) = self.difference(fourth) {
                 if let Formula::Binary(BinaryOp::Add, front, third) = &**front {
                     if let Formula::Binary(BinaryOp::Add, first, second) = &**front {
-                        if let (Some(second), Some(third)) =
-                            (self.difference(second), self.difference(third))
-                        {
+                        if let (Some(second), Some(third)) = (
+                            self.difference(second),
+                            self.difference(third),
+                        ) {
                             let first = self.placed(first, out, temps);
                             add_four_differences(out, first, second, third, fourth, fifth, finish);
                             return true;

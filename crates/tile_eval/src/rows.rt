@@ -177,7 +177,12 @@ impl<'a, S: RowSource> SourceRow<'a, S> {
 
     /// A formula as an operand, which is computed into the row itself if it is not available.
     #[cycle(evaluate)]
-    pub(crate) fn placed(&self, formula: &Formula, out: &mut [i32], temps: &mut [i32]) -> Operand<'a>
+    pub(crate) fn placed(
+        &self,
+        formula: &Formula,
+        out: &mut [i32],
+        temps: &mut [i32],
+    ) -> Operand<'a>
         requires fits { length out.old ≡ self.now.points.len }
         requires formula { IsFormula (formula_view formula.now) }
         requires reads { ReadsWithin (S.has self.now.source.now) (formula_view formula.now)
