@@ -4,6 +4,7 @@ pub mod Added
 pub mod Finishes
 pub mod Terms
 pub mod Differences
+pub mod Extremes
 pub mod Places
 pub mod Columns
 pub mod RowMask

@@ -17,8 +17,8 @@ use crate::operand_rows::make_of_both;
 use crate::pairs::{Pair, Scaled, Sum};
 use crate::term::Term;
 
-// Writes what a pair makes of two operands, joined with a third one by another pair: in one pass if both at the right are lines.
-fn make_of_three<P: Pair<Made = i32>, Q: Pair<Made = i32>>(
+/// Writes what a pair makes of two operands, joined with a third one by another pair: in one pass if both at the right are lines.
+pub(crate) fn make_of_three<P: Pair<Made = i32>, Q: Pair<Made = i32>>(
     out: &mut [i32],
     first: Operand,
     second: Operand,

@@ -14,3 +14,4 @@ pub mod TrueTiles
 pub mod NearAreas
 pub mod SpansByParts
 pub mod Separated
+pub mod Exchanging

@@ -6,6 +6,7 @@ mod buffer_source;
 mod buffers;
 mod cases;
 mod differences;
+mod extremes;
 mod finishes;
 mod functions;
 mod parts;

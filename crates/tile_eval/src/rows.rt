@@ -12,6 +12,7 @@ ghost use Rattle.row_kernels.specs.Terms.{term_at};
 ghost use Rattle.tile_eval.specs.Reading.{ReadsWithin, HasRoom};
 ghost use Rattle.tile_eval.specs.inside.Operators.{IsBinary};
 
+use crate::extremes::{extreme_of, gives};
 use crate::finishes::{after_operator, for_ternary};
 use crate::source::RowSource;
 use crate::source_row::SourceRow;
@@ -20,7 +21,7 @@ use operators::BinaryOp;
 use row_kernels::{
     Finish, Operand, RowSpan, Term, add_terms, apply_ternary, apply_unary, combine,
     combine_literal, combine_scaled, count_up, fill, finish_row, keep_related, look_up,
-    unary_number, write_difference,
+    unary_number, write_difference, write_extremes_of_three,
 };
 
 /// The number that a formula is all along a row of points, if it is found to be constant there.
@@ -290,6 +291,16 @@ impl<'a, S: RowSource> SourceRow<'a, S> {
             if let (Some(second), Some(third)) = (self.term(second), self.term(b)) {
                 let first = self.placed(first, out, temps);
                 return add_terms(out, first, second, third, finish);
+            }
+        }
+        if self.extremes_at_once(formula, finish, out) {
+            return;
+        }
+        if let (Some(extreme), Formula::Binary(inner, first, second)) = (extreme_of(*op), &**a) {
+            let others = (self.at_hand(second), self.at_hand(b));
+            if let (true, (Some(second), Some(third))) = (gives(*inner, extreme), others) {
+                let first = self.placed(first, out, temps);
+                return write_extremes_of_three(extreme, out, first, second, third, finish);
             }
         }
         let left = self.placed(a, out, temps);
